@@ -1,0 +1,2 @@
+pub mod OutsideLemmas
+pub mod PlaceLemmas

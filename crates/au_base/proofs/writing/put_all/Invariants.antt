@@ -1,0 +1,13 @@
+-- So far the sink has the front of the bytes, and no call failed.
+use Rattle.std.proofs.Common.{◌≡◌, ◌-◌, ◌≤◌, length, take}
+use Rattle.au_base.specs.Outside.{Adds}
+use Rattle.au_base.proofs.writing.put_all.Given as goal
+
+abbrev pub invariant-loop-done : goal.invariant-loop-done
+invariant-loop-done g l =
+    (l.done ≤ length l.bytes)
+    × (g.O.Sink.faults l.sink ≡ g.O.Sink.faults l.fn.sink)
+    × Adds (g.O.Sink.written l.fn.sink) (g.O.Sink.written l.sink) (take l.done l.bytes)
+
+abbrev pub decreases-loop-done : goal.decreases-loop-done
+decreases-loop-done g l = length l.bytes - l.done

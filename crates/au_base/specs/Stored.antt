@@ -1,0 +1,42 @@
+-- What the objects in memory hold, seen without their memory.
+use Rattle.std.specs.Prelude.{ℕ, List, [], ◌∷◌, ◌+◌, ◌-◌, Bool, ◌==◌, ◌||◌, not, Vec, String, Option, Some, None, length, if◌then◌else◌, nat_lt, min}
+use Rattle.std.specs.Global.{Global}
+use Rattle.std.specs.List.{list_any}
+use Rattle.std.specs.String.{string_bytes}
+use Rattle.std.specs.Str.{bytes_eq}
+use Rattle.au_base.specs.declared.outside.Put.{Put}
+use Rattle.au_base.specs.declared.outside.Put.TheVariants.{Took, Failed}
+use Rattle.au_base.specs.Outside.{next_count}
+
+-- a file: its name and its bytes
+abbrev pub NamedFile : Type 0
+NamedFile = List ℕ × List ℕ
+
+abbrev pub file_of : String Global × Vec ℕ Global → NamedFile
+file_of file = (string_bytes file.0, file.1.items)
+
+-- the bytes of the first file of a name
+abbrev pub file_in : List NamedFile → List ℕ → Option (List ℕ)
+file_in [] name = None
+file_in (file ∷ files) name = if bytes_eq file.0 name then Some file.1 else file_in files name
+
+-- a shelf that never fails
+pub record ShelfContents : Type 0 where
+  pub files : List NamedFile
+  pub misses : ℕ
+
+-- a sink with room: how many calls there were, and which calls are to fail, counted from 1
+pub record SinkContents : Type 0 where
+  pub room : ℕ
+  pub written : List ℕ
+  pub calls : ℕ
+  pub fails : List ℕ
+  pub faults : ℕ
+
+-- whether the next call fails: it is one that is to fail, or the sink is full
+abbrev pub sink_fails : SinkContents → Bool
+sink_fails sink = list_any (λ call. call == next_count sink.calls) sink.fails || not (nat_lt (length sink.written) sink.room)
+
+-- what the next call answers for a piece
+abbrev pub sink_answer : SinkContents → List ℕ → Put
+sink_answer sink piece = if sink_fails sink then Failed else Took (min (length piece) (sink.room - length sink.written))
