@@ -1,0 +1,133 @@
+-- How far a file is cut.
+use Rattle.std.proofs.Common.{◌≡◌, ◌≢◌, ℕ, ◌+◌, ◌<◌, ◌≤◌, Bool, true, false, not, IsTrue, List, [], ◌∷◌, ◌++◌, length, take, drop, Option, Some, None, Err, ap, ◌∙◌, sym, refl, subst, arith, append_assoc, length-append, length-drop}
+use Rattle.std.specs.List.{list_all, flat_map, count_by, suffix_len}
+use Rattle.std.proofs.lemmas.List.{append-nil, take_at, drop-drop}
+use Rattle.std.proofs.lemmas.Grind.{flat_map-append}
+use Rattle.std.proofs.lemmas.List.Folds.{list_all-append}
+use Rattle.std.proofs.lemmas.List.Sums.{count_by-le-length, suffix_len-le-length}
+use Rattle.std.proofs.lemmas.Bool.{and_parts, and_from}
+use Rattle.au_base.specs.declared.limits.Limit.{Limit}
+use Rattle.au_base.specs.declared.places.Pos.{Pos}
+use Rattle.au_base.specs.declared.tokens.Token.{Token}
+use Rattle.au_base.specs.declared.tokens.What.{What}
+use Rattle.au_base.specs.declared.tokens.What.TheVariants.{Word, Sign, Name, Text}
+use Rattle.au_base.specs.Places.{place_after, is_newline}
+use Rattle.au_base.proofs.OutsideLemmas.{take_split}
+use Rattle.au_lexer.specs.declared.lexing.LexFault.TheVariants as fault
+use Rattle.au_lexer.specs.declared.pieces.Stop.{Stop}
+use Rattle.au_lexer.specs.declared.pieces.Stop.TheVariants.{Stray, Later, LongName, Memory}
+use Rattle.au_lexer.specs.Pieces.{Piece, blank, comment, token, spelling, what_of, IsPiece, IsWord}
+use Rattle.au_lexer.specs.Cut.{Begins, Stands, CutsFront, tokens_among, token_at, is_short, is_short_token, is_long, IsWithinLimits, StopsAt, HasLongName}
+use Rattle.au_lexer.specs.Faults.{fault_of, name_limit}
+use Rattle.au_lexer.specs.Reading.{IsLongest, FindsPiece}
+use Rattle.au_lexer.proofs.WordLemmas.{keyword_word}
+use Rattle.au_lexer.proofs.SignLemmas.{sign_mark}
+
+-- The first bytes of a file are cut into pieces with these tokens, and a place is behind them.
+pub record HasCut (file : ℕ) (bytes : List ℕ) (done : ℕ) (at : Pos) (tokens : List Token) : Type 0 where
+  pub within : done ≤ length bytes
+  pub pieces : List Piece
+  pub cuts : CutsFront pieces bytes (drop done bytes)
+  pub short : IsTrue (list_all is_short pieces)
+  pub spelled : flat_map spelling pieces ≡ take done bytes
+  pub listed : tokens ≡ tokens_among file [] pieces
+  pub place : at ≡ place_after file (take done bytes)
+
+-- one more piece
+cuts_more : (pieces : List Piece) (bytes rest : List ℕ) (piece : Piece) → CutsFront pieces bytes rest → Stands piece rest → CutsFront (pieces ++ piece ∷ []) bytes (drop (length (spelling piece)) rest)
+cuts_more [] bytes rest piece cuts stands = (subst (Stands piece) (sym cuts) stands, ap (drop (length (spelling piece))) cuts)
+cuts_more (one ∷ pieces) bytes rest piece cuts stands = (cuts.0, cuts_more pieces (drop (length (spelling one)) bytes) rest piece cuts.1 stands)
+
+-- its token
+tokens_more : (file : ℕ) (front : List ℕ) (pieces : List Piece) (piece : Piece) →
+    tokens_among file front (pieces ++ piece ∷ []) ≡ tokens_among file front pieces ++ token_at (place_after file (front ++ flat_map spelling pieces)) (what_of piece)
+tokens_more file front [] piece = append-nil _ ∙ ap (λ f. token_at (place_after file f) (what_of piece)) (sym (append-nil front))
+tokens_more file front (one ∷ pieces) piece =
+    let here : List Token = token_at (place_after file front) (what_of one) in
+    ap (λ ts. here ++ ts) (tokens_more file (front ++ spelling one) pieces piece ∙ ap (λ f. tokens_among file (front ++ spelling one) pieces ++ token_at (place_after file f) (what_of piece)) (append_assoc front (spelling one) (flat_map spelling pieces)))
+    ∙ sym (append_assoc here (tokens_among file (front ++ spelling one) pieces) _)
+
+-- no token among short pieces is too long
+token_within : (at : Pos) (what : Option What) → is_short_token what ≡ true → list_all (λ token. not (is_long token.what)) (token_at at what) ≡ true
+token_within at None h = refl
+token_within at (Some what) h = and_from _ _ h refl
+
+pub tokens_within : (file : ℕ) (front : List ℕ) (pieces : List Piece) → list_all is_short pieces ≡ true → IsWithinLimits (tokens_among file front pieces)
+tokens_within file front [] h = refl
+tokens_within file front (piece ∷ pieces) h =
+    let parts = and_parts (is_short piece) (list_all is_short pieces) h in
+    list_all-append (λ (token : Token). not (is_long token.what)) (token_at (place_after file front) (what_of piece)) (tokens_among file (front ++ spelling piece) pieces)
+    ∙ and_from _ _ (token_within (place_after file front) (what_of piece) parts.0) (tokens_within file (front ++ spelling piece) pieces parts.1)
+
+-- how the longest piece lies in the bytes
+pub longest_within : (bytes : List ℕ) (size : ℕ) (what : Option What) → IsLongest bytes size what → size ≤ length bytes
+longest_within bytes size what longest =
+    let front = longest.stands.begins.front in
+    let total = ap length front.1 in
+    let parts = length-append (spelling longest.found) front.0 in
+    let sized = longest.sized in
+    omega arith
+
+longest_spelled : (bytes : List ℕ) (size : ℕ) (what : Option What) (longest : IsLongest bytes size what) → spelling longest.found ≡ take size bytes
+longest_spelled bytes size what longest =
+    let front = longest.stands.begins.front in
+    sym (ap (take size) front.1 ∙ take_at (spelling longest.found) front.0 size longest.sized)
+
+-- No piece is empty.
+word_some : (word : List ℕ) → IsWord word → 0 < length word
+word_some [] h = absurd h
+word_some (first ∷ rest) h = omega arith
+
+spelling_some : (piece : Piece) → IsPiece piece → 0 < length (spelling piece)
+spelling_some (blank byte) h = omega arith
+spelling_some (comment bytes) h = omega arith
+spelling_some (token (Word keyword)) h = word_some _ (keyword_word keyword)
+spelling_some (token (Sign sign)) h = let mark = sign_mark sign in let size = ap length mark.is in omega arith
+spelling_some (token (Name name)) h = word_some name h.0
+spelling_some (token (Text text)) h = omega arith
+
+pub longest_some : (bytes : List ℕ) (size : ℕ) (what : Option What) → IsLongest bytes size what → 0 < size
+longest_some bytes size what longest = let sized = longest.sized in omega (arith, spelling_some longest.found longest.stands.begins.known)
+
+-- the file is cut one piece further
+pub has_more : (file : ℕ) (bytes : List ℕ) (done : ℕ) (at after : Pos) (tokens : List Token) (size : ℕ) (what : Option What) →
+    HasCut file bytes done at tokens → IsLongest (drop done bytes) size what → is_short_token what ≡ true → after ≡ place_after file (take done bytes ++ take size (drop done bytes)) →
+    HasCut file bytes (done + size) after (tokens ++ token_at at what)
+has_more file bytes done at after tokens size what cut longest short is =
+    let rest : List ℕ = drop done bytes in
+    let found : Piece = longest.found in
+    let fits = longest_within rest size what longest in
+    let seam : take (done + size) bytes ≡ take done bytes ++ take size rest = take_split done size bytes cut.within in
+    record {
+      within = omega (arith, length-drop done bytes);
+      pieces = cut.pieces ++ found ∷ [];
+      cuts = subst (CutsFront (cut.pieces ++ found ∷ []) bytes) (ap (λ n. drop n rest) longest.sized ∙ drop-drop size done bytes) (cuts_more cut.pieces bytes rest found cut.cuts longest.stands);
+      short = list_all-append is_short cut.pieces (found ∷ []) ∙ and_from _ _ cut.short (and_from _ _ (ap is_short_token longest.meant ∙ short) refl);
+      spelled = flat_map-append spelling cut.pieces (found ∷ []) ∙ ap (λ s. flat_map spelling cut.pieces ++ s) (append-nil (spelling found)) ∙ ap (λ s. s ++ spelling found) cut.spelled ∙ ap (λ s. take done bytes ++ s) (longest_spelled rest size what longest) ∙ sym seam;
+      listed =
+        ap (λ ts. ts ++ token_at at what) cut.listed
+        ∙ ap (λ p. tokens_among file [] cut.pieces ++ token_at p what) (cut.place ∙ ap (place_after file) (sym cut.spelled))
+        ∙ ap (λ w. tokens_among file [] cut.pieces ++ token_at (place_after file (flat_map spelling cut.pieces)) w) (sym longest.meant)
+        ∙ sym (tokens_more file [] cut.pieces found);
+      place = is ∙ ap (place_after file) (sym seam)
+    }
+
+-- a place lies within the file's bytes
+pub place_bounds : (file : ℕ) (front : List ℕ) → ((place_after file front).line ≤ length front + 1) × ((place_after file front).column ≤ length front + 1)
+place_bounds file front = (omega (arith, count_by-le-length is_newline front), omega (arith, suffix_len-le-length (λ b. not (is_newline b)) front))
+
+-- where a file is cut no further
+pub stops_at : (file : ℕ) (bytes : List ℕ) (done : ℕ) (at : Pos) (tokens : List Token) → HasCut file bytes done at tokens → StopsAt file bytes (drop done bytes) at
+stops_at file bytes done at tokens cut = record {
+  pieces = cut.pieces;
+  cuts = cut.cuts;
+  short = cut.short;
+  place = cut.place ∙ ap (place_after file) (sym cut.spelled)
+}
+
+-- when the limit is the cause
+pub limit_so : (file : ℕ) (bytes rest : List ℕ) (stop : Stop) (at : Pos) (limit : Limit) → StopsAt file bytes rest at → FindsPiece (Err stop) rest → fault_of stop at ≡ fault.Limit limit → (limit ≡ name_limit) × HasLongName file bytes
+limit_so file bytes rest Stray at limit stops finds e = cc
+limit_so file bytes rest Later at limit stops finds e = cc
+limit_so file bytes rest LongName at limit stops finds e = (let h : name_limit ≡ limit = cc in sym h, (rest, at, finds.0, stops, finds.1, finds.2))
+limit_so file bytes rest Memory at limit stops finds e = cc

@@ -1,0 +1,5 @@
+pub mod Bytes
+pub mod Pieces
+pub mod Cut
+pub mod Reading
+pub mod Faults

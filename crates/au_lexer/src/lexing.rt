@@ -1,0 +1,101 @@
+//! The tokens of a whole file.
+
+ghost use Rattle.std.specs.Prelude.{◌≡◌, ◌+◌, ◌^◌, ◌<◌, ◌++◌, length, Err, IfOk, OnOk, IsOkUnless};
+ghost use Rattle.au_base.specs.Limits.{most_name_bytes};
+ghost use Rattle.au_lexer.specs.Cut.{Cut, IsWithinLimits, IsStray, IsLater, HasLongName, token_at};
+ghost use Rattle.au_lexer.specs.Faults.{fault_of, name_limit};
+ghost use Rattle.au_lexer.specs.declared.lexing.LexFault.TheVariants as fault;
+
+use std::alloc::{AllocFailed, Global};
+
+use au_base::{Limit, LimitKind, MOST_NAME_BYTES, Memory, Pos, Token, What};
+use thiserror::Error;
+
+use crate::pieces::{Found, Stop, piece};
+
+/// Why a file has no tokens. A file is refused at the first place that has a cause.
+#[derive(Clone, Copy, Debug, Error)]
+pub enum LexFault {
+    /// The place of the first byte that begins no token.
+    #[error("a byte begins no token")]
+    Byte(Pos),
+    /// The place of something for which there is no token yet: a number or a docstring.
+    #[error("a token is not built yet")]
+    NotYet(Pos),
+    /// A name has too many bytes.
+    #[error("a limit is passed")]
+    Limit(Limit),
+    /// No memory was found.
+    #[error("out of memory")]
+    Memory,
+}
+
+impl From<Memory> for LexFault {
+    ghost from_gives = { λ _ e. e ≡ fault.Memory };
+
+    fn from(_e: Memory) -> LexFault {
+        LexFault::Memory
+    }
+}
+
+impl<T: Drop> From<AllocFailed<T>> for LexFault {
+    ghost from_gives = { λ _ e. e ≡ fault.Memory };
+
+    fn from(_e: AllocFailed<T>) -> LexFault {
+        LexFault::Memory
+    }
+}
+
+/// The tokens of a file with that number, in order, each with its place.
+pub fn lex(alloc: Global, file: u16, bytes: &[u8]) -> Result<Vec<Token>, LexFault>
+    requires { length bytes.now + 1 < 2 ^ 32 }
+    ensures cut { IfOk result (λ tokens. Cut file bytes.now tokens.items) }
+    ensures within { IfOk result (λ tokens. IsWithinLimits tokens.items) }
+    ensures byte { (at : Pos) → result ≡ Err (LexFault.Byte at) → IsStray file bytes.now at }
+    ensures not_yet { (at : Pos) → result ≡ Err (LexFault.NotYet at) → IsLater file bytes.now at }
+    ensures limit { (limit : Limit) → result ≡ Err (LexFault.Limit limit)
+        → (limit ≡ name_limit) × HasLongName file bytes.now }
+{
+    let mut tokens = Vec::new(alloc);
+    let mut at = Pos::start(file);
+    let mut done = 0;
+    while done < bytes.len() {
+        let rest = &bytes[done..];
+        match piece(alloc, rest) {
+            Ok(Found { size, what }) => {
+                add_token(&mut tokens, what, at)?;
+                at = at.after(&rest[..size]);
+                done += size;
+            }
+            Err(stop) => return Err(fault_at(stop, at)),
+        }
+    }
+    Ok(tokens)
+}
+
+/// Puts a token at the end, if there is one.
+fn add_token(tokens: &mut Vec<Token>, what: Option<What>, at: Pos) -> Result<(), LexFault>
+    ensures ok { OnOk result (tokens.new.items ≡ tokens.old.items ++ token_at at what) }
+    ensures memory { IsOkUnless result fault.Memory }
+{
+    if let Some(what) = what {
+        tokens.push(Token { what, at })?;
+    }
+    Ok(())
+}
+
+/// The fault at the place where lexing stops.
+fn fault_at(stop: Stop, at: Pos) -> LexFault
+    ensures { result ≡ fault_of stop at }
+{
+    match stop {
+        Stop::Stray => LexFault::Byte(at),
+        Stop::Later => LexFault::NotYet(at),
+        Stop::LongName => LexFault::Limit(Limit {
+            kind: LimitKind::NameBytes,
+            count: MOST_NAME_BYTES as u64 + 1,
+            most: MOST_NAME_BYTES as u64,
+        }),
+        Stop::Memory => LexFault::Memory,
+    }
+}

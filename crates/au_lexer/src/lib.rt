@@ -1,0 +1,11 @@
+//! From the bytes of a file to its tokens.
+#![tactic(auto)]
+
+mod bytes;
+mod lexing;
+mod pieces;
+mod spellings;
+mod strings;
+
+pub use lexing::{LexFault, lex};
+pub use au_base::{Keyword, Sign, Token, What};

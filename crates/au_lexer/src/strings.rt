@@ -1,0 +1,51 @@
+//! Texts in quotes.
+
+ghost use Rattle.std.specs.Prelude.{◌≡◌, ◌+◌, ◌≤◌, false, length, IfOk, IfSome};
+ghost use Rattle.std.specs.Option.{option_map};
+ghost use Rattle.au_lexer.specs.Reading as read;
+
+use std::alloc::Global;
+
+use au_base::{Memory, Text};
+
+/// The byte that an escape means, by the byte behind its backslash.
+fn escaped(byte: u8) -> Option<u8>
+    ensures { result ≡ read.escaped byte }
+{
+    match byte {
+        b'n' => Some(b'\n'),
+        b'r' => Some(b'\r'),
+        b't' => Some(b'\t'),
+        b'"' => Some(b'"'),
+        b'\\' => Some(b'\\'),
+        _ => None,
+    }
+}
+
+/// What a text means, and how many bytes it takes through its last quote. `inside` begins behind the
+/// first quote.
+pub fn text(alloc: Global, inside: &[u8]) -> Result<Option<(Text, usize)>, Memory>
+    ensures found { IfOk result (λ found. found ≡ read.text_at false inside.now) }
+    ensures within { IfOk result (λ found. IfSome found (λ text. text.1 ≤ length inside.now)) }
+{
+    let mut text = Text::new(alloc);
+    let mut escape = false;
+    for (index, byte) in inside.iter().enumerate() {
+        if escape {
+            match escaped(*byte) {
+                Some(meant) => text.push(meant)?,
+                None => return Ok(None),
+            }
+            escape = false;
+        } else if *byte == b'"' {
+            return Ok(Some((text, index + 1)));
+        } else if *byte == b'\\' {
+            escape = true;
+        } else if *byte < b' ' {
+            return Ok(None);
+        } else {
+            text.push(*byte)?;
+        }
+    }
+    Ok(None)
+}
