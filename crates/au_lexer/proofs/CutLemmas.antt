@@ -78,7 +78,7 @@ word_some : (word : List ℕ) → IsWord word → 0 < length word
 word_some [] h = absurd h
 word_some (first ∷ rest) h = omega arith
 
-spelling_some : (piece : Piece) → IsPiece piece → 0 < length (spelling piece)
+pub spelling_some : (piece : Piece) → IsPiece piece → 0 < length (spelling piece)
 spelling_some (blank byte) h = omega arith
 spelling_some (comment bytes) h = omega arith
 spelling_some (token (Word keyword)) h = word_some _ (keyword_word keyword)

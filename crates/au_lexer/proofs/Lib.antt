@@ -4,3 +4,4 @@ pub mod StringLemmas
 pub mod SignLemmas
 pub mod FrontLemmas
 pub mod CutLemmas
+pub mod UniqueLemmas
