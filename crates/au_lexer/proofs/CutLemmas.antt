@@ -105,11 +105,11 @@ has_more file bytes done at after tokens size what cut longest short is =
       short = list_all-append is_short cut.pieces (found ∷ []) ∙ and_from _ _ cut.short (and_from _ _ (ap is_short_token longest.meant ∙ short) refl);
       spelled = flat_map-append spelling cut.pieces (found ∷ []) ∙ ap (λ s. flat_map spelling cut.pieces ++ s) (append-nil (spelling found)) ∙ ap (λ s. s ++ spelling found) cut.spelled ∙ ap (λ s. take done bytes ++ s) (longest_spelled rest size what longest) ∙ sym seam;
       listed =
-        ap (λ ts. ts ++ token_at at what) cut.listed
-        ∙ ap (λ p. tokens_among file [] cut.pieces ++ token_at p what) (cut.place ∙ ap (place_after file) (sym cut.spelled))
-        ∙ ap (λ w. tokens_among file [] cut.pieces ++ token_at (place_after file (flat_map spelling cut.pieces)) w) (sym longest.meant)
-        ∙ sym (tokens_more file [] cut.pieces found);
-      place = is ∙ ap (place_after file) (sym seam)
+          ap (λ ts. ts ++ token_at at what) cut.listed
+          ∙ ap (λ p. tokens_among file [] cut.pieces ++ token_at p what) (cut.place ∙ ap (place_after file) (sym cut.spelled))
+          ∙ ap (λ w. tokens_among file [] cut.pieces ++ token_at (place_after file (flat_map spelling cut.pieces)) w) (sym longest.meant)
+          ∙ sym (tokens_more file [] cut.pieces found);
+      place = is ∙ ap (place_after file) (sym seam);
     }
 
 -- a place lies within the file's bytes
@@ -122,7 +122,7 @@ stops_at file bytes done at tokens cut = record {
   pieces = cut.pieces;
   cuts = cut.cuts;
   short = cut.short;
-  place = cut.place ∙ ap (place_after file) (sym cut.spelled)
+  place = cut.place ∙ ap (place_after file) (sym cut.spelled);
 }
 
 -- when the limit is the cause

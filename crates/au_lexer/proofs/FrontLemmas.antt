@@ -52,8 +52,12 @@ finds_comment : (bytes rest : List ℕ) → list_all (λ byte. not (is_newline b
 finds_comment bytes rest h =
     let m : ℕ = prefix_len (λ byte. not (is_newline byte)) rest in
     let size : comment_size (45 ∷ 45 ∷ bytes ++ rest) ≡ 1 + (1 + (length bytes + m)) = ap (λ n. 1 + (1 + n)) (prefix_pass (λ byte. not (is_newline byte)) bytes rest h) in
-    finds_as _ _ (comment bytes) (front_is 45 (45 ∷ bytes ++ rest)) (comment_size (45 ∷ 45 ∷ bytes ++ rest), None, refl,
-      elim (more_or_none m (length bytes)) [ inl e ↦ inl (omega arith, refl) | inr lt ↦ inr (omega arith) ])
+    finds_as _ _ (comment bytes) (front_is 45 (45 ∷ bytes ++ rest)) (
+      comment_size (45 ∷ 45 ∷ bytes ++ rest),
+      None,
+      refl,
+      elim (more_or_none m (length bytes)) [ inl e ↦ inl (omega arith, refl) | inr lt ↦ inr (omega arith) ],
+    )
 
 letter_no_space : (byte : ℕ) → is_letter byte ≡ true → is_space byte ≡ false
 letter_no_space byte h = grind (arith, nat_tests)
@@ -65,7 +69,7 @@ front_word (first ∷ word) rest h =
     let name_byte : is_name_byte first ≡ true = or_left _ _ (or_left _ _ h.0) in
     let all : list_all is_name_byte (first ∷ word) ≡ true = and_from _ _ name_byte h.1 in
     let at : word_at (first ∷ word ++ rest) ≡ first ∷ word ++ take (prefix_len is_name_byte rest) rest =
-        ap (λ n. take n (first ∷ word ++ rest)) (prefix_pass is_name_byte (first ∷ word) rest all) ∙ take-append-add (first ∷ word) rest (prefix_len is_name_byte rest) in
+    ap (λ n. take n (first ∷ word ++ rest)) (prefix_pass is_name_byte (first ∷ word) rest all) ∙ take-append-add (first ∷ word) rest (prefix_len is_name_byte rest) in
     front_is first (word ++ rest) ∙ when_false _ _ _ (letter_no_space first h.0) ∙ when_true _ _ _ h.0 ∙ ap word_front at
 
 -- a word is found where it begins, or a longer one
@@ -75,12 +79,17 @@ finds_word word rest what h is spelled =
     let whole : List ℕ = word ++ take m rest in
     let size : length whole ≡ length word + m = length-append word (take m rest) ∙ ap (λ n. length word + n) (length-take-le m rest (prefix_within is_name_byte rest)) in
     let long : length (spelling (token what)) ≡ length word = ap length spelled in
-    finds_as _ _ (token what) (front_word word rest h) (length whole, Some (word_what whole (keyword_of whole)), refl,
+    finds_as _ _ (token what) (front_word word rest h) (
+      length whole,
+      Some (word_what whole (keyword_of whole)),
+      refl,
       elim (more_or_none m (length word)) [
-        inl e ↦
-          let same : whole ≡ word = ap (λ n. word ++ take n rest) e ∙ append-nil word in
-          inl (omega arith, ap Some (sym (ap (λ w. word_what w (keyword_of w)) same ∙ is)))
-        | inr lt ↦ inr (omega arith) ])
+        | inl e ↦
+            let same : whole ≡ word = ap (λ n. word ++ take n rest) e ∙ append-nil word in
+            inl (omega arith, ap Some (sym (ap (λ w. word_what w (keyword_of w)) same ∙ is)))
+        | inr lt ↦ inr (omega arith)
+      ],
+    )
 
 -- bytes that begin with no quote
 no_quotes : (first : ℕ) (rest : List ℕ) → nat_eq first 34 ≡ false → starts_with nat_eq (first ∷ rest) three_quotes ≡ false
@@ -102,21 +111,27 @@ finds_sign bytes rest sign h =
     let mark = sign_mark sign in
     let is : bytes ≡ mark.first ∷ (mark.rest ++ rest) = h ∙ ap (λ s. s ++ rest) mark.is in
     let same : front bytes ≡ cond (is_comment bytes) (piece (comment_size bytes) None) (sign_front (sign_of bytes)) =
-        subst (λ b. front b ≡ cond (is_comment b) (piece (comment_size b) None) (sign_front (sign_of b))) (sym is) (front_mark mark.first (mark.rest ++ rest) mark.no_space mark.no_letter mark.no_digit mark.no_quote) in
+    subst (λ b. front b ≡ cond (is_comment b) (piece (comment_size b) None) (sign_front (sign_of b))) (sym is) (front_mark mark.first (mark.rest ++ rest) mark.no_space mark.no_letter mark.no_digit mark.no_quote) in
     elim (cases_Bool (is_comment bytes)) [
-      inl is_one ↦ (comment_size bytes, None, same ∙ when_true _ _ _ is_one, inr (omega (arith, comment_long bytes is_one, sign_of_comment bytes rest sign h is_one)))
+      | inl is_one ↦ (comment_size bytes, None, same ∙ when_true _ _ _ is_one, inr (omega (arith, comment_long bytes is_one, sign_of_comment bytes rest sign h is_one)))
       | inr is_none ↦
-        let found = sign_begins bytes sign (begins_so bytes (sign_spelling sign) rest h) in
-        (length (sign_spelling found.0), Some (Sign found.0), same ∙ when_false _ _ _ is_none ∙ ap sign_front found.1,
-          elim found.2 [ inl e ↦ inl (ap (λ s. length (sign_spelling s)) e, ap (λ s. Some (Sign s)) e) | inr lt ↦ inr lt ]) ]
+          let found = sign_begins bytes sign (begins_so bytes (sign_spelling sign) rest h) in (
+            length (sign_spelling found.0),
+            Some (Sign found.0),
+            same ∙ when_false _ _ _ is_none ∙ ap sign_front found.1,
+            elim found.2 [ inl e ↦ inl (ap (λ s. length (sign_spelling s)) e, ap (λ s. Some (Sign s)) e) | inr lt ↦ inr lt ],
+          )
+    ]
 
 finds_text : (text rest : List ℕ) → list_all is_text_byte text ≡ true → (starts_with nat_eq (34 ∷ written text ++ 34 ∷ rest) three_quotes ≡ true → ⊥) → Finds (front (34 ∷ written text ++ 34 ∷ rest)) (token (Text text))
 finds_text text rest h apart =
     let quotes : starts_with nat_eq (34 ∷ written text ++ 34 ∷ rest) three_quotes ≡ false = elim (cases_Bool (starts_with nat_eq (34 ∷ written text ++ 34 ∷ rest) three_quotes)) [ inl are ↦ absurd (apart are) | inr e ↦ e ] in
-    let size : length (spelling (token (Text text))) ≡ length (written text) + 1 + 1 = omega (arith, length-append (written text) (34 ∷ [])) in
-    (length (written text) + 1 + 1, Some (Text text),
+    let size : length (spelling (token (Text text))) ≡ length (written text) + 1 + 1 = omega (arith, length-append (written text) (34 ∷ [])) in (
+      length (written text) + 1 + 1,
+      Some (Text text),
       front_is 34 (written text ++ 34 ∷ rest) ∙ when_false _ _ _ quotes ∙ ap text_front (text_again text rest h),
-      inl (size, refl))
+      inl (size, refl),
+    )
 
 -- Where a piece begins, it or a longer one is found.
 pub begins_found : (bytes : List ℕ) (other : Piece) → Begins other bytes → Finds (front bytes) other
@@ -143,7 +158,7 @@ found_as bytes a size b what e found = record {
   found = found.found;
   begins = found.begins;
   sized = (let h : a ≡ size = cc in found.sized ∙ h);
-  meant = (let h : b ≡ what = cc in found.meant ∙ h)
+  meant = (let h : b ≡ what = cc in found.meant ∙ h);
 }
 
 found_blank : (first : ℕ) (rest : List ℕ) → is_space first ≡ true → IsFound (first ∷ rest) 1 None
@@ -159,7 +174,7 @@ word_is bytes word rest None e whole is_word = record {
   found = token (Name word);
   begins = record { known = (is_word, λ keyword h. none_so word keyword e h); front = (rest, whole); no_docstring = λ _ t. t };
   sized = refl;
-  meant = refl
+  meant = refl;
 }
 word_is bytes word rest (Some keyword) e whole is_word =
     let same = keyword_found word keyword e in
@@ -167,7 +182,7 @@ word_is bytes word rest (Some keyword) e whole is_word =
       found = token (Word keyword);
       begins = record { known = tt; front = (rest, whole ∙ ap (λ w. w ++ rest) (sym same)); no_docstring = λ _ t. t };
       sized = ap length same;
-      meant = refl
+      meant = refl;
     }
 
 found_word : (first : ℕ) (rest : List ℕ) → is_letter first ≡ true → (size : ℕ) (what : Option What) → word_front (word_at (first ∷ rest)) ≡ piece size what → IsFound (first ∷ rest) size what
@@ -190,7 +205,7 @@ found_text rest (Some text) size what e quotes h =
       found = token (Text text.0);
       begins = record { known = read.meant; front = (read.rest, whole); no_docstring = λ are _. both_ways _ quotes are };
       sized = (let s = read.sized in let l = length-append (written text.0) (34 ∷ []) in omega arith);
-      meant = refl
+      meant = refl;
     })
 
 found_comment : (bytes : List ℕ) (size : ℕ) (what : Option What) → is_comment bytes ≡ true → piece (comment_size bytes) None ≡ piece size what → IsFound bytes size what
@@ -204,7 +219,7 @@ found_comment bytes size what h e =
       found = comment (take m rest);
       begins = record { known = prefix_all line rest; front = (drop m rest, is ∙ ap (λ r. 45 ∷ 45 ∷ r) (sym (take-append-drop m rest))); no_docstring = λ _ t. t };
       sized = ap (λ n. suc (suc n)) (length-take-le m rest (prefix_within line rest)) ∙ sym sized;
-      meant = refl
+      meant = refl;
     })
 
 found_sign : (bytes : List ℕ) (o : Option SignOf) (size : ℕ) (what : Option What) → sign_of bytes ≡ o → sign_front o ≡ piece size what → IsFound bytes size what
@@ -214,7 +229,7 @@ found_sign bytes (Some sign) size what e h =
       found = token (Sign sign);
       begins = record { known = tt; front = (drop (length (sign_spelling sign)) bytes, begun bytes (sign_spelling sign) (sign_found bytes sign e)); no_docstring = λ _ t. t };
       sized = refl;
-      meant = refl
+      meant = refl;
     })
 
 -- What is found begins there.
@@ -223,50 +238,64 @@ found_begins first rest size what h =
     let bytes : List ℕ = first ∷ rest in
     let p : Front = piece size what in
     elim (chosen (is_space first) _ _ p (sym (front_is first rest) ∙ h)) [
-      inl w ↦ found_as bytes 1 size None what w.1 (found_blank first rest w.0)
+      | inl w ↦ found_as bytes 1 size None what w.1 (found_blank first rest w.0)
       | inr w ↦ elim (chosen (is_letter first) _ _ p w.1) [
-      inl w ↦ found_word first rest w.0 size what w.1
-      | inr w ↦ elim (chosen (is_digit first || starts_with nat_eq bytes three_quotes) later _ p w.1) [
-      inl w ↦ let e = w.1 in absurd cc
-      | inr v ↦ elim (chosen (first == 34) _ _ p v.1) [
-      inl w ↦
-        let quotes = (or_parts (is_digit first) _ v.0).1 in
-        let is = eqb-true first 34 w.0 in
-        subst (λ f. IsFound (f ∷ rest) size what) (sym is) (found_text rest (text_at false rest) size what refl (subst (λ f. starts_with nat_eq (f ∷ rest) three_quotes ≡ false) is quotes) w.1)
-      | inr w ↦ elim (chosen (is_comment bytes) _ _ p w.1) [
-      inl w ↦ found_comment bytes size what w.0 w.1
-      | inr w ↦ found_sign bytes (sign_of bytes) size what refl w.1 ] ] ] ] ]
+        | inl w ↦ found_word first rest w.0 size what w.1
+        | inr w ↦ elim (chosen (is_digit first || starts_with nat_eq bytes three_quotes) later _ p w.1) [
+          | inl w ↦ let e = w.1 in absurd cc
+          | inr v ↦ elim (chosen (first == 34) _ _ p v.1) [
+            | inl w ↦
+                let quotes = (or_parts (is_digit first) _ v.0).1 in
+                let is = eqb-true first 34 w.0 in
+                subst (λ f. IsFound (f ∷ rest) size what) (sym is) (found_text rest (text_at false rest) size what refl (subst (λ f. starts_with nat_eq (f ∷ rest) three_quotes ≡ false) is quotes) w.1)
+            | inr w ↦ elim (chosen (is_comment bytes) _ _ p w.1) [
+              | inl w ↦ found_comment bytes size what w.0 w.1
+              | inr w ↦ found_sign bytes (sign_of bytes) size what refl w.1
+            ]
+          ]
+        ]
+      ]
+    ]
 
 -- Where nothing is found, no piece begins, and it is nothing that isn't there yet.
 pub stray_apart : (first : ℕ) (rest : List ℕ) → front (first ∷ rest) ≡ stray → is_later (first ∷ rest) ≡ false
 stray_apart first rest h =
     let bytes : List ℕ = first ∷ rest in
     elim (chosen (is_space first) _ _ stray (sym (front_is first rest) ∙ h)) [
-      inl w ↦ let e = w.1 in absurd cc
+      | inl w ↦ let e = w.1 in absurd cc
       | inr w ↦ elim (chosen (is_letter first) _ _ stray w.1) [
-      inl w ↦ let e = w.1 in absurd cc
-      | inr w ↦ elim (chosen (is_digit first || starts_with nat_eq bytes three_quotes) later _ stray w.1) [
-      inl w ↦ let e = w.1 in absurd cc
-      | inr w ↦ w.0 ] ] ]
+        | inl w ↦ let e = w.1 in absurd cc
+        | inr w ↦ elim (chosen (is_digit first || starts_with nat_eq bytes three_quotes) later _ stray w.1) [
+          | inl w ↦ let e = w.1 in absurd cc
+          | inr w ↦ w.0
+        ]
+      ]
+    ]
 
 pub later_is : (first : ℕ) (rest : List ℕ) → front (first ∷ rest) ≡ later → is_later (first ∷ rest) ≡ true
 later_is first rest h =
     let bytes : List ℕ = first ∷ rest in
     elim (chosen (is_space first) _ _ later (sym (front_is first rest) ∙ h)) [
-      inl w ↦ let e = w.1 in absurd cc
+      | inl w ↦ let e = w.1 in absurd cc
       | inr w ↦ elim (chosen (is_letter first) _ _ later w.1) [
-      inl w ↦ let e = w.1 in absurd cc
-      | inr w ↦ elim (chosen (is_digit first || starts_with nat_eq bytes three_quotes) later _ later w.1) [
-      inl w ↦ w.0
-      | inr v ↦ elim (chosen (first == 34) _ _ later v.1) [
-      inl w ↦ let e = w.1 in absurd (no_text (text_at false rest) e)
-      | inr w ↦ elim (chosen (is_comment bytes) _ _ later w.1) [
-      inl w ↦ let e = w.1 in absurd cc
-      | inr w ↦ absurd (no_sign (sign_of bytes) w.1) ] ] ] ] ]
+        | inl w ↦ let e = w.1 in absurd cc
+        | inr w ↦ elim (chosen (is_digit first || starts_with nat_eq bytes three_quotes) later _ later w.1) [
+          | inl w ↦ w.0
+          | inr v ↦ elim (chosen (first == 34) _ _ later v.1) [
+            | inl w ↦ let e = w.1 in absurd (no_text (text_at false rest) e)
+            | inr w ↦ elim (chosen (is_comment bytes) _ _ later w.1) [
+              | inl w ↦ let e = w.1 in absurd cc
+              | inr w ↦ absurd (no_sign (sign_of bytes) w.1)
+            ]
+          ]
+        ]
+      ]
+    ]
   where
     no_text : (o : Option (List ℕ × ℕ)) → text_front o ≡ later → ⊥
     no_text None e = cc
     no_text (Some text) e = cc
+
     no_sign : (o : Option SignOf) → sign_front o ≡ later → ⊥
     no_sign None e = cc
     no_sign (Some sign) e = cc
@@ -283,8 +312,9 @@ quote_first first rest quotes =
 
 later_first : (first : ℕ) (rest : List ℕ) → is_later (first ∷ rest) ≡ true → (is_space first ≡ false) × (is_letter first ≡ false)
 later_first first rest h = elim (or_cases (is_digit first) (starts_with nat_eq (first ∷ rest) three_quotes) h) [
-    inl digit ↦ digit_first first digit
-    | inr quotes ↦ quote_first first rest quotes ]
+  | inl digit ↦ digit_first first digit
+  | inr quotes ↦ quote_first first rest quotes
+]
 
 pub later_found : (first : ℕ) (rest : List ℕ) → is_later (first ∷ rest) ≡ true → front (first ∷ rest) ≡ later
 later_found first rest h =
@@ -299,7 +329,7 @@ longest_found first rest size what h =
       found = found.found;
       stands = record { begins = found.begins; longest = λ other begins. bound other begins };
       sized = found.sized;
-      meant = found.meant
+      meant = found.meant;
     }
   where
     bound : (other : Piece) → Begins other (first ∷ rest) → length (spelling other) ≤ length (spelling (found_begins first rest size what h).found)

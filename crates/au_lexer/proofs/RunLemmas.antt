@@ -28,13 +28,15 @@ module _ {X : Type 0} (p : X → Bool) where
   prefix_all (x ∷ xs) =
       let P : ℕ → Type 0 = λ n. list_all p (take n (x ∷ xs)) ≡ true in
       elim (chosen (p x) (1 + prefix_len p xs) 0 (prefix_len p (x ∷ xs)) refl) [
-        inl w ↦ subst P w.1 (subst P (let e : suc (prefix_len p xs) ≡ 1 + prefix_len p xs = omega arith in e) (and_from (p x) _ w.0 (prefix_all xs)))
-        | inr w ↦ subst P w.1 refl ]
+        | inl w ↦ subst P w.1 (subst P (let e : suc (prefix_len p xs) ≡ 1 + prefix_len p xs = omega arith in e) (and_from (p x) _ w.0 (prefix_all xs)))
+        | inr w ↦ subst P w.1 refl
+      ]
 
   -- that front isn't longer than the list
   pub prefix_within : (xs : List X) → prefix_len p xs ≤ length xs
   prefix_within [] = omega arith
   prefix_within (x ∷ xs) =
       elim (chosen (p x) (1 + prefix_len p xs) 0 (prefix_len p (x ∷ xs)) refl) [
-        inl w ↦ omega (arith, w.1, prefix_within xs)
-        | inr w ↦ omega (arith, w.1) ]
+        | inl w ↦ omega (arith, w.1, prefix_within xs)
+        | inr w ↦ omega (arith, w.1)
+      ]

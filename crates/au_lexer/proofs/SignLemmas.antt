@@ -144,14 +144,15 @@ among_bound most [] sign h i = absurd i
 among_bound most (one ∷ table) sign h i =
     let parts = and_parts (nat_le (length (sign_spelling one)) most) _ h in
     elim i [
-      inl e ↦ subst (λ s. length (sign_spelling s) ≤ most) (sym e) (leb-true _ _ parts.0)
-      | inr j ↦ among_bound most table sign parts.1 j ]
+      | inl e ↦ subst (λ s. length (sign_spelling s) ≤ most) (sym e) (leb-true _ _ parts.0)
+      | inr j ↦ among_bound most table sign parts.1 j
+    ]
 
 -- two signs of one length that the bytes begin with are the same
 same_length : (bytes : List ℕ) (a b : Sign) → starts_with nat_eq bytes (sign_spelling a) ≡ true → starts_with nat_eq bytes (sign_spelling b) ≡ true → length (sign_spelling a) ≡ length (sign_spelling b) → a ≡ b
 same_length bytes a b x y e =
     let front : (s : Sign) → starts_with nat_eq bytes (sign_spelling s) ≡ true → take (length (sign_spelling s)) bytes ≡ sign_spelling s =
-      λ s z. ap (take (length (sign_spelling s))) (begun bytes (sign_spelling s) z) ∙ take_at (sign_spelling s) _ _ refl in
+    λ s z. ap (take (length (sign_spelling s))) (begun bytes (sign_spelling s) z) ∙ take_at (sign_spelling s) _ _ refl in
     sign_same a b (sym (front a x) ∙ ap (λ n. take n bytes) e ∙ front b y)
 
 -- What is found where a sign is begun: that sign, or a longer one.
@@ -162,8 +163,9 @@ FindsSign found sign = (one : Sign) × (found ≡ Some one) × ((sign ≡ one) �
 shorter : (one sign : Sign) (bytes : List ℕ) → length (sign_spelling sign) ≤ length (sign_spelling one) → starts_with nat_eq bytes (sign_spelling sign) ≡ true → starts_with nat_eq bytes (sign_spelling one) ≡ true → (sign ≡ one) ⊎ (length (sign_spelling sign) < length (sign_spelling one))
 shorter one sign bytes le a b =
     elim (cases_lt (length (sign_spelling sign)) (length (sign_spelling one))) [
-      inl lt ↦ inr lt
-      | inr ge ↦ inl (same_length bytes sign one a b (omega arith)) ]
+      | inl lt ↦ inr lt
+      | inr ge ↦ inl (same_length bytes sign one a b (omega arith))
+    ]
 
 finds : (table : List Sign) (bytes : List ℕ) (sign : Sign) → falls table ≡ true → IsAmong sign table → starts_with nat_eq bytes (sign_spelling sign) ≡ true → FindsSign (first_begun table bytes) sign
 unfolding IsAmong falls
@@ -171,11 +173,14 @@ finds [] bytes sign f i h = absurd i
 finds (one ∷ table) bytes sign f i h =
     let parts = and_parts (none_longer (length (sign_spelling one)) table) (falls table) f in
     elim i [
-      inl e ↦ (one, when_true _ _ _ (subst (λ s. starts_with nat_eq bytes (sign_spelling s) ≡ true) e h), inl e)
+      | inl e ↦ (one, when_true _ _ _ (subst (λ s. starts_with nat_eq bytes (sign_spelling s) ≡ true) e h), inl e)
       | inr j ↦
           elim (chosen (starts_with nat_eq bytes (sign_spelling one)) (Some one) (first_begun table bytes) (first_begun (one ∷ table) bytes) refl) [
-            inl w ↦ (one, sym w.1, shorter one sign bytes (among_bound _ table sign parts.0 j) h w.0)
-            | inr w ↦ let found = finds table bytes sign parts.1 j h in (found.0, sym w.1 ∙ found.1, found.2) ] ]
+            | inl w ↦ (one, sym w.1, shorter one sign bytes (among_bound _ table sign parts.0 j) h w.0)
+            | inr w ↦ let found = finds table bytes sign parts.1 j h in (found.0, sym w.1 ∙ found.1, found.2)
+          ]
+    ]
+
 falls_so : falls signs ≡ true
 unfolding falls none_longer
 falls_so = refl
@@ -189,8 +194,9 @@ first_begun_is : (table : List Sign) (bytes : List ℕ) (sign : Sign) → first_
 first_begun_is [] bytes sign h = cc
 first_begun_is (one ∷ table) bytes sign h =
     elim (chosen (starts_with nat_eq bytes (sign_spelling one)) (Some one) (first_begun table bytes) (Some sign) h) [
-      inl w ↦ let same : one ≡ sign = (let e = w.1 in cc) in subst (λ k. starts_with nat_eq bytes (sign_spelling k) ≡ true) same w.0
-      | inr w ↦ first_begun_is table bytes sign w.1 ]
+      | inl w ↦ let same : one ≡ sign = (let e = w.1 in cc) in subst (λ k. starts_with nat_eq bytes (sign_spelling k) ≡ true) same w.0
+      | inr w ↦ first_begun_is table bytes sign w.1
+    ]
 
 pub sign_found : (bytes : List ℕ) (sign : Sign) → sign_of bytes ≡ Some sign → starts_with nat_eq bytes (sign_spelling sign) ≡ true
 unfolding sign_of
@@ -230,10 +236,12 @@ no_comment Greater = refl
 pub sign_of_comment : (bytes rest : List ℕ) (sign : Sign) → bytes ≡ sign_spelling sign ++ rest → starts_with nat_eq bytes (45 ∷ 45 ∷ []) ≡ true → length (sign_spelling sign) ≤ 1
 sign_of_comment bytes rest sign h begins =
     elim (or_cases (nat_le (length (sign_spelling sign)) 1) (not (starts_with nat_eq (sign_spelling sign) (45 ∷ 45 ∷ []))) (no_comment sign)) [
-      inl w ↦ leb-true _ _ w
+      | inl w ↦ leb-true _ _ w
       | inr w ↦ elim (cases_lt 1 (length (sign_spelling sign))) [
-        inr le ↦ le
+        | inr le ↦ le
         | inl lt ↦
-          let front : take 2 bytes ≡ take 2 (sign_spelling sign) = ap (take 2) h ∙ take-append-le 2 (sign_spelling sign) rest (omega arith) in
-          let same : starts_with nat_eq (sign_spelling sign) (45 ∷ 45 ∷ []) ≡ true = ap (pointwise nat_eq (45 ∷ 45 ∷ [])) (sym front) ∙ begins in
-          absurd (both_ways _ (not-true _ w) same) ] ]
+            let front : take 2 bytes ≡ take 2 (sign_spelling sign) = ap (take 2) h ∙ take-append-le 2 (sign_spelling sign) rest (omega arith) in
+            let same : starts_with nat_eq (sign_spelling sign) (45 ∷ 45 ∷ []) ≡ true = ap (pointwise nat_eq (45 ∷ 45 ∷ [])) (sym front) ∙ begins in
+            absurd (both_ways _ (not-true _ w) same)
+      ]
+    ]

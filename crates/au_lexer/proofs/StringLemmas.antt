@@ -21,19 +21,24 @@ pub data Written (byte : ℕ) : Type 0 where
 pub how_written : (byte : ℕ) → is_text_byte byte ≡ true → Written byte
 how_written byte h =
     elim (cases_Bool (byte == 10)) [
-      inl e ↦ let is = eqb-true byte 10 e in subst Written (sym is) (escape 110 refl refl)
+      | inl e ↦ let is = eqb-true byte 10 e in subst Written (sym is) (escape 110 refl refl)
       | inr n ↦ elim (cases_Bool (byte == 13)) [
-      inl e ↦ let is = eqb-true byte 13 e in subst Written (sym is) (escape 114 refl refl)
-      | inr r ↦ elim (cases_Bool (byte == 9)) [
-      inl e ↦ let is = eqb-true byte 9 e in subst Written (sym is) (escape 116 refl refl)
-      | inr t ↦ elim (cases_Bool (byte == 34)) [
-      inl e ↦ let is = eqb-true byte 34 e in subst Written (sym is) (escape 34 refl refl)
-      | inr q ↦ elim (cases_Bool (byte == 92)) [
-      inl e ↦ let is = eqb-true byte 92 e in subst Written (sym is) (escape 92 refl refl)
-      | inr s ↦
-          plain
-          (when_false _ _ _ n ∙ when_false _ _ _ r ∙ when_false _ _ _ t ∙ when_false _ _ _ q ∙ when_false _ _ _ s)
-          (grind (arith, nat_tests)) q s ] ] ] ] ]
+        | inl e ↦ let is = eqb-true byte 13 e in subst Written (sym is) (escape 114 refl refl)
+        | inr r ↦ elim (cases_Bool (byte == 9)) [
+          | inl e ↦ let is = eqb-true byte 9 e in subst Written (sym is) (escape 116 refl refl)
+          | inr t ↦ elim (cases_Bool (byte == 34)) [
+            | inl e ↦ let is = eqb-true byte 34 e in subst Written (sym is) (escape 34 refl refl)
+            | inr q ↦ elim (cases_Bool (byte == 92)) [
+              | inl e ↦ let is = eqb-true byte 92 e in subst Written (sym is) (escape 92 refl refl)
+              | inr s ↦
+                  plain
+                  (when_false _ _ _ n ∙ when_false _ _ _ r ∙ when_false _ _ _ t ∙ when_false _ _ _ q ∙ when_false _ _ _ s)
+                  (grind (arith, nat_tests)) q s
+            ]
+          ]
+        ]
+      ]
+    ]
 
 -- what an escape means can be meant, and is written so
 pub escaped_is : (letter byte : ℕ) → escaped letter ≡ Some byte → (byte_spelling byte ≡ 92 ∷ letter ∷ []) × (is_text_byte byte ≡ true)
@@ -41,16 +46,21 @@ escaped_is letter byte h =
     let P : ℕ → ℕ → Type 0 = λ l b. (byte_spelling b ≡ 92 ∷ l ∷ []) × (is_text_byte b ≡ true) in
     let go : (l b : ℕ) → letter ≡ l → Some b ≡ Some byte → P l b → P letter byte = λ l b e f p. let g : b ≡ byte = cc in subst (λ x. P x byte) (sym e) (subst (P l) g p) in
     elim (chosen (letter == 110) (Some 10) _ (Some byte) h) [
-      inl w ↦ go 110 10 (eqb-true letter 110 w.0) w.1 (refl, refl)
+      | inl w ↦ go 110 10 (eqb-true letter 110 w.0) w.1 (refl, refl)
       | inr w ↦ elim (chosen (letter == 114) (Some 13) _ (Some byte) w.1) [
-      inl w ↦ go 114 13 (eqb-true letter 114 w.0) w.1 (refl, refl)
-      | inr w ↦ elim (chosen (letter == 116) (Some 9) _ (Some byte) w.1) [
-      inl w ↦ go 116 9 (eqb-true letter 116 w.0) w.1 (refl, refl)
-      | inr w ↦ elim (chosen (letter == 34) (Some 34) _ (Some byte) w.1) [
-      inl w ↦ go 34 34 (eqb-true letter 34 w.0) w.1 (refl, refl)
-      | inr w ↦ elim (chosen (letter == 92) (Some 92) None (Some byte) w.1) [
-      inl w ↦ go 92 92 (eqb-true letter 92 w.0) w.1 (refl, refl)
-      | inr w ↦ let e = w.1 in absurd cc ] ] ] ] ]
+        | inl w ↦ go 114 13 (eqb-true letter 114 w.0) w.1 (refl, refl)
+        | inr w ↦ elim (chosen (letter == 116) (Some 9) _ (Some byte) w.1) [
+          | inl w ↦ go 116 9 (eqb-true letter 116 w.0) w.1 (refl, refl)
+          | inr w ↦ elim (chosen (letter == 34) (Some 34) _ (Some byte) w.1) [
+            | inl w ↦ go 34 34 (eqb-true letter 34 w.0) w.1 (refl, refl)
+            | inr w ↦ elim (chosen (letter == 92) (Some 92) None (Some byte) w.1) [
+              | inl w ↦ go 92 92 (eqb-true letter 92 w.0) w.1 (refl, refl)
+              | inr w ↦ let e = w.1 in absurd cc
+            ]
+          ]
+        ]
+      ]
+    ]
 
 -- a text that was read with a byte before it, which took so many bytes
 text_more : ℕ → ℕ → Option (List ℕ × ℕ) → Option (List ℕ × ℕ)
@@ -65,10 +75,11 @@ escape_more byte (Some text) = ap (λ n. let p : List ℕ × ℕ = (byte ∷ tex
 byte_again : (byte : ℕ) (rest : List ℕ) → is_text_byte byte ≡ true → text_at false (byte_spelling byte ++ rest) ≡ text_more byte (length (byte_spelling byte)) (text_at false rest)
 unfolding text_more
 byte_again byte rest h = elim (how_written byte h) [
-    plain e low quote slash ↦
+  | plain e low quote slash ↦
       ap (λ s. text_at false (s ++ rest)) e ∙ when_false _ _ _ quote ∙ when_false _ _ _ slash ∙ when_false _ _ _ low ∙ ap (λ s. option_map (λ (text : List ℕ × ℕ). let p : List ℕ × ℕ = (byte ∷ text.0, text.1 + length s) in p) (text_at false rest)) (sym e)
-    | escape letter e is ↦
-      ap (λ s. text_at false (s ++ rest)) e ∙ ap (λ o. option_map (λ (text : List ℕ × ℕ). let p : List ℕ × ℕ = (text.0, text.1 + 1) in p) (with_escape o (text_at false rest))) is ∙ escape_more byte (text_at false rest) ∙ ap (λ s. text_more byte (length s) (text_at false rest)) (sym e) ]
+  | escape letter e is ↦
+      ap (λ s. text_at false (s ++ rest)) e ∙ ap (λ o. option_map (λ (text : List ℕ × ℕ). let p : List ℕ × ℕ = (text.0, text.1 + 1) in p) (with_escape o (text_at false rest))) is ∙ escape_more byte (text_at false rest) ∙ ap (λ s. text_more byte (length s) (text_at false rest)) (sym e)
+]
 
 -- what is spelled so is read
 pub text_again : (text rest : List ℕ) → list_all is_text_byte text ≡ true → text_at false (written text ++ 34 ∷ rest) ≡ Some (text, length (written text) + 1)
@@ -96,7 +107,7 @@ read_more byte inside text size size' meant longer read = record {
   rest = read.rest;
   spelled = ap (λ r. byte_spelling byte ++ r) read.spelled ∙ sym (append_assoc (byte_spelling byte) (written text) (34 ∷ read.rest));
   meant = and_from _ _ meant read.meant;
-  sized = (let s = read.sized in let l = length-append (byte_spelling byte) (written text) in omega arith)
+  sized = (let s = read.sized in let l = length-append (byte_spelling byte) (written text) in omega arith);
 }
 
 mapped : {A B : Type 0} (f : A → B) (o : Option A) (y : B) → option_map f o ≡ Some y → (x : A) × (o ≡ Some x) × (f x ≡ y)
@@ -123,7 +134,7 @@ read_plain : (byte : ℕ) (bytes : List ℕ) (found y : List ℕ × ℕ) → (by
 read_plain byte bytes found y quote slash low e read =
     let bound : 32 ≤ byte = ltb-false byte 32 low in
     let spelled : byte_spelling byte ≡ byte ∷ [] =
-        when_false _ _ _ (ne_eqb byte 10 (λ (h : byte ≡ 10). omega arith)) ∙ when_false _ _ _ (ne_eqb byte 13 (λ (h : byte ≡ 13). omega arith)) ∙ when_false _ _ _ (ne_eqb byte 9 (λ (h : byte ≡ 9). omega arith)) ∙ when_false _ _ _ quote ∙ when_false _ _ _ slash in
+    when_false _ _ _ (ne_eqb byte 10 (λ (h : byte ≡ 10). omega arith)) ∙ when_false _ _ _ (ne_eqb byte 13 (λ (h : byte ≡ 13). omega arith)) ∙ when_false _ _ _ (ne_eqb byte 9 (λ (h : byte ≡ 9). omega arith)) ∙ when_false _ _ _ quote ∙ when_false _ _ _ slash in
     let meant : is_text_byte byte ≡ true = grind (arith, nat_tests) in
     read_as (byte ∷ bytes) (byte ∷ y.0) (y.1 + 1) found e (subst (λ s. IsRead (s ++ bytes) (byte ∷ y.0) (y.1 + 1)) spelled (read_more byte bytes y.0 y.1 (y.1 + 1) meant (ap (λ (s : List ℕ). y.1 + length s) (sym spelled)) read))
 
@@ -147,21 +158,27 @@ pub text_found : (inside : List ℕ) (text : List ℕ × ℕ) → text_at false 
 text_found [] text h = cc
 text_found (byte ∷ []) text h =
     elim (chosen (byte == 34) (Some ([], 1)) _ (Some text) h) [
-      inl w ↦ read_end byte [] text w.0 w.1
+      | inl w ↦ read_end byte [] text w.0 w.1
       | inr w ↦ elim (chosen (byte == 92) (option_map (λ text. (text.0, text.1 + 1)) (text_at true [])) _ (Some text) w.1) [
-      inl v ↦ let e = v.1 in cc
-      | inr v ↦ elim (chosen (nat_lt byte 32) None (with_byte byte (text_at false [])) (Some text) v.1) [
-      inl u ↦ let e = u.1 in cc
-      | inr u ↦ let e = u.1 in cc ] ] ]
+        | inl v ↦ let e = v.1 in cc
+        | inr v ↦ elim (chosen (nat_lt byte 32) None (with_byte byte (text_at false [])) (Some text) v.1) [
+          | inl u ↦ let e = u.1 in cc
+          | inr u ↦ let e = u.1 in cc
+        ]
+      ]
+    ]
 text_found (byte ∷ next ∷ bytes) text h =
     elim (chosen (byte == 34) (Some ([], 1)) _ (Some text) h) [
-      inl w ↦ read_end byte (next ∷ bytes) text w.0 w.1
+      | inl w ↦ read_end byte (next ∷ bytes) text w.0 w.1
       | inr w ↦ elim (chosen (byte == 92) (option_map (λ text. (text.0, text.1 + 1)) (text_at true (next ∷ bytes))) _ (Some text) w.1) [
-      inl v ↦
-        let b = behind_slash next bytes text v.1 in
-        subst (λ slash. IsRead (slash ∷ next ∷ bytes) text.0 text.1) (sym (eqb-true byte 92 v.0)) (read_escape next b.0 bytes text b.1 b.2 b.4 (text_found bytes b.1 b.3))
-      | inr v ↦ elim (chosen (nat_lt byte 32) None (with_byte byte (text_at false (next ∷ bytes))) (Some text) v.1) [
-      inl u ↦ let e = u.1 in absurd cc
-      | inr u ↦
-        let last = mapped (λ (text : List ℕ × ℕ). let p : List ℕ × ℕ = (byte ∷ text.0, text.1 + 1) in p) (text_at false (next ∷ bytes)) text u.1 in
-        read_plain byte (next ∷ bytes) text last.0 w.0 v.0 u.0 last.2 (text_found (next ∷ bytes) last.0 last.1) ] ] ]
+        | inl v ↦
+            let b = behind_slash next bytes text v.1 in
+            subst (λ slash. IsRead (slash ∷ next ∷ bytes) text.0 text.1) (sym (eqb-true byte 92 v.0)) (read_escape next b.0 bytes text b.1 b.2 b.4 (text_found bytes b.1 b.3))
+        | inr v ↦ elim (chosen (nat_lt byte 32) None (with_byte byte (text_at false (next ∷ bytes))) (Some text) v.1) [
+          | inl u ↦ let e = u.1 in absurd cc
+          | inr u ↦
+              let last = mapped (λ (text : List ℕ × ℕ). let p : List ℕ × ℕ = (byte ∷ text.0, text.1 + 1) in p) (text_at false (next ∷ bytes)) text u.1 in
+              read_plain byte (next ∷ bytes) text last.0 w.0 v.0 u.0 last.2 (text_found (next ∷ bytes) last.0 last.1)
+        ]
+      ]
+    ]

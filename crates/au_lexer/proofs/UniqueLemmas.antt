@@ -1,9 +1,14 @@
 -- A file is cut in one way.
-use Rattle.std.proofs.Common.{◌≡◌, ◌≢◌, ℕ, ◌+◌, ◌<◌, ◌≤◌, Bool, true, false, not, IsTrue, List, [], ◌∷◌, ◌++◌, length, take, drop, Option, Some, None, ap, ◌∙◌, sym, refl, subst, arith, ◌⊎◌, inl, inr, length-append}
+use Rattle.std.proofs.Common.{◌≡◌, ◌≢◌, ℕ, ◌+◌, ◌<◌, ◌≤◌, Bool, true, false, not, IsTrue, List, [], ◌∷◌, ◌++◌, length, take, drop, Option, Some, None, Result, Ok, Err, Vec, IfOk, ap, ◌∙◌, sym, refl, subst, arith, ◌⊎◌, inl, inr, length-append}
+use Rattle.std.specs.Global.{Global}
 use Rattle.std.specs.List.{list_all, flat_map}
 use Rattle.std.proofs.lemmas.Bool.{and_parts, and_from, both_ways, lt-ltb, not-true}
 use Rattle.std.proofs.lemmas.List.{take_at}
 use Rattle.std.proofs.lemmas.List.Folds.{list_all-append}
+use Rattle.au_base.specs.declared.limits.Limit.{Limit}
+use Rattle.au_lexer.specs.Faults.{Answers, name_limit}
+use Rattle.au_lexer.specs.declared.lexing.LexFault.{LexFault}
+use Rattle.au_lexer.specs.declared.lexing.LexFault.TheVariants as fault
 use Rattle.au_base.specs.declared.places.Pos.{Pos}
 use Rattle.au_base.specs.declared.tokens.Token.{Token}
 use Rattle.au_base.specs.declared.tokens.What.{What}
@@ -29,12 +34,13 @@ from_first : (first : ℕ) (rest : List ℕ) (found : Piece) → Stands found (f
 from_first first rest found stands =
     let some = begins_found (first ∷ rest) found stands.begins in
     elim some.3 [
-      inl same ↦ some.2 ∙ ap (λ n. piece n some.1) (sym same.0) ∙ ap (λ w. piece (length (spelling found)) w) (sym same.1)
+      | inl same ↦ some.2 ∙ ap (λ n. piece n some.1) (sym same.0) ∙ ap (λ w. piece (length (spelling found)) w) (sym same.1)
       | inr longer ↦
-        let other = found_begins first rest some.0 some.1 some.2 in
-        let bound = stands.longest other.found other.begins in
-        let sized = other.sized in
-        absurd (omega arith) ]
+          let other = found_begins first rest some.0 some.1 some.2 in
+          let bound = stands.longest other.found other.begins in
+          let sized = other.sized in
+          absurd (omega arith)
+    ]
 
 stands_front : (bytes : List ℕ) (found : Piece) → Stands found bytes → front bytes ≡ piece (length (spelling found)) (what_of found)
 stands_front bytes found stands =
@@ -56,7 +62,7 @@ stands_alike bytes one other a b =
     let fb = b.begins.front in
     record {
       spelled = sym (ap (take (length (spelling one))) fa.1 ∙ take_at (spelling one) fa.0 (length (spelling one)) refl) ∙ ap (λ n. take n bytes) size ∙ ap (take (length (spelling other))) fb.1 ∙ take_at (spelling other) fb.0 (length (spelling other)) refl;
-      meant = meant
+      meant = meant;
     }
 
 module _ (keep : Piece → Bool) where
@@ -83,8 +89,8 @@ module _ (keep : Piece → Bool) where
         rest = more.rest;
         spelled = ap (λ s. s ++ flat_map spelling ones) alike.spelled ∙ ap (λ s. spelling other ++ s) more.spelled;
         listed = λ file front.
-          ap (λ w. token_at (place_after file front) w ++ tokens_among file (front ++ spelling one) ones) alike.meant
-          ∙ ap (λ ts. token_at (place_after file front) (what_of other) ++ ts) (more.listed file (front ++ spelling one) ∙ ap (λ s. tokens_among file (front ++ s) others) alike.spelled)
+            ap (λ w. token_at (place_after file front) w ++ tokens_among file (front ++ spelling one) ones) alike.meant
+            ∙ ap (λ ts. token_at (place_after file front) (what_of other) ++ ts) (more.listed file (front ++ spelling one) ∙ ap (λ s. tokens_among file (front ++ s) others) alike.spelled);
       }
 
 -- no piece stands at the end of a file
@@ -166,22 +172,28 @@ outcome file bytes (tokens list) h =
       at = place_after file (flat_map spelling cut.0);
       among = list;
       reached = record { pieces = cut.0; cuts = cut.1; short = pieces_short file [] cut.0 (subst IsWithinLimits cut.2 h.1); ends = λ found stands _. none_at_end found stands; place = refl; listed = cut.2 };
-      reason = (refl, refl)
+      reason = (refl, refl);
     }
 outcome file bytes (stray at) h = record {
-  rest = h.0; at = at; among = tokens_among file [] h.1.pieces;
+  rest = h.0;
+  at = at;
+  among = tokens_among file [] h.1.pieces;
   reached = from_stop file bytes h.0 at h.1 (λ found stands _. h.4 found stands.begins);
-  reason = (refl, h.2, h.3, h.4)
+  reason = (refl, h.2, h.3, h.4);
 }
 outcome file bytes (later at) h = record {
-  rest = h.0; at = at; among = tokens_among file [] h.1.pieces;
+  rest = h.0;
+  at = at;
+  among = tokens_among file [] h.1.pieces;
   reached = from_stop file bytes h.0 at h.1 (λ found stands _. later_alone h.0 h.2 found stands);
-  reason = (refl, h.2)
+  reason = (refl, h.2);
 }
 outcome file bytes long_name h = record {
-  rest = h.0; at = h.1; among = tokens_among file [] h.3.pieces;
+  rest = h.0;
+  at = h.1;
+  among = tokens_among file [] h.3.pieces;
   reached = from_stop file bytes h.0 h.1 h.3 (λ found stands short. long_alone h.0 h.2 h.4 h.5 found stands short);
-  reason = (h.2, h.4, h.5)
+  reason = (h.2, h.4, h.5);
 }
 
 -- two reasons at one place are the same
@@ -214,6 +226,18 @@ one_outcome file bytes x y a b =
     let q = outcome file bytes y b in
     let same = cuts_meet is_short p.reached.pieces q.reached.pieces bytes p.rest q.rest p.reached.cuts q.reached.cuts p.reached.short q.reached.short p.reached.ends q.reached.ends in
     one_reason x y p.rest p.at p.among p.reason (reason_at y q.rest p.rest q.at p.at q.among p.among (sym same.rest)
-      (q.reached.place ∙ ap (place_after file) (sym same.spelled) ∙ sym p.reached.place)
-      (q.reached.listed ∙ sym (same.listed file []) ∙ sym p.reached.listed)
-      q.reason)
+    (q.reached.place ∙ ap (place_after file) (sym same.spelled) ∙ sym p.reached.place)
+    (q.reached.listed ∙ sym (same.listed file []) ∙ sym p.reached.listed)
+    q.reason)
+
+-- What is answered by the definitions is what a file comes to.
+pub answers_so : (file : ℕ) (bytes : List ℕ) (answer : Result (Vec Token Global) LexFault) →
+    IfOk answer (λ list. Cut file bytes list.items) → IfOk answer (λ list. IsWithinLimits list.items) →
+    ((at : Pos) → answer ≡ Err (fault.Byte at) → IsStray file bytes at) → ((at : Pos) → answer ≡ Err (fault.NotYet at) → IsLater file bytes at) →
+    ((limit : Limit) → answer ≡ Err (fault.Limit limit) → (limit ≡ name_limit) × HasLongName file bytes) →
+    (other : Lexed) → Lexes file bytes other → Answers answer other
+answers_so file bytes (Ok list) cut within byte not_yet limit other h = one_outcome file bytes other (tokens list.items) h (cut, within)
+answers_so file bytes (Err (fault.Byte at)) cut within byte not_yet limit other h = one_outcome file bytes other (stray at) h (byte at refl)
+answers_so file bytes (Err (fault.NotYet at)) cut within byte not_yet limit other h = one_outcome file bytes other (later at) h (not_yet at refl)
+answers_so file bytes (Err (fault.Limit passed)) cut within byte not_yet limit other h = (one_outcome file bytes other long_name h (limit passed refl).1, (limit passed refl).0)
+answers_so file bytes (Err fault.Memory) cut within byte not_yet limit other h = tt

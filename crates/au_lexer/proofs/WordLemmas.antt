@@ -16,8 +16,9 @@ first_spelled_is : (table : List Keyword) (word : List ℕ) (keyword : Keyword) 
 first_spelled_is [] word keyword h = cc
 first_spelled_is (one ∷ table) word keyword h =
     elim (chosen (bytes_eq (keyword_spelling one) word) (Some one) (first_spelled table word) (Some keyword) h) [
-      inl w ↦ let same : one ≡ keyword = (let e = w.1 in cc) in subst (λ k. keyword_spelling k ≡ word) same ((bytes_eq-Decides (keyword_spelling one) word).0 w.0)
-      | inr w ↦ first_spelled_is table word keyword w.1 ]
+      | inl w ↦ let same : one ≡ keyword = (let e = w.1 in cc) in subst (λ k. keyword_spelling k ≡ word) same ((bytes_eq-Decides (keyword_spelling one) word).0 w.0)
+      | inr w ↦ first_spelled_is table word keyword w.1
+    ]
 
 pub keyword_found : (word : List ℕ) (keyword : Keyword) → keyword_of word ≡ Some keyword → keyword_spelling keyword ≡ word
 unfolding keyword_of

@@ -1,4 +1,8 @@
--- The fault for each reason to stop.
+-- The answers of the lexer, and what they say of a file.
+use Rattle.std.specs.Prelude.{◌≡◌, Vec, Result, Ok, Err}
+use Rattle.std.specs.Global.{Global}
+use Rattle.au_base.specs.declared.tokens.Token.{Token}
+use Rattle.au_lexer.specs.Cut.{Lexed, tokens, stray, later, long_name}
 use Rattle.au_base.specs.declared.places.Pos.{Pos}
 use Rattle.au_base.specs.declared.limits.Limit.{Limit}
 use Rattle.au_base.specs.declared.limits.LimitKind.TheVariants.{NameBytes}
@@ -16,3 +20,11 @@ fault_of stop.Stray at = fault.Byte at
 fault_of stop.Later at = fault.NotYet at
 fault_of stop.LongName at = fault.Limit name_limit
 fault_of stop.Memory at = fault.Memory
+
+-- An answer is what a file comes to, unless memory runs out.
+abbrev pub Answers : Result (Vec Token Global) LexFault → Lexed → Type 0
+Answers (Ok list) outcome = outcome ≡ tokens list.items
+Answers (Err (fault.Byte at)) outcome = outcome ≡ stray at
+Answers (Err (fault.NotYet at)) outcome = outcome ≡ later at
+Answers (Err (fault.Limit limit)) outcome = (outcome ≡ long_name) × (limit ≡ name_limit)
+Answers (Err fault.Memory) outcome = Unit {0}

@@ -2,16 +2,14 @@
 
 ghost use Rattle.std.specs.Prelude.{◌≡◌, ◌+◌, ◌^◌, ◌<◌, ◌++◌, length, Err, IfOk, OnOk, IsOkUnless};
 ghost use Rattle.au_base.specs.Limits.{most_name_bytes};
-ghost use Rattle.au_lexer.specs.Cut.{Cut, IsWithinLimits, IsStray, IsLater, HasLongName, token_at};
-ghost use Rattle.au_lexer.specs.Faults.{fault_of, name_limit};
+ghost use Rattle.au_lexer.specs.Cut.{Cut, IsWithinLimits, IsStray, IsLater, HasLongName, Lexed, Lexes, token_at};
+ghost use Rattle.au_lexer.specs.Faults.{fault_of, name_limit, Answers};
 ghost use Rattle.au_lexer.specs.declared.lexing.LexFault.TheVariants as fault;
 
-use std::alloc::{AllocFailed, Global};
-
-use au_base::{Limit, LimitKind, MOST_NAME_BYTES, Memory, Pos, Token, What};
-use thiserror::Error;
-
 use crate::pieces::{Found, Stop, piece};
+use au_base::{Limit, LimitKind, MOST_NAME_BYTES, Memory, Pos, Token, What};
+use std::alloc::{AllocFailed, Global};
+use thiserror::Error;
 
 /// Why a file has no tokens. A file is refused at the first place that has a cause.
 #[derive(Clone, Copy, Debug, Error)]
@@ -48,6 +46,23 @@ impl<T: Drop> From<AllocFailed<T>> for LexFault {
 
 /// The tokens of a file with that number, in order, each with its place.
 pub fn lex(alloc: Global, file: u16, bytes: &[u8]) -> Result<Vec<Token>, LexFault>
+    requires { length bytes.now + 1 < 2 ^ 32 }
+    // Ok: the file is cut into these tokens, and no name among them is too long.
+    ensures cut { IfOk result (λ tokens. Cut file bytes.now tokens.items) }
+    ensures within { IfOk result (λ tokens. IsWithinLimits tokens.items) }
+    // The first place at which a file has a cause decides.
+    ensures byte { (at : Pos) → result ≡ Err (LexFault.Byte at) → IsStray file bytes.now at }
+    ensures not_yet { (at : Pos) → result ≡ Err (LexFault.NotYet at) → IsLater file bytes.now at }
+    ensures limit { (limit : Limit) → result ≡ Err (LexFault.Limit limit)
+        → (limit ≡ name_limit) × HasLongName file bytes.now }
+    // Whatever the file comes to is answered, unless memory runs out.
+    ensures only { (outcome : Lexed) → Lexes file bytes.now outcome → Answers result outcome }
+{
+    cut_all(alloc, file, bytes)
+}
+
+/// The tokens of a file, cut piece by piece.
+fn cut_all(alloc: Global, file: u16, bytes: &[u8]) -> Result<Vec<Token>, LexFault>
     requires { length bytes.now + 1 < 2 ^ 32 }
     ensures cut { IfOk result (λ tokens. Cut file bytes.now tokens.items) }
     ensures within { IfOk result (λ tokens. IsWithinLimits tokens.items) }

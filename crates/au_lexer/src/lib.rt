@@ -8,5 +8,5 @@ mod pieces;
 mod spellings;
 mod strings;
 
-pub use lexing::{LexFault, lex};
 pub use au_base::{Keyword, Sign, Token, What};
+pub use lexing::{LexFault, lex};

@@ -7,13 +7,11 @@ ghost use Rattle.au_lexer.specs.Bytes as kinds;
 ghost use Rattle.au_lexer.specs.Reading.{Reads, FindsPiece, front, word_front, word_at, text_front, text_at, sign_front, sign_of};
 ghost use Rattle.au_lexer.specs.declared.pieces.Stop.TheVariants as stop;
 
-use std::alloc::Global;
-
-use au_base::{MOST_NAME_BYTES, Memory, Name, What};
-
 use crate::bytes::{is_digit, is_letter, is_name_byte, is_space};
 use crate::spellings::{keyword, sign};
 use crate::strings::text;
+use au_base::{MOST_NAME_BYTES, Memory, Name, What};
+use std::alloc::Global;
 
 /// A piece: how many bytes it takes, and its token if it is one.
 #[derive(Drop)]

@@ -4,9 +4,8 @@ ghost use Rattle.std.specs.Prelude.{◌≡◌, ◌+◌, ◌≤◌, false, length
 ghost use Rattle.std.specs.Option.{option_map};
 ghost use Rattle.au_lexer.specs.Reading as read;
 
-use std::alloc::Global;
-
 use au_base::{Memory, Text};
+use std::alloc::Global;
 
 /// The byte that an escape means, by the byte behind its backslash.
 fn escaped(byte: u8) -> Option<u8>
