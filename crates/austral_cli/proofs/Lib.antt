@@ -1,0 +1,4 @@
+pub mod JobLemmas
+pub mod ComesLemmas
+pub mod SinkLemmas
+pub mod ArisesLemmas

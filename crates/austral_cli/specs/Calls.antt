@@ -1,0 +1,87 @@
+-- How a call ends, and what it leaves on the sinks.
+use Rattle.std.specs.Prelude.{◌≡◌, ◌<◌, ◌⊎◌, length, ℕ, Bool, true, false, List, [], Option, Some, None, IfSome, Result, Ok, Err}
+use Rattle.au_base.specs.declared.statuses.Status.{Status}
+use Rattle.au_base.specs.declared.statuses.Status.TheVariants as status
+use Rattle.au_base.specs.Outside.{Files, Adds, AddsFront, HasRisen}
+use Rattle.austral_cli.specs.Outcomes.{Due, Owes, due_line}
+use Rattle.austral_cli.specs.Lines.{refusal_place, read_fault_line}
+use Rattle.austral_cli.specs.declared.answering.AnswerFault.{AnswerFault}
+use Rattle.austral_cli.specs.declared.answering.AnswerFault.TheVariants as answer
+use Rattle.austral_cli.specs.declared.checking.CheckFault.{CheckFault}
+use Rattle.austral_cli.specs.declared.checking.CheckFault.TheVariants as fault
+use Rattle.austral_cli.specs.declared.outcomes.Outcome.{Outcome}
+use Rattle.austral_cli.specs.declared.outcomes.Outcome.TheVariants as outcome
+
+-- a status that the words and the files decide: nothing failed, and memory was there
+abbrev pub is_decided : Status → Bool
+is_decided status.ReadFault = false
+is_decided status.WriteFault = false
+is_decided status.Memory = false
+is_decided status.Success = true
+is_decided status.Failure = true
+is_decided status.Refused = true
+is_decided status.Abort = true
+is_decided status.Steps = true
+is_decided status.Limit = true
+is_decided status.Missing = true
+is_decided status.Words = true
+
+-- The files are those that a shelf tells, if it tells them.
+abbrev pub AreTold : Option Files → Files → Type 0
+AreTold told files = IfSome told (λ known. files ≡ known)
+
+-- The call ended so, with all that is due on both sinks.
+pub record Pays (due : Due) (ends : Status) (out out' err err' : Option (List ℕ)) : Type 0 where
+  pub status : ends ≡ due.status
+  pub out_bytes : Adds out out' due.out
+  pub err_bytes : Adds err err' due.err
+
+abbrev pub is_read : CheckFault → Bool
+is_read fault.Read = true
+is_read fault.Memory = false
+
+-- whether a check failed because the shelf did
+abbrev pub is_read_fault : {T : Type 0} → Result T CheckFault → Bool
+is_read_fault (Ok arisen) = false
+is_read_fault (Err e) = is_read e
+
+-- whether a file is missing
+abbrev pub is_missing : Outcome → Bool
+is_missing outcome.NoJob = false
+is_missing (outcome.Missing name) = true
+is_missing (outcome.Passes limit) = false
+is_missing (outcome.Refused refusal) = false
+is_missing (outcome.Prints first) = false
+
+-- The place of a refusal is in one of so many files.
+abbrev pub IsPlaced : ℕ → Outcome → Type 0
+IsPlaced count outcome.NoJob = Unit {0}
+IsPlaced count (outcome.Missing name) = Unit {0}
+IsPlaced count (outcome.Passes limit) = Unit {0}
+IsPlaced count (outcome.Refused refusal) = (refusal_place refusal).file < count
+IsPlaced count (outcome.Prints first) = Unit {0}
+
+-- One sink failed: a front of what is due stands on each, and where `out` failed `err` is as it was.
+pub record IsCut (due : Due) (out out' err err' : Option (List ℕ)) (faults faults' errors errors' : ℕ) : Type 0 where
+  pub out_bytes : AddsFront out out' due.out
+  pub err_bytes : AddsFront err err' due.err
+  pub risen : (HasRisen faults faults' × (err' ≡ err) × (errors' ≡ errors)) ⊎ ((faults' ≡ faults) × HasRisen errors errors')
+
+-- Nothing was written, and no sink failed.
+pub record IsUntouched (out out' err err' : Option (List ℕ)) (faults faults' errors errors' : ℕ) : Type 0 where
+  pub out_bytes : out' ≡ out
+  pub err_bytes : err' ≡ err
+  pub out_quiet : faults' ≡ faults
+  pub err_quiet : errors' ≡ errors
+
+-- what a fault of an answer says of both sinks
+abbrev pub Fails : AnswerFault → Due → (out out' err err' : Option (List ℕ)) → (faults faults' errors errors' : ℕ) → Type 0
+Fails answer.Write due out out' err err' faults faults' errors errors' = IsCut due out out' err err' faults faults' errors errors'
+Fails answer.Memory due out out' err err' faults faults' errors errors' = IsUntouched out out' err err' faults faults' errors errors'
+
+-- What a call with these words may owe: what the words and the files that are told owe, or, where the
+-- count of the shelf's faults rose, the line that says so.
+abbrev pub MayOwe : List (List ℕ) → Option Files → ℕ → ℕ → Due → Type 0
+MayOwe words told faults faults' due =
+    ((files : Files) × AreTold told files × Owes words files due)
+    ⊎ (HasRisen faults faults' × (due ≡ due_line status.ReadFault read_fault_line))

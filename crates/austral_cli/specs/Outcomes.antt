@@ -1,0 +1,112 @@
+-- What words and files come to, and what is due for it.
+use Rattle.std.specs.Prelude.{◌≡◌, ℕ, ◌+◌, ◌<◌, ◌≤◌, ◌⊎◌, List, [], ◌∷◌, ◌++◌, length, Option, Some, None, if◌then◌else◌}
+use Rattle.std.specs.List.{flat_map}
+use Rattle.au_base.specs.declared.limits.Limit.{Limit}
+use Rattle.au_base.specs.declared.limits.LimitKind.TheVariants.{FileBytes}
+use Rattle.au_base.specs.declared.statuses.Status.{Status}
+use Rattle.au_base.specs.declared.statuses.Status.TheVariants as status
+use Rattle.au_base.specs.declared.tokens.Token.{Token}
+use Rattle.au_base.specs.Limits.{most_file_bytes}
+use Rattle.au_base.specs.Outside.{Files}
+use Rattle.au_base.specs.Places.{place_after}
+use Rattle.au_syntax.specs.declared.printing.First.{First}
+use Rattle.au_syntax.specs.declared.printing.Print.{Print}
+use Rattle.au_lexer.specs.Cut.{Cut, IsWithinLimits, IsStray, IsLater, HasLongName}
+use Rattle.au_lexer.specs.Faults.{name_limit}
+use Rattle.au_parser.specs.Files.{Reads, IsUnfinished, IsStrangePlace}
+use Rattle.austral_cli.specs.Jobs.{Task, IsJob, IsNoJob}
+use Rattle.austral_cli.specs.Lines.{words_line, missing_line, limit_line, refusal_line}
+use Rattle.austral_cli.specs.declared.jobs.Command.TheVariants.{Run}
+use Rattle.austral_cli.specs.declared.outcomes.Outcome.{Outcome}
+use Rattle.austral_cli.specs.declared.outcomes.Outcome.TheVariants as outcome
+use Rattle.austral_cli.specs.declared.refusals.Refusal.TheVariants.{Byte, Syntax, NotYet}
+
+-- the limit of a file's bytes, with the one count that passes it
+abbrev pub file_limit : Limit
+file_limit = record { kind = FileBytes; count = 1048577; most = 1048576 }
+
+-- The file of this name has these bytes, and isn't too large.
+abbrev pub IsFile : Files → List ℕ → List ℕ → Type 0
+IsFile files name bytes = (files name ≡ Some bytes) × (length bytes ≤ most_file_bytes)
+
+-- The file of this name is too large.
+abbrev pub IsTooLarge : Files → List ℕ → Type 0
+IsTooLarge files name = (bytes : List ℕ) × (files name ≡ Some bytes) × (most_file_bytes < length bytes)
+
+-- The files of these names have these bytes, and none is too large.
+abbrev pub AreFiles : Files → List (List ℕ) → List (List ℕ) → Type 0
+AreFiles files [] [] = Unit {0}
+AreFiles files (name ∷ names) (bytes ∷ others) = IsFile files name bytes × AreFiles files names others
+AreFiles files [] (bytes ∷ others) = ⊥
+AreFiles files (name ∷ names) [] = ⊥
+
+-- The first of the files that can't be had has this property: those before it can be had.
+abbrev pub IsFirst : (List ℕ → Type 0) → Files → List (List ℕ) → Type 0
+IsFirst P files [] = ⊥
+IsFirst P files (name ∷ names) = P name ⊎ (((bytes : List ℕ) × IsFile files name bytes) × IsFirst P files names)
+
+-- The program is one file, of whose bytes P holds.
+abbrev pub OneFile : Files → List (List ℕ) → (List ℕ → Type 0) → Type 0
+OneFile files names P = (bytes : List ℕ) × AreFiles files names (bytes ∷ []) × P bytes
+
+-- The bytes of the first file are cut into tokens of which P holds, and no name among them is too long.
+abbrev pub HasTokens : List ℕ → (List Token → Type 0) → Type 0
+HasTokens bytes P = (tokens : List Token) × Cut 0 bytes tokens × IsWithinLimits tokens × P tokens
+
+-- What a file comes to, by its bytes: it is refused for the first cause that the cut into tokens has,
+-- and then for the first token that is out of place, or for its end.
+abbrev pub FileComes : List ℕ → Outcome → Type 0
+FileComes bytes (outcome.Passes limit) = (limit ≡ name_limit) × HasLongName 0 bytes
+FileComes bytes (outcome.Refused (Byte at)) = IsStray 0 bytes at
+FileComes bytes (outcome.Refused (Syntax at)) = HasTokens bytes IsUnfinished × (at ≡ place_after 0 bytes)
+FileComes bytes (outcome.Refused (NotYet at)) = IsLater 0 bytes at ⊎ HasTokens bytes (λ tokens. IsStrangePlace tokens at)
+FileComes bytes (outcome.Prints first) = HasTokens bytes (Reads first)
+FileComes bytes outcome.NoJob = ⊥
+FileComes bytes (outcome.Missing name) = ⊥
+
+-- What a program comes to, by the names of its files: they are fetched in order, and then its one
+-- file is cut and read.
+abbrev pub Comes : Files → List (List ℕ) → Outcome → Type 0
+Comes files names outcome.NoJob = ⊥
+Comes files names (outcome.Missing name) = IsFirst (λ one. (one ≡ name) × (files one ≡ None)) files names
+Comes files names (outcome.Passes limit) =
+    ((limit ≡ file_limit) × IsFirst (IsTooLarge files) files names)
+    ⊎ OneFile files names (λ bytes. FileComes bytes (outcome.Passes limit))
+Comes files names (outcome.Refused refusal) = OneFile files names (λ bytes. FileComes bytes (outcome.Refused refusal))
+Comes files names (outcome.Prints first) = OneFile files names (λ bytes. FileComes bytes (outcome.Prints first))
+
+-- When words and files come to an outcome: the words are no job, or they ask to run a program.
+abbrev pub Arises : List (List ℕ) → Files → List (List ℕ) → Outcome → Type 0
+Arises words files names outcome.NoJob = IsNoJob words
+Arises words files names other = IsJob words (record { command = Run; files = names }) × Comes files names other
+
+-- what a print writes
+abbrev pub printed : Print → List ℕ
+printed print = print.text ++ (if print.line then 10 ∷ [] else [])
+
+-- what a call owes: how it ends, and what it writes to `out` and to `err`
+pub record Due : Type 0 where
+  pub status : Status
+  pub out : List ℕ
+  pub err : List ℕ
+
+-- what is due for a line on `err`
+abbrev pub due_line : Status → List ℕ → Due
+due_line ends text = record { status = ends; out = []; err = text }
+
+-- what is due for each outcome
+abbrev pub due_of : List (List ℕ) → Outcome → Due
+due_of names outcome.NoJob = due_line status.Words words_line
+due_of names (outcome.Missing name) = due_line status.Missing (missing_line name)
+due_of names (outcome.Passes limit) = due_line status.Limit (limit_line limit)
+due_of names (outcome.Refused refusal) = due_line status.Refused (refusal_line names refusal)
+due_of names (outcome.Prints first) = record {
+  status = if first.success then status.Success else status.Failure;
+  out = flat_map printed first.prints;
+  err = []
+}
+
+-- The call with these words, over these files, owes this.
+abbrev pub Owes : List (List ℕ) → Files → Due → Type 0
+Owes words files due =
+    (names : List (List ℕ)) × (arisen : Outcome) × Arises words files names arisen × (due ≡ due_of names arisen)

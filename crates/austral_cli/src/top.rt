@@ -1,0 +1,91 @@
+//! The call that the program is.
+
+ghost use Rattle.std.specs.Prelude.{◌≡◌, ◌≢◌, ◌⊎◌, ◌≤◌, Some, IfOk, IsTrue, map, vec_len, length};
+ghost use Rattle.std.specs.String.{string_bytes};
+ghost use Rattle.au_base.specs.Outside.{Files, HasRisen, Counts};
+ghost use Rattle.austral_cli.specs.Calls.{AreTold, IsCut, IsPlaced, IsUntouched, MayOwe, Pays, is_decided, is_read_fault, is_missing};
+ghost use Rattle.austral_cli.specs.Outcomes.{Arises, Due, Owes};
+
+use std::alloc::Global;
+
+use au_base::{Shelf, Sink, Source, Status, WriteFault, put_all};
+
+use crate::answering::{AnswerFault, answer};
+use crate::checking::{CheckFault, check};
+use crate::jobs::{WordsFault, read_words};
+use crate::outcomes::Outcome;
+
+/// The line where the shelf failed.
+const READ_FAULT_LINE: &[u8] = b"read fault\n";
+
+/// Does what the words ask for, with files from `shelf`, and writes to `out` and `err`.
+/// `words` are those of the command line behind the program's own name.
+pub fn austral<S: Shelf, I: Source, O: Sink, E: Sink>(
+    alloc: Global,
+    words: &[String],
+    shelf: &mut S,
+    input: &mut I,
+    out: &mut O,
+    err: &mut E,
+) -> Status
+    // What is due is paid, whole, unless a sink fails or memory runs out.
+    ensures due { result ≢ Status.WriteFault → result ≢ Status.Memory → (due : Due)
+        × MayOwe (map string_bytes words.now) (S.files shelf.old) (S.faults shelf.old) (S.faults shelf.new) due
+        × Pays due result (O.written out.old) (O.written out.new) (E.written err.old) (E.written err.new) }
+    // Where a sink failed, a front of what is due stands there.
+    ensures write_fault { result ≡ Status.WriteFault → (due : Due)
+        × MayOwe (map string_bytes words.now) (S.files shelf.old) (S.faults shelf.old) (S.faults shelf.new) due
+        × IsCut due (O.written out.old) (O.written out.new) (E.written err.old) (E.written err.new)
+            (O.faults out.old) (O.faults out.new) (E.faults err.old) (E.faults err.new) }
+    // Where memory ran out, nothing was written.
+    ensures memory { result ≡ Status.Memory
+        → IsUntouched (O.written out.old) (O.written out.new) (E.written err.old) (E.written err.new)
+            (O.faults out.old) (O.faults out.new) (E.faults err.old) (E.faults err.new) }
+    ensures read_fault { result ≡ Status.ReadFault → HasRisen (S.faults shelf.old) (S.faults shelf.new)
+        × (O.faults out.new ≡ O.faults out.old) × (E.faults err.new ≡ E.faults err.old) }
+    ensures missing { result ≡ Status.Missing → HasRisen (S.misses shelf.old) (S.misses shelf.new) }
+    // A status that the words and the files decide says that no count of faults rose.
+    ensures quiet { IsTrue (is_decided result) → (S.faults shelf.new ≡ S.faults shelf.old)
+        × (O.faults out.new ≡ O.faults out.old) × (E.faults err.new ≡ E.faults err.old) }
+    ensures no_miss { IsTrue (is_decided result) → result ≢ Status.Missing
+        → S.misses shelf.new ≡ S.misses shelf.old }
+    ensures input { (I.left input.new ≡ I.left input.old) × (I.faults input.new ≡ I.faults input.old) }
+    ensures files { S.files shelf.new ≡ S.files shelf.old }
+{
+    match outcome_of(alloc, words, shelf) {
+        Ok((names, outcome)) => match answer(alloc, names.as_slice(), &outcome, out, err) {
+            Ok(status) => status,
+            Err(AnswerFault::Write) => Status::WriteFault,
+            Err(AnswerFault::Memory) => Status::Memory,
+        },
+        Err(CheckFault::Read) => match put_all(err, READ_FAULT_LINE) {
+            Ok(()) => Status::ReadFault,
+            Err(WriteFault) => Status::WriteFault,
+        },
+        Err(CheckFault::Memory) => Status::Memory,
+    }
+}
+
+/// What the words and the files come to, with the names of the program's files: first the words are
+/// read, then the files are fetched, and then the program is cut and read.
+fn outcome_of<S: Shelf>(
+    alloc: Global,
+    words: &[String],
+    shelf: &mut S,
+) -> Result<(Vec<String>, Outcome), CheckFault>
+    ensures arises { IfOk result (λ found. (files : Files) × AreTold (S.files shelf.old) files
+        × Arises (map string_bytes words.now) files (map string_bytes found.0.items) found.1) }
+    ensures placed { IfOk result (λ found. IsPlaced (length found.0.items) found.1) }
+    ensures faults { Counts (is_read_fault result) (S.faults shelf.old) (S.faults shelf.new) }
+    ensures misses { IfOk result (λ found. Counts (is_missing found.1) (S.misses shelf.old) (S.misses shelf.new)) }
+    ensures files { S.files shelf.new ≡ S.files shelf.old }
+{
+    let job = match read_words(alloc, words) {
+        Ok(job) => job,
+        Err(WordsFault::NoJob) => return Ok((Vec::new(alloc), Outcome::NoJob)),
+        Err(WordsFault::Memory) => return Err(CheckFault::Memory),
+    };
+    let names = job.files;
+    let outcome = check(alloc, shelf, names[0].as_str())?;
+    Ok((names, outcome))
+}
