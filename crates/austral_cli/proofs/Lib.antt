@@ -2,3 +2,4 @@ pub mod JobLemmas
 pub mod ComesLemmas
 pub mod SinkLemmas
 pub mod ArisesLemmas
+pub mod DueLemmas

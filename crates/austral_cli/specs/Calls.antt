@@ -3,8 +3,11 @@ use Rattle.std.specs.Prelude.{◌≡◌, ◌<◌, ◌⊎◌, length, ℕ, Bool, 
 use Rattle.au_base.specs.declared.statuses.Status.{Status}
 use Rattle.au_base.specs.declared.statuses.Status.TheVariants as status
 use Rattle.au_base.specs.Outside.{Files, Adds, AddsFront, HasRisen}
-use Rattle.austral_cli.specs.Outcomes.{Due, Owes, due_line}
-use Rattle.austral_cli.specs.Lines.{refusal_place, read_fault_line}
+use Rattle.austral_cli.specs.Outcomes.{Due, Owes, Arises, due_line, printed}
+use Rattle.austral_cli.specs.Lines.{refusal_place, refusal_line, read_fault_line}
+use Rattle.std.specs.List.{flat_map}
+use Rattle.au_syntax.specs.declared.printing.First.{First}
+use Rattle.austral_cli.specs.declared.refusals.Refusal.{Refusal}
 use Rattle.austral_cli.specs.declared.answering.AnswerFault.{AnswerFault}
 use Rattle.austral_cli.specs.declared.answering.AnswerFault.TheVariants as answer
 use Rattle.austral_cli.specs.declared.checking.CheckFault.{CheckFault}
@@ -85,3 +88,25 @@ abbrev pub MayOwe : List (List ℕ) → Option Files → ℕ → ℕ → Due →
 MayOwe words told faults faults' due =
     ((files : Files) × AreTold told files × Owes words files due)
     ⊎ (HasRisen faults faults' × (due ≡ due_line status.ReadFault read_fault_line))
+
+-- The call has paid all that it owed.
+abbrev pub IsPaid : List (List ℕ) → Option Files → ℕ → ℕ → Status → (out out' err err' : Option (List ℕ)) → Type 0
+IsPaid words told faults faults' ends out out' err err' =
+    (due : Due) × MayOwe words told faults faults' due × Pays due ends out out' err err'
+
+-- Words and files, of those that are told, have come to an outcome of which P holds, by the names of the files.
+abbrev pub CameTo : List (List ℕ) → Option Files → (List (List ℕ) → Outcome → Type 0) → Type 0
+CameTo words told P =
+    (files : Files) × AreTold told files × (names : List (List ℕ)) × (arisen : Outcome)
+    × Arises words files names arisen × P names arisen
+
+-- The program is refused, and its line stands on `err`.
+abbrev pub IsRefusedSo : Option (List ℕ) → Option (List ℕ) → List (List ℕ) → Outcome → Type 0
+IsRefusedSo err err' names arisen =
+    (refusal : Refusal) × (arisen ≡ outcome.Refused refusal) × Adds err err' (refusal_line names refusal)
+
+-- The program ran and returned this exit code, and what it printed stands on `out`.
+abbrev pub HasRun : Bool → Option (List ℕ) → Option (List ℕ) → List (List ℕ) → Outcome → Type 0
+HasRun success out out' names arisen =
+    (first : First) × (arisen ≡ outcome.Prints first) × (first.success ≡ success)
+    × Adds out out' (flat_map printed first.prints)

@@ -1,9 +1,10 @@
 //! The call that the program is.
 
-ghost use Rattle.std.specs.Prelude.{◌≡◌, ◌≢◌, ◌⊎◌, ◌≤◌, Some, IfOk, IsTrue, map, vec_len, length};
+ghost use Rattle.std.specs.Prelude.{◌≡◌, ◌≢◌, ◌⊎◌, ◌≤◌, Some, true, false, IfOk, IsTrue, map, vec_len, length};
 ghost use Rattle.std.specs.String.{string_bytes};
 ghost use Rattle.au_base.specs.Outside.{Files, HasRisen, Counts};
-ghost use Rattle.austral_cli.specs.Calls.{AreTold, IsCut, IsPlaced, IsUntouched, MayOwe, Pays, is_decided, is_read_fault, is_missing};
+ghost use Rattle.austral_cli.specs.Calls.{AreTold, CameTo, HasRun, IsCut, IsPaid, IsPlaced, IsRefusedSo, IsUntouched, MayOwe, Pays, is_decided, is_read_fault, is_missing};
+ghost use Rattle.austral_cli.specs.Jobs.{IsNoJob};
 ghost use Rattle.austral_cli.specs.Outcomes.{Arises, Due, Owes};
 
 use std::alloc::Global;
@@ -29,9 +30,24 @@ pub fn austral<S: Shelf, I: Source, O: Sink, E: Sink>(
     err: &mut E,
 ) -> Status
     // What is due is paid, whole, unless a sink fails or memory runs out.
-    ensures due { result ≢ Status.WriteFault → result ≢ Status.Memory → (due : Due)
-        × MayOwe (map string_bytes words.now) (S.files shelf.old) (S.faults shelf.old) (S.faults shelf.new) due
-        × Pays due result (O.written out.old) (O.written out.new) (E.written err.old) (E.written err.new) }
+    ensures due { result ≢ Status.WriteFault → result ≢ Status.Memory
+        → IsPaid (map string_bytes words.now) (S.files shelf.old) (S.faults shelf.old) (S.faults shelf.new) result
+            (O.written out.old) (O.written out.new) (E.written err.old) (E.written err.new) }
+    // Where files are told, what the words and the files owe is what is paid.
+    ensures only { (files : Files) (due : Due) → S.files shelf.old ≡ Some files
+        → Owes (map string_bytes words.now) files due → IsTrue (is_decided result)
+        → Pays due result (O.written out.old) (O.written out.new) (E.written err.old) (E.written err.new) }
+    // 64 comes exactly where the words are no job.
+    ensures words { result ≡ Status.Words → IsNoJob (map string_bytes words.now) }
+    ensures no_job { IsNoJob (map string_bytes words.now) → IsTrue (is_decided result) → result ≡ Status.Words }
+    // 2 comes with the line of a refusal that the file has.
+    ensures refused { result ≡ Status.Refused → CameTo (map string_bytes words.now) (S.files shelf.old)
+        (IsRefusedSo (E.written err.old) (E.written err.new)) }
+    // 0 and 1 come by the exit code, with all that the program prints.
+    ensures success { result ≡ Status.Success → CameTo (map string_bytes words.now) (S.files shelf.old)
+        (HasRun true (O.written out.old) (O.written out.new)) }
+    ensures failure { result ≡ Status.Failure → CameTo (map string_bytes words.now) (S.files shelf.old)
+        (HasRun false (O.written out.old) (O.written out.new)) }
     // Where a sink failed, a front of what is due stands there.
     ensures write_fault { result ≡ Status.WriteFault → (due : Due)
         × MayOwe (map string_bytes words.now) (S.files shelf.old) (S.faults shelf.old) (S.faults shelf.new) due

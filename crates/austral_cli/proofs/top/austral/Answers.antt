@@ -1,11 +1,14 @@
 -- Where the shelf failed, the line that says so is due.
-use Rattle.std.proofs.Common.{refl, inr}
+use Rattle.std.proofs.Common.{refl, inr, map, ap}
+use Rattle.std.specs.String.{string_bytes}
 use Rattle.au_base.proofs.OutsideLemmas.{adds_none}
 use Rattle.au_base.specs.declared.statuses.Status.TheVariants.{ReadFault}
 use Rattle.austral_cli.specs.Lines.{read_fault_line}
 use Rattle.austral_cli.specs.Outcomes.{due_line}
 use Rattle.austral_cli.proofs.ArisesLemmas.{read_risen}
+use Rattle.austral_cli.proofs.DueLemmas.{paid_so, pays_owed, came_words, came_no_job}
 use Rattle.austral_cli.proofs.top.austral.Goals as goal
+
 
 pub returns-in-Ok-put_all-clause-due : goal.returns-in-Ok-put_all-clause-due
 returns-in-Ok-put_all-clause-due g c = λ _ _.
@@ -16,3 +19,46 @@ pub returns-in-Err-Read-clause-write_fault : goal.returns-in-Err-Read-clause-wri
 returns-in-Err-Read-clause-write_fault g c = λ _.
     let risen = read_risen c.in-Err-Read.field-0 (g.S.Shelf.faults c.args.shelf.now) (g.S.Shelf.faults c.outcome_of.new.shelf) c.in-Err-Read.field-0-is c.in-Err-Read.ensures.faults in
     (due_line ReadFault read_fault_line, inr (risen, refl), record { out_bytes = (0, adds_none (g.O.Sink.written c.args.out.now)); err_bytes = c.in-Err.ensures.front; risen = inr (refl, c.in-Err.ensures.risen) })
+
+-- What was found was paid.
+pub returns-in-Ok-answer-clause-only : goal.returns-in-Ok-answer-clause-only
+returns-in-Ok-answer-clause-only g c = λ files due is owes decided.
+    let words = map string_bytes c.args.words.now in
+    let told = g.S.Shelf.files c.args.shelf.now in
+    let faults = g.S.Shelf.faults c.args.shelf.now in
+    let faults' = g.S.Shelf.faults c.outcome_of.new.shelf in
+    let ends = c.in-Ok-answer.status in
+    let out = g.O.Sink.written c.args.out.now in
+    let out' = g.O.Sink.written c.answer.new.out in
+    let err = g.E.Sink.written c.args.err.now in
+    let err' = g.E.Sink.written c.answer.new.err in
+    let paid = paid_so words (map string_bytes c.in-Ok.names.items) (map string_bytes c.as_slice.result.now) told faults faults' c.in-Ok.outcome ends out out' err err' (ap (map string_bytes) c.as_slice.ensures.value) c.in-Ok.ensures.arises c.in-Ok-answer.ensures.pays in
+    pays_owed words told faults faults' ends out out' err err' files due paid decided is owes
+
+pub returns-in-Ok-answer-clause-words : goal.returns-in-Ok-answer-clause-words
+returns-in-Ok-answer-clause-words g c = λ is.
+    let words = map string_bytes c.args.words.now in
+    let told = g.S.Shelf.files c.args.shelf.now in
+    let faults = g.S.Shelf.faults c.args.shelf.now in
+    let faults' = g.S.Shelf.faults c.outcome_of.new.shelf in
+    let ends = c.in-Ok-answer.status in
+    let out = g.O.Sink.written c.args.out.now in
+    let out' = g.O.Sink.written c.answer.new.out in
+    let err = g.E.Sink.written c.args.err.now in
+    let err' = g.E.Sink.written c.answer.new.err in
+    let paid = paid_so words (map string_bytes c.in-Ok.names.items) (map string_bytes c.as_slice.result.now) told faults faults' c.in-Ok.outcome ends out out' err err' (ap (map string_bytes) c.as_slice.ensures.value) c.in-Ok.ensures.arises c.in-Ok-answer.ensures.pays in
+    came_words words told faults faults' ends out out' err err' paid is
+
+pub returns-in-Ok-answer-clause-no_job : goal.returns-in-Ok-answer-clause-no_job
+returns-in-Ok-answer-clause-no_job g c = λ none decided.
+    let words = map string_bytes c.args.words.now in
+    let told = g.S.Shelf.files c.args.shelf.now in
+    let faults = g.S.Shelf.faults c.args.shelf.now in
+    let faults' = g.S.Shelf.faults c.outcome_of.new.shelf in
+    let ends = c.in-Ok-answer.status in
+    let out = g.O.Sink.written c.args.out.now in
+    let out' = g.O.Sink.written c.answer.new.out in
+    let err = g.E.Sink.written c.args.err.now in
+    let err' = g.E.Sink.written c.answer.new.err in
+    let paid = paid_so words (map string_bytes c.in-Ok.names.items) (map string_bytes c.as_slice.result.now) told faults faults' c.in-Ok.outcome ends out out' err err' (ap (map string_bytes) c.as_slice.ensures.value) c.in-Ok.ensures.arises c.in-Ok-answer.ensures.pays in
+    came_no_job words told faults faults' ends out out' err err' paid none decided

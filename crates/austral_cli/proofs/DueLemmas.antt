@@ -1,0 +1,290 @@
+-- Words and files owe one thing.
+use Rattle.std.proofs.Common.{◌≡◌, ◌≢◌, ℕ, ◌+◌, ◌<◌, ◌≤◌, Bool, true, false, cond, List, [], ◌∷◌, ◌++◌, length, map, Option, Some, None, IsTrue, ap, ◌∙◌, sym, refl, subst, arith, ◌⊎◌, inl, inr, slice_get, codes}
+use Rattle.std.specs.Option.{option_map}
+use Rattle.au_base.specs.declared.limits.Limit.{Limit}
+use Rattle.au_base.specs.declared.places.Pos.{Pos}
+use Rattle.au_base.specs.declared.statuses.Status.{Status}
+use Rattle.au_base.specs.declared.statuses.Status.TheVariants as status
+use Rattle.au_base.specs.declared.tokens.Token.{Token}
+use Rattle.au_base.specs.Limits.{most_file_bytes}
+use Rattle.au_base.specs.Outside.{Files, Adds}
+use Rattle.au_base.specs.Places.{place_after}
+use Rattle.au_syntax.specs.declared.printing.First.{First}
+use Rattle.au_lexer.specs.Cut.{Lexed, tokens, stray, later, long_name, Lexes}
+use Rattle.au_lexer.specs.Faults.{name_limit}
+use Rattle.au_lexer.proofs.UniqueLemmas.{one_outcome}
+use Rattle.au_parser.specs.Files.{Reads, IsUnfinished, IsStrangeAt, IsStrangePlace}
+use Rattle.au_parser.proofs.FileLaws.{one_file, read_or_unfinished, read_or_strange, unfinished_or_strange, one_strange}
+use Rattle.austral_cli.specs.Calls.{AreTold, MayOwe, IsPaid, CameTo, IsRefusedSo, HasRun, Pays, is_decided}
+use Rattle.austral_cli.specs.Jobs.{Task, IsJob, IsNoJob}
+use Rattle.austral_cli.specs.Outcomes.{FileComes, Comes, Arises, Owes, Due, due_of, file_limit, IsFile}
+use Rattle.austral_cli.specs.declared.jobs.Command.TheVariants.{Run}
+use Rattle.austral_cli.specs.declared.outcomes.Outcome.{Outcome}
+use Rattle.austral_cli.specs.declared.outcomes.Outcome.TheVariants as outcome
+use Rattle.austral_cli.specs.declared.refusals.Refusal.TheVariants.{Byte, Syntax, NotYet}
+
+-- what tokens come to: a file, an end that is too early, or a token that is out of place
+abbrev TokensCome : List ℕ → List Token → Outcome → Type 0
+TokensCome bytes list arisen =
+    ((first : First) × Reads first list × (arisen ≡ outcome.Prints first))
+    ⊎ ((IsUnfinished list × (arisen ≡ outcome.Refused (Syntax (place_after 0 bytes))))
+    ⊎ ((at : Pos) × IsStrangePlace list at × (arisen ≡ outcome.Refused (NotYet at))))
+
+-- what a file comes to, by what its bytes are cut into
+abbrev Shape : List ℕ → Lexed → Outcome → Type 0
+Shape bytes (tokens list) arisen = TokensCome bytes list arisen
+Shape bytes (stray at) arisen = arisen ≡ outcome.Refused (Byte at)
+Shape bytes (later at) arisen = arisen ≡ outcome.Refused (NotYet at)
+Shape bytes long_name arisen = arisen ≡ outcome.Passes name_limit
+
+shape : (bytes : List ℕ) (arisen : Outcome) → FileComes bytes arisen → (lexed : Lexed) × Lexes 0 bytes lexed × Shape bytes lexed arisen
+shape bytes outcome.NoJob comes = absurd comes
+shape bytes (outcome.Missing name) comes = absurd comes
+shape bytes (outcome.Passes limit) comes = (long_name, comes.1, ap (λ l. outcome.Passes l) comes.0)
+shape bytes (outcome.Refused (Byte at)) comes = (stray at, comes, refl)
+shape bytes (outcome.Refused (Syntax at)) comes =
+    let has = comes.0 in
+    (tokens has.0, (has.1, has.2), inr (inl (has.3, ap (λ p. outcome.Refused (Syntax p)) comes.1)))
+shape bytes (outcome.Refused (NotYet at)) comes = elim comes [
+    inl is_later ↦ (later at, is_later, refl)
+    | inr has ↦ (tokens has.0, (has.1, has.2), inr (inr (at, has.3, refl))) ]
+shape bytes (outcome.Prints first) comes = (tokens comes.0, (comes.1, comes.2), inl (first, comes.3, refl))
+
+-- tokens come to one thing
+strange_same : (list : List Token) (a b : Pos) → IsStrangePlace list a → IsStrangePlace list b → a ≡ b
+strange_same list a b x y =
+    let index = one_strange list x.0 y.0 x.1 y.1 in
+    let e : Some a ≡ Some b = sym x.2 ∙ ap (λ i. option_map (λ (token : Token). token.at) (slice_get list i)) index ∙ y.2 in
+    cc
+
+tokens_same : (bytes : List ℕ) (list : List Token) (x y : Outcome) → TokensCome bytes list x → TokensCome bytes list y → x ≡ y
+tokens_same bytes list x y a b = elim a [
+    inl p ↦ elim b [
+      inl q ↦ p.2 ∙ ap (λ f. outcome.Prints f) (one_file p.0 q.0 (sym p.1 ∙ q.1)) ∙ sym q.2
+      | inr v ↦ elim v [
+        inl q ↦ absurd (read_or_unfinished list p.0 p.1 q.0)
+        | inr q ↦ absurd (read_or_strange list p.0 q.1.0 p.1 q.1.1) ] ]
+    | inr u ↦ elim u [
+      inl p ↦ elim b [
+        inl q ↦ absurd (read_or_unfinished list q.0 q.1 p.0)
+        | inr v ↦ elim v [
+          inl q ↦ p.1 ∙ sym q.1
+          | inr q ↦ absurd (unfinished_or_strange list q.1.0 p.0 q.1.1) ] ]
+      | inr p ↦ elim b [
+        inl q ↦ absurd (read_or_strange list q.0 p.1.0 q.1 p.1.1)
+        | inr v ↦ elim v [
+          inl q ↦ absurd (unfinished_or_strange list p.1.0 q.0 p.1.1)
+          | inr q ↦ p.2 ∙ ap (λ at. outcome.Refused (NotYet at)) (strange_same list p.0 q.0 p.1 q.1) ∙ sym q.2 ] ] ] ]
+
+shape_same : (bytes : List ℕ) (lexed : Lexed) (x y : Outcome) → Shape bytes lexed x → Shape bytes lexed y → x ≡ y
+shape_same bytes (tokens list) x y a b = tokens_same bytes list x y a b
+shape_same bytes (stray at) x y a b = a ∙ sym b
+shape_same bytes (later at) x y a b = a ∙ sym b
+shape_same bytes long_name x y a b = a ∙ sym b
+
+-- a file comes to one thing
+file_same : (bytes : List ℕ) (x y : Outcome) → FileComes bytes x → FileComes bytes y → x ≡ y
+file_same bytes x y a b =
+    let p = shape bytes x a in
+    let q = shape bytes y b in
+    shape_same bytes p.0 x y p.2 (subst (λ l. Shape bytes l y) (one_outcome 0 bytes q.0 p.0 q.1 p.1) q.2)
+
+-- what can be had of a file: nothing, too much, or its bytes
+abbrev IsHad : Files → List ℕ → Outcome → Type 0
+IsHad files name arisen =
+    ((files name ≡ None) × (arisen ≡ outcome.Missing name))
+    ⊎ (((bytes : List ℕ) × (files name ≡ Some bytes) × (most_file_bytes < length bytes) × (arisen ≡ outcome.Passes file_limit))
+    ⊎ ((bytes : List ℕ) × (files name ≡ Some bytes) × (length bytes ≤ most_file_bytes) × FileComes bytes arisen))
+
+had : (files : Files) (name : List ℕ) (arisen : Outcome) → Comes files (name ∷ []) arisen → IsHad files name arisen
+had files name outcome.NoJob comes = absurd comes
+had files name (outcome.Missing other) comes = elim comes [
+    inl here ↦ inl (here.1, ap (λ n. outcome.Missing n) (sym here.0))
+    | inr none ↦ absurd none.1 ]
+had files name (outcome.Passes limit) comes = elim comes [
+    inl large ↦ elim large.1 [
+      inl here ↦ inr (inl (here.0, here.1, here.2, ap (λ l. outcome.Passes l) large.0))
+      | inr none ↦ absurd none.1 ]
+    | inr file ↦ inr (inr (file.0, file.1.0.0, file.1.0.1, file.2)) ]
+had files name (outcome.Refused refusal) file = inr (inr (file.0, file.1.0.0, file.1.0.1, file.2))
+had files name (outcome.Prints first) file = inr (inr (file.0, file.1.0.0, file.1.0.1, file.2))
+
+-- the file of a name is one
+one_bytes : (files : Files) (name a b : List ℕ) → files name ≡ Some a → files name ≡ Some b → a ≡ b
+one_bytes files name a b x y = let e : Some a ≡ Some b = sym x ∙ y in cc
+
+no_bytes : (files : Files) (name a : List ℕ) → files name ≡ None → files name ≡ Some a → ⊥
+no_bytes files name a x y = let e : None ≡ Some a = sym x ∙ y in cc
+
+too_small : (files : Files) (name a b : List ℕ) → files name ≡ Some a → files name ≡ Some b → most_file_bytes < length a → length b ≤ most_file_bytes → ⊥
+too_small files name a b x y large small = let same = ap length (one_bytes files name a b x y) in omega arith
+
+had_same : (files : Files) (name : List ℕ) (x y : Outcome) → IsHad files name x → IsHad files name y → x ≡ y
+had_same files name x y a b = elim a [
+    inl p ↦ elim b [
+      inl q ↦ p.1 ∙ sym q.1
+      | inr v ↦ elim v [ inl q ↦ absurd (no_bytes files name q.0 p.0 q.1) | inr q ↦ absurd (no_bytes files name q.0 p.0 q.1) ] ]
+    | inr u ↦ elim u [
+      inl p ↦ elim b [
+        inl q ↦ absurd (no_bytes files name p.0 q.0 p.1)
+        | inr v ↦ elim v [
+          inl q ↦ p.3 ∙ sym q.3
+          | inr q ↦ absurd (too_small files name p.0 q.0 p.1 q.1 p.2 q.2) ] ]
+      | inr p ↦ elim b [
+        inl q ↦ absurd (no_bytes files name p.0 q.0 p.1)
+        | inr v ↦ elim v [
+          inl q ↦ absurd (too_small files name q.0 p.0 q.1 p.1 q.2 p.2)
+          | inr q ↦ file_same p.0 x y p.3 (subst (λ c. FileComes c y) (one_bytes files name q.0 p.0 q.1 p.1) q.3) ] ] ] ]
+
+-- a job of words, with what its program comes to
+JobComes : List (List ℕ) → Files → List (List ℕ) → Outcome → Type 0
+JobComes words files names arisen = IsJob words (record { command = Run; files = names }) × Comes files names arisen
+
+-- no job, or a job
+is_arisen : (words : List (List ℕ)) (files : Files) (names : List (List ℕ)) (arisen : Outcome) → Arises words files names arisen → (IsNoJob words × (arisen ≡ outcome.NoJob)) ⊎ JobComes words files names arisen
+unfolding JobComes
+is_arisen words files names outcome.NoJob h = inl (h, refl)
+is_arisen words files names (outcome.Missing other) h = inr h
+is_arisen words files names (outcome.Passes limit) h = inr h
+is_arisen words files names (outcome.Refused refusal) h = inr h
+is_arisen words files names (outcome.Prints first) h = inr h
+
+names_of : (words names : List (List ℕ)) (job : IsJob words (record { command = Run; files = names })) → names ≡ job.0 ∷ []
+names_of words names job = ap (λ (t : Task). t.files) job.3
+
+one_name : (words : List (List ℕ)) (a b : List ℕ) → words ≡ codes "run" ∷ a ∷ [] → words ≡ codes "run" ∷ b ∷ [] → a ≡ b
+one_name words a b x y =
+    let run : List ℕ = codes "run" in
+    let e : run ∷ a ∷ [] ≡ run ∷ b ∷ [] = sym x ∙ y in
+    tails run a b e
+  where
+    tails : (run a b : List ℕ) → run ∷ a ∷ [] ≡ run ∷ b ∷ [] → a ≡ b
+    tails run a b e = cc
+
+one_job : (words : List (List ℕ)) (files : Files) (ns ms : List (List ℕ)) (x y : Outcome) → JobComes words files ns x → JobComes words files ms y → due_of ns x ≡ due_of ms y
+unfolding JobComes
+one_job words files ns ms x y a b =
+    let name = one_name words b.0.0 a.0.0 b.0.1 a.0.1 in
+    let first = names_of words ns a.0 in
+    let second = names_of words ms b.0 ∙ ap (λ n. n ∷ []) name in
+    let same = had_same files a.0.0 x y (had files a.0.0 x (subst (λ n. Comes files n x) first a.1)) (had files a.0.0 y (subst (λ n. Comes files n y) second b.1)) in
+    ap (λ n. due_of n x) (first ∙ sym second) ∙ ap (due_of ms) same
+
+-- Words and files owe one thing.
+pub one_due : (words : List (List ℕ)) (files : Files) (a b : Due) → Owes words files a → Owes words files b → a ≡ b
+unfolding JobComes
+one_due words files a b x y =
+    elim (is_arisen words files x.0 x.1 x.2) [
+      inl p ↦ elim (is_arisen words files y.0 y.1 y.2) [
+        inl q ↦ x.3 ∙ ap (due_of x.0) p.1 ∙ sym (y.3 ∙ ap (due_of y.0) q.1)
+        | inr q ↦ absurd (p.0 (record { command = Run; files = y.0 }) q.0) ]
+      | inr p ↦ elim (is_arisen words files y.0 y.1 y.2) [
+        inl q ↦ absurd (q.0 (record { command = Run; files = x.0 }) p.0)
+        | inr q ↦ x.3 ∙ one_job words files x.0 y.0 x.1 y.1 p q ∙ sym y.3 ] ]
+
+-- What is owed is what was paid.
+pub pays_owed : (words : List (List ℕ)) (told : Option Files) (faults faults' : ℕ) (ends : Status) (out out' err err' : Option (List ℕ)) (files : Files) (due : Due) →
+    IsPaid words told faults faults' ends out out' err err' → is_decided ends ≡ true → told ≡ Some files → Owes words files due →
+    Pays due ends out out' err err'
+pays_owed words told faults faults' ends out out' err err' files due paid decided is owes = elim paid.1 [
+    inl owed ↦
+      let same : owed.0 ≡ files = subst (λ t. AreTold t owed.0) is owed.1 in
+      subst (λ d. Pays d ends out out' err err') (one_due words files paid.0 due (subst (λ f. Owes words f paid.0) same owed.2) owes) paid.2
+    | inr risen ↦
+      let fault : ends ≡ status.ReadFault = paid.2.status ∙ ap (λ (d : Due). d.status) risen.1 in
+      let e = sym (ap is_decided fault) ∙ decided in
+      absurd cc ]
+
+-- the outcome for which was paid
+pub came : (words : List (List ℕ)) (told : Option Files) (faults faults' : ℕ) (ends : Status) (out out' err err' : Option (List ℕ)) → IsPaid words told faults faults' ends out out' err err' → is_decided ends ≡ true →
+    CameTo words told (λ names arisen. Pays (due_of names arisen) ends out out' err err')
+came words told faults faults' ends out out' err err' paid decided = elim paid.1 [
+    inl owed ↦
+      let owes = owed.2 in
+      (owed.0, owed.1, owes.0, owes.1, owes.2, subst (λ d. Pays d ends out out' err err') owes.3 paid.2)
+    | inr risen ↦
+      let fault : ends ≡ status.ReadFault = paid.2.status ∙ ap (λ (d : Due). d.status) risen.1 in
+      let e = sym (ap is_decided fault) ∙ decided in
+      absurd cc ]
+
+-- one outcome in place of another of which more is known
+weaker : (words : List (List ℕ)) (told : Option Files) (P Q : List (List ℕ) → Outcome → Type 0) → ((names : List (List ℕ)) (arisen : Outcome) → P names arisen → Q names arisen) → CameTo words told P → CameTo words told Q
+weaker words told P Q f h = (h.0, h.1, h.2, h.3, h.4, f h.2 h.3 h.5)
+
+-- the status of an exit code is no other
+no_refusal : (success : Bool) → status.Refused ≡ cond success status.Success status.Failure → ⊥
+no_refusal true e = cc
+no_refusal false e = cc
+
+no_words : (success : Bool) → status.Words ≡ cond success status.Success status.Failure → ⊥
+no_words true e = cc
+no_words false e = cc
+
+-- a refusal was paid for a refusal
+pub came_refused : (words : List (List ℕ)) (told : Option Files) (faults faults' : ℕ) (ends : Status) (out out' err err' : Option (List ℕ)) → IsPaid words told faults faults' ends out out' err err' → ends ≡ status.Refused →
+    CameTo words told (IsRefusedSo err err')
+came_refused words told faults faults' ends out out' err err' paid is =
+    weaker words told _ _ (λ names arisen pays. so names arisen (subst (λ s. Pays (due_of names arisen) s out out' err err') is pays)) (came words told faults faults' ends out out' err err' paid (ap is_decided is))
+  where
+    so : (names : List (List ℕ)) (arisen : Outcome) → Pays (due_of names arisen) status.Refused out out' err err' → IsRefusedSo err err' names arisen
+    so names outcome.NoJob pays = let e = pays.status in absurd cc
+    so names (outcome.Missing name) pays = let e = pays.status in absurd cc
+    so names (outcome.Passes limit) pays = let e = pays.status in absurd cc
+    so names (outcome.Refused refusal) pays = (refusal, refl, pays.err_bytes)
+    so names (outcome.Prints first) pays = absurd (no_refusal first.success pays.status)
+
+-- the statuses of the two exit codes
+exit_decided : (b : Bool) → is_decided (cond b status.Success status.Failure) ≡ true
+exit_decided true = refl
+exit_decided false = refl
+exit_apart : (b : Bool) (s : Status) → cond b status.Success status.Failure ≡ s → (status.Success ≡ s → ⊥) → (status.Failure ≡ s → ⊥) → ⊥
+exit_apart true s e f g = f e
+exit_apart false s e f g = g e
+exit_same : (a b : Bool) → cond a status.Success status.Failure ≡ cond b status.Success status.Failure → b ≡ a
+exit_same true true e = refl
+exit_same true false e = absurd cc
+exit_same false true e = absurd cc
+exit_same false false e = refl
+
+-- an exit code was paid for a run
+pub came_run : (words : List (List ℕ)) (told : Option Files) (faults faults' : ℕ) (success : Bool) (ends : Status) (out out' err err' : Option (List ℕ)) → IsPaid words told faults faults' ends out out' err err' → ends ≡ cond success status.Success status.Failure →
+    CameTo words told (HasRun success out out')
+came_run words told faults faults' success ends out out' err err' paid is =
+    weaker words told _ _ (λ names arisen pays. so names arisen (subst (λ s. Pays (due_of names arisen) s out out' err err') is pays)) (came words told faults faults' ends out out' err err' paid (ap is_decided is ∙ exit_decided success))
+  where
+    so : (names : List (List ℕ)) (arisen : Outcome) → Pays (due_of names arisen) (cond success status.Success status.Failure) out out' err err' → HasRun success out out' names arisen
+    so names outcome.NoJob pays = absurd (exit_apart success _ pays.status (λ e. cc) (λ e. cc))
+    so names (outcome.Missing name) pays = absurd (exit_apart success _ pays.status (λ e. cc) (λ e. cc))
+    so names (outcome.Passes limit) pays = absurd (exit_apart success _ pays.status (λ e. cc) (λ e. cc))
+    so names (outcome.Refused refusal) pays = absurd (exit_apart success _ pays.status (λ e. cc) (λ e. cc))
+    so names (outcome.Prints first) pays = (first, refl, exit_same success first.success pays.status, pays.out_bytes)
+
+-- the words line was paid for words that are no job
+pub came_words : (words : List (List ℕ)) (told : Option Files) (faults faults' : ℕ) (ends : Status) (out out' err err' : Option (List ℕ)) → IsPaid words told faults faults' ends out out' err err' → ends ≡ status.Words → IsNoJob words
+came_words words told faults faults' ends out out' err err' paid is =
+    let h = came words told faults faults' ends out out' err err' paid (ap is_decided is) in
+    so h.0 h.2 h.3 h.4 (sym is ∙ h.5.status)
+  where
+    so : (files : Files) (names : List (List ℕ)) (arisen : Outcome) → Arises words files names arisen → status.Words ≡ (due_of names arisen).status → IsNoJob words
+    so files names outcome.NoJob arises e = arises
+    so files names (outcome.Missing name) arises e = absurd cc
+    so files names (outcome.Passes limit) arises e = absurd cc
+    so files names (outcome.Refused refusal) arises e = absurd cc
+    so files names (outcome.Prints first) arises e = absurd (no_words first.success e)
+
+pub came_no_job : (words : List (List ℕ)) (told : Option Files) (faults faults' : ℕ) (ends : Status) (out out' err err' : Option (List ℕ)) → IsPaid words told faults faults' ends out out' err err' → IsNoJob words → is_decided ends ≡ true → ends ≡ status.Words
+unfolding JobComes
+came_no_job words told faults faults' ends out out' err err' paid none decided =
+    let h = came words told faults faults' ends out out' err err' paid decided in
+    elim (is_arisen words h.0 h.2 h.3 h.4) [
+      inl p ↦ h.5.status ∙ ap (λ o. (due_of h.2 o).status) p.1
+      | inr p ↦ absurd (none (record { command = Run; files = h.2 }) (job_of words h.0 h.2 h.3 p)) ]
+  where
+    job_of : (words : List (List ℕ)) (files : Files) (names : List (List ℕ)) (arisen : Outcome) → JobComes words files names arisen → IsJob words (record { command = Run; files = names })
+    job_of words files names arisen j = j.0
+
+-- what was answered for an outcome was paid for it
+pub paid_so : (words names given : List (List ℕ)) (told : Option Files) (faults faults' : ℕ) (arisen : Outcome) (ends : Status) (out out' err err' : Option (List ℕ)) → given ≡ names →
+    (files : Files) × AreTold told files × Arises words files names arisen → Pays (due_of given arisen) ends out out' err err' → IsPaid words told faults faults' ends out out' err err'
+paid_so words names given told faults faults' arisen ends out out' err err' same h pays =
+    (due_of given arisen, inl (h.0, h.1, (names, arisen, h.2, ap (λ n. due_of n arisen) same)), pays)
