@@ -1,9 +1,9 @@
 -- Reading a value between tokens that are known.
-use Rattle.std.proofs.Common.{◌≡◌, ℕ, Bool, true, false, cond, List, [], ◌∷◌, ◌++◌, length, Option, Some, None, Result, Ok, Err, refl, sym, ap, ◌∙◌, inl, inr, append_assoc}
+use Rattle.std.proofs.Common.{◌≡◌, ℕ, List, [], ◌∷◌, ◌++◌, length, Option, Some, None, Ok, Err, refl, sym, ap, ◌∙◌, inl, inr, append_assoc}
 use Rattle.std.proofs.lemmas.List.{append-nil}
 use Rattle.std.specs.Option.{option_map}
 use Rattle.au_base.specs.declared.tokens.What.{What}
-use Rattle.au_parser.specs.Readers.{Read, ◌>>=◌, words_at, first_value, some_or_stop, value_at, then_words, value_then, framed}
+use Rattle.au_parser.specs.Readers.{◌>>=◌, words_at, first_value, some_or_stop, value_at, then_words, value_then, framed}
 use Rattle.au_parser.proofs.Steps.{read_of, read_same, bind_ok, bind_err, StopsOn, words_take, words_again, words_stop}
 
 module _ {A : Type 0} (value : What → Option A) (spelled : A → What) (value_is : (w : What) (a : A) → value w ≡ Some a → w ≡ spelled a) (value_again : (a : A) → value (spelled a) ≡ Some a) where

@@ -1,17 +1,15 @@
 -- From where reading stops to the place of the fault.
-use Rattle.std.proofs.Common.{◌≡◌, ℕ, ◌+◌, ◌-◌, ◌<◌, ◌≤◌, List, [], ◌∷◌, ◌++◌, length, take, map, Some, refl, sym, ap, ◌∙◌, append_assoc, arith}
+use Rattle.std.proofs.Common.{◌≡◌, ℕ, ◌+◌, ◌-◌, ◌<◌, ◌≤◌, List, [], ◌∷◌, ◌++◌, length, take, Some, refl, sym, ap, ◌∙◌, append_assoc, arith, get_or}
 use Rattle.std.proofs.lemmas.List.{append-nil, length-append, length-map, take-map}
 use Rattle.std.proofs.lemmas.Option.{slice_get-get_or}
-use Rattle.std.proofs.Common.{get_or}
 use Rattle.std.proofs.Math.Seq.{take-append_seam, take-append-add}
-use Rattle.std.specs.List.{slice_get}
 use Rattle.std.specs.Option.{option_map}
 use Rattle.au_base.specs.declared.places.Pos.{Pos}
 use Rattle.au_base.specs.declared.tokens.Token.{Token}
 use Rattle.au_base.specs.declared.tokens.What.{What}
 use Rattle.au_syntax.specs.declared.printing.First.{First}
 use Rattle.au_syntax.specs.Words.{words}
-use Rattle.au_parser.specs.Files.{whats, Reads, BeginsFile, IsUnfinished, IsStrangeAt, IsStrangePlace}
+use Rattle.au_parser.specs.Files.{whats, BeginsFile, IsUnfinished, IsStrangeAt, IsStrangePlace}
 use Rattle.au_parser.specs.Readers.{IsStop}
 
 -- the length of tokens is that of the two parts
@@ -40,24 +38,36 @@ unfinished tokens count index s index-is past =
     let all : whats tokens ≡ s.front = s.parts ∙ ap (λ ts. s.front ++ ts) none ∙ append-nil s.front in
     ((s.first, s.more, s.begins ∙ ap (λ ts. ts ++ s.more) (sym all)), λ file reads. s.unread file (sym reads))
 
+-- where one of two parts ends, the tokens before are that part
+before_seam : (tokens : List Token) (front left : List What) (index : ℕ) → whats tokens ≡ front ++ left → index ≡ length front → whats (take index tokens) ≡ front
+before_seam tokens front left index is here =
+    whats_before tokens index (front ++ left) is ∙ ap (λ n. take n (front ++ left)) here ∙ take-append_seam front left
+
+-- and with one token more they are that part and the first token of the other
+past_seam : (tokens : List Token) (front : List What) (what : What) (others : List What) (index : ℕ) → whats tokens ≡ front ++ what ∷ others → index ≡ length front
+    → whats (take (index + 1) tokens) ≡ front ++ what ∷ []
+past_seam tokens front what others index is here =
+    whats_before tokens (index + 1) (front ++ what ∷ others) is ∙ ap (λ n. take (n + 1) (front ++ what ∷ others)) here ∙ take-append-add front (what ∷ others) 1
+
+-- tokens with which no file begins don't begin one
+begin_none : (tokens : List Token) (front : List What) (what : What) → whats tokens ≡ front ++ what ∷ [] → ((file : First) (more : List What) → words file ≡ front ++ what ∷ more → ⊥) → BeginsFile tokens → ⊥
+begin_none tokens front what is none begins =
+    none begins.0 begins.1 (begins.2 ∙ ap (λ ts. ts ++ begins.1) is ∙ append_assoc front (what ∷ []) begins.1)
+
 -- where a token is left, it is the first strange one
 pub strange : (tokens : List Token) (count index : ℕ) → IsStop (whats tokens) count → index ≡ length tokens - count → index < length tokens → IsStrangeAt tokens index
 strange tokens count index s index-is within =
     let sizes : length tokens ≡ length s.front + length s.left = parts_length tokens s.front s.left s.parts in
     let counted : count ≡ length s.left = s.counted in
     let here : index ≡ length s.front = omega arith in
-    let next = first_of s.left (omega arith) in
-    let before : whats (take index tokens) ≡ s.front =
-    whats_before tokens index (s.front ++ s.left) s.parts ∙ ap (λ n. take n (s.front ++ s.left)) here ∙ take-append_seam s.front s.left in
-    let with_next : whats (take (index + 1) tokens) ≡ s.front ++ next.0 ∷ [] =
-    whats_before tokens (index + 1) (s.front ++ s.left) s.parts
-    ∙ ap (λ n. take (n + 1) (s.front ++ s.left)) here
-    ∙ take-append-add s.front s.left 1
-    ∙ ap (λ ts. s.front ++ take 1 ts) next.2 in (
+    let some : 0 < length s.left = omega arith in
+    let next = first_of s.left some in
+    let parts : whats tokens ≡ s.front ++ next.0 ∷ next.1 = s.parts ∙ ap (λ ts. s.front ++ ts) next.2 in
+    let before : whats (take index tokens) ≡ s.front = before_seam tokens s.front s.left index s.parts here in
+    let past : whats (take (index + 1) tokens) ≡ s.front ++ next.0 ∷ [] = past_seam tokens s.front next.0 next.1 index parts here in (
       within,
       (s.first, s.more, s.begins ∙ ap (λ ts. ts ++ s.more) (sym before)),
-      λ begins. s.strange begins.0 next.0 next.1 begins.1 next.2
-          (begins.2 ∙ ap (λ ts. ts ++ begins.1) with_next ∙ append_assoc s.front (next.0 ∷ []) begins.1),
+      begin_none (take (index + 1) tokens) s.front next.0 past (λ file more is. s.strange file next.0 next.1 more next.2 is),
     )
 
 -- and the fault is at its place

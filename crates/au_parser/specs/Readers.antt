@@ -1,5 +1,5 @@
 -- Reading from the left: what is read and the tokens behind it, or how many tokens are left where reading stops.
-use Rattle.std.specs.Prelude.{◌≡◌, ℕ, Bool, true, false, List, [], ◌∷◌, ◌++◌, Option, Some, None, Result, Ok, Err, length, map, codes, if◌then◌else◌}
+use Rattle.std.specs.Prelude.{◌≡◌, ℕ, Bool, true, false, List, [], ◌∷◌, ◌++◌, Option, Some, None, Result, Ok, Err, length, codes, if◌then◌else◌}
 use Rattle.std.specs.List.{flat_map}
 use Rattle.std.specs.Option.{option_map}
 use Rattle.std.specs.Str.{bytes_eq}
@@ -12,7 +12,7 @@ use Rattle.au_base.specs.declared.tokens.What.{What}
 use Rattle.au_base.specs.declared.tokens.What.TheVariants.{Word, Sign, Name, Text}
 use Rattle.au_syntax.specs.declared.printing.Print.{Print}
 use Rattle.au_syntax.specs.declared.printing.First.{First}
-use Rattle.au_syntax.specs.Words.{opening_words, print_words, words}
+use Rattle.au_syntax.specs.Words.{print_words, words}
 use Rattle.au_parser.specs.declared.expected.Expected.{Expected}
 use Rattle.au_parser.specs.declared.expected.Expected.TheVariants as expected
 use Rattle.au_parser.specs.declared.stops.Stop.{Stop}
@@ -87,6 +87,11 @@ value_then value after tokens = value_at value tokens >>= then_words after
 -- a value between these tokens and those
 abbrev pub framed : {A : Type 0} → List What → (What → Option A) → List What → List What → Read (A × List What)
 framed before value after tokens = words_at before tokens >>= value_then value after
+
+-- no token
+abbrev pub end_at : List What → Read (Unit {0})
+end_at [] = Ok tt
+end_at (first ∷ rest) = Err (length (first ∷ rest))
 
 -- the bytes of a name
 abbrev pub name_of : What → Option (List ℕ)

@@ -5,8 +5,8 @@ ghost use Rattle.au_parser.specs.Files.{whats, Reads, IsUnfinished, IsStrangePla
 ghost use Rattle.au_parser.specs.Readers.{ReadsPrints, StopsInPrint, StopsInFile};
 
 use crate::faults::ParseFault;
-use crate::readers::{argument, closing, opening, print_name};
-use crate::stops::{Stop, stop_before};
+use crate::readers::{argument, closing, no_more, opening, print_name};
+use crate::stops::Stop;
 use au_base::{Pos, Sequence, Token};
 use au_syntax::{First, Print};
 use std::alloc::Global;
@@ -39,9 +39,7 @@ fn file(alloc: Global, tokens: &[Token]) -> Result<First, Stop>
     let (module, rest) = opening(alloc, tokens)?;
     let (prints, rest) = prints(alloc, rest)?;
     let (success, rest) = closing(rest)?;
-    if !rest.is_empty() {
-        return Err(stop_before(rest));
-    }
+    no_more(rest)?;
     Ok(First {
         module,
         prints,
