@@ -41,12 +41,15 @@ fails_in_prints stop.Memory tokens rest name opened e = tt
 fails_in_prints (stop.Left n) tokens rest name opened e =
     stop_in_argument name e.0 e.1 e.2 rest tokens n (opening_takes tokens (name, rest) opened) e.3 e.4
 
-pub fails_in_closing : (e : Stop) (tokens rest part : List What) (name : List ℕ) (prints : List Print) → opening_at tokens ≡ Ok (name, rest) → ReadsPrints rest prints part → Stops e (closing_at part) → StopsInFile e tokens
+pub fails_in_closing : (e : Stop) (tokens rest part : List What) (name : List ℕ) (prints : List Print) → opening_at tokens ≡ Ok (name, rest)
+    → ReadsPrints rest prints part → Stops e (closing_at part) → StopsInFile e tokens
 fails_in_closing stop.Memory tokens rest part name prints opened printed e = tt
 fails_in_closing (stop.Left n) tokens rest part name prints opened printed e =
     stop_in_closing name prints part rest tokens n (opening_takes tokens (name, rest) opened) printed.0 printed.1 e
 
-pub fails_behind : (e : Stop) (tokens rest part behind : List What) (name : List ℕ) (prints : List Print) (success : Bool) → opening_at tokens ≡ Ok (name, rest) → ReadsPrints rest prints part → closing_at part ≡ Ok (success, behind) → Stops e (end_at behind) → StopsInFile e tokens
+pub fails_behind : (e : Stop) (tokens rest part behind : List What) (name : List ℕ) (prints : List Print) (success : Bool)
+    → opening_at tokens ≡ Ok (name, rest) → ReadsPrints rest prints part → closing_at part ≡ Ok (success, behind) → Stops e (end_at behind)
+    → StopsInFile e tokens
 fails_behind stop.Memory tokens rest part behind name prints success opened printed closed e = tt
 fails_behind (stop.Left n) tokens rest part [] name prints success opened printed closed e = absurd cc
 fails_behind (stop.Left n) tokens rest part (what ∷ others) name prints success opened printed closed e =
@@ -59,7 +62,8 @@ none_behind [] e = refl
 none_behind (what ∷ others) e = absurd cc
 
 -- all tokens are read
-pub whole : (tokens rest part behind : List What) (name : List ℕ) (prints : List Print) (success : Bool) → opening_at tokens ≡ Ok (name, rest) → ReadsPrints rest prints part → closing_at part ≡ Ok (success, behind) → end_at behind ≡ Ok tt
+pub whole : (tokens rest part behind : List What) (name : List ℕ) (prints : List Print) (success : Bool) → opening_at tokens ≡ Ok (name, rest)
+    → ReadsPrints rest prints part → closing_at part ≡ Ok (success, behind) → end_at behind ≡ Ok tt
     → tokens ≡ words record { «module» = name; prints = prints; success = success }
 whole tokens rest part behind name prints success opened printed closed ended =
     let last : part ≡ closing_words success = closing_takes part (success, behind) closed ∙ ap (λ ts. closing_words success ++ ts) (none_behind behind ended) in

@@ -30,7 +30,8 @@ none_left [] none = refl
 none_left (what ∷ others) none = absurd (omega (arith, none))
 
 -- where no token is left, the file is unfinished
-pub unfinished : (tokens : List Token) (count index : ℕ) → IsStop (whats tokens) count → index ≡ length tokens - count → length tokens ≤ index → IsUnfinished tokens
+pub unfinished : (tokens : List Token) (count index : ℕ) → IsStop (whats tokens) count → index ≡ length tokens - count → length tokens ≤ index
+    → IsUnfinished tokens
 unfinished tokens count index s index-is past =
     let sizes : length tokens ≡ length s.front + length s.left = parts_length tokens s.front s.left s.parts in
     let counted : count ≡ length s.left = s.counted in
@@ -39,39 +40,48 @@ unfinished tokens count index s index-is past =
     ((s.first, s.more, s.begins ∙ ap (λ ts. ts ++ s.more) (sym all)), λ file reads. s.unread file (sym reads))
 
 -- where one of two parts ends, the tokens before are that part
-before_seam : (tokens : List Token) (front left : List What) (index : ℕ) → whats tokens ≡ front ++ left → index ≡ length front → whats (take index tokens) ≡ front
+before_seam : (tokens : List Token) (front left : List What) (index : ℕ) → whats tokens ≡ front ++ left → index ≡ length front
+    → whats (take index tokens) ≡ front
 before_seam tokens front left index is here =
     whats_before tokens index (front ++ left) is ∙ ap (λ n. take n (front ++ left)) here ∙ take-append_seam front left
 
 -- and with one token more they are that part and the first token of the other
-past_seam : (tokens : List Token) (front : List What) (what : What) (others : List What) (index : ℕ) → whats tokens ≡ front ++ what ∷ others → index ≡ length front
+past_seam : (tokens : List Token) (front : List What) (what : What) (others : List What) (index : ℕ) → whats tokens ≡ front ++ what ∷ others
+    → index ≡ length front
     → whats (take (index + 1) tokens) ≡ front ++ what ∷ []
 past_seam tokens front what others index is here =
     whats_before tokens (index + 1) (front ++ what ∷ others) is ∙ ap (λ n. take (n + 1) (front ++ what ∷ others)) here ∙ take-append-add front (what ∷ others) 1
 
 -- tokens with which no file begins don't begin one
-begin_none : (tokens : List Token) (front : List What) (what : What) → whats tokens ≡ front ++ what ∷ [] → ((file : First) (more : List What) → words file ≡ front ++ what ∷ more → ⊥) → BeginsFile tokens → ⊥
+begin_none : (tokens : List Token) (front : List What) (what : What) → whats tokens ≡ front ++ what ∷ [] → ((file : First) (more : List What) → words file ≡ front ++ what ∷ more → ⊥)
+    → BeginsFile tokens → ⊥
 begin_none tokens front what is none begins =
     none begins.0 begins.1 (begins.2 ∙ ap (λ ts. ts ++ begins.1) is ∙ append_assoc front (what ∷ []) begins.1)
 
+-- the first token that is left is strange
+strange_next : (tokens : List Token) (count index : ℕ) (s : IsStop (whats tokens) count) (what : What) (others : List What) → s.left ≡ what ∷ others
+    → index ≡ length s.front → index < length tokens → IsStrangeAt tokens index
+strange_next tokens count index s what others left-is here within =
+    let parts : whats tokens ≡ s.front ++ what ∷ others = s.parts ∙ ap (λ ts. s.front ++ ts) left-is in
+    let before : whats (take index tokens) ≡ s.front = before_seam tokens s.front s.left index s.parts here in
+    let past : whats (take (index + 1) tokens) ≡ s.front ++ what ∷ [] = past_seam tokens s.front what others index parts here in (
+      within,
+      (s.first, s.more, s.begins ∙ ap (λ ts. ts ++ s.more) (sym before)),
+      begin_none (take (index + 1) tokens) s.front what past (λ file more is. s.strange file what others more left-is is),
+    )
+
 -- where a token is left, it is the first strange one
-pub strange : (tokens : List Token) (count index : ℕ) → IsStop (whats tokens) count → index ≡ length tokens - count → index < length tokens → IsStrangeAt tokens index
+pub strange : (tokens : List Token) (count index : ℕ) → IsStop (whats tokens) count → index ≡ length tokens - count → index < length tokens
+    → IsStrangeAt tokens index
 strange tokens count index s index-is within =
     let sizes : length tokens ≡ length s.front + length s.left = parts_length tokens s.front s.left s.parts in
     let counted : count ≡ length s.left = s.counted in
-    let here : index ≡ length s.front = omega arith in
-    let some : 0 < length s.left = omega arith in
-    let next = first_of s.left some in
-    let parts : whats tokens ≡ s.front ++ next.0 ∷ next.1 = s.parts ∙ ap (λ ts. s.front ++ ts) next.2 in
-    let before : whats (take index tokens) ≡ s.front = before_seam tokens s.front s.left index s.parts here in
-    let past : whats (take (index + 1) tokens) ≡ s.front ++ next.0 ∷ [] = past_seam tokens s.front next.0 next.1 index parts here in (
-      within,
-      (s.first, s.more, s.begins ∙ ap (λ ts. ts ++ s.more) (sym before)),
-      begin_none (take (index + 1) tokens) s.front next.0 past (λ file more is. s.strange file next.0 next.1 more next.2 is),
-    )
+    let next = first_of s.left (omega arith) in
+    strange_next tokens count index s next.0 next.1 next.2 (omega arith) within
 
 -- and the fault is at its place
-pub strange_place : (tokens : List Token) (count index : ℕ) (token : Token) (at : Pos) → IsStop (whats tokens) count → index ≡ length tokens - count → index < length tokens
+pub strange_place : (tokens : List Token) (count index : ℕ) (token : Token) (at : Pos) → IsStop (whats tokens) count → index ≡ length tokens - count
+    → index < length tokens
     → ((d : Token) → token ≡ get_or tokens index d) → token.at ≡ at → IsStrangePlace tokens at
 strange_place tokens count index token at s index-is within found at-is = (
   index,

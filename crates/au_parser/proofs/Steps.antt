@@ -101,7 +101,8 @@ words_again (word ∷ others) rest = ap (λ r. r >>= words_at others) (word_agai
 abbrev pub IsFrontOf : List What → List What → Type 0
 IsFrontOf expected front = (more : List What) × (expected ≡ front ++ more)
 
-pub words_stop : (expected tokens : List What) (n : ℕ) → words_at expected tokens ≡ Err n → StopsOn (List What) (words_at expected) (IsFrontOf expected) tokens n
+pub words_stop : (expected tokens : List What) (n : ℕ) → words_at expected tokens ≡ Err n
+    → StopsOn (List What) (words_at expected) (IsFrontOf expected) tokens n
 words_stop [] tokens n e = absurd cc
 words_stop (word ∷ others) tokens n e =
     elim (bind_err (word_at word tokens) (words_at others) n e) [

@@ -1,4 +1,4 @@
-ghost use Rattle.std.specs.Prelude.{◌≡◌, ◌∷◌, IfOk, MatchResult, length};
+ghost use Rattle.std.specs.Prelude.{◌≡◌, IfOk, MatchResult};
 ghost use Rattle.au_base.specs.declared.places.Pos.{Pos};
 ghost use Rattle.au_syntax.specs.Words.{words};
 ghost use Rattle.au_parser.specs.Files.{whats, Reads, IsUnfinished, IsStrangePlace};
@@ -12,6 +12,8 @@ use au_syntax::{First, Print};
 use std::alloc::Global;
 
 /// The one file whose tokens these are. `end` is the place behind the file's last byte.
+///
+/// Want of memory may be answered in place of any other answer.
 pub fn parse(alloc: Global, tokens: &[Token], end: Pos) -> Result<First, ParseFault>
     // What is read is spelled so.
     ensures tree { IfOk result (λ first. Reads first tokens.now) }
