@@ -1,19 +1,14 @@
 -- What each step of the code gives, over plain variables.
-use Rattle.std.proofs.Common.{◌≡◌, ℕ, Bool, true, false, List, [], ◌∷◌, ◌++◌, length, Some, None, Ok, Err, refl, sym, ap, ◌∙◌, append_assoc, arith}
-use Rattle.std.proofs.lemmas.Bool.{eqb-true}
+use Rattle.std.proofs.Common.{◌≡◌, ℕ, Bool, List, [], ◌∷◌, ◌++◌, length, Some, Ok, refl, sym, ap, subst, ◌∙◌, append_assoc}
 use Rattle.std.proofs.lemmas.Grind.{flat_map-append}
 use Rattle.std.specs.List.{flat_map}
-use Rattle.std.specs.Prelude.{◌==◌}
-use Rattle.au_base.specs.declared.tokens.Token.{Token}
 use Rattle.au_base.specs.declared.tokens.What.{What}
 use Rattle.au_syntax.specs.declared.printing.Print.{Print}
-use Rattle.au_syntax.specs.declared.printing.First.{First}
 use Rattle.au_syntax.specs.Words.{opening_words, print_words, closing_words, words}
 use Rattle.au_parser.specs.declared.stops.Stop.{Stop}
 use Rattle.au_parser.specs.declared.stops.Stop.TheVariants as stop
-use Rattle.au_parser.specs.Files.{whats}
-use Rattle.au_parser.specs.Readers.{Stops, first_value, line_of, line_word, opening_at, argument_at, closing_at, ReadsPrints, StopsInPrint, StopsInFile}
-use Rattle.au_parser.proofs.Parts.{line_takes, opening_takes, argument_takes, argument_words, closing_takes}
+use Rattle.au_parser.specs.Readers.{Stops, first_value, line_of, line_word, opening_at, argument_at, closing_at, end_at, IsStop, ReadsPrints, StopsInPrint, StopsInFile}
+use Rattle.au_parser.proofs.Parts.{line_takes, opening_takes, argument_takes, closing_takes}
 use Rattle.au_parser.proofs.Whole.{stop_in_opening, stop_in_argument, stop_in_closing, stop_behind}
 
 -- ---- a print
@@ -35,13 +30,6 @@ one_more tokens rest behind next prints pushed line text so_far named read pushe
     ∙ ap (λ ts. front ++ ts) (one_print rest behind next line text named read)
     ∙ sym (ap (λ ts. ts ++ next) more ∙ append_assoc front (print_words print) next)
 
--- reading stops in a print behind others
-pub fails_in_print : (e : Stop) (tokens rest behind : List What) (prints : List Print) (line : Bool)
-    → tokens ≡ flat_map print_words prints ++ rest → first_value line_of rest ≡ Some (line, behind) → Stops e (argument_at behind) → StopsInPrint e tokens
-fails_in_print stop.Memory tokens rest behind prints line so_far named e = tt
-fails_in_print (stop.Left n) tokens rest behind prints line so_far named e =
-    (prints, line, behind, so_far ∙ ap (λ ts. flat_map print_words prints ++ ts) (line_takes rest (line, behind) named), e)
-
 -- ---- a file
 
 pub fails_in_opening : (e : Stop) (tokens : List What) → Stops e (opening_at tokens) → StopsInFile e tokens
@@ -53,29 +41,31 @@ fails_in_prints stop.Memory tokens rest name opened e = tt
 fails_in_prints (stop.Left n) tokens rest name opened e =
     stop_in_argument name e.0 e.1 e.2 rest tokens n (opening_takes tokens (name, rest) opened) e.3 e.4
 
-pub fails_in_closing : (e : Stop) (tokens rest part : List What) (name : List ℕ) (prints : List Print) → opening_at tokens ≡ Ok (name, rest) → ReadsPrints rest prints part → Stops e (closing_at part) → StopsInFile e tokens
+pub fails_in_closing : (e : Stop) (tokens rest part : List What) (name : List ℕ) (prints : List Print) → opening_at tokens ≡ Ok (name, rest)
+    → ReadsPrints rest prints part → Stops e (closing_at part) → StopsInFile e tokens
 fails_in_closing stop.Memory tokens rest part name prints opened printed e = tt
 fails_in_closing (stop.Left n) tokens rest part name prints opened printed e =
     stop_in_closing name prints part rest tokens n (opening_takes tokens (name, rest) opened) printed.0 printed.1 e
 
-pub fails_behind : (tokens rest part behind : List What) (name : List ℕ) (prints : List Print) (success : Bool) → opening_at tokens ≡ Ok (name, rest) → ReadsPrints rest prints part → closing_at part ≡ Ok (success, behind) → (behind ≡ [] → ⊥) → StopsInFile (stop.Left (length behind)) tokens
-fails_behind tokens rest part [] name prints success opened printed closed more = absurd (more refl)
-fails_behind tokens rest part (what ∷ others) name prints success opened printed closed more =
-    stop_behind name prints success what others part rest tokens (opening_takes tokens (name, rest) opened) printed.0 (closing_takes part (success, what ∷ others) closed)
+pub fails_behind : (e : Stop) (tokens rest part behind : List What) (name : List ℕ) (prints : List Print) (success : Bool)
+    → opening_at tokens ≡ Ok (name, rest) → ReadsPrints rest prints part → closing_at part ≡ Ok (success, behind) → Stops e (end_at behind)
+    → StopsInFile e tokens
+fails_behind stop.Memory tokens rest part behind name prints success opened printed closed e = tt
+fails_behind (stop.Left n) tokens rest part [] name prints success opened printed closed e = absurd cc
+fails_behind (stop.Left n) tokens rest part (what ∷ others) name prints success opened printed closed e =
+    let same : length (what ∷ others) ≡ n = cc in
+    subst (IsStop tokens) same (stop_behind name prints success what others part rest tokens (opening_takes tokens (name, rest) opened) printed.0 (closing_takes part (success, what ∷ others) closed))
+
+-- where the end is read, nothing is left
+none_behind : (behind : List What) → end_at behind ≡ Ok tt → behind ≡ []
+none_behind [] e = refl
+none_behind (what ∷ others) e = absurd cc
 
 -- all tokens are read
-pub whole : (tokens rest part behind : List What) (name : List ℕ) (prints : List Print) (success : Bool) → opening_at tokens ≡ Ok (name, rest) → ReadsPrints rest prints part → closing_at part ≡ Ok (success, behind) → behind ≡ []
+pub whole : (tokens rest part behind : List What) (name : List ℕ) (prints : List Print) (success : Bool) → opening_at tokens ≡ Ok (name, rest)
+    → ReadsPrints rest prints part → closing_at part ≡ Ok (success, behind) → end_at behind ≡ Ok tt
     → tokens ≡ words record { «module» = name; prints = prints; success = success }
-whole tokens rest part behind name prints success opened printed closed none =
-    let last : part ≡ closing_words success = closing_takes part (success, behind) closed ∙ ap (λ ts. closing_words success ++ ts) none in
+whole tokens rest part behind name prints success opened printed closed ended =
+    let last : part ≡ closing_words success = closing_takes part (success, behind) closed ∙ ap (λ ts. closing_words success ++ ts) (none_behind behind ended) in
     opening_takes tokens (name, rest) opened
     ∙ ap (λ ts. opening_words name ++ ts) (printed.0 ∙ ap (λ ts. flat_map print_words prints ++ ts) last)
-
--- what the test of a length says
-pub some_whats : (tokens : List Token) → (length tokens == 0) ≡ false → whats tokens ≡ [] → ⊥
-some_whats [] some none = cc
-some_whats (token ∷ tokens) some none = cc
-
-pub no_whats : (tokens : List Token) → (length tokens == 0) ≡ true → whats tokens ≡ []
-no_whats [] none = refl
-no_whats (token ∷ tokens) none = absurd (omega (arith, eqb-true (length (token ∷ tokens)) 0 none))

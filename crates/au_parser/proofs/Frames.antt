@@ -1,15 +1,16 @@
 -- Reading a value between tokens that are known.
-use Rattle.std.proofs.Common.{◌≡◌, ℕ, Bool, true, false, cond, List, [], ◌∷◌, ◌++◌, length, Option, Some, None, Result, Ok, Err, refl, sym, ap, ◌∙◌, inl, inr, append_assoc}
+use Rattle.std.proofs.Common.{◌≡◌, ℕ, List, [], ◌∷◌, ◌++◌, length, Option, Some, None, Ok, Err, refl, sym, ap, ◌∙◌, inl, inr, append_assoc}
 use Rattle.std.proofs.lemmas.List.{append-nil}
 use Rattle.std.specs.Option.{option_map}
 use Rattle.au_base.specs.declared.tokens.What.{What}
-use Rattle.au_parser.specs.Readers.{Read, ◌>>=◌, words_at, first_value, some_or_stop, value_at, then_words, value_then, framed}
+use Rattle.au_parser.specs.Readers.{◌>>=◌, words_at, first_value, some_or_stop, value_at, then_words, value_then, framed}
 use Rattle.au_parser.proofs.Steps.{read_of, read_same, bind_ok, bind_err, StopsOn, words_take, words_again, words_stop}
 
 module _ {A : Type 0} (value : What → Option A) (spelled : A → What) (value_is : (w : What) (a : A) → value w ≡ Some a → w ≡ spelled a) (value_again : (a : A) → value (spelled a) ≡ Some a) where
   -- ---- one token that has a value
 
-  found_takes : (first : What) (rest : List What) (found : Option A) (x : A × List What) → value first ≡ found → option_map (λ v. (v, rest)) found ≡ Some x → first ∷ rest ≡ spelled x.0 ∷ x.1
+  found_takes : (first : What) (rest : List What) (found : Option A) (x : A × List What) → value first ≡ found
+      → option_map (λ v. (v, rest)) found ≡ Some x → first ∷ rest ≡ spelled x.0 ∷ x.1
   found_takes first rest None x is e = absurd cc
   found_takes first rest (Some v) x is e =
       let same : (v, rest) ≡ x = cc in
@@ -27,7 +28,8 @@ module _ {A : Type 0} (value : What → Option A) (spelled : A → What) (value_
   none_again first rest more None is e = ap (option_map {U = A × List What} (λ v. (v, more))) is
   none_again first rest more (Some v) is e = absurd cc
 
-  pub first_none : (front : List What) (what : What) (others more : List What) → first_value value (front ++ what ∷ others) ≡ None → first_value value (front ++ what ∷ more) ≡ None
+  pub first_none : (front : List What) (what : What) (others more : List What) → first_value value (front ++ what ∷ others) ≡ None
+      → first_value value (front ++ what ∷ more) ≡ None
   first_none [] what others more e = none_again what others more (value what) refl e
   first_none (first ∷ front) what others more e = none_again first (front ++ what ∷ others) (front ++ what ∷ more) (value first) refl e
 
@@ -90,7 +92,8 @@ module _ {A : Type 0} (value : What → Option A) (spelled : A → What) (value_
     value_from : (rest : List What) → framed before value after (before ++ rest) ≡ value_then value after rest
     value_from rest = ap (λ r. r >>= value_then value after) (words_again before rest)
 
-    stops_before : (a : A) (tokens : List What) (n : ℕ) → words_at before tokens ≡ Err n → StopsOn (A × List What) (framed before value after) IsFrontOfFrame tokens n
+    stops_before : (a : A) (tokens : List What) (n : ℕ) → words_at before tokens ≡ Err n
+        → StopsOn (A × List What) (framed before value after) IsFrontOfFrame tokens n
     stops_before a tokens n e =
         let s = words_stop before tokens n e in
         let back : List What = spelled a ∷ (after ++ []) in
@@ -105,7 +108,8 @@ module _ {A : Type 0} (value : What → Option A) (spelled : A → What) (value_
               (k.0, ap (λ r. r >>= value_then value after) k.1);
         }
 
-    stops_at : (a : A) (tokens rest : List What) (n : ℕ) → tokens ≡ before ++ rest → value_at value rest ≡ Err n → StopsOn (A × List What) (framed before value after) IsFrontOfFrame tokens n
+    stops_at : (a : A) (tokens rest : List What) (n : ℕ) → tokens ≡ before ++ rest → value_at value rest ≡ Err n
+        → StopsOn (A × List What) (framed before value after) IsFrontOfFrame tokens n
     stops_at a tokens rest n is e =
         let s = value_stops rest n e in
         record {
@@ -118,7 +122,8 @@ module _ {A : Type 0} (value : What → Option A) (spelled : A → What) (value_
               (length (what ∷ more), value_from (what ∷ more) ∙ ap (λ r. r >>= then_words after) (s.1 what others more is));
         }
 
-    stops_after : (a : A) (tokens rest : List What) (n : ℕ) → tokens ≡ before ++ (spelled a ∷ rest) → words_at after rest ≡ Err n → StopsOn (A × List What) (framed before value after) IsFrontOfFrame tokens n
+    stops_after : (a : A) (tokens rest : List What) (n : ℕ) → tokens ≡ before ++ (spelled a ∷ rest) → words_at after rest ≡ Err n
+        → StopsOn (A × List What) (framed before value after) IsFrontOfFrame tokens n
     stops_after a tokens rest n is e =
         let s = words_stop after rest n e in
         let front : List What = before ++ (spelled a ∷ s.front) in
@@ -139,7 +144,8 @@ module _ {A : Type 0} (value : What → Option A) (spelled : A → What) (value_
               );
         }
 
-    pub framed_stops : (a : A) (tokens : List What) (n : ℕ) → framed before value after tokens ≡ Err n → StopsOn (A × List What) (framed before value after) IsFrontOfFrame tokens n
+    pub framed_stops : (a : A) (tokens : List What) (n : ℕ) → framed before value after tokens ≡ Err n
+        → StopsOn (A × List What) (framed before value after) IsFrontOfFrame tokens n
     framed_stops a tokens n e =
         elim (bind_err (words_at before tokens) (value_then value after) n e) [
           | inl stopped ↦ stops_before a tokens n stopped

@@ -1,17 +1,15 @@
 -- From where reading stops to the place of the fault.
-use Rattle.std.proofs.Common.{◌≡◌, ℕ, ◌+◌, ◌-◌, ◌<◌, ◌≤◌, List, [], ◌∷◌, ◌++◌, length, take, map, Some, refl, sym, ap, ◌∙◌, append_assoc, arith}
+use Rattle.std.proofs.Common.{◌≡◌, ℕ, ◌+◌, ◌-◌, ◌<◌, ◌≤◌, List, [], ◌∷◌, ◌++◌, length, take, Some, refl, sym, ap, ◌∙◌, append_assoc, arith, get_or}
 use Rattle.std.proofs.lemmas.List.{append-nil, length-append, length-map, take-map}
 use Rattle.std.proofs.lemmas.Option.{slice_get-get_or}
-use Rattle.std.proofs.Common.{get_or}
 use Rattle.std.proofs.Math.Seq.{take-append_seam, take-append-add}
-use Rattle.std.specs.List.{slice_get}
 use Rattle.std.specs.Option.{option_map}
 use Rattle.au_base.specs.declared.places.Pos.{Pos}
 use Rattle.au_base.specs.declared.tokens.Token.{Token}
 use Rattle.au_base.specs.declared.tokens.What.{What}
 use Rattle.au_syntax.specs.declared.printing.First.{First}
 use Rattle.au_syntax.specs.Words.{words}
-use Rattle.au_parser.specs.Files.{whats, Reads, BeginsFile, IsUnfinished, IsStrangeAt, IsStrangePlace}
+use Rattle.au_parser.specs.Files.{whats, BeginsFile, IsUnfinished, IsStrangeAt, IsStrangePlace}
 use Rattle.au_parser.specs.Readers.{IsStop}
 
 -- the length of tokens is that of the two parts
@@ -32,7 +30,8 @@ none_left [] none = refl
 none_left (what ∷ others) none = absurd (omega (arith, none))
 
 -- where no token is left, the file is unfinished
-pub unfinished : (tokens : List Token) (count index : ℕ) → IsStop (whats tokens) count → index ≡ length tokens - count → length tokens ≤ index → IsUnfinished tokens
+pub unfinished : (tokens : List Token) (count index : ℕ) → IsStop (whats tokens) count → index ≡ length tokens - count → length tokens ≤ index
+    → IsUnfinished tokens
 unfinished tokens count index s index-is past =
     let sizes : length tokens ≡ length s.front + length s.left = parts_length tokens s.front s.left s.parts in
     let counted : count ≡ length s.left = s.counted in
@@ -40,28 +39,49 @@ unfinished tokens count index s index-is past =
     let all : whats tokens ≡ s.front = s.parts ∙ ap (λ ts. s.front ++ ts) none ∙ append-nil s.front in
     ((s.first, s.more, s.begins ∙ ap (λ ts. ts ++ s.more) (sym all)), λ file reads. s.unread file (sym reads))
 
+-- where one of two parts ends, the tokens before are that part
+before_seam : (tokens : List Token) (front left : List What) (index : ℕ) → whats tokens ≡ front ++ left → index ≡ length front
+    → whats (take index tokens) ≡ front
+before_seam tokens front left index is here =
+    whats_before tokens index (front ++ left) is ∙ ap (λ n. take n (front ++ left)) here ∙ take-append_seam front left
+
+-- and with one token more they are that part and the first token of the other
+past_seam : (tokens : List Token) (front : List What) (what : What) (others : List What) (index : ℕ) → whats tokens ≡ front ++ what ∷ others
+    → index ≡ length front
+    → whats (take (index + 1) tokens) ≡ front ++ what ∷ []
+past_seam tokens front what others index is here =
+    whats_before tokens (index + 1) (front ++ what ∷ others) is ∙ ap (λ n. take (n + 1) (front ++ what ∷ others)) here ∙ take-append-add front (what ∷ others) 1
+
+-- tokens with which no file begins don't begin one
+begin_none : (tokens : List Token) (front : List What) (what : What) → whats tokens ≡ front ++ what ∷ [] → ((file : First) (more : List What) → words file ≡ front ++ what ∷ more → ⊥)
+    → BeginsFile tokens → ⊥
+begin_none tokens front what is none begins =
+    none begins.0 begins.1 (begins.2 ∙ ap (λ ts. ts ++ begins.1) is ∙ append_assoc front (what ∷ []) begins.1)
+
+-- the first token that is left is strange
+strange_next : (tokens : List Token) (count index : ℕ) (s : IsStop (whats tokens) count) (what : What) (others : List What) → s.left ≡ what ∷ others
+    → index ≡ length s.front → index < length tokens → IsStrangeAt tokens index
+strange_next tokens count index s what others left-is here within =
+    let parts : whats tokens ≡ s.front ++ what ∷ others = s.parts ∙ ap (λ ts. s.front ++ ts) left-is in
+    let before : whats (take index tokens) ≡ s.front = before_seam tokens s.front s.left index s.parts here in
+    let past : whats (take (index + 1) tokens) ≡ s.front ++ what ∷ [] = past_seam tokens s.front what others index parts here in (
+      within,
+      (s.first, s.more, s.begins ∙ ap (λ ts. ts ++ s.more) (sym before)),
+      begin_none (take (index + 1) tokens) s.front what past (λ file more is. s.strange file what others more left-is is),
+    )
+
 -- where a token is left, it is the first strange one
-pub strange : (tokens : List Token) (count index : ℕ) → IsStop (whats tokens) count → index ≡ length tokens - count → index < length tokens → IsStrangeAt tokens index
+pub strange : (tokens : List Token) (count index : ℕ) → IsStop (whats tokens) count → index ≡ length tokens - count → index < length tokens
+    → IsStrangeAt tokens index
 strange tokens count index s index-is within =
     let sizes : length tokens ≡ length s.front + length s.left = parts_length tokens s.front s.left s.parts in
     let counted : count ≡ length s.left = s.counted in
-    let here : index ≡ length s.front = omega arith in
     let next = first_of s.left (omega arith) in
-    let before : whats (take index tokens) ≡ s.front =
-    whats_before tokens index (s.front ++ s.left) s.parts ∙ ap (λ n. take n (s.front ++ s.left)) here ∙ take-append_seam s.front s.left in
-    let with_next : whats (take (index + 1) tokens) ≡ s.front ++ next.0 ∷ [] =
-    whats_before tokens (index + 1) (s.front ++ s.left) s.parts
-    ∙ ap (λ n. take (n + 1) (s.front ++ s.left)) here
-    ∙ take-append-add s.front s.left 1
-    ∙ ap (λ ts. s.front ++ take 1 ts) next.2 in (
-      within,
-      (s.first, s.more, s.begins ∙ ap (λ ts. ts ++ s.more) (sym before)),
-      λ begins. s.strange begins.0 next.0 next.1 begins.1 next.2
-          (begins.2 ∙ ap (λ ts. ts ++ begins.1) with_next ∙ append_assoc s.front (next.0 ∷ []) begins.1),
-    )
+    strange_next tokens count index s next.0 next.1 next.2 (omega arith) within
 
 -- and the fault is at its place
-pub strange_place : (tokens : List Token) (count index : ℕ) (token : Token) (at : Pos) → IsStop (whats tokens) count → index ≡ length tokens - count → index < length tokens
+pub strange_place : (tokens : List Token) (count index : ℕ) (token : Token) (at : Pos) → IsStop (whats tokens) count → index ≡ length tokens - count
+    → index < length tokens
     → ((d : Token) → token ≡ get_or tokens index d) → token.at ≡ at → IsStrangePlace tokens at
 strange_place tokens count index token at s index-is within found at-is = (
   index,

@@ -1,5 +1,5 @@
 -- Reading a list of expected tokens.
-use Rattle.std.proofs.Common.{◌≡◌, ℕ, Bool, true, false, cond, List, [], ◌∷◌, ◌++◌, length, Result, Ok, Err, refl, sym, ap, ◌∙◌, inl, inr, ◌⊎◌}
+use Rattle.std.proofs.Common.{◌≡◌, ℕ, Bool, true, false, cond, List, [], ◌∷◌, ◌++◌, length, Ok, Err, refl, sym, ap, ◌∙◌, inl, inr, ◌⊎◌}
 use Rattle.std.proofs.lemmas.Slice.Eq.{bytes_eq-Decides}
 use denote.Enum.Bare.{same_true, true_same}
 use Rattle.au_base.specs.contracts.tokens.Keyword.{the_type as keyword}
@@ -101,7 +101,8 @@ words_again (word ∷ others) rest = ap (λ r. r >>= words_at others) (word_agai
 abbrev pub IsFrontOf : List What → List What → Type 0
 IsFrontOf expected front = (more : List What) × (expected ≡ front ++ more)
 
-pub words_stop : (expected tokens : List What) (n : ℕ) → words_at expected tokens ≡ Err n → StopsOn (List What) (words_at expected) (IsFrontOf expected) tokens n
+pub words_stop : (expected tokens : List What) (n : ℕ) → words_at expected tokens ≡ Err n
+    → StopsOn (List What) (words_at expected) (IsFrontOf expected) tokens n
 words_stop [] tokens n e = absurd cc
 words_stop (word ∷ others) tokens n e =
     elim (bind_err (word_at word tokens) (words_at others) n e) [

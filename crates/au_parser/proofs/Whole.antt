@@ -1,5 +1,5 @@
 -- Where reading a file stops, and that it stops rightly.
-use Rattle.std.proofs.Common.{◌≡◌, ℕ, Bool, true, false, List, [], ◌∷◌, ◌++◌, length, Option, Some, None, Ok, Err, refl, sym, ap, subst, ◌∙◌, append_assoc}
+use Rattle.std.proofs.Common.{◌≡◌, ℕ, Bool, true, List, [], ◌∷◌, ◌++◌, length, None, Ok, Err, refl, sym, ap, subst, ◌∙◌, append_assoc}
 use Rattle.std.proofs.lemmas.List.{append-nil}
 use Rattle.std.proofs.lemmas.Grind.{flat_map-append}
 use Rattle.std.specs.List.{flat_map}
@@ -19,7 +19,8 @@ abbrev pub statements : List Print → Bool → List What
 statements prints success = flat_map print_words prints ++ closing_words success
 
 -- behind its opening a file has its statements
-pub behind_opening : (file : First) (name : List ℕ) (rest : List What) → words file ≡ opening_words name ++ rest → (file.module ≡ name) × (statements file.prints file.success ≡ rest)
+pub behind_opening : (file : First) (name : List ℕ) (rest : List What) → words file ≡ opening_words name ++ rest
+    → (file.module ≡ name) × (statements file.prints file.success ≡ rest)
 behind_opening file name rest e = (cc, cc)
 
 -- behind prints there are more prints and the closing
@@ -91,24 +92,28 @@ stop_in_opening tokens count e =
 abbrev pub up_to_line : List ℕ → List Print → Bool → List What
 up_to_line name prints line = opening_words name ++ (flat_map print_words prints ++ line_word line ∷ [])
 
-up_to_line-append : (name : List ℕ) (prints : List Print) (line : Bool) (rest : List What) → up_to_line name prints line ++ rest ≡ opening_words name ++ (flat_map print_words prints ++ line_word line ∷ rest)
+up_to_line-append : (name : List ℕ) (prints : List Print) (line : Bool) (rest : List What)
+    → up_to_line name prints line ++ rest ≡ opening_words name ++ (flat_map print_words prints ++ line_word line ∷ rest)
 up_to_line-append name prints line rest = ap (λ ts. opening_words name ++ ts) (append_assoc (flat_map print_words prints) (line_word line ∷ []) rest)
 
 -- behind the name of a print a file has a text
-line_argument : (more : List Print) (success line : Bool) (others : List What) (k : ℕ) → argument_at others ≡ Err k → statements more success ≡ line_word line ∷ others → ⊥
+line_argument : (more : List Print) (success line : Bool) (others : List What) (k : ℕ) → argument_at others ≡ Err k
+    → statements more success ≡ line_word line ∷ others → ⊥
 line_argument [] success line others k stopped e = cc
 line_argument (print ∷ more) success line others k stopped e =
     let is : argument_words print.text ++ statements more success ≡ others = cc in
     not_both (argument_at others) (print.text, statements more success) k
     (ap argument_at (sym is) ∙ argument_again print.text (statements more success)) stopped
 
-never_argument : (name : List ℕ) (prints : List Print) (line : Bool) (file : First) (others : List What) (k : ℕ) → Always others → argument_at others ≡ Err k → words file ≡ up_to_line name prints line ++ others → ⊥
+never_argument : (name : List ℕ) (prints : List Print) (line : Bool) (file : First) (others : List What) (k : ℕ) → Always others
+    → argument_at others ≡ Err k → words file ≡ up_to_line name prints line ++ others → ⊥
 never_argument name prints line file others k holds stopped e =
     let behind = behind_opening file name (flat_map print_words prints ++ line_word line ∷ others) (e ∙ up_to_line-append name prints line others) in
     let b = behind_prints prints file.prints file.success (line_word line ∷ others) behind.1 in
     line_argument b.0 file.success line others k stopped b.1
 
-extends_argument : (name : List ℕ) (prints : List Print) (line : Bool) (front : List What) → IsFrontOfArgument front → (file : First) × (more : List What) × (words file ≡ up_to_line name prints line ++ (front ++ more))
+extends_argument : (name : List ℕ) (prints : List Print) (line : Bool) (front : List What) → IsFrontOfArgument front
+    → (file : First) × (more : List What) × (words file ≡ up_to_line name prints line ++ (front ++ more))
 extends_argument name prints line front b =
     let print : Print = record { line = line; text = b.0 } in
     let closing : List What = closing_words true in
@@ -139,20 +144,23 @@ abbrev pub up_to_closing : List ℕ → List Print → List What
 up_to_closing name prints = opening_words name ++ flat_map print_words prints
 
 -- where no print is named a file has its closing
-only_closing : (more : List Print) (success : Bool) (others : List What) → NamesNoPrint others → statements more success ≡ others → closing_words success ≡ others
+only_closing : (more : List Print) (success : Bool) (others : List What) → NamesNoPrint others → statements more success ≡ others
+    → closing_words success ≡ others
 only_closing [] success others none e = e
 only_closing (print ∷ more) success others none e =
     let some = ap (first_value line_of) (sym e) ∙ line_reads print.line (argument_words print.text ++ statements more success) in
     absurd cc
 
-never_closing : (name : List ℕ) (prints : List Print) (file : First) (others : List What) (k : ℕ) → NamesNoPrint others → closing_at others ≡ Err k → words file ≡ up_to_closing name prints ++ others → ⊥
+never_closing : (name : List ℕ) (prints : List Print) (file : First) (others : List What) (k : ℕ) → NamesNoPrint others → closing_at others ≡ Err k
+    → words file ≡ up_to_closing name prints ++ others → ⊥
 never_closing name prints file others k none stopped e =
     let behind = behind_opening file name (flat_map print_words prints ++ others) e in
     let b = behind_prints prints file.prints file.success others behind.1 in
     let is : closing_words file.success ++ [] ≡ others = only_closing b.0 file.success others none b.1 in
     not_both (closing_at others) (file.success, []) k (ap closing_at (sym is) ∙ closing_again file.success []) stopped
 
-extends_closing : (name : List ℕ) (prints : List Print) (front : List What) → IsFrontOfClosing front → (file : First) × (more : List What) × (words file ≡ up_to_closing name prints ++ (front ++ more))
+extends_closing : (name : List ℕ) (prints : List Print) (front : List What) → IsFrontOfClosing front
+    → (file : First) × (more : List What) × (words file ≡ up_to_closing name prints ++ (front ++ more))
 extends_closing name prints front b =
     (record { «module» = name; prints = prints; success = b.0 }, b.1, ap (λ ts. up_to_closing name prints ++ ts) b.2)
 
@@ -166,7 +174,8 @@ stop_in_closing name prints part rest tokens count is rest-is none e =
 -- ---- behind the closing
 
 -- behind its closing a file has nothing
-never_longer : (name : List ℕ) (prints : List Print) (success : Bool) (file : First) (what : What) (others : List What) → words file ≡ up_to_closing name prints ++ (closing_words success ++ what ∷ others) → ⊥
+never_longer : (name : List ℕ) (prints : List Print) (success : Bool) (file : First) (what : What) (others : List What)
+    → words file ≡ up_to_closing name prints ++ (closing_words success ++ what ∷ others) → ⊥
 never_longer name prints success file what others e =
     let all : List What = closing_words success ++ what ∷ others in
     let behind = behind_opening file name (flat_map print_words prints ++ all) e in

@@ -1,5 +1,5 @@
 -- Reading from the left: what is read and the tokens behind it, or how many tokens are left where reading stops.
-use Rattle.std.specs.Prelude.{◌≡◌, ℕ, Bool, true, false, List, [], ◌∷◌, ◌++◌, Option, Some, None, Result, Ok, Err, length, map, codes, if◌then◌else◌}
+use Rattle.std.specs.Prelude.{◌≡◌, ℕ, Bool, true, false, List, [], ◌∷◌, ◌++◌, Option, Some, None, Result, Ok, Err, length, codes, if◌then◌else◌}
 use Rattle.std.specs.List.{flat_map}
 use Rattle.std.specs.Option.{option_map}
 use Rattle.std.specs.Str.{bytes_eq}
@@ -12,7 +12,7 @@ use Rattle.au_base.specs.declared.tokens.What.{What}
 use Rattle.au_base.specs.declared.tokens.What.TheVariants.{Word, Sign, Name, Text}
 use Rattle.au_syntax.specs.declared.printing.Print.{Print}
 use Rattle.au_syntax.specs.declared.printing.First.{First}
-use Rattle.au_syntax.specs.Words.{opening_words, print_words, words}
+use Rattle.au_syntax.specs.Words.{print_words, words}
 use Rattle.au_parser.specs.declared.expected.Expected.{Expected}
 use Rattle.au_parser.specs.declared.expected.Expected.TheVariants as expected
 use Rattle.au_parser.specs.declared.stops.Stop.{Stop}
@@ -22,18 +22,18 @@ use Rattle.au_parser.specs.declared.stops.Stop.TheVariants as stop
 abbrev pub Read : Type 0 → Type 0
 Read A = Result A ℕ
 
-infixl 10 ◌>>=◌
 -- the second step is taken where the first doesn't stop
+infixl 10 ◌>>=◌
 abbrev pub ◌>>=◌ : {A B : Type 0} → Read A → (A → Read B) → Read B
 (Ok x) >>= f = f x
 (Err left) >>= f = Err left
 
--- Why a function stopped is why reading stops, unless memory ran out.
+-- why a function stopped is why reading stops, unless memory ran out.
 abbrev pub Stops : {A : Type 0} → Stop → Read A → Type 0
 Stops stop.Memory read = Unit {0}
 Stops (stop.Left left) read = read ≡ Err left
 
--- What a function returned, seen by `view`, is what reading gives, unless memory ran out.
+-- what a function returned, seen by `view`, is what reading gives, unless memory ran out.
 abbrev pub Gives : {X A : Type 0} → (X → A) → Result X Stop → Read A → Type 0
 Gives view (Ok x) read = read ≡ Ok (view x)
 Gives view (Err e) read = Stops e read
@@ -88,6 +88,11 @@ value_then value after tokens = value_at value tokens >>= then_words after
 abbrev pub framed : {A : Type 0} → List What → (What → Option A) → List What → List What → Read (A × List What)
 framed before value after tokens = words_at before tokens >>= value_then value after
 
+-- no token
+abbrev pub end_at : List What → Read (Unit {0})
+end_at [] = Ok tt
+end_at (first ∷ rest) = Err (length (first ∷ rest))
+
 -- the bytes of a name
 abbrev pub name_of : What → Option (List ℕ)
 name_of (Name name) = Some name
@@ -119,10 +124,11 @@ success_word success = Name (if success then codes "ExitSuccess" else codes "Exi
 abbrev pub success_of : What → Option Bool
 success_of = choice_of (codes "ExitSuccess") (codes "ExitFailure")
 
--- the tokens before a module's name, and those up to the first statement
+-- the tokens before a module's name
 abbrev pub before_module : List What
 before_module = Word KwModule ∷ Word KwBody ∷ []
 
+-- the tokens behind a module's name, up to the first statement
 abbrev pub behind_module : List What
 behind_module =
     Word KwIs ∷ Word KwFunction ∷ Name (codes "main") ∷ Sign LeftParenthesis ∷ Sign RightParenthesis
@@ -132,10 +138,11 @@ behind_module =
 abbrev pub opening_at : List What → Read (List ℕ × List What)
 opening_at = framed before_module name_of behind_module
 
--- the tokens before the text of a print, and those behind it
+-- the token before the text of a print
 abbrev pub before_text : List What
 before_text = Sign LeftParenthesis ∷ []
 
+-- the tokens behind the text of a print
 abbrev pub behind_text : List What
 behind_text = Sign RightParenthesis ∷ Sign Semicolon ∷ []
 
@@ -143,10 +150,11 @@ behind_text = Sign RightParenthesis ∷ Sign Semicolon ∷ []
 abbrev pub argument_at : List What → Read (List ℕ × List What)
 argument_at = framed before_text text_of behind_text
 
--- the token before the name of an exit code, and the tokens from there to the end
+-- the token before the name of an exit code
 abbrev pub before_success : List What
 before_success = Word KwReturn ∷ []
 
+-- the tokens behind the name of an exit code, up to the end
 abbrev pub behind_success : List What
 behind_success =
     Sign LeftParenthesis ∷ Sign RightParenthesis ∷ Sign Semicolon ∷ Word KwEnd ∷ Sign Semicolon
@@ -167,7 +175,7 @@ StopsInPrint (stop.Left left) tokens =
     (prints : List Print) × (line : Bool) × (behind : List What)
     × (tokens ≡ flat_map print_words prints ++ line_word line ∷ behind) × (argument_at behind ≡ Err left)
 
--- Reading stops rightly with so many tokens left: those before them begin a file, the tokens are not
+-- reading stops rightly with so many tokens left: those before them begin a file, the tokens are not
 -- those of a file, and no file begins with those before and the first that is left.
 pub record IsStop (tokens : List What) (count : ℕ) : Type 0 where
   pub front : List What

@@ -10,3 +10,6 @@ mod stops;
 
 pub use faults::ParseFault;
 pub use parsing::parse;
+
+#[cfg(test)]
+mod tests;

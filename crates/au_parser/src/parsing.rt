@@ -1,17 +1,19 @@
-ghost use Rattle.std.specs.Prelude.{◌≡◌, ◌∷◌, IfOk, MatchResult, length};
+ghost use Rattle.std.specs.Prelude.{◌≡◌, IfOk, MatchResult};
 ghost use Rattle.au_base.specs.declared.places.Pos.{Pos};
 ghost use Rattle.au_syntax.specs.Words.{words};
 ghost use Rattle.au_parser.specs.Files.{whats, Reads, IsUnfinished, IsStrangePlace};
 ghost use Rattle.au_parser.specs.Readers.{ReadsPrints, StopsInPrint, StopsInFile};
 
 use crate::faults::ParseFault;
-use crate::readers::{argument, closing, opening, print_name};
-use crate::stops::{Stop, stop_before};
+use crate::readers::{argument, closing, no_more, opening, print_name};
+use crate::stops::Stop;
 use au_base::{Pos, Sequence, Token};
 use au_syntax::{First, Print};
 use std::alloc::Global;
 
 /// The one file whose tokens these are. `end` is the place behind the file's last byte.
+///
+/// Want of memory may be answered in place of any other answer.
 pub fn parse(alloc: Global, tokens: &[Token], end: Pos) -> Result<First, ParseFault>
     // What is read is spelled so.
     ensures tree { IfOk result (λ first. Reads first tokens.now) }
@@ -39,9 +41,7 @@ fn file(alloc: Global, tokens: &[Token]) -> Result<First, Stop>
     let (module, rest) = opening(alloc, tokens)?;
     let (prints, rest) = prints(alloc, rest)?;
     let (success, rest) = closing(rest)?;
-    if !rest.is_empty() {
-        return Err(stop_before(rest));
-    }
+    no_more(rest)?;
     Ok(First {
         module,
         prints,

@@ -3,7 +3,7 @@
 ghost use Rattle.std.specs.Prelude.{◌≡◌};
 ghost use Rattle.std.specs.Option.{option_map};
 ghost use Rattle.au_parser.specs.Files.{whats};
-ghost use Rattle.au_parser.specs.Readers.{Gives, value_at, first_value, name_of, text_of, line_of, choice_of, opening_at, argument_at, closing_at};
+ghost use Rattle.au_parser.specs.Readers.{Gives, value_at, first_value, name_of, text_of, line_of, choice_of, opening_at, argument_at, closing_at, end_at};
 
 use crate::expected::{Expected, expect};
 use crate::stops::{Stop, stop_before};
@@ -69,10 +69,10 @@ fn first_choice<'a>(
 {
     match tokens {
         [] => None,
-        [first, rest @ ..] => match choice(&first.what, for_true, for_false) {
-            Some(value) => Some((value, rest)),
-            None => None,
-        },
+        [first, rest @ ..] => {
+            let value = choice(&first.what, for_true, for_false)?;
+            Some((value, rest))
+        }
     }
 }
 
@@ -111,14 +111,14 @@ pub(crate) fn opening(alloc: Global, tokens: &[Token]) -> Result<(Name, &[Token]
 pub(crate) fn argument(alloc: Global, tokens: &[Token]) -> Result<(Text, &[Token]), Stop>
     ensures { Gives (λ x. (x.0, whats x.1.now)) result (argument_at (whats tokens.now)) }
 {
-    let before = [Expected::Sign(Sign::LeftParenthesis)];
-    let after = [
+    let open = [Expected::Sign(Sign::LeftParenthesis)];
+    let close = [
         Expected::Sign(Sign::RightParenthesis),
         Expected::Sign(Sign::Semicolon),
     ];
-    let rest = expect(&before, tokens)?;
+    let rest = expect(&open, tokens)?;
     let (text, rest) = any_text(alloc, rest)?;
-    let rest = expect(&after, rest)?;
+    let rest = expect(&close, rest)?;
     Ok((text, rest))
 }
 
@@ -126,8 +126,8 @@ pub(crate) fn argument(alloc: Global, tokens: &[Token]) -> Result<(Text, &[Token
 pub(crate) fn closing(tokens: &[Token]) -> Result<(bool, &[Token]), Stop>
     ensures { Gives (λ x. (x.0, whats x.1.now)) result (closing_at (whats tokens.now)) }
 {
-    let before = [Expected::Word(Keyword::KwReturn)];
-    let after = [
+    let first = [Expected::Word(Keyword::KwReturn)];
+    let last = [
         Expected::Sign(Sign::LeftParenthesis),
         Expected::Sign(Sign::RightParenthesis),
         Expected::Sign(Sign::Semicolon),
@@ -138,10 +138,20 @@ pub(crate) fn closing(tokens: &[Token]) -> Result<(bool, &[Token]), Stop>
         Expected::Word(Keyword::KwBody),
         Expected::Sign(Sign::Dot),
     ];
-    let rest = expect(&before, tokens)?;
+    let rest = expect(&first, tokens)?;
     let Some((success, rest)) = first_choice(rest, b"ExitSuccess", b"ExitFailure") else {
         return Err(stop_before(rest));
     };
-    let rest = expect(&after, rest)?;
+    let rest = expect(&last, rest)?;
     Ok((success, rest))
+}
+
+/// The end: no token is left.
+pub(crate) fn no_more(tokens: &[Token]) -> Result<(), Stop>
+    ensures { Gives (λ x. x) result (end_at (whats tokens.now)) }
+{
+    match tokens {
+        [] => Ok(()),
+        [_, ..] => Err(stop_before(tokens)),
+    }
 }

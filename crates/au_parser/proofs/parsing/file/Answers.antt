@@ -1,9 +1,6 @@
-use Rattle.std.proofs.Common.{◌≡◌, true, false, length, sym, ◌∙◌, subst}
-use Rattle.std.specs.Prelude.{◌==◌}
 use Rattle.std.proofs.lemmas.Result.{err_from_is_err_and}
 use Rattle.au_parser.specs.Files.{whats}
-use Rattle.au_parser.specs.Readers.{StopsInFile}
-use Rattle.au_parser.proofs.Answers.{fails_in_opening, fails_in_prints, fails_in_closing, fails_behind, whole, some_whats, no_whats}
+use Rattle.au_parser.proofs.Answers.{fails_in_opening, fails_in_prints, fails_in_closing, fails_behind, whole}
 use Rattle.au_parser.proofs.parsing.file.Goals as goal
 
 pub returns-in_err-module : goal.returns-in_err-module
@@ -23,17 +20,15 @@ returns-in_err-success c =
     rw (p.1, p.2) (fails_in_closing c.in_err-success.field-0.0 (whats c.args.tokens.now) (whats c.in_ok-module.rest.now) (whats c.in_ok-prints.rest.now)
     c.in_ok-module.module c.in_ok-prints.prints c.in_ok-module.ensures c.in_ok-prints.ensures c.in_err-success.ensures)
 
-pub returns-then-not-is_empty : goal.returns-then-not-is_empty
-returns-then-not-is_empty c =
-    let some : length c.in_ok-success.rest.now == 0 ≡ false = sym c.is_empty.ensures ∙ c.if-not-is_empty.true in
-    subst (λ e. StopsInFile e (whats c.args.tokens.now)) (sym c.stop_before.ensures)
-    (fails_behind (whats c.args.tokens.now) (whats c.in_ok-module.rest.now) (whats c.in_ok-prints.rest.now) (whats c.in_ok-success.rest.now)
+pub returns-in_err-no_more : goal.returns-in_err-no_more
+returns-in_err-no_more c =
+    let p = err_from_is_err_and c.from_residual-in_err-no_more.result c.from_residual-in_err-no_more.ensures.1 in
+    rw (p.1, p.2) (fails_behind c.in_err-no_more.field-0.0 (whats c.args.tokens.now) (whats c.in_ok-module.rest.now) (whats c.in_ok-prints.rest.now) (whats c.in_ok-success.rest.now)
     c.in_ok-module.module c.in_ok-prints.prints c.in_ok-success.success
-    c.in_ok-module.ensures c.in_ok-prints.ensures c.in_ok-success.ensures (some_whats c.in_ok-success.rest.now some))
+    c.in_ok-module.ensures c.in_ok-prints.ensures c.in_ok-success.ensures c.in_err-no_more.ensures)
 
 pub returns : goal.returns
 returns c =
-    let none : length c.in_ok-success.rest.now == 0 ≡ true = sym c.is_empty.ensures ∙ c.if-not-is_empty.false in
     whole (whats c.args.tokens.now) (whats c.in_ok-module.rest.now) (whats c.in_ok-prints.rest.now) (whats c.in_ok-success.rest.now)
     c.in_ok-module.module c.in_ok-prints.prints c.in_ok-success.success
-    c.in_ok-module.ensures c.in_ok-prints.ensures c.in_ok-success.ensures (no_whats c.in_ok-success.rest.now none)
+    c.in_ok-module.ensures c.in_ok-prints.ensures c.in_ok-success.ensures c.in_ok-no_more.ensures
