@@ -1,7 +1,6 @@
 //! The tokens of a whole file.
 
 ghost use Rattle.std.specs.Prelude.{◌≡◌, ◌+◌, ◌^◌, ◌<◌, ◌++◌, length, Err, IfOk, OnOk, IsOkUnless};
-ghost use Rattle.au_base.specs.Limits.{most_name_bytes};
 ghost use Rattle.au_lexer.specs.Cut.{Cut, IsWithinLimits, IsStray, IsLater, HasLongName, Lexed, Lexes, token_at};
 ghost use Rattle.au_lexer.specs.Faults.{fault_of, name_limit, Answers};
 ghost use Rattle.au_lexer.specs.declared.lexing.LexFault.TheVariants as fault;

@@ -1,7 +1,6 @@
 //! Texts in quotes.
 
-ghost use Rattle.std.specs.Prelude.{◌≡◌, ◌+◌, ◌≤◌, false, length, IfOk, IfSome};
-ghost use Rattle.std.specs.Option.{option_map};
+ghost use Rattle.std.specs.Prelude.{◌≡◌, ◌≤◌, false, length, IfOk, IfSome};
 ghost use Rattle.au_lexer.specs.Reading as read;
 
 use au_base::{Memory, Text};
