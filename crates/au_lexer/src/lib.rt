@@ -7,6 +7,8 @@ mod lexing;
 mod pieces;
 mod spellings;
 mod strings;
+#[cfg(test)]
+mod tests;
 
 pub use au_base::{Keyword, Sign, Token, What};
 pub use lexing::{LexFault, lex};
