@@ -43,7 +43,8 @@ impl<T: Drop> From<AllocFailed<T>> for LexFault {
     }
 }
 
-/// The tokens of a file with that number, in order, each with its place.
+/// The tokens of a file, in order, each with its place. `file` is the number that the places name the
+/// file by. The file has fewer than 2^32 - 1 bytes, so that each line and column has a number.
 pub fn lex(alloc: Global, file: u16, bytes: &[u8]) -> Result<Vec<Token>, LexFault>
     requires { length bytes.now + 1 < 2 ^ 32 }
     // Ok: the file is cut into these tokens, and no name among them is too long.

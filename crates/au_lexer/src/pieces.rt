@@ -1,4 +1,4 @@
-//! The piece at the front of bytes.
+//! The piece at the front of bytes: a blank, a comment or a token.
 
 ghost use Rattle.std.specs.Prelude.{◌≡◌, ◌<◌, length, not, false};
 ghost use Rattle.std.specs.List.{prefix_len};
