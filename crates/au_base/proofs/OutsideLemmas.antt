@@ -1,6 +1,5 @@
 -- What several calls of a sink add, one after another.
 use Rattle.std.proofs.Common.{◌≡◌, ◌≤◌, ◌+◌, ◌-◌, ℕ, List, [], ◌++◌, length, take, drop, Option, Some, None, ap, ◌∙◌, sym, refl, append_assoc, arith, length-drop}
-use Rattle.std.specs.Option.{option_map}
 use Rattle.std.proofs.lemmas.List.{append-nil, take-append-drop, take_all, length-take-le}
 use Rattle.std.proofs.Math.Seq.{take-append-add}
 use Rattle.au_base.specs.Outside.{Adds, written_more}

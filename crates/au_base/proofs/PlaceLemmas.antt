@@ -1,9 +1,8 @@
 -- How a place moves on by one byte.
-use Rattle.std.proofs.Common.{◌≡◌, ◌≢◌, ℕ, ◌+◌, ◌<◌, List, [], ◌∷◌, ◌++◌, Bool, not, true, false, ◌==◌, cond, ap, ◌∙◌, sym, refl, arith, get_or, take, length, append_assoc, eq-eqb}
+use Rattle.std.proofs.Common.{◌≡◌, ℕ, ◌+◌, ◌<◌, List, [], ◌∷◌, ◌++◌, Bool, not, true, false, cond, ap, ◌∙◌, sym, arith, get_or, take, length, append_assoc}
 use Rattle.std.specs.List.{suffix_len, prefix_len, count_by}
 use Rattle.std.proofs.lemmas.List.{reverse-append, take_more}
 use Rattle.std.proofs.lemmas.List.Sums.{sum_by_push}
-use Rattle.std.proofs.lemmas.Bool.Decides.{nat_tests}
 use Rattle.au_base.specs.declared.places.Pos.{Pos}
 use Rattle.au_base.specs.Places.{place_after, is_newline}
 

@@ -1,3 +1,4 @@
+-- The limits, which the constants of the code repeat.
 use Rattle.std.specs.Prelude.{ℕ}
 
 -- the most bytes of a file

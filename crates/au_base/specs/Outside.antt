@@ -25,7 +25,8 @@ HasRisen old new = next_count old ≤ new
 abbrev pub IsQuiet : ℕ → ℕ → Type 0
 IsQuiet old new = (new ≡ old) × (old < last_count)
 
--- what one call does to a count: where it `counts` the count rises, and else it stays
+-- What one call does to a count: where the call counts, the count rises, and else it stays. How far
+-- it rises is left open, as an object may try again before it answers.
 abbrev pub Counts : Bool → ℕ → ℕ → Type 0
 Counts counts old new = (old ≤ new) × MatchBool counts (HasRisen old new) (new ≡ old)
 
@@ -33,6 +34,7 @@ Counts counts old new = (old ≤ new) × MatchBool counts (HasRisen old new) (ne
 abbrev pub Files : Type 0
 Files = List ℕ → Option (List ℕ)
 
+-- whether `fetch` failed
 abbrev pub is_fault : Fetch → Bool
 is_fault fetch.Failed = true
 is_fault fetch.Whole = false
@@ -40,6 +42,7 @@ is_fault fetch.Missing = false
 is_fault fetch.TooLarge = false
 is_fault fetch.Memory = false
 
+-- whether `fetch` found no file
 abbrev pub is_miss : Fetch → Bool
 is_miss fetch.Missing = true
 is_miss fetch.Whole = false
@@ -47,7 +50,8 @@ is_miss fetch.Failed = false
 is_miss fetch.TooLarge = false
 is_miss fetch.Memory = false
 
--- what an answer of `fetch` says of the bytes in the room
+-- what an answer of `fetch` says of the bytes in the room: a whole file is within the limit, the front
+-- of one that is too large is one byte above it, and else the room is empty
 abbrev pub FillsRoom : Fetch → List ℕ → Type 0
 FillsRoom fetch.Whole room = length room ≤ most_file_bytes
 FillsRoom fetch.TooLarge room = length room ≡ most_file_bytes + 1
@@ -55,7 +59,8 @@ FillsRoom fetch.Missing room = room ≡ []
 FillsRoom fetch.Failed room = room ≡ []
 FillsRoom fetch.Memory room = room ≡ []
 
--- what an answer of `fetch` says of the file that the shelf tells
+-- what an answer of `fetch` says of the file that the shelf tells: the room holds all of it, or a
+-- front of it, or there is none
 abbrev pub TellsFile : Fetch → Option (List ℕ) → List ℕ → Type 0
 TellsFile fetch.Whole file room = file ≡ Some room
 TellsFile fetch.TooLarge file room = (rest : List ℕ) × (file ≡ Some (room ++ rest))
@@ -63,6 +68,7 @@ TellsFile fetch.Missing file room = file ≡ None
 TellsFile fetch.Failed file room = Unit {0}
 TellsFile fetch.Memory file room = Unit {0}
 
+-- whether `next` failed
 abbrev pub is_failed_next : Next → Bool
 is_failed_next (next.Byte b) = false
 is_failed_next next.End = false
@@ -74,6 +80,7 @@ TakesByte (next.Byte b) old new = old ≡ option_map (λ rest. b ∷ rest) new
 TakesByte next.End old new = (new ≡ old) × IfSome old (λ left. left ≡ [])
 TakesByte next.Failed old new = new ≡ old
 
+-- whether `put` failed
 abbrev pub is_failed_put : Put → Bool
 is_failed_put (put.Took n) = false
 is_failed_put put.Failed = true
@@ -92,10 +99,10 @@ TakesPart put.Failed piece = Unit {0}
 abbrev pub written_more : Option (List ℕ) → List ℕ → Option (List ℕ)
 written_more written piece = option_map (λ bytes. bytes ++ piece) written
 
--- What a call has added to the bytes written, where they are told.
+-- A call has added a piece to the bytes written, where they are told.
 abbrev pub Adds : Option (List ℕ) → Option (List ℕ) → List ℕ → Type 0
 Adds old new piece = new ≡ written_more old piece
 
--- What a call that failed has added: some front of the piece.
+-- A call that failed has added some front of a piece, maybe none of it.
 abbrev pub AddsFront : Option (List ℕ) → Option (List ℕ) → List ℕ → Type 0
 AddsFront old new piece = (size : ℕ) × Adds old new (take size piece)

@@ -1,3 +1,4 @@
+-- Places in a file.
 use Rattle.std.specs.Prelude.{ℕ, ◌+◌, ◌==◌, Bool, not, List, count_by}
 use Rattle.std.specs.List.{suffix_len}
 use Rattle.au_base.specs.declared.places.Pos.{Pos}

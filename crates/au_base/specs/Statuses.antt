@@ -1,3 +1,4 @@
+-- The numbers of the statuses.
 use Rattle.std.specs.Prelude.{ℕ}
 use Rattle.au_base.specs.declared.statuses.Status.{Status}
 use Rattle.au_base.specs.declared.statuses.Status.TheVariants.{Success, Failure, Refused, Abort, Steps, ReadFault, WriteFault, Memory, Limit, Missing, Words}

@@ -1,5 +1,5 @@
 -- What the objects in memory hold, seen without their memory.
-use Rattle.std.specs.Prelude.{ℕ, List, [], ◌∷◌, ◌+◌, ◌-◌, Bool, ◌==◌, ◌||◌, not, Vec, String, Option, Some, None, length, if◌then◌else◌, nat_lt, min}
+use Rattle.std.specs.Prelude.{ℕ, List, [], ◌∷◌, ◌-◌, Bool, ◌==◌, ◌||◌, not, Vec, String, Option, Some, None, length, if◌then◌else◌, nat_lt, min}
 use Rattle.std.specs.Global.{Global}
 use Rattle.std.specs.List.{list_any}
 use Rattle.std.specs.String.{string_bytes}
@@ -12,6 +12,7 @@ use Rattle.au_base.specs.Outside.{next_count}
 abbrev pub NamedFile : Type 0
 NamedFile = List ℕ × List ℕ
 
+-- a file as a shelf keeps it, seen without its memory
 abbrev pub file_of : String Global × Vec ℕ Global → NamedFile
 file_of file = (string_bytes file.0, file.1.items)
 
@@ -20,12 +21,13 @@ abbrev pub file_in : List NamedFile → List ℕ → Option (List ℕ)
 file_in [] name = None
 file_in (file ∷ files) name = if bytes_eq file.0 name then Some file.1 else file_in files name
 
--- a shelf that never fails
+-- a shelf that never fails: its files in order, and how often no file had the name
 pub record ShelfContents : Type 0 where
   pub files : List NamedFile
   pub misses : ℕ
 
--- a sink with room: how many calls there were, and which calls are to fail, counted from 1
+-- A sink in memory: how many bytes it has room for, what was written, how many calls there were,
+-- which calls are to fail, counted from 1, and how many failed.
 pub record SinkContents : Type 0 where
   pub room : ℕ
   pub written : List ℕ
@@ -37,6 +39,6 @@ pub record SinkContents : Type 0 where
 abbrev pub sink_fails : SinkContents → Bool
 sink_fails sink = list_any (λ call. call == next_count sink.calls) sink.fails || not (nat_lt (length sink.written) sink.room)
 
--- what the next call answers for a piece
+-- what the next call answers for a piece: it takes all that there is room for
 abbrev pub sink_answer : SinkContents → List ℕ → Put
 sink_answer sink piece = if sink_fails sink then Failed else Took (min (length piece) (sink.room - length sink.written))

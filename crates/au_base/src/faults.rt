@@ -1,3 +1,5 @@
+//! Running out of memory.
+
 use std::alloc::{AllocError, AllocFailed};
 use thiserror::Error;
 

@@ -1,3 +1,5 @@
+//! What is counted, and how much of it there may be.
+
 /// What a limit counts.
 #[derive(Clone, Copy, Debug, PartialEq, Eq)]
 pub enum LimitKind {
@@ -11,8 +13,11 @@ pub enum LimitKind {
 /// For a file's bytes the count is always one more than the most.
 #[derive(Clone, Copy, Debug, PartialEq, Eq)]
 pub struct Limit {
+    /// What is counted.
     pub kind: LimitKind,
+    /// The count that passes the limit.
     pub count: u64,
+    /// The most that the limit allows.
     pub most: u64,
 }
 

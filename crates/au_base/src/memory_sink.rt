@@ -2,7 +2,7 @@
 
 ghost use Rattle.std.specs.Prelude.{◌≡◌, ◌++◌, [], take, IfOk, if◌then◌else◌};
 ghost use Rattle.au_base.specs.Outside.{next_count, taken, is_failed_put, TakesPart, Counts};
-ghost use Rattle.au_base.specs.Stored.{SinkContents, sink_answer};
+ghost use Rattle.au_base.specs.Stored.{sink_answer};
 
 use crate::faults::Memory;
 use crate::outside::{Put, Sink};
@@ -20,7 +20,7 @@ pub struct MemorySink {
 }
 
 impl Model for MemorySink {
-    ghost use Rattle.std.specs.Prelude.{◌≡◌, ℕ, List, ◌≤◌, vec_len, vec_capacity};
+    ghost use Rattle.std.specs.Prelude.{◌≤◌, vec_len, vec_capacity};
     ghost use Rattle.au_base.specs.Stored.{SinkContents};
 
     ghost Value = { SinkContents };

@@ -1,7 +1,8 @@
 //! The outside of the program, as traits: where files come from, where input comes from, and where
-//! output goes. Each object counts its faults, and tells its contents where it can.
+//! output goes. Contracts see how often a call of an object failed, and what the object holds where
+//! it can tell: an object in memory tells it, and one of the operating system doesn't.
 
-ghost use Rattle.std.specs.Prelude.{◌≡◌, ℕ, ◌+◌, ◌<◌, ◌≤◌, List, [], ◌++◌, length, take, vec_len, Option, IfSome, false};
+ghost use Rattle.std.specs.Prelude.{◌≡◌, ℕ, List, take, vec_len, Option, IfSome};
 ghost use Rattle.au_base.specs.Outside.{Files, Counts, is_fault, is_miss, FillsRoom, TellsFile, is_failed_next, TakesByte, is_failed_put, TakesPart, taken, Adds};
 
 /// What `fetch` answers.

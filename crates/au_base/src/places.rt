@@ -1,10 +1,15 @@
+//! Places in files.
+
 ghost use Rattle.std.specs.Prelude.{◌≡◌, ℕ, ◌+◌, ◌^◌, ◌<◌, ◌≤◌, List, [], ◌∷◌, ◌++◌, length};
 
 /// A place in a file. Lines and columns are counted from 1, and a column counts bytes.
 #[derive(Clone, Copy, Debug, PartialEq, Eq)]
 pub struct Pos {
+    /// The number of the file.
     pub file: u16,
+    /// The line.
     pub line: u32,
+    /// The column.
     pub column: u32,
 }
 
@@ -22,12 +27,16 @@ impl Pos {
         }
     }
 
-    /// The place behind bytes that begin at this place.
+    /// The place behind bytes that begin at this place. Only a newline ends a line: a tab and a
+    /// carriage return are bytes of their line like others.
     pub fn after(self, bytes: &[u8]) -> Pos
         requires lines { self.line + length bytes.now < 2 ^ 32 }
         requires columns { self.column + length bytes.now < 2 ^ 32 }
-        ensures { (file : ℕ) (front : List ℕ) → self ≡ place_after file front
+        ensures place { (file : ℕ) (front : List ℕ) → self ≡ place_after file front
             → result ≡ place_after file (front ++ bytes.now) }
+        ensures file { result.file ≡ self.file }
+        ensures line { result.line ≤ self.line + length bytes.now }
+        ensures column { result.column ≤ self.column + length bytes.now }
     {
         let mut at = self;
         for byte in bytes {
@@ -40,6 +49,7 @@ impl Pos {
     fn past(self, byte: u8) -> Pos
         requires line { self.line + 1 < 2 ^ 32 }
         requires column { self.column + 1 < 2 ^ 32 }
+        ensures file { result.file ≡ self.file }
         ensures line { result.line ≤ self.line + 1 }
         ensures column { result.column ≤ self.column + 1 }
         ensures place { (file : ℕ) (front : List ℕ) → self ≡ place_after file front

@@ -1,10 +1,13 @@
-ghost use Rattle.std.specs.Prelude.{◌≡◌, ◌<◌, ◌++◌, ◌∷◌, [], length, slice_get, IfOk, OnOk, OnErr, IsTrue, Some, ◌↔◌};
+//! Lists of items.
+
+ghost use Rattle.std.specs.Prelude.{◌≡◌, ◌<◌, ◌++◌, ◌∷◌, [], length, slice_get, OnOk, OnErr, IsTrue, Some, ◌↔◌};
 
 use crate::faults::Memory;
 use std::alloc::Global;
 use std::marker::Model;
 
-/// A list of items that contracts see as a list: no place in memory, no capacity.
+/// A vector that contracts see as the list of its items, so that two with the same items are equal:
+/// where it lies in memory and what capacity it has doesn't count.
 #[derive(Drop)]
 pub struct Sequence<T> {
     items: Vec<T>,

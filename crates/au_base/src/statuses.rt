@@ -1,18 +1,31 @@
+//! How the program ends.
+
 ghost use Rattle.std.specs.Prelude.{◌≡◌};
 
 /// How a call of the program ended.
 #[derive(Clone, Copy, Debug, PartialEq, Eq)]
 pub enum Status {
+    /// It did what was asked, and a program that it ran ended with success.
     Success,
+    /// A program that it ran ended with failure.
     Failure,
+    /// The files are no program.
     Refused,
+    /// A program that it ran was aborted.
     Abort,
+    /// A program that it ran made all the steps that it was given.
     Steps,
+    /// A file or the input couldn't be read.
     ReadFault,
+    /// The output couldn't be written.
     WriteFault,
+    /// Memory ran out.
     Memory,
+    /// A limit was passed.
     Limit,
+    /// A file isn't there.
     Missing,
+    /// The words of the command line ask for nothing that there is.
     Words,
 }
 

@@ -1,8 +1,8 @@
 //! Shelves and sources in memory that never fail.
 
-ghost use Rattle.std.specs.Prelude.{◌≡◌, ◌≢◌, ℕ, ◌+◌, ◌<◌, ◌≤◌, List, [], ◌++◌, length, take, map, vec_len, IfSome, Option, Some};
-ghost use Rattle.std.specs.Option.{option_map, option_copied};
-ghost use Rattle.au_base.specs.Outside.{Files, Counts, is_fault, is_miss, FillsRoom, TellsFile, is_failed_next, TakesByte};
+ghost use Rattle.std.specs.Prelude.{◌≡◌, ◌≢◌, ◌↔◌, map, vec_len, IsTrue, IsNone, Some, if◌then◌else◌};
+ghost use Rattle.std.specs.Option.{option_copied};
+ghost use Rattle.au_base.specs.Outside.{next_count, Counts, is_miss, FillsRoom, TellsFile, TakesByte};
 ghost use Rattle.au_base.specs.Stored.{file_of, file_in};
 
 use crate::limits::MOST_FILE_BYTES;
@@ -26,7 +26,7 @@ impl Model for SureShelf {
 }
 
 impl SureShelf {
-    /// A shelf of these files that was asked for none yet.
+    /// A shelf of these files, each with its name, that was asked for none yet.
     pub fn new(files: Vec<(String, Vec<u8>)>) -> SureShelf
         ensures files { result.files ≡ map file_of files.items }
         ensures misses { result.misses ≡ 0 }
@@ -48,7 +48,10 @@ impl Shelf for SureShelf {
         ensures file { TellsFile result (file_in self.old.files name.now) room.new.items }
         ensures files { self.new.files ≡ self.old.files }
         ensures sure { result ≢ Fetch.Failed }
+        ensures missing { IsTrue (is_miss result) ↔ IsNone (file_in self.old.files name.now) }
         ensures misses { Counts (is_miss result) self.old.misses self.new.misses }
+        ensures counted { self.new.misses
+            ≡ (if is_miss result then next_count self.old.misses else self.old.misses) }
     {
         match find(&self.files, name) {
             Some(bytes) => fill(room, bytes),
@@ -73,7 +76,7 @@ fn find<'a>(files: &'a [(String, Vec<u8>)], name: &str) -> Option<&'a [u8]>
 }
 
 /// Fills an empty room with a file's bytes, or with its front where it is too large.
-pub(crate) fn fill(room: &mut Vec<u8>, bytes: &[u8]) -> Fetch
+fn fill(room: &mut Vec<u8>, bytes: &[u8]) -> Fetch
     requires { vec_len room.old ≡ 0 }
     ensures room { FillsRoom result room.new.items }
     ensures file { TellsFile result (Some bytes.now) room.new.items }

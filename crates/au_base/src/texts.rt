@@ -1,10 +1,13 @@
-ghost use Rattle.std.specs.Prelude.{◌≡◌, ◌==◌, ◌++◌, ◌∷◌, [], length, IfOk, OnOk, OnErr, IsTrue, ◌↔◌};
+//! Texts, which are bytes.
+
+ghost use Rattle.std.specs.Prelude.{◌≡◌, ◌++◌, ◌∷◌, [], length, IfOk, OnOk, OnErr, IsTrue, ◌↔◌};
 
 use crate::faults::Memory;
 use std::alloc::Global;
 use std::marker::Model;
 
-/// Bytes that contracts see as a list of numbers: no place in memory, no capacity.
+/// Bytes that contracts see as a list of numbers, so that two texts of the same bytes are equal:
+/// where a text lies in memory and what capacity it has doesn't count.
 #[derive(Debug, Drop)]
 pub struct Text {
     bytes: Vec<u8>,

@@ -302,6 +302,8 @@ pub enum What {
 /// A token, and the place of its first byte.
 #[derive(Debug, Drop)]
 pub struct Token {
+    /// What it is.
     pub what: What,
+    /// The place of its first byte.
     pub at: Pos,
 }

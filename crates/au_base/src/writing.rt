@@ -1,6 +1,6 @@
 //! Writing whole pieces to a sink.
 
-ghost use Rattle.std.specs.Prelude.{◌≡◌, OnOk, OnErr};
+ghost use Rattle.std.specs.Prelude.{◌≡◌, [], IsOk, OnOk, OnErr};
 ghost use Rattle.au_base.specs.Outside.{HasRisen, Adds, AddsFront};
 
 use crate::outside::{Put, Sink};
@@ -18,6 +18,7 @@ pub fn put_all<O: Sink>(sink: &mut O, bytes: &[u8]) -> Result<(), WriteFault>
     ensures quiet { OnOk result (O.faults sink.new ≡ O.faults sink.old) }
     ensures front { OnErr result (AddsFront (O.written sink.old) (O.written sink.new) bytes.now) }
     ensures risen { OnErr result (HasRisen (O.faults sink.old) (O.faults sink.new)) }
+    ensures nothing { bytes.now ≡ [] → IsOk result × (sink.new ≡ sink.old) }
 {
     let mut done = 0;
     while done < bytes.len() {

@@ -1,6 +1,6 @@
 -- How far a file is cut.
-use Rattle.std.proofs.Common.{◌≡◌, ◌≢◌, ℕ, ◌+◌, ◌<◌, ◌≤◌, Bool, true, false, not, IsTrue, List, [], ◌∷◌, ◌++◌, length, take, drop, Option, Some, None, Err, ap, ◌∙◌, sym, refl, subst, arith, append_assoc, length-append, length-drop}
-use Rattle.std.specs.List.{list_all, flat_map, count_by, suffix_len}
+use Rattle.std.proofs.Common.{◌≡◌, ℕ, ◌+◌, ◌<◌, ◌≤◌, true, not, IsTrue, List, [], ◌∷◌, ◌++◌, length, take, drop, Option, Some, None, Err, ap, ◌∙◌, sym, refl, subst, arith, append_assoc, length-append, length-drop}
+use Rattle.std.specs.List.{list_all, flat_map}
 use Rattle.std.proofs.lemmas.List.{append-nil, take_at, drop-drop}
 use Rattle.std.proofs.lemmas.Grind.{flat_map-append}
 use Rattle.std.proofs.lemmas.List.Folds.{list_all-append}
@@ -17,7 +17,7 @@ use Rattle.au_lexer.specs.declared.lexing.LexFault.TheVariants as fault
 use Rattle.au_lexer.specs.declared.pieces.Stop.{Stop}
 use Rattle.au_lexer.specs.declared.pieces.Stop.TheVariants.{Stray, Later, LongName, Memory}
 use Rattle.au_lexer.specs.Pieces.{Piece, blank, comment, token, spelling, what_of, IsPiece, IsWord}
-use Rattle.au_lexer.specs.Cut.{Begins, Stands, CutsFront, tokens_among, token_at, is_short, is_short_token, is_long, IsWithinLimits, StopsAt, HasLongName}
+use Rattle.au_lexer.specs.Cut.{Stands, CutsFront, tokens_among, token_at, is_short, is_short_token, is_long, IsWithinLimits, StopsAt, HasLongName}
 use Rattle.au_lexer.specs.Faults.{fault_of, name_limit}
 use Rattle.au_lexer.specs.Reading.{IsLongest, FindsPiece}
 use Rattle.au_lexer.proofs.WordLemmas.{keyword_word}

@@ -1,7 +1,6 @@
 -- What stands at the front of bytes: the longest piece that begins there.
-use Rattle.std.proofs.Common.{◌≡◌, ◌≢◌, ℕ, suc, ◌+◌, ◌<◌, ◌≤◌, Bool, true, false, not, cond, ◌==◌, ◌||◌, nat_eq, nat_lt, nat_le, List, [], ◌∷◌, ◌++◌, length, take, drop, Option, Some, None, Result, Ok, Err, ap, ◌∙◌, sym, refl, subst, ◌⊎◌, inl, inr, arith, append_assoc, length-append}
-use Rattle.std.specs.List.{list_all, flat_map, prefix_len, starts_with}
-use Rattle.std.specs.Option.{option_map}
+use Rattle.std.proofs.Common.{◌≡◌, ℕ, suc, ◌+◌, ◌<◌, ◌≤◌, Bool, true, false, not, cond, ◌==◌, ◌||◌, nat_eq, List, [], ◌∷◌, ◌++◌, length, take, drop, Option, Some, None, Result, Ok, Err, ap, ◌∙◌, sym, refl, subst, ◌⊎◌, inl, inr, arith, append_assoc, length-append}
+use Rattle.std.specs.List.{list_all, prefix_len, starts_with}
 use Rattle.std.proofs.Math.Seq.{take-append-add}
 use Rattle.std.proofs.lemmas.List.{append-nil, take-append-drop, length-take-le}
 use Rattle.std.proofs.lemmas.Bool.{and_left, or_from, or_left, or_parts, both_ways, ne_eqb, eqb-false, eqb-true, cases_eq, cases_Bool, and_from, or_cases}
@@ -13,12 +12,12 @@ use Rattle.au_base.specs.declared.tokens.What.TheVariants.{Word, Sign, Name, Tex
 use Rattle.au_base.specs.Places.{is_newline}
 use Rattle.au_base.specs.Tokens.{keyword_spelling, sign_spelling}
 use Rattle.au_lexer.specs.Bytes.{is_space, is_letter, is_digit, is_name_byte, is_text_byte}
-use Rattle.au_lexer.specs.Pieces.{Piece, blank, comment, token, spelling, IsPiece, IsWord, what_of}
-use Rattle.au_lexer.specs.Cut.{Begins, Stands, three_quotes, IsText, is_later}
+use Rattle.au_lexer.specs.Pieces.{Piece, blank, comment, token, spelling, IsWord, what_of}
+use Rattle.au_lexer.specs.Cut.{Begins, Stands, three_quotes, is_later}
 use Rattle.au_lexer.specs.declared.pieces.Found.{Found}
 use Rattle.au_lexer.specs.declared.pieces.Stop.{Stop}
 use Rattle.au_lexer.specs.declared.pieces.Stop.TheVariants.{Stray, Later, LongName, Memory}
-use Rattle.au_lexer.specs.Reading.{Reads, FindsPiece, IsLongest, Front, piece, later, stray, front, front_from, word_front, word_what, word_at, text_front, text_at, sign_front, sign_of, keyword_of, is_comment, comment_size, token_front}
+use Rattle.au_lexer.specs.Reading.{Reads, FindsPiece, IsLongest, Front, piece, later, stray, front, front_from, word_front, word_what, word_at, text_front, text_at, sign_front, sign_of, keyword_of, is_comment, comment_size}
 use Rattle.au_lexer.proofs.RunLemmas.{chosen, when_true, when_false, prefix_pass, prefix_all, prefix_within}
 use Rattle.au_lexer.proofs.WordLemmas.{keyword_found, keyword_none, keyword_again, keyword_word}
 use Rattle.au_lexer.proofs.StringLemmas.{text_again, text_found, written}

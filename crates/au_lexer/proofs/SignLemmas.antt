@@ -1,5 +1,5 @@
 -- Signs.
-use Rattle.std.proofs.Common.{◌≡◌, ◌≢◌, ℕ, ◌<◌, ◌≤◌, Bool, true, false, not, cond, ◌&&◌, ◌||◌, nat_eq, nat_le, List, [], ◌∷◌, ◌++◌, length, take, drop, Option, Some, None, ap, ◌∙◌, sym, refl, subst, ◌⊎◌, inl, inr, arith}
+use Rattle.std.proofs.Common.{◌≡◌, ℕ, ◌<◌, ◌≤◌, Bool, true, false, not, ◌&&◌, ◌||◌, nat_eq, nat_le, List, [], ◌∷◌, ◌++◌, length, take, drop, Option, Some, ap, ◌∙◌, sym, refl, subst, ◌⊎◌, inl, inr, arith}
 use Rattle.std.specs.List.{list_all, starts_with}
 use Rattle.std.specs.Cmp.Lexicographic.{pointwise}
 use Rattle.std.proofs.lemmas.Bool.{and_parts, leb-true, cases_lt, or_cases, both_ways, not-true}
@@ -11,7 +11,7 @@ use Rattle.au_base.specs.declared.tokens.Sign.TheVariants.{Assign, FatArrow, Arr
 use Rattle.au_base.specs.Tokens.{signs, sign_spelling}
 use Rattle.au_lexer.specs.Bytes.{is_space, is_letter, is_digit}
 use Rattle.au_lexer.specs.Reading.{first_begun, sign_of}
-use Rattle.au_lexer.proofs.RunLemmas.{chosen, when_true, when_false}
+use Rattle.au_lexer.proofs.RunLemmas.{chosen, when_true}
 
 -- bytes that begin with a spelling
 pub begun : (bytes spelled : List ℕ) → starts_with nat_eq bytes spelled ≡ true → bytes ≡ spelled ++ drop (length spelled) bytes

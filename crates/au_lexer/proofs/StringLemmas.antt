@@ -1,13 +1,13 @@
 -- Texts in quotes: what is read is spelled so, and what is spelled so is read.
-use Rattle.std.proofs.Common.{◌≡◌, ◌≢◌, ℕ, ◌+◌, ◌<◌, ◌≤◌, Bool, true, false, not, cond, ◌==◌, ◌||◌, nat_lt, nat_le, List, [], ◌∷◌, ◌++◌, length, Option, Some, None, ap, ◌∙◌, sym, refl, subst, ◌⊎◌, inl, inr, arith, append_assoc, length-append, codes}
+use Rattle.std.proofs.Common.{◌≡◌, ℕ, ◌+◌, ◌≤◌, true, false, ◌==◌, nat_lt, List, [], ◌∷◌, ◌++◌, length, Option, Some, None, ap, ◌∙◌, sym, refl, subst, inl, inr, arith, append_assoc, length-append}
 use Rattle.std.specs.List.{list_all, flat_map}
 use Rattle.std.specs.Option.{option_map}
-use Rattle.std.proofs.lemmas.Bool.{and_parts, and_from, eqb-true, eqb-false, ltb-false, le-leb, or_left, ne_eqb, or_cases, leb-true, le-ltb, cases_Bool}
+use Rattle.std.proofs.lemmas.Bool.{and_parts, and_from, eqb-true, ltb-false, ne_eqb, cases_Bool}
 use Rattle.std.proofs.lemmas.Bool.Decides.{nat_tests}
 use Rattle.au_lexer.specs.Bytes.{is_text_byte}
 use Rattle.au_lexer.specs.Pieces.{byte_spelling}
 use Rattle.au_lexer.specs.Reading.{escaped, with_byte, with_escape, text_at}
-use Rattle.au_lexer.proofs.RunLemmas.{chosen, when_true, when_false}
+use Rattle.au_lexer.proofs.RunLemmas.{chosen, when_false}
 
 -- how a text is written between its quotes
 abbrev pub written : List ℕ → List ℕ

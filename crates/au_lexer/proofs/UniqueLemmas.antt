@@ -1,5 +1,5 @@
 -- A file is cut in one way.
-use Rattle.std.proofs.Common.{◌≡◌, ◌≢◌, ℕ, ◌+◌, ◌<◌, ◌≤◌, Bool, true, false, not, IsTrue, List, [], ◌∷◌, ◌++◌, length, take, drop, Option, Some, None, Result, Ok, Err, Vec, IfOk, ap, ◌∙◌, sym, refl, subst, arith, ◌⊎◌, inl, inr, length-append}
+use Rattle.std.proofs.Common.{◌≡◌, ◌≢◌, ℕ, ◌<◌, Bool, true, false, not, List, [], ◌∷◌, ◌++◌, length, take, drop, Option, Some, None, Result, Ok, Err, Vec, IfOk, ap, ◌∙◌, sym, refl, subst, arith, inl, inr, length-append}
 use Rattle.std.specs.Global.{Global}
 use Rattle.std.specs.List.{list_all, flat_map}
 use Rattle.std.proofs.lemmas.Bool.{and_parts, and_from, both_ways, lt-ltb, not-true}
@@ -12,7 +12,7 @@ use Rattle.au_lexer.specs.declared.lexing.LexFault.TheVariants as fault
 use Rattle.au_base.specs.declared.places.Pos.{Pos}
 use Rattle.au_base.specs.declared.tokens.Token.{Token}
 use Rattle.au_base.specs.declared.tokens.What.{What}
-use Rattle.au_base.specs.declared.tokens.What.TheVariants.{Word, Sign, Name, Text}
+use Rattle.au_base.specs.declared.tokens.What.TheVariants.{Name}
 use Rattle.au_base.specs.Limits.{most_name_bytes}
 use Rattle.au_base.specs.Places.{place_after}
 use Rattle.au_lexer.specs.Pieces.{Piece, token, spelling, what_of}

@@ -1,12 +1,10 @@
 -- Keywords and names.
-use Rattle.std.proofs.Common.{◌≡◌, ◌≢◌, ℕ, Bool, true, false, cond, List, [], ◌∷◌, Option, Some, None, ap, ◌∙◌, sym, refl, subst, ◌⊎◌, inl, inr}
-use Rattle.std.specs.List.{list_all}
+use Rattle.std.proofs.Common.{◌≡◌, ◌≢◌, ℕ, List, [], ◌∷◌, Some, None, refl, subst, inl, inr}
 use Rattle.std.specs.Str.{bytes_eq}
 use Rattle.std.proofs.lemmas.Slice.Eq.{bytes_eq-Decides}
 use Rattle.au_base.specs.declared.tokens.Keyword.{Keyword}
 use Rattle.au_base.specs.declared.tokens.Keyword.TheVariants.{KwModule, KwBody, KwIs, KwEnd, KwImport, KwAs, KwPragma, KwConstant, KwType, KwRecord, KwUnion, KwCase, KwWhen, KwOf, KwDo, KwFunction, KwGeneric, KwTypeclass, KwInstance, KwMethod, KwLet, KwVar, KwIf, KwThen, KwElse, KwWhile, KwFor, KwFrom, KwTo, KwBorrow, KwIn, KwReturn, KwSkip, KwNil, KwTrue, KwFalse, KwAnd, KwOr, KwNot, KwFree, KwLinear, KwAnyUniverse, KwRegion}
 use Rattle.au_base.specs.Tokens.{keywords, keyword_spelling}
-use Rattle.au_lexer.specs.Bytes.{is_letter, is_name_byte}
 use Rattle.au_lexer.specs.Pieces.{IsWord}
 use Rattle.au_lexer.specs.Reading.{first_spelled, keyword_of}
 use Rattle.au_lexer.proofs.RunLemmas.{chosen}

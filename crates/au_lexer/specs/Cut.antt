@@ -14,6 +14,7 @@ use Rattle.au_lexer.specs.Pieces.{Piece, blank, comment, token, spelling, IsPiec
 abbrev pub three_quotes : List ℕ
 three_quotes = 34 ∷ 34 ∷ 34 ∷ []
 
+-- The piece is a text.
 abbrev pub IsText : Piece → Type 0
 IsText (blank byte) = ⊥
 IsText (comment bytes) = ⊥
@@ -22,7 +23,8 @@ IsText (token (Sign sign)) = ⊥
 IsText (token (Name name)) = ⊥
 IsText (token (Text text)) = Unit {0}
 
--- A piece can stand at the front of the bytes.
+-- A piece can stand at the front of the bytes: they begin with its spelling, and three quotes begin
+-- no text.
 pub record Begins (piece : Piece) (bytes : List ℕ) : Type 0 where
   pub known : IsPiece piece
   pub front : (rest : List ℕ) × (bytes ≡ spelling piece ++ rest)
@@ -50,7 +52,8 @@ tokens_among file front [] = []
 tokens_among file front (piece ∷ pieces) =
     token_at (place_after file front) (what_of piece) ++ tokens_among file (front ++ spelling piece) pieces
 
--- The bytes of a file are cut into these tokens.
+-- The bytes of a file are cut into these tokens: pieces stand one behind another from the first byte
+-- to the last, and the tokens are those among them.
 abbrev pub Cut : ℕ → List ℕ → List Token → Type 0
 Cut file bytes tokens =
     (pieces : List Piece) × CutsFront pieces bytes [] × (tokens ≡ tokens_among file [] pieces)
@@ -83,7 +86,7 @@ abbrev pub is_later : List ℕ → Bool
 is_later [] = false
 is_later (first ∷ rest) = is_digit first || starts_with nat_eq (first ∷ rest) three_quotes
 
--- The place is that of the first byte that begins no piece.
+-- The place is that of the first byte that begins no piece, and there is no digit and no three quotes.
 abbrev pub IsStray : ℕ → List ℕ → Pos → Type 0
 IsStray file bytes at =
     (rest : List ℕ) × StopsAt file bytes rest at × (rest ≢ []) × IsFalse (is_later rest) × ((piece : Piece) → Begins piece rest → ⊥)
@@ -109,6 +112,7 @@ pub data Lexed : Type 0 where
   later : Pos → Lexed
   long_name : Lexed
 
+-- The bytes of a file come to this outcome.
 abbrev pub Lexes : ℕ → List ℕ → Lexed → Type 0
 Lexes file bytes (tokens list) = Cut file bytes list × IsWithinLimits list
 Lexes file bytes (stray at) = IsStray file bytes at

@@ -15,6 +15,7 @@ use Rattle.au_lexer.specs.declared.lexing.LexFault.TheVariants as fault
 abbrev pub name_limit : Limit
 name_limit = record { kind = NameBytes; count = 65; most = 64 }
 
+-- the fault of a stop at a place
 abbrev pub fault_of : Stop → Pos → LexFault
 fault_of stop.Stray at = fault.Byte at
 fault_of stop.Later at = fault.NotYet at

@@ -1,5 +1,5 @@
 -- The pieces of a file, and how each is spelled.
-use Rattle.std.specs.Prelude.{◌≡◌, ◌≢◌, ℕ, Bool, not, IsTrue, ◌==◌, List, [], ◌∷◌, ◌++◌, Option, Some, None, if◌then◌else◌, codes}
+use Rattle.std.specs.Prelude.{◌≢◌, ℕ, not, IsTrue, ◌==◌, List, [], ◌∷◌, ◌++◌, Option, Some, None, if◌then◌else◌, codes}
 use Rattle.std.specs.List.{flat_map, list_all}
 use Rattle.au_base.specs.declared.tokens.Keyword.{Keyword}
 use Rattle.au_base.specs.declared.tokens.What.{What}

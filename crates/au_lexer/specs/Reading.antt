@@ -1,5 +1,5 @@
 -- What the reading functions of the lexer give, as functions of the bytes.
-use Rattle.std.specs.Prelude.{◌≡◌, ℕ, ◌+◌, ◌<◌, Bool, true, false, not, IsTrue, IsFalse, nat_eq, nat_lt, ◌==◌, List, [], ◌∷◌, ◌++◌, length, take, drop, Option, Some, None, MatchResult, Result, Ok, Err, if◌then◌else◌, ◌||◌, slice_index}
+use Rattle.std.specs.Prelude.{◌≡◌, ℕ, ◌+◌, ◌<◌, Bool, true, false, not, IsTrue, IsFalse, nat_eq, nat_lt, ◌==◌, List, [], ◌∷◌, length, take, drop, Option, Some, None, Result, Ok, Err, if◌then◌else◌, ◌||◌, slice_index}
 use Rattle.std.specs.List.{prefix_len, starts_with}
 use Rattle.std.specs.Option.{option_map}
 use Rattle.std.specs.Str.{bytes_eq}
@@ -56,6 +56,7 @@ escaped byte =
 abbrev pub with_byte : ℕ → Option (List ℕ × ℕ) → Option (List ℕ × ℕ)
 with_byte byte read = option_map (λ text. (byte ∷ text.0, text.1 + 1)) read
 
+-- a text read so far, and the byte that an escape before it means, if it means one
 abbrev pub with_escape : Option ℕ → Option (List ℕ × ℕ) → Option (List ℕ × ℕ)
 with_escape None read = None
 with_escape (Some byte) read = with_byte byte read
@@ -70,31 +71,38 @@ text_at false (byte ∷ bytes) =
     else (if nat_lt byte 32 then None
     else with_byte byte (text_at false bytes)))
 
+-- a token of so many bytes at the front
 abbrev pub token_front : ℕ → What → Front
 token_front size what = piece size (Some what)
 
+-- the front of bytes that begin with a quote, by the text that was read behind it
 abbrev pub text_front : Option (List ℕ × ℕ) → Front
 text_front None = stray
 text_front (Some text) = token_front (text.1 + 1) (Text text.0)
 
+-- the token that a word is, by the keyword that it is or is not
 abbrev pub word_what : List ℕ → Option Keyword → What
 word_what word None = Name word
 word_what word (Some keyword) = Word keyword
 
+-- the front of bytes that begin with a word
 abbrev pub word_front : List ℕ → Front
 word_front word = token_front (length word) (word_what word (keyword_of word))
 
--- the front of bytes that are a word
+-- the word that bytes begin with
 abbrev pub word_at : List ℕ → List ℕ
 word_at bytes = take (prefix_len is_name_byte bytes) bytes
 
+-- the front of bytes that begin with a sign or with none
 abbrev pub sign_front : Option SignOf → Front
 sign_front None = stray
 sign_front (Some sign) = token_front (length (sign_spelling sign)) (Sign sign)
 
+-- whether bytes begin with `--`
 abbrev pub is_comment : List ℕ → Bool
 is_comment bytes = starts_with nat_eq bytes (45 ∷ 45 ∷ [])
 
+-- how many bytes stand before the first newline
 abbrev pub comment_size : List ℕ → ℕ
 comment_size bytes = prefix_len (λ byte. not (is_newline byte)) bytes
 

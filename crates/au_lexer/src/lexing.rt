@@ -1,7 +1,6 @@
 //! The tokens of a whole file.
 
 ghost use Rattle.std.specs.Prelude.{◌≡◌, ◌+◌, ◌^◌, ◌<◌, ◌++◌, length, Err, IfOk, OnOk, IsOkUnless};
-ghost use Rattle.au_base.specs.Limits.{most_name_bytes};
 ghost use Rattle.au_lexer.specs.Cut.{Cut, IsWithinLimits, IsStray, IsLater, HasLongName, Lexed, Lexes, token_at};
 ghost use Rattle.au_lexer.specs.Faults.{fault_of, name_limit, Answers};
 ghost use Rattle.au_lexer.specs.declared.lexing.LexFault.TheVariants as fault;
@@ -44,7 +43,8 @@ impl<T: Drop> From<AllocFailed<T>> for LexFault {
     }
 }
 
-/// The tokens of a file with that number, in order, each with its place.
+/// The tokens of a file, in order, each with its place. `file` is the number that the places name the
+/// file by. The file has fewer than 2^32 - 1 bytes, so that each line and column has a number.
 pub fn lex(alloc: Global, file: u16, bytes: &[u8]) -> Result<Vec<Token>, LexFault>
     requires { length bytes.now + 1 < 2 ^ 32 }
     // Ok: the file is cut into these tokens, and no name among them is too long.

@@ -1,4 +1,9 @@
 //! From the bytes of a file to its tokens.
+//!
+//! A file is a row of pieces: blanks of one byte, comments from `--` to the end of their line, and
+//! tokens, which are keywords, signs, names and texts. Where several pieces could stand, the longest
+//! one does. `specs/Pieces.antt` says what the pieces are and `specs/Cut.antt` how a file is cut into
+//! them. `lex` answers that cut, and `laws` says that there is no other.
 #![tactic(auto)]
 
 mod bytes;
@@ -7,6 +12,8 @@ mod lexing;
 mod pieces;
 mod spellings;
 mod strings;
+#[cfg(test)]
+mod tests;
 
 pub use au_base::{Keyword, Sign, Token, What};
 pub use lexing::{LexFault, lex};

@@ -1,4 +1,4 @@
-//! The piece at the front of bytes.
+//! The piece at the front of bytes: a blank, a comment or a token.
 
 ghost use Rattle.std.specs.Prelude.{◌≡◌, ◌<◌, length, not, false};
 ghost use Rattle.std.specs.List.{prefix_len};
@@ -16,16 +16,22 @@ use std::alloc::Global;
 /// A piece: how many bytes it takes, and its token if it is one.
 #[derive(Drop)]
 pub struct Found {
+    /// How many bytes it takes, at least one.
     pub size: usize,
+    /// Its token: none for a blank and a comment.
     pub what: Option<What>,
 }
 
 /// Why there is no piece.
 #[derive(Clone, Copy)]
 pub enum Stop {
+    /// The bytes begin with no piece.
     Stray,
+    /// The bytes begin with something for which there is no token yet: a digit or three quotes.
     Later,
+    /// The bytes begin with a name that is too long.
     LongName,
+    /// No memory was found.
     Memory,
 }
 

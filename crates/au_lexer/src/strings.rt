@@ -1,7 +1,7 @@
-//! Texts in quotes.
+//! Texts in quotes. A text means its bytes from 32 up, those from 128 up among them, and the bytes of
+//! its escapes `\n`, `\r`, `\t`, `\"` and `\\`.
 
-ghost use Rattle.std.specs.Prelude.{◌≡◌, ◌+◌, ◌≤◌, false, length, IfOk, IfSome};
-ghost use Rattle.std.specs.Option.{option_map};
+ghost use Rattle.std.specs.Prelude.{◌≡◌, ◌≤◌, false, length, IfOk, IfSome};
 ghost use Rattle.au_lexer.specs.Reading as read;
 
 use au_base::{Memory, Text};

@@ -12,6 +12,11 @@ loop-done-preserved g c =
     let old = g.O.Sink.written c.args.sink.now in
     let between = g.O.Sink.written c.loop-done.sink in
     let new = g.O.Sink.written c.put.new.self in
-    let both = adds_both old between new (take i bytes) (take n (take (length bytes - i) (drop i bytes))) c.loop-done.invariant.2 c.in-Took.ensures.written in
+    let both = adds_both old between new (take i bytes) (take n (take (length bytes - i) (drop i bytes))) c.loop-done.invariant.written c.in-Took.ensures.written in
     let fits : i + n ≤ length bytes = omega (arith, c.in-Took.ensures.part.0, length_rest i bytes) in
-    (fits, c.in-Took.ensures.faults.1 ∙ c.loop-done.invariant.1, subst (Adds old new) (take_on i n bytes c.loop-done.invariant.0 (omega arith)) both)
+    record {
+      within = fits;
+      quiet = c.in-Took.ensures.faults.1 ∙ c.loop-done.invariant.quiet;
+      written = subst (Adds old new) (take_on i n bytes c.loop-done.invariant.within (omega arith)) both;
+      nothing = λ none. absurd (omega arith);
+    }

@@ -29,7 +29,7 @@ loop-done-preserved c =
     let what = c.in-Ok.field-0.what in
     let rest = take_rest bytes done in
     let longest = subst (λ r. IsLongest r size what) rest c.in-Ok.ensures.0 in
-    let place = c.after-at.ensures c.args.file (take done bytes) c.loop-done.invariant.place ∙ ap (λ r. place_after c.args.file (take done bytes ++ take size r)) rest in
+    let place = c.after-at.ensures.place c.args.file (take done bytes) c.loop-done.invariant.place ∙ ap (λ r. place_after c.args.file (take done bytes ++ take size r)) rest in
     subst (HasCut c.args.file bytes (done + size) c.after-at.result) (sym c.in_ok-add_token-in-Ok.ensures.ok) (has_more c.args.file bytes done c.loop-done.at c.after-at.result c.loop-done.tokens.items size what c.loop-done.invariant longest c.in-Ok.ensures.1 place)
 
 pub returns-in-Err-clause-limit : goal.returns-in-Err-clause-limit

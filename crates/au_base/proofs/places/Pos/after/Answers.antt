@@ -9,7 +9,12 @@ pub loop-byte-preserved : goal.loop-byte-preserved
 loop-byte-preserved c =
     let bytes = c.args.bytes.now in
     let i = c.loop-byte.byte-index in
-    (omega arith, omega arith, λ file front e. c.past-at.ensures.place file (front ++ take i bytes) (c.loop-byte.invariant.2 file front e) ∙ ap (place_after file) (sym (front_more front bytes i c.loop-byte-test.true)))
+    record {
+      file = c.past-at.ensures.file ∙ c.loop-byte.invariant.file;
+      line = omega arith;
+      column = omega arith;
+      place = λ file front e. c.past-at.ensures.place file (front ++ take i bytes) (c.loop-byte.invariant.place file front e) ∙ ap (place_after file) (sym (front_more front bytes i c.loop-byte-test.true));
+    }
 
-pub returns : goal.returns
-returns c = λ file front e. c.loop-byte.invariant.2 file front e ∙ ap (λ x. place_after file (front ++ x)) (take_all _ _ (omega arith))
+pub returns-clause-place : goal.returns-clause-place
+returns-clause-place c = λ file front e. c.loop-byte.invariant.place file front e ∙ ap (λ x. place_after file (front ++ x)) (take_all _ _ (omega arith))

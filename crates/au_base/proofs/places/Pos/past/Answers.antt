@@ -1,7 +1,6 @@
 -- A newline begins the next line, and every other byte the next column.
-use Rattle.std.proofs.Common.{◌≡◌, true, false, arith}
+use Rattle.std.proofs.Common.{arith}
 use Rattle.std.proofs.lemmas.Bool.Decides.{nat_tests}
-use Rattle.au_base.specs.Places.{is_newline}
 use Rattle.au_base.proofs.PlaceLemmas.{place_newline, place_other}
 use Rattle.au_base.proofs.places.Pos.past.Goals as goal
 
