@@ -46,8 +46,9 @@ shape bytes (outcome.Refused (Syntax at)) comes =
     let has = comes.0 in
     (tokens has.0, (has.1, has.2), inr (inl (has.3, ap (λ p. outcome.Refused (Syntax p)) comes.1)))
 shape bytes (outcome.Refused (NotYet at)) comes = elim comes [
-    inl is_later ↦ (later at, is_later, refl)
-    | inr has ↦ (tokens has.0, (has.1, has.2), inr (inr (at, has.3, refl))) ]
+  | inl is_later ↦ (later at, is_later, refl)
+  | inr has ↦ (tokens has.0, (has.1, has.2), inr (inr (at, has.3, refl)))
+]
 shape bytes (outcome.Prints first) comes = (tokens comes.0, (comes.1, comes.2), inl (first, comes.3, refl))
 
 -- tokens come to one thing
@@ -59,22 +60,30 @@ strange_same list a b x y =
 
 tokens_same : (bytes : List ℕ) (list : List Token) (x y : Outcome) → TokensCome bytes list x → TokensCome bytes list y → x ≡ y
 tokens_same bytes list x y a b = elim a [
-    inl p ↦ elim b [
-      inl q ↦ p.2 ∙ ap (λ f. outcome.Prints f) (one_file p.0 q.0 (sym p.1 ∙ q.1)) ∙ sym q.2
+  | inl p ↦ elim b [
+    | inl q ↦ p.2 ∙ ap (λ f. outcome.Prints f) (one_file p.0 q.0 (sym p.1 ∙ q.1)) ∙ sym q.2
+    | inr v ↦ elim v [
+      | inl q ↦ absurd (read_or_unfinished list p.0 p.1 q.0)
+      | inr q ↦ absurd (read_or_strange list p.0 q.1.0 p.1 q.1.1)
+    ]
+  ]
+  | inr u ↦ elim u [
+    | inl p ↦ elim b [
+      | inl q ↦ absurd (read_or_unfinished list q.0 q.1 p.0)
       | inr v ↦ elim v [
-        inl q ↦ absurd (read_or_unfinished list p.0 p.1 q.0)
-        | inr q ↦ absurd (read_or_strange list p.0 q.1.0 p.1 q.1.1) ] ]
-    | inr u ↦ elim u [
-      inl p ↦ elim b [
-        inl q ↦ absurd (read_or_unfinished list q.0 q.1 p.0)
-        | inr v ↦ elim v [
-          inl q ↦ p.1 ∙ sym q.1
-          | inr q ↦ absurd (unfinished_or_strange list q.1.0 p.0 q.1.1) ] ]
-      | inr p ↦ elim b [
-        inl q ↦ absurd (read_or_strange list q.0 p.1.0 q.1 p.1.1)
-        | inr v ↦ elim v [
-          inl q ↦ absurd (unfinished_or_strange list p.1.0 q.0 p.1.1)
-          | inr q ↦ p.2 ∙ ap (λ at. outcome.Refused (NotYet at)) (strange_same list p.0 q.0 p.1 q.1) ∙ sym q.2 ] ] ] ]
+        | inl q ↦ p.1 ∙ sym q.1
+        | inr q ↦ absurd (unfinished_or_strange list q.1.0 p.0 q.1.1)
+      ]
+    ]
+    | inr p ↦ elim b [
+      | inl q ↦ absurd (read_or_strange list q.0 p.1.0 q.1 p.1.1)
+      | inr v ↦ elim v [
+        | inl q ↦ absurd (unfinished_or_strange list p.1.0 q.0 p.1.1)
+        | inr q ↦ p.2 ∙ ap (λ at. outcome.Refused (NotYet at)) (strange_same list p.0 q.0 p.1 q.1) ∙ sym q.2
+      ]
+    ]
+  ]
+]
 
 shape_same : (bytes : List ℕ) (lexed : Lexed) (x y : Outcome) → Shape bytes lexed x → Shape bytes lexed y → x ≡ y
 shape_same bytes (tokens list) x y a b = tokens_same bytes list x y a b
@@ -99,13 +108,16 @@ IsHad files name arisen =
 had : (files : Files) (name : List ℕ) (arisen : Outcome) → Comes files (name ∷ []) arisen → IsHad files name arisen
 had files name outcome.NoJob comes = absurd comes
 had files name (outcome.Missing other) comes = elim comes [
-    inl here ↦ inl (here.1, ap (λ n. outcome.Missing n) (sym here.0))
-    | inr none ↦ absurd none.1 ]
+  | inl here ↦ inl (here.1, ap (λ n. outcome.Missing n) (sym here.0))
+  | inr none ↦ absurd none.1
+]
 had files name (outcome.Passes limit) comes = elim comes [
-    inl large ↦ elim large.1 [
-      inl here ↦ inr (inl (here.0, here.1, here.2, ap (λ l. outcome.Passes l) large.0))
-      | inr none ↦ absurd none.1 ]
-    | inr file ↦ inr (inr (file.0, file.1.0.0, file.1.0.1, file.2)) ]
+  | inl large ↦ elim large.1 [
+    | inl here ↦ inr (inl (here.0, here.1, here.2, ap (λ l. outcome.Passes l) large.0))
+    | inr none ↦ absurd none.1
+  ]
+  | inr file ↦ inr (inr (file.0, file.1.0.0, file.1.0.1, file.2))
+]
 had files name (outcome.Refused refusal) file = inr (inr (file.0, file.1.0.0, file.1.0.1, file.2))
 had files name (outcome.Prints first) file = inr (inr (file.0, file.1.0.0, file.1.0.1, file.2))
 
@@ -121,20 +133,27 @@ too_small files name a b x y large small = let same = ap length (one_bytes files
 
 had_same : (files : Files) (name : List ℕ) (x y : Outcome) → IsHad files name x → IsHad files name y → x ≡ y
 had_same files name x y a b = elim a [
-    inl p ↦ elim b [
-      inl q ↦ p.1 ∙ sym q.1
-      | inr v ↦ elim v [ inl q ↦ absurd (no_bytes files name q.0 p.0 q.1) | inr q ↦ absurd (no_bytes files name q.0 p.0 q.1) ] ]
-    | inr u ↦ elim u [
-      inl p ↦ elim b [
-        inl q ↦ absurd (no_bytes files name p.0 q.0 p.1)
-        | inr v ↦ elim v [
-          inl q ↦ p.3 ∙ sym q.3
-          | inr q ↦ absurd (too_small files name p.0 q.0 p.1 q.1 p.2 q.2) ] ]
-      | inr p ↦ elim b [
-        inl q ↦ absurd (no_bytes files name p.0 q.0 p.1)
-        | inr v ↦ elim v [
-          inl q ↦ absurd (too_small files name q.0 p.0 q.1 p.1 q.2 p.2)
-          | inr q ↦ file_same p.0 x y p.3 (subst (λ c. FileComes c y) (one_bytes files name q.0 p.0 q.1 p.1) q.3) ] ] ] ]
+  | inl p ↦ elim b [
+    | inl q ↦ p.1 ∙ sym q.1
+    | inr v ↦ elim v [ inl q ↦ absurd (no_bytes files name q.0 p.0 q.1) | inr q ↦ absurd (no_bytes files name q.0 p.0 q.1) ]
+  ]
+  | inr u ↦ elim u [
+    | inl p ↦ elim b [
+      | inl q ↦ absurd (no_bytes files name p.0 q.0 p.1)
+      | inr v ↦ elim v [
+        | inl q ↦ p.3 ∙ sym q.3
+        | inr q ↦ absurd (too_small files name p.0 q.0 p.1 q.1 p.2 q.2)
+      ]
+    ]
+    | inr p ↦ elim b [
+      | inl q ↦ absurd (no_bytes files name p.0 q.0 p.1)
+      | inr v ↦ elim v [
+        | inl q ↦ absurd (too_small files name q.0 p.0 q.1 p.1 q.2 p.2)
+        | inr q ↦ file_same p.0 x y p.3 (subst (λ c. FileComes c y) (one_bytes files name q.0 p.0 q.1 p.1) q.3)
+      ]
+    ]
+  ]
+]
 
 -- a job of words, with what its program comes to
 JobComes : List (List ℕ) → Files → List (List ℕ) → Outcome → Type 0
@@ -175,37 +194,42 @@ pub one_due : (words : List (List ℕ)) (files : Files) (a b : Due) → Owes wor
 unfolding JobComes
 one_due words files a b x y =
     elim (is_arisen words files x.0 x.1 x.2) [
-      inl p ↦ elim (is_arisen words files y.0 y.1 y.2) [
-        inl q ↦ x.3 ∙ ap (due_of x.0) p.1 ∙ sym (y.3 ∙ ap (due_of y.0) q.1)
-        | inr q ↦ absurd (p.0 (record { command = Run; files = y.0 }) q.0) ]
+      | inl p ↦ elim (is_arisen words files y.0 y.1 y.2) [
+        | inl q ↦ x.3 ∙ ap (due_of x.0) p.1 ∙ sym (y.3 ∙ ap (due_of y.0) q.1)
+        | inr q ↦ absurd (p.0 (record { command = Run; files = y.0 }) q.0)
+      ]
       | inr p ↦ elim (is_arisen words files y.0 y.1 y.2) [
-        inl q ↦ absurd (q.0 (record { command = Run; files = x.0 }) p.0)
-        | inr q ↦ x.3 ∙ one_job words files x.0 y.0 x.1 y.1 p q ∙ sym y.3 ] ]
+        | inl q ↦ absurd (q.0 (record { command = Run; files = x.0 }) p.0)
+        | inr q ↦ x.3 ∙ one_job words files x.0 y.0 x.1 y.1 p q ∙ sym y.3
+      ]
+    ]
 
 -- What is owed is what was paid.
 pub pays_owed : (words : List (List ℕ)) (told : Option Files) (faults faults' : ℕ) (ends : Status) (out out' err err' : Option (List ℕ)) (files : Files) (due : Due) →
     IsPaid words told faults faults' ends out out' err err' → is_decided ends ≡ true → told ≡ Some files → Owes words files due →
     Pays due ends out out' err err'
 pays_owed words told faults faults' ends out out' err err' files due paid decided is owes = elim paid.1 [
-    inl owed ↦
+  | inl owed ↦
       let same : owed.0 ≡ files = subst (λ t. AreTold t owed.0) is owed.1 in
       subst (λ d. Pays d ends out out' err err') (one_due words files paid.0 due (subst (λ f. Owes words f paid.0) same owed.2) owes) paid.2
-    | inr risen ↦
+  | inr risen ↦
       let fault : ends ≡ status.ReadFault = paid.2.status ∙ ap (λ (d : Due). d.status) risen.1 in
       let e = sym (ap is_decided fault) ∙ decided in
-      absurd cc ]
+      absurd cc
+]
 
 -- the outcome for which was paid
 pub came : (words : List (List ℕ)) (told : Option Files) (faults faults' : ℕ) (ends : Status) (out out' err err' : Option (List ℕ)) → IsPaid words told faults faults' ends out out' err err' → is_decided ends ≡ true →
     CameTo words told (λ names arisen. Pays (due_of names arisen) ends out out' err err')
 came words told faults faults' ends out out' err err' paid decided = elim paid.1 [
-    inl owed ↦
+  | inl owed ↦
       let owes = owed.2 in
       (owed.0, owed.1, owes.0, owes.1, owes.2, subst (λ d. Pays d ends out out' err err') owes.3 paid.2)
-    | inr risen ↦
+  | inr risen ↦
       let fault : ends ≡ status.ReadFault = paid.2.status ∙ ap (λ (d : Due). d.status) risen.1 in
       let e = sym (ap is_decided fault) ∙ decided in
-      absurd cc ]
+      absurd cc
+]
 
 -- one outcome in place of another of which more is known
 weaker : (words : List (List ℕ)) (told : Option Files) (P Q : List (List ℕ) → Outcome → Type 0) → ((names : List (List ℕ)) (arisen : Outcome) → P names arisen → Q names arisen) → CameTo words told P → CameTo words told Q
@@ -237,9 +261,11 @@ came_refused words told faults faults' ends out out' err err' paid is =
 exit_decided : (b : Bool) → is_decided (cond b status.Success status.Failure) ≡ true
 exit_decided true = refl
 exit_decided false = refl
+
 exit_apart : (b : Bool) (s : Status) → cond b status.Success status.Failure ≡ s → (status.Success ≡ s → ⊥) → (status.Failure ≡ s → ⊥) → ⊥
 exit_apart true s e f g = f e
 exit_apart false s e f g = g e
+
 exit_same : (a b : Bool) → cond a status.Success status.Failure ≡ cond b status.Success status.Failure → b ≡ a
 exit_same true true e = refl
 exit_same true false e = absurd cc
@@ -277,8 +303,9 @@ unfolding JobComes
 came_no_job words told faults faults' ends out out' err err' paid none decided =
     let h = came words told faults faults' ends out out' err err' paid decided in
     elim (is_arisen words h.0 h.2 h.3 h.4) [
-      inl p ↦ h.5.status ∙ ap (λ o. (due_of h.2 o).status) p.1
-      | inr p ↦ absurd (none (record { command = Run; files = h.2 }) (job_of words h.0 h.2 h.3 p)) ]
+      | inl p ↦ h.5.status ∙ ap (λ o. (due_of h.2 o).status) p.1
+      | inr p ↦ absurd (none (record { command = Run; files = h.2 }) (job_of words h.0 h.2 h.3 p))
+    ]
   where
     job_of : (words : List (List ℕ)) (files : Files) (names : List (List ℕ)) (arisen : Outcome) → JobComes words files names arisen → IsJob words (record { command = Run; files = names })
     job_of words files names arisen j = j.0

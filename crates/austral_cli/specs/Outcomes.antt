@@ -103,7 +103,7 @@ due_of names (outcome.Refused refusal) = due_line status.Refused (refusal_line n
 due_of names (outcome.Prints first) = record {
   status = if first.success then status.Success else status.Failure;
   out = flat_map printed first.prints;
-  err = []
+  err = [];
 }
 
 -- The call with these words, over these files, owes this.

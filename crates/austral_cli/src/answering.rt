@@ -7,17 +7,16 @@ ghost use Rattle.au_base.specs.Outside.{HasRisen, Adds, AddsFront};
 ghost use Rattle.austral_cli.specs.Calls.{Fails, IsPlaced, Pays};
 ghost use Rattle.austral_cli.specs.Outcomes.{printed, due_of};
 
-use std::alloc::Global;
-
-use au_base::{Memory, Sink, Status, WriteFault, put_all};
-use au_syntax::{First, Print};
-use thiserror::Error;
-
 use crate::outcomes::Outcome;
 use crate::refusals::{limit_text, missing_text, refusal_text};
+use au_base::{Memory, Sink, Status, WriteFault, put_all};
+use au_syntax::{First, Print};
+use std::alloc::Global;
+use thiserror::Error;
 
 /// The line for words that are no job.
-pub const WORDS_LINE: &[u8] = b"words: run [--entry=M:f] [--steps=N] [--life] PART.. | compile [--entry=M:f] PART.. | explain PART.. | check PART..\n";
+pub const WORDS_LINE: &[u8] =
+    b"words: run [--entry=M:f] [--steps=N] [--life] PART.. | compile [--entry=M:f] PART.. | explain PART.. | check PART..\n";
 
 /// Why what is due was not written whole.
 #[derive(Clone, Copy, Debug, PartialEq, Eq, Error)]

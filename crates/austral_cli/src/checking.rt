@@ -7,15 +7,13 @@ ghost use Rattle.austral_cli.specs.Calls.{AreTold, is_read_fault, is_missing};
 ghost use Rattle.austral_cli.specs.Outcomes.{Comes, FileComes};
 ghost use Rattle.austral_cli.specs.declared.checking.CheckFault.TheVariants as fault;
 
-use std::alloc::Global;
-
+use crate::outcomes::Outcome;
+use crate::refusals::Refusal;
 use au_base::{Fetch, Limit, LimitKind, MOST_FILE_BYTES, Memory, Pos, Shelf, Text};
 use au_lexer::{LexFault, lex};
 use au_parser::{ParseFault, parse};
+use std::alloc::Global;
 use thiserror::Error;
-
-use crate::outcomes::Outcome;
-use crate::refusals::Refusal;
 
 /// Why it isn't known what a program comes to.
 #[derive(Clone, Copy, Debug, PartialEq, Eq, Error)]
@@ -37,11 +35,7 @@ impl From<Memory> for CheckFault {
 }
 
 /// What the program of one file comes to: the file is fetched, cut into tokens and read.
-pub fn check<S: Shelf>(
-    alloc: Global,
-    shelf: &mut S,
-    name: &str,
-) -> Result<Outcome, CheckFault>
+pub fn check<S: Shelf>(alloc: Global, shelf: &mut S, name: &str) -> Result<Outcome, CheckFault>
     ensures comes { IfOk result (λ outcome. (files : Files) × AreTold (S.files shelf.old) files
         × Comes files (name.now ∷ []) outcome) }
     ensures faults { Counts (is_read_fault result) (S.faults shelf.old) (S.faults shelf.new) }

@@ -1,6 +1,7 @@
 //! The program: words and files in, output and a status out.
 #![tactic(auto)]
 
+mod adapters;
 mod answering;
 mod checking;
 mod jobs;
@@ -8,4 +9,37 @@ mod outcomes;
 mod refusals;
 mod top;
 
-fn main() {}
+use adapters::{DiskShelf, StdinSource, StreamSink};
+use au_base::Status;
+use std::process::ExitCode;
+use std::{env, io};
+use top::austral;
+
+fn main(rt: HostRuntime) -> ExitCode {
+    let Ok(words) = words_of(&rt) else {
+        return ExitCode::from(Status::Words.number());
+    };
+    let mut input = StdinSource::new(rt.stdin());
+    let mut out = StreamSink::new(rt.stdout());
+    let mut err = StreamSink::new(rt.stderr());
+    let alloc = rt.alloc();
+    let mut shelf = DiskShelf::new(rt);
+    let status = austral(
+        alloc,
+        words.as_slice(),
+        &mut shelf,
+        &mut input,
+        &mut out,
+        &mut err,
+    );
+    ExitCode::from(status.number())
+}
+
+/// The words of the command line, behind the program's own name.
+fn words_of(rt: &HostRuntime) -> io::Result<Vec<String>> {
+    let mut words = Vec::new(rt.alloc());
+    for word in env::args(rt)?.skip(1) {
+        words.push(word)?;
+    }
+    Ok(words)
+}

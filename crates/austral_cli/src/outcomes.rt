@@ -1,9 +1,8 @@
 //! What a program comes to before it runs, and why it is not run.
 
+use crate::refusals::Refusal;
 use au_base::{Limit, Text};
 use au_syntax::First;
-
-use crate::refusals::Refusal;
 
 /// What words and files come to, where nothing fails and memory is there.
 #[derive(Drop)]

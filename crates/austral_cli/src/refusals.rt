@@ -4,10 +4,9 @@ ghost use Rattle.std.specs.Prelude.{◌≡◌, ◌<◌, ◌++◌, IfOk, map, len
 ghost use Rattle.std.specs.String.{string_bytes};
 ghost use Rattle.austral_cli.specs.Lines as lines;
 
-use std::alloc::{AllocError, Global};
-
 use au_base::{Limit, LimitKind, Memory, Pos};
 use itoa::Buffer;
+use std::alloc::{AllocError, Global};
 
 /// Why a program is refused.
 #[derive(Clone, Copy, Debug, PartialEq, Eq)]

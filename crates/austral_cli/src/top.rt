@@ -7,14 +7,12 @@ ghost use Rattle.austral_cli.specs.Calls.{AreTold, CameTo, HasRun, IsCut, IsPaid
 ghost use Rattle.austral_cli.specs.Jobs.{IsNoJob};
 ghost use Rattle.austral_cli.specs.Outcomes.{Arises, Due, Owes};
 
-use std::alloc::Global;
-
-use au_base::{Shelf, Sink, Source, Status, WriteFault, put_all};
-
 use crate::answering::{AnswerFault, answer};
 use crate::checking::{CheckFault, check};
 use crate::jobs::{WordsFault, read_words};
 use crate::outcomes::Outcome;
+use au_base::{Shelf, Sink, Source, Status, WriteFault, put_all};
+use std::alloc::Global;
 
 /// The line where the shelf failed.
 const READ_FAULT_LINE: &[u8] = b"read fault\n";
@@ -32,7 +30,7 @@ pub fn austral<S: Shelf, I: Source, O: Sink, E: Sink>(
     // What is due is paid, whole, unless a sink fails or memory runs out.
     ensures due { result ≢ Status.WriteFault → result ≢ Status.Memory
         → IsPaid (map string_bytes words.now) (S.files shelf.old) (S.faults shelf.old) (S.faults shelf.new) result
-            (O.written out.old) (O.written out.new) (E.written err.old) (E.written err.new) }
+        (O.written out.old) (O.written out.new) (E.written err.old) (E.written err.new) }
     // Where files are told, what the words and the files owe is what is paid.
     ensures only { (files : Files) (due : Due) → S.files shelf.old ≡ Some files
         → Owes (map string_bytes words.now) files due → IsTrue (is_decided result)
@@ -52,11 +50,11 @@ pub fn austral<S: Shelf, I: Source, O: Sink, E: Sink>(
     ensures write_fault { result ≡ Status.WriteFault → (due : Due)
         × MayOwe (map string_bytes words.now) (S.files shelf.old) (S.faults shelf.old) (S.faults shelf.new) due
         × IsCut due (O.written out.old) (O.written out.new) (E.written err.old) (E.written err.new)
-            (O.faults out.old) (O.faults out.new) (E.faults err.old) (E.faults err.new) }
+        (O.faults out.old) (O.faults out.new) (E.faults err.old) (E.faults err.new) }
     // Where memory ran out, nothing was written.
     ensures memory { result ≡ Status.Memory
         → IsUntouched (O.written out.old) (O.written out.new) (E.written err.old) (E.written err.new)
-            (O.faults out.old) (O.faults out.new) (E.faults err.old) (E.faults err.new) }
+        (O.faults out.old) (O.faults out.new) (E.faults err.old) (E.faults err.new) }
     ensures read_fault { result ≡ Status.ReadFault → HasRisen (S.faults shelf.old) (S.faults shelf.new)
         × (O.faults out.new ≡ O.faults out.old) × (E.faults err.new ≡ E.faults err.old) }
     ensures missing { result ≡ Status.Missing → HasRisen (S.misses shelf.old) (S.misses shelf.new) }

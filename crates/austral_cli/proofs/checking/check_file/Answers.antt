@@ -6,7 +6,7 @@ use Rattle.austral_cli.proofs.checking.check_file.Goals as goal
 pub returns-in-Err-Syntax : goal.returns-in-Err-Syntax
 returns-in-Err-Syntax c =
     let at = c.in-Err-Syntax.at in
-    comes_unfinished c.args.bytes.now c.in-Ok.tokens.items c.as_slice.result.now at c.after-end.result c.in-Ok.ensures.cut c.in-Ok.ensures.within c.as_slice.ensures.value (c.after-end.ensures 0 [] c.start.ensures) (c.in-Err-Syntax.ensures.syntax at (ap Err c.in-Err-Syntax.field-0-is))
+    comes_unfinished c.args.bytes.now c.in-Ok.tokens.items c.as_slice.result.now at c.after-end.result c.in-Ok.ensures.cut c.in-Ok.ensures.within c.as_slice.ensures.value (c.after-end.ensures.place 0 [] c.start.ensures) (c.in-Err-Syntax.ensures.syntax at (ap Err c.in-Err-Syntax.field-0-is))
 
 pub returns-in-Err-NotYet-parse : goal.returns-in-Err-NotYet-parse
 returns-in-Err-NotYet-parse c =

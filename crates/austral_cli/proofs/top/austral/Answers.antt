@@ -9,7 +9,6 @@ use Rattle.austral_cli.proofs.ArisesLemmas.{read_risen}
 use Rattle.austral_cli.proofs.DueLemmas.{paid_so, pays_owed, came_words, came_no_job}
 use Rattle.austral_cli.proofs.top.austral.Goals as goal
 
-
 pub returns-in-Ok-put_all-clause-due : goal.returns-in-Ok-put_all-clause-due
 returns-in-Ok-put_all-clause-due g c = λ _ _.
     let risen = read_risen c.in-Err-Read.field-0 (g.S.Shelf.faults c.args.shelf.now) (g.S.Shelf.faults c.outcome_of.new.shelf) c.in-Err-Read.field-0-is c.in-Err-Read.ensures.faults in

@@ -1,0 +1,168 @@
+//! The real outside: files, standard input, standard output and standard error. None of them tells
+//! what it holds, so no clause speaks of contents here: this is the edge that is trusted.
+
+ghost use Rattle.std.specs.Prelude.{◌≡◌, ◌+◌, ◌<◌, ◌≤◌, ◌++◌, [], None, IfOk, length, vec_len};
+ghost use Rattle.au_base.specs.Limits.{most_file_bytes};
+ghost use Rattle.au_base.specs.Outside.{Counts, FillsRoom, is_fault, is_miss};
+
+use au_base::{Fetch, MOST_FILE_BYTES, Next, Put, Shelf, Sink, Source};
+use std::io::{ErrorKind, Read, Write};
+use std::rt::Files;
+use std::{fs, io};
+
+/// The files of the file system, by path. A file that isn't found is missing, and every other error
+/// is a fault.
+#[derive(Drop)]
+pub struct DiskShelf<R> {
+    rt: R,
+    faults: u64,
+    misses: u64,
+}
+
+impl<R: Files> DiskShelf<R> {
+    /// The files that this runtime reaches.
+    pub fn new(rt: R) -> DiskShelf<R> {
+        DiskShelf {
+            rt,
+            faults: 0,
+            misses: 0,
+        }
+    }
+
+    /// Counts an error.
+    fn refuse(&mut self, error: &io::Error) -> Fetch
+        ensures faults { Counts (is_fault result) self.old.faults self.new.faults }
+        ensures misses { Counts (is_miss result) self.old.misses self.new.misses }
+        ensures room { FillsRoom result [] }
+    {
+        match error.kind() {
+            ErrorKind::NotFound => {
+                self.misses = self.misses.saturating_add(1);
+                Fetch::Missing
+            }
+            ErrorKind::OutOfMemory => Fetch::Memory,
+            _ => {
+                self.faults = self.faults.saturating_add(1);
+                Fetch::Failed
+            }
+        }
+    }
+}
+
+impl<R: Files> Shelf for DiskShelf<R> {
+    ghost faults = { λ s. s.faults };
+
+    ghost misses = { λ s. s.misses };
+
+    ghost files = { λ _. None };
+
+    fn fetch(&mut self, name: &str, room: &mut Vec<u8>) -> Fetch {
+        let mut file = match fs::open(&self.rt, name) {
+            Ok(file) => file,
+            Err(error) => return self.refuse(&error),
+        };
+        match read_front(&mut file, room) {
+            Ok(()) if room.len() > MOST_FILE_BYTES => Fetch::TooLarge,
+            Ok(()) => Fetch::Whole,
+            Err(error) => {
+                room.clear();
+                self.refuse(&error)
+            }
+        }
+    }
+}
+
+/// Reads to the end, or one byte more than a file may have.
+fn read_front<F: Read>(file: &mut F, room: &mut Vec<u8>) -> io::Result<()>
+    requires { vec_len room.old ≡ 0 }
+    ensures { vec_len room.new ≤ most_file_bytes + 1 }
+{
+    let mut buffer = [0u8; 4096];
+    for _ in 0..MOST_FILE_BYTES + 1 {
+        let wanted = buffer.len().min(MOST_FILE_BYTES + 1 - room.len());
+        let size = file.read(&mut buffer[..wanted])?;
+        if size == 0 {
+            break;
+        }
+        room.extend_from_slice(&buffer[..size])?;
+    }
+    Ok(())
+}
+
+/// Standard input, a byte at a time.
+#[derive(Drop)]
+pub struct StdinSource<R> {
+    reader: R,
+    faults: u64,
+}
+
+impl<R: Read> StdinSource<R> {
+    /// The bytes of this reader.
+    pub fn new(reader: R) -> StdinSource<R> {
+        StdinSource { reader, faults: 0 }
+    }
+}
+
+impl<R: Read> Source for StdinSource<R> {
+    ghost faults = { λ s. s.faults };
+
+    ghost left = { λ _. None };
+
+    fn next(&mut self) -> Next {
+        let mut byte = [0u8; 1];
+        match self.reader.read(&mut byte) {
+            Ok(0) => Next::End,
+            Ok(_) => Next::Byte(byte[0]),
+            Err(_) => {
+                self.faults = self.faults.saturating_add(1);
+                Next::Failed
+            }
+        }
+    }
+}
+
+/// A standard stream that is written. Each call writes and flushes.
+#[derive(Drop)]
+pub struct StreamSink<W> {
+    writer: W,
+    faults: u64,
+}
+
+/// Standard output.
+pub type StdoutSink<W> = StreamSink<W>;
+
+/// Standard error.
+pub type StderrSink<W> = StreamSink<W>;
+
+impl<W: Write> StreamSink<W> {
+    /// The stream of this writer.
+    pub fn new(writer: W) -> StreamSink<W> {
+        StreamSink { writer, faults: 0 }
+    }
+
+    /// Writes some of a piece, and flushes.
+    fn write(&mut self, piece: &[u8]) -> io::Result<usize>
+        ensures size { IfOk result (λ size. size ≤ length piece.now) }
+        ensures faults { self.new.faults ≡ self.old.faults }
+    {
+        let size = self.writer.write(piece)?;
+        self.writer.flush()?;
+        Ok(size)
+    }
+}
+
+impl<W: Write> Sink for StreamSink<W> {
+    ghost faults = { λ s. s.faults };
+
+    ghost written = { λ _. None };
+
+    fn put(&mut self, piece: &[u8]) -> Put {
+        match self.write(piece) {
+            Ok(size) if size > 0 || piece.is_empty() => Put::Took(size),
+            _ => {
+                self.faults = self.faults.saturating_add(1);
+                Put::Failed
+            }
+        }
+    }
+}
