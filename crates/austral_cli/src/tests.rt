@@ -1,0 +1,209 @@
+//! Calls of the program over files, input and sinks in memory, with the exact bytes that are due.
+
+use crate::top::austral;
+use au_base::{MemorySink, SureShelf, SureSource};
+use std::alloc::Global;
+use std::test::Fail;
+
+/// What a call leaves: the bytes on `out` and on `err`, and the number of its status.
+#[derive(Drop)]
+struct Left {
+    out: MemorySink,
+    err: MemorySink,
+    status: u8,
+}
+
+/// Calls the program with these words over one file.
+fn left_by(
+    alloc: Global,
+    words: &str,
+    name: &str,
+    bytes: Vec<u8>,
+    room: usize,
+) -> Result<Left, Fail> {
+    let mut list = Vec::new(alloc);
+    for word in words.split_whitespace() {
+        list.push(String::from_str(alloc, word)?)?;
+    }
+    let mut files = Vec::new(alloc);
+    files.push((String::from_str(alloc, name)?, bytes))?;
+    let mut shelf = SureShelf::new(files);
+    let mut input = SureSource::new(b"unread".to_vec(alloc)?);
+    let mut out = MemorySink::new(alloc, room, Vec::new(alloc))?;
+    let mut err = MemorySink::new(alloc, 1000, Vec::new(alloc))?;
+    let status = austral(
+        alloc,
+        list.as_slice(),
+        &mut shelf,
+        &mut input,
+        &mut out,
+        &mut err,
+    )
+    .number();
+    Ok(Left { out, err, status })
+}
+
+const HELLO: &[u8] =
+    b"module body Hello is\nfunction main(): ExitCode is\nprintLn(\"Hello, world!\");\nreturn ExitSuccess();\nend;\nend module body.";
+
+const FAILURE: &[u8] =
+    b"module body Hello is\nfunction main(): ExitCode is\nprintLn(\"Hello, world!\");\nreturn ExitFailure();\nend;\nend module body.";
+
+/// Escapes, bytes from 128 up in a text and in a comment, all four blanks, and blanks around the
+/// last point.
+const TWICE: &[u8] =
+    b"-- greets twice\nmodule body main is function main(): ExitCode is\r\n\tprint(\"a\\tb \\\"\xc3\xa9\\\"\\\\\"); -- \xff\n\tprintLn(\"\"); print(\"c\\n\");\n\treturn ExitFailure ( ) ;\nend;\nend module body . \n";
+
+const NOTHING: &[u8] =
+    b"module body M is function main(): ExitCode is return ExitSuccess(); end; end module body.";
+
+/// Files, with what they print and the status.
+const RUNS: [(&[u8], &[u8], u8); 4] = [
+    (HELLO, b"Hello, world!\n", 0),
+    (FAILURE, b"Hello, world!\n", 1),
+    (TWICE, b"a\tb \"\xc3\xa9\"\\\nc\n", 1),
+    (NOTHING, b"", 0),
+];
+
+#[test]
+fn runs(rt: HostRuntime) -> Result<(), Fail> {
+    for (bytes, out, status) in &RUNS {
+        let left = left_by(
+            rt.alloc(),
+            "run m.aum",
+            "m.aum",
+            bytes.to_vec(rt.alloc())?,
+            1000,
+        )?;
+        assert_eq!(rt; left.status, *status);
+        assert_eq!(rt; left.out.written(), *out);
+        assert_eq!(rt; left.err.written(), b"".as_slice());
+    }
+    Ok(())
+}
+
+/// Files that are refused, with their lines.
+const REFUSED: [(&[u8], &[u8]); 18] = [
+    (b"", b"m.aum:1:1: syntax\n"),
+    (b"module body M is", b"m.aum:1:17: syntax\n"),
+    (b"module body M is\n", b"m.aum:2:1: syntax\n"),
+    (b"  \t\r\n  ", b"m.aum:2:3: syntax\n"),
+    (b"-- \xff", b"m.aum:1:5: syntax\n"),
+    (
+        b"module body M is\nend module body.",
+        b"m.aum:2:1: not yet\n",
+    ),
+    (b"module M is", b"m.aum:1:8: not yet\n"),
+    (b"module body M.N is", b"m.aum:1:14: not yet\n"),
+    (
+        b"module body M is function Main(): ExitCode is",
+        b"m.aum:1:27: not yet\n",
+    ),
+    (b"module body M is 1", b"m.aum:1:18: not yet\n"),
+    (b"\"\"\"doc\"\"\"", b"m.aum:1:1: not yet\n"),
+    (
+        b"module body M is function main(): ExitCode is print(\"a\") print(\"b\");",
+        b"m.aum:1:58: not yet\n",
+    ),
+    (
+        b"module body M is function main(): ExitCode is return ExitSuccess(); end; end module body.\n.",
+        b"m.aum:2:1: not yet\n",
+    ),
+    (b"module body \xc3\xa9 is", b"m.aum:1:13: byte\n"),
+    (b"x\n  \"abc", b"m.aum:2:3: byte\n"),
+    (b"x \"a\tb\"", b"m.aum:1:3: byte\n"),
+    (b"x \"a\\qb\"", b"m.aum:1:3: byte\n"),
+    (b"module\r\tbody #", b"m.aum:1:14: byte\n"),
+];
+
+#[test]
+fn refusals(rt: HostRuntime) -> Result<(), Fail> {
+    for (bytes, err) in &REFUSED {
+        let left = left_by(
+            rt.alloc(),
+            "run m.aum",
+            "m.aum",
+            bytes.to_vec(rt.alloc())?,
+            1000,
+        )?;
+        assert_eq!(rt; left.status, 2);
+        assert_eq!(rt; left.out.written(), b"".as_slice());
+        assert_eq!(rt; left.err.written(), *err);
+    }
+    Ok(())
+}
+
+const WORDS: &[u8] =
+    b"words: run [--entry=M:f] [--steps=N] [--life] PART.. | compile [--entry=M:f] PART.. | explain PART.. | check PART..\n";
+
+/// Words that are no job.
+const NO_JOBS: [&str; 9] = [
+    "",
+    "run",
+    "run --steps=0 a.aum",
+    "run --life",
+    "run -a.aum",
+    "run a.aum,b.aum",
+    "run a.aum b.aum",
+    "check a.aum",
+    "Run a.aum",
+];
+
+#[test]
+fn words(rt: HostRuntime) -> Result<(), Fail> {
+    for words in &NO_JOBS {
+        let left = left_by(rt.alloc(), words, "a.aum", HELLO.to_vec(rt.alloc())?, 1000)?;
+        assert_eq!(rt; left.status, 64, "{words}");
+        assert_eq!(rt; left.out.written(), b"".as_slice(), "{words}");
+        assert_eq!(rt; left.err.written(), WORDS, "{words}");
+    }
+    Ok(())
+}
+
+#[test]
+fn missing_and_cut(rt: HostRuntime) -> Result<(), Fail> {
+    let missing = left_by(
+        rt.alloc(),
+        "run no.aum",
+        "m.aum",
+        HELLO.to_vec(rt.alloc())?,
+        1000,
+    )?;
+    assert_eq!(rt; missing.status, 9);
+    assert_eq!(rt; missing.err.written(), b"missing: no.aum\n".as_slice());
+    let cut = left_by(
+        rt.alloc(),
+        "run m.aum",
+        "m.aum",
+        HELLO.to_vec(rt.alloc())?,
+        4,
+    )?;
+    assert_eq!(rt; cut.status, 6);
+    assert_eq!(rt; cut.out.written(), b"Hell".as_slice());
+    assert_eq!(rt; cut.err.written(), b"".as_slice());
+    Ok(())
+}
+
+/// Files of one byte again and again: how many, and the line.
+const LARGE: [(u8, usize, &[u8], u8); 4] = [
+    (b' ', 1_048_576, b"m.aum:1:1048577: syntax\n", 2),
+    (b'\n', 1_048_576, b"m.aum:1048577:1: syntax\n", 2),
+    (
+        b' ',
+        1_048_577,
+        b"limit: file bytes 1048577 above 1048576\n",
+        8,
+    ),
+    (b'x', 65, b"limit: name bytes 65 above 64\n", 8),
+];
+
+#[test]
+fn large_files(rt: HostRuntime) -> Result<(), Fail> {
+    for (byte, size, err, status) in &LARGE {
+        let bytes = vec![in rt.alloc(); *byte; *size]?;
+        let left = left_by(rt.alloc(), "run m.aum", "m.aum", bytes, 1000)?;
+        assert_eq!(rt; left.status, *status);
+        assert_eq!(rt; left.err.written(), *err);
+    }
+    Ok(())
+}
