@@ -64,7 +64,7 @@ impl Shelf for SureShelf {
 }
 
 /// The bytes of the first file of that name.
-fn find<'a>(files: &'a [(String, Vec<u8>)], name: &str) -> Option<&'a [u8]>
+pub(crate) fn find<'a>(files: &'a [(String, Vec<u8>)], name: &str) -> Option<&'a [u8]>
     ensures { option_copied result ≡ file_in (map file_of files.now) name.now }
 {
     for file in files {
@@ -76,7 +76,7 @@ fn find<'a>(files: &'a [(String, Vec<u8>)], name: &str) -> Option<&'a [u8]>
 }
 
 /// Fills an empty room with a file's bytes, or with its front where it is too large.
-fn fill(room: &mut Vec<u8>, bytes: &[u8]) -> Fetch
+pub(crate) fn fill(room: &mut Vec<u8>, bytes: &[u8]) -> Fetch
     requires { vec_len room.old ≡ 0 }
     ensures room { FillsRoom result room.new.items }
     ensures file { TellsFile result (Some bytes.now) room.new.items }

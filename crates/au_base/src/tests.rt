@@ -166,3 +166,32 @@ fn faults(rt: HostRuntime) -> Result<(), Fail> {
     assert_eq!(rt; shown.as_str(), "out of memory, a sink failed");
     Ok(())
 }
+
+#[test]
+fn failing_calls(rt: HostRuntime) -> Result<(), Fail> {
+    let mut files = Vec::new(rt.alloc());
+    files.push((
+        String::from_str(rt.alloc(), "a")?,
+        b"ab".to_vec(rt.alloc())?,
+    ))?;
+    let mut shelf = MemoryShelf::new(files, [1, 3].to_vec(rt.alloc())?);
+    let answers: [(&str, Fetch, usize); 4] = [
+        ("a", Fetch::Failed, 0),
+        ("a", Fetch::Whole, 2),
+        ("b", Fetch::Failed, 0),
+        ("b", Fetch::Missing, 0),
+    ];
+    for (name, answer, size) in answers {
+        let mut room = Vec::new(rt.alloc());
+        assert_eq!(rt; shelf.fetch(name, &mut room), answer, "{name}");
+        assert_eq!(rt; room.len(), size, "{name}");
+    }
+    let mut source = MemorySource::new(b"ab".to_vec(rt.alloc())?, [2].to_vec(rt.alloc())?);
+    assert_eq!(rt; source.next(), Next::Byte(b'a'));
+    assert_eq!(rt; source.next(), Next::Failed);
+    assert_eq!(rt; source.left(), b"b".as_slice());
+    assert_eq!(rt; source.next(), Next::Byte(b'b'));
+    assert_eq!(rt; source.next(), Next::End);
+    assert_eq!(rt; NullSink.put(b"abc"), Put::Took(3));
+    Ok(())
+}

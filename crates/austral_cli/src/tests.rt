@@ -1,8 +1,13 @@
 //! Calls of the program over files, input and sinks in memory, with the exact bytes that are due.
 
+use crate::adapters::{DiskShelf, StderrSink, StdinSource, StdoutSink};
 use crate::top::austral;
-use au_base::{MemorySink, SureShelf, SureSource};
+use au_base::{
+    Fetch, MemoryShelf, MemorySink, MemorySource, Next, Put, Shelf, Sink, Source, SureShelf,
+    SureSource, put_all,
+};
 use std::alloc::Global;
+use std::fs;
 use std::test::Fail;
 
 /// What a call leaves: the bytes on `out` and on `err`, and the number of its status.
@@ -205,5 +210,90 @@ fn large_files(rt: HostRuntime) -> Result<(), Fail> {
         assert_eq!(rt; left.status, *status);
         assert_eq!(rt; left.err.written(), *err);
     }
+    Ok(())
+}
+
+/// Calls of which one of the shelf or of a sink fails: the file, the call of `fetch`, of `out` and of
+/// `err` that is to fail (0 for none), and what stands on `out` and on `err` then, with the status.
+const FAILING: [(&[u8], u64, u64, u64, &[u8], &[u8], u8); 9] = [
+    (TWICE, 1, 0, 0, b"", b"read fault\n", 5),
+    (TWICE, 1, 0, 1, b"", b"", 6),
+    (TWICE, 0, 1, 0, b"", b"", 6),
+    (TWICE, 0, 2, 0, b"a\tb \"\xc3\xa9\"\\", b"", 6),
+    (TWICE, 0, 3, 0, b"a\tb \"\xc3\xa9\"\\\n", b"", 6),
+    (TWICE, 0, 0, 1, b"a\tb \"\xc3\xa9\"\\\nc\n", b"", 1),
+    (b"#", 1, 0, 0, b"", b"read fault\n", 5),
+    (b"#", 0, 0, 1, b"", b"", 6),
+    (b"#", 2, 1, 2, b"", b"m.aum:1:1: byte\n", 2),
+];
+
+#[test]
+fn failing_calls(rt: HostRuntime) -> Result<(), Fail> {
+    let alloc = rt.alloc();
+    let mut words = Vec::new(alloc);
+    words.push(String::from_str(alloc, "run")?)?;
+    words.push(String::from_str(alloc, "m.aum")?)?;
+    for (bytes, fetch, first, second, written, said, status) in &FAILING {
+        let mut files = Vec::new(alloc);
+        files.push((String::from_str(alloc, "m.aum")?, bytes.to_vec(alloc)?))?;
+        let mut shelf = MemoryShelf::new(files, [*fetch].to_vec(alloc)?);
+        let mut input = MemorySource::new(b"unread".to_vec(alloc)?, Vec::new(alloc));
+        let mut out = MemorySink::new(alloc, 1000, [*first].to_vec(alloc)?)?;
+        let mut err = MemorySink::new(alloc, 1000, [*second].to_vec(alloc)?)?;
+        let ends = austral(
+            alloc,
+            words.as_slice(),
+            &mut shelf,
+            &mut input,
+            &mut out,
+            &mut err,
+        );
+        assert_eq!(rt; ends.number(), *status);
+        assert_eq!(rt; out.written(), *written);
+        assert_eq!(rt; err.written(), *said);
+        assert_eq!(rt; input.left(), b"unread".as_slice());
+    }
+    Ok(())
+}
+
+/// The adapters, over real files.
+#[test]
+fn adapters(rt: HostRuntime) -> Result<(), Fail> {
+    fs::write(&rt, "adapters.txt", "ab")?;
+    let mut shelf = DiskShelf::new(rt.clone()?);
+    let mut room = Vec::new(rt.alloc());
+    assert_eq!(rt; shelf.fetch("adapters.txt", &mut room), Fetch::Whole);
+    assert_eq!(rt; room.as_slice(), b"ab".as_slice());
+    let mut empty = Vec::new(rt.alloc());
+    assert_eq!(rt; shelf.fetch("no such file", &mut empty), Fetch::Missing);
+    assert_eq!(rt; shelf.fetch(".", &mut empty), Fetch::Failed);
+    let mut input = StdinSource::new(fs::open(&rt, "adapters.txt")?);
+    assert_eq!(rt; input.next(), Next::Byte(b'a'));
+    assert_eq!(rt; input.next(), Next::Byte(b'b'));
+    assert_eq!(rt; input.next(), Next::End);
+    let mut out = StdoutSink::new(fs::create(&rt, "adapters.txt")?);
+    assert_eq!(rt; put_all(&mut out, b"one\n"), Ok(()));
+    let mut err = StderrSink::new(fs::open(&rt, "adapters.txt")?);
+    assert_eq!(rt;
+        err.put(b"x"),
+        Put::Failed,
+        "the file is open for reading alone"
+    );
+    let text = fs::read_to_string(&rt, "adapters.txt")?;
+    assert_eq!(rt; text.as_str(), "one\n");
+    fs::remove_file(&rt, "adapters.txt")?;
+    Ok(())
+}
+
+/// A file that is larger than a file may be is read one byte past that.
+#[test]
+fn large_file_on_disk(rt: HostRuntime) -> Result<(), Fail> {
+    let bytes = vec![in rt.alloc(); b'x'; 1_050_000]?;
+    fs::write(&rt, "large.txt", bytes.as_slice())?;
+    let mut shelf = DiskShelf::new(rt.clone()?);
+    let mut room = Vec::new(rt.alloc());
+    assert_eq!(rt; shelf.fetch("large.txt", &mut room), Fetch::TooLarge);
+    assert_eq!(rt; room.len(), 1_048_577);
+    fs::remove_file(&rt, "large.txt")?;
     Ok(())
 }
