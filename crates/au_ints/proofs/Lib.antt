@@ -1,0 +1,6 @@
+pub mod CallLemmas
+pub mod Congruences
+pub mod DecimalLemmas
+pub mod Quotients
+pub mod Traps
+pub mod Turns
