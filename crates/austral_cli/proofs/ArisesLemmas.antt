@@ -1,7 +1,7 @@
 -- What words and files come to, and where a refusal's place lies.
 use Rattle.std.proofs.Common.{◌≡◌, ℕ, zero, suc, ◌<◌, Bool, true, ◌==◌, List, [], ◌∷◌, ◌++◌, length, get_or, map, Option, Some, None, String, ap, ◌∙◌, sym, refl, subst, arith, inl, inr, slice_get}
 use Rattle.std.specs.Global.{Global}
-use Rattle.std.specs.List.{list_all, flat_map}
+use Rattle.std.specs.List.{list_all}
 use Rattle.std.specs.Option.{option_map}
 use Rattle.std.specs.String.{string_bytes}
 use Rattle.std.proofs.lemmas.Bool.{and_parts, and_from, eqb-true, eq-eqb}
@@ -17,10 +17,9 @@ use Rattle.au_lexer.specs.Cut.{Cut, tokens_among, token_at, StopsAt}
 use Rattle.au_lexer.specs.Pieces.{Piece, spelling, what_of}
 use Rattle.au_parser.specs.Files.{IsStrangePlace}
 use Rattle.austral_cli.specs.Calls.{AreTold, IsPlaced, is_read}
-use Rattle.austral_cli.specs.Jobs.{Task, task_of, IsJob}
-use Rattle.austral_cli.specs.Outcomes.{Arises, Comes, FileComes}
+use Rattle.austral_cli.specs.Jobs.{Task, IsJob}
+use Rattle.austral_cli.specs.Outcomes.{Arises, Comes}
 use Rattle.austral_cli.specs.declared.jobs.Command.TheVariants.{Run}
-use Rattle.austral_cli.specs.declared.jobs.Job.{Job}
 use Rattle.austral_cli.specs.declared.outcomes.Outcome.{Outcome}
 use Rattle.austral_cli.specs.declared.outcomes.Outcome.TheVariants as outcome
 use Rattle.austral_cli.specs.declared.refusals.Refusal.TheVariants.{Byte, Syntax, NotYet}

@@ -1,5 +1,5 @@
 -- What a file comes to, from what lexing and parsing say.
-use Rattle.std.proofs.Common.{◌≡◌, ℕ, ◌+◌, ◌<◌, ◌≤◌, List, [], ◌∷◌, ◌++◌, length, Option, Some, None, MatchOption, ap, ◌∙◌, sym, refl, subst, arith, ◌⊎◌, inl, inr, length-append}
+use Rattle.std.proofs.Common.{◌≡◌, ℕ, ◌+◌, ◌≤◌, List, [], ◌∷◌, ◌++◌, length, Option, Some, None, MatchOption, ◌∙◌, sym, refl, subst, arith, inl, inr, length-append}
 use Rattle.au_base.specs.declared.places.Pos.{Pos}
 use Rattle.au_base.specs.declared.tokens.Token.{Token}
 use Rattle.au_base.specs.Limits.{most_file_bytes}
@@ -9,7 +9,7 @@ use Rattle.au_lexer.specs.Cut.{Cut, IsWithinLimits}
 use Rattle.au_parser.specs.Files.{IsUnfinished, IsStrangePlace}
 use Rattle.austral_cli.specs.declared.outcomes.Outcome.{Outcome}
 use Rattle.austral_cli.specs.declared.outcomes.Outcome.TheVariants as outcome
-use Rattle.austral_cli.specs.declared.refusals.Refusal.TheVariants.{Byte, Syntax, NotYet}
+use Rattle.austral_cli.specs.declared.refusals.Refusal.TheVariants.{Syntax, NotYet}
 use Rattle.austral_cli.specs.Calls.{AreTold, is_missing}
 use Rattle.austral_cli.specs.Outcomes.{FileComes, Comes, file_limit}
 

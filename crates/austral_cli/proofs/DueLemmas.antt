@@ -1,23 +1,22 @@
 -- Words and files owe one thing.
-use Rattle.std.proofs.Common.{◌≡◌, ◌≢◌, ℕ, ◌+◌, ◌<◌, ◌≤◌, Bool, true, false, cond, List, [], ◌∷◌, ◌++◌, length, map, Option, Some, None, IsTrue, ap, ◌∙◌, sym, refl, subst, arith, ◌⊎◌, inl, inr, slice_get, codes}
+use Rattle.std.proofs.Common.{◌≡◌, ℕ, ◌<◌, ◌≤◌, Bool, true, false, cond, List, [], ◌∷◌, length, Option, Some, None, ap, ◌∙◌, sym, refl, subst, arith, ◌⊎◌, inl, inr, slice_get, codes}
 use Rattle.std.specs.Option.{option_map}
-use Rattle.au_base.specs.declared.limits.Limit.{Limit}
 use Rattle.au_base.specs.declared.places.Pos.{Pos}
 use Rattle.au_base.specs.declared.statuses.Status.{Status}
 use Rattle.au_base.specs.declared.statuses.Status.TheVariants as status
 use Rattle.au_base.specs.declared.tokens.Token.{Token}
 use Rattle.au_base.specs.Limits.{most_file_bytes}
-use Rattle.au_base.specs.Outside.{Files, Adds}
+use Rattle.au_base.specs.Outside.{Files}
 use Rattle.au_base.specs.Places.{place_after}
 use Rattle.au_syntax.specs.declared.printing.First.{First}
 use Rattle.au_lexer.specs.Cut.{Lexed, tokens, stray, later, long_name, Lexes}
 use Rattle.au_lexer.specs.Faults.{name_limit}
 use Rattle.au_lexer.proofs.UniqueLemmas.{one_outcome}
-use Rattle.au_parser.specs.Files.{Reads, IsUnfinished, IsStrangeAt, IsStrangePlace}
+use Rattle.au_parser.specs.Files.{Reads, IsUnfinished, IsStrangePlace}
 use Rattle.au_parser.proofs.FileLaws.{one_file, read_or_unfinished, read_or_strange, unfinished_or_strange, one_strange}
-use Rattle.austral_cli.specs.Calls.{AreTold, MayOwe, IsPaid, CameTo, IsRefusedSo, HasRun, Pays, is_decided}
+use Rattle.austral_cli.specs.Calls.{AreTold, IsPaid, CameTo, Pays, is_decided}
 use Rattle.austral_cli.specs.Jobs.{Task, IsJob, IsNoJob}
-use Rattle.austral_cli.specs.Outcomes.{FileComes, Comes, Arises, Owes, Due, due_of, file_limit, IsFile}
+use Rattle.austral_cli.specs.Outcomes.{FileComes, Comes, Arises, Owes, Due, due_of, file_limit}
 use Rattle.austral_cli.specs.declared.jobs.Command.TheVariants.{Run}
 use Rattle.austral_cli.specs.declared.outcomes.Outcome.{Outcome}
 use Rattle.austral_cli.specs.declared.outcomes.Outcome.TheVariants as outcome
@@ -231,59 +230,10 @@ came words told faults faults' ends out out' err err' paid decided = elim paid.1
       absurd cc
 ]
 
--- one outcome in place of another of which more is known
-weaker : (words : List (List ℕ)) (told : Option Files) (P Q : List (List ℕ) → Outcome → Type 0) → ((names : List (List ℕ)) (arisen : Outcome) → P names arisen → Q names arisen) → CameTo words told P → CameTo words told Q
-weaker words told P Q f h = (h.0, h.1, h.2, h.3, h.4, f h.2 h.3 h.5)
-
 -- the status of an exit code is no other
-no_refusal : (success : Bool) → status.Refused ≡ cond success status.Success status.Failure → ⊥
-no_refusal true e = cc
-no_refusal false e = cc
-
 no_words : (success : Bool) → status.Words ≡ cond success status.Success status.Failure → ⊥
 no_words true e = cc
 no_words false e = cc
-
--- a refusal was paid for a refusal
-pub came_refused : (words : List (List ℕ)) (told : Option Files) (faults faults' : ℕ) (ends : Status) (out out' err err' : Option (List ℕ)) → IsPaid words told faults faults' ends out out' err err' → ends ≡ status.Refused →
-    CameTo words told (IsRefusedSo err err')
-came_refused words told faults faults' ends out out' err err' paid is =
-    weaker words told _ _ (λ names arisen pays. so names arisen (subst (λ s. Pays (due_of names arisen) s out out' err err') is pays)) (came words told faults faults' ends out out' err err' paid (ap is_decided is))
-  where
-    so : (names : List (List ℕ)) (arisen : Outcome) → Pays (due_of names arisen) status.Refused out out' err err' → IsRefusedSo err err' names arisen
-    so names outcome.NoJob pays = let e = pays.status in absurd cc
-    so names (outcome.Missing name) pays = let e = pays.status in absurd cc
-    so names (outcome.Passes limit) pays = let e = pays.status in absurd cc
-    so names (outcome.Refused refusal) pays = (refusal, refl, pays.err_bytes)
-    so names (outcome.Prints first) pays = absurd (no_refusal first.success pays.status)
-
--- the statuses of the two exit codes
-exit_decided : (b : Bool) → is_decided (cond b status.Success status.Failure) ≡ true
-exit_decided true = refl
-exit_decided false = refl
-
-exit_apart : (b : Bool) (s : Status) → cond b status.Success status.Failure ≡ s → (status.Success ≡ s → ⊥) → (status.Failure ≡ s → ⊥) → ⊥
-exit_apart true s e f g = f e
-exit_apart false s e f g = g e
-
-exit_same : (a b : Bool) → cond a status.Success status.Failure ≡ cond b status.Success status.Failure → b ≡ a
-exit_same true true e = refl
-exit_same true false e = absurd cc
-exit_same false true e = absurd cc
-exit_same false false e = refl
-
--- an exit code was paid for a run
-pub came_run : (words : List (List ℕ)) (told : Option Files) (faults faults' : ℕ) (success : Bool) (ends : Status) (out out' err err' : Option (List ℕ)) → IsPaid words told faults faults' ends out out' err err' → ends ≡ cond success status.Success status.Failure →
-    CameTo words told (HasRun success out out')
-came_run words told faults faults' success ends out out' err err' paid is =
-    weaker words told _ _ (λ names arisen pays. so names arisen (subst (λ s. Pays (due_of names arisen) s out out' err err') is pays)) (came words told faults faults' ends out out' err err' paid (ap is_decided is ∙ exit_decided success))
-  where
-    so : (names : List (List ℕ)) (arisen : Outcome) → Pays (due_of names arisen) (cond success status.Success status.Failure) out out' err err' → HasRun success out out' names arisen
-    so names outcome.NoJob pays = absurd (exit_apart success _ pays.status (λ e. cc) (λ e. cc))
-    so names (outcome.Missing name) pays = absurd (exit_apart success _ pays.status (λ e. cc) (λ e. cc))
-    so names (outcome.Passes limit) pays = absurd (exit_apart success _ pays.status (λ e. cc) (λ e. cc))
-    so names (outcome.Refused refusal) pays = absurd (exit_apart success _ pays.status (λ e. cc) (λ e. cc))
-    so names (outcome.Prints first) pays = (first, refl, exit_same success first.success pays.status, pays.out_bytes)
 
 -- the words line was paid for words that are no job
 pub came_words : (words : List (List ℕ)) (told : Option Files) (faults faults' : ℕ) (ends : Status) (out out' err err' : Option (List ℕ)) → IsPaid words told faults faults' ends out out' err err' → ends ≡ status.Words → IsNoJob words

@@ -1,5 +1,5 @@
 -- Fronts of pieces that stand one behind another.
-use Rattle.std.proofs.Common.{◌≡◌, ℕ, ◌+◌, ◌<◌, min, List, [], ◌∷◌, ◌++◌, length, take, drop, get_or, Option, Result, Ok, Err, OnOk, OnErr, IfOk, IfErr, IsOkUnless, ap, ◌∙◌, sym, refl, subst, inr, arith}
+use Rattle.std.proofs.Common.{◌≡◌, ℕ, ◌+◌, ◌<◌, min, List, ◌++◌, length, take, drop, get_or, Option, Result, Ok, Err, OnOk, OnErr, IfOk, IfErr, IsOkUnless, ap, ◌∙◌, sym, refl, subst, inr, arith}
 use Rattle.std.specs.List.{flat_map}
 use Rattle.std.proofs.Math.Seq.{take-append-add}
 use Rattle.std.proofs.lemmas.List.{take-append-le, take_min, take-append-drop, drop_more}

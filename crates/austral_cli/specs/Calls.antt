@@ -1,10 +1,11 @@
 -- How a call ends, and what it leaves on the sinks.
-use Rattle.std.specs.Prelude.{◌≡◌, ◌<◌, ◌⊎◌, length, ℕ, Bool, true, false, List, [], Option, Some, None, IfSome, Result, Ok, Err}
+use Rattle.std.specs.Prelude.{◌≡◌, ◌<◌, ◌⊎◌, ℕ, Bool, true, false, List, Option, IfSome, Result, Ok, Err}
+use Rattle.au_base.specs.declared.limits.Limit.{Limit}
 use Rattle.au_base.specs.declared.statuses.Status.{Status}
 use Rattle.au_base.specs.declared.statuses.Status.TheVariants as status
 use Rattle.au_base.specs.Outside.{Files, Adds, AddsFront, HasRisen}
 use Rattle.austral_cli.specs.Outcomes.{Due, Owes, Arises, due_line, printed}
-use Rattle.austral_cli.specs.Lines.{refusal_place, refusal_line, read_fault_line}
+use Rattle.austral_cli.specs.Lines.{refusal_place, refusal_line, limit_line, missing_line, read_fault_line}
 use Rattle.std.specs.List.{flat_map}
 use Rattle.au_syntax.specs.declared.printing.First.{First}
 use Rattle.austral_cli.specs.declared.refusals.Refusal.{Refusal}
@@ -104,6 +105,16 @@ CameTo words told P =
 abbrev pub IsRefusedSo : Option (List ℕ) → Option (List ℕ) → List (List ℕ) → Outcome → Type 0
 IsRefusedSo err err' names arisen =
     (refusal : Refusal) × (arisen ≡ outcome.Refused refusal) × Adds err err' (refusal_line names refusal)
+
+-- A limit is passed, and its line stands on `err`.
+abbrev pub HasPassed : Option (List ℕ) → Option (List ℕ) → List (List ℕ) → Outcome → Type 0
+HasPassed err err' names arisen =
+    (limit : Limit) × (arisen ≡ outcome.Passes limit) × Adds err err' (limit_line limit)
+
+-- A file is missing, and the line that says so stands on `err`.
+abbrev pub IsMissingSo : Option (List ℕ) → Option (List ℕ) → List (List ℕ) → Outcome → Type 0
+IsMissingSo err err' names arisen =
+    (name : List ℕ) × (arisen ≡ outcome.Missing name) × Adds err err' (missing_line name)
 
 -- The program ran and returned this exit code, and what it printed stands on `out`.
 abbrev pub HasRun : Bool → Option (List ℕ) → Option (List ℕ) → List (List ℕ) → Outcome → Type 0

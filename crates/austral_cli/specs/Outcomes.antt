@@ -1,5 +1,5 @@
 -- What words and files come to, and what is due for it.
-use Rattle.std.specs.Prelude.{◌≡◌, ℕ, ◌+◌, ◌<◌, ◌≤◌, ◌⊎◌, List, [], ◌∷◌, ◌++◌, length, Option, Some, None, if◌then◌else◌}
+use Rattle.std.specs.Prelude.{◌≡◌, ℕ, ◌<◌, ◌≤◌, ◌⊎◌, List, [], ◌∷◌, ◌++◌, length, Some, None, if◌then◌else◌}
 use Rattle.std.specs.List.{flat_map}
 use Rattle.au_base.specs.declared.limits.Limit.{Limit}
 use Rattle.au_base.specs.declared.limits.LimitKind.TheVariants.{FileBytes}
@@ -9,12 +9,11 @@ use Rattle.au_base.specs.declared.tokens.Token.{Token}
 use Rattle.au_base.specs.Limits.{most_file_bytes}
 use Rattle.au_base.specs.Outside.{Files}
 use Rattle.au_base.specs.Places.{place_after}
-use Rattle.au_syntax.specs.declared.printing.First.{First}
 use Rattle.au_syntax.specs.declared.printing.Print.{Print}
 use Rattle.au_lexer.specs.Cut.{Cut, IsWithinLimits, IsStray, IsLater, HasLongName}
 use Rattle.au_lexer.specs.Faults.{name_limit}
 use Rattle.au_parser.specs.Files.{Reads, IsUnfinished, IsStrangePlace}
-use Rattle.austral_cli.specs.Jobs.{Task, IsJob, IsNoJob}
+use Rattle.austral_cli.specs.Jobs.{IsJob, IsNoJob}
 use Rattle.austral_cli.specs.Lines.{words_line, missing_line, limit_line, refusal_line}
 use Rattle.austral_cli.specs.declared.jobs.Command.TheVariants.{Run}
 use Rattle.austral_cli.specs.declared.outcomes.Outcome.{Outcome}

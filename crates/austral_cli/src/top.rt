@@ -3,7 +3,7 @@
 ghost use Rattle.std.specs.Prelude.{◌≡◌, ◌≢◌, ◌⊎◌, ◌≤◌, Some, true, false, IfOk, IsTrue, map, vec_len, length};
 ghost use Rattle.std.specs.String.{string_bytes};
 ghost use Rattle.au_base.specs.Outside.{Files, HasRisen, Counts};
-ghost use Rattle.austral_cli.specs.Calls.{AreTold, CameTo, HasRun, IsCut, IsPaid, IsPlaced, IsRefusedSo, IsUntouched, MayOwe, Pays, is_decided, is_read_fault, is_missing};
+ghost use Rattle.austral_cli.specs.Calls.{AreTold, CameTo, HasPassed, HasRun, IsCut, IsMissingSo, IsPaid, IsPlaced, IsRefusedSo, IsUntouched, MayOwe, Pays, is_decided, is_read_fault, is_missing};
 ghost use Rattle.austral_cli.specs.Jobs.{IsNoJob};
 ghost use Rattle.austral_cli.specs.Outcomes.{Arises, Due, Owes};
 
@@ -41,6 +41,11 @@ pub fn austral<S: Shelf, I: Source, O: Sink, E: Sink>(
     // 2 comes with the line of a refusal that the file has.
     ensures refused { result ≡ Status.Refused → CameTo (map string_bytes words.now) (S.files shelf.old)
         (IsRefusedSo (E.written err.old) (E.written err.new)) }
+    // 8 comes with the line of a limit that is passed, and 9 with that of the first file that is missing.
+    ensures limit { result ≡ Status.Limit → CameTo (map string_bytes words.now) (S.files shelf.old)
+        (HasPassed (E.written err.old) (E.written err.new)) }
+    ensures missing_file { result ≡ Status.Missing → CameTo (map string_bytes words.now) (S.files shelf.old)
+        (IsMissingSo (E.written err.old) (E.written err.new)) }
     // 0 and 1 come by the exit code, with all that the program prints.
     ensures success { result ≡ Status.Success → CameTo (map string_bytes words.now) (S.files shelf.old)
         (HasRun true (O.written out.old) (O.written out.new)) }

@@ -1,5 +1,5 @@
 -- The line for words that are no job.
-use Rattle.std.proofs.Common.{◌≡◌, IfOk, IfErr, sym, ap, refl, subst, map}
+use Rattle.std.proofs.Common.{IfOk, IfErr, sym, ap, subst, map}
 use Rattle.std.specs.String.{string_bytes}
 use Rattle.au_base.specs.declared.statuses.Status.TheVariants.{Words}
 use Rattle.austral_cli.specs.Calls.{Pays, Fails}

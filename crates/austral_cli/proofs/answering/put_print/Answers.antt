@@ -1,5 +1,5 @@
 -- Where a sink fails, a front of the text, or the text and a front of the newline, stands there.
-use Rattle.std.proofs.Common.{◌≡◌, subst, ap, sym, [], ◌∷◌, ◌++◌, if◌then◌else◌}
+use Rattle.std.proofs.Common.{subst, sym, [], ◌∷◌, ◌++◌, if◌then◌else◌}
 use Rattle.au_base.specs.Outside.{Adds, AddsFront}
 use Rattle.austral_cli.proofs.SinkLemmas.{on_err, front_first, front_second}
 use Rattle.austral_cli.proofs.answering.put_print.Goals as goal

@@ -1,5 +1,5 @@
 -- Where a sink fails, the prints before stand there, and a front of this one.
-use Rattle.std.proofs.Common.{◌≡◌, ◌∙◌, ◌++◌, ap, sym, subst, take, drop, get_or, ◌+◌}
+use Rattle.std.proofs.Common.{◌∙◌, ◌++◌, ap, sym, subst, take, drop, ◌+◌}
 use Rattle.std.specs.List.{flat_map}
 use Rattle.au_base.specs.Outside.{AddsFront}
 use Rattle.austral_cli.specs.Outcomes.{printed}

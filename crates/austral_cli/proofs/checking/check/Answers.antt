@@ -1,6 +1,5 @@
 -- The files are those that the shelf tells, or one of the bytes that it gave.
-use Rattle.std.proofs.Common.{ap, ◌∙◌, sym, subst, length}
-use Rattle.au_base.specs.Limits.{most_file_bytes}
+use Rattle.std.proofs.Common.{◌∙◌, subst}
 use Rattle.austral_cli.specs.Outcomes.{FileComes}
 use Rattle.austral_cli.proofs.ComesLemmas.{comes_whole, comes_missing, comes_large, comes_counts}
 use Rattle.austral_cli.proofs.checking.check.Goals as goal

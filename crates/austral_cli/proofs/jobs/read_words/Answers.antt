@@ -1,5 +1,5 @@
 -- The words are `run` and a name, and the job has that name.
-use Rattle.std.proofs.Common.{◌≡◌, List, [], ◌∷◌, ◌++◌, String, ℕ, ap, ◌∙◌, sym, map, codes, IsTrue, rules}
+use Rattle.std.proofs.Common.{◌≡◌, List, [], ◌∷◌, ◌++◌, String, ℕ, ap, ◌∙◌, map, codes, IsTrue, rules}
 use Rattle.std.specs.Global.{Global}
 use Rattle.std.specs.String.{string_bytes}
 use Rattle.austral_cli.specs.Jobs.{Task, is_file_name}

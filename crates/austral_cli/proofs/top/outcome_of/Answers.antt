@@ -1,5 +1,5 @@
 -- The words are no job, or ask to run the one file that was checked.
-use Rattle.std.proofs.Common.{◌≡◌, [], ◌∷◌, Err, map, ap, ◌∙◌, sym, subst, length}
+use Rattle.std.proofs.Common.{[], ◌∷◌, Err, map, ap, sym, subst}
 use Rattle.std.specs.String.{string_bytes}
 use Rattle.austral_cli.specs.Calls.{IsPlaced}
 use Rattle.austral_cli.specs.Jobs.{task_of}
