@@ -3,3 +3,4 @@ pub mod ComesLemmas
 pub mod SinkLemmas
 pub mod ArisesLemmas
 pub mod DueLemmas
+pub mod ReadLemmas

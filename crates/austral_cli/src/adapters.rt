@@ -1,7 +1,10 @@
-//! The real outside: files, standard input, standard output and standard error. None of them tells
-//! what it holds, so no clause speaks of contents here: this is the edge that is trusted.
+//! The real outside: files, standard input, standard output and standard error. The system tells
+//! none of their contents, so what they hold is the edge that is trusted; where the library's reader or
+//! writer knows its bytes, the functions below pass on just those.
 
-ghost use Rattle.std.specs.Prelude.{◌≡◌, ◌+◌, ◌<◌, ◌≤◌, ◌++◌, [], None, IfOk, length, vec_len};
+ghost use Rattle.std.specs.Prelude.{◌≡◌, ◌≢◌, ◌+◌, ◌<◌, ◌≤◌, ◌++◌, [], ◌∷◌, take, None, IfOk, IfSome, MatchOption, OnOk, length, vec_len};
+ghost use Rattle.std.specs.IoError.{error_kind};
+ghost use Rattle.std.specs.Io.KnownBytes.{Appends, Consumes, IsAtEnd};
 ghost use Rattle.au_base.specs.Limits.{most_file_bytes};
 ghost use Rattle.au_base.specs.Outside.{Counts, FillsRoom, is_fault, is_miss};
 
@@ -21,7 +24,10 @@ pub struct DiskShelf<R> {
 
 impl<R: Files> DiskShelf<R> {
     /// The files that this runtime reaches.
-    pub fn new(rt: R) -> DiskShelf<R> {
+    pub fn new(rt: R) -> DiskShelf<R>
+        ensures faults { result.faults ≡ 0 }
+        ensures misses { result.misses ≡ 0 }
+    {
         DiskShelf {
             rt,
             faults: 0,
@@ -29,8 +35,12 @@ impl<R: Files> DiskShelf<R> {
         }
     }
 
-    /// Counts an error.
+    /// The answer for an error, which is counted.
     fn refuse(&mut self, error: &io::Error) -> Fetch
+        ensures missing { error_kind error.now ≡ ErrorKind.NotFound → result ≡ Fetch.Missing }
+        ensures memory { error_kind error.now ≡ ErrorKind.OutOfMemory → result ≡ Fetch.Memory }
+        ensures failed { error_kind error.now ≢ ErrorKind.NotFound
+            → error_kind error.now ≢ ErrorKind.OutOfMemory → result ≡ Fetch.Failed }
         ensures faults { Counts (is_fault result) self.old.faults self.new.faults }
         ensures misses { Counts (is_miss result) self.old.misses self.new.misses }
         ensures room { FillsRoom result [] }
@@ -57,11 +67,11 @@ impl<R: Files> Shelf for DiskShelf<R> {
     ghost files = { λ _. None };
 
     fn fetch(&mut self, name: &str, room: &mut Vec<u8>) -> Fetch {
-        let mut file = match fs::open(&self.rt, name) {
+        let file = match fs::open(&self.rt, name) {
             Ok(file) => file,
             Err(error) => return self.refuse(&error),
         };
-        match read_front(&mut file, room) {
+        match read_front(file, room) {
             Ok(()) if room.len() > MOST_FILE_BYTES => Fetch::TooLarge,
             Ok(()) => Fetch::Whole,
             Err(error) => {
@@ -73,19 +83,13 @@ impl<R: Files> Shelf for DiskShelf<R> {
 }
 
 /// Reads to the end, or one byte more than a file may have.
-fn read_front<F: Read>(file: &mut F, room: &mut Vec<u8>) -> io::Result<()>
-    requires { vec_len room.old ≡ 0 }
-    ensures { vec_len room.new ≤ most_file_bytes + 1 }
+fn read_front<F: Read + Drop>(file: F, room: &mut Vec<u8>) -> io::Result<()>
+    requires { room.old.items ≡ [] }
+    ensures within { OnOk result (vec_len room.new ≤ most_file_bytes + 1) }
+    ensures bytes { OnOk result (IfSome (F.remaining file) (λ bytes. room.new.items ≡ take (most_file_bytes + 1) bytes)) }
 {
-    let mut buffer = [0u8; 4096];
-    for _ in 0..MOST_FILE_BYTES + 1 {
-        let wanted = buffer.len().min(MOST_FILE_BYTES + 1 - room.len());
-        let size = file.read(&mut buffer[..wanted])?;
-        if size == 0 {
-            break;
-        }
-        room.extend_from_slice(&buffer[..size])?;
-    }
+    file.take(MOST_FILE_BYTES as u64 + 1).read_to_end(room)?;
+    room.truncate(MOST_FILE_BYTES + 1);
     Ok(())
 }
 
@@ -98,8 +102,23 @@ pub struct StdinSource<R> {
 
 impl<R: Read> StdinSource<R> {
     /// The bytes of this reader.
-    pub fn new(reader: R) -> StdinSource<R> {
+    pub fn new(reader: R) -> StdinSource<R>
+        ensures faults { result.faults ≡ 0 }
+    {
         StdinSource { reader, faults: 0 }
+    }
+
+    /// The next byte of the reader, or none at its end.
+    fn next_byte(&mut self) -> io::Result<Option<u8>>
+        ensures bytes { IfOk result (λ next. MatchOption next (IsAtEnd (R.remaining self.new.reader))
+            (λ byte. Consumes (R.remaining self.old.reader) (R.remaining self.new.reader) (byte ∷ []))) }
+        ensures faults { self.new.faults ≡ self.old.faults }
+    {
+        let mut byte = [0u8; 1];
+        match self.reader.read(&mut byte)? {
+            0 => Ok(None),
+            _ => Ok(Some(byte[0])),
+        }
     }
 }
 
@@ -109,10 +128,9 @@ impl<R: Read> Source for StdinSource<R> {
     ghost left = { λ _. None };
 
     fn next(&mut self) -> Next {
-        let mut byte = [0u8; 1];
-        match self.reader.read(&mut byte) {
-            Ok(0) => Next::End,
-            Ok(_) => Next::Byte(byte[0]),
+        match self.next_byte() {
+            Ok(Some(byte)) => Next::Byte(byte),
+            Ok(None) => Next::End,
             Err(_) => {
                 self.faults = self.faults.saturating_add(1);
                 Next::Failed
@@ -136,13 +154,16 @@ pub type StderrSink<W> = StreamSink<W>;
 
 impl<W: Write> StreamSink<W> {
     /// The stream of this writer.
-    pub fn new(writer: W) -> StreamSink<W> {
+    pub fn new(writer: W) -> StreamSink<W>
+        ensures faults { result.faults ≡ 0 }
+    {
         StreamSink { writer, faults: 0 }
     }
 
     /// Writes some of a piece, and flushes.
     fn write(&mut self, piece: &[u8]) -> io::Result<usize>
         ensures size { IfOk result (λ size. size ≤ length piece.now) }
+        ensures bytes { IfOk result (λ size. Appends (W.contents self.old.writer) (W.contents self.new.writer) (take size piece.now)) }
         ensures faults { self.new.faults ≡ self.old.faults }
     {
         let size = self.writer.write(piece)?;

@@ -11,13 +11,19 @@ mod top;
 
 use adapters::{DiskShelf, StdinSource, StreamSink};
 use au_base::Status;
+use std::io::ErrorKind;
 use std::process::ExitCode;
 use std::{env, io};
 use top::austral;
 
 fn main(rt: HostRuntime) -> ExitCode {
-    let Ok(words) = words_of(&rt) else {
-        return ExitCode::from(Status::Words.number());
+    let words = match words_of(&rt) {
+        Ok(words) => words,
+        Err(error) if error.kind() == ErrorKind::OutOfMemory => {
+            return ExitCode::from(Status::Memory.number());
+        }
+        // Words that aren't UTF-8 are no job, as no words are.
+        Err(_) => Vec::new(rt.alloc()),
     };
     let mut input = StdinSource::new(rt.stdin());
     let mut out = StreamSink::new(rt.stdout());
