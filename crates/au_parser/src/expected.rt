@@ -1,3 +1,5 @@
+//! Tokens that have to stand at a place, and whether they do.
+
 ghost use Rattle.std.specs.Prelude.{◌≡◌, map};
 ghost use Rattle.au_parser.specs.Files.{whats};
 ghost use Rattle.au_parser.specs.Readers.{Gives, expected_what, same_what, word_at, words_at};

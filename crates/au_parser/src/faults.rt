@@ -1,3 +1,5 @@
+//! Why tokens are not read, as the caller sees it.
+
 use au_base::Pos;
 use thiserror::Error;
 

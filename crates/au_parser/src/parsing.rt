@@ -1,3 +1,5 @@
+//! From the tokens of a file to its tree.
+
 ghost use Rattle.std.specs.Prelude.{◌≡◌, IfOk, MatchResult};
 ghost use Rattle.au_base.specs.declared.places.Pos.{Pos};
 ghost use Rattle.au_syntax.specs.Words.{words};

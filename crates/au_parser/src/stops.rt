@@ -1,3 +1,5 @@
+//! Why reading stops, within this crate.
+
 ghost use Rattle.std.specs.Prelude.{◌≡◌, length};
 ghost use Rattle.au_parser.specs.Files.{whats};
 

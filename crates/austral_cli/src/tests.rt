@@ -215,7 +215,11 @@ fn large_files(rt: HostRuntime) -> Result<(), Fail> {
 
 /// Calls of which one of the shelf or of a sink fails: the file, the call of `fetch`, of `out` and of
 /// `err` that is to fail (0 for none), and what stands on `out` and on `err` then, with the status.
-const FAILING: [(&[u8], u64, u64, u64, &[u8], &[u8], u8); 9] = [
+const FAILING: [(&[u8], u64, u64, u64, &[u8], &[u8], u8); 13] = [
+    (HELLO, 1, 0, 0, b"", b"read fault\n", 5),
+    (HELLO, 0, 1, 0, b"", b"", 6),
+    (HELLO, 0, 2, 0, b"Hello, world!", b"", 6),
+    (HELLO, 0, 0, 1, b"Hello, world!\n", b"", 0),
     (TWICE, 1, 0, 0, b"", b"read fault\n", 5),
     (TWICE, 1, 0, 1, b"", b"", 6),
     (TWICE, 0, 1, 0, b"", b"", 6),
