@@ -23,7 +23,10 @@ pub mod writing;
 
 pub use faults::Memory;
 pub use kinds::IntKind;
-pub use limits::{Limit, LimitKind, MOST_FILE_BYTES, MOST_NAME_BYTES};
+pub use limits::{
+    Limit, LimitKind, MOST_FILE_BYTES, MOST_LITERAL_DIGITS, MOST_NAME_BYTES, MOST_NESTING,
+    MOST_TEXT_BYTES, MOST_TOKENS, MOST_TYPE_DEPTH, MOST_TYPE_NODES,
+};
 pub use memory_shelf::MemoryShelf;
 pub use memory_sink::MemorySink;
 pub use memory_source::MemorySource;

@@ -295,6 +295,8 @@ pub enum What {
     Sign(Sign),
     /// A name, by its bytes.
     Name(Name),
+    /// A number: its value, and how many digits it is written with, leading zeros among them.
+    Number { value: i128, digits: u32 },
     /// A text, by the bytes that it means.
     Text(Text),
 }
