@@ -1,1 +1,9 @@
-pub mod Words
+pub mod Printing
+pub mod Names
+pub mod Types
+pub mod Expressions
+pub mod Statements
+pub mod Modules
+pub mod Views
+pub mod Plain
+pub mod Notes

@@ -1,6 +1,24 @@
 //! What a file says, without its spelling.
 #![tactic(auto)]
 
+pub mod copying;
+pub mod declarations;
+pub mod expressions;
+pub mod modules;
+pub mod names;
+pub mod parsed;
+pub mod phases;
 pub mod printing;
+pub mod probing;
+pub mod statements;
+pub mod types;
 
+pub use declarations::{Decl, Generic, Method, Signature, TypeParameter, UnionCase, Universe};
+pub use expressions::{Argument, BinaryOperator, BorrowMode, Expr, Literal, Site};
+pub use modules::{Import, Module, Part};
+pub use names::{Bind, Field, Ident, Renamed};
+pub use parsed::Parsed;
+pub use phases::Phase;
 pub use printing::{First, Print};
+pub use statements::{Arm, Binding, Block, Branch, Stmt};
+pub use types::{Access, TypeName, TypeText};
