@@ -7,3 +7,7 @@ pub mod Modules
 pub mod Views
 pub mod Plain
 pub mod Notes
+pub mod Words
+pub mod Forms
+pub mod Depths
+pub mod Sizes

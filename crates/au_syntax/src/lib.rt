@@ -4,14 +4,15 @@
 pub mod copying;
 pub mod declarations;
 pub mod expressions;
+pub mod laws;
 pub mod modules;
 pub mod names;
 pub mod parsed;
 pub mod phases;
 pub mod printing;
-pub mod probing;
 pub mod statements;
 pub mod types;
+pub mod wholes;
 
 pub use declarations::{Decl, Generic, Method, Signature, TypeParameter, UnionCase, Universe};
 pub use expressions::{Argument, BinaryOperator, BorrowMode, Expr, Literal, Site};
