@@ -1,5 +1,5 @@
 -- How deep a tree is nested: the expressions and statements from a declaration down to one of them.
-use Rattle.std.specs.Prelude.{ℕ, ◌+◌, List, [], ◌∷◌, max}
+use Rattle.std.specs.Prelude.{ℕ, ◌+◌, List, [], ◌∷◌, max, min}
 use Rattle.au_syntax.specs.Expressions.{number, negative, text, truth, nil, path, arrow, call, named_call, parenthesized, dereference, borrow, borrow_part, binary, negation, typed, choice, no_expressions, expressions, no_arguments, arguments}
 use Rattle.au_syntax.specs.Statements.{skip, declare, destructure, assign, assign_through, conditional, conditional_else, case_of, while_loop, for_loop, borrow_in, borrow_typed, discard, return_of, no_statements, statements, no_branches, branches, no_arms, arms}
 use Rattle.au_syntax.specs.Modules.{constant, opaque_type, record_type, union_type, function, class, instance, constant_body, function_body, instance_body}
@@ -88,3 +88,11 @@ declaration_depth (instance_body at generics name t methods) = greatest method_d
 -- the nesting of a file
 abbrev pub module_depth : PlainModule → ℕ
 module_depth m = greatest declaration_depth m.declarations
+
+-- the greatest number that code counts to
+abbrev pub most_counted : ℕ
+most_counted = 4294967295
+
+-- a number as code counts it
+abbrev pub counted : ℕ → ℕ
+counted n = min n most_counted

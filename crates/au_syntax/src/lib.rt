@@ -3,6 +3,7 @@
 
 pub mod copying;
 pub mod declarations;
+pub mod depths;
 pub mod expressions;
 pub mod laws;
 pub mod modules;
