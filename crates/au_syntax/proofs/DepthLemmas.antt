@@ -1,5 +1,5 @@
 -- How deep lists of trees are, and what one more of them adds.
-use Rattle.std.proofs.Common.{◌≡◌, ℕ, ◌+◌, ◌*◌, ◌<◌, ◌≤◌, List, [], ◌∷◌, ◌++◌, length, take, ap, ◌∙◌, sym, refl, get_or, max, min, arith}
+use Rattle.std.proofs.Common.{◌≡◌, ℕ, ◌+◌, ◌*◌, ◌<◌, ◌≤◌, List, [], ◌∷◌, ◌++◌, length, take, ap, ◌∙◌, sym, refl, get_or, max, min, map, arith}
 use Rattle.std.proofs.lemmas.List.{take_more}
 use denote.Param.Weighed.{most, at_most}
 use Rattle.au_syntax.specs.declared.phases.Phase.{Ghosts}
@@ -33,12 +33,14 @@ max_last3 a b r x = omega arith
 ends : (a b : ℕ) → max a (max b 0) ≡ max 0 (max a b)
 ends a b = omega arith
 
-pub greatest_push : {A : Type 0} (size : A → ℕ) (xs : List A) (x : A) → greatest size (xs ++ x ∷ []) ≡ max (greatest size xs) (size x)
-greatest_push size [] x = max_none (size x)
-greatest_push size (y ∷ ys) x = ap (max (size y)) (greatest_push size ys x) ∙ max_last (size y) (greatest size ys) (size x)
+-- the greatest of a list that is seen through two views, and one more
+greatest_seen_push : {A B D : Type 0} (size : D → ℕ) (p : B → D) (v : A → B) (xs : List A) (x : A) → greatest size (map p (map v (xs ++ x ∷ []))) ≡ max (greatest size (map p (map v xs))) (size (p (v x)))
+greatest_seen_push size p v [] x = max_none (size (p (v x)))
+greatest_seen_push size p v (y ∷ ys) x = ap (max (size (p (v y)))) (greatest_seen_push size p v ys x) ∙ max_last (size (p (v y))) (greatest size (map p (map v ys))) (size (p (v x)))
 
-pub greatest_more : {A : Type 0} (size : A → ℕ) (xs : List A) (i : ℕ) (d : A) → i < length xs → greatest size (take (i + 1) xs) ≡ max (greatest size (take i xs)) (size (get_or xs i d))
-greatest_more size xs i d h = ap (greatest size) (take_more xs i d h) ∙ greatest_push size (take i xs) (get_or xs i d)
+pub greatest_seen_more : {A B D : Type 0} (size : D → ℕ) (p : B → D) (v : A → B) (xs : List A) (i : ℕ) (d : A) → i < length xs →
+    greatest size (map p (map v (take (i + 1) xs))) ≡ max (greatest size (map p (map v (take i xs)))) (size (p (v (get_or xs i d))))
+greatest_seen_more size p v xs i d h = ap (λ r. greatest size (map p (map v r))) (take_more xs i d h) ∙ greatest_seen_push size p v (take i xs) (get_or xs i d)
 
 -- an item is smaller than the list that holds it
 pub item_falls : {A : Type 0} (size : A → ℕ) (xs ys : List A) (i : ℕ) (x : A) (t : ℕ) → 2 * most size ys + 1 ≡ t → xs ≡ ys → i < length xs → x ≡ get_or xs i x → 2 * size x + 0 < t
@@ -94,4 +96,4 @@ module _ {X N T C : Type 0} (g : Ghosts X N T C) where
       arms_depth (plain_arms g.name_bytes (arm_all g (take (i + 1) xs))) ≡ max (arms_depth (plain_arms g.name_bytes (arm_all g (take i xs)))) (block_depth (plain_statements g.name_bytes (block g (get_or xs i d).block)))
   deep_arms_more xs i d h = ap (λ r. arms_depth (plain_arms g.name_bytes (arm_all g r))) (take_more xs i d h) ∙ deep_arms_push (take i xs) (get_or xs i d)
 
-pub ruleset depth_steps = (counted_max, greatest_more, deep_expressions_more, deep_arguments_more, deep_statements_more, deep_branches_more, deep_arms_more)
+pub ruleset depth_steps = (counted_max, deep_expressions_more, deep_arguments_more, deep_statements_more, deep_branches_more, deep_arms_more)

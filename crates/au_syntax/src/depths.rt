@@ -2,7 +2,7 @@
 //!
 //! A whole file is far within what can be counted; a deeper tree is counted up to 2^32 - 1.
 
-ghost use Rattle.std.specs.Prelude.{◌≡◌, ◌+◌, max};
+ghost use Rattle.std.specs.Prelude.{◌≡◌, ◌+◌, max, map};
 ghost use Rattle.au_syntax.specs.Views.{expression, expression_all, argument_all, statement, statement_all, block, branch_all, arm_all, method_body, declaration, module_tree};
 ghost use Rattle.au_syntax.specs.Plain.{plain_expression, plain_expressions, plain_arguments, plain_statement, plain_statements, plain_branches, plain_arms, plain_method, plain_declaration, plain_module};
 ghost use Rattle.au_syntax.specs.Depths as spec;
@@ -149,7 +149,7 @@ fn branches_depth<P: Phase>(branches: &Vec<Branch<P>>) -> u32
 {
     let mut deepest = 0;
     for one in branches {
-        let depth = deeper(expression_depth(&one.test), block_depth(&one.block));
+        let depth = branch_depth(one);
         deepest = deeper(deepest, depth);
     }
     deepest
@@ -163,7 +163,71 @@ fn arms_depth<P: Phase>(arms: &Vec<Arm<P>>) -> u32
 {
     let mut deepest = 0;
     for one in arms {
-        let depth = block_depth(&one.block);
+        let depth = arm_depth(one);
+        deepest = deeper(deepest, depth);
+    }
+    deepest
+}
+
+/// The nesting of a branch: of its test and its block.
+#[cycle(statement_depth)]
+fn branch_depth<P: Phase>(branch: &Branch<P>) -> u32
+    ensures {
+        result ≡ counted (max (spec.expression_depth (plain_expression P.name_bytes (expression P.Phase branch.now.test.value)))
+            (spec.block_depth (plain_statements P.name_bytes (block P.Phase branch.now.block))))
+    }
+{
+    deeper(expression_depth(&branch.test), block_depth(&branch.block))
+}
+
+/// The nesting of an arm, which is that of its block.
+#[cycle(statement_depth)]
+fn arm_depth<P: Phase>(arm: &Arm<P>) -> u32
+    ensures { result ≡ counted (spec.block_depth (plain_statements P.name_bytes (block P.Phase arm.now.block))) }
+{
+    block_depth(&arm.block)
+}
+
+/// The nesting of the deepest of some methods.
+fn methods_depth<P: Phase>(methods: &Vec<Method<P>>) -> u32
+    ensures {
+        result ≡ counted (greatest spec.method_depth (map (plain_method P.name_bytes) (map (method_body P.Phase) methods.now.items)))
+    }
+{
+    let mut deepest = 0;
+    for one in methods {
+        let depth = block_depth(&one.body);
+        deepest = deeper(deepest, depth);
+    }
+    deepest
+}
+
+/// The nesting of a declaration, which is no node itself.
+#[tactic(auto, using(crate::proofs::DeclarationLemmas::declaration_steps, std::proofs::lemmas::Grind::common_steps))]
+pub fn declaration_depth<P: Phase>(decl: &Decl<P>) -> u32
+    ensures { result ≡ counted (spec.declaration_depth (plain_declaration P.name_bytes (declaration P.Phase decl.now))) }
+{
+    match decl {
+        Decl::Constant(_, _, _) => 0,
+        Decl::Opaque(_, _, _, _) => 0,
+        Decl::Record(_, _, _, _, _) => 0,
+        Decl::Union(_, _, _, _, _) => 0,
+        Decl::Function(_, _, _) => 0,
+        Decl::Class(_, _, _, _) => 0,
+        Decl::Instance(_, _, _, _) => 0,
+        Decl::ConstantBody(_, _, _, expr) => expression_depth(expr),
+        Decl::FunctionBody(_, _, _, body, _) => block_depth(body),
+        Decl::InstanceBody(_, _, _, _, methods) => methods_depth(methods),
+    }
+}
+
+/// The nesting of a module: that of its deepest declaration.
+pub fn module_depth<P: Phase>(tree: &Module<P>) -> u32
+    ensures { result ≡ counted (spec.module_depth (plain_module P.name_bytes (module_tree P.Phase tree.now))) }
+{
+    let mut deepest = 0;
+    for one in &tree.declarations {
+        let depth = declaration_depth(one);
         deepest = deeper(deepest, depth);
     }
     deepest
