@@ -11,3 +11,4 @@ pub mod Words
 pub mod Forms
 pub mod Depths
 pub mod Sizes
+pub mod Files

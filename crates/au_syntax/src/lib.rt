@@ -24,3 +24,4 @@ pub use phases::Phase;
 pub use printing::{First, Print};
 pub use statements::{Arm, Binding, Block, Branch, Stmt};
 pub use types::{Access, TypeName, TypeText};
+pub use wholes::{FileTree, Whole};

@@ -1,32 +1,41 @@
 //! Whole files.
 
-ghost use Rattle.std.specs.Prelude.{◌≡◌, IsTrue};
-ghost use Rattle.au_syntax.specs.Views.{module_tree};
-ghost use Rattle.au_syntax.specs.Plain.{plain_module};
-ghost use Rattle.au_syntax.specs.Forms.{formed_module};
-ghost use Rattle.au_syntax.specs.Sizes.{fits};
-ghost use Rattle.au_syntax.specs.Notes.{notes_of_module};
+ghost use Rattle.std.specs.Prelude.{◌≡◌, ◌≤◌, IsTrue};
+ghost use Rattle.au_base.specs.Limits.{most_nesting};
+ghost use Rattle.au_syntax.specs.Depths as depths;
+ghost use Rattle.au_syntax.specs.Files.{says, is_formed, is_within, is_allowed};
 
+use crate::depths::module_depth;
 use crate::modules::Module;
+use crate::parsed::Parsed;
 use crate::phases::Phase;
 
 /// The module of a file, of which is known that it has the form that the grammar asks for (operands
-/// are atoms, and no last block of a conditional begins with an `if`), that it is within the limits of
-/// nesting, of types and of module names, and that the phase allows each of its notes.
+/// are atoms, and the last block of a conditional doesn't begin with an `if`), that it is within the
+/// limits of nesting, of types and of module names, and that the phase allows each of its notes.
 #[derive(Drop)]
 pub struct Whole<P: Phase> {
     tree: Module<P>,
-    pub ghost formed: { IsTrue (formed_module (plain_module P.name_bytes (module_tree P.Phase tree))) },
-    pub ghost fits: { IsTrue (fits (plain_module P.name_bytes (module_tree P.Phase tree))) },
-    pub ghost notes: { IsTrue (notes_of_module P.allows_type P.allows_call (module_tree P.Phase tree)) },
+    pub ghost formed: { IsTrue (is_formed P.Phase tree) },
+    pub ghost within: { IsTrue (is_within P.Phase tree) },
+    pub ghost allowed: { IsTrue (is_allowed P.Phase tree) },
+}
+
+/// The whole file of a number.
+#[derive(Drop)]
+pub struct FileTree {
+    /// The number that places name the file by.
+    pub file: u16,
+    /// What it holds.
+    pub tree: Whole<Parsed>,
 }
 
 impl<P: Phase> Whole<P> {
-    /// The whole file of a module.
+    /// The whole file of a module that is one.
     pub fn new(tree: Module<P>) -> Whole<P>
-        requires formed { IsTrue (formed_module (plain_module P.name_bytes (module_tree P.Phase tree))) }
-        requires fits { IsTrue (fits (plain_module P.name_bytes (module_tree P.Phase tree))) }
-        requires notes { IsTrue (notes_of_module P.allows_type P.allows_call (module_tree P.Phase tree)) }
+        requires formed { IsTrue (is_formed P.Phase tree) }
+        requires within { IsTrue (is_within P.Phase tree) }
+        requires allowed { IsTrue (is_allowed P.Phase tree) }
         ensures { result.tree ≡ tree }
     {
         Whole { tree }
@@ -35,9 +44,9 @@ impl<P: Phase> Whole<P> {
     /// Its module.
     pub fn tree(&self) -> &Module<P>
         ensures same { result.now ≡ self.now.tree }
-        ensures formed { IsTrue (formed_module (plain_module P.name_bytes (module_tree P.Phase result.now))) }
-        ensures fits { IsTrue (fits (plain_module P.name_bytes (module_tree P.Phase result.now))) }
-        ensures notes { IsTrue (notes_of_module P.allows_type P.allows_call (module_tree P.Phase result.now)) }
+        ensures formed { IsTrue (is_formed P.Phase result.now) }
+        ensures within { IsTrue (is_within P.Phase result.now) }
+        ensures allowed { IsTrue (is_allowed P.Phase result.now) }
     {
         &self.tree
     }
@@ -45,10 +54,18 @@ impl<P: Phase> Whole<P> {
     /// Its module, by value.
     pub fn into_tree(self) -> Module<P>
         ensures same { result ≡ self.tree }
-        ensures formed { IsTrue (formed_module (plain_module P.name_bytes (module_tree P.Phase result))) }
-        ensures fits { IsTrue (fits (plain_module P.name_bytes (module_tree P.Phase result))) }
-        ensures notes { IsTrue (notes_of_module P.allows_type P.allows_call (module_tree P.Phase result)) }
+        ensures formed { IsTrue (is_formed P.Phase result) }
+        ensures within { IsTrue (is_within P.Phase result) }
+        ensures allowed { IsTrue (is_allowed P.Phase result) }
     {
         self.tree
+    }
+
+    /// Its nesting: the expressions and statements from a declaration down to the deepest of them.
+    pub fn depth(&self) -> u32
+        ensures depth { result ≡ depths.module_depth (says P.Phase self.now.tree) }
+        ensures most { result ≤ most_nesting }
+    {
+        module_depth(&self.tree)
     }
 }
