@@ -3,3 +3,4 @@ pub mod ExpressionLemmas
 pub mod StatementLemmas
 pub mod DeclarationLemmas
 pub mod DepthLemmas
+pub mod PartLemmas

@@ -12,3 +12,4 @@ pub mod Forms
 pub mod Depths
 pub mod Sizes
 pub mod Files
+pub mod Parts

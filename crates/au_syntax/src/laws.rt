@@ -1,10 +1,30 @@
-//! Laws.
-ghost use Rattle.std.specs.Prelude.{◌≡◌, List};
-ghost use Rattle.au_base.specs.declared.tokens.Token.{Token};
-ghost use Rattle.au_syntax.specs.Plain.{PlainModule};
-ghost use Rattle.au_syntax.specs.Words.{Spells};
+//! Laws of the definitions.
 
-/// Probe.
-pub fn probe()
-    ensures { (m : PlainModule) (tokens : List Token) → Spells m tokens → Spells m tokens }
+ghost use Rattle.std.specs.Prelude.{◌<◌, Bool, IsTrue, length};
+ghost use Rattle.au_syntax.specs.Depths.{expression_depth};
+ghost use Rattle.au_syntax.specs.Parts.{Each, parts, substatements, nodes};
+ghost use Rattle.au_syntax.specs.Plain.{PlainExpression, PlainStatement};
+
+/// What holds of an expression wherever it holds of its parts, holds of every expression.
+pub fn expression_induction()
+    ensures { (test : PlainExpression → Bool)
+        → ((e : PlainExpression) → Each (λ part. IsTrue (test part)) (parts e) → IsTrue (test e))
+        → (e : PlainExpression) → IsTrue (test e) }
+{}
+
+/// What holds of a statement wherever it holds of the statements in it, holds of every statement.
+pub fn statement_induction()
+    ensures { (test : PlainStatement → Bool)
+        → ((s : PlainStatement) → Each (λ part. IsTrue (test part)) (substatements s) → IsTrue (test s))
+        → (s : PlainStatement) → IsTrue (test s) }
+{}
+
+/// The parts of an expression are less deeply nested.
+pub fn parts_are_shallower()
+    ensures { (e : PlainExpression) → Each (λ part. expression_depth part < expression_depth e) (parts e) }
+{}
+
+/// The parts of an expression have fewer nodes.
+pub fn parts_are_smaller()
+    ensures { (e : PlainExpression) → Each (λ part. length (nodes part) < length (nodes e)) (parts e) }
 {}

@@ -1,0 +1,138 @@
+-- The parts of expressions and statements, in the order of the text, and all that stands in them.
+use Rattle.std.specs.Prelude.{ℕ, ◌+◌, List, [], ◌∷◌, ◌++◌}
+use Rattle.au_syntax.specs.Expressions.{Expression, Expressions, Arguments, number, negative, text, truth, nil, path, arrow, call, named_call, parenthesized, dereference, borrow, borrow_part, binary, negation, typed, choice, no_expressions, expressions, no_arguments, arguments}
+use Rattle.au_syntax.specs.Statements.{Statement, Statements, Branches, Arms, skip, declare, destructure, assign, assign_through, conditional, conditional_else, case_of, while_loop, for_loop, borrow_in, borrow_typed, discard, return_of, no_statements, statements, no_branches, branches, no_arms, arms}
+
+-- P holds of each of a list.
+abbrev pub Each : {A : Type 0} → (A → Type 0) → List A → Type 0
+Each P [] = Unit {0}
+Each P (x ∷ xs) = P x × Each P xs
+
+module _ {N T C : Type 0} where
+  -- expressions as a list
+  abbrev pub each_expression : Expressions N T C → List (Expression N T C)
+  each_expression no_expressions = []
+  each_expression (expressions e rest) = e ∷ each_expression rest
+
+  -- the values of named arguments
+  abbrev pub each_argument : Arguments N T C → List (Expression N T C)
+  each_argument no_arguments = []
+  each_argument (arguments label e rest) = e ∷ each_argument rest
+
+  -- the expressions that stand directly in an expression
+  abbrev pub parts : Expression N T C → List (Expression N T C)
+  parts (number node literal) = []
+  parts (negative node literal) = []
+  parts (text node bytes) = []
+  parts (truth node value) = []
+  parts (nil node) = []
+  parts (path node name fields) = []
+  parts (arrow node name fields) = []
+  parts (call node name args note) = each_expression args
+  parts (named_call node name args note) = each_argument args
+  parts (parenthesized node e) = e ∷ []
+  parts (dereference node e) = e ∷ []
+  parts (borrow node mode name) = []
+  parts (borrow_part node name fields) = []
+  parts (binary node operator a b) = a ∷ b ∷ []
+  parts (negation node e) = e ∷ []
+  parts (typed node e t) = e ∷ []
+  parts (choice node c a b) = c ∷ a ∷ b ∷ []
+
+  -- statements as a list
+  abbrev pub each_statement : Statements N T C → List (Statement N T C)
+  each_statement no_statements = []
+  each_statement (statements s rest) = s ∷ each_statement rest
+
+  -- the statements of branches
+  abbrev pub branch_statements : Branches N T C → List (Statement N T C)
+  branch_statements no_branches = []
+  branch_statements (branches e block rest) = each_statement block ++ branch_statements rest
+
+  -- the statements of arms
+  abbrev pub arm_statements : Arms N T C → List (Statement N T C)
+  arm_statements no_arms = []
+  arm_statements (arms at name binds block rest) = each_statement block ++ arm_statements rest
+
+  -- the statements that stand directly in a statement
+  abbrev pub substatements : Statement N T C → List (Statement N T C)
+  substatements (skip at) = []
+  substatements (declare at binding name t e) = []
+  substatements (destructure at binds e) = []
+  substatements (assign at name fields e) = []
+  substatements (assign_through at name fields e) = []
+  substatements (conditional at tests) = branch_statements tests
+  substatements (conditional_else at tests block) = branch_statements tests ++ each_statement block
+  substatements (case_of at e rest) = arm_statements rest
+  substatements (while_loop at e block) = each_statement block
+  substatements (for_loop at name a z block) = each_statement block
+  substatements (borrow_in at access x r region block stop) = each_statement block
+  substatements (borrow_typed at r t mode x block stop) = each_statement block
+  substatements (discard at e) = []
+  substatements (return_of at e) = []
+
+-- a node of a tree: an expression or a statement
+pub data TreeNode (N T C : Type 0) : Type 0 where
+  an_expression : Expression N T C → TreeNode N T C
+  a_statement : Statement N T C → TreeNode N T C
+
+module _ {N T C : Type 0} where
+  abbrev mutual
+    -- an expression and all in it, each before what stands in it
+    pub nodes : Expression N T C → List (TreeNode N T C)
+    nodes (number node literal) = an_expression (number node literal) ∷ []
+    nodes (negative node literal) = an_expression (negative node literal) ∷ []
+    nodes (text node bytes) = an_expression (text node bytes) ∷ []
+    nodes (truth node value) = an_expression (truth node value) ∷ []
+    nodes (nil node) = an_expression (nil node) ∷ []
+    nodes (path node name fields) = an_expression (path node name fields) ∷ []
+    nodes (arrow node name fields) = an_expression (arrow node name fields) ∷ []
+    nodes (call node name args note) = an_expression (call node name args note) ∷ nodes_of_each args
+    nodes (named_call node name args note) = an_expression (named_call node name args note) ∷ nodes_of_arguments args
+    nodes (parenthesized node e) = an_expression (parenthesized node e) ∷ nodes e
+    nodes (dereference node e) = an_expression (dereference node e) ∷ nodes e
+    nodes (borrow node mode name) = an_expression (borrow node mode name) ∷ []
+    nodes (borrow_part node name fields) = an_expression (borrow_part node name fields) ∷ []
+    nodes (binary node operator a b) = an_expression (binary node operator a b) ∷ nodes a ++ nodes b
+    nodes (negation node e) = an_expression (negation node e) ∷ nodes e
+    nodes (typed node e t) = an_expression (typed node e t) ∷ nodes e
+    nodes (choice node c a b) = an_expression (choice node c a b) ∷ nodes c ++ nodes a ++ nodes b
+
+    pub nodes_of_each : Expressions N T C → List (TreeNode N T C)
+    nodes_of_each no_expressions = []
+    nodes_of_each (expressions e rest) = nodes e ++ nodes_of_each rest
+
+    pub nodes_of_arguments : Arguments N T C → List (TreeNode N T C)
+    nodes_of_arguments no_arguments = []
+    nodes_of_arguments (arguments label e rest) = nodes e ++ nodes_of_arguments rest
+
+  abbrev mutual
+    -- a statement and all in it, each before what stands in it
+    pub nodes_of_statement : Statement N T C → List (TreeNode N T C)
+    nodes_of_statement (skip at) = a_statement (skip at) ∷ []
+    nodes_of_statement (declare at binding name t e) = a_statement (declare at binding name t e) ∷ nodes e
+    nodes_of_statement (destructure at binds e) = a_statement (destructure at binds e) ∷ nodes e
+    nodes_of_statement (assign at name fields e) = a_statement (assign at name fields e) ∷ nodes e
+    nodes_of_statement (assign_through at name fields e) = a_statement (assign_through at name fields e) ∷ nodes e
+    nodes_of_statement (conditional at tests) = a_statement (conditional at tests) ∷ nodes_of_branches tests
+    nodes_of_statement (conditional_else at tests block) = a_statement (conditional_else at tests block) ∷ nodes_of_branches tests ++ nodes_of_block block
+    nodes_of_statement (case_of at e rest) = a_statement (case_of at e rest) ∷ nodes e ++ nodes_of_arms rest
+    nodes_of_statement (while_loop at e block) = a_statement (while_loop at e block) ∷ nodes e ++ nodes_of_block block
+    nodes_of_statement (for_loop at name a z block) = a_statement (for_loop at name a z block) ∷ nodes a ++ nodes z ++ nodes_of_block block
+    nodes_of_statement (borrow_in at access x r region block stop) = a_statement (borrow_in at access x r region block stop) ∷ nodes_of_block block
+    nodes_of_statement (borrow_typed at r t mode x block stop) = a_statement (borrow_typed at r t mode x block stop) ∷ nodes_of_block block
+    nodes_of_statement (discard at e) = a_statement (discard at e) ∷ nodes e
+    nodes_of_statement (return_of at e) = a_statement (return_of at e) ∷ nodes e
+
+    -- the nodes of a block
+    pub nodes_of_block : Statements N T C → List (TreeNode N T C)
+    nodes_of_block no_statements = []
+    nodes_of_block (statements s rest) = nodes_of_statement s ++ nodes_of_block rest
+
+    pub nodes_of_branches : Branches N T C → List (TreeNode N T C)
+    nodes_of_branches no_branches = []
+    nodes_of_branches (branches e block rest) = nodes e ++ nodes_of_block block ++ nodes_of_branches rest
+
+    pub nodes_of_arms : Arms N T C → List (TreeNode N T C)
+    nodes_of_arms no_arms = []
+    nodes_of_arms (arms at name binds block rest) = nodes_of_block block ++ nodes_of_arms rest
