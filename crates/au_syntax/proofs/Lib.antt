@@ -4,3 +4,4 @@ pub mod StatementLemmas
 pub mod DeclarationLemmas
 pub mod DepthLemmas
 pub mod PartLemmas
+pub mod VisitLemmas

@@ -3,7 +3,7 @@ use Rattle.std.proofs.Common.{◌≡◌, ℕ, ◌+◌, ◌<◌, ◌≤◌, List,
 use Rattle.au_syntax.specs.Expressions.{Expression, Expressions, Arguments, number, negative, text, truth, nil, path, arrow, call, named_call, parenthesized, dereference, borrow, borrow_part, binary, negation, typed, choice, no_expressions, expressions, no_arguments, arguments}
 use Rattle.au_syntax.specs.Statements.{Statement, Statements, Branches, Arms, skip, declare, destructure, assign, assign_through, conditional, conditional_else, case_of, while_loop, for_loop, borrow_in, borrow_typed, discard, return_of, no_statements, statements, no_branches, branches, no_arms, arms}
 use Rattle.au_syntax.specs.Depths.{expression_depth, expressions_depth, arguments_depth, statement_depth, block_depth, branches_depth, arms_depth}
-use Rattle.au_syntax.specs.Parts.{Each, parts, each_expression, each_argument, substatements, each_statement, branch_statements, arm_statements, nodes, nodes_of_each, nodes_of_arguments}
+use Rattle.au_syntax.specs.Parts.{Each, parts, each_expression, each_argument, substatements, each_statement, branch_statements, arm_statements, nodes, nodes_in, nodes_of_expressions, nodes_of_arguments}
 use Rattle.au_syntax.specs.Plain.{PlainExpression, PlainExpressions, PlainArguments}
 
 -- what holds of two lists holds of both together
@@ -106,16 +106,16 @@ module _ {N T C : Type 0} where
   abbrev pub size : Expression N T C → ℕ
   size e = length (nodes e)
 
-  smaller_each : (n : ℕ) (es : Expressions N T C) → length (nodes_of_each es) < n → Each (λ part. size part < n) (each_expression es)
+  smaller_each : (n : ℕ) (es : Expressions N T C) → length (nodes_of_expressions es) < n → Each (λ part. size part < n) (each_expression es)
   smaller_each n no_expressions h = tt
   smaller_each n (expressions e rest) h =
-      let all = length-append (nodes e) (nodes_of_each rest) in
+      let all = length-append (nodes_in e) (nodes_of_expressions rest) in
       (omega (arith, h, all), smaller_each n rest (omega (arith, h, all)))
 
   smaller_arguments : (n : ℕ) (es : Arguments N T C) → length (nodes_of_arguments es) < n → Each (λ part. size part < n) (each_argument es)
   smaller_arguments n no_arguments h = tt
   smaller_arguments n (arguments label e rest) h =
-      let all = length-append (nodes e) (nodes_of_arguments rest) in
+      let all = length-append (nodes_in e) (nodes_of_arguments rest) in
       (omega (arith, h, all), smaller_arguments n rest (omega (arith, h, all)))
 
   pub parts_smaller : (e : Expression N T C) → Each (λ part. size part < size e) (parts e)
@@ -132,7 +132,7 @@ module _ {N T C : Type 0} where
   parts_smaller (dereference n e) = (omega arith, tt)
   parts_smaller (borrow n m x) = tt
   parts_smaller (borrow_part n x fs) = tt
-  parts_smaller (binary n op a b) = let all = length-append (nodes a) (nodes b) in (omega (arith, all), (omega (arith, all), tt))
+  parts_smaller (binary n op a b) = let all = length-append (nodes_in a) (nodes b) in (omega (arith, all), (omega (arith, all), tt))
   parts_smaller (negation n e) = (omega arith, tt)
   parts_smaller (typed n e t) = (omega arith, tt)
-  parts_smaller (choice n c a b) = let all = length-append (nodes c ++ nodes a) (nodes b) in let last = length-append (nodes c) (nodes a) in (omega (arith, all, last), (omega (arith, all, last), (omega (arith, all, last), tt)))
+  parts_smaller (choice n c a b) = let all = length-append (nodes_in c ++ nodes a) (nodes b) in let last = length-append (nodes_in c) (nodes a) in (omega (arith, all, last), (omega (arith, all, last), (omega (arith, all, last), tt)))

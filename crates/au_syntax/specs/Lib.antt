@@ -13,3 +13,4 @@ pub mod Depths
 pub mod Sizes
 pub mod Files
 pub mod Parts
+pub mod Visits

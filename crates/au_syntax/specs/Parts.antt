@@ -78,56 +78,60 @@ pub data TreeNode (N T C : Type 0) : Type 0 where
 
 module _ {N T C : Type 0} where
   abbrev mutual
-    -- an expression and all in it, each before what stands in it
-    pub nodes : Expression N T C → List (TreeNode N T C)
-    nodes (number node literal) = an_expression (number node literal) ∷ []
-    nodes (negative node literal) = an_expression (negative node literal) ∷ []
-    nodes (text node bytes) = an_expression (text node bytes) ∷ []
-    nodes (truth node value) = an_expression (truth node value) ∷ []
-    nodes (nil node) = an_expression (nil node) ∷ []
-    nodes (path node name fields) = an_expression (path node name fields) ∷ []
-    nodes (arrow node name fields) = an_expression (arrow node name fields) ∷ []
-    nodes (call node name args note) = an_expression (call node name args note) ∷ nodes_of_each args
-    nodes (named_call node name args note) = an_expression (named_call node name args note) ∷ nodes_of_arguments args
-    nodes (parenthesized node e) = an_expression (parenthesized node e) ∷ nodes e
-    nodes (dereference node e) = an_expression (dereference node e) ∷ nodes e
-    nodes (borrow node mode name) = an_expression (borrow node mode name) ∷ []
-    nodes (borrow_part node name fields) = an_expression (borrow_part node name fields) ∷ []
-    nodes (binary node operator a b) = an_expression (binary node operator a b) ∷ nodes a ++ nodes b
-    nodes (negation node e) = an_expression (negation node e) ∷ nodes e
-    nodes (typed node e t) = an_expression (typed node e t) ∷ nodes e
-    nodes (choice node c a b) = an_expression (choice node c a b) ∷ nodes c ++ nodes a ++ nodes b
+    -- the expressions in an expression, each before those that stand in it
+    pub nodes_in : Expression N T C → List (TreeNode N T C)
+    nodes_in (number node literal) = []
+    nodes_in (negative node literal) = []
+    nodes_in (text node bytes) = []
+    nodes_in (truth node value) = []
+    nodes_in (nil node) = []
+    nodes_in (path node name fields) = []
+    nodes_in (arrow node name fields) = []
+    nodes_in (call node name args note) = nodes_of_expressions args
+    nodes_in (named_call node name args note) = nodes_of_arguments args
+    nodes_in (parenthesized node e) = an_expression e ∷ nodes_in e
+    nodes_in (dereference node e) = an_expression e ∷ nodes_in e
+    nodes_in (borrow node mode name) = []
+    nodes_in (borrow_part node name fields) = []
+    nodes_in (binary node operator a b) = (an_expression a ∷ nodes_in a) ++ (an_expression b ∷ nodes_in b)
+    nodes_in (negation node e) = an_expression e ∷ nodes_in e
+    nodes_in (typed node e t) = an_expression e ∷ nodes_in e
+    nodes_in (choice node c a b) = (an_expression c ∷ nodes_in c) ++ (an_expression a ∷ nodes_in a) ++ (an_expression b ∷ nodes_in b)
 
-    pub nodes_of_each : Expressions N T C → List (TreeNode N T C)
-    nodes_of_each no_expressions = []
-    nodes_of_each (expressions e rest) = nodes e ++ nodes_of_each rest
+    pub nodes_of_expressions : Expressions N T C → List (TreeNode N T C)
+    nodes_of_expressions no_expressions = []
+    nodes_of_expressions (expressions e rest) = (an_expression e ∷ nodes_in e) ++ nodes_of_expressions rest
 
     pub nodes_of_arguments : Arguments N T C → List (TreeNode N T C)
     nodes_of_arguments no_arguments = []
-    nodes_of_arguments (arguments label e rest) = nodes e ++ nodes_of_arguments rest
+    nodes_of_arguments (arguments label e rest) = (an_expression e ∷ nodes_in e) ++ nodes_of_arguments rest
+
+  -- an expression and all in it
+  abbrev pub nodes : Expression N T C → List (TreeNode N T C)
+  nodes e = an_expression e ∷ nodes_in e
 
   abbrev mutual
-    -- a statement and all in it, each before what stands in it
-    pub nodes_of_statement : Statement N T C → List (TreeNode N T C)
-    nodes_of_statement (skip at) = a_statement (skip at) ∷ []
-    nodes_of_statement (declare at binding name t e) = a_statement (declare at binding name t e) ∷ nodes e
-    nodes_of_statement (destructure at binds e) = a_statement (destructure at binds e) ∷ nodes e
-    nodes_of_statement (assign at name fields e) = a_statement (assign at name fields e) ∷ nodes e
-    nodes_of_statement (assign_through at name fields e) = a_statement (assign_through at name fields e) ∷ nodes e
-    nodes_of_statement (conditional at tests) = a_statement (conditional at tests) ∷ nodes_of_branches tests
-    nodes_of_statement (conditional_else at tests block) = a_statement (conditional_else at tests block) ∷ nodes_of_branches tests ++ nodes_of_block block
-    nodes_of_statement (case_of at e rest) = a_statement (case_of at e rest) ∷ nodes e ++ nodes_of_arms rest
-    nodes_of_statement (while_loop at e block) = a_statement (while_loop at e block) ∷ nodes e ++ nodes_of_block block
-    nodes_of_statement (for_loop at name a z block) = a_statement (for_loop at name a z block) ∷ nodes a ++ nodes z ++ nodes_of_block block
-    nodes_of_statement (borrow_in at access x r region block stop) = a_statement (borrow_in at access x r region block stop) ∷ nodes_of_block block
-    nodes_of_statement (borrow_typed at r t mode x block stop) = a_statement (borrow_typed at r t mode x block stop) ∷ nodes_of_block block
-    nodes_of_statement (discard at e) = a_statement (discard at e) ∷ nodes e
-    nodes_of_statement (return_of at e) = a_statement (return_of at e) ∷ nodes e
+    -- the expressions and statements in a statement, each before those that stand in it
+    pub nodes_in_statement : Statement N T C → List (TreeNode N T C)
+    nodes_in_statement (skip at) = []
+    nodes_in_statement (declare at binding name t e) = nodes e
+    nodes_in_statement (destructure at binds e) = nodes e
+    nodes_in_statement (assign at name fields e) = nodes e
+    nodes_in_statement (assign_through at name fields e) = nodes e
+    nodes_in_statement (conditional at tests) = nodes_of_branches tests
+    nodes_in_statement (conditional_else at tests block) = nodes_of_branches tests ++ nodes_of_block block
+    nodes_in_statement (case_of at e rest) = nodes e ++ nodes_of_arms rest
+    nodes_in_statement (while_loop at e block) = nodes e ++ nodes_of_block block
+    nodes_in_statement (for_loop at name a z block) = nodes a ++ nodes z ++ nodes_of_block block
+    nodes_in_statement (borrow_in at access x r region block stop) = nodes_of_block block
+    nodes_in_statement (borrow_typed at r t mode x block stop) = nodes_of_block block
+    nodes_in_statement (discard at e) = nodes e
+    nodes_in_statement (return_of at e) = nodes e
 
     -- the nodes of a block
     pub nodes_of_block : Statements N T C → List (TreeNode N T C)
     nodes_of_block no_statements = []
-    nodes_of_block (statements s rest) = nodes_of_statement s ++ nodes_of_block rest
+    nodes_of_block (statements s rest) = (a_statement s ∷ nodes_in_statement s) ++ nodes_of_block rest
 
     pub nodes_of_branches : Branches N T C → List (TreeNode N T C)
     nodes_of_branches no_branches = []
@@ -136,3 +140,7 @@ module _ {N T C : Type 0} where
     pub nodes_of_arms : Arms N T C → List (TreeNode N T C)
     nodes_of_arms no_arms = []
     nodes_of_arms (arms at name binds block rest) = nodes_of_block block ++ nodes_of_arms rest
+
+  -- a statement and all in it
+  abbrev pub nodes_of_statement : Statement N T C → List (TreeNode N T C)
+  nodes_of_statement s = a_statement s ∷ nodes_in_statement s

@@ -13,6 +13,7 @@ pub mod phases;
 pub mod printing;
 pub mod statements;
 pub mod types;
+pub mod visiting;
 pub mod wholes;
 
 pub use declarations::{Decl, Generic, Method, Signature, TypeParameter, UnionCase, Universe};
@@ -24,4 +25,5 @@ pub use phases::Phase;
 pub use printing::{First, Print};
 pub use statements::{Arm, Binding, Block, Branch, Stmt};
 pub use types::{Access, TypeName, TypeText};
+pub use visiting::{Node, nodes_of_block, nodes_of_expression};
 pub use wholes::{FileTree, Whole};
