@@ -14,3 +14,4 @@ pub mod Sizes
 pub mod Files
 pub mod Parts
 pub mod Visits
+pub mod Examples

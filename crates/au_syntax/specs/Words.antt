@@ -339,3 +339,7 @@ AreWords (printed ∷ words) [] = ⊥
 -- The tokens are the words of this file.
 abbrev pub Spells : PlainModule → List Token → Type 0
 Spells m tokens = AreWords (words m) tokens
+
+-- what words are, without their places
+abbrev pub spelled : Words → List What
+spelled words = map (λ (printed : Printed). printed.what) words
