@@ -12,6 +12,8 @@ pub mod parsed;
 pub mod phases;
 pub mod printing;
 pub mod statements;
+#[cfg(test)]
+mod tests;
 pub mod types;
 pub mod visiting;
 pub mod wholes;
