@@ -1,3 +1,4 @@
 pub mod TypeLemmas
 pub mod ExpressionLemmas
 pub mod StatementLemmas
+pub mod CopyLemmas

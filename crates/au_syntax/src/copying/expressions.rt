@@ -42,18 +42,20 @@ impl<P: Phase> Expr<P> {
                 name.copy(alloc)?,
                 copy_all(alloc, fields)?,
             )),
-            Expr::Call(site, name, arguments, note) => Ok(Expr::Call(
-                site.copy(alloc)?,
-                name.copy(alloc)?,
-                copy_expressions(alloc, arguments)?,
-                P::copy_call_note(alloc, note)?,
-            )),
-            Expr::NamedCall(site, name, arguments, note) => Ok(Expr::NamedCall(
-                site.copy(alloc)?,
-                name.copy(alloc)?,
-                copy_arguments(alloc, arguments)?,
-                P::copy_call_note(alloc, note)?,
-            )),
+            Expr::Call(site, name, arguments, note) => {
+                let site = site.copy(alloc)?;
+                let name = name.copy(alloc)?;
+                let arguments = copy_expressions(alloc, arguments)?;
+                let note = P::copy_call_note(alloc, note)?;
+                Ok(Expr::Call(site, name, arguments, note))
+            }
+            Expr::NamedCall(site, name, arguments, note) => {
+                let site = site.copy(alloc)?;
+                let name = name.copy(alloc)?;
+                let arguments = copy_arguments(alloc, arguments)?;
+                let note = P::copy_call_note(alloc, note)?;
+                Ok(Expr::NamedCall(site, name, arguments, note))
+            }
             Expr::Parenthesized(site, of) => Ok(Expr::Parenthesized(
                 site.copy(alloc)?,
                 of.copy_boxed(alloc)?,
