@@ -1,11 +1,14 @@
 //! Copies of expressions.
 
-ghost use Rattle.std.specs.Prelude.{◌≡◌, IfOk};
-ghost use Rattle.au_syntax.specs.Views.{placed, node, expression, expression_all, argument_all};
+ghost use Rattle.std.specs.Prelude.{◌≡◌, IfOk, map};
+ghost use Rattle.au_syntax.specs.Expressions.{path, arrow, borrow_part, borrow, typed, call, named_call};
+ghost use Rattle.au_syntax.specs.Views.{written, placed, node, expression, expression_all, argument_all};
 
 use crate::copying::{copy_all, copy_type};
-use crate::expressions::{Argument, Expr, Site};
+use crate::expressions::{Argument, BorrowMode, Expr, Site};
+use crate::names::Ident;
 use crate::phases::Phase;
+use crate::types::TypeText;
 use au_base::Memory;
 use std::alloc::Global;
 
@@ -32,46 +35,18 @@ impl<P: Phase> Expr<P> {
             Expr::Text(site, text) => Ok(Expr::Text(site.copy(alloc)?, text.copy(alloc)?)),
             Expr::Bool(site, truth) => Ok(Expr::Bool(site.copy(alloc)?, *truth)),
             Expr::Nil(site) => Ok(Expr::Nil(site.copy(alloc)?)),
-            Expr::Path(site, name, fields) => Ok(Expr::Path(
-                site.copy(alloc)?,
-                name.copy(alloc)?,
-                copy_all(alloc, fields)?,
-            )),
-            Expr::Arrow(site, name, fields) => Ok(Expr::Arrow(
-                site.copy(alloc)?,
-                name.copy(alloc)?,
-                copy_all(alloc, fields)?,
-            )),
-            Expr::Call(site, name, arguments, note) => {
-                let site = site.copy(alloc)?;
-                let name = name.copy(alloc)?;
-                let arguments = copy_expressions(alloc, arguments)?;
-                let note = P::copy_call_note(alloc, note)?;
-                Ok(Expr::Call(site, name, arguments, note))
+            Expr::Path(site, name, fields) => copy_path(alloc, site, name, fields),
+            Expr::Arrow(site, name, fields) => copy_arrow(alloc, site, name, fields),
+            Expr::Call(site, name, arguments, note) => copy_call(alloc, site, name, arguments, note),
+            Expr::NamedCall(site, name, named, note) => copy_named(alloc, site, name, named, note),
+            Expr::Parenthesized(site, of) => {
+                Ok(Expr::Parenthesized(site.copy(alloc)?, of.copy_boxed(alloc)?))
             }
-            Expr::NamedCall(site, name, arguments, note) => {
-                let site = site.copy(alloc)?;
-                let name = name.copy(alloc)?;
-                let arguments = copy_arguments(alloc, arguments)?;
-                let note = P::copy_call_note(alloc, note)?;
-                Ok(Expr::NamedCall(site, name, arguments, note))
+            Expr::Dereference(site, of) => {
+                Ok(Expr::Dereference(site.copy(alloc)?, of.copy_boxed(alloc)?))
             }
-            Expr::Parenthesized(site, of) => Ok(Expr::Parenthesized(
-                site.copy(alloc)?,
-                of.copy_boxed(alloc)?,
-            )),
-            Expr::Dereference(site, of) => Ok(Expr::Dereference(
-                site.copy(alloc)?,
-                of.copy_boxed(alloc)?,
-            )),
-            Expr::Borrow(site, mode, name) => {
-                Ok(Expr::Borrow(site.copy(alloc)?, *mode, name.copy(alloc)?))
-            }
-            Expr::BorrowPart(site, name, fields) => Ok(Expr::BorrowPart(
-                site.copy(alloc)?,
-                name.copy(alloc)?,
-                copy_all(alloc, fields)?,
-            )),
+            Expr::Borrow(site, mode, name) => copy_borrow(alloc, site, *mode, name),
+            Expr::BorrowPart(site, name, fields) => copy_borrow_part(alloc, site, name, fields),
             Expr::Binary(site, operator, left, right) => Ok(Expr::Binary(
                 site.copy(alloc)?,
                 *operator,
@@ -79,11 +54,7 @@ impl<P: Phase> Expr<P> {
                 right.copy_boxed(alloc)?,
             )),
             Expr::Not(site, of) => Ok(Expr::Not(site.copy(alloc)?, of.copy_boxed(alloc)?)),
-            Expr::Typed(site, of, as_type) => Ok(Expr::Typed(
-                site.copy(alloc)?,
-                of.copy_boxed(alloc)?,
-                copy_type(alloc, as_type)?,
-            )),
+            Expr::Typed(site, of, text) => copy_typed(alloc, site, of.copy_boxed(alloc)?, text),
             Expr::If(site, test, then, otherwise) => Ok(Expr::If(
                 site.copy(alloc)?,
                 test.copy_boxed(alloc)?,
@@ -156,4 +127,142 @@ fn copy_arguments<P: Phase>(
         copies.push(copy)?;
     }
     Ok(copies)
+}
+
+#[tactic(auto, using(crate::proofs::ExpressionLemmas::expression_steps))]
+#[cycle(copy_expression)]
+fn copy_call<P: Phase>(
+    alloc: Global,
+    site: &Site<P>,
+    name: &Ident<P>,
+    arguments: &Vec<Expr<P>>,
+    note: &P::CallNote,
+) -> Result<Expr<P>, Memory>
+    ensures {
+        IfOk result (λ copy.
+            expression P.Phase copy
+                ≡ call (node P.Phase site.now) (placed P.Phase name.now)
+                    (expression_all P.Phase arguments.now.items) (P.see_call note.now))
+    }
+{
+    let site = site.copy(alloc)?;
+    let name = name.copy(alloc)?;
+    let arguments = copy_expressions(alloc, arguments)?;
+    let note = P::copy_call_note(alloc, note)?;
+    Ok(Expr::Call(site, name, arguments, note))
+}
+
+#[tactic(auto, using(crate::proofs::ExpressionLemmas::expression_steps))]
+#[cycle(copy_expression)]
+fn copy_named<P: Phase>(
+    alloc: Global,
+    site: &Site<P>,
+    name: &Ident<P>,
+    arguments: &Vec<Argument<P>>,
+    note: &P::CallNote,
+) -> Result<Expr<P>, Memory>
+    ensures {
+        IfOk result (λ copy.
+            expression P.Phase copy
+                ≡ named_call (node P.Phase site.now) (placed P.Phase name.now)
+                    (argument_all P.Phase arguments.now.items) (P.see_call note.now))
+    }
+{
+    let site = site.copy(alloc)?;
+    let name = name.copy(alloc)?;
+    let arguments = copy_arguments(alloc, arguments)?;
+    let note = P::copy_call_note(alloc, note)?;
+    Ok(Expr::NamedCall(site, name, arguments, note))
+}
+
+#[tactic(auto, using(crate::proofs::ExpressionLemmas::expression_steps))]
+fn copy_path<P: Phase>(
+    alloc: Global,
+    site: &Site<P>,
+    name: &Ident<P>,
+    fields: &Vec<Ident<P>>,
+) -> Result<Expr<P>, Memory>
+    ensures {
+        IfOk result (λ copy.
+            expression P.Phase copy
+                ≡ path (node P.Phase site.now) (placed P.Phase name.now) (map (placed P.Phase) fields.now.items))
+    }
+{
+    let site = site.copy(alloc)?;
+    let name = name.copy(alloc)?;
+    let fields = copy_all(alloc, fields)?;
+    Ok(Expr::Path(site, name, fields))
+}
+
+#[tactic(auto, using(crate::proofs::ExpressionLemmas::expression_steps))]
+fn copy_arrow<P: Phase>(
+    alloc: Global,
+    site: &Site<P>,
+    name: &Ident<P>,
+    fields: &Vec<Ident<P>>,
+) -> Result<Expr<P>, Memory>
+    ensures {
+        IfOk result (λ copy.
+            expression P.Phase copy
+                ≡ arrow (node P.Phase site.now) (placed P.Phase name.now) (map (placed P.Phase) fields.now.items))
+    }
+{
+    let site = site.copy(alloc)?;
+    let name = name.copy(alloc)?;
+    let fields = copy_all(alloc, fields)?;
+    Ok(Expr::Arrow(site, name, fields))
+}
+
+#[tactic(auto, using(crate::proofs::ExpressionLemmas::expression_steps))]
+fn copy_borrow_part<P: Phase>(
+    alloc: Global,
+    site: &Site<P>,
+    name: &Ident<P>,
+    fields: &Vec<Ident<P>>,
+) -> Result<Expr<P>, Memory>
+    ensures {
+        IfOk result (λ copy.
+            expression P.Phase copy
+                ≡ borrow_part (node P.Phase site.now) (placed P.Phase name.now) (map (placed P.Phase) fields.now.items))
+    }
+{
+    let site = site.copy(alloc)?;
+    let name = name.copy(alloc)?;
+    let fields = copy_all(alloc, fields)?;
+    Ok(Expr::BorrowPart(site, name, fields))
+}
+
+#[tactic(auto, using(crate::proofs::ExpressionLemmas::expression_steps))]
+fn copy_borrow<P: Phase>(
+    alloc: Global,
+    site: &Site<P>,
+    mode: BorrowMode,
+    name: &Ident<P>,
+) -> Result<Expr<P>, Memory>
+    ensures {
+        IfOk result (λ copy.
+            expression P.Phase copy ≡ borrow (node P.Phase site.now) mode (placed P.Phase name.now))
+    }
+{
+    let site = site.copy(alloc)?;
+    let name = name.copy(alloc)?;
+    Ok(Expr::Borrow(site, mode, name))
+}
+
+#[tactic(auto, using(crate::proofs::ExpressionLemmas::expression_steps))]
+fn copy_typed<P: Phase>(
+    alloc: Global,
+    site: &Site<P>,
+    of: Box<Expr<P>>,
+    text: &TypeText,
+) -> Result<Expr<P>, Memory>
+    ensures {
+        IfOk result (λ copy.
+            expression P.Phase copy
+                ≡ typed (node P.Phase site.now) (expression P.Phase of.value) (written text.now))
+    }
+{
+    let site = site.copy(alloc)?;
+    let text = copy_type(alloc, text)?;
+    Ok(Expr::Typed(site, of, text))
 }
