@@ -5,6 +5,7 @@ ghost use Rattle.au_syntax.specs.Views.{written, written_all, type_name};
 
 mod expressions;
 mod names;
+mod statements;
 
 use crate::types::{TypeName, TypeText};
 use au_base::Memory;
