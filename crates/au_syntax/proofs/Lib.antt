@@ -1,4 +1,5 @@
 pub mod TypeLemmas
 pub mod ExpressionLemmas
 pub mod StatementLemmas
+pub mod DeclarationLemmas
 pub mod CopyLemmas

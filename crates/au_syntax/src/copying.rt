@@ -3,7 +3,9 @@
 ghost use Rattle.std.specs.Prelude.{◌≡◌, IfOk, map};
 ghost use Rattle.au_syntax.specs.Views.{written, written_all, type_name};
 
+mod declarations;
 mod expressions;
+mod modules;
 mod names;
 mod statements;
 
