@@ -5,3 +5,4 @@ pub mod DeclarationLemmas
 pub mod DepthLemmas
 pub mod PartLemmas
 pub mod VisitLemmas
+pub mod CopyLemmas
