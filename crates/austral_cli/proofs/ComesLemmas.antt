@@ -5,7 +5,8 @@ use Rattle.au_base.specs.declared.tokens.Token.{Token}
 use Rattle.au_base.specs.Limits.{most_file_bytes}
 use Rattle.au_base.specs.Outside.{Files, Counts}
 use Rattle.au_base.specs.Places.{place_after}
-use Rattle.au_lexer.specs.Cut.{Cut, IsWithinLimits}
+use Rattle.au_lexer.specs.Cut.{Cut}
+use Rattle.au_lexer.specs.Passing.{IsWithinLimits}
 use Rattle.au_parser.specs.Files.{IsUnfinished, IsStrangePlace}
 use Rattle.austral_cli.specs.declared.outcomes.Outcome.{Outcome}
 use Rattle.austral_cli.specs.declared.outcomes.Outcome.TheVariants as outcome
@@ -21,7 +22,7 @@ comes_unfinished bytes tokens read at end cut within same behind h = ((tokens, c
 -- a token that is out of place
 pub comes_strange : (bytes : List ℕ) (tokens read : List Token) (at : Pos) → Cut 0 bytes tokens → IsWithinLimits tokens → read ≡ tokens →
     IsStrangePlace read at → FileComes bytes (outcome.Refused (NotYet at))
-comes_strange bytes tokens read at cut within same h = inr (tokens, cut, within, subst (λ ts. IsStrangePlace ts at) same h)
+comes_strange bytes tokens read at cut within same h = (tokens, cut, within, subst (λ ts. IsStrangePlace ts at) same h)
 
 -- What the shelf says of one file, in such files.
 pub some_files : (told : Option Files) (name : List ℕ) (bytes : Option (List ℕ)) → MatchOption told (Unit {0}) (λ known. known name ≡ bytes) →

@@ -65,7 +65,6 @@ fn check_file(alloc: Global, bytes: &[u8]) -> Result<Outcome, Memory>
     let tokens = match lex(alloc, 0, bytes) {
         Ok(tokens) => tokens,
         Err(LexFault::Byte(at)) => return Ok(Outcome::Refused(Refusal::Byte(at))),
-        Err(LexFault::NotYet(at)) => return Ok(Outcome::Refused(Refusal::NotYet(at))),
         Err(LexFault::Limit(limit)) => return Ok(Outcome::Passes(limit)),
         Err(LexFault::Memory) => return Err(Memory),
     };

@@ -8,7 +8,7 @@ returns-in-Err-Syntax c =
     let at = c.in-Err-Syntax.at in
     comes_unfinished c.args.bytes.now c.in-Ok.tokens.items c.as_slice.result.now at c.after-end.result c.in-Ok.ensures.cut c.in-Ok.ensures.within c.as_slice.ensures.value (c.after-end.ensures.place 0 [] c.start.ensures) (c.in-Err-Syntax.ensures.syntax at (ap Err c.in-Err-Syntax.field-0-is))
 
-pub returns-in-Err-NotYet-parse : goal.returns-in-Err-NotYet-parse
-returns-in-Err-NotYet-parse c =
-    let at = c.in-Err-NotYet-parse.at in
-    comes_strange c.args.bytes.now c.in-Ok.tokens.items c.as_slice.result.now at c.in-Ok.ensures.cut c.in-Ok.ensures.within c.as_slice.ensures.value (c.in-Err-NotYet-parse.ensures.not_yet at (ap Err c.in-Err-NotYet-parse.field-0-is))
+pub returns-in-Err-NotYet : goal.returns-in-Err-NotYet
+returns-in-Err-NotYet c =
+    let at = c.in-Err-NotYet.at in
+    comes_strange c.args.bytes.now c.in-Ok.tokens.items c.as_slice.result.now at c.in-Ok.ensures.cut c.in-Ok.ensures.within c.as_slice.ensures.value (c.in-Err-NotYet.ensures.not_yet at (ap Err c.in-Err-NotYet.field-0-is))
