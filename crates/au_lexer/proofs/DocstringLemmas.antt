@@ -1,12 +1,12 @@
 -- Docstrings: what is read is spelled so, and what is spelled so is read.
-use Rattle.std.proofs.Common.{◌≡◌, ℕ, suc, ◌+◌, ◌<◌, ◌≤◌, Bool, true, false, not, ◌||◌, nat_eq, List, [], ◌∷◌, ◌++◌, length, drop, get_or, Option, Some, None, ap, ◌∙◌, sym, refl, subst, arith, ◌⊎◌, inl, inr, append_assoc, length-append, drop-cons}
+use Rattle.std.proofs.Common.{◌≡◌, ℕ, suc, ◌+◌, ◌<◌, false, nat_eq, List, [], ◌∷◌, ◌++◌, length, drop, get_or, Option, Some, None, ap, ◌∙◌, sym, refl, arith, inl, inr, drop-cons}
 use Rattle.std.specs.List.{starts_with}
 use Rattle.std.specs.Option.{option_map}
-use Rattle.std.proofs.lemmas.Bool.{or_parts, or_from, both_ways, cases_Bool}
+use Rattle.std.proofs.lemmas.Bool.{or_parts, or_from}
 use Rattle.au_lexer.specs.Pieces.{three_quotes, has_three_quotes}
 use Rattle.au_lexer.specs.Reading.{docstring_size}
-use Rattle.au_lexer.proofs.RunLemmas.{chosen, when_true, when_false}
-use Rattle.au_lexer.proofs.SignLemmas.{begun, begins_so}
+use Rattle.au_lexer.proofs.RunLemmas.{chosen, when_false}
+use Rattle.au_lexer.proofs.SignLemmas.{begun}
 
 moved : (index : ℕ) (o : Option ℕ) → option_map (λ size. index + 1 + size) o ≡ option_map (λ size. index + size) (option_map (λ size. size + 1) o)
 moved index None = refl

@@ -1,5 +1,5 @@
 -- Numbers.
-use Rattle.std.proofs.Common.{◌≡◌, ℕ, ◌+◌, ◌-◌, ◌*◌, ◌^◌, ◌<◌, ◌≤◌, suc, true, false, nat_lt, nat_le, ◌&&◌, cond, List, [], ◌∷◌, length, drop, get_or, ap, ◌∙◌, sym, refl, subst, arith, drop-cons, inl, inr}
+use Rattle.std.proofs.Common.{◌≡◌, ℕ, ◌+◌, ◌-◌, ◌*◌, ◌^◌, ◌<◌, ◌≤◌, suc, true, nat_lt, nat_le, List, [], ◌∷◌, length, drop, get_or, ap, ◌∙◌, sym, arith, drop-cons, inl, inr}
 use Rattle.std.specs.Char.{digit_value}
 use Rattle.std.specs.List.{list_all}
 use Rattle.std.specs.Str.Parse.{AllDigits, digits_value, digits_value_after}
@@ -13,14 +13,14 @@ use Rattle.au_lexer.proofs.RunLemmas.{when_true, when_false}
 -- what a digit is worth
 pub digit_worth : (byte : ℕ) → is_digit byte ≡ true → digit_value byte ≡ byte - 48
 digit_worth byte h =
-    let parts = and_parts _ _ h in
+    let parts = and_parts (nat_le 48 byte) (nat_le byte 57) h in
     let low : 48 ≤ byte = leb-true 48 byte parts.0 in
     let high : byte < 58 = omega (arith, leb-true byte 57 parts.1) in
     when_false (nat_lt byte 48) _ _ (le-ltb byte 48 low) ∙ when_true (nat_lt byte 58) _ _ (lt-ltb byte 58 high)
 
 digit_below : (byte : ℕ) → is_digit byte ≡ true → digit_value byte < 10
 digit_below byte h =
-    let parts = and_parts _ _ h in
+    let parts = and_parts (nat_le 48 byte) (nat_le byte 57) h in
     omega (arith, digit_worth byte h, leb-true byte 57 parts.1, leb-true 48 byte parts.0)
 
 all_digits : (digits : List ℕ) → list_all is_digit digits ≡ true → AllDigits 10 digits

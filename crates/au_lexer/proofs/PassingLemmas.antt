@@ -1,12 +1,12 @@
 -- Which token passes a limit.
-use Rattle.std.proofs.Common.{◌≡◌, ℕ, ◌+◌, ◌≤◌, ◌<◌, nat_lt, Bool, true, false, ◌&&◌, List, [], ◌∷◌, ◌++◌, length, Option, Some, None, ap, ◌∙◌, sym, refl, subst, arith, inl, inr, length-append}
+use Rattle.std.proofs.Common.{◌≡◌, ℕ, ◌+◌, ◌≤◌, ◌<◌, nat_lt, Bool, true, List, [], ◌∷◌, ◌++◌, length, Option, Some, None, ap, ◌∙◌, sym, refl, arith, inl, inr, length-append}
 use Rattle.std.specs.Prelude.{is_none}
 use Rattle.std.specs.List.{list_all}
-use Rattle.std.proofs.lemmas.Bool.{and_parts, and_from, lt-ltb, ltb-false, both_ways, cases_Bool, cases_lt, le-ltb}
+use Rattle.std.proofs.lemmas.Bool.{and_parts, and_from, lt-ltb, ltb-false, both_ways, cases_lt, le-ltb}
 use Rattle.std.proofs.lemmas.List.Folds.{list_all-append}
 use Rattle.au_base.specs.declared.limits.Limit.{Limit}
 use Rattle.au_base.specs.declared.limits.LimitKind.{LimitKind}
-use Rattle.au_base.specs.declared.limits.LimitKind.TheVariants.{Tokens, TextBytes}
+use Rattle.au_base.specs.declared.limits.LimitKind.TheVariants.{TextBytes}
 use Rattle.au_base.specs.declared.places.Pos.{Pos}
 use Rattle.au_base.specs.declared.tokens.Token.{Token}
 use Rattle.au_base.specs.declared.tokens.What.{What}
@@ -16,7 +16,7 @@ use Rattle.au_base.specs.Places.{place_after}
 use Rattle.au_lexer.specs.Cut.{tokens_among, token_at}
 use Rattle.au_lexer.specs.Passing.{limit_above, passed, own_limit, limit_passed, is_within, count_of, count_among, are_within, IsWithinLimits}
 use Rattle.au_lexer.specs.Pieces.{Piece, spelling, what_of}
-use Rattle.au_lexer.specs.Reading.{Front, text_front, text_sizes, token_front}
+use Rattle.au_lexer.specs.Reading.{text_front, text_sizes, token_front}
 use Rattle.au_lexer.proofs.RunLemmas.{chosen, when_true, when_false}
 
 -- a count that passes no limit
@@ -32,7 +32,7 @@ pub text_passes : (read : Option (List ℕ × ℕ)) (meant size : ℕ) (limit : 
     (size : ℕ) × (what : What) × (text_front read ≡ token_front size what) × (own_limit what ≡ Some limit)
 text_passes None meant size limit h passes = cc
 text_passes (Some text) meant size limit h passes =
-    let e : length text.0 ≡ meant = (let pair : (length text.0, text.1) ≡ (meant, size) = cc in ap (λ p. p.0) pair) in
+    let e : length text.0 ≡ meant = (let p : ℕ × ℕ = (length text.0, text.1) in let q : ℕ × ℕ = (meant, size) in let pair : p ≡ q = cc in ap (λ (r : ℕ × ℕ). r.0) pair) in
     (text.1 + 1, Text text.0, refl, ap (passed TextBytes most_text_bytes) e ∙ passes)
 
 -- how many tokens the pieces are
@@ -55,8 +55,8 @@ count_more (one ∷ pieces) piece = omega (arith, count_more pieces piece)
 pub within_more : (before : ℕ) (pieces : List Piece) (piece : Piece) → are_within before pieces ≡ true → is_within (before + count_among pieces) (what_of piece) ≡ true → are_within before (pieces ++ piece ∷ []) ≡ true
 within_more before [] piece h one = and_from _ _ (ap (λ n. is_within n (what_of piece)) (let e : before ≡ before + 0 = omega arith in e) ∙ one) refl
 within_more before (first ∷ pieces) piece h one =
-    let parts = and_parts _ _ h in
     let n : ℕ = count_of (what_of first) in
+    let parts = and_parts (is_within before (what_of first)) (are_within (before + n) pieces) h in
     let e : before + n + count_among pieces ≡ before + (n + count_among pieces) = omega arith in
     and_from _ _ parts.0 (within_more (before + n) pieces piece parts.1 (ap (λ m. is_within m (what_of piece)) e ∙ one))
 

@@ -1,8 +1,6 @@
 -- The digits that are left go on with the value so far.
 use Rattle.std.proofs.Common.{◌≡◌, drop}
-use Rattle.std.specs.List.{list_all}
 use Rattle.std.specs.Str.Parse.{digits_value, digits_value_after}
-use Rattle.au_lexer.specs.Bytes.{is_digit}
 use Rattle.au_lexer.proofs.numbers.number_value.Given as goal
 
 abbrev pub invariant-loop-digit : goal.invariant-loop-digit

@@ -1,6 +1,6 @@
 -- All bytes of a number are digits, and so many fit.
-use Rattle.std.proofs.Common.{◌≡◌, ◌≤◌, true, take, ap, ◌∙◌, sym, subst, arith, length-take-le}
-use Rattle.std.specs.List.{prefix_len, list_all}
+use Rattle.std.proofs.Common.{◌≡◌, ◌≤◌, true, take, ◌∙◌, sym, subst, arith, length-take-le}
+use Rattle.std.specs.List.{list_all}
 use Rattle.au_base.specs.declared.limits.LimitKind.TheVariants.{LiteralDigits}
 use Rattle.au_lexer.specs.Bytes.{is_digit}
 use Rattle.au_lexer.proofs.RunLemmas.{prefix_all, prefix_within}

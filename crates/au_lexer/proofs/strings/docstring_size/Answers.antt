@@ -1,5 +1,5 @@
 -- Three quotes begin no earlier.
-use Rattle.std.proofs.Common.{◌≡◌, false, nat_eq, drop, ◌∙◌, sym, subst, ap}
+use Rattle.std.proofs.Common.{◌≡◌, false, nat_eq, drop, ◌∙◌, sym, ap}
 use Rattle.std.specs.List.{starts_with}
 use Rattle.std.proofs.lemmas.List.{take_rest}
 use Rattle.au_lexer.specs.Pieces.{three_quotes}
