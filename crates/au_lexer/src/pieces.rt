@@ -1,6 +1,6 @@
 //! The piece at the front of bytes: a blank, a comment or a token.
 
-ghost use Rattle.std.specs.Prelude.{◌≡◌, ◌<◌, length, not};
+ghost use Rattle.std.specs.Prelude.{◌≡◌, ◌<◌, length, not, false};
 ghost use Rattle.std.specs.List.{prefix_len};
 ghost use Rattle.au_base.specs.Places.{is_newline};
 ghost use Rattle.au_lexer.specs.Bytes as kinds;

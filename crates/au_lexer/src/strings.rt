@@ -27,17 +27,19 @@ pub fn text_sizes(inside: &[u8]) -> Option<(usize, usize)>
     ensures { result ≡ read.text_sizes (read.text_at false inside.now) }
 {
     let mut meant = 0;
-    let mut escape = false;
-    for (index, byte) in inside.iter().enumerate() {
-        if escape {
-            escaped(*byte)?;
+    let mut slash = false;
+    for (index, next) in inside.iter().enumerate() {
+        if slash {
+            if escaped(*next).is_none() {
+                return None;
+            }
             meant += 1;
-            escape = false;
-        } else if *byte == b'"' {
+            slash = false;
+        } else if *next == b'"' {
             return Some((meant, index + 1));
-        } else if *byte == b'\\' {
-            escape = true;
-        } else if *byte < b' ' {
+        } else if *next == b'\\' {
+            slash = true;
+        } else if *next < b' ' {
             return None;
         } else {
             meant += 1;
