@@ -22,7 +22,7 @@ one_further inside index within none so_far =
     let split : drop index inside ≡ byte ∷ rest = drop-cons inside index 0 within in
     let next : suc index ≡ index + 1 = omega arith in
     let here : docstring_size (byte ∷ rest) ≡ option_map (λ size. size + 1) (docstring_size rest) =
-        when_false _ _ _ (ap (λ r. starts_with nat_eq r three_quotes) (sym split) ∙ none) in
+    when_false _ _ _ (ap (λ r. starts_with nat_eq r three_quotes) (sym split) ∙ none) in
     ap (λ n. option_map (λ size. index + 1 + size) (docstring_size (drop n inside))) (sym next)
     ∙ moved index (docstring_size rest)
     ∙ ap (option_map (λ size. index + size)) (sym here ∙ ap docstring_size (sym split))

@@ -49,5 +49,5 @@ one_more value index whole digits h within e =
     let split : drop index digits ≡ byte ∷ drop (suc index) digits = drop-cons digits index 0 within in
     let digit : is_digit byte ≡ true = elim (cases_Bool (is_digit byte)) [ inl is ↦ is | inr not_one ↦ absurd (both_ways _ (list_all_at is_digit digits index 0 within not_one) h) ] in
     let same : digits_value_after 10 (value * 10 + (byte - 48)) (drop (suc index) digits) ≡ whole =
-        ap (λ d. digits_value_after 10 (value * 10 + d) (drop (suc index) digits)) (sym (digit_worth byte digit)) ∙ ap (digits_value_after 10 value) (sym split) ∙ e in
+    ap (λ d. digits_value_after 10 (value * 10 + d) (drop (suc index) digits)) (sym (digit_worth byte digit)) ∙ ap (digits_value_after 10 value) (sym split) ∙ e in
     (omega (arith, same, grows (value * 10 + (byte - 48)) (drop (suc index) digits)), same)

@@ -112,13 +112,19 @@ const CUT: [(&[u8], &[u8]); 33] = [
         b"1:1 number 99999999999999999999999999999999999999/38|",
     ),
     (b"12ab", b"1:1 number 12/2|1:3 name ab|"),
-    (b"a:=-1", b"1:1 name a|1:2 sign :=|1:4 sign -|1:5 number 1/1|"),
+    (
+        b"a:=-1",
+        b"1:1 name a|1:2 sign :=|1:4 sign -|1:5 number 1/1|",
+    ),
     (b"x<-1", b"1:1 name x|1:2 sign <|1:3 sign -|1:4 number 1/1|"),
     // docstrings
     (b"\"\"\"\"\"\"a", b"1:7 name a|"),
-    (b"x\"\"\" -- \" \"\" \\ \xFF\n\"\"\"y", b"1:1 name x|2:4 name y|"),
+    (
+        b"x\"\"\" -- \" \"\" \\ \xFF\n\"\"\"y",
+        b"1:1 name x|2:4 name y|",
+    ),
     (b"\"\"\"\"a\"\"\" b", b"1:10 name b|"),
-    (b"\"a\"\"\"\"\"\"\"", b"1:1 text a|1:4 text |1:6 text |"),
+    (b"\"a\"\"\"\"\"\"\"x", b"1:1 text a|1:10 name x|"),
     (b"-- \"\"\"\na", b"2:1 name a|"),
     // comments
     (b"--", b""),
