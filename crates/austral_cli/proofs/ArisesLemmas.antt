@@ -1,5 +1,5 @@
 -- What words and files come to, and where a refusal's place lies.
-use Rattle.std.proofs.Common.{◌≡◌, ℕ, zero, suc, ◌<◌, Bool, true, ◌==◌, List, [], ◌∷◌, ◌++◌, length, get_or, map, Option, Some, None, String, ap, ◌∙◌, sym, refl, subst, arith, inl, inr, slice_get}
+use Rattle.std.proofs.Common.{◌≡◌, ℕ, zero, suc, ◌<◌, Bool, true, ◌==◌, List, [], ◌∷◌, ◌++◌, length, get_or, map, Option, Some, None, String, ap, ◌∙◌, sym, refl, subst, arith, slice_get}
 use Rattle.std.specs.Global.{Global}
 use Rattle.std.specs.List.{list_all}
 use Rattle.std.specs.Option.{option_map}
