@@ -1,26 +1,27 @@
 -- What stands at the front of bytes: the longest piece that begins there.
-use Rattle.std.proofs.Common.{◌≡◌, ℕ, suc, ◌+◌, ◌<◌, ◌≤◌, Bool, true, false, not, cond, ◌==◌, ◌||◌, nat_eq, List, [], ◌∷◌, ◌++◌, length, take, drop, Option, Some, None, Result, Ok, Err, ap, ◌∙◌, sym, refl, subst, ◌⊎◌, inl, inr, arith, append_assoc, length-append}
+use Rattle.std.proofs.Common.{◌≡◌, ◌≢◌, ℕ, suc, ◌+◌, ◌<◌, ◌≤◌, Bool, true, false, not, cond, ◌==◌, nat_eq, List, [], ◌∷◌, ◌++◌, length, take, drop, Option, Some, None, Result, Ok, Err, ap, ◌∙◌, sym, refl, subst, ◌⊎◌, inl, inr, arith, append_assoc, length-append}
 use Rattle.std.specs.List.{list_all, prefix_len, starts_with}
 use Rattle.std.proofs.Math.Seq.{take-append-add}
 use Rattle.std.proofs.lemmas.List.{append-nil, take-append-drop, length-take-le}
-use Rattle.std.proofs.lemmas.Bool.{and_left, or_from, or_left, or_parts, both_ways, ne_eqb, eqb-false, eqb-true, cases_eq, cases_Bool, and_from, or_cases}
+use Rattle.std.proofs.lemmas.Bool.{and_parts, and_left, or_left, both_ways, ne_eqb, eqb-false, eqb-true, cases_eq, cases_Bool, and_from}
 use Rattle.std.proofs.lemmas.Bool.Decides.{nat_tests}
 use Rattle.au_base.specs.declared.tokens.Keyword.{Keyword}
 use Rattle.au_base.specs.declared.tokens.Sign.{Sign as SignOf}
 use Rattle.au_base.specs.declared.tokens.What.{What}
-use Rattle.au_base.specs.declared.tokens.What.TheVariants.{Word, Sign, Name, Text}
+use Rattle.au_base.specs.declared.tokens.What.TheVariants.{Word, Sign, Name, Number, Text}
 use Rattle.au_base.specs.Places.{is_newline}
 use Rattle.au_base.specs.Tokens.{keyword_spelling, sign_spelling}
 use Rattle.au_lexer.specs.Bytes.{is_space, is_letter, is_digit, is_name_byte, is_text_byte}
-use Rattle.au_lexer.specs.Pieces.{Piece, blank, comment, token, spelling, IsWord, what_of}
-use Rattle.au_lexer.specs.Cut.{Begins, Stands, three_quotes, is_later}
+use Rattle.au_lexer.specs.Pieces.{Piece, blank, comment, docstring, number, token, three_quotes, has_three_quotes, spelling, IsWord, IsNumber, number_of, what_of}
+use Rattle.au_lexer.specs.Cut.{Begins}
 use Rattle.au_lexer.specs.declared.pieces.Found.{Found}
 use Rattle.au_lexer.specs.declared.pieces.Stop.{Stop}
-use Rattle.au_lexer.specs.declared.pieces.Stop.TheVariants.{Stray, Later, LongName, Memory}
-use Rattle.au_lexer.specs.Reading.{Reads, FindsPiece, IsLongest, Front, piece, later, stray, front, front_from, word_front, word_what, word_at, text_front, text_at, sign_front, sign_of, keyword_of, is_comment, comment_size}
+use Rattle.au_lexer.specs.declared.pieces.Stop.TheVariants.{Stray, Passes, Memory}
+use Rattle.au_lexer.specs.Reading.{Reads, FindsPiece, IsLongest, Front, piece, stray, front, front_from, number_front, digits_at, docstring_front, docstring_size, word_front, word_what, word_at, text_front, text_at, sign_front, sign_of, keyword_of, is_comment, comment_size}
 use Rattle.au_lexer.proofs.RunLemmas.{chosen, when_true, when_false, prefix_pass, prefix_all, prefix_within}
 use Rattle.au_lexer.proofs.WordLemmas.{keyword_found, keyword_none, keyword_again, keyword_word}
 use Rattle.au_lexer.proofs.StringLemmas.{text_again, text_found, written}
+use Rattle.au_lexer.proofs.DocstringLemmas.{docstring_again, docstring_found}
 use Rattle.au_lexer.proofs.SignLemmas.{begun, begins_so, sign_mark, sign_begins, sign_found, sign_of_comment}
 
 -- What is found where a piece begins: that piece, or a longer one.
@@ -90,6 +91,48 @@ finds_word word rest what h is spelled =
       ],
     )
 
+-- a digit is neither a blank nor a letter
+digit_first : (byte : ℕ) → is_digit byte ≡ true → (is_space byte ≡ false) × (is_letter byte ≡ false)
+digit_first byte digit = (grind (arith, nat_tests), grind (arith, nat_tests))
+
+-- the number that bytes begin with is read
+front_number : (digits rest : List ℕ) → IsNumber digits → front (digits ++ rest) ≡ number_front (digits ++ take (prefix_len is_digit rest) rest)
+front_number [] rest h = absurd (h.0 refl)
+front_number (first ∷ digits) rest h =
+    let digit : is_digit first ≡ true = (and_parts (is_digit first) (list_all is_digit digits) h.1).0 in
+    let at : digits_at (first ∷ digits ++ rest) ≡ first ∷ digits ++ take (prefix_len is_digit rest) rest =
+    ap (λ n. take n (first ∷ digits ++ rest)) (prefix_pass is_digit (first ∷ digits) rest h.1) ∙ take-append-add (first ∷ digits) rest (prefix_len is_digit rest) in
+    let apart = digit_first first digit in
+    front_is first (digits ++ rest) ∙ when_false _ _ _ apart.0 ∙ when_false _ _ _ apart.1 ∙ when_true _ _ _ digit ∙ ap number_front at
+
+-- a number is found where it begins, or a longer one
+finds_number : (digits rest : List ℕ) → IsNumber digits → Finds (front (digits ++ rest)) (number digits)
+finds_number digits rest h =
+    let m : ℕ = prefix_len is_digit rest in
+    let whole : List ℕ = digits ++ take m rest in
+    let size : length whole ≡ length digits + m = length-append digits (take m rest) ∙ ap (λ n. length digits + n) (length-take-le m rest (prefix_within is_digit rest)) in
+    finds_as _ _ (number digits) (front_number digits rest h) (
+      length whole,
+      Some (number_of whole),
+      refl,
+      elim (more_or_none m (length digits)) [
+        | inl e ↦
+            let same : whole ≡ digits = ap (λ n. digits ++ take n rest) e ∙ append-nil digits in
+            inl (omega arith, ap (λ d. Some (number_of d)) (sym same))
+        | inr lt ↦ inr (omega arith)
+      ],
+    )
+
+-- a docstring is found where it begins
+finds_docstring : (inside rest : List ℕ) → has_three_quotes (inside ++ 34 ∷ 34 ∷ []) ≡ false → Finds (front (three_quotes ++ inside ++ three_quotes ++ rest)) (docstring inside)
+finds_docstring inside rest h =
+    let size : length (spelling (docstring inside)) ≡ length inside + 3 + 3 = omega (arith, length-append inside three_quotes) in (
+      length inside + 3 + 3,
+      None,
+      front_is 34 (34 ∷ 34 ∷ inside ++ three_quotes ++ rest) ∙ ap docstring_front (docstring_again inside rest h),
+      inl (size, refl),
+    )
+
 -- bytes that begin with no quote
 no_quotes : (first : ℕ) (rest : List ℕ) → nat_eq first 34 ≡ false → starts_with nat_eq (first ∷ rest) three_quotes ≡ false
 no_quotes first rest h = and_left _ _ (ne_eqb 34 first (λ e. eqb-false first 34 h (sym e)))
@@ -98,7 +141,7 @@ no_quotes first rest h = and_left _ _ (ne_eqb 34 first (λ e. eqb-false first 34
 front_mark : (first : ℕ) (rest : List ℕ) → is_space first ≡ false → is_letter first ≡ false → is_digit first ≡ false → nat_eq first 34 ≡ false →
     front (first ∷ rest) ≡ cond (is_comment (first ∷ rest)) (piece (comment_size (first ∷ rest)) None) (sign_front (sign_of (first ∷ rest)))
 front_mark first rest space letter digit quote =
-    front_is first rest ∙ when_false _ _ _ space ∙ when_false _ _ _ letter ∙ when_false _ _ _ (or_from _ _ digit (no_quotes first rest quote)) ∙ when_false _ _ _ quote
+    front_is first rest ∙ when_false _ _ _ space ∙ when_false _ _ _ letter ∙ when_false _ _ _ digit ∙ when_false _ _ _ (no_quotes first rest quote) ∙ when_false _ _ _ quote
 
 comment_long : (bytes : List ℕ) → is_comment bytes ≡ true → 1 < comment_size bytes
 comment_long bytes h =
@@ -136,6 +179,10 @@ finds_text text rest h apart =
 pub begins_found : (bytes : List ℕ) (other : Piece) → Begins other bytes → Finds (front bytes) other
 begins_found bytes (blank byte) begins = finds_in _ _ (blank byte) begins.front.1 (finds_blank byte begins.front.0 begins.known)
 begins_found bytes (comment text) begins = finds_in _ _ (comment text) begins.front.1 (finds_comment text begins.front.0 begins.known)
+begins_found bytes (docstring inside) begins =
+    finds_in _ _ (docstring inside) begins.front.1 (finds_docstring inside begins.front.0 begins.known)
+begins_found bytes (number digits) begins = finds_in _ _ (number digits) begins.front.1 (finds_number digits begins.front.0 begins.known)
+begins_found bytes (token (Number value digits)) begins = absurd begins.known
 begins_found bytes (token (Word keyword)) begins =
     finds_in _ _ (token (Word keyword)) begins.front.1 (finds_word (keyword_spelling keyword) begins.front.0 (Word keyword) (keyword_word keyword) (ap (word_what (keyword_spelling keyword)) (keyword_again keyword)) refl)
 begins_found bytes (token (Sign sign)) begins = finds_sign bytes begins.front.0 sign begins.front.1
@@ -195,6 +242,35 @@ found_word first rest h size what e =
     let read : piece (length word) (Some (word_what word (keyword_of word))) ≡ piece size what = sym (ap word_front at) ∙ e in
     found_as bytes (length word) size (Some (word_what word (keyword_of word))) what read (word_is bytes word (drop m rest) (keyword_of word) refl whole (h, prefix_all is_name_byte rest))
 
+found_number : (first : ℕ) (rest : List ℕ) → is_digit first ≡ true → (size : ℕ) (what : Option What) → number_front (digits_at (first ∷ rest)) ≡ piece size what → IsFound (first ∷ rest) size what
+found_number first rest h size what e =
+    let bytes : List ℕ = first ∷ rest in
+    let m : ℕ = prefix_len is_digit rest in
+    let digits : List ℕ = first ∷ take m rest in
+    let at : digits_at bytes ≡ digits = ap (λ n. take n bytes) (when_true (is_digit first) (1 + m) 0 h ∙ (let g : 1 + m ≡ suc m = omega arith in g)) in
+    let whole : bytes ≡ digits ++ drop m rest = ap (λ r. first ∷ r) (sym (take-append-drop m rest)) in
+    let read : piece (length digits) (Some (number_of digits)) ≡ piece size what = sym (ap number_front at) ∙ e in
+    let some : digits ≢ [] = λ f. (let g : first ∷ take m rest ≡ [] = f in cc) in
+    found_as bytes (length digits) size (Some (number_of digits)) what read (record {
+      found = number digits;
+      begins = record { known = (some, and_from (is_digit first) _ h (prefix_all is_digit rest)); front = (drop m rest, whole); no_docstring = λ _ t. t };
+      sized = refl;
+      meant = refl;
+    })
+
+found_docstring : (bytes : List ℕ) (o : Option ℕ) (size : ℕ) (what : Option What) → docstring_size (drop 3 bytes) ≡ o → starts_with nat_eq bytes three_quotes ≡ true → docstring_front o ≡ piece size what → IsFound bytes size what
+found_docstring bytes None size what e quotes h = cc
+found_docstring bytes (Some through) size what e quotes h =
+    let read = docstring_found (drop 3 bytes) through e in
+    let whole : bytes ≡ (three_quotes ++ read.inside ++ three_quotes) ++ read.rest =
+    begun bytes three_quotes quotes ∙ ap (λ b. three_quotes ++ b) read.spelled in
+    found_as bytes (through + 3) size None what h (record {
+      found = docstring read.inside;
+      begins = record { known = read.known; front = (read.rest, whole); no_docstring = λ _ t. t };
+      sized = (let s = read.sized in let l = length-append read.inside three_quotes in omega arith);
+      meant = refl;
+    })
+
 found_text : (rest : List ℕ) (o : Option (List ℕ × ℕ)) (size : ℕ) (what : Option What) → text_at false rest ≡ o → starts_with nat_eq (34 ∷ rest) three_quotes ≡ false → text_front o ≡ piece size what → IsFound (34 ∷ rest) size what
 found_text rest None size what e quotes h = cc
 found_text rest (Some text) size what e quotes h =
@@ -240,85 +316,23 @@ found_begins first rest size what h =
       | inl w ↦ found_as bytes 1 size None what w.1 (found_blank first rest w.0)
       | inr w ↦ elim (chosen (is_letter first) _ _ p w.1) [
         | inl w ↦ found_word first rest w.0 size what w.1
-        | inr w ↦ elim (chosen (is_digit first || starts_with nat_eq bytes three_quotes) later _ p w.1) [
-          | inl w ↦ let e = w.1 in absurd cc
-          | inr v ↦ elim (chosen (first == 34) _ _ p v.1) [
-            | inl w ↦
-                let quotes = (or_parts (is_digit first) _ v.0).1 in
-                let is = eqb-true first 34 w.0 in
-                subst (λ f. IsFound (f ∷ rest) size what) (sym is) (found_text rest (text_at false rest) size what refl (subst (λ f. starts_with nat_eq (f ∷ rest) three_quotes ≡ false) is quotes) w.1)
-            | inr w ↦ elim (chosen (is_comment bytes) _ _ p w.1) [
-              | inl w ↦ found_comment bytes size what w.0 w.1
-              | inr w ↦ found_sign bytes (sign_of bytes) size what refl w.1
+        | inr w ↦ elim (chosen (is_digit first) _ _ p w.1) [
+          | inl w ↦ found_number first rest w.0 size what w.1
+          | inr w ↦ elim (chosen (starts_with nat_eq bytes three_quotes) _ _ p w.1) [
+            | inl w ↦ found_docstring bytes (docstring_size (drop 3 bytes)) size what refl w.0 w.1
+            | inr v ↦ elim (chosen (first == 34) _ _ p v.1) [
+              | inl w ↦
+                  let is = eqb-true first 34 w.0 in
+                  subst (λ f. IsFound (f ∷ rest) size what) (sym is) (found_text rest (text_at false rest) size what refl (subst (λ f. starts_with nat_eq (f ∷ rest) three_quotes ≡ false) is v.0) w.1)
+              | inr w ↦ elim (chosen (is_comment bytes) _ _ p w.1) [
+                | inl w ↦ found_comment bytes size what w.0 w.1
+                | inr w ↦ found_sign bytes (sign_of bytes) size what refl w.1
+              ]
             ]
           ]
         ]
       ]
     ]
-
--- Where nothing is found, no piece begins, and it is nothing that isn't there yet.
-pub stray_apart : (first : ℕ) (rest : List ℕ) → front (first ∷ rest) ≡ stray → is_later (first ∷ rest) ≡ false
-stray_apart first rest h =
-    let bytes : List ℕ = first ∷ rest in
-    elim (chosen (is_space first) _ _ stray (sym (front_is first rest) ∙ h)) [
-      | inl w ↦ let e = w.1 in absurd cc
-      | inr w ↦ elim (chosen (is_letter first) _ _ stray w.1) [
-        | inl w ↦ let e = w.1 in absurd cc
-        | inr w ↦ elim (chosen (is_digit first || starts_with nat_eq bytes three_quotes) later _ stray w.1) [
-          | inl w ↦ let e = w.1 in absurd cc
-          | inr w ↦ w.0
-        ]
-      ]
-    ]
-
-pub later_is : (first : ℕ) (rest : List ℕ) → front (first ∷ rest) ≡ later → is_later (first ∷ rest) ≡ true
-later_is first rest h =
-    let bytes : List ℕ = first ∷ rest in
-    elim (chosen (is_space first) _ _ later (sym (front_is first rest) ∙ h)) [
-      | inl w ↦ let e = w.1 in absurd cc
-      | inr w ↦ elim (chosen (is_letter first) _ _ later w.1) [
-        | inl w ↦ let e = w.1 in absurd cc
-        | inr w ↦ elim (chosen (is_digit first || starts_with nat_eq bytes three_quotes) later _ later w.1) [
-          | inl w ↦ w.0
-          | inr v ↦ elim (chosen (first == 34) _ _ later v.1) [
-            | inl w ↦ let e = w.1 in absurd (no_text (text_at false rest) e)
-            | inr w ↦ elim (chosen (is_comment bytes) _ _ later w.1) [
-              | inl w ↦ let e = w.1 in absurd cc
-              | inr w ↦ absurd (no_sign (sign_of bytes) w.1)
-            ]
-          ]
-        ]
-      ]
-    ]
-  where
-    no_text : (o : Option (List ℕ × ℕ)) → text_front o ≡ later → ⊥
-    no_text None e = cc
-    no_text (Some text) e = cc
-
-    no_sign : (o : Option SignOf) → sign_front o ≡ later → ⊥
-    no_sign None e = cc
-    no_sign (Some sign) e = cc
-
--- a byte that is later is neither a blank nor a letter
-digit_first : (first : ℕ) → is_digit first ≡ true → (is_space first ≡ false) × (is_letter first ≡ false)
-digit_first first digit = (grind (arith, nat_tests), grind (arith, nat_tests))
-
-quote_first : (first : ℕ) (rest : List ℕ) → starts_with nat_eq (first ∷ rest) three_quotes ≡ true → (is_space first ≡ false) × (is_letter first ≡ false)
-quote_first first rest quotes =
-    let begins = begun (first ∷ rest) three_quotes quotes in
-    let is : first ≡ 34 = cc in
-    (ap is_space is, ap is_letter is)
-
-later_first : (first : ℕ) (rest : List ℕ) → is_later (first ∷ rest) ≡ true → (is_space first ≡ false) × (is_letter first ≡ false)
-later_first first rest h = elim (or_cases (is_digit first) (starts_with nat_eq (first ∷ rest) three_quotes) h) [
-  | inl digit ↦ digit_first first digit
-  | inr quotes ↦ quote_first first rest quotes
-]
-
-pub later_found : (first : ℕ) (rest : List ℕ) → is_later (first ∷ rest) ≡ true → front (first ∷ rest) ≡ later
-later_found first rest h =
-    let apart = later_first first rest h in
-    front_is first rest ∙ when_false _ _ _ apart.0 ∙ when_false _ _ _ apart.1 ∙ when_true _ _ _ h
 
 -- What is found is the longest piece that begins there.
 pub longest_found : (first : ℕ) (rest : List ℕ) (size : ℕ) (what : Option What) → front (first ∷ rest) ≡ piece size what → IsLongest (first ∷ rest) size what
@@ -339,34 +353,28 @@ longest_found first rest size what h =
         let sized = (found_begins first rest size what h).sized in
         elim some.3 [ inl w ↦ omega (arith, w.0) | inr lt ↦ omega arith ]
 
--- Where something else is read, no piece begins.
-pub none_begins : (bytes : List ℕ) (read : Front) → front bytes ≡ read → ((size : ℕ) (what : Option What) → read ≡ piece size what → ⊥) → (other : Piece) → Begins other bytes → ⊥
-none_begins bytes read h apart other begins =
+-- Where nothing is read, no piece begins.
+none_begins : (bytes : List ℕ) → front bytes ≡ stray → (other : Piece) → Begins other bytes → ⊥
+none_begins bytes h other begins =
     let some = begins_found bytes other begins in
-    apart some.0 some.1 (sym h ∙ some.2)
+    let e : stray ≡ piece some.0 some.1 = sym h ∙ some.2 in
+    cc
 
 -- a list that isn't empty
 pub split_first : (bytes : List ℕ) → 0 < length bytes → (first : ℕ) × (rest : List ℕ) × (bytes ≡ first ∷ rest)
 split_first [] h = absurd (omega arith)
 split_first (first ∷ rest) h = (first, rest, refl)
 
--- the piece that is a token
-pub token_from : (found : Piece) (what : What) → what_of found ≡ Some what → found ≡ token what
-token_from (blank byte) what h = cc
-token_from (comment bytes) what h = cc
-token_from (token one) what h = let e : one ≡ what = cc in ap token e
-
 -- What is read is what the definitions say of the bytes.
-pub finds_read : (bytes : List ℕ) → 0 < length bytes → (answer : Result Found Stop) → Reads answer (front bytes) → FindsPiece answer bytes
-finds_read bytes some answer reads =
+pub finds_read : (before : ℕ) (bytes : List ℕ) → 0 < length bytes → (answer : Result Found Stop) → Reads before answer (front bytes) → FindsPiece before answer bytes
+finds_read before bytes some answer reads =
     let split = split_first bytes some in
-    subst (FindsPiece answer) (sym split.2) (from split.0 split.1 answer (subst (λ b. Reads answer (front b)) split.2 reads))
+    subst (FindsPiece before answer) (sym split.2) (from split.0 split.1 answer (subst (λ b. Reads before answer (front b)) split.2 reads))
   where
-    from : (first : ℕ) (rest : List ℕ) (answer : Result Found Stop) → Reads answer (front (first ∷ rest)) → FindsPiece answer (first ∷ rest)
+    from : (first : ℕ) (rest : List ℕ) (answer : Result Found Stop) → Reads before answer (front (first ∷ rest)) → FindsPiece before answer (first ∷ rest)
     from first rest (Ok found) reads = (longest_found first rest found.size found.what reads.0, reads.1)
-    from first rest (Err Stray) reads = (none_begins (first ∷ rest) stray reads (λ size what e. cc), stray_apart first rest reads)
-    from first rest (Err Later) reads = later_is first rest reads
-    from first rest (Err LongName) reads =
-        let longest = longest_found first rest (length reads.0) (Some (Name reads.0)) reads.1 in
-        (reads.0, subst (λ p. Stands p (first ∷ rest)) (token_from longest.found (Name reads.0) longest.meant) longest.stands, reads.2)
+    from first rest (Err Stray) reads = none_begins (first ∷ rest) reads
+    from first rest (Err (Passes limit)) reads =
+        let longest = longest_found first rest reads.0 (Some reads.1) reads.2 in
+        record { found = longest.found; stands = longest.stands; what = reads.1; meant = longest.meant; passes = reads.3 }
     from first rest (Err Memory) reads = tt

@@ -2,6 +2,9 @@ pub mod RunLemmas
 pub mod WordLemmas
 pub mod StringLemmas
 pub mod SignLemmas
+pub mod NumberLemmas
+pub mod DocstringLemmas
+pub mod PassingLemmas
 pub mod FrontLemmas
 pub mod CutLemmas
 pub mod UniqueLemmas

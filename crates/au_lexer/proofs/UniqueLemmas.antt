@@ -1,26 +1,25 @@
 -- A file is cut in one way.
-use Rattle.std.proofs.Common.{◌≡◌, ◌≢◌, ℕ, ◌<◌, Bool, true, false, not, List, [], ◌∷◌, ◌++◌, length, take, drop, Option, Some, None, Result, Ok, Err, Vec, IfOk, ap, ◌∙◌, sym, refl, subst, arith, inl, inr, length-append}
+use Rattle.std.proofs.Common.{◌≡◌, ◌≢◌, ℕ, ◌+◌, ◌<◌, Bool, true, ◌&&◌, List, [], ◌∷◌, ◌++◌, length, take, drop, Option, Some, Result, Ok, Err, Vec, IfOk, ap, ◌∙◌, sym, refl, subst, arith, inl, inr, length-append}
 use Rattle.std.specs.Global.{Global}
-use Rattle.std.specs.List.{list_all, flat_map}
-use Rattle.std.proofs.lemmas.Bool.{and_parts, and_from, both_ways, lt-ltb, not-true}
+use Rattle.std.specs.Prelude.{is_none}
+use Rattle.std.specs.List.{flat_map}
+use Rattle.std.proofs.lemmas.Bool.{and_parts, and_from, both_ways}
 use Rattle.std.proofs.lemmas.List.{take_at}
-use Rattle.std.proofs.lemmas.List.Folds.{list_all-append}
 use Rattle.au_base.specs.declared.limits.Limit.{Limit}
-use Rattle.au_lexer.specs.Faults.{Answers, name_limit}
+use Rattle.au_lexer.specs.Faults.{Answers}
 use Rattle.au_lexer.specs.declared.lexing.LexFault.{LexFault}
 use Rattle.au_lexer.specs.declared.lexing.LexFault.TheVariants as fault
 use Rattle.au_base.specs.declared.places.Pos.{Pos}
 use Rattle.au_base.specs.declared.tokens.Token.{Token}
 use Rattle.au_base.specs.declared.tokens.What.{What}
-use Rattle.au_base.specs.declared.tokens.What.TheVariants.{Name}
-use Rattle.au_base.specs.Limits.{most_name_bytes}
 use Rattle.au_base.specs.Places.{place_after}
-use Rattle.au_lexer.specs.Pieces.{Piece, token, spelling, what_of}
-use Rattle.au_lexer.specs.Cut.{Begins, Stands, CutsFront, Cut, tokens_among, token_at, is_short, is_short_token, is_long, IsWithinLimits, StopsAt, IsStray, IsLater, HasLongName, is_later, Lexed, tokens, stray, later, long_name, Lexes}
-use Rattle.au_lexer.specs.Reading.{Front, piece, front}
-use Rattle.au_lexer.specs.Reading as reading
+use Rattle.au_lexer.specs.Pieces.{Piece, spelling, what_of}
+use Rattle.au_lexer.specs.Cut.{Begins, Stands, CutsFront, Cut, tokens_among, token_at, StopsAt, IsStray, PassesLimit, Lexed, tokens, stray, passes, Lexes}
+use Rattle.au_lexer.specs.Passing.{limit_passed, is_within, count_of, count_among, are_within, IsWithinLimits}
+use Rattle.au_lexer.specs.Reading.{piece, front}
 use Rattle.au_lexer.proofs.CutLemmas.{spelling_some}
-use Rattle.au_lexer.proofs.FrontLemmas.{begins_found, found_begins, later_found, split_first}
+use Rattle.au_lexer.proofs.PassingLemmas.{pieces_within}
+use Rattle.au_lexer.proofs.FrontLemmas.{begins_found, found_begins, split_first}
 
 -- the bytes where a piece begins aren't empty
 begins_some : (found : Piece) (bytes : List ℕ) → Begins found bytes → 0 < length bytes
@@ -65,29 +64,51 @@ stands_alike bytes one other a b =
       meant = meant;
     }
 
-module _ (keep : Piece → Bool) where
-  -- no piece of that kind stands at the front of the rest
-  pub Ends : List ℕ → Type 0
-  Ends rest = (found : Piece) → Stands found rest → keep found ≡ true → ⊥
+module _ (keep : ℕ → Option What → Bool) where
+  -- whether each piece is kept, where so many tokens stand before them
+  pub kept : ℕ → List Piece → Bool
+  kept before [] = true
+  kept before (found ∷ pieces) = keep before (what_of found) && kept (before + count_of (what_of found)) pieces
+
+  -- no piece that is kept behind so many tokens stands at the front of the rest
+  pub Ends : ℕ → List ℕ → Type 0
+  Ends before rest = (found : Piece) → Stands found rest → keep before (what_of found) ≡ true → ⊥
 
   -- Two ways to cut the front of bytes are the same.
   pub record AreSame (ones others : List Piece) (a b : List ℕ) : Type 0 where
     pub rest : a ≡ b
     pub spelled : flat_map spelling ones ≡ flat_map spelling others
+    pub counted : count_among ones ≡ count_among others
     pub listed : (file : ℕ) (front : List ℕ) → tokens_among file front ones ≡ tokens_among file front others
 
-  pub cuts_meet : (ones others : List Piece) (bytes a b : List ℕ) → CutsFront ones bytes a → CutsFront others bytes b → list_all keep ones ≡ true → list_all keep others ≡ true → Ends a → Ends b → AreSame ones others a b
-  unfolding Ends
-  cuts_meet [] [] bytes a b x y j k ea eb = record { rest = sym x ∙ y; spelled = refl; listed = λ file front. refl }
-  cuts_meet [] (other ∷ others) bytes a b x y j k ea eb = absurd (ea other (subst (Stands other) x y.0) (and_parts (keep other) (list_all keep others) k).0)
-  cuts_meet (one ∷ ones) [] bytes a b x y j k ea eb = absurd (eb one (subst (Stands one) y x.0) (and_parts (keep one) (list_all keep ones) j).0)
-  cuts_meet (one ∷ ones) (other ∷ others) bytes a b x y j k ea eb =
+  behind : (before : ℕ) (one : Piece) (ones : List Piece) (rest : List ℕ) → Ends (before + count_among (one ∷ ones)) rest → Ends (before + count_of (what_of one) + count_among ones) rest
+  behind before one ones rest ends = subst (λ n. Ends n rest) (let e : before + (count_of (what_of one) + count_among ones) ≡ before + count_of (what_of one) + count_among ones = omega arith in e) ends
+
+  none_kept : (before : ℕ) (found : Piece) (pieces : List Piece) (bytes rest : List ℕ) → bytes ≡ rest → Stands found bytes → kept before (found ∷ pieces) ≡ true → Ends (before + 0) rest → ⊥
+  unfolding Ends kept
+  none_kept before found pieces bytes rest e stands k ends =
+      ends found (subst (Stands found) e stands) (ap (λ n. keep n (what_of found)) (let g : before + 0 ≡ before = omega arith in g) ∙ (and_parts (keep before (what_of found)) (kept (before + count_of (what_of found)) pieces) k).0)
+
+  pub cuts_meet : (before : ℕ) (ones others : List Piece) (bytes a b : List ℕ) → CutsFront ones bytes a → CutsFront others bytes b → kept before ones ≡ true → kept before others ≡ true →
+      Ends (before + count_among ones) a → Ends (before + count_among others) b → AreSame ones others a b
+  unfolding kept
+  cuts_meet before [] [] bytes a b x y j k ea eb = record { rest = sym x ∙ y; spelled = refl; counted = refl; listed = λ file front. refl }
+  cuts_meet before [] (other ∷ others) bytes a b x y j k ea eb = absurd (none_kept before other others bytes a x y.0 k ea)
+  cuts_meet before (one ∷ ones) [] bytes a b x y j k ea eb = absurd (none_kept before one ones bytes b y x.0 j eb)
+  cuts_meet before (one ∷ ones) (other ∷ others) bytes a b x y j k ea eb =
       let alike = stands_alike bytes one other x.0 y.0 in
-      let behind : drop (length (spelling other)) bytes ≡ drop (length (spelling one)) bytes = ap (λ s. drop (length s) bytes) (sym alike.spelled) in
-      let more = cuts_meet ones others (drop (length (spelling one)) bytes) a b x.1 (subst (λ r. CutsFront others r b) behind y.1) (and_parts (keep one) (list_all keep ones) j).1 (and_parts (keep other) (list_all keep others) k).1 ea eb in
+      let after : ℕ = before + count_of (what_of one) in
+      let same : before + count_of (what_of other) ≡ after = ap (λ w. before + count_of w) (sym alike.meant) in
+      let left : drop (length (spelling other)) bytes ≡ drop (length (spelling one)) bytes = ap (λ s. drop (length s) bytes) (sym alike.spelled) in
+      let more = cuts_meet after ones others (drop (length (spelling one)) bytes) a b x.1 (subst (λ r. CutsFront others r b) left y.1)
+      (and_parts (keep before (what_of one)) (kept after ones) j).1
+      (ap (λ n. kept n others) (sym same) ∙ (and_parts (keep before (what_of other)) (kept (before + count_of (what_of other)) others) k).1)
+      (behind before one ones a ea)
+      (subst (λ n. Ends (n + count_among others) b) same (behind before other others b eb)) in
       record {
         rest = more.rest;
         spelled = ap (λ s. s ++ flat_map spelling ones) alike.spelled ∙ ap (λ s. spelling other ++ s) more.spelled;
+        counted = ap (λ w. count_of w + count_among ones) alike.meant ∙ ap (λ n. count_of (what_of other) + n) more.counted;
         listed = λ file front.
             ap (λ w. token_at (place_after file front) w ++ tokens_among file (front ++ spelling one) ones) alike.meant
             ∙ ap (λ ts. token_at (place_after file front) (what_of other) ++ ts) (more.listed file (front ++ spelling one) ∙ ap (λ s. tokens_among file (front ++ s) others) alike.spelled);
@@ -97,71 +118,70 @@ module _ (keep : Piece → Bool) where
 none_at_end : (found : Piece) → Stands found [] → ⊥
 none_at_end found stands = let h = begins_some found [] stands.begins in omega arith
 
-any : Piece → Bool
-any found = true
+any : ℕ → Option What → Bool
+any before what = true
 
-all_any : (pieces : List Piece) → list_all any pieces ≡ true
-unfolding any
-all_any [] = refl
-all_any (found ∷ pieces) = all_any pieces
+all_any : (before : ℕ) (pieces : List Piece) → kept any before pieces ≡ true
+unfolding any kept
+all_any before [] = refl
+all_any before (found ∷ pieces) = all_any (before + count_of (what_of found)) pieces
 
 -- No file has two cuts.
 pub one_cut : (file : ℕ) (bytes : List ℕ) (ones others : List Token) → Cut file bytes ones → Cut file bytes others → ones ≡ others
 unfolding Ends
 one_cut file bytes ones others a b =
-    let same = cuts_meet any a.0 b.0 bytes [] [] a.1 b.1 (all_any a.0) (all_any b.0) (λ found stands _. none_at_end found stands) (λ found stands _. none_at_end found stands) in
+    let same = cuts_meet any 0 a.0 b.0 bytes [] [] a.1 b.1 (all_any 0 a.0) (all_any 0 b.0) (λ found stands _. none_at_end found stands) (λ found stands _. none_at_end found stands) in
     a.2 ∙ same.listed file [] ∙ sym b.2
 
--- pieces whose tokens are within the limits are short
-token_short : (at : Pos) (what : Option What) → IsWithinLimits (token_at at what) → is_short_token what ≡ true
-token_short at None h = refl
-token_short at (Some what) h = (and_parts _ _ h).0
+-- no piece is kept where one passes a limit
+passing_alone : (before : ℕ) (rest : List ℕ) (one : Piece) (what : What) (limit : Limit) → Stands one rest → what_of one ≡ Some what → limit_passed before what ≡ Some limit →
+    (found : Piece) → Stands found rest → is_within before (what_of found) ≡ true → ⊥
+passing_alone before rest one what limit stands meant passed found other within =
+    let alike = stands_alike rest found one other stands in
+    both_ways _ (ap is_none passed) (sym (ap (is_within before) (alike.meant ∙ meant)) ∙ within)
 
-pieces_short : (file : ℕ) (front : List ℕ) (pieces : List Piece) → IsWithinLimits (tokens_among file front pieces) → list_all is_short pieces ≡ true
-pieces_short file front [] h = refl
-pieces_short file front (found ∷ pieces) h =
-    let parts = and_parts _ _ (sym (list_all-append (λ (token : Token). not (is_long token.what)) (token_at (place_after file front) (what_of found)) (tokens_among file (front ++ spelling found) pieces)) ∙ h) in
-    and_from _ _ (token_short (place_after file front) (what_of found) parts.0) (pieces_short file (front ++ spelling found) pieces parts.1)
+-- pieces that pass no limit are kept
+within_kept : (before : ℕ) (pieces : List Piece) → are_within before pieces ≡ true → kept is_within before pieces ≡ true
+unfolding kept
+within_kept before [] h = refl
+within_kept before (found ∷ pieces) h =
+    let parts = and_parts (is_within before (what_of found)) (are_within (before + count_of (what_of found)) pieces) h in
+    and_from _ _ parts.0 (within_kept (before + count_of (what_of found)) pieces parts.1)
 
--- no piece stands where something stands for which there is no token yet
-later_alone : (rest : List ℕ) → is_later rest ≡ true → (found : Piece) → Stands found rest → ⊥
-later_alone [] h found stands = cc
-later_alone (first ∷ rest) h found stands =
-    let e : piece (length (spelling found)) (what_of found) ≡ reading.later = sym (stands_front (first ∷ rest) found stands) ∙ later_found first rest h in
-    cc
-
--- where a name that is too long stands, no short piece does
-long_alone : (rest name : List ℕ) → Stands (token (Name name)) rest → most_name_bytes < length name → (found : Piece) → Stands found rest → is_short found ≡ true → ⊥
-long_alone rest name stands long found other short =
-    let alike = stands_alike rest found (token (Name name)) other stands in
-    let long_so = lt-ltb most_name_bytes (length name) long in
-    both_ways _ (not-true _ (sym (ap is_short_token alike.meant) ∙ short)) long_so
-
--- A file is cut as far as it can be, and this place and these tokens are behind.
-record Reaches (file : ℕ) (bytes rest : List ℕ) (at : Pos) (list : List Token) : Type 0 where
+-- A file is cut as far as it can be: this place, these tokens and this count of them are behind.
+record Reaches (file : ℕ) (bytes rest : List ℕ) (at : Pos) (list : List Token) (count : ℕ) : Type 0 where
   pieces : List Piece
   cuts : CutsFront pieces bytes rest
-  short : list_all is_short pieces ≡ true
-  ends : Ends is_short rest
+  within : kept is_within 0 pieces ≡ true
+  ends : Ends is_within (0 + count_among pieces) rest
   place : at ≡ place_after file (flat_map spelling pieces)
   listed : list ≡ tokens_among file [] pieces
+  counted : count ≡ count_among pieces
 
 -- where a file is cut no further, and why
-abbrev Reason : Lexed → List ℕ → Pos → List Token → Type 0
-Reason (tokens list) rest at among = (rest ≡ []) × (list ≡ among)
-Reason (stray place) rest at among = (place ≡ at) × (rest ≢ []) × (is_later rest ≡ false) × ((found : Piece) → Begins found rest → ⊥)
-Reason (later place) rest at among = (place ≡ at) × (is_later rest ≡ true)
-Reason long_name rest at among = (name : List ℕ) × Stands (token (Name name)) rest × (most_name_bytes < length name)
+abbrev Reason : Lexed → List ℕ → Pos → List Token → ℕ → Type 0
+Reason (tokens list) rest at among count = (rest ≡ []) × (list ≡ among)
+Reason (stray place) rest at among count = (place ≡ at) × (rest ≢ []) × ((found : Piece) → Begins found rest → ⊥)
+Reason (passes limit) rest at among count = (one : Piece) × (what : What) × Stands one rest × (what_of one ≡ Some what) × (limit_passed count what ≡ Some limit)
 
 record Outcome (file : ℕ) (bytes : List ℕ) (lexed : Lexed) : Type 0 where
   rest : List ℕ
   at : Pos
   among : List Token
-  reached : Reaches file bytes rest at among
-  reason : Reason lexed rest at among
+  count : ℕ
+  reached : Reaches file bytes rest at among count
+  reason : Reason lexed rest at among count
 
-from_stop : (file : ℕ) (bytes rest : List ℕ) (at : Pos) (stop : StopsAt file bytes rest at) → Ends is_short rest → Reaches file bytes rest at (tokens_among file [] stop.pieces)
-from_stop file bytes rest at stop ends = record { pieces = stop.pieces; cuts = stop.cuts; short = stop.short; ends = ends; place = stop.place; listed = refl }
+from_stop : (file : ℕ) (bytes rest : List ℕ) (at : Pos) (stop : StopsAt file bytes rest at) → Ends is_within (count_among stop.pieces) rest → Reaches file bytes rest at (tokens_among file [] stop.pieces) (count_among stop.pieces)
+from_stop file bytes rest at stop ends = record {
+  pieces = stop.pieces;
+  cuts = stop.cuts;
+  within = within_kept 0 stop.pieces stop.within;
+  ends = subst (λ n. Ends is_within n rest) (let e : count_among stop.pieces ≡ 0 + count_among stop.pieces = omega arith in e) ends;
+  place = stop.place;
+  listed = refl;
+  counted = refl;
+}
 
 outcome : (file : ℕ) (bytes : List ℕ) (lexed : Lexed) → Lexes file bytes lexed → Outcome file bytes lexed
 unfolding Ends
@@ -171,73 +191,79 @@ outcome file bytes (tokens list) h =
       rest = [];
       at = place_after file (flat_map spelling cut.0);
       among = list;
-      reached = record { pieces = cut.0; cuts = cut.1; short = pieces_short file [] cut.0 (subst IsWithinLimits cut.2 h.1); ends = λ found stands _. none_at_end found stands; place = refl; listed = cut.2 };
+      count = count_among cut.0;
+      reached = record {
+        pieces = cut.0;
+        cuts = cut.1;
+        within = within_kept 0 cut.0 (pieces_within file cut.0 (subst IsWithinLimits cut.2 h.1));
+        ends = λ found stands _. none_at_end found stands;
+        place = refl;
+        listed = cut.2;
+        counted = refl;
+      };
       reason = (refl, refl);
     }
 outcome file bytes (stray at) h = record {
   rest = h.0;
   at = at;
   among = tokens_among file [] h.1.pieces;
-  reached = from_stop file bytes h.0 at h.1 (λ found stands _. h.4 found stands.begins);
-  reason = (refl, h.2, h.3, h.4);
+  count = count_among h.1.pieces;
+  reached = from_stop file bytes h.0 at h.1 (λ found stands _. h.3 found stands.begins);
+  reason = (refl, h.2, h.3);
 }
-outcome file bytes (later at) h = record {
-  rest = h.0;
-  at = at;
-  among = tokens_among file [] h.1.pieces;
-  reached = from_stop file bytes h.0 at h.1 (λ found stands _. later_alone h.0 h.2 found stands);
-  reason = (refl, h.2);
+outcome file bytes (passes limit) h = record {
+  rest = h.rest;
+  at = h.at;
+  among = tokens_among file [] h.stops.pieces;
+  count = count_among h.stops.pieces;
+  reached = from_stop file bytes h.rest h.at h.stops (passing_alone (count_among h.stops.pieces) h.rest h.found h.what limit h.stands h.meant h.passes);
+  reason = (h.found, h.what, h.stands, h.meant, h.passes);
 }
-outcome file bytes long_name h = record {
-  rest = h.0;
-  at = h.1;
-  among = tokens_among file [] h.3.pieces;
-  reached = from_stop file bytes h.0 h.1 h.3 (λ found stands short. long_alone h.0 h.2 h.4 h.5 found stands short);
-  reason = (h.2, h.4, h.5);
-}
+
+-- two limits that are passed at one place are the same
+one_limit : (rest : List ℕ) (count : ℕ) (a b : Piece) (one other : What) (x y : Limit) → Stands a rest → Stands b rest → what_of a ≡ Some one → what_of b ≡ Some other → limit_passed count one ≡ Some x → limit_passed count other ≡ Some y → x ≡ y
+one_limit rest count a b one other x y sa sb ma mb pa pb =
+    let alike = stands_alike rest a b sa sb in
+    let same : Some one ≡ Some other = sym ma ∙ alike.meant ∙ mb in
+    let what : one ≡ other = cc in
+    let limits : Some x ≡ Some y = sym pa ∙ ap (limit_passed count) what ∙ pb in
+    cc
 
 -- two reasons at one place are the same
-one_reason : (x y : Lexed) (rest : List ℕ) (at : Pos) (among : List Token) → Reason x rest at among → Reason y rest at among → x ≡ y
-one_reason (tokens list) (tokens other) rest at among a b = ap tokens (a.1 ∙ sym b.1)
-one_reason (tokens list) (stray place) rest at among a b = absurd (b.1 a.0)
-one_reason (tokens list) (later place) rest at among a b = absurd (both_ways _ (ap is_later a.0) b.1)
-one_reason (tokens list) long_name rest at among a b = absurd (none_at_end (token (Name b.0)) (subst (Stands (token (Name b.0))) a.0 b.1))
-one_reason (stray place) (tokens other) rest at among a b = absurd (a.1 b.0)
-one_reason (stray place) (stray other) rest at among a b = ap stray (a.0 ∙ sym b.0)
-one_reason (stray place) (later other) rest at among a b = absurd (both_ways _ a.2 b.1)
-one_reason (stray place) long_name rest at among a b = absurd (a.3 (token (Name b.0)) b.1.begins)
-one_reason (later place) (tokens other) rest at among a b = absurd (both_ways _ (ap is_later b.0) a.1)
-one_reason (later place) (stray other) rest at among a b = absurd (both_ways _ b.2 a.1)
-one_reason (later place) (later other) rest at among a b = ap later (a.0 ∙ sym b.0)
-one_reason (later place) long_name rest at among a b = absurd (later_alone rest a.1 (token (Name b.0)) b.1)
-one_reason long_name (tokens other) rest at among a b = absurd (none_at_end (token (Name a.0)) (subst (Stands (token (Name a.0))) b.0 a.1))
-one_reason long_name (stray other) rest at among a b = absurd (b.3 (token (Name a.0)) a.1.begins)
-one_reason long_name (later other) rest at among a b = absurd (later_alone rest b.1 (token (Name a.0)) a.1)
-one_reason long_name long_name rest at among a b = refl
+one_reason : (x y : Lexed) (rest : List ℕ) (at : Pos) (among : List Token) (count : ℕ) → Reason x rest at among count → Reason y rest at among count → x ≡ y
+one_reason (tokens list) (tokens other) rest at among count a b = ap tokens (a.1 ∙ sym b.1)
+one_reason (tokens list) (stray place) rest at among count a b = absurd (b.1 a.0)
+one_reason (tokens list) (passes limit) rest at among count a b = absurd (none_at_end b.0 (subst (Stands b.0) a.0 b.2))
+one_reason (stray place) (tokens other) rest at among count a b = absurd (a.1 b.0)
+one_reason (stray place) (stray other) rest at among count a b = ap stray (a.0 ∙ sym b.0)
+one_reason (stray place) (passes limit) rest at among count a b = absurd (a.2 b.0 b.2.begins)
+one_reason (passes limit) (tokens other) rest at among count a b = absurd (none_at_end a.0 (subst (Stands a.0) b.0 a.2))
+one_reason (passes limit) (stray other) rest at among count a b = absurd (b.2 a.0 a.2.begins)
+one_reason (passes limit) (passes other) rest at among count a b = ap passes (one_limit rest count a.0 b.0 a.1 b.1 limit other a.2 b.2 a.3 b.3 a.4 b.4)
 
-reason_at : (x : Lexed) (rest rest' : List ℕ) (at at' : Pos) (among among' : List Token) → rest ≡ rest' → at ≡ at' → among ≡ among' → Reason x rest at among → Reason x rest' at' among'
-reason_at x rest rest' at at' among among' e f g reason =
-    subst (λ r. Reason x r at' among') e (subst (λ p. Reason x rest p among') f (subst (Reason x rest at) g reason))
+reason_at : (x : Lexed) (rest rest' : List ℕ) (at at' : Pos) (among among' : List Token) (count count' : ℕ) → rest ≡ rest' → at ≡ at' → among ≡ among' → count ≡ count' → Reason x rest at among count → Reason x rest' at' among' count'
+reason_at x rest rest' at at' among among' count count' e f g n reason =
+    subst (λ r. Reason x r at' among' count') e (subst (λ p. Reason x rest p among' count') f (subst (λ l. Reason x rest at l count') g (subst (Reason x rest at among) n reason)))
 
 -- A file comes to one thing.
 pub one_outcome : (file : ℕ) (bytes : List ℕ) (x y : Lexed) → Lexes file bytes x → Lexes file bytes y → x ≡ y
 one_outcome file bytes x y a b =
     let p = outcome file bytes x a in
     let q = outcome file bytes y b in
-    let same = cuts_meet is_short p.reached.pieces q.reached.pieces bytes p.rest q.rest p.reached.cuts q.reached.cuts p.reached.short q.reached.short p.reached.ends q.reached.ends in
-    one_reason x y p.rest p.at p.among p.reason (reason_at y q.rest p.rest q.at p.at q.among p.among (sym same.rest)
+    let same = cuts_meet is_within 0 p.reached.pieces q.reached.pieces bytes p.rest q.rest p.reached.cuts q.reached.cuts p.reached.within q.reached.within p.reached.ends q.reached.ends in
+    one_reason x y p.rest p.at p.among p.count p.reason (reason_at y q.rest p.rest q.at p.at q.among p.among q.count p.count (sym same.rest)
     (q.reached.place ∙ ap (place_after file) (sym same.spelled) ∙ sym p.reached.place)
     (q.reached.listed ∙ sym (same.listed file []) ∙ sym p.reached.listed)
+    (q.reached.counted ∙ sym same.counted ∙ sym p.reached.counted)
     q.reason)
 
 -- What is answered by the definitions is what a file comes to.
 pub answers_so : (file : ℕ) (bytes : List ℕ) (answer : Result (Vec Token Global) LexFault) →
     IfOk answer (λ list. Cut file bytes list.items) → IfOk answer (λ list. IsWithinLimits list.items) →
-    ((at : Pos) → answer ≡ Err (fault.Byte at) → IsStray file bytes at) → ((at : Pos) → answer ≡ Err (fault.NotYet at) → IsLater file bytes at) →
-    ((limit : Limit) → answer ≡ Err (fault.Limit limit) → (limit ≡ name_limit) × HasLongName file bytes) →
+    ((at : Pos) → answer ≡ Err (fault.Byte at) → IsStray file bytes at) →
+    ((limit : Limit) → answer ≡ Err (fault.Limit limit) → PassesLimit file bytes limit) →
     (other : Lexed) → Lexes file bytes other → Answers answer other
-answers_so file bytes (Ok list) cut within byte not_yet limit other h = one_outcome file bytes other (tokens list.items) h (cut, within)
-answers_so file bytes (Err (fault.Byte at)) cut within byte not_yet limit other h = one_outcome file bytes other (stray at) h (byte at refl)
-answers_so file bytes (Err (fault.NotYet at)) cut within byte not_yet limit other h = one_outcome file bytes other (later at) h (not_yet at refl)
-answers_so file bytes (Err (fault.Limit passed)) cut within byte not_yet limit other h = (one_outcome file bytes other long_name h (limit passed refl).1, (limit passed refl).0)
-answers_so file bytes (Err fault.Memory) cut within byte not_yet limit other h = tt
+answers_so file bytes (Ok list) cut within byte limit other h = one_outcome file bytes other (tokens list.items) h (cut, within)
+answers_so file bytes (Err (fault.Byte at)) cut within byte limit other h = one_outcome file bytes other (stray at) h (byte at refl)
+answers_so file bytes (Err (fault.Limit passed)) cut within byte limit other h = one_outcome file bytes other (passes passed) h (limit passed refl)
+answers_so file bytes (Err fault.Memory) cut within byte limit other h = tt

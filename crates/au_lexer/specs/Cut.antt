@@ -1,26 +1,25 @@
 -- How a file is cut into tokens.
-use Rattle.std.specs.Prelude.{◌≡◌, ◌≢◌, ℕ, ◌≤◌, ◌<◌, nat_eq, nat_lt, IsTrue, IsFalse, not, ◌||◌, Bool, true, false, List, [], ◌∷◌, ◌++◌, length, drop, Option, Some, None}
-use Rattle.std.specs.List.{starts_with, list_all, flat_map}
+use Rattle.std.specs.Prelude.{◌≡◌, ◌≢◌, ℕ, ◌≤◌, nat_eq, IsTrue, List, [], ◌∷◌, ◌++◌, length, drop, Option, Some, None}
+use Rattle.std.specs.List.{starts_with, flat_map}
+use Rattle.au_base.specs.declared.limits.Limit.{Limit}
 use Rattle.au_base.specs.declared.places.Pos.{Pos}
 use Rattle.au_base.specs.declared.tokens.Token.{Token}
 use Rattle.au_base.specs.declared.tokens.What.{What}
-use Rattle.au_base.specs.declared.tokens.What.TheVariants.{Word, Sign, Name, Text}
-use Rattle.au_base.specs.Limits.{most_name_bytes}
+use Rattle.au_base.specs.declared.tokens.What.TheVariants.{Word, Sign, Name, Number, Text}
 use Rattle.au_base.specs.Places.{place_after}
-use Rattle.au_lexer.specs.Bytes.{is_digit}
-use Rattle.au_lexer.specs.Pieces.{Piece, blank, comment, token, spelling, IsPiece, what_of}
-
--- three quotes, which begin a docstring and never a text
-abbrev pub three_quotes : List ℕ
-three_quotes = 34 ∷ 34 ∷ 34 ∷ []
+use Rattle.au_lexer.specs.Passing.{limit_passed, count_among, are_within, IsWithinLimits}
+use Rattle.au_lexer.specs.Pieces.{Piece, blank, comment, docstring, number, token, three_quotes, spelling, IsPiece, what_of}
 
 -- The piece is a text.
 abbrev pub IsText : Piece → Type 0
 IsText (blank byte) = ⊥
 IsText (comment bytes) = ⊥
+IsText (docstring inside) = ⊥
+IsText (number digits) = ⊥
 IsText (token (Word keyword)) = ⊥
 IsText (token (Sign sign)) = ⊥
 IsText (token (Name name)) = ⊥
+IsText (token (Number value digits)) = ⊥
 IsText (token (Text text)) = Unit {0}
 
 -- A piece can stand at the front of the bytes: they begin with its spelling, and three quotes begin
@@ -58,63 +57,38 @@ abbrev pub Cut : ℕ → List ℕ → List Token → Type 0
 Cut file bytes tokens =
     (pieces : List Piece) × CutsFront pieces bytes [] × (tokens ≡ tokens_among file [] pieces)
 
--- whether a name is longer than a name may be
-abbrev pub is_long : What → Bool
-is_long (Word keyword) = false
-is_long (Sign sign) = false
-is_long (Name name) = nat_lt most_name_bytes (length name)
-is_long (Text text) = false
-
--- whether something that is a token or none is no name that is too long
-abbrev pub is_short_token : Option What → Bool
-is_short_token None = true
-is_short_token (Some what) = not (is_long what)
-
--- whether a piece is no name that is too long
-abbrev pub is_short : Piece → Bool
-is_short piece = is_short_token (what_of piece)
-
--- The front of a file is cut, with no name that is too long, and the rest begins at a place.
+-- The front of a file is cut, no token there passes a limit, and the rest begins at a place.
 pub record StopsAt (file : ℕ) (bytes rest : List ℕ) (at : Pos) : Type 0 where
   pub pieces : List Piece
   pub cuts : CutsFront pieces bytes rest
-  pub short : IsTrue (list_all is_short pieces)
+  pub within : IsTrue (are_within 0 pieces)
   pub place : at ≡ place_after file (flat_map spelling pieces)
 
--- whether bytes begin with a digit or with three quotes, for which there is no token yet
-abbrev pub is_later : List ℕ → Bool
-is_later [] = false
-is_later (first ∷ rest) = is_digit first || starts_with nat_eq (first ∷ rest) three_quotes
-
--- The place is that of the first byte that begins no piece, and there is no digit and no three quotes.
+-- The place is that of the first byte that begins no piece.
 abbrev pub IsStray : ℕ → List ℕ → Pos → Type 0
 IsStray file bytes at =
-    (rest : List ℕ) × StopsAt file bytes rest at × (rest ≢ []) × IsFalse (is_later rest) × ((piece : Piece) → Begins piece rest → ⊥)
+    (rest : List ℕ) × StopsAt file bytes rest at × (rest ≢ []) × ((piece : Piece) → Begins piece rest → ⊥)
 
--- The place is that of the first digit, or of the first three quotes, where a token would begin.
-abbrev pub IsLater : ℕ → List ℕ → Pos → Type 0
-IsLater file bytes at = (rest : List ℕ) × StopsAt file bytes rest at × IsTrue (is_later rest)
+-- The first token of the file that passes a limit passes this one.
+pub record PassesLimit (file : ℕ) (bytes : List ℕ) (limit : Limit) : Type 0 where
+  pub rest : List ℕ
+  pub at : Pos
+  pub stops : StopsAt file bytes rest at
+  pub found : Piece
+  pub stands : Stands found rest
+  pub what : What
+  pub meant : what_of found ≡ Some what
+  pub passes : limit_passed (count_among stops.pieces) what ≡ Some limit
 
--- A name in the file is too long, and everything before it is cut.
-abbrev pub HasLongName : ℕ → List ℕ → Type 0
-HasLongName file bytes =
-    (rest : List ℕ) × (at : Pos) × (name : List ℕ) × StopsAt file bytes rest at × Stands (token (Name name)) rest × (most_name_bytes < length name)
-
--- No name among the tokens is too long.
-abbrev pub IsWithinLimits : List Token → Type 0
-IsWithinLimits tokens = IsTrue (list_all (λ token. not (is_long token.what)) tokens)
-
--- What a file comes to: its tokens, the place of a byte that begins no piece, the place of
--- something for which there is no token yet, or a name that is too long.
+-- What a file comes to: its tokens, the place of a byte that begins no piece, or a limit that is
+-- passed.
 pub data Lexed : Type 0 where
   tokens : List Token → Lexed
   stray : Pos → Lexed
-  later : Pos → Lexed
-  long_name : Lexed
+  passes : Limit → Lexed
 
 -- The bytes of a file come to this outcome.
 abbrev pub Lexes : ℕ → List ℕ → Lexed → Type 0
 Lexes file bytes (tokens list) = Cut file bytes list × IsWithinLimits list
 Lexes file bytes (stray at) = IsStray file bytes at
-Lexes file bytes (later at) = IsLater file bytes at
-Lexes file bytes long_name = HasLongName file bytes
+Lexes file bytes (passes limit) = PassesLimit file bytes limit

@@ -1,27 +1,26 @@
 -- What the reading functions of the lexer give, as functions of the bytes.
-use Rattle.std.specs.Prelude.{◌≡◌, ℕ, ◌+◌, ◌<◌, Bool, true, false, not, IsTrue, IsFalse, nat_eq, nat_lt, ◌==◌, List, [], ◌∷◌, length, take, drop, Option, Some, None, Result, Ok, Err, if◌then◌else◌, ◌||◌, slice_index}
+use Rattle.std.specs.Prelude.{◌≡◌, ℕ, ◌+◌, Bool, true, false, not, IsTrue, nat_eq, nat_lt, ◌==◌, List, [], ◌∷◌, length, take, drop, Option, Some, None, Result, Ok, Err, if◌then◌else◌, slice_index}
 use Rattle.std.specs.List.{prefix_len, starts_with}
 use Rattle.std.specs.Option.{option_map}
 use Rattle.std.specs.Str.{bytes_eq}
+use Rattle.au_base.specs.declared.limits.Limit.{Limit}
 use Rattle.au_base.specs.declared.tokens.Keyword.{Keyword}
 use Rattle.au_base.specs.declared.tokens.Sign.{Sign as SignOf}
 use Rattle.au_base.specs.declared.tokens.What.{What}
 use Rattle.au_base.specs.declared.tokens.What.TheVariants.{Word, Sign, Name, Text}
-use Rattle.au_base.specs.Limits.{most_name_bytes}
 use Rattle.au_base.specs.Places.{is_newline}
 use Rattle.au_base.specs.Tokens.{keywords, signs, keyword_spelling, sign_spelling}
 use Rattle.au_lexer.specs.Bytes.{is_space, is_letter, is_digit, is_name_byte}
-use Rattle.au_lexer.specs.Cut.{three_quotes, is_short_token, Stands, Begins, is_later}
-use Rattle.au_lexer.specs.Pieces.{Piece, token, spelling, what_of}
+use Rattle.au_lexer.specs.Cut.{Stands, Begins}
+use Rattle.au_lexer.specs.Passing.{limit_passed, is_within}
+use Rattle.au_lexer.specs.Pieces.{Piece, three_quotes, spelling, number_of, what_of}
 use Rattle.au_lexer.specs.declared.pieces.Found.{Found}
 use Rattle.au_lexer.specs.declared.pieces.Stop.{Stop}
-use Rattle.au_lexer.specs.declared.pieces.Stop.TheVariants.{Stray, Later, LongName, Memory}
+use Rattle.au_lexer.specs.declared.pieces.Stop.TheVariants.{Stray, Passes, Memory}
 
--- What stands at the front of bytes: a piece of so many bytes, with its token if it is one,
--- something for which there is no token yet, or nothing.
+-- What stands at the front of bytes: a piece of so many bytes, with its token if it is one, or nothing.
 pub data Front : Type 0 where
   piece : ℕ → Option What → Front
-  later : Front
   stray : Front
 
 -- the first keyword in a table that is spelled as a word is
@@ -71,6 +70,17 @@ text_at false (byte ∷ bytes) =
     else (if nat_lt byte 32 then None
     else with_byte byte (text_at false bytes)))
 
+-- how many bytes a text means, and how many bytes it takes through its last quote
+abbrev pub text_sizes : Option (List ℕ × ℕ) → Option (ℕ × ℕ)
+text_sizes read = option_map (λ text. (length text.0, text.1)) read
+
+-- how many bytes stand before the next three quotes, with these
+abbrev pub docstring_size : List ℕ → Option ℕ
+docstring_size [] = None
+docstring_size (byte ∷ bytes) =
+    if starts_with nat_eq (byte ∷ bytes) three_quotes then Some 3
+    else option_map (λ size. size + 1) (docstring_size bytes)
+
 -- a token of so many bytes at the front
 abbrev pub token_front : ℕ → What → Front
 token_front size what = piece size (Some what)
@@ -79,6 +89,19 @@ token_front size what = piece size (Some what)
 abbrev pub text_front : Option (List ℕ × ℕ) → Front
 text_front None = stray
 text_front (Some text) = token_front (text.1 + 1) (Text text.0)
+
+-- the front of bytes that begin with three quotes, by the bytes through the next three
+abbrev pub docstring_front : Option ℕ → Front
+docstring_front None = stray
+docstring_front (Some size) = piece (size + 3) None
+
+-- the front of bytes that begin with a number
+abbrev pub number_front : List ℕ → Front
+number_front digits = token_front (length digits) (number_of digits)
+
+-- the digits that bytes begin with
+abbrev pub digits_at : List ℕ → List ℕ
+digits_at bytes = take (prefix_len is_digit bytes) bytes
 
 -- the token that a word is, by the keyword that it is or is not
 abbrev pub word_what : List ℕ → Option Keyword → What
@@ -111,22 +134,24 @@ abbrev pub front_from : ℕ → List ℕ → Front
 front_from first bytes =
     if is_space first then piece 1 None
     else (if is_letter first then word_front (word_at bytes)
-    else (if is_digit first || starts_with nat_eq bytes three_quotes then later
+    else (if is_digit first then number_front (digits_at bytes)
+    else (if starts_with nat_eq bytes three_quotes then docstring_front (docstring_size (drop 3 bytes))
     else (if first == 34 then text_front (text_at false (drop 1 bytes))
     else (if is_comment bytes then piece (comment_size bytes) None
-    else sign_front (sign_of bytes)))))
+    else sign_front (sign_of bytes))))))
 
 -- what stands at the front of bytes
 unfoldable pub front : List ℕ → Front
 front bytes = front_from (slice_index bytes 0) bytes
 
--- What a reading function answers is what stands at the front, unless memory runs out.
-abbrev pub Reads : Result Found Stop → Front → Type 0
-Reads (Ok found) read = (read ≡ piece found.size found.what) × IsTrue (is_short_token found.what)
-Reads (Err Stray) read = read ≡ stray
-Reads (Err Later) read = read ≡ later
-Reads (Err LongName) read = (name : List ℕ) × (read ≡ token_front (length name) (Name name)) × (most_name_bytes < length name)
-Reads (Err Memory) read = Unit {0}
+-- What a reading function answers behind so many tokens is what stands at the front, unless a token
+-- there passes a limit or memory runs out.
+abbrev pub Reads : ℕ → Result Found Stop → Front → Type 0
+Reads before (Ok found) read = (read ≡ piece found.size found.what) × IsTrue (is_within before found.what)
+Reads before (Err Stray) read = read ≡ stray
+Reads before (Err (Passes limit)) read =
+    (size : ℕ) × (what : What) × (read ≡ token_front size what) × (limit_passed before what ≡ Some limit)
+Reads before (Err Memory) read = Unit {0}
 
 -- The longest piece at the front of the bytes has this size and this token.
 pub record IsLongest (bytes : List ℕ) (size : ℕ) (what : Option What) : Type 0 where
@@ -135,14 +160,17 @@ pub record IsLongest (bytes : List ℕ) (size : ℕ) (what : Option What) : Type
   pub sized : length (spelling found) ≡ size
   pub meant : what_of found ≡ what
 
--- A name that is too long stands at the front of the bytes.
-abbrev pub BeginsLongName : List ℕ → Type 0
-BeginsLongName bytes = (name : List ℕ) × Stands (token (Name name)) bytes × (most_name_bytes < length name)
+-- Behind so many tokens, a token at the front of the bytes passes a limit.
+pub record BeginsPassing (before : ℕ) (bytes : List ℕ) (limit : Limit) : Type 0 where
+  pub found : Piece
+  pub stands : Stands found bytes
+  pub what : What
+  pub meant : what_of found ≡ Some what
+  pub passes : limit_passed before what ≡ Some limit
 
--- what an answer says of the piece at the front of bytes
-abbrev pub FindsPiece : Result Found Stop → List ℕ → Type 0
-FindsPiece (Ok found) bytes = IsLongest bytes found.size found.what × IsTrue (is_short_token found.what)
-FindsPiece (Err Stray) bytes = ((other : Piece) → Begins other bytes → ⊥) × IsFalse (is_later bytes)
-FindsPiece (Err Later) bytes = IsTrue (is_later bytes)
-FindsPiece (Err LongName) bytes = BeginsLongName bytes
-FindsPiece (Err Memory) bytes = Unit {0}
+-- what an answer says of the piece at the front of bytes, behind so many tokens
+abbrev pub FindsPiece : ℕ → Result Found Stop → List ℕ → Type 0
+FindsPiece before (Ok found) bytes = IsLongest bytes found.size found.what × IsTrue (is_within before found.what)
+FindsPiece before (Err Stray) bytes = (other : Piece) → Begins other bytes → ⊥
+FindsPiece before (Err (Passes limit)) bytes = BeginsPassing before bytes limit
+FindsPiece before (Err Memory) bytes = Unit {0}

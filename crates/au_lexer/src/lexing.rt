@@ -1,12 +1,13 @@
 //! The tokens of a whole file.
 
 ghost use Rattle.std.specs.Prelude.{◌≡◌, ◌+◌, ◌^◌, ◌<◌, ◌++◌, length, Err, IfOk, OnOk, IsOkUnless};
-ghost use Rattle.au_lexer.specs.Cut.{Cut, IsWithinLimits, IsStray, IsLater, HasLongName, Lexed, Lexes, token_at};
-ghost use Rattle.au_lexer.specs.Faults.{fault_of, name_limit, Answers};
+ghost use Rattle.au_lexer.specs.Cut.{Cut, IsStray, PassesLimit, Lexed, Lexes, token_at};
+ghost use Rattle.au_lexer.specs.Faults.{fault_of, Answers};
+ghost use Rattle.au_lexer.specs.Passing.{IsWithinLimits};
 ghost use Rattle.au_lexer.specs.declared.lexing.LexFault.TheVariants as fault;
 
 use crate::pieces::{Found, Stop, piece};
-use au_base::{Limit, LimitKind, MOST_NAME_BYTES, Memory, Pos, Token, What};
+use au_base::{Limit, Memory, Pos, Token, What};
 use std::alloc::{AllocFailed, Global};
 use thiserror::Error;
 
@@ -16,10 +17,8 @@ pub enum LexFault {
     /// The place of the first byte that begins no token.
     #[error("a byte begins no token")]
     Byte(Pos),
-    /// The place of something for which there is no token yet: a number or a docstring.
-    #[error("a token is not built yet")]
-    NotYet(Pos),
-    /// A name has too many bytes.
+    /// The limit that a token passes: of tokens, of a name's bytes, of a number's digits, or of the
+    /// bytes that a text means.
     #[error("a limit is passed")]
     Limit(Limit),
     /// No memory was found.
@@ -47,14 +46,12 @@ impl<T: Drop> From<AllocFailed<T>> for LexFault {
 /// file by. The file has fewer than 2^32 - 1 bytes, so that each line and column has a number.
 pub fn lex(alloc: Global, file: u16, bytes: &[u8]) -> Result<Vec<Token>, LexFault>
     requires { length bytes.now + 1 < 2 ^ 32 }
-    // Ok: the file is cut into these tokens, and no name among them is too long.
+    // Ok: the file is cut into these tokens, and they pass no limit.
     ensures cut { IfOk result (λ tokens. Cut file bytes.now tokens.items) }
     ensures within { IfOk result (λ tokens. IsWithinLimits tokens.items) }
     // The first place at which a file has a cause decides.
     ensures byte { (at : Pos) → result ≡ Err (LexFault.Byte at) → IsStray file bytes.now at }
-    ensures not_yet { (at : Pos) → result ≡ Err (LexFault.NotYet at) → IsLater file bytes.now at }
-    ensures limit { (limit : Limit) → result ≡ Err (LexFault.Limit limit)
-        → (limit ≡ name_limit) × HasLongName file bytes.now }
+    ensures limit { (limit : Limit) → result ≡ Err (LexFault.Limit limit) → PassesLimit file bytes.now limit }
     // Whatever the file comes to is answered, unless memory runs out.
     ensures only { (outcome : Lexed) → Lexes file bytes.now outcome → Answers result outcome }
 {
@@ -67,16 +64,14 @@ fn cut_all(alloc: Global, file: u16, bytes: &[u8]) -> Result<Vec<Token>, LexFaul
     ensures cut { IfOk result (λ tokens. Cut file bytes.now tokens.items) }
     ensures within { IfOk result (λ tokens. IsWithinLimits tokens.items) }
     ensures byte { (at : Pos) → result ≡ Err (LexFault.Byte at) → IsStray file bytes.now at }
-    ensures not_yet { (at : Pos) → result ≡ Err (LexFault.NotYet at) → IsLater file bytes.now at }
-    ensures limit { (limit : Limit) → result ≡ Err (LexFault.Limit limit)
-        → (limit ≡ name_limit) × HasLongName file bytes.now }
+    ensures limit { (limit : Limit) → result ≡ Err (LexFault.Limit limit) → PassesLimit file bytes.now limit }
 {
     let mut tokens = Vec::new(alloc);
     let mut at = Pos::start(file);
     let mut done = 0;
     while done < bytes.len() {
         let rest = &bytes[done..];
-        match piece(alloc, rest) {
+        match piece(alloc, tokens.len(), rest) {
             Ok(Found { size, what }) => {
                 add_token(&mut tokens, what, at)?;
                 at = at.after(&rest[..size]);
@@ -105,12 +100,7 @@ fn fault_at(stop: Stop, at: Pos) -> LexFault
 {
     match stop {
         Stop::Stray => LexFault::Byte(at),
-        Stop::Later => LexFault::NotYet(at),
-        Stop::LongName => LexFault::Limit(Limit {
-            kind: LimitKind::NameBytes,
-            count: MOST_NAME_BYTES as u64 + 1,
-            most: MOST_NAME_BYTES as u64,
-        }),
+        Stop::Passes(limit) => LexFault::Limit(limit),
         Stop::Memory => LexFault::Memory,
     }
 }

@@ -7,30 +7,42 @@ use au_base::{Limit, LimitKind, Pos, Text};
 use std::alloc::{AllocError, Global};
 use std::test::Fail;
 
-/// Tokens as `LINE:COLUMN KIND BYTES|`, one behind another.
+/// Tokens as `LINE:COLUMN KIND BYTES|`, one behind another. A number has its value and its count of
+/// digits in place of bytes.
 fn show_tokens(alloc: Global, tokens: &[Token]) -> Result<Text, Fail> {
     let mut shown = Text::new(alloc);
     for token in tokens {
-        let (kind, bytes) = match &token.what {
-            What::Word(keyword) => ("word", keyword.spelling()),
-            What::Sign(sign) => ("sign", sign.spelling()),
-            What::Name(name) => ("name", name.as_bytes()),
-            What::Text(text) => ("text", text.as_bytes()),
-        };
-        let at = format!(in alloc; "{}:{} {kind} ", token.at.line, token.at.column)?;
+        let at = format!(in alloc; "{}:{} ", token.at.line, token.at.column)?;
         shown.append(at.as_bytes())?;
-        shown.append(bytes)?;
-        shown.push(b'|')?;
+        match &token.what {
+            What::Word(keyword) => show_kind(&mut shown, "word ", keyword.spelling())?,
+            What::Sign(sign) => show_kind(&mut shown, "sign ", sign.spelling())?,
+            What::Name(name) => show_kind(&mut shown, "name ", name.as_bytes())?,
+            What::Text(text) => show_kind(&mut shown, "text ", text.as_bytes())?,
+            What::Number { value, digits } => {
+                let number = format!(in alloc; "{value}/{digits}")?;
+                show_kind(&mut shown, "number ", number.as_bytes())?;
+            }
+        }
     }
     Ok(shown)
+}
+
+/// Puts a token's kind and bytes at the end.
+fn show_kind(shown: &mut Text, kind: &str, bytes: &[u8]) -> Result<(), Fail> {
+    shown.append(kind.as_bytes())?;
+    shown.append(bytes)?;
+    shown.push(b'|')?;
+    Ok(())
 }
 
 /// A fault as its kind and its place or limit.
 fn show_fault(alloc: Global, fault: LexFault) -> Result<String, AllocError> {
     match fault {
         LexFault::Byte(at) => format!(in alloc; "byte {}:{}", at.line, at.column),
-        LexFault::NotYet(at) => format!(in alloc; "later {}:{}", at.line, at.column),
-        LexFault::Limit(limit) => format!(in alloc; "{} above {}", limit.count, limit.most),
+        LexFault::Limit(limit) => {
+            format!(in alloc; "{:?} {} above {}", limit.kind, limit.count, limit.most)
+        }
         LexFault::Memory => format!(in alloc; "memory"),
     }
 }
@@ -46,7 +58,7 @@ fn show(alloc: Global, bytes: &[u8]) -> Result<Text, Fail>
 }
 
 /// Files that are cut, each with its tokens.
-const CUT: [(&[u8], &[u8]); 22] = [
+const CUT: [(&[u8], &[u8]); 33] = [
     (b"", b""),
     (b" \t\r\n", b""),
     // words, of which the longest counts
@@ -92,6 +104,28 @@ const CUT: [(&[u8], &[u8]); 22] = [
         b"1:1 text \xC3\xA9\xFF\x7F|1:8 name x|",
     ),
     (b"\"-- #\" x", b"1:1 text -- #|1:8 name x|"),
+    // numbers, whose leading zeros are digits
+    (b"0", b"1:1 number 0/1|"),
+    (b"007 42", b"1:1 number 7/3|1:5 number 42/2|"),
+    (
+        b"99999999999999999999999999999999999999",
+        b"1:1 number 99999999999999999999999999999999999999/38|",
+    ),
+    (b"12ab", b"1:1 number 12/2|1:3 name ab|"),
+    (
+        b"a:=-1",
+        b"1:1 name a|1:2 sign :=|1:4 sign -|1:5 number 1/1|",
+    ),
+    (b"x<-1", b"1:1 name x|1:2 sign <|1:3 sign -|1:4 number 1/1|"),
+    // docstrings
+    (b"\"\"\"\"\"\"a", b"1:7 name a|"),
+    (
+        b"x\"\"\" -- \" \"\" \\ \xFF\n\"\"\"y",
+        b"1:1 name x|2:4 name y|",
+    ),
+    (b"\"\"\"\"a\"\"\" b", b"1:10 name b|"),
+    (b"\"a\"\"\"\"\"\"\"x", b"1:1 text a|1:10 name x|"),
+    (b"-- \"\"\"\na", b"2:1 name a|"),
     // comments
     (b"--", b""),
     (b"-- a \xFF \"#\nb -- c", b"2:1 name b|"),
@@ -110,7 +144,7 @@ const CUT: [(&[u8], &[u8]); 22] = [
 ];
 
 /// Files that are refused, each with its fault.
-const REFUSED: [(&[u8], &[u8]); 28] = [
+const REFUSED: [(&[u8], &[u8]); 27] = [
     (b"\xC3\xA9", b"byte 1:1"),
     (b"a \x80", b"byte 1:3"),
     (b"a\x00", b"byte 1:2"),
@@ -130,26 +164,80 @@ const REFUSED: [(&[u8], &[u8]); 28] = [
     (b"\"a\tb\"", b"byte 1:1"),
     (b"\"\\\n\"", b"byte 1:1"),
     (b"\"\" \" #", b"byte 1:4"),
-    // what has no token yet
-    (b"\"\"\"", b"later 1:1"),
-    (b"a\n \"\"\"\"", b"later 2:2"),
-    (b"7", b"later 1:1"),
-    (b"x7 7x", b"later 1:4"),
-    (b"-1", b"later 1:2"),
-    (b"1 #", b"later 1:1"),
+    // docstrings
+    (b"\"\"\"", b"byte 1:1"),
+    (b"\"\"\"a\"\"", b"byte 1:1"),
+    (b"a\n \"\"\"\"", b"byte 2:2"),
+    (b"\"\"\"\"\"\"\"", b"byte 1:7"),
+    (b"\"\"\"a\"\"\"\"", b"byte 1:8"),
+    // the first place decides
+    (b"1 #", b"byte 1:3"),
     (b"# 1", b"byte 1:1"),
-    // names that are too long
     (
-        b"x abcdefghijklmnopqrstuvwxyz0123456789_ABCDEFGHIJKLMNOPQRSTUVWXYZab",
-        b"65 above 64",
+        b"x abcdefghijklmnopqrstuvwxyz0123456789_ABCDEFGHIJKLMNOPQRSTUVWXYZab #",
+        b"NameBytes 65 above 64",
     ),
     (
-        b"abcdefghijklmnopqrstuvwxyz0123456789_ABCDEFGHIJKLMNOPQRSTUVWXYZabc #",
-        b"65 above 64",
-    ),
-    (
-        b"# abcdefghijklmnopqrstuvwxyz0123456789_ABCDEFGHIJKLMNOPQRSTUVWXYZabc",
+        b"# abcdefghijklmnopqrstuvwxyz0123456789_ABCDEFGHIJKLMNOPQRSTUVWXYZab",
         b"byte 1:1",
+    ),
+];
+
+/// Long files: a front, a byte so often, and a back. Each with its count of tokens, or its fault.
+const LONG: [(&[u8], u8, usize, &[u8], &[u8]); 26] = [
+    // each limit at its number and above it
+    (b"", b'a', 64, b"", b"1 tokens"),
+    (b"", b'a', 65, b"", b"NameBytes 65 above 64"),
+    (b"", b'a', 1_048_576, b"", b"NameBytes 65 above 64"),
+    (b"", b'0', 38, b"", b"1 tokens"),
+    (b"", b'0', 39, b"", b"LiteralDigits 39 above 38"),
+    (b"", b'7', 50, b"", b"LiteralDigits 39 above 38"),
+    (b"\"", b'a', 65_536, b"\"", b"1 tokens"),
+    (b"\"\\n\\\\", b'a', 65_534, b"\"", b"1 tokens"),
+    (b"\"", b'a', 65_537, b"\"", b"TextBytes 65537 above 65536"),
+    (
+        b"\"\\n\\\\",
+        b'a',
+        65_535,
+        b"\"",
+        b"TextBytes 65537 above 65536",
+    ),
+    (
+        b"\"",
+        b'a',
+        1_048_574,
+        b"\"",
+        b"TextBytes 65537 above 65536",
+    ),
+    (b"", b';', 262_144, b" -- end", b"262144 tokens"),
+    (b"", b';', 262_144, b" 1", b"Tokens 262145 above 262144"),
+    (b"", b'&', 1_048_576, b"", b"Tokens 262145 above 262144"),
+    // what has no limit
+    (b"--", b'a', 1_048_574, b"", b"0 tokens"),
+    (b"\"\"\"", b'a', 1_048_570, b"\"\"\"", b"0 tokens"),
+    (b"", b'\n', 1_048_576, b"", b"0 tokens"),
+    // a text without its end is a byte, however long it is
+    (b";\"", b'a', 65_537, b"", b"byte 1:2"),
+    (b";\"", b'a', 65_537, b"\n\"", b"byte 1:2"),
+    (b"\"\"\"", b'a', 1_048_573, b"", b"byte 1:1"),
+    // the first place decides, and the limit of tokens comes first
+    (b"\"", b'a', 65_537, b"\" #", b"TextBytes 65537 above 65536"),
+    (b"# \"", b'a', 65_537, b"\"", b"byte 1:1"),
+    (b"", b';', 262_144, b" #", b"byte 1:262146"),
+    (b"", b';', 262_144, b"\"abc", b"byte 1:262145"),
+    (
+        b"",
+        b';',
+        262_144,
+        b"abcdefghijklmnopqrstuvwxyz0123456789_ABCDEFGHIJKLMNOPQRSTUVWXYZab",
+        b"Tokens 262145 above 262144",
+    ),
+    (
+        b"",
+        b';',
+        262_143,
+        b"abcdefghijklmnopqrstuvwxyz0123456789_ABCDEFGHIJKLMNOPQRSTUVWXYZab",
+        b"NameBytes 65 above 64",
     ),
 ];
 
@@ -171,28 +259,26 @@ fn refuses(rt: HostRuntime) -> Result<(), Fail> {
     Ok(())
 }
 
-#[test]
-fn cuts_a_large_file_of_blanks(rt: HostRuntime) -> Result<(), Fail> {
-    let bytes = vec![in rt.alloc(); b' '; 1_048_576]?;
-    assert_eq!(rt; bytes.len(), 1_048_576);
-    assert_eq!(rt;
-        show(rt.alloc(), bytes.as_slice())?.as_bytes(),
-        b"".as_slice()
-    );
-    Ok(())
+/// What a file comes to: its count of tokens, or its fault.
+fn count(alloc: Global, bytes: &[u8]) -> Result<String, AllocError>
+    requires { length bytes.now + 1 < 2 ^ 32 }
+{
+    match lex(alloc, 7, bytes) {
+        Ok(tokens) => format!(in alloc; "{} tokens", tokens.len()),
+        Err(fault) => show_fault(alloc, fault),
+    }
 }
 
 #[test]
-fn cuts_a_large_text(rt: HostRuntime) -> Result<(), Fail> {
-    let mut bytes = vec![in rt.alloc(); b'x'; 1_048_576]?;
-    assert_eq!(rt; bytes.len(), 1_048_576);
-    bytes[0] = b'"';
-    bytes[1_048_575] = b'"';
-    assert_eq!(rt;
-        show(rt.alloc(), bytes.as_slice())?.len(),
-        1_048_584,
-        "`1:1 text ` and `|`"
-    );
+fn counts(rt: HostRuntime) -> Result<(), Fail> {
+    for (front, byte, times, back, want) in LONG {
+        let part = vec![in rt.alloc(); byte; times]?;
+        let mut file = Text::copy_of(rt.alloc(), front)?;
+        file.append(part.as_slice())?;
+        file.append(back)?;
+        assert!(rt; file.len() <= 1_048_576);
+        assert_eq!(rt; count(rt.alloc(), file.as_bytes())?.as_bytes(), want);
+    }
     Ok(())
 }
 
@@ -205,9 +291,8 @@ fn faults(rt: HostRuntime) -> Result<(), Fail> {
         count: 65,
         most: 64,
     };
-    let cases: [(LexFault, &str); 4] = [
+    let cases: [(LexFault, &str); 3] = [
         (LexFault::Byte(Pos::start(0)), "a byte begins no token"),
-        (LexFault::NotYet(Pos::start(0)), "a token is not built yet"),
         (LexFault::Limit(limit), "a limit is passed"),
         (LexFault::Memory, "out of memory"),
     ];

@@ -1,11 +1,14 @@
 -- Reading a list of expected tokens.
-use Rattle.std.proofs.Common.{◌≡◌, ℕ, Bool, true, false, cond, List, [], ◌∷◌, ◌++◌, length, Ok, Err, refl, sym, ap, ◌∙◌, inl, inr, ◌⊎◌}
+use Rattle.std.proofs.Common.{◌≡◌, ℕ, Bool, true, false, ◌==◌, cond, List, [], ◌∷◌, ◌++◌, length, Ok, Err, refl, sym, ap, ◌∙◌, inl, inr, ◌⊎◌}
+use Rattle.std.specs.Ordering.{int_eq}
+use Rattle.std.proofs.lemmas.Bool.{and_parts, and_from, eqb-true, eq-eqb}
+use Rattle.std.proofs.lemmas.Bool.Decides.{Decides-int_eq}
 use Rattle.std.proofs.lemmas.Slice.Eq.{bytes_eq-Decides}
 use denote.Enum.Bare.{same_true, true_same}
 use Rattle.au_base.specs.contracts.tokens.Keyword.{the_type as keyword}
 use Rattle.au_base.specs.contracts.tokens.Sign.{the_type as sign}
 use Rattle.au_base.specs.declared.tokens.What.{What}
-use Rattle.au_base.specs.declared.tokens.What.TheVariants.{Word, Sign, Name, Text}
+use Rattle.au_base.specs.declared.tokens.What.TheVariants.{Word, Sign, Name, Number, Text}
 use Rattle.au_parser.specs.Readers.{Read, ◌>>=◌, same_what, word_at, words_at}
 
 -- a value that is read
@@ -35,6 +38,9 @@ pub same_is : (a b : What) → same_what a b ≡ true → a ≡ b
 same_is (Word a) (Word b) e = ap Word (same_true keyword tt a b e)
 same_is (Sign a) (Sign b) e = ap Sign (same_true sign tt a b e)
 same_is (Name a) (Name b) e = ap Name ((bytes_eq-Decides a b).0 e)
+same_is (Number a n) (Number b m) e =
+    let both = and_parts (int_eq a b) (n == m) e in
+    ap (λ v. Number v n) ((Decides-int_eq a b).0 both.0) ∙ ap (Number b) (eqb-true n m both.1)
 same_is (Text a) (Text b) e = ap Text ((bytes_eq-Decides a b).0 e)
 same_is a b e = absurd cc
 
@@ -43,6 +49,7 @@ pub same_self : (a : What) → same_what a a ≡ true
 same_self (Word a) = true_same keyword a a refl
 same_self (Sign a) = true_same sign a a refl
 same_self (Name a) = (bytes_eq-Decides a a).1 refl
+same_self (Number a n) = and_from _ _ ((Decides-int_eq a a).1 refl) (eq-eqb n n refl)
 same_self (Text a) = (bytes_eq-Decides a a).1 refl
 
 -- Where a reader stops: the tokens in front of it, of which something holds, and that it stops

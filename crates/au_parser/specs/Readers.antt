@@ -1,7 +1,8 @@
 -- Reading from the left: what is read and the tokens behind it, or how many tokens are left where reading stops.
-use Rattle.std.specs.Prelude.{◌≡◌, ℕ, Bool, true, false, List, [], ◌∷◌, ◌++◌, Option, Some, None, Result, Ok, Err, length, codes, if◌then◌else◌}
+use Rattle.std.specs.Prelude.{◌≡◌, ℕ, Bool, true, false, ◌==◌, ◌&&◌, List, [], ◌∷◌, ◌++◌, Option, Some, None, Result, Ok, Err, length, codes, if◌then◌else◌}
 use Rattle.std.specs.List.{flat_map}
 use Rattle.std.specs.Option.{option_map}
+use Rattle.std.specs.Ordering.{int_eq}
 use Rattle.std.specs.Str.{bytes_eq}
 use denote.Enum.Bare.{sameb}
 use Rattle.au_base.specs.contracts.tokens.Keyword.{the_type as keyword}
@@ -9,7 +10,7 @@ use Rattle.au_base.specs.contracts.tokens.Sign.{the_type as sign}
 use Rattle.au_base.specs.declared.tokens.Keyword.TheVariants.{KwModule, KwBody, KwIs, KwFunction, KwReturn, KwEnd}
 use Rattle.au_base.specs.declared.tokens.Sign.TheVariants.{LeftParenthesis, RightParenthesis, Colon, Semicolon, Dot}
 use Rattle.au_base.specs.declared.tokens.What.{What}
-use Rattle.au_base.specs.declared.tokens.What.TheVariants.{Word, Sign, Name, Text}
+use Rattle.au_base.specs.declared.tokens.What.TheVariants.{Word, Sign, Name, Number, Text}
 use Rattle.au_syntax.specs.declared.printing.Print.{Print}
 use Rattle.au_syntax.specs.declared.printing.First.{First}
 use Rattle.au_syntax.specs.Words.{print_words, words}
@@ -49,6 +50,7 @@ abbrev pub same_what : What → What → Bool
 same_what (Word a) (Word b) = sameb keyword a b
 same_what (Sign a) (Sign b) = sameb sign a b
 same_what (Name a) (Name b) = bytes_eq a b
+same_what (Number a n) (Number b m) = int_eq a b && n == m
 same_what (Text a) (Text b) = bytes_eq a b
 same_what a b = false
 

@@ -9,6 +9,7 @@ enum Sample {
     Word(Keyword),
     Sign(Sign),
     Name(&'static [u8]),
+    Number(i128),
     Text(&'static [u8]),
 }
 
@@ -65,6 +66,7 @@ fn put(alloc: Global, tokens: &mut Vec<Token>, sample: Sample) -> Result<(), Mem
     let what = match sample {
         Sample::Word(word) => What::Word(word),
         Sample::Sign(sign) => What::Sign(sign),
+        Sample::Number(value) => What::Number { value, digits: 1 },
         Sample::Text(text) => What::Text(Text::copy_of(alloc, text)?),
         Sample::Name(name) => {
             if name.is_empty() || name.len() > 64 {
@@ -112,7 +114,12 @@ fn stops(rt: HostRuntime) -> Result<(), Fail> {
         let mut tokens = tokens_of(rt.alloc(), &all[..index])?;
         let cut = parse(rt.alloc(), &tokens, place(99));
         assert!(rt; matches!(cut, Err(ParseFault::Syntax(at)) if at == place(99)));
-        put(rt.alloc(), &mut tokens, Sample::Word(Keyword::KwLet))?;
+        let strange = if index % 2 == 0 {
+            Sample::Number(7)
+        } else {
+            Sample::Word(Keyword::KwLet)
+        };
+        put(rt.alloc(), &mut tokens, strange)?;
         for sample in &all[index..] {
             put(rt.alloc(), &mut tokens, *sample)?;
         }

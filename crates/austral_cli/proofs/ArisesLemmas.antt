@@ -1,5 +1,5 @@
 -- What words and files come to, and where a refusal's place lies.
-use Rattle.std.proofs.Common.{◌≡◌, ℕ, zero, suc, ◌<◌, Bool, true, ◌==◌, List, [], ◌∷◌, ◌++◌, length, get_or, map, Option, Some, None, String, ap, ◌∙◌, sym, refl, subst, arith, inl, inr, slice_get}
+use Rattle.std.proofs.Common.{◌≡◌, ℕ, zero, suc, ◌<◌, Bool, true, ◌==◌, List, [], ◌∷◌, ◌++◌, length, get_or, map, Option, Some, None, String, ap, ◌∙◌, sym, refl, subst, arith, slice_get}
 use Rattle.std.specs.Global.{Global}
 use Rattle.std.specs.List.{list_all}
 use Rattle.std.specs.Option.{option_map}
@@ -88,10 +88,7 @@ placed files name (outcome.Missing other) comes = tt
 placed files name (outcome.Passes limit) comes = tt
 placed files name (outcome.Refused (Byte at)) comes = stops_in_file comes.0 comes.2.0 at comes.2.1
 placed files name (outcome.Refused (Syntax at)) comes = subst (λ (p : Pos). p.file < 1) (sym comes.2.1) (omega arith)
-placed files name (outcome.Refused (NotYet at)) comes = elim comes.2 [
-  | inl later ↦ stops_in_file comes.0 later.0 at later.1
-  | inr strange ↦ strange_in_file comes.0 strange.0 at strange.1 strange.3
-]
+placed files name (outcome.Refused (NotYet at)) comes = strange_in_file comes.0 comes.2.0 at comes.2.1 comes.2.3
 placed files name (outcome.Prints first) comes = tt
 
 -- a read fault is one that was counted

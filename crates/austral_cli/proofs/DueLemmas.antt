@@ -9,8 +9,7 @@ use Rattle.au_base.specs.Limits.{most_file_bytes}
 use Rattle.au_base.specs.Outside.{Files}
 use Rattle.au_base.specs.Places.{place_after}
 use Rattle.au_syntax.specs.declared.printing.First.{First}
-use Rattle.au_lexer.specs.Cut.{Lexed, tokens, stray, later, long_name, Lexes}
-use Rattle.au_lexer.specs.Faults.{name_limit}
+use Rattle.au_lexer.specs.Cut.{Lexed, tokens, stray, passes, Lexes}
 use Rattle.au_lexer.proofs.UniqueLemmas.{one_outcome}
 use Rattle.au_parser.specs.Files.{Reads, IsUnfinished, IsStrangePlace}
 use Rattle.au_parser.proofs.FileLaws.{one_file, read_or_unfinished, read_or_strange, unfinished_or_strange, one_strange}
@@ -33,21 +32,17 @@ TokensCome bytes list arisen =
 abbrev Shape : List ℕ → Lexed → Outcome → Type 0
 Shape bytes (tokens list) arisen = TokensCome bytes list arisen
 Shape bytes (stray at) arisen = arisen ≡ outcome.Refused (Byte at)
-Shape bytes (later at) arisen = arisen ≡ outcome.Refused (NotYet at)
-Shape bytes long_name arisen = arisen ≡ outcome.Passes name_limit
+Shape bytes (passes limit) arisen = arisen ≡ outcome.Passes limit
 
 shape : (bytes : List ℕ) (arisen : Outcome) → FileComes bytes arisen → (lexed : Lexed) × Lexes 0 bytes lexed × Shape bytes lexed arisen
 shape bytes outcome.NoJob comes = absurd comes
 shape bytes (outcome.Missing name) comes = absurd comes
-shape bytes (outcome.Passes limit) comes = (long_name, comes.1, ap (λ l. outcome.Passes l) comes.0)
+shape bytes (outcome.Passes limit) comes = (passes limit, comes, refl)
 shape bytes (outcome.Refused (Byte at)) comes = (stray at, comes, refl)
 shape bytes (outcome.Refused (Syntax at)) comes =
     let has = comes.0 in
     (tokens has.0, (has.1, has.2), inr (inl (has.3, ap (λ p. outcome.Refused (Syntax p)) comes.1)))
-shape bytes (outcome.Refused (NotYet at)) comes = elim comes [
-  | inl is_later ↦ (later at, is_later, refl)
-  | inr has ↦ (tokens has.0, (has.1, has.2), inr (inr (at, has.3, refl)))
-]
+shape bytes (outcome.Refused (NotYet at)) comes = (tokens comes.0, (comes.1, comes.2), inr (inr (at, comes.3, refl)))
 shape bytes (outcome.Prints first) comes = (tokens comes.0, (comes.1, comes.2), inl (first, comes.3, refl))
 
 -- tokens come to one thing
@@ -87,8 +82,7 @@ tokens_same bytes list x y a b = elim a [
 shape_same : (bytes : List ℕ) (lexed : Lexed) (x y : Outcome) → Shape bytes lexed x → Shape bytes lexed y → x ≡ y
 shape_same bytes (tokens list) x y a b = tokens_same bytes list x y a b
 shape_same bytes (stray at) x y a b = a ∙ sym b
-shape_same bytes (later at) x y a b = a ∙ sym b
-shape_same bytes long_name x y a b = a ∙ sym b
+shape_same bytes (passes limit) x y a b = a ∙ sym b
 
 -- a file comes to one thing
 file_same : (bytes : List ℕ) (x y : Outcome) → FileComes bytes x → FileComes bytes y → x ≡ y

@@ -2,7 +2,7 @@
 use Rattle.std.specs.Prelude.{ℕ, List, [], ◌∷◌, ◌++◌, unwrap_or, slice_get, codes, decimal}
 use Rattle.au_base.specs.declared.limits.Limit.{Limit}
 use Rattle.au_base.specs.declared.limits.LimitKind.{LimitKind}
-use Rattle.au_base.specs.declared.limits.LimitKind.TheVariants.{FileBytes, NameBytes}
+use Rattle.au_base.specs.declared.limits.LimitKind.TheVariants as kind
 use Rattle.au_base.specs.declared.places.Pos.{Pos}
 use Rattle.austral_cli.specs.declared.refusals.Refusal.{Refusal}
 use Rattle.austral_cli.specs.declared.refusals.Refusal.TheVariants.{Byte, Syntax, NotYet}
@@ -23,9 +23,23 @@ missing_line name = line (codes "missing: " ++ name)
 abbrev pub read_fault_line : List ℕ
 read_fault_line = line (codes "read fault")
 
+-- what a limit counts, as its line says it
 abbrev pub limit_word : LimitKind → List ℕ
-limit_word FileBytes = codes "file bytes"
-limit_word NameBytes = codes "name bytes"
+limit_word kind.FileBytes = codes "file bytes"
+limit_word kind.Files = codes "files"
+limit_word kind.Tokens = codes "tokens"
+limit_word kind.NameBytes = codes "name bytes"
+limit_word kind.LiteralDigits = codes "literal digits"
+limit_word kind.TextBytes = codes "text bytes"
+limit_word kind.Nesting = codes "nesting"
+limit_word kind.TypeDepth = codes "type depth"
+limit_word kind.TypeNodes = codes "type nodes"
+limit_word kind.Parameters = codes "parameters"
+limit_word kind.Fields = codes "fields"
+limit_word kind.Cases = codes "cases"
+limit_word kind.TypeParameters = codes "type parameters"
+limit_word kind.Instances = codes "instances"
+limit_word kind.Code = codes "code"
 
 -- the line where a limit is passed
 abbrev pub limit_line : Limit → List ℕ

@@ -10,8 +10,8 @@ use Rattle.au_base.specs.Limits.{most_file_bytes}
 use Rattle.au_base.specs.Outside.{Files}
 use Rattle.au_base.specs.Places.{place_after}
 use Rattle.au_syntax.specs.declared.printing.Print.{Print}
-use Rattle.au_lexer.specs.Cut.{Cut, IsWithinLimits, IsStray, IsLater, HasLongName}
-use Rattle.au_lexer.specs.Faults.{name_limit}
+use Rattle.au_lexer.specs.Cut.{Cut, IsStray, PassesLimit}
+use Rattle.au_lexer.specs.Passing.{IsWithinLimits}
 use Rattle.au_parser.specs.Files.{Reads, IsUnfinished, IsStrangePlace}
 use Rattle.austral_cli.specs.Jobs.{IsJob, IsNoJob}
 use Rattle.austral_cli.specs.Lines.{words_line, missing_line, limit_line, refusal_line}
@@ -48,17 +48,17 @@ IsFirst P files (name ∷ names) = P name ⊎ (((bytes : List ℕ) × IsFile fil
 abbrev pub OneFile : Files → List (List ℕ) → (List ℕ → Type 0) → Type 0
 OneFile files names P = (bytes : List ℕ) × AreFiles files names (bytes ∷ []) × P bytes
 
--- The bytes of the first file are cut into tokens of which P holds, and no name among them is too long.
+-- The bytes of the first file are cut into tokens that pass no limit, and P holds of them.
 abbrev pub HasTokens : List ℕ → (List Token → Type 0) → Type 0
 HasTokens bytes P = (tokens : List Token) × Cut 0 bytes tokens × IsWithinLimits tokens × P tokens
 
--- What a file comes to, by its bytes: it is refused for the first cause that the cut into tokens has,
--- and then for the first token that is out of place, or for its end.
+-- What a file comes to, by its bytes: the first cause that the cut into tokens has counts, a limit or a
+-- byte that begins no token, and then the first token that is out of place, or the end.
 abbrev pub FileComes : List ℕ → Outcome → Type 0
-FileComes bytes (outcome.Passes limit) = (limit ≡ name_limit) × HasLongName 0 bytes
+FileComes bytes (outcome.Passes limit) = PassesLimit 0 bytes limit
 FileComes bytes (outcome.Refused (Byte at)) = IsStray 0 bytes at
 FileComes bytes (outcome.Refused (Syntax at)) = HasTokens bytes IsUnfinished × (at ≡ place_after 0 bytes)
-FileComes bytes (outcome.Refused (NotYet at)) = IsLater 0 bytes at ⊎ HasTokens bytes (λ tokens. IsStrangePlace tokens at)
+FileComes bytes (outcome.Refused (NotYet at)) = HasTokens bytes (λ tokens. IsStrangePlace tokens at)
 FileComes bytes (outcome.Prints first) = HasTokens bytes (Reads first)
 FileComes bytes outcome.NoJob = ⊥
 FileComes bytes (outcome.Missing name) = ⊥

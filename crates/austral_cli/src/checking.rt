@@ -1,17 +1,20 @@
-//! From the files of a program to what it comes to, in the order of refusals.
+//! From the files of a program to its tree, in the order of refusals.
 
-ghost use Rattle.std.specs.Prelude.{◌≡◌, ◌≤◌, [], ◌∷◌, length, IfOk};
-ghost use Rattle.au_base.specs.Limits.{most_file_bytes};
+ghost use Rattle.std.specs.Prelude.{◌≡◌, ◌≤◌, IfOk};
 ghost use Rattle.au_base.specs.Outside.{Files, Counts};
 ghost use Rattle.austral_cli.specs.Calls.{AreTold, is_read_fault, is_missing};
-ghost use Rattle.austral_cli.specs.Outcomes.{Comes, FileComes};
+ghost use Rattle.austral_cli.specs.Halts.{ComesTo, Says, is_read_halt, lex_halt, parse_halt};
+ghost use Rattle.austral_cli.specs.Outcomes.{IsFile};
 ghost use Rattle.austral_cli.specs.declared.checking.CheckFault.TheVariants as fault;
+ghost use Rattle.austral_cli.specs.declared.checking.Halt.TheVariants as halt;
+ghost use Rattle.austral_cli.specs.declared.outcomes.Outcome.TheVariants as outcome;
 
 use crate::outcomes::Outcome;
 use crate::refusals::Refusal;
 use au_base::{Fetch, Limit, LimitKind, MOST_FILE_BYTES, Memory, Pos, Shelf, Text};
 use au_lexer::{LexFault, lex};
 use au_parser::{ParseFault, parse};
+use au_syntax::First;
 use std::alloc::Global;
 use thiserror::Error;
 
@@ -26,54 +29,103 @@ pub enum CheckFault {
     Memory,
 }
 
-impl From<Memory> for CheckFault {
-    ghost from_gives = { λ _ e. e ≡ fault.Memory };
+/// Why a program has no tree.
+#[derive(Drop)]
+pub enum Halt {
+    /// It is known what the program comes to.
+    Known(Outcome),
+    /// It isn't known.
+    Unknown(CheckFault),
+}
 
-    fn from(_e: Memory) -> CheckFault {
-        CheckFault::Memory
+impl From<Memory> for Halt {
+    ghost from_gives = { λ _ e. e ≡ halt.Unknown fault.Memory };
+
+    fn from(_e: Memory) -> Halt {
+        Halt::Unknown(CheckFault::Memory)
     }
 }
 
-/// What the program of one file comes to: the file is fetched, cut into tokens and read.
+impl From<LexFault> for Halt {
+    ghost from_gives = { λ e h. h ≡ lex_halt e };
+
+    fn from(e: LexFault) -> Halt {
+        match e {
+            LexFault::Byte(at) => Halt::Known(Outcome::Refused(Refusal::Byte(at))),
+            LexFault::Limit(limit) => Halt::Known(Outcome::Passes(limit)),
+            LexFault::Memory => Halt::Unknown(CheckFault::Memory),
+        }
+    }
+}
+
+impl From<ParseFault> for Halt {
+    ghost from_gives = { λ e h. h ≡ parse_halt e };
+
+    fn from(e: ParseFault) -> Halt {
+        match e {
+            ParseFault::Syntax(at) => Halt::Known(Outcome::Refused(Refusal::Syntax(at))),
+            ParseFault::NotYet(at) => Halt::Known(Outcome::Refused(Refusal::NotYet(at))),
+            ParseFault::Memory => Halt::Unknown(CheckFault::Memory),
+        }
+    }
+}
+
+/// What the program of one file comes to.
 pub fn check<S: Shelf>(alloc: Global, shelf: &mut S, name: &str) -> Result<Outcome, CheckFault>
-    ensures comes { IfOk result (λ outcome. (files : Files) × AreTold (S.files shelf.old) files
-        × Comes files (name.now ∷ []) outcome) }
+    ensures comes { IfOk result (ComesTo (S.files shelf.old) name.now) }
     ensures faults { Counts (is_read_fault result) (S.faults shelf.old) (S.faults shelf.new) }
     ensures misses { IfOk result (λ outcome. Counts (is_missing outcome) (S.misses shelf.old) (S.misses shelf.new)) }
     ensures misses_stay { S.misses shelf.old ≤ S.misses shelf.new }
     ensures files { S.files shelf.new ≡ S.files shelf.old }
 {
-    let mut bytes = Vec::new(alloc);
-    match shelf.fetch(name, &mut bytes) {
-        Fetch::Whole => Ok(check_file(alloc, bytes.as_slice())?),
-        Fetch::TooLarge => Ok(Outcome::Passes(Limit {
-            kind: LimitKind::FileBytes,
-            count: MOST_FILE_BYTES as u64 + 1,
-            most: MOST_FILE_BYTES as u64,
-        })),
-        Fetch::Missing => Ok(Outcome::Missing(Text::copy_of(alloc, name.as_bytes())?)),
-        Fetch::Failed => Err(CheckFault::Read),
-        Fetch::Memory => Err(CheckFault::Memory),
+    match tree(alloc, shelf, name) {
+        Ok(first) => Ok(Outcome::Prints(first)),
+        Err(Halt::Known(outcome)) => Ok(outcome),
+        Err(Halt::Unknown(fault)) => Err(fault),
     }
 }
 
-/// What a file comes to, by its bytes.
-fn check_file(alloc: Global, bytes: &[u8]) -> Result<Outcome, Memory>
-    requires { length bytes.now ≤ most_file_bytes }
-    ensures { IfOk result (FileComes bytes.now) }
+/// The tree of the program of one file. The order of refusals is that of these steps: the file is
+/// fetched, then cut into tokens, and then read.
+fn tree<S: Shelf>(alloc: Global, shelf: &mut S, name: &str) -> Result<First, Halt>
+    ensures comes { Says result (λ first. ComesTo (S.files shelf.old) name.now (outcome.Prints first))
+        (ComesTo (S.files shelf.old) name.now) }
+    ensures faults { Counts (is_read_halt result) (S.faults shelf.old) (S.faults shelf.new) }
+    ensures misses { Says result (λ _. S.misses shelf.new ≡ S.misses shelf.old)
+        (λ arisen. Counts (is_missing arisen) (S.misses shelf.old) (S.misses shelf.new)) }
+    ensures misses_stay { S.misses shelf.old ≤ S.misses shelf.new }
+    ensures files { S.files shelf.new ≡ S.files shelf.old }
 {
-    let tokens = match lex(alloc, 0, bytes) {
-        Ok(tokens) => tokens,
-        Err(LexFault::Byte(at)) => return Ok(Outcome::Refused(Refusal::Byte(at))),
-        Err(LexFault::NotYet(at)) => return Ok(Outcome::Refused(Refusal::NotYet(at))),
-        Err(LexFault::Limit(limit)) => return Ok(Outcome::Passes(limit)),
-        Err(LexFault::Memory) => return Err(Memory),
-    };
-    let end = Pos::start(0).after(bytes);
-    match parse(alloc, tokens.as_slice(), end) {
-        Ok(first) => Ok(Outcome::Prints(first)),
-        Err(ParseFault::Syntax(at)) => Ok(Outcome::Refused(Refusal::Syntax(at))),
-        Err(ParseFault::NotYet(at)) => Ok(Outcome::Refused(Refusal::NotYet(at))),
-        Err(ParseFault::Memory) => Err(Memory),
+    let bytes = fetched(alloc, shelf, name)?;
+    let tokens = lex(alloc, 0, bytes.as_slice())?;
+    let end = Pos::start(0).after(bytes.as_slice());
+    Ok(parse(alloc, tokens.as_slice(), end)?)
+}
+
+/// The bytes of a file.
+fn fetched<S: Shelf>(alloc: Global, shelf: &mut S, name: &str) -> Result<Vec<u8>, Halt>
+    ensures comes { Says result
+        (λ bytes. (files : Files) × AreTold (S.files shelf.old) files × IsFile files name.now bytes.items)
+        (ComesTo (S.files shelf.old) name.now) }
+    ensures faults { Counts (is_read_halt result) (S.faults shelf.old) (S.faults shelf.new) }
+    ensures misses { Says result (λ _. S.misses shelf.new ≡ S.misses shelf.old)
+        (λ arisen. Counts (is_missing arisen) (S.misses shelf.old) (S.misses shelf.new)) }
+    ensures misses_stay { S.misses shelf.old ≤ S.misses shelf.new }
+    ensures files { S.files shelf.new ≡ S.files shelf.old }
+{
+    let mut bytes = Vec::new(alloc);
+    match shelf.fetch(name, &mut bytes) {
+        Fetch::Whole => Ok(bytes),
+        Fetch::TooLarge => Err(Halt::Known(Outcome::Passes(Limit {
+            kind: LimitKind::FileBytes,
+            count: MOST_FILE_BYTES as u64 + 1,
+            most: MOST_FILE_BYTES as u64,
+        }))),
+        Fetch::Missing => {
+            let missing = Text::copy_of(alloc, name.as_bytes())?;
+            Err(Halt::Known(Outcome::Missing(missing)))
+        }
+        Fetch::Failed => Err(Halt::Unknown(CheckFault::Read)),
+        Fetch::Memory => Err(Halt::Unknown(CheckFault::Memory)),
     }
 }

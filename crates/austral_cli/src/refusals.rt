@@ -66,7 +66,20 @@ fn limit_word(kind: LimitKind) -> &'static [u8]
 {
     match kind {
         LimitKind::FileBytes => b"file bytes",
+        LimitKind::Files => b"files",
+        LimitKind::Tokens => b"tokens",
         LimitKind::NameBytes => b"name bytes",
+        LimitKind::LiteralDigits => b"literal digits",
+        LimitKind::TextBytes => b"text bytes",
+        LimitKind::Nesting => b"nesting",
+        LimitKind::TypeDepth => b"type depth",
+        LimitKind::TypeNodes => b"type nodes",
+        LimitKind::Parameters => b"parameters",
+        LimitKind::Fields => b"fields",
+        LimitKind::Cases => b"cases",
+        LimitKind::TypeParameters => b"type parameters",
+        LimitKind::Instances => b"instances",
+        LimitKind::Code => b"code",
     }
 }
 

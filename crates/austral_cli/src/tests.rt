@@ -62,9 +62,14 @@ const TWICE: &[u8] =
 const NOTHING: &[u8] =
     b"module body M is function main(): ExitCode is return ExitSuccess(); end; end module body.";
 
+/// Docstrings and comments, where blanks may stand.
+const BLANKS: &[u8] =
+    b"\"\"\"Says \"hello\", and ends.\n\"\"\"module body Hello is\n\"\"\"\"\"\"function main(): ExitCode is -- 1 #\nprintLn(\"\"\"#\"\"\"\"Hello, world!\"--\"\n);\nreturn ExitSuccess();\nend;\nend module body.\"\"\"\xff\"\"\"";
+
 /// Files, with what they print and the status.
-const RUNS: [(&[u8], &[u8], u8); 4] = [
+const RUNS: [(&[u8], &[u8], u8); 5] = [
     (HELLO, b"Hello, world!\n", 0),
+    (BLANKS, b"Hello, world!\n", 0),
     (FAILURE, b"Hello, world!\n", 1),
     (TWICE, b"a\tb \"\xc3\xa9\"\\\nc\n", 1),
     (NOTHING, b"", 0),
@@ -88,7 +93,7 @@ fn runs(rt: HostRuntime) -> Result<(), Fail> {
 }
 
 /// Files that are refused, with their lines.
-const REFUSED: [(&[u8], &[u8]); 18] = [
+const REFUSED: [(&[u8], &[u8]); 20] = [
     (b"", b"m.aum:1:1: syntax\n"),
     (b"module body M is", b"m.aum:1:17: syntax\n"),
     (b"module body M is\n", b"m.aum:2:1: syntax\n"),
@@ -105,7 +110,11 @@ const REFUSED: [(&[u8], &[u8]); 18] = [
         b"m.aum:1:27: not yet\n",
     ),
     (b"module body M is 1", b"m.aum:1:18: not yet\n"),
-    (b"\"\"\"doc\"\"\"", b"m.aum:1:1: not yet\n"),
+    (
+        b"module body M is function main(): ExitCode is print(42);",
+        b"m.aum:1:53: not yet\n",
+    ),
+    (b"\"\"\"doc\"\"\"", b"m.aum:1:10: syntax\n"),
     (
         b"module body M is function main(): ExitCode is print(\"a\") print(\"b\");",
         b"m.aum:1:58: not yet\n",
@@ -116,6 +125,7 @@ const REFUSED: [(&[u8], &[u8]); 18] = [
     ),
     (b"module body \xc3\xa9 is", b"m.aum:1:13: byte\n"),
     (b"x\n  \"abc", b"m.aum:2:3: byte\n"),
+    (b"x\n  \"\"\"", b"m.aum:2:3: byte\n"),
     (b"x \"a\tb\"", b"m.aum:1:3: byte\n"),
     (b"x \"a\\qb\"", b"m.aum:1:3: byte\n"),
     (b"module\r\tbody #", b"m.aum:1:14: byte\n"),
@@ -189,23 +199,46 @@ fn missing_and_cut(rt: HostRuntime) -> Result<(), Fail> {
     Ok(())
 }
 
-/// Files of one byte again and again: how many, and the line.
-const LARGE: [(u8, usize, &[u8], u8); 4] = [
-    (b' ', 1_048_576, b"m.aum:1:1048577: syntax\n", 2),
-    (b'\n', 1_048_576, b"m.aum:1048577:1: syntax\n", 2),
+/// Files of one byte again and again between two quotes or none: the quote, the byte and how many, and
+/// the line with its status.
+const LARGE: [(&[u8], u8, usize, &[u8], u8); 11] = [
+    (b"", b' ', 1_048_576, b"m.aum:1:1048577: syntax\n", 2),
+    (b"", b'\n', 1_048_576, b"m.aum:1048577:1: syntax\n", 2),
     (
+        b"",
         b' ',
         1_048_577,
         b"limit: file bytes 1048577 above 1048576\n",
         8,
     ),
-    (b'x', 65, b"limit: name bytes 65 above 64\n", 8),
+    (
+        b"",
+        b';',
+        262_145,
+        b"limit: tokens 262145 above 262144\n",
+        8,
+    ),
+    (b"", b'x', 64, b"m.aum:1:1: not yet\n", 2),
+    (b"", b'x', 65, b"limit: name bytes 65 above 64\n", 8),
+    (b"", b'9', 38, b"m.aum:1:1: not yet\n", 2),
+    (b"", b'9', 39, b"limit: literal digits 39 above 38\n", 8),
+    (b"", b'0', 1000, b"limit: literal digits 39 above 38\n", 8),
+    (b"\"", b'x', 65_536, b"m.aum:1:1: not yet\n", 2),
+    (
+        b"\"",
+        b'x',
+        65_537,
+        b"limit: text bytes 65537 above 65536\n",
+        8,
+    ),
 ];
 
 #[test]
 fn large_files(rt: HostRuntime) -> Result<(), Fail> {
-    for (byte, size, err, status) in &LARGE {
-        let bytes = vec![in rt.alloc(); *byte; *size]?;
+    for (quote, byte, size, err, status) in &LARGE {
+        let mut bytes = quote.to_vec(rt.alloc())?;
+        bytes.resize(quote.len() + *size, *byte)?;
+        bytes.extend_from_slice(quote)?;
         let left = left_by(rt.alloc(), "run m.aum", "m.aum", bytes, 1000)?;
         assert_eq!(rt; left.status, *status);
         assert_eq!(rt; left.err.written(), *err);
