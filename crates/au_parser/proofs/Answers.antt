@@ -4,7 +4,7 @@ use Rattle.std.proofs.lemmas.Grind.{flat_map-append}
 use Rattle.std.specs.List.{flat_map}
 use Rattle.au_base.specs.declared.tokens.What.{What}
 use Rattle.au_syntax.specs.declared.printing.Print.{Print}
-use Rattle.au_syntax.specs.Words.{opening_words, print_words, closing_words, words}
+use Rattle.au_syntax.specs.Printing.{opening_words, print_words, closing_words, words}
 use Rattle.au_parser.specs.declared.stops.Stop.{Stop}
 use Rattle.au_parser.specs.declared.stops.Stop.TheVariants as stop
 use Rattle.au_parser.specs.Readers.{Stops, first_value, line_of, line_word, opening_at, argument_at, closing_at, end_at, IsStop, ReadsPrints, StopsInPrint, StopsInFile}

@@ -6,7 +6,7 @@ use Rattle.au_base.specs.declared.tokens.Token.{Token}
 use Rattle.au_base.specs.declared.tokens.What.{What}
 use Rattle.au_syntax.specs.declared.printing.Print.{Print}
 use Rattle.au_syntax.specs.declared.printing.First.{First}
-use Rattle.au_syntax.specs.Words.{closing_words, words}
+use Rattle.au_syntax.specs.Printing.{closing_words, words}
 use Rattle.au_parser.specs.Files.{whats, Reads, BeginsFile, IsUnfinished, IsStrangeAt}
 use Rattle.au_parser.specs.Readers.{line_of, line_word, closing_at}
 use Rattle.au_parser.proofs.Steps.{read_same}

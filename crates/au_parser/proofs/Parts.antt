@@ -4,7 +4,7 @@ use Rattle.std.specs.Str.{bytes_eq}
 use Rattle.std.proofs.lemmas.Slice.Eq.{bytes_eq-Decides}
 use Rattle.au_base.specs.declared.tokens.What.{What}
 use Rattle.au_base.specs.declared.tokens.What.TheVariants.{Name, Text}
-use Rattle.au_syntax.specs.Words.{opening_words, closing_words}
+use Rattle.au_syntax.specs.Printing.{opening_words, closing_words}
 use Rattle.au_parser.specs.Readers.{first_value, name_of, text_of, choice_of, line_word, line_of, success_word, success_of, before_module, behind_module, opening_at, before_text, behind_text, argument_at, before_success, behind_success, closing_at}
 use Rattle.au_parser.proofs.Steps.{StopsOn, chosen}
 use Rattle.au_parser.proofs.Frames.{first_takes, first_again, framed_takes, framed_again, framed_stops}

@@ -8,7 +8,7 @@ use Rattle.au_base.specs.declared.places.Pos.{Pos}
 use Rattle.au_base.specs.declared.tokens.Token.{Token}
 use Rattle.au_base.specs.declared.tokens.What.{What}
 use Rattle.au_syntax.specs.declared.printing.First.{First}
-use Rattle.au_syntax.specs.Words.{words}
+use Rattle.au_syntax.specs.Printing.{words}
 use Rattle.au_parser.specs.Files.{whats, BeginsFile, IsUnfinished, IsStrangeAt, IsStrangePlace}
 use Rattle.au_parser.specs.Readers.{IsStop}
 

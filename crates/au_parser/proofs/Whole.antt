@@ -6,7 +6,7 @@ use Rattle.std.specs.List.{flat_map}
 use Rattle.au_base.specs.declared.tokens.What.{What}
 use Rattle.au_syntax.specs.declared.printing.Print.{Print}
 use Rattle.au_syntax.specs.declared.printing.First.{First}
-use Rattle.au_syntax.specs.Words.{opening_words, print_words, closing_words, words}
+use Rattle.au_syntax.specs.Printing.{opening_words, print_words, closing_words, words}
 use Rattle.au_parser.specs.Readers.{Read, first_value, line_word, line_of, opening_at, argument_at, closing_at, IsStop}
 use Rattle.au_parser.proofs.Steps.{StopsOn}
 use Rattle.au_parser.proofs.Frames.{first_none}

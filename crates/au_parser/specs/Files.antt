@@ -5,7 +5,7 @@ use Rattle.au_base.specs.declared.places.Pos.{Pos}
 use Rattle.au_base.specs.declared.tokens.Token.{Token}
 use Rattle.au_base.specs.declared.tokens.What.{What}
 use Rattle.au_syntax.specs.declared.printing.First.{First}
-use Rattle.au_syntax.specs.Words.{words}
+use Rattle.au_syntax.specs.Printing.{words}
 
 -- what each token is, without its place
 abbrev pub whats : List Token → List What

@@ -13,7 +13,7 @@ use Rattle.au_base.specs.declared.tokens.What.{What}
 use Rattle.au_base.specs.declared.tokens.What.TheVariants.{Word, Sign, Name, Number, Text}
 use Rattle.au_syntax.specs.declared.printing.Print.{Print}
 use Rattle.au_syntax.specs.declared.printing.First.{First}
-use Rattle.au_syntax.specs.Words.{print_words, words}
+use Rattle.au_syntax.specs.Printing.{print_words, words}
 use Rattle.au_parser.specs.declared.expected.Expected.{Expected}
 use Rattle.au_parser.specs.declared.expected.Expected.TheVariants as expected
 use Rattle.au_parser.specs.declared.stops.Stop.{Stop}

@@ -3,7 +3,7 @@
 ghost use Rattle.std.specs.Prelude.{◌≡◌, ℕ, List};
 ghost use Rattle.au_base.specs.declared.tokens.Token.{Token};
 ghost use Rattle.au_syntax.specs.declared.printing.First.{First};
-ghost use Rattle.au_syntax.specs.Words.{words};
+ghost use Rattle.au_syntax.specs.Printing.{words};
 ghost use Rattle.au_parser.specs.Files.{Reads, IsUnfinished, IsStrangeAt};
 
 /// Tokens are those of one file at most.

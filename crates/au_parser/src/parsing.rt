@@ -2,7 +2,7 @@
 
 ghost use Rattle.std.specs.Prelude.{◌≡◌, IfOk, MatchResult};
 ghost use Rattle.au_base.specs.declared.places.Pos.{Pos};
-ghost use Rattle.au_syntax.specs.Words.{words};
+ghost use Rattle.au_syntax.specs.Printing.{words};
 ghost use Rattle.au_parser.specs.Files.{whats, Reads, IsUnfinished, IsStrangePlace};
 ghost use Rattle.au_parser.specs.Readers.{ReadsPrints, StopsInPrint, StopsInFile};
 

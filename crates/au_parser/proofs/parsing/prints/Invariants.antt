@@ -1,7 +1,7 @@
 -- The tokens are those of the prints so far, and the rest.
 use Rattle.std.proofs.Common.{◌≡◌, ◌++◌, length}
 use Rattle.std.specs.List.{flat_map}
-use Rattle.au_syntax.specs.Words.{print_words}
+use Rattle.au_syntax.specs.Printing.{print_words}
 use Rattle.au_parser.specs.Files.{whats}
 use Rattle.au_parser.proofs.parsing.prints.Given as goal
 
