@@ -5,6 +5,8 @@ pub mod expressions;
 pub mod modules;
 mod parts;
 pub mod statements;
+#[cfg(test)]
+mod tests;
 pub mod turns;
 pub mod wholes;
 

@@ -6,15 +6,18 @@ ghost use Rattle.au_syntax.specs.Views.{declaration, method_body, module_tree};
 ghost use Rattle.au_syntax.specs.Plain.{plain_declaration, plain_method, plain_module};
 ghost use Rattle.au_syntax.specs.Notes.{notes_of_declaration, notes_of_method, notes_of_module};
 
-use crate::turns::{Turn, map_ident, map_idents};
 use crate::expressions::map_boxed;
 use crate::parts::{
     map_cases, map_fields, map_generics, map_imports, map_signature, map_signatures,
     map_type_parameter, map_type_parameters,
 };
 use crate::statements::map_block;
+use crate::turns::{Turn, map_ident, map_idents};
 use au_base::{Memory, Pos};
-use au_syntax::{Block, Decl, Expr, Field, Generic, Ident, Method, Module, Phase, Signature, TypeParameter, TypeText, UnionCase, Universe};
+use au_syntax::{
+    Block, Decl, Expr, Field, Generic, Ident, Method, Module, Phase, Signature, TypeParameter,
+    TypeText, UnionCase, Universe,
+};
 use std::alloc::Global;
 
 /// The same module in another phase.

@@ -10,7 +10,9 @@ ghost use Rattle.au_syntax.specs.Plain.{plain_name, plain_renaming, plain_labell
 
 use crate::turns::{Part, Turn, map_ident, map_idents, map_parts};
 use au_base::Memory;
-use au_syntax::{Bind, Field, Generic, Ident, Import, Phase, Renamed, Signature, TypeParameter, UnionCase};
+use au_syntax::{
+    Bind, Field, Generic, Ident, Import, Phase, Renamed, Signature, TypeParameter, UnionCase,
+};
 use std::alloc::Global;
 
 fn map_alias<P: Phase, Q: Phase, F: Turn<P, Q>>(

@@ -6,11 +6,13 @@ ghost use Rattle.au_syntax.specs.Views.{expression, statement, block, branch_all
 ghost use Rattle.au_syntax.specs.Plain.{plain_statement, plain_statements, plain_branches, plain_arms};
 ghost use Rattle.au_syntax.specs.Notes.{notes_of_expression, notes_of_statement, notes_of_statements};
 
-use crate::turns::{Turn, map_ident, map_idents};
 use crate::expressions::map_boxed;
 use crate::parts::map_binds;
+use crate::turns::{Turn, map_ident, map_idents};
 use au_base::{Memory, Pos};
-use au_syntax::{Access, Arm, Bind, Binding, Block, BorrowMode, Branch, Expr, Ident, Phase, Stmt, TypeText};
+use au_syntax::{
+    Access, Arm, Bind, Binding, Block, BorrowMode, Branch, Expr, Ident, Phase, Stmt, TypeText,
+};
 use std::alloc::Global;
 
 /// The same block in another phase.

@@ -51,8 +51,10 @@ type_rows =
     -- T
     (T, n (codes "T") ∷ [])
     -- P[T, U]
-    ∷ (named (name (codes "P")) (types T (types (named (name (codes "U")) no_types) no_types)),
-        n (codes "P") ∷ Sign sign.LeftBracket ∷ n (codes "T") ∷ Sign sign.Comma ∷ n (codes "U") ∷ Sign sign.RightBracket ∷ [])
+    ∷ (
+      named (name (codes "P")) (types T (types (named (name (codes "U")) no_types) no_types)),
+      n (codes "P") ∷ Sign sign.LeftBracket ∷ n (codes "T") ∷ Sign sign.Comma ∷ n (codes "U") ∷ Sign sign.RightBracket ∷ [],
+    )
     -- &[T, R] and &![T, R]
     ∷ (reference here access.Read T (name (codes "R")), Sign sign.ReadBorrow ∷ Sign sign.LeftBracket ∷ n (codes "T") ∷ Sign sign.Comma ∷ n (codes "R") ∷ Sign sign.RightBracket ∷ [])
     ∷ (reference here access.Write T (name (codes "R")), Sign sign.WriteBorrow ∷ Sign sign.LeftBracket ∷ n (codes "T") ∷ Sign sign.Comma ∷ n (codes "R") ∷ Sign sign.RightBracket ∷ [])
@@ -69,19 +71,27 @@ expression_rows =
     ∷ (truth spot false, Word KwFalse ∷ [])
     ∷ (nil spot, Word KwNil ∷ [])
     -- x.f.g
-    ∷ (path spot (name (codes "x")) (name (codes "f") ∷ name (codes "g") ∷ []),
-        n (codes "x") ∷ Sign sign.Dot ∷ n (codes "f") ∷ Sign sign.Dot ∷ n (codes "g") ∷ [])
+    ∷ (
+      path spot (name (codes "x")) (name (codes "f") ∷ name (codes "g") ∷ []),
+      n (codes "x") ∷ Sign sign.Dot ∷ n (codes "f") ∷ Sign sign.Dot ∷ n (codes "g") ∷ [],
+    )
     -- r->f.g
-    ∷ (arrow spot (name (codes "r")) (name (codes "f") ∷ name (codes "g") ∷ []),
-        n (codes "r") ∷ Sign sign.Arrow ∷ n (codes "f") ∷ Sign sign.Dot ∷ n (codes "g") ∷ [])
+    ∷ (
+      arrow spot (name (codes "r")) (name (codes "f") ∷ name (codes "g") ∷ []),
+      n (codes "r") ∷ Sign sign.Arrow ∷ n (codes "f") ∷ Sign sign.Dot ∷ n (codes "g") ∷ [],
+    )
     -- f(), and f(x, nil)
     ∷ (call spot (name (codes "f")) no_expressions tt, n (codes "f") ∷ Sign sign.LeftParenthesis ∷ Sign sign.RightParenthesis ∷ [])
-    ∷ (call spot (name (codes "f")) (expressions x (expressions (nil spot) no_expressions)) tt,
-        n (codes "f") ∷ Sign sign.LeftParenthesis ∷ n (codes "x") ∷ Sign sign.Comma ∷ Word KwNil ∷ Sign sign.RightParenthesis ∷ [])
+    ∷ (
+      call spot (name (codes "f")) (expressions x (expressions (nil spot) no_expressions)) tt,
+      n (codes "f") ∷ Sign sign.LeftParenthesis ∷ n (codes "x") ∷ Sign sign.Comma ∷ Word KwNil ∷ Sign sign.RightParenthesis ∷ [],
+    )
     -- f(a => x, b => nil)
-    ∷ (named_call spot (name (codes "f")) (arguments (name (codes "a")) x (arguments (name (codes "b")) (nil spot) no_arguments)) tt,
-        n (codes "f") ∷ Sign sign.LeftParenthesis ∷ n (codes "a") ∷ Sign sign.FatArrow ∷ n (codes "x") ∷ Sign sign.Comma
-        ∷ n (codes "b") ∷ Sign sign.FatArrow ∷ Word KwNil ∷ Sign sign.RightParenthesis ∷ [])
+    ∷ (
+      named_call spot (name (codes "f")) (arguments (name (codes "a")) x (arguments (name (codes "b")) (nil spot) no_arguments)) tt,
+      n (codes "f") ∷ Sign sign.LeftParenthesis ∷ n (codes "a") ∷ Sign sign.FatArrow ∷ n (codes "x") ∷ Sign sign.Comma
+          ∷ n (codes "b") ∷ Sign sign.FatArrow ∷ Word KwNil ∷ Sign sign.RightParenthesis ∷ [],
+    )
     -- (x)
     ∷ (parenthesized spot x, Sign sign.LeftParenthesis ∷ n (codes "x") ∷ Sign sign.RightParenthesis ∷ [])
     -- !x
@@ -91,8 +101,10 @@ expression_rows =
     ∷ (borrow spot mode.Write (name (codes "x")), Sign sign.WriteBorrow ∷ n (codes "x") ∷ [])
     ∷ (borrow spot mode.Reborrow (name (codes "x")), Sign sign.Reborrow ∷ n (codes "x") ∷ [])
     -- &(r->f)
-    ∷ (borrow_part spot (name (codes "r")) (name (codes "f") ∷ []),
-        Sign sign.ReadBorrow ∷ Sign sign.LeftParenthesis ∷ n (codes "r") ∷ Sign sign.Arrow ∷ n (codes "f") ∷ Sign sign.RightParenthesis ∷ [])
+    ∷ (
+      borrow_part spot (name (codes "r")) (name (codes "f") ∷ []),
+      Sign sign.ReadBorrow ∷ Sign sign.LeftParenthesis ∷ n (codes "r") ∷ Sign sign.Arrow ∷ n (codes "f") ∷ Sign sign.RightParenthesis ∷ [],
+    )
     -- x /= nil, and x or nil
     ∷ (binary spot operator.NotEqual x (nil spot), n (codes "x") ∷ Sign sign.NotEqual ∷ Word KwNil ∷ [])
     ∷ (binary spot operator.Or x (nil spot), n (codes "x") ∷ Word KwOr ∷ Word KwNil ∷ [])
@@ -120,38 +132,54 @@ statement_rows =
     ∷ (declare here Let (name (codes "y")) T x, Word KwLet ∷ n (codes "y") ∷ Sign sign.Colon ∷ n (codes "T") ∷ Sign sign.Assign ∷ n (codes "x") ∷ Sign sign.Semicolon ∷ [])
     ∷ (declare here Var (name (codes "y")) T x, Word KwVar ∷ n (codes "y") ∷ Sign sign.Colon ∷ n (codes "T") ∷ Sign sign.Assign ∷ n (codes "x") ∷ Sign sign.Semicolon ∷ [])
     -- let { f as a: T, g: T } := x;
-    ∷ (destructure here binds x,
-        Word KwLet ∷ Sign sign.LeftBrace ∷ n (codes "f") ∷ Word KwAs ∷ n (codes "a") ∷ Sign sign.Colon ∷ n (codes "T") ∷ Sign sign.Comma
-        ∷ n (codes "g") ∷ Sign sign.Colon ∷ n (codes "T") ∷ Sign sign.RightBrace ∷ Sign sign.Assign ∷ n (codes "x") ∷ Sign sign.Semicolon ∷ [])
+    ∷ (
+      destructure here binds x,
+      Word KwLet ∷ Sign sign.LeftBrace ∷ n (codes "f") ∷ Word KwAs ∷ n (codes "a") ∷ Sign sign.Colon ∷ n (codes "T") ∷ Sign sign.Comma
+          ∷ n (codes "g") ∷ Sign sign.Colon ∷ n (codes "T") ∷ Sign sign.RightBrace ∷ Sign sign.Assign ∷ n (codes "x") ∷ Sign sign.Semicolon ∷ [],
+    )
     -- y.f := x;
     ∷ (assign here (name (codes "y")) (name (codes "f") ∷ []) x, n (codes "y") ∷ Sign sign.Dot ∷ n (codes "f") ∷ Sign sign.Assign ∷ n (codes "x") ∷ Sign sign.Semicolon ∷ [])
     -- r->f := x;
     ∷ (assign_through here (name (codes "r")) (name (codes "f") ∷ []) x, n (codes "r") ∷ Sign sign.Arrow ∷ n (codes "f") ∷ Sign sign.Assign ∷ n (codes "x") ∷ Sign sign.Semicolon ∷ [])
     -- if x then skip; else if x then end if;
-    ∷ (conditional here (branches x skips (branches x no_statements no_branches)),
-        Word KwIf ∷ n (codes "x") ∷ Word KwThen ∷ Word KwSkip ∷ Sign sign.Semicolon ∷ Word KwElse
-        ∷ Word KwIf ∷ n (codes "x") ∷ Word KwThen ∷ Word KwEnd ∷ Word KwIf ∷ Sign sign.Semicolon ∷ [])
+    ∷ (
+      conditional here (branches x skips (branches x no_statements no_branches)),
+      Word KwIf ∷ n (codes "x") ∷ Word KwThen ∷ Word KwSkip ∷ Sign sign.Semicolon ∷ Word KwElse
+          ∷ Word KwIf ∷ n (codes "x") ∷ Word KwThen ∷ Word KwEnd ∷ Word KwIf ∷ Sign sign.Semicolon ∷ [],
+    )
     -- if x then else skip; end if;
-    ∷ (conditional_else here (branches x no_statements no_branches) skips,
-        Word KwIf ∷ n (codes "x") ∷ Word KwThen ∷ Word KwElse ∷ Word KwSkip ∷ Sign sign.Semicolon ∷ Word KwEnd ∷ Word KwIf ∷ Sign sign.Semicolon ∷ [])
+    ∷ (
+      conditional_else here (branches x no_statements no_branches) skips,
+      Word KwIf ∷ n (codes "x") ∷ Word KwThen ∷ Word KwElse ∷ Word KwSkip ∷ Sign sign.Semicolon ∷ Word KwEnd ∷ Word KwIf ∷ Sign sign.Semicolon ∷ [],
+    )
     -- case x of when A do when B(f as a: T, g: T) do skip; end case;
-    ∷ (case_of here x (arms here (name (codes "A")) [] no_statements (arms here (name (codes "B")) binds skips no_arms)),
-        Word KwCase ∷ n (codes "x") ∷ Word KwOf ∷ Word KwWhen ∷ n (codes "A") ∷ Word KwDo ∷ Word KwWhen ∷ n (codes "B") ∷ Sign sign.LeftParenthesis
-        ∷ n (codes "f") ∷ Word KwAs ∷ n (codes "a") ∷ Sign sign.Colon ∷ n (codes "T") ∷ Sign sign.Comma ∷ n (codes "g") ∷ Sign sign.Colon ∷ n (codes "T")
-        ∷ Sign sign.RightParenthesis ∷ Word KwDo ∷ Word KwSkip ∷ Sign sign.Semicolon ∷ Word KwEnd ∷ Word KwCase ∷ Sign sign.Semicolon ∷ [])
+    ∷ (
+      case_of here x (arms here (name (codes "A")) [] no_statements (arms here (name (codes "B")) binds skips no_arms)),
+      Word KwCase ∷ n (codes "x") ∷ Word KwOf ∷ Word KwWhen ∷ n (codes "A") ∷ Word KwDo ∷ Word KwWhen ∷ n (codes "B") ∷ Sign sign.LeftParenthesis
+          ∷ n (codes "f") ∷ Word KwAs ∷ n (codes "a") ∷ Sign sign.Colon ∷ n (codes "T") ∷ Sign sign.Comma ∷ n (codes "g") ∷ Sign sign.Colon ∷ n (codes "T")
+          ∷ Sign sign.RightParenthesis ∷ Word KwDo ∷ Word KwSkip ∷ Sign sign.Semicolon ∷ Word KwEnd ∷ Word KwCase ∷ Sign sign.Semicolon ∷ [],
+    )
     -- while x do skip; end while;
     ∷ (while_loop here x skips, Word KwWhile ∷ n (codes "x") ∷ Word KwDo ∷ Word KwSkip ∷ Sign sign.Semicolon ∷ Word KwEnd ∷ Word KwWhile ∷ Sign sign.Semicolon ∷ [])
     -- for i from x to nil do skip; end for;
-    ∷ (for_loop here (name (codes "i")) x (nil spot) skips,
-        Word KwFor ∷ n (codes "i") ∷ Word KwFrom ∷ n (codes "x") ∷ Word KwTo ∷ Word KwNil ∷ Word KwDo ∷ Word KwSkip ∷ Sign sign.Semicolon ∷ Word KwEnd ∷ Word KwFor ∷ Sign sign.Semicolon ∷ [])
+    ∷ (
+      for_loop here (name (codes "i")) x (nil spot) skips,
+      Word KwFor ∷ n (codes "i") ∷ Word KwFrom ∷ n (codes "x") ∷ Word KwTo ∷ Word KwNil ∷ Word KwDo ∷ Word KwSkip ∷ Sign sign.Semicolon ∷ Word KwEnd ∷ Word KwFor ∷ Sign sign.Semicolon ∷ [],
+    )
     -- borrow x as r in R do skip; end borrow; and with borrow!
-    ∷ (borrow_in here access.Read (name (codes "x")) (name (codes "r")) (name (codes "R")) skips here,
-        Word KwBorrow ∷ n (codes "x") ∷ Word KwAs ∷ n (codes "r") ∷ Word KwIn ∷ n (codes "R") ∷ Word KwDo ∷ Word KwSkip ∷ Sign sign.Semicolon ∷ Word KwEnd ∷ Word KwBorrow ∷ Sign sign.Semicolon ∷ [])
-    ∷ (borrow_in here access.Write (name (codes "x")) (name (codes "r")) (name (codes "R")) no_statements here,
-        Word KwBorrow ∷ Sign sign.Exclamation ∷ n (codes "x") ∷ Word KwAs ∷ n (codes "r") ∷ Word KwIn ∷ n (codes "R") ∷ Word KwDo ∷ Word KwEnd ∷ Word KwBorrow ∷ Sign sign.Semicolon ∷ [])
+    ∷ (
+      borrow_in here access.Read (name (codes "x")) (name (codes "r")) (name (codes "R")) skips here,
+      Word KwBorrow ∷ n (codes "x") ∷ Word KwAs ∷ n (codes "r") ∷ Word KwIn ∷ n (codes "R") ∷ Word KwDo ∷ Word KwSkip ∷ Sign sign.Semicolon ∷ Word KwEnd ∷ Word KwBorrow ∷ Sign sign.Semicolon ∷ [],
+    )
+    ∷ (
+      borrow_in here access.Write (name (codes "x")) (name (codes "r")) (name (codes "R")) no_statements here,
+      Word KwBorrow ∷ Sign sign.Exclamation ∷ n (codes "x") ∷ Word KwAs ∷ n (codes "r") ∷ Word KwIn ∷ n (codes "R") ∷ Word KwDo ∷ Word KwEnd ∷ Word KwBorrow ∷ Sign sign.Semicolon ∷ [],
+    )
     -- borrow r: T := &~x do end borrow;
-    ∷ (borrow_typed here (name (codes "r")) T mode.Reborrow (name (codes "x")) no_statements here,
-        Word KwBorrow ∷ n (codes "r") ∷ Sign sign.Colon ∷ n (codes "T") ∷ Sign sign.Assign ∷ Sign sign.Reborrow ∷ n (codes "x") ∷ Word KwDo ∷ Word KwEnd ∷ Word KwBorrow ∷ Sign sign.Semicolon ∷ [])
+    ∷ (
+      borrow_typed here (name (codes "r")) T mode.Reborrow (name (codes "x")) no_statements here,
+      Word KwBorrow ∷ n (codes "r") ∷ Sign sign.Colon ∷ n (codes "T") ∷ Sign sign.Assign ∷ Sign sign.Reborrow ∷ n (codes "x") ∷ Word KwDo ∷ Word KwEnd ∷ Word KwBorrow ∷ Sign sign.Semicolon ∷ [],
+    )
     -- f();
     ∷ (discard here (call spot (name (codes "f")) no_expressions tt), n (codes "f") ∷ Sign sign.LeftParenthesis ∷ Sign sign.RightParenthesis ∷ Sign sign.Semicolon ∷ [])
     -- return x;
@@ -192,62 +220,82 @@ abbrev pub declaration_rows : List (PlainDeclaration × List What)
 declaration_rows =
     -- constant c: T; and constant c: T := 007;
     (constant here (name (codes "c")) T, Word KwConstant ∷ n (codes "c") ∷ Sign sign.Colon ∷ n (codes "T") ∷ Sign sign.Semicolon ∷ [])
-    ∷ (constant_body here (name (codes "c")) T (number spot seven),
-        Word KwConstant ∷ n (codes "c") ∷ Sign sign.Colon ∷ n (codes "T") ∷ Sign sign.Assign ∷ Number (pos 7) 3 ∷ Sign sign.Semicolon ∷ [])
+    ∷ (
+      constant_body here (name (codes "c")) T (number spot seven),
+      Word KwConstant ∷ n (codes "c") ∷ Sign sign.Colon ∷ n (codes "T") ∷ Sign sign.Assign ∷ Number (pos 7) 3 ∷ Sign sign.Semicolon ∷ [],
+    )
     -- type O: Linear; and type O[A: Free]: Type;
     ∷ (opaque_type here (name (codes "O")) [] universe.Linear, Word KwType ∷ n (codes "O") ∷ Sign sign.Colon ∷ Word KwLinear ∷ Sign sign.Semicolon ∷ [])
-    ∷ (opaque_type here (name (codes "O")) (parameter ∷ []) universe.AnyType,
-        Word KwType ∷ n (codes "O") ∷ Sign sign.LeftBracket ∷ n (codes "A") ∷ Sign sign.Colon ∷ Word KwFree ∷ Sign sign.RightBracket ∷ Sign sign.Colon ∷ Word KwAnyUniverse ∷ Sign sign.Semicolon ∷ [])
+    ∷ (
+      opaque_type here (name (codes "O")) (parameter ∷ []) universe.AnyType,
+      Word KwType ∷ n (codes "O") ∷ Sign sign.LeftBracket ∷ n (codes "A") ∷ Sign sign.Colon ∷ Word KwFree ∷ Sign sign.RightBracket ∷ Sign sign.Colon ∷ Word KwAnyUniverse ∷ Sign sign.Semicolon ∷ [],
+    )
     -- record P: Region is f: T; end;
-    ∷ (record_type here (name (codes "P")) [] universe.Region (field ∷ []),
-        Word KwRecord ∷ n (codes "P") ∷ Sign sign.Colon ∷ Word KwRegion ∷ Word KwIs ∷ n (codes "f") ∷ Sign sign.Colon ∷ n (codes "T") ∷ Sign sign.Semicolon ∷ Word KwEnd ∷ Sign sign.Semicolon ∷ [])
+    ∷ (
+      record_type here (name (codes "P")) [] universe.Region (field ∷ []),
+      Word KwRecord ∷ n (codes "P") ∷ Sign sign.Colon ∷ Word KwRegion ∷ Word KwIs ∷ n (codes "f") ∷ Sign sign.Colon ∷ n (codes "T") ∷ Sign sign.Semicolon ∷ Word KwEnd ∷ Sign sign.Semicolon ∷ [],
+    )
     -- union U: Free is case N; case S is f: T; end;
-    ∷ (union_type here (name (codes "U")) [] universe.Free (record { name = name (codes "N"); fields = [] } ∷ record { name = name (codes "S"); fields = field ∷ [] } ∷ []),
-        Word KwUnion ∷ n (codes "U") ∷ Sign sign.Colon ∷ Word KwFree ∷ Word KwIs ∷ Word KwCase ∷ n (codes "N") ∷ Sign sign.Semicolon
-        ∷ Word KwCase ∷ n (codes "S") ∷ Word KwIs ∷ n (codes "f") ∷ Sign sign.Colon ∷ n (codes "T") ∷ Sign sign.Semicolon ∷ Word KwEnd ∷ Sign sign.Semicolon ∷ [])
+    ∷ (
+      union_type here (name (codes "U")) [] universe.Free (record { name = name (codes "N"); fields = [] } ∷ record { name = name (codes "S"); fields = field ∷ [] } ∷ []),
+      Word KwUnion ∷ n (codes "U") ∷ Sign sign.Colon ∷ Word KwFree ∷ Word KwIs ∷ Word KwCase ∷ n (codes "N") ∷ Sign sign.Semicolon
+          ∷ Word KwCase ∷ n (codes "S") ∷ Word KwIs ∷ n (codes "f") ∷ Sign sign.Colon ∷ n (codes "T") ∷ Sign sign.Semicolon ∷ Word KwEnd ∷ Sign sign.Semicolon ∷ [],
+    )
     -- function m(f: T): T; and generic [A: Free(C, D)] function m(f: T): T is skip; end;
     ∷ (function here [] header, Word KwFunction ∷ header_tokens (Sign sign.Semicolon ∷ []))
-    ∷ (function_body here (generic ∷ []) header skips here,
-        generic_tokens (Word KwFunction ∷ header_tokens (Word KwIs ∷ Word KwSkip ∷ Sign sign.Semicolon ∷ Word KwEnd ∷ Sign sign.Semicolon ∷ [])))
+    ∷ (
+      function_body here (generic ∷ []) header skips here,
+      generic_tokens (Word KwFunction ∷ header_tokens (Word KwIs ∷ Word KwSkip ∷ Sign sign.Semicolon ∷ Word KwEnd ∷ Sign sign.Semicolon ∷ [])),
+    )
     -- typeclass C(A: Free) is method m(f: T): T; end;
-    ∷ (class here (name (codes "C")) parameter (header ∷ []),
-        Word KwTypeclass ∷ n (codes "C") ∷ Sign sign.LeftParenthesis ∷ n (codes "A") ∷ Sign sign.Colon ∷ Word KwFree ∷ Sign sign.RightParenthesis ∷ Word KwIs
-        ∷ Word KwMethod ∷ header_tokens (Sign sign.Semicolon ∷ Word KwEnd ∷ Sign sign.Semicolon ∷ []))
+    ∷ (
+      class here (name (codes "C")) parameter (header ∷ []),
+      Word KwTypeclass ∷ n (codes "C") ∷ Sign sign.LeftParenthesis ∷ n (codes "A") ∷ Sign sign.Colon ∷ Word KwFree ∷ Sign sign.RightParenthesis ∷ Word KwIs
+          ∷ Word KwMethod ∷ header_tokens (Sign sign.Semicolon ∷ Word KwEnd ∷ Sign sign.Semicolon ∷ []),
+    )
     -- generic [A: Free(C, D)] instance C(T); and instance C(T) is method m(f: T): T is skip; end; end;
-    ∷ (instance here (generic ∷ []) (name (codes "C")) T,
-        generic_tokens (Word KwInstance ∷ n (codes "C") ∷ Sign sign.LeftParenthesis ∷ n (codes "T") ∷ Sign sign.RightParenthesis ∷ Sign sign.Semicolon ∷ []))
-    ∷ (instance_body here [] (name (codes "C")) T (method ∷ []),
-        Word KwInstance ∷ n (codes "C") ∷ Sign sign.LeftParenthesis ∷ n (codes "T") ∷ Sign sign.RightParenthesis ∷ Word KwIs
-        ∷ Word KwMethod ∷ header_tokens (Word KwIs ∷ Word KwSkip ∷ Sign sign.Semicolon ∷ Word KwEnd ∷ Sign sign.Semicolon ∷ Word KwEnd ∷ Sign sign.Semicolon ∷ []))
+    ∷ (
+      instance here (generic ∷ []) (name (codes "C")) T,
+      generic_tokens (Word KwInstance ∷ n (codes "C") ∷ Sign sign.LeftParenthesis ∷ n (codes "T") ∷ Sign sign.RightParenthesis ∷ Sign sign.Semicolon ∷ []),
+    )
+    ∷ (
+      instance_body here [] (name (codes "C")) T (method ∷ []),
+      Word KwInstance ∷ n (codes "C") ∷ Sign sign.LeftParenthesis ∷ n (codes "T") ∷ Sign sign.RightParenthesis ∷ Word KwIs
+          ∷ Word KwMethod ∷ header_tokens (Word KwIs ∷ Word KwSkip ∷ Sign sign.Semicolon ∷ Word KwEnd ∷ Sign sign.Semicolon ∷ Word KwEnd ∷ Sign sign.Semicolon ∷ []),
+    )
     ∷ []
 
 abbrev pub module_rows : List (PlainModule × List What)
 module_rows =
     -- import N.M (a, b as c); module M is end module.
-    (record {
-      imports = record {
+    (
+      record {
+        imports = record {
+          at = here;
+          from = name (codes "N") ∷ name (codes "M") ∷ [];
+          items = record { name = name (codes "a"); alias = None } ∷ record { name = name (codes "b"); alias = Some (name (codes "c")) } ∷ [];
+        } ∷ [];
         at = here;
-        from = name (codes "N") ∷ name (codes "M") ∷ [];
-        items = record { name = name (codes "a"); alias = None } ∷ record { name = name (codes "b"); alias = Some (name (codes "c")) } ∷ [];
-      } ∷ [];
-      at = here;
-      part = Interface;
-      name = name (codes "M") ∷ [];
-      pragma = None;
-      declarations = [];
-    },
+        part = Interface;
+        name = name (codes "M") ∷ [];
+        pragma = None;
+        declarations = [];
+      },
       Word KwImport ∷ n (codes "N") ∷ Sign sign.Dot ∷ n (codes "M") ∷ Sign sign.LeftParenthesis ∷ n (codes "a") ∷ Sign sign.Comma ∷ n (codes "b") ∷ Word KwAs ∷ n (codes "c")
-      ∷ Sign sign.RightParenthesis ∷ Sign sign.Semicolon ∷ Word KwModule ∷ n (codes "M") ∷ Word KwIs ∷ Word KwEnd ∷ Word KwModule ∷ Sign sign.Dot ∷ [])
+          ∷ Sign sign.RightParenthesis ∷ Sign sign.Semicolon ∷ Word KwModule ∷ n (codes "M") ∷ Word KwIs ∷ Word KwEnd ∷ Word KwModule ∷ Sign sign.Dot ∷ [],
+    )
     -- module body M.N is pragma Unsafe_Module; constant c: T := 007; end module body.
-    ∷ (record {
-      imports = [];
-      at = here;
-      part = Body;
-      name = name (codes "M") ∷ name (codes "N") ∷ [];
-      pragma = Some here;
-      declarations = constant_body here (name (codes "c")) T (number spot seven) ∷ [];
-    },
+    ∷ (
+      record {
+        imports = [];
+        at = here;
+        part = Body;
+        name = name (codes "M") ∷ name (codes "N") ∷ [];
+        pragma = Some here;
+        declarations = constant_body here (name (codes "c")) T (number spot seven) ∷ [];
+      },
       Word KwModule ∷ Word KwBody ∷ n (codes "M") ∷ Sign sign.Dot ∷ n (codes "N") ∷ Word KwIs ∷ Word KwPragma ∷ n (codes "Unsafe_Module") ∷ Sign sign.Semicolon
-      ∷ Word KwConstant ∷ n (codes "c") ∷ Sign sign.Colon ∷ n (codes "T") ∷ Sign sign.Assign ∷ Number (pos 7) 3 ∷ Sign sign.Semicolon
-      ∷ Word KwEnd ∷ Word KwModule ∷ Word KwBody ∷ Sign sign.Dot ∷ [])
+          ∷ Word KwConstant ∷ n (codes "c") ∷ Sign sign.Colon ∷ n (codes "T") ∷ Sign sign.Assign ∷ Number (pos 7) 3 ∷ Sign sign.Semicolon
+          ∷ Word KwEnd ∷ Word KwModule ∷ Word KwBody ∷ Sign sign.Dot ∷ [],
+    )
     ∷ []

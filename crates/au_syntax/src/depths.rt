@@ -172,10 +172,8 @@ fn arms_depth<P: Phase>(arms: &Vec<Arm<P>>) -> u32
 /// The nesting of a branch: of its test and its block.
 #[cycle(statement_depth)]
 fn branch_depth<P: Phase>(branch: &Branch<P>) -> u32
-    ensures {
-        result ≡ counted (max (spec.expression_depth (plain_expression P.name_bytes (expression P.Phase branch.now.test.value)))
-            (spec.block_depth (plain_statements P.name_bytes (block P.Phase branch.now.block))))
-    }
+    ensures { result ≡ counted (max (spec.expression_depth (plain_expression P.name_bytes (expression P.Phase branch.now.test.value)))
+        (spec.block_depth (plain_statements P.name_bytes (block P.Phase branch.now.block)))) }
 {
     deeper(expression_depth(&branch.test), block_depth(&branch.block))
 }
@@ -190,9 +188,7 @@ fn arm_depth<P: Phase>(arm: &Arm<P>) -> u32
 
 /// The nesting of the deepest of some methods.
 fn methods_depth<P: Phase>(methods: &Vec<Method<P>>) -> u32
-    ensures {
-        result ≡ counted (greatest spec.method_depth (map (plain_method P.name_bytes) (map (method_body P.Phase) methods.now.items)))
-    }
+    ensures { result ≡ counted (greatest spec.method_depth (map (plain_method P.name_bytes) (map (method_body P.Phase) methods.now.items))) }
 {
     let mut deepest = 0;
     for one in methods {

@@ -45,18 +45,12 @@ fn type_text(alloc: Global, bytes: &[u8], at: Pos) -> Result<TypeText, Memory>
 /// The variable `n`.
 fn n(alloc: Global, at: Pos) -> Result<Box<Expr<Parsed>>, Memory> {
     let name = ident(alloc, b"n", at)?;
-    Ok(Box::new(
-        alloc,
-        Expr::Path(site(at), name, Vec::new(alloc)),
-    )?)
+    Ok(Box::new(alloc, Expr::Path(site(at), name, Vec::new(alloc)))?)
 }
 
 /// A number of one digit.
 fn digit(alloc: Global, value: i128, at: Pos) -> Result<Box<Expr<Parsed>>, Memory> {
-    Ok(Box::new(
-        alloc,
-        Expr::Number(site(at), Literal { value, digits: 1 }),
-    )?)
+    Ok(Box::new(alloc, Expr::Number(site(at), Literal { value, digits: 1 }))?)
 }
 
 /// `fibonacci(n - VALUE)`, from a place on.
@@ -65,16 +59,8 @@ fn call(alloc: Global, value: i128, at: Pos, inside: Pos) -> Result<Box<Expr<Par
     let one = n(alloc, inside)?;
     let other = digit(alloc, value, inside)?;
     let mut arguments = Vec::new(alloc);
-    arguments.push(Expr::Binary(
-        site(inside),
-        BinaryOperator::Subtract,
-        one,
-        other,
-    ))?;
-    Ok(Box::new(
-        alloc,
-        Expr::Call(site(at), name, arguments, ()),
-    )?)
+    arguments.push(Expr::Binary(site(inside), BinaryOperator::Subtract, one, other))?;
+    Ok(Box::new(alloc, Expr::Call(site(at), name, arguments, ()))?)
 }
 
 /// The body of fibonacci: `if n < 2 then return n; else return fibonacci(n - 1) + fibonacci(n - 2); end if;`
@@ -101,11 +87,7 @@ fn body(alloc: Global) -> Result<Block<Parsed>, Memory> {
         block: Block { statements: first },
     })?;
     let mut statements = Vec::new(alloc);
-    statements.push(Stmt::IfElse(
-        at(3, 1),
-        branches,
-        Block { statements: last },
-    ))?;
+    statements.push(Stmt::IfElse(at(3, 1), branches, Block { statements: last }))?;
     Ok(Block { statements })
 }
 

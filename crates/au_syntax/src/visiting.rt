@@ -21,7 +21,10 @@ pub enum Node<'a, P: Phase> {
 }
 
 /// The expression and all in it, each before those that stand in it.
-pub fn nodes_of_expression<'a, P: Phase>(alloc: Global, expr: &'a Expr<P>) -> Result<Vec<Node<'a, P>>, Memory>
+pub fn nodes_of_expression<'a, P: Phase>(
+    alloc: Global,
+    expr: &'a Expr<P>,
+) -> Result<Vec<Node<'a, P>>, Memory>
     ensures { IfOk result (λ list. tree_nodes P.Phase list.items ≡ spec.nodes (view.expression P.Phase expr.now)) }
 {
     let mut list = Vec::new(alloc);
@@ -31,7 +34,10 @@ pub fn nodes_of_expression<'a, P: Phase>(alloc: Global, expr: &'a Expr<P>) -> Re
 
 /// Puts an expression and all in it behind other nodes.
 #[cycle(list_expression)]
-fn list_expression<'a, P: Phase>(expr: &'a Expr<P>, list: &mut Vec<Node<'a, P>>) -> Result<(), Memory>
+fn list_expression<'a, P: Phase>(
+    expr: &'a Expr<P>,
+    list: &mut Vec<Node<'a, P>>,
+) -> Result<(), Memory>
     ensures { OnOk result (tree_nodes P.Phase list.new.items ≡ tree_nodes P.Phase list.old.items ++ spec.nodes (view.expression P.Phase expr.now)) }
 {
     list.push(Node::Expression(expr))?;
@@ -74,7 +80,10 @@ fn list_inside<'a, P: Phase>(expr: &'a Expr<P>, list: &mut Vec<Node<'a, P>>) -> 
 
 /// Puts expressions and all in them behind other nodes.
 #[cycle(list_expression)]
-fn list_expressions<'a, P: Phase>(exprs: &'a Vec<Expr<P>>, list: &mut Vec<Node<'a, P>>) -> Result<(), Memory>
+fn list_expressions<'a, P: Phase>(
+    exprs: &'a Vec<Expr<P>>,
+    list: &mut Vec<Node<'a, P>>,
+) -> Result<(), Memory>
     ensures { OnOk result (tree_nodes P.Phase list.new.items ≡ tree_nodes P.Phase list.old.items ++ spec.nodes_of_expressions (view.expression_all P.Phase exprs.now.items)) }
 {
     for one in exprs {
@@ -85,7 +94,10 @@ fn list_expressions<'a, P: Phase>(exprs: &'a Vec<Expr<P>>, list: &mut Vec<Node<'
 
 /// Puts the values of named arguments and all in them behind other nodes.
 #[cycle(list_expression)]
-fn list_arguments<'a, P: Phase>(arguments: &'a Vec<Argument<P>>, list: &mut Vec<Node<'a, P>>) -> Result<(), Memory>
+fn list_arguments<'a, P: Phase>(
+    arguments: &'a Vec<Argument<P>>,
+    list: &mut Vec<Node<'a, P>>,
+) -> Result<(), Memory>
     ensures { OnOk result (tree_nodes P.Phase list.new.items ≡ tree_nodes P.Phase list.old.items ++ spec.nodes_of_arguments (view.argument_all P.Phase arguments.now.items)) }
 {
     for one in arguments {
@@ -96,14 +108,20 @@ fn list_arguments<'a, P: Phase>(arguments: &'a Vec<Argument<P>>, list: &mut Vec<
 
 /// Puts the value of a named argument and all in it behind other nodes.
 #[cycle(list_expression)]
-fn list_argument<'a, P: Phase>(argument: &'a Argument<P>, list: &mut Vec<Node<'a, P>>) -> Result<(), Memory>
+fn list_argument<'a, P: Phase>(
+    argument: &'a Argument<P>,
+    list: &mut Vec<Node<'a, P>>,
+) -> Result<(), Memory>
     ensures { OnOk result (tree_nodes P.Phase list.new.items ≡ tree_nodes P.Phase list.old.items ++ spec.nodes (view.expression P.Phase argument.now.value)) }
 {
     list_expression(&argument.value, list)
 }
 
 /// The nodes of a block: each statement and all in it.
-pub fn nodes_of_block<'a, P: Phase>(alloc: Global, body: &'a Block<P>) -> Result<Vec<Node<'a, P>>, Memory>
+pub fn nodes_of_block<'a, P: Phase>(
+    alloc: Global,
+    body: &'a Block<P>,
+) -> Result<Vec<Node<'a, P>>, Memory>
     ensures { IfOk result (λ list. tree_nodes P.Phase list.items ≡ spec.nodes_of_block (view.block P.Phase body.now)) }
 {
     let mut list = Vec::new(alloc);
@@ -113,7 +131,10 @@ pub fn nodes_of_block<'a, P: Phase>(alloc: Global, body: &'a Block<P>) -> Result
 
 /// Puts a statement and all in it behind other nodes.
 #[cycle(list_statement)]
-fn list_statement<'a, P: Phase>(stmt: &'a Stmt<P>, list: &mut Vec<Node<'a, P>>) -> Result<(), Memory>
+fn list_statement<'a, P: Phase>(
+    stmt: &'a Stmt<P>,
+    list: &mut Vec<Node<'a, P>>,
+) -> Result<(), Memory>
     ensures { OnOk result (tree_nodes P.Phase list.new.items ≡ tree_nodes P.Phase list.old.items ++ spec.nodes_of_statement (view.statement P.Phase stmt.now)) }
 {
     list.push(Node::Statement(stmt))?;
@@ -123,7 +144,10 @@ fn list_statement<'a, P: Phase>(stmt: &'a Stmt<P>, list: &mut Vec<Node<'a, P>>) 
 /// Puts all that stands in a statement behind other nodes.
 #[tactic(auto, using(crate::proofs::StatementLemmas::statement_steps, std::proofs::lemmas::Grind::common_steps))]
 #[cycle(list_statement)]
-fn list_inside_statement<'a, P: Phase>(stmt: &'a Stmt<P>, list: &mut Vec<Node<'a, P>>) -> Result<(), Memory>
+fn list_inside_statement<'a, P: Phase>(
+    stmt: &'a Stmt<P>,
+    list: &mut Vec<Node<'a, P>>,
+) -> Result<(), Memory>
     ensures { OnOk result (tree_nodes P.Phase list.new.items ≡ tree_nodes P.Phase list.old.items ++ spec.nodes_in_statement (view.statement P.Phase stmt.now)) }
 {
     match stmt {
@@ -170,7 +194,10 @@ fn list_block<'a, P: Phase>(body: &'a Block<P>, list: &mut Vec<Node<'a, P>>) -> 
 
 /// Puts branches and all in them behind other nodes.
 #[cycle(list_statement)]
-fn list_branches<'a, P: Phase>(branches: &'a Vec<Branch<P>>, list: &mut Vec<Node<'a, P>>) -> Result<(), Memory>
+fn list_branches<'a, P: Phase>(
+    branches: &'a Vec<Branch<P>>,
+    list: &mut Vec<Node<'a, P>>,
+) -> Result<(), Memory>
     ensures { OnOk result (tree_nodes P.Phase list.new.items ≡ tree_nodes P.Phase list.old.items ++ spec.nodes_of_branches (view.branch_all P.Phase branches.now.items)) }
 {
     for one in branches {
@@ -181,7 +208,10 @@ fn list_branches<'a, P: Phase>(branches: &'a Vec<Branch<P>>, list: &mut Vec<Node
 
 /// Puts the test and the block of a branch behind other nodes.
 #[cycle(list_statement)]
-fn list_branch<'a, P: Phase>(branch: &'a Branch<P>, list: &mut Vec<Node<'a, P>>) -> Result<(), Memory>
+fn list_branch<'a, P: Phase>(
+    branch: &'a Branch<P>,
+    list: &mut Vec<Node<'a, P>>,
+) -> Result<(), Memory>
     ensures { OnOk result (tree_nodes P.Phase list.new.items ≡ tree_nodes P.Phase list.old.items ++ (spec.nodes (view.expression P.Phase branch.now.test.value) ++ spec.nodes_of_block (view.block P.Phase branch.now.block))) }
 {
     list_expression(&branch.test, list)?;

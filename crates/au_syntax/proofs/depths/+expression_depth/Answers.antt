@@ -28,6 +28,8 @@ arguments_depth-loop-one-preserved g t c =
     lemmas.raised _ _ _ _ _ _ c.loop-one.invariant part c.deeper-deepest.ensures step
 
 pub arguments_depth-argument_depth-depth-requires : goal.arguments_depth-argument_depth-depth-requires
-arguments_depth-argument_depth-depth-requires g t c κs within =
-    (lemmas.item_falls (size-Argument _ _ _ _) c.deref-one-items.result.now c.args.arguments.now.items c.loop-one.one-index c.one-item.result t
-        c.decreases c.deref-one-items.ensures.value c.loop-one-test.true c.one-item.is, within)
+arguments_depth-argument_depth-depth-requires g t c κs within = (
+  lemmas.item_falls (size-Argument _ _ _ _) c.deref-one-items.result.now c.args.arguments.now.items c.loop-one.one-index c.one-item.result t
+      c.decreases c.deref-one-items.ensures.value c.loop-one-test.true c.one-item.is,
+  within,
+)

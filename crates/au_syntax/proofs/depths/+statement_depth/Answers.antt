@@ -39,11 +39,15 @@ arms_depth-loop-one-preserved g t c =
     lemmas.raised _ _ _ _ _ _ c.loop-one.invariant part c.deeper-deepest.ensures step
 
 pub branches_depth-branch_depth-depth-requires : goal.branches_depth-branch_depth-depth-requires
-branches_depth-branch_depth-depth-requires g t c κs within =
-    (lemmas.item_falls (size-Branch _ _ _ _) c.deref-one-items.result.now c.args.branches.now.items c.loop-one.one-index c.one-item.result t
-        c.decreases c.deref-one-items.ensures.value c.loop-one-test.true c.one-item.is, within)
+branches_depth-branch_depth-depth-requires g t c κs within = (
+  lemmas.item_falls (size-Branch _ _ _ _) c.deref-one-items.result.now c.args.branches.now.items c.loop-one.one-index c.one-item.result t
+      c.decreases c.deref-one-items.ensures.value c.loop-one-test.true c.one-item.is,
+  within,
+)
 
 pub arms_depth-arm_depth-depth-requires : goal.arms_depth-arm_depth-depth-requires
-arms_depth-arm_depth-depth-requires g t c κs within =
-    (lemmas.item_falls (size-Arm _ _ _ _) c.deref-one-items.result.now c.args.arms.now.items c.loop-one.one-index c.one-item.result t
-        c.decreases c.deref-one-items.ensures.value c.loop-one-test.true c.one-item.is, within)
+arms_depth-arm_depth-depth-requires g t c κs within = (
+  lemmas.item_falls (size-Arm _ _ _ _) c.deref-one-items.result.now c.args.arms.now.items c.loop-one.one-index c.one-item.result t
+      c.decreases c.deref-one-items.ensures.value c.loop-one-test.true c.one-item.is,
+  within,
+)
