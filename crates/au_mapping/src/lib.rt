@@ -7,6 +7,8 @@ mod parts;
 pub mod statements;
 #[cfg(test)]
 mod tests;
+#[cfg(test)]
+mod tree_tests;
 pub mod turns;
 pub mod wholes;
 

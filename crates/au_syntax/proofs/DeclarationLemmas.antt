@@ -1,5 +1,5 @@
 -- What declarations of the code say, variant by variant. The view is opaque; these equations stand for it.
-use Rattle.std.proofs.Common.{◌≡◌, List, map, Vec, refl}
+use Rattle.std.proofs.Common.{◌≡◌, map, Vec, refl}
 use Rattle.std.specs.Global.{Global}
 use Rattle.std.specs.declared.boxed.Box.{Box}
 use Rattle.au_base.specs.declared.places.Pos.{Pos}

@@ -1,5 +1,5 @@
 -- How deep lists of trees are, and what one more of them adds.
-use Rattle.std.proofs.Common.{◌≡◌, ℕ, ◌+◌, ◌*◌, ◌<◌, ◌≤◌, List, [], ◌∷◌, ◌++◌, length, take, ap, ◌∙◌, sym, refl, get_or, max, min, map, arith}
+use Rattle.std.proofs.Common.{◌≡◌, ℕ, ◌+◌, ◌*◌, ◌<◌, ◌≤◌, List, [], ◌∷◌, ◌++◌, length, take, ap, ◌∙◌, get_or, max, map, arith}
 use Rattle.std.proofs.lemmas.List.{take_more}
 use denote.Param.Weighed.{most, at_most}
 use Rattle.au_syntax.specs.declared.phases.Phase.{Ghosts}

@@ -1,8 +1,8 @@
 -- The induction principle over expressions and statements, and what parts are: shallower and smaller.
-use Rattle.std.proofs.Common.{◌≡◌, ℕ, ◌+◌, ◌<◌, ◌≤◌, List, [], ◌∷◌, ◌++◌, length, max, ap, ◌∙◌, sym, refl, arith, length-append}
+use Rattle.std.proofs.Common.{ℕ, ◌+◌, ◌<◌, List, [], ◌∷◌, ◌++◌, length, arith, length-append}
 use Rattle.au_syntax.specs.Expressions.{Expression, Expressions, Arguments, number, negative, text, truth, nil, path, arrow, call, named_call, parenthesized, dereference, borrow, borrow_part, binary, negation, typed, choice, no_expressions, expressions, no_arguments, arguments}
 use Rattle.au_syntax.specs.Statements.{Statement, Statements, Branches, Arms, skip, declare, destructure, assign, assign_through, conditional, conditional_else, case_of, while_loop, for_loop, borrow_in, borrow_typed, discard, return_of, no_statements, statements, no_branches, branches, no_arms, arms}
-use Rattle.au_syntax.specs.Depths.{expression_depth, expressions_depth, arguments_depth, statement_depth, block_depth, branches_depth, arms_depth}
+use Rattle.au_syntax.specs.Depths.{expression_depth, expressions_depth, arguments_depth}
 use Rattle.au_syntax.specs.Parts.{Each, parts, each_expression, each_argument, substatements, each_statement, branch_statements, arm_statements, nodes, nodes_in, nodes_of_expressions, nodes_of_arguments}
 use Rattle.au_syntax.specs.Plain.{PlainExpression, PlainExpressions, PlainArguments}
 

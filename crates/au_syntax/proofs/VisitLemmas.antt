@@ -1,5 +1,5 @@
 -- The nodes of lists of trees, and those of one more.
-use Rattle.std.proofs.Common.{◌≡◌, ℕ, ◌+◌, ◌<◌, List, [], ◌∷◌, ◌++◌, length, take, ap, ◌∙◌, sym, refl, get_or, append_assoc}
+use Rattle.std.proofs.Common.{◌≡◌, ℕ, ◌+◌, ◌<◌, List, [], ◌∷◌, ◌++◌, length, take, ap, ◌∙◌, sym, get_or, append_assoc}
 use Rattle.std.proofs.lemmas.List.{take_more, append-nil}
 use Rattle.au_syntax.specs.declared.phases.Phase.{Ghosts}
 use Rattle.au_syntax.specs.declared.expressions.Argument.{Argument}
@@ -7,7 +7,7 @@ use Rattle.au_syntax.specs.declared.expressions.Expr.{Expr}
 use Rattle.au_syntax.specs.declared.statements.Stmt.{Stmt}
 use Rattle.au_syntax.specs.declared.statements.Branch.{Branch}
 use Rattle.au_syntax.specs.declared.statements.Arm.{Arm}
-use Rattle.au_syntax.specs.Parts.{TreeNode, nodes, nodes_of_expressions, nodes_of_arguments, nodes_of_statement, nodes_of_block, nodes_of_branches, nodes_of_arms}
+use Rattle.au_syntax.specs.Parts.{nodes, nodes_of_expressions, nodes_of_arguments, nodes_of_statement, nodes_of_block, nodes_of_branches, nodes_of_arms}
 use Rattle.au_syntax.specs.Views.{expression, expression_all, argument_all, statement, statement_all, block, branch_all, arm_all}
 
 -- what is listed so far, with one more

@@ -1,5 +1,5 @@
 -- What the trees of the code say: each as a tree of the definitions, by what its phase sees.
-use Rattle.std.specs.Prelude.{ℕ, List, [], ◌∷◌, Option, map}
+use Rattle.std.specs.Prelude.{ℕ, List, [], ◌∷◌, map}
 use Rattle.std.specs.Option.{option_map}
 use Rattle.au_syntax.specs.declared.phases.Phase.{Ghosts}
 use Rattle.au_syntax.specs.declared.names.Ident.{Ident}

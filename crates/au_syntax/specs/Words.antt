@@ -1,6 +1,6 @@
 -- The words of a tree: its tokens in order, each with the places that the tree keeps for it. There is one
 -- case for each row of the grammar; nothing looks ahead and nothing is decided.
-use Rattle.std.specs.Prelude.{◌≡◌, ℕ, Bool, true, false, List, [], ◌∷◌, ◌++◌, map, Option, Some, None, codes}
+use Rattle.std.specs.Prelude.{◌≡◌, Bool, true, false, List, [], ◌∷◌, ◌++◌, map, Option, Some, None, codes}
 use Rattle.std.specs.List.{flat_map}
 use Rattle.au_base.specs.declared.places.Pos.{Pos}
 use Rattle.au_base.specs.declared.tokens.Keyword.{Keyword}

@@ -12,8 +12,6 @@ pub mod parsed;
 pub mod phases;
 pub mod printing;
 pub mod statements;
-#[cfg(test)]
-mod tests;
 pub mod types;
 pub mod visiting;
 pub mod wholes;

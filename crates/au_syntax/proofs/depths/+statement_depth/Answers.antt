@@ -1,4 +1,4 @@
-use Rattle.std.proofs.Common.{◌≡◌, ap, ◌∙◌, max}
+use Rattle.std.proofs.Common.{ap, ◌∙◌, max}
 use Rattle.std.proofs.lemmas.List.{take_all}
 use Rattle.au_syntax.specs.declared.statements.Arm.{size-Arm}
 use Rattle.au_syntax.specs.declared.statements.Branch.{size-Branch}

@@ -1,4 +1,4 @@
-use Rattle.std.proofs.Common.{◌≡◌, ◌++◌, ap, ◌∙◌}
+use Rattle.std.proofs.Common.{◌++◌, ap, ◌∙◌}
 use Rattle.au_syntax.specs.Parts as spec
 use Rattle.au_syntax.specs.Views as view
 use Rattle.au_syntax.specs.Visits.{tree_nodes}
