@@ -1,13 +1,11 @@
 -- What the trees of the code say, variant by variant. The views are opaque; these equations stand for
 -- them, and `tree_steps` names them all.
-use Rattle.std.proofs.Common.{◌≡◌, ℕ, ◌+◌, ◌<◌, Bool, List, [], ◌∷◌, ◌++◌, length, take, map, Vec, ap, ◌∙◌, sym, refl, get_or}
+use Rattle.std.proofs.Common.{◌≡◌, ℕ, ◌+◌, ◌<◌, Bool, List, [], ◌∷◌, ◌++◌, length, take, map, Vec, ap, ◌∙◌, refl, get_or}
 use Rattle.std.specs.Global.{Global}
 use mathlib.Core.Former.{Count}
 use Rattle.std.proofs.lemmas.List.{take_more}
-use Rattle.au_base.specs.declared.places.Pos.{Pos}
 use Rattle.std.specs.declared.boxed.Box.{Box}
 use Rattle.au_syntax.specs.declared.phases.Phase.{Ghosts}
-use Rattle.au_base.specs.declared.texts.Text.{Text as TextOf}
 use Rattle.au_syntax.specs.declared.types.TypeText.{TypeText}
 use Rattle.au_syntax.specs.declared.names.Ident.{Ident}
 use Rattle.au_syntax.specs.declared.expressions.Site.{Site}

@@ -1,6 +1,6 @@
 -- What the trees of the code say, variant by variant. The views are opaque; these equations stand for
 -- them, and `tree_steps` names them all.
-use Rattle.std.proofs.Common.{◌≡◌, ℕ, ◌+◌, ◌<◌, Bool, List, [], ◌∷◌, ◌++◌, length, take, map, Vec, ap, ◌∙◌, sym, refl, get_or}
+use Rattle.std.proofs.Common.{◌≡◌, ℕ, ◌+◌, ◌<◌, List, [], ◌∷◌, ◌++◌, length, take, map, Vec, ap, ◌∙◌, sym, refl, get_or}
 use Rattle.std.specs.Global.{Global}
 use mathlib.Core.Former.{Count}
 use Rattle.std.proofs.lemmas.List.{take_more}

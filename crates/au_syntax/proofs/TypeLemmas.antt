@@ -1,12 +1,11 @@
 -- What the trees of the code say, variant by variant. The views are opaque; these equations stand for
 -- them, and `tree_steps` names them all.
-use Rattle.std.proofs.Common.{◌≡◌, ℕ, ◌+◌, ◌<◌, Bool, List, [], ◌∷◌, ◌++◌, length, take, map, Vec, ap, ◌∙◌, sym, refl, get_or}
+use Rattle.std.proofs.Common.{◌≡◌, ℕ, ◌+◌, ◌<◌, List, [], ◌∷◌, ◌++◌, length, take, Vec, ap, ◌∙◌, refl, get_or}
 use Rattle.std.specs.Global.{Global}
 use mathlib.Core.Former.{Count}
 use Rattle.std.proofs.lemmas.List.{take_more}
 use Rattle.au_base.specs.declared.places.Pos.{Pos}
 use Rattle.std.specs.declared.boxed.Box.{Box}
-use Rattle.au_syntax.specs.declared.phases.Phase.{Ghosts}
 use Rattle.au_syntax.specs.declared.types.TypeName.{TypeName}
 use Rattle.au_syntax.specs.declared.types.Access.{Access}
 use Rattle.au_syntax.specs.declared.types.TypeText.{TypeText, Named, Reference, Row_of-TypeText, end_of-TypeText, more_of-TypeText, items-the_row-TypeText, items_hidden-the_row-TypeText-0}

@@ -32,10 +32,12 @@ mutual
     negation : Node T → Expression N T C → Expression N T C
     typed : Node T → Expression N T C → WrittenType → Expression N T C
     choice : Node T → Expression N T C → Expression N T C → Expression N T C → Expression N T C
+
   -- expressions with commas between
   pub data Expressions (N T C : Type 0) : Type 0 where
     no_expressions : Expressions N T C
     expressions : Expression N T C → Expressions N T C → Expressions N T C
+
   -- named arguments with commas between
   pub data Arguments (N T C : Type 0) : Type 0 where
     no_arguments : Arguments N T C

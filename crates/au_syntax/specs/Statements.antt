@@ -25,14 +25,17 @@ mutual
     borrow_typed : Pos → Placed N → WrittenType → BorrowMode → Placed N → Statements N T C → Pos → Statement N T C
     discard : Pos → Expression N T C → Statement N T C
     return_of : Pos → Expression N T C → Statement N T C
+
   -- a block: statements one after another
   pub data Statements (N T C : Type 0) : Type 0 where
     no_statements : Statements N T C
     statements : Statement N T C → Statements N T C → Statements N T C
+
   -- the tests of a conditional, each with its block
   pub data Branches (N T C : Type 0) : Type 0 where
     no_branches : Branches N T C
     branches : Expression N T C → Statements N T C → Branches N T C → Branches N T C
+
   -- the arms of a case: the place of `when`, the case, what is bound, and the block
   pub data Arms (N T C : Type 0) : Type 0 where
     no_arms : Arms N T C

@@ -9,6 +9,7 @@ mutual
   pub data WrittenType : Type 0 where
     named : Placed (List ℕ) → WrittenTypes → WrittenType
     reference : Pos → Access → WrittenType → Placed (List ℕ) → WrittenType
+
   -- types with commas between
   pub data WrittenTypes : Type 0 where
     no_types : WrittenTypes

@@ -1,5 +1,5 @@
 -- What the trees of the code say: each as a tree of the definitions, by what its phase sees.
-use Rattle.std.specs.Prelude.{ℕ, List, [], ◌∷◌, Option, map}
+use Rattle.std.specs.Prelude.{ℕ, List, [], ◌∷◌, map}
 use Rattle.std.specs.Option.{option_map}
 use Rattle.au_syntax.specs.declared.phases.Phase.{Ghosts}
 use Rattle.au_syntax.specs.declared.names.Ident.{Ident}
@@ -42,6 +42,7 @@ unfoldable mutual
   pub written : TypeText → WrittenType
   written (Named' name shape args) = named (type_name name) (row_written args)
   written (Reference' at access p target region) = reference at access (written target) (type_name region)
+
   -- the arguments of a type
   pub row_written : {m : _} → Row_of-TypeText m → WrittenTypes
   row_written end_of-TypeText = no_types
@@ -93,10 +94,12 @@ module _ {X N T C : Type 0} (g : Ghosts X N T C) where
     expression (code.Not' s p e) = negation (node s) (expression e)
     expression (code.Typed' s p e t) = typed (node s) (expression e) (written t)
     expression (code.If' s p c q a r b) = choice (node s) (expression c) (expression a) (expression b)
+
     -- the arguments of a call
     pub row_expressions : {m : _} → Row_of-Expr X N T C m → Expressions g.SeenName g.SeenType g.SeenCall
     row_expressions end_of-Expr = no_expressions
     row_expressions (more_of-Expr e rest) = expressions (expression e) (row_expressions rest)
+
     -- the named arguments of a call
     pub row_arguments : {m : _} → Row_of-Argument X N T C m → Arguments g.SeenName g.SeenType g.SeenCall
     row_arguments end_of-Argument = no_arguments
@@ -129,14 +132,17 @@ module _ {X N T C : Type 0} (g : Ghosts X N T C) where
     statement (stmt.BorrowTyped' at r t mode x shape ss stop) = borrow_typed at (placed r) (written t) mode (placed x) (row_statements ss) stop
     statement (stmt.Call at e) = discard at (expression e.value)
     statement (stmt.Return at e) = return_of at (expression e.value)
+
     -- the statements of a block
     pub row_statements : {m : _} → Row_of-Stmt X N T C m → Statements g.SeenName g.SeenType g.SeenCall
     row_statements end_of-Stmt = no_statements
     row_statements (more_of-Stmt s rest) = statements (statement s) (row_statements rest)
+
     -- the branches of a conditional
     pub row_branches : {m : _} → Row_of-Branch X N T C m → Branches g.SeenName g.SeenType g.SeenCall
     row_branches end_of-Branch = no_branches
     row_branches (more_of-Branch e shape ss rest) = branches (expression e.value) (row_statements ss) (row_branches rest)
+
     -- the arms of a case
     pub row_arms : {m : _} → Row_of-Arm X N T C m → Arms g.SeenName g.SeenType g.SeenCall
     row_arms end_of-Arm = no_arms

@@ -17,6 +17,7 @@ use std::alloc::Global;
 trait Copied: Drop {
     // what contracts see of a value: what it says, and not where it lies in memory
     ghost Seen: { Type 0 };
+
     ghost see: { Self → Seen };
 
     /// A value that says the same.

@@ -13,20 +13,27 @@ pub struct Parsed;
 
 impl Phase for Parsed {
     type Name = Name;
+
     type TypeNote = ();
+
     type CallNote = ();
 
     ghost SeenName = { List ℕ };
+
     ghost SeenType = { Unit {0} };
+
     ghost SeenCall = { Unit {0} };
 
     ghost see_name = { λ name. name };
+
     ghost see_type = { λ _. tt };
+
     ghost see_call = { λ _. tt };
 
     ghost name_bytes = { λ name. name };
 
     ghost allows_type = { λ _. true };
+
     ghost allows_call = { λ _. true };
 
     fn bytes_of(name: &Name) -> &[u8] {

@@ -19,11 +19,15 @@ pub trait Phase {
     type CallNote: Drop;
 
     ghost SeenName: { Type 0 };
+
     ghost SeenType: { Type 0 };
+
     ghost SeenCall: { Type 0 };
 
     ghost see_name: { Self.Name → SeenName };
+
     ghost see_type: { Self.TypeNote → SeenType };
+
     ghost see_call: { Self.CallNote → SeenCall };
 
     // the bytes of a name
@@ -31,6 +35,7 @@ pub trait Phase {
 
     // which notes the phase allows
     ghost allows_type: { SeenType → Bool };
+
     ghost allows_call: { SeenCall → Bool };
 
     /// The bytes of a name, which are those of some `Name`.

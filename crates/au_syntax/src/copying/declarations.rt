@@ -4,7 +4,7 @@ ghost use Rattle.std.specs.Prelude.{◌≡◌, IfOk, map};
 ghost use Rattle.au_syntax.specs.Modules.{InUniverse, Constrained, Header, Variant, MethodBody, Declaration, opaque_type, record_type, union_type, class, instance, constant_body, function_body, instance_body};
 ghost use Rattle.au_syntax.specs.Views.{written, placed, labelled, expression, block, in_universe, constrained, header, variant, method_body, declaration};
 
-use crate::copying::{copy_all, copy_type, Copied};
+use crate::copying::{Copied, copy_all, copy_type};
 use crate::declarations::{Decl, Generic, Method, Signature, TypeParameter, UnionCase, Universe};
 use crate::expressions::Expr;
 use crate::names::{Field, Ident};
@@ -29,6 +29,7 @@ impl<P: Phase> TypeParameter<P> {
 
 impl<P: Phase> Copied for TypeParameter<P> {
     ghost Seen = { InUniverse P.SeenName };
+
     ghost see = { in_universe P.Phase };
 
     fn copy_item(&self, alloc: Global) -> Result<TypeParameter<P>, Memory> {
@@ -49,6 +50,7 @@ impl<P: Phase> Generic<P> {
 
 impl<P: Phase> Copied for Generic<P> {
     ghost Seen = { Constrained P.SeenName };
+
     ghost see = { constrained P.Phase };
 
     fn copy_item(&self, alloc: Global) -> Result<Generic<P>, Memory> {
@@ -74,6 +76,7 @@ impl<P: Phase> Signature<P> {
 
 impl<P: Phase> Copied for Signature<P> {
     ghost Seen = { Header P.SeenName };
+
     ghost see = { header P.Phase };
 
     fn copy_item(&self, alloc: Global) -> Result<Signature<P>, Memory> {
@@ -94,6 +97,7 @@ impl<P: Phase> UnionCase<P> {
 
 impl<P: Phase> Copied for UnionCase<P> {
     ghost Seen = { Variant P.SeenName };
+
     ghost see = { variant P.Phase };
 
     fn copy_item(&self, alloc: Global) -> Result<UnionCase<P>, Memory> {
@@ -118,6 +122,7 @@ impl<P: Phase> Method<P> {
 
 impl<P: Phase> Copied for Method<P> {
     ghost Seen = { MethodBody P.SeenName P.SeenType P.SeenCall };
+
     ghost see = { method_body P.Phase };
 
     fn copy_item(&self, alloc: Global) -> Result<Method<P>, Memory> {
@@ -168,6 +173,7 @@ impl<P: Phase> Decl<P> {
 
 impl<P: Phase> Copied for Decl<P> {
     ghost Seen = { Declaration P.SeenName P.SeenType P.SeenCall };
+
     ghost see = { declaration P.Phase };
 
     fn copy_item(&self, alloc: Global) -> Result<Decl<P>, Memory> {
@@ -183,11 +189,9 @@ fn copy_opaque<P: Phase>(
     parameters: &Vec<TypeParameter<P>>,
     universe: Universe,
 ) -> Result<Decl<P>, Memory>
-    ensures {
-        IfOk result (λ copy.
-            declaration P.Phase copy
-                ≡ opaque_type at (placed P.Phase name.now) (map (in_universe P.Phase) parameters.now.items) universe)
-    }
+    ensures { IfOk result (λ copy.
+        declaration P.Phase copy
+        ≡ opaque_type at (placed P.Phase name.now) (map (in_universe P.Phase) parameters.now.items) universe) }
 {
     let name = name.copy(alloc)?;
     let parameters = copy_all(alloc, parameters)?;
@@ -203,11 +207,9 @@ fn copy_record<P: Phase>(
     universe: Universe,
     fields: &Vec<Field<P>>,
 ) -> Result<Decl<P>, Memory>
-    ensures {
-        IfOk result (λ copy.
-            declaration P.Phase copy
-                ≡ record_type at (placed P.Phase name.now) (map (in_universe P.Phase) parameters.now.items) universe (map (labelled P.Phase) fields.now.items))
-    }
+    ensures { IfOk result (λ copy.
+        declaration P.Phase copy
+        ≡ record_type at (placed P.Phase name.now) (map (in_universe P.Phase) parameters.now.items) universe (map (labelled P.Phase) fields.now.items)) }
 {
     let name = name.copy(alloc)?;
     let parameters = copy_all(alloc, parameters)?;
@@ -224,11 +226,9 @@ fn copy_union<P: Phase>(
     universe: Universe,
     cases: &Vec<UnionCase<P>>,
 ) -> Result<Decl<P>, Memory>
-    ensures {
-        IfOk result (λ copy.
-            declaration P.Phase copy
-                ≡ union_type at (placed P.Phase name.now) (map (in_universe P.Phase) parameters.now.items) universe (map (variant P.Phase) cases.now.items))
-    }
+    ensures { IfOk result (λ copy.
+        declaration P.Phase copy
+        ≡ union_type at (placed P.Phase name.now) (map (in_universe P.Phase) parameters.now.items) universe (map (variant P.Phase) cases.now.items)) }
 {
     let name = name.copy(alloc)?;
     let parameters = copy_all(alloc, parameters)?;
@@ -244,11 +244,9 @@ fn copy_class<P: Phase>(
     parameter: &TypeParameter<P>,
     signatures: &Vec<Signature<P>>,
 ) -> Result<Decl<P>, Memory>
-    ensures {
-        IfOk result (λ copy.
-            declaration P.Phase copy
-                ≡ class at (placed P.Phase name.now) (in_universe P.Phase parameter.now) (map (header P.Phase) signatures.now.items))
-    }
+    ensures { IfOk result (λ copy.
+        declaration P.Phase copy
+        ≡ class at (placed P.Phase name.now) (in_universe P.Phase parameter.now) (map (header P.Phase) signatures.now.items)) }
 {
     let name = name.copy(alloc)?;
     let parameter = parameter.copy(alloc)?;
@@ -264,11 +262,9 @@ fn copy_instance<P: Phase>(
     name: &Ident<P>,
     of: &TypeText,
 ) -> Result<Decl<P>, Memory>
-    ensures {
-        IfOk result (λ copy.
-            declaration P.Phase copy
-                ≡ instance at (map (constrained P.Phase) generics.now.items) (placed P.Phase name.now) (written of.now))
-    }
+    ensures { IfOk result (λ copy.
+        declaration P.Phase copy
+        ≡ instance at (map (constrained P.Phase) generics.now.items) (placed P.Phase name.now) (written of.now)) }
 {
     let generics = copy_all(alloc, generics)?;
     let name = name.copy(alloc)?;
@@ -284,11 +280,9 @@ fn copy_constant_body<P: Phase>(
     of: &TypeText,
     value: &Expr<P>,
 ) -> Result<Decl<P>, Memory>
-    ensures {
-        IfOk result (λ copy.
-            declaration P.Phase copy
-                ≡ constant_body at (placed P.Phase name.now) (written of.now) (expression P.Phase value.now))
-    }
+    ensures { IfOk result (λ copy.
+        declaration P.Phase copy
+        ≡ constant_body at (placed P.Phase name.now) (written of.now) (expression P.Phase value.now)) }
 {
     let name = name.copy(alloc)?;
     let of = copy_type(alloc, of)?;
@@ -305,11 +299,9 @@ fn copy_function_body<P: Phase>(
     body: &Block<P>,
     end: Pos,
 ) -> Result<Decl<P>, Memory>
-    ensures {
-        IfOk result (λ copy.
-            declaration P.Phase copy
-                ≡ function_body at (map (constrained P.Phase) generics.now.items) (header P.Phase signature.now) (block P.Phase body.now) end)
-    }
+    ensures { IfOk result (λ copy.
+        declaration P.Phase copy
+        ≡ function_body at (map (constrained P.Phase) generics.now.items) (header P.Phase signature.now) (block P.Phase body.now) end) }
 {
     let generics = copy_all(alloc, generics)?;
     let signature = signature.copy(alloc)?;
@@ -326,11 +318,9 @@ fn copy_instance_body<P: Phase>(
     of: &TypeText,
     methods: &Vec<Method<P>>,
 ) -> Result<Decl<P>, Memory>
-    ensures {
-        IfOk result (λ copy.
-            declaration P.Phase copy
-                ≡ instance_body at (map (constrained P.Phase) generics.now.items) (placed P.Phase name.now) (written of.now) (map (method_body P.Phase) methods.now.items))
-    }
+    ensures { IfOk result (λ copy.
+        declaration P.Phase copy
+        ≡ instance_body at (map (constrained P.Phase) generics.now.items) (placed P.Phase name.now) (written of.now) (map (method_body P.Phase) methods.now.items)) }
 {
     let generics = copy_all(alloc, generics)?;
     let name = name.copy(alloc)?;

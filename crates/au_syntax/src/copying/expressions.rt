@@ -37,7 +37,9 @@ impl<P: Phase> Expr<P> {
             Expr::Nil(site) => Ok(Expr::Nil(site.copy(alloc)?)),
             Expr::Path(site, name, fields) => copy_path(alloc, site, name, fields),
             Expr::Arrow(site, name, fields) => copy_arrow(alloc, site, name, fields),
-            Expr::Call(site, name, arguments, note) => copy_call(alloc, site, name, arguments, note),
+            Expr::Call(site, name, arguments, note) => copy_call(
+                alloc, site, name, arguments, note,
+            ),
             Expr::NamedCall(site, name, named, note) => copy_named(alloc, site, name, named, note),
             Expr::Parenthesized(site, of) => {
                 Ok(Expr::Parenthesized(site.copy(alloc)?, of.copy_boxed(alloc)?))
@@ -67,9 +69,7 @@ impl<P: Phase> Expr<P> {
     /// An expression that says the same, in a box.
     #[cycle(copy_expression)]
     pub fn copy_boxed(&self, alloc: Global) -> Result<Box<Expr<P>>, Memory>
-        ensures {
-            IfOk result (λ copy. expression P.Phase copy.value ≡ expression P.Phase self.now)
-        }
+        ensures { IfOk result (λ copy. expression P.Phase copy.value ≡ expression P.Phase self.now) }
     {
         let copy = self.copy(alloc)?;
         Ok(Box::new(alloc, copy)?)
@@ -81,9 +81,7 @@ impl<P: Phase> Argument<P> {
     #[cycle(copy_expression)]
     pub fn copy(&self, alloc: Global) -> Result<Argument<P>, Memory>
         ensures label { IfOk result (λ copy. placed P.Phase copy.label ≡ placed P.Phase self.now.label) }
-        ensures value {
-            IfOk result (λ copy. expression P.Phase copy.value ≡ expression P.Phase self.now.value)
-        }
+        ensures value { IfOk result (λ copy. expression P.Phase copy.value ≡ expression P.Phase self.now.value) }
     {
         let label = self.label.copy(alloc)?;
         let value = self.value.copy(alloc)?;
@@ -97,10 +95,8 @@ fn copy_expressions<P: Phase>(
     alloc: Global,
     expressions: &Vec<Expr<P>>,
 ) -> Result<Vec<Expr<P>>, Memory>
-    ensures {
-        IfOk result (λ copies.
-            expression_all P.Phase copies.items ≡ expression_all P.Phase expressions.now.items)
-    }
+    ensures { IfOk result (λ copies.
+        expression_all P.Phase copies.items ≡ expression_all P.Phase expressions.now.items) }
 {
     let mut copies = Vec::new(alloc);
     for one in expressions {
@@ -116,10 +112,8 @@ fn copy_arguments<P: Phase>(
     alloc: Global,
     arguments: &Vec<Argument<P>>,
 ) -> Result<Vec<Argument<P>>, Memory>
-    ensures {
-        IfOk result (λ copies.
-            argument_all P.Phase copies.items ≡ argument_all P.Phase arguments.now.items)
-    }
+    ensures { IfOk result (λ copies.
+        argument_all P.Phase copies.items ≡ argument_all P.Phase arguments.now.items) }
 {
     let mut copies = Vec::new(alloc);
     for one in arguments {
@@ -138,12 +132,10 @@ fn copy_call<P: Phase>(
     arguments: &Vec<Expr<P>>,
     note: &P::CallNote,
 ) -> Result<Expr<P>, Memory>
-    ensures {
-        IfOk result (λ copy.
-            expression P.Phase copy
-                ≡ call (node P.Phase site.now) (placed P.Phase name.now)
-                    (expression_all P.Phase arguments.now.items) (P.see_call note.now))
-    }
+    ensures { IfOk result (λ copy.
+        expression P.Phase copy
+        ≡ call (node P.Phase site.now) (placed P.Phase name.now)
+        (expression_all P.Phase arguments.now.items) (P.see_call note.now)) }
 {
     let site = site.copy(alloc)?;
     let name = name.copy(alloc)?;
@@ -161,12 +153,10 @@ fn copy_named<P: Phase>(
     arguments: &Vec<Argument<P>>,
     note: &P::CallNote,
 ) -> Result<Expr<P>, Memory>
-    ensures {
-        IfOk result (λ copy.
-            expression P.Phase copy
-                ≡ named_call (node P.Phase site.now) (placed P.Phase name.now)
-                    (argument_all P.Phase arguments.now.items) (P.see_call note.now))
-    }
+    ensures { IfOk result (λ copy.
+        expression P.Phase copy
+        ≡ named_call (node P.Phase site.now) (placed P.Phase name.now)
+        (argument_all P.Phase arguments.now.items) (P.see_call note.now)) }
 {
     let site = site.copy(alloc)?;
     let name = name.copy(alloc)?;
@@ -182,11 +172,9 @@ fn copy_path<P: Phase>(
     name: &Ident<P>,
     fields: &Vec<Ident<P>>,
 ) -> Result<Expr<P>, Memory>
-    ensures {
-        IfOk result (λ copy.
-            expression P.Phase copy
-                ≡ path (node P.Phase site.now) (placed P.Phase name.now) (map (placed P.Phase) fields.now.items))
-    }
+    ensures { IfOk result (λ copy.
+        expression P.Phase copy
+        ≡ path (node P.Phase site.now) (placed P.Phase name.now) (map (placed P.Phase) fields.now.items)) }
 {
     let site = site.copy(alloc)?;
     let name = name.copy(alloc)?;
@@ -201,11 +189,9 @@ fn copy_arrow<P: Phase>(
     name: &Ident<P>,
     fields: &Vec<Ident<P>>,
 ) -> Result<Expr<P>, Memory>
-    ensures {
-        IfOk result (λ copy.
-            expression P.Phase copy
-                ≡ arrow (node P.Phase site.now) (placed P.Phase name.now) (map (placed P.Phase) fields.now.items))
-    }
+    ensures { IfOk result (λ copy.
+        expression P.Phase copy
+        ≡ arrow (node P.Phase site.now) (placed P.Phase name.now) (map (placed P.Phase) fields.now.items)) }
 {
     let site = site.copy(alloc)?;
     let name = name.copy(alloc)?;
@@ -220,11 +206,9 @@ fn copy_borrow_part<P: Phase>(
     name: &Ident<P>,
     fields: &Vec<Ident<P>>,
 ) -> Result<Expr<P>, Memory>
-    ensures {
-        IfOk result (λ copy.
-            expression P.Phase copy
-                ≡ borrow_part (node P.Phase site.now) (placed P.Phase name.now) (map (placed P.Phase) fields.now.items))
-    }
+    ensures { IfOk result (λ copy.
+        expression P.Phase copy
+        ≡ borrow_part (node P.Phase site.now) (placed P.Phase name.now) (map (placed P.Phase) fields.now.items)) }
 {
     let site = site.copy(alloc)?;
     let name = name.copy(alloc)?;
@@ -239,10 +223,8 @@ fn copy_borrow<P: Phase>(
     mode: BorrowMode,
     name: &Ident<P>,
 ) -> Result<Expr<P>, Memory>
-    ensures {
-        IfOk result (λ copy.
-            expression P.Phase copy ≡ borrow (node P.Phase site.now) mode (placed P.Phase name.now))
-    }
+    ensures { IfOk result (λ copy.
+        expression P.Phase copy ≡ borrow (node P.Phase site.now) mode (placed P.Phase name.now)) }
 {
     let site = site.copy(alloc)?;
     let name = name.copy(alloc)?;
@@ -256,11 +238,9 @@ fn copy_typed<P: Phase>(
     of: Box<Expr<P>>,
     text: &TypeText,
 ) -> Result<Expr<P>, Memory>
-    ensures {
-        IfOk result (λ copy.
-            expression P.Phase copy
-                ≡ typed (node P.Phase site.now) (expression P.Phase of.value) (written text.now))
-    }
+    ensures { IfOk result (λ copy.
+        expression P.Phase copy
+        ≡ typed (node P.Phase site.now) (expression P.Phase of.value) (written text.now)) }
 {
     let site = site.copy(alloc)?;
     let text = copy_type(alloc, text)?;

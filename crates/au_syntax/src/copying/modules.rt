@@ -4,7 +4,7 @@ ghost use Rattle.std.specs.Prelude.{◌≡◌, IfOk};
 ghost use Rattle.au_syntax.specs.Modules.{Importing};
 ghost use Rattle.au_syntax.specs.Views.{importing, module_tree};
 
-use crate::copying::{copy_all, Copied};
+use crate::copying::{Copied, copy_all};
 use crate::modules::{Import, Module};
 use crate::phases::Phase;
 use au_base::Memory;
@@ -27,6 +27,7 @@ impl<P: Phase> Import<P> {
 
 impl<P: Phase> Copied for Import<P> {
     ghost Seen = { Importing P.SeenName };
+
     ghost see = { importing P.Phase };
 
     fn copy_item(&self, alloc: Global) -> Result<Import<P>, Memory> {

@@ -5,7 +5,7 @@ ghost use Rattle.au_syntax.specs.Names.{Placed, Renaming};
 ghost use Rattle.au_syntax.specs.Types.{Labelled, Bound};
 ghost use Rattle.au_syntax.specs.Views.{placed, renaming, labelled, bound};
 
-use crate::copying::{copy_type, Copied};
+use crate::copying::{Copied, copy_type};
 use crate::names::{Bind, Field, Ident, Renamed};
 use crate::phases::Phase;
 use au_base::Memory;
@@ -23,6 +23,7 @@ impl<P: Phase> Ident<P> {
 
 impl<P: Phase> Copied for Ident<P> {
     ghost Seen = { Placed P.SeenName };
+
     ghost see = { placed P.Phase };
 
     fn copy_item(&self, alloc: Global) -> Result<Ident<P>, Memory> {
@@ -51,6 +52,7 @@ impl<P: Phase> Renamed<P> {
 
 impl<P: Phase> Copied for Renamed<P> {
     ghost Seen = { Renaming P.SeenName };
+
     ghost see = { renaming P.Phase };
 
     fn copy_item(&self, alloc: Global) -> Result<Renamed<P>, Memory> {
@@ -71,6 +73,7 @@ impl<P: Phase> Field<P> {
 
 impl<P: Phase> Copied for Field<P> {
     ghost Seen = { Labelled P.SeenName };
+
     ghost see = { labelled P.Phase };
 
     fn copy_item(&self, alloc: Global) -> Result<Field<P>, Memory> {
@@ -91,6 +94,7 @@ impl<P: Phase> Bind<P> {
 
 impl<P: Phase> Copied for Bind<P> {
     ghost Seen = { Bound P.SeenName };
+
     ghost see = { bound P.Phase };
 
     fn copy_item(&self, alloc: Global) -> Result<Bind<P>, Memory> {

@@ -77,12 +77,8 @@ impl<P: Phase> Branch<P> {
     /// A branch that says the same.
     #[cycle(copy_statement)]
     pub fn copy(&self, alloc: Global) -> Result<Branch<P>, Memory>
-        ensures test {
-            IfOk result (λ copy. expression P.Phase copy.test.value ≡ expression P.Phase self.now.test.value)
-        }
-        ensures block {
-            IfOk result (λ copy. block P.Phase copy.block ≡ block P.Phase self.now.block)
-        }
+        ensures test { IfOk result (λ copy. expression P.Phase copy.test.value ≡ expression P.Phase self.now.test.value) }
+        ensures block { IfOk result (λ copy. block P.Phase copy.block ≡ block P.Phase self.now.block) }
     {
         let test = self.test.copy_boxed(alloc)?;
         let block = self.block.copy(alloc)?;
@@ -96,13 +92,9 @@ impl<P: Phase> Arm<P> {
     pub fn copy(&self, alloc: Global) -> Result<Arm<P>, Memory>
         ensures at { IfOk result (λ copy. copy.at ≡ self.now.at) }
         ensures case { IfOk result (λ copy. placed P.Phase copy.case ≡ placed P.Phase self.now.case) }
-        ensures binds {
-            IfOk result (λ copy.
-                map (bound P.Phase) copy.binds.items ≡ map (bound P.Phase) self.now.binds.items)
-        }
-        ensures block {
-            IfOk result (λ copy. block P.Phase copy.block ≡ block P.Phase self.now.block)
-        }
+        ensures binds { IfOk result (λ copy.
+            map (bound P.Phase) copy.binds.items ≡ map (bound P.Phase) self.now.binds.items) }
+        ensures block { IfOk result (λ copy. block P.Phase copy.block ≡ block P.Phase self.now.block) }
     {
         let case = self.case.copy(alloc)?;
         let binds = copy_all(alloc, &self.binds)?;
@@ -122,9 +114,7 @@ fn copy_branches<P: Phase>(
     alloc: Global,
     branches: &Vec<Branch<P>>,
 ) -> Result<Vec<Branch<P>>, Memory>
-    ensures {
-        IfOk result (λ copies. branch_all P.Phase copies.items ≡ branch_all P.Phase branches.now.items)
-    }
+    ensures { IfOk result (λ copies. branch_all P.Phase copies.items ≡ branch_all P.Phase branches.now.items) }
 {
     let mut copies = Vec::new(alloc);
     for one in branches {
@@ -137,9 +127,7 @@ fn copy_branches<P: Phase>(
 #[tactic(auto, using(crate::proofs::StatementLemmas::statement_steps))]
 #[cycle(copy_statement)]
 fn copy_arms<P: Phase>(alloc: Global, arms: &Vec<Arm<P>>) -> Result<Vec<Arm<P>>, Memory>
-    ensures {
-        IfOk result (λ copies. arm_all P.Phase copies.items ≡ arm_all P.Phase arms.now.items)
-    }
+    ensures { IfOk result (λ copies. arm_all P.Phase copies.items ≡ arm_all P.Phase arms.now.items) }
 {
     let mut copies = Vec::new(alloc);
     for one in arms {
@@ -158,11 +146,9 @@ fn copy_let<P: Phase>(
     of: &TypeText,
     value: &Expr<P>,
 ) -> Result<Stmt<P>, Memory>
-    ensures {
-        IfOk result (λ copy.
-            statement P.Phase copy
-                ≡ declare at binding (placed P.Phase name.now) (written of.now) (expression P.Phase value.now))
-    }
+    ensures { IfOk result (λ copy.
+        statement P.Phase copy
+        ≡ declare at binding (placed P.Phase name.now) (written of.now) (expression P.Phase value.now)) }
 {
     let name = name.copy(alloc)?;
     let of = copy_type(alloc, of)?;
@@ -178,12 +164,10 @@ fn copy_assign<P: Phase>(
     fields: &Vec<Ident<P>>,
     value: &Expr<P>,
 ) -> Result<Stmt<P>, Memory>
-    ensures {
-        IfOk result (λ copy.
-            statement P.Phase copy
-                ≡ assign at (placed P.Phase name.now) (map (placed P.Phase) fields.now.items)
-                    (expression P.Phase value.now))
-    }
+    ensures { IfOk result (λ copy.
+        statement P.Phase copy
+        ≡ assign at (placed P.Phase name.now) (map (placed P.Phase) fields.now.items)
+        (expression P.Phase value.now)) }
 {
     let name = name.copy(alloc)?;
     let fields = copy_all(alloc, fields)?;
@@ -199,12 +183,10 @@ fn copy_assign_through<P: Phase>(
     fields: &Vec<Ident<P>>,
     value: &Expr<P>,
 ) -> Result<Stmt<P>, Memory>
-    ensures {
-        IfOk result (λ copy.
-            statement P.Phase copy
-                ≡ assign_through at (placed P.Phase name.now) (map (placed P.Phase) fields.now.items)
-                    (expression P.Phase value.now))
-    }
+    ensures { IfOk result (λ copy.
+        statement P.Phase copy
+        ≡ assign_through at (placed P.Phase name.now) (map (placed P.Phase) fields.now.items)
+        (expression P.Phase value.now)) }
 {
     let name = name.copy(alloc)?;
     let fields = copy_all(alloc, fields)?;
@@ -221,12 +203,10 @@ fn copy_for<P: Phase>(
     to: &Expr<P>,
     body: Block<P>,
 ) -> Result<Stmt<P>, Memory>
-    ensures {
-        IfOk result (λ copy.
-            statement P.Phase copy
-                ≡ for_loop at (placed P.Phase name.now) (expression P.Phase from.now)
-                    (expression P.Phase to.now) (block P.Phase body))
-    }
+    ensures { IfOk result (λ copy.
+        statement P.Phase copy
+        ≡ for_loop at (placed P.Phase name.now) (expression P.Phase from.now)
+        (expression P.Phase to.now) (block P.Phase body)) }
 {
     let name = name.copy(alloc)?;
     let from = from.copy_boxed(alloc)?;
@@ -244,12 +224,10 @@ fn copy_borrow<P: Phase>(
     region: &Ident<P>,
     body: Block<P>,
 ) -> Result<Stmt<P>, Memory>
-    ensures {
-        IfOk result (λ copy.
-            statement P.Phase copy
-                ≡ borrow_in places.0 access (placed P.Phase of.now) (placed P.Phase name.now)
-                    (placed P.Phase region.now) (block P.Phase body) places.1)
-    }
+    ensures { IfOk result (λ copy.
+        statement P.Phase copy
+        ≡ borrow_in places.0 access (placed P.Phase of.now) (placed P.Phase name.now)
+        (placed P.Phase region.now) (block P.Phase body) places.1) }
 {
     let of = of.copy(alloc)?;
     let name = name.copy(alloc)?;
@@ -268,12 +246,10 @@ fn copy_borrow_typed<P: Phase>(
     of: &Ident<P>,
     body: Block<P>,
 ) -> Result<Stmt<P>, Memory>
-    ensures {
-        IfOk result (λ copy.
-            statement P.Phase copy
-                ≡ borrow_typed places.0 (placed P.Phase name.now) (written text.now) mode
-                    (placed P.Phase of.now) (block P.Phase body) places.1)
-    }
+    ensures { IfOk result (λ copy.
+        statement P.Phase copy
+        ≡ borrow_typed places.0 (placed P.Phase name.now) (written text.now) mode
+        (placed P.Phase of.now) (block P.Phase body) places.1) }
 {
     let name = name.copy(alloc)?;
     let text = copy_type(alloc, text)?;
