@@ -1,12 +1,11 @@
 -- What the mapping of trees from phase to phase is proved by: sizes of trees, and lists of trees made
 -- plain or tested item by item.
-use Rattle.std.proofs.Common.{◌≡◌, ℕ, ◌+◌, ◌≤◌, ◌<◌, Bool, true, List, [], ◌∷◌, ◌++◌, map, ap, ◌∙◌, sym, refl, subst, ◌&&◌, Vec, arith, IsTrue, length}
+use Rattle.std.proofs.Common.{◌≡◌, ℕ, ◌+◌, ◌≤◌, Bool, true, List, [], ◌∷◌, ◌++◌, map, ap, ◌∙◌, sym, refl, ◌&&◌, Vec, arith, IsTrue, length}
 use Rattle.std.specs.Global.{Global}
 use Rattle.std.specs.List.{list_all}
 use Rattle.std.proofs.lemmas.List.{append_assoc, map-append, append-nil, nil_from_length}
 use Rattle.std.proofs.lemmas.List.Folds.{list_all-append}
 use Rattle.std.proofs.lemmas.Bool.{and_from}
-use Rattle.std.specs.declared.boxed.Box.{Box}
 use mathlib.Core.Former.{Count}
 use Rattle.au_syntax.specs.declared.phases.Phase.{Ghosts}
 use Rattle.au_syntax.specs.declared.names.Ident.{Ident}
@@ -15,10 +14,9 @@ use Rattle.au_syntax.specs.declared.expressions.Argument.{Argument}
 use Rattle.au_syntax.specs.declared.expressions.Expr.{Expr, Row_of-Expr, end_of-Expr, more_of-Expr, items-the_row-Expr, items_hidden-the_row-Expr-0, Row_of-Argument, end_of-Argument, more_of-Argument, items-the_row-Argument, items_hidden-the_row-Argument-1}
 use Rattle.au_syntax.specs.declared.expressions.Expr as code
 use Rattle.au_syntax.specs.declared.expressions.Expr.TheBlock.{hidden-the_row-Expr-0, hidden-the_row-Argument-1}
-use Rattle.au_syntax.specs.Names.{Placed}
 use Rattle.au_syntax.specs.Expressions.{Expression, Expressions, Arguments, call, named_call, no_expressions, expressions, no_arguments, arguments}
 use Rattle.au_syntax.specs.Views.{placed, node, expression, expression_all, argument_all}
-use Rattle.au_syntax.specs.Plain.{Bytes, PlainExpression, PlainExpressions, PlainArguments, plain_node, plain_name, plain_expression, plain_expressions, plain_arguments}
+use Rattle.au_syntax.specs.Plain.{Bytes, plain_node, plain_name, plain_expression, plain_expressions, plain_arguments}
 use Rattle.au_syntax.specs.Notes.{notes_of_expression, notes_of_expressions, notes_of_arguments}
 use Rattle.au_syntax.proofs.ExpressionLemmas.{call_says, named_call_says}
 

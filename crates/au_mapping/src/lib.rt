@@ -5,10 +5,6 @@ pub mod expressions;
 pub mod modules;
 mod parts;
 pub mod statements;
-#[cfg(test)]
-mod tests;
-#[cfg(test)]
-mod tree_tests;
 pub mod turns;
 pub mod wholes;
 

@@ -105,7 +105,7 @@ pub fn map_decl<P: Phase, Q: Phase, F: Turn<P, Q>>(
     }
 }
 
-#[tactic(auto, unfolding(crate::specs::Views::declaration))]
+#[tactic(auto, unfolding(au_syntax::specs::Views::declaration))]
 fn map_constant<P: Phase, Q: Phase, F: Turn<P, Q>>(
     alloc: Global,
     at: Pos,
@@ -120,7 +120,7 @@ fn map_constant<P: Phase, Q: Phase, F: Turn<P, Q>>(
     Ok(Decl::Constant(at, name, of))
 }
 
-#[tactic(auto, unfolding(crate::specs::Views::declaration))]
+#[tactic(auto, unfolding(au_syntax::specs::Views::declaration))]
 fn map_opaque<P: Phase, Q: Phase, F: Turn<P, Q>>(
     alloc: Global,
     at: Pos,
@@ -137,7 +137,7 @@ fn map_opaque<P: Phase, Q: Phase, F: Turn<P, Q>>(
     Ok(Decl::Opaque(at, name, parameters, universe))
 }
 
-#[tactic(auto, unfolding(crate::specs::Views::declaration))]
+#[tactic(auto, unfolding(au_syntax::specs::Views::declaration))]
 fn map_record<P: Phase, Q: Phase, F: Turn<P, Q>>(
     alloc: Global,
     at: Pos,
@@ -156,7 +156,7 @@ fn map_record<P: Phase, Q: Phase, F: Turn<P, Q>>(
     Ok(Decl::Record(at, name, parameters, universe, fields))
 }
 
-#[tactic(auto, unfolding(crate::specs::Views::declaration))]
+#[tactic(auto, unfolding(au_syntax::specs::Views::declaration))]
 fn map_union<P: Phase, Q: Phase, F: Turn<P, Q>>(
     alloc: Global,
     at: Pos,
@@ -175,7 +175,7 @@ fn map_union<P: Phase, Q: Phase, F: Turn<P, Q>>(
     Ok(Decl::Union(at, name, parameters, universe, cases))
 }
 
-#[tactic(auto, unfolding(crate::specs::Views::declaration))]
+#[tactic(auto, unfolding(au_syntax::specs::Views::declaration))]
 fn map_function<P: Phase, Q: Phase, F: Turn<P, Q>>(
     alloc: Global,
     at: Pos,
@@ -191,7 +191,7 @@ fn map_function<P: Phase, Q: Phase, F: Turn<P, Q>>(
     Ok(Decl::Function(at, generics, signature))
 }
 
-#[tactic(auto, unfolding(crate::specs::Views::declaration))]
+#[tactic(auto, unfolding(au_syntax::specs::Views::declaration))]
 fn map_class<P: Phase, Q: Phase, F: Turn<P, Q>>(
     alloc: Global,
     at: Pos,
@@ -209,7 +209,7 @@ fn map_class<P: Phase, Q: Phase, F: Turn<P, Q>>(
     Ok(Decl::Class(at, name, parameter, methods))
 }
 
-#[tactic(auto, unfolding(crate::specs::Views::declaration))]
+#[tactic(auto, unfolding(au_syntax::specs::Views::declaration))]
 fn map_instance<P: Phase, Q: Phase, F: Turn<P, Q>>(
     alloc: Global,
     at: Pos,
@@ -226,7 +226,7 @@ fn map_instance<P: Phase, Q: Phase, F: Turn<P, Q>>(
     Ok(Decl::Instance(at, generics, name, of))
 }
 
-#[tactic(auto, unfolding(crate::specs::Views::declaration))]
+#[tactic(auto, unfolding(au_syntax::specs::Views::declaration))]
 fn map_constant_body<P: Phase, Q: Phase, F: Turn<P, Q>>(
     alloc: Global,
     at: Pos,
@@ -243,7 +243,7 @@ fn map_constant_body<P: Phase, Q: Phase, F: Turn<P, Q>>(
     Ok(Decl::ConstantBody(at, name, of, value))
 }
 
-#[tactic(auto, unfolding(crate::specs::Views::declaration))]
+#[tactic(auto, unfolding(au_syntax::specs::Views::declaration))]
 fn map_function_body<P: Phase, Q: Phase, F: Turn<P, Q>>(
     alloc: Global,
     at: Pos,
@@ -262,7 +262,7 @@ fn map_function_body<P: Phase, Q: Phase, F: Turn<P, Q>>(
     Ok(Decl::FunctionBody(at, generics, signature, body, end))
 }
 
-#[tactic(auto, unfolding(crate::specs::Views::declaration))]
+#[tactic(auto, unfolding(au_syntax::specs::Views::declaration))]
 fn map_instance_body<P: Phase, Q: Phase, F: Turn<P, Q>>(
     alloc: Global,
     at: Pos,

@@ -1,13 +1,12 @@
 //! Trees built by hand: the fibonacci program, a file without declarations, and very large blocks.
-//! They are those of `au_syntax`, and stand here so that its proof isn't made twice.
 
 ghost use Rattle.std.specs.Prelude.{◌<◌, ◌≤◌, length};
 
+use au_base::{Memory, Name, Pos, Text};
 use au_syntax::{
     BinaryOperator, Block, Branch, Decl, Expr, Field, Ident, Literal, Module, Node, Parsed, Part,
     Signature, Site, Stmt, TypeName, TypeText, Whole, laws, nodes_of_block, nodes_of_expression,
 };
-use au_base::{Memory, Name, Pos, Text};
 use std::alloc::Global;
 use std::test::Fail;
 

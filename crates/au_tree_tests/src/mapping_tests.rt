@@ -2,8 +2,8 @@
 
 ghost use Rattle.std.specs.Prelude.{◌<◌, ◌≤◌, length};
 
-use crate::{Turn, map_expr, map_phase};
 use au_base::{Memory, Name, Pos};
+use au_mapping::{Turn, map_expr, map_phase};
 use au_syntax::{Expr, Ident, Literal, Module, Parsed, Part, Phase, Site, Whole};
 use std::alloc::Global;
 use std::test::Fail;
@@ -56,6 +56,7 @@ impl Phase for Counted {
 }
 
 /// How many notes were made.
+#[derive(Drop)]
 struct Count {
     made: u32,
 }
