@@ -142,12 +142,12 @@ fn notes_are_counted_and_words_stay(rt: HostRuntime) -> Result<(), Fail> {
     let mut count = Count { made: 0 };
     let mapped = map_expr::<Parsed, Counted, Count>(rt.alloc(), call(rt.alloc())?, &mut count)?;
     assert_eq!(rt; count.made, 4);
-    match mapped {
+    match &mapped {
         Expr::Call(site, name, arguments, note) => {
             assert_eq!(rt; name.name.as_bytes(), b"f".as_slice());
             assert_eq!(rt; site.at, at(1));
             assert_eq!(rt; arguments.len(), 2);
-            assert!(rt; site.note != note, "two notes of a call");
+            assert!(rt; site.note != *note, "two notes of a call");
         }
         _ => assert!(rt; false, "a call"),
     }

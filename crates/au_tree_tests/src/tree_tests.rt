@@ -63,31 +63,46 @@ fn call(alloc: Global, value: i128, at: Pos, inside: Pos) -> Result<Box<Expr<Par
     Ok(Box::new(alloc, Expr::Call(site(at), name, arguments, ()))?)
 }
 
+/// `n < 2`
+fn test(alloc: Global) -> Result<Box<Expr<Parsed>>, Memory> {
+    let one = n(alloc, at(3, 4))?;
+    let other = digit(alloc, 2, at(3, 8))?;
+    let test = Expr::Binary(site(at(3, 4)), BinaryOperator::Less, one, other);
+    Ok(Box::new(alloc, test)?)
+}
+
+/// `fibonacci(n - 1) + fibonacci(n - 2)`
+fn sum(alloc: Global) -> Result<Box<Expr<Parsed>>, Memory> {
+    let one = call(alloc, 1, at(6, 8), at(6, 18))?;
+    let other = call(alloc, 2, at(6, 27), at(6, 37))?;
+    let sum = Expr::Binary(site(at(6, 8)), BinaryOperator::Add, one, other);
+    Ok(Box::new(alloc, sum)?)
+}
+
+/// A block that returns a value.
+fn returned(alloc: Global, at: Pos, value: Box<Expr<Parsed>>) -> Result<Block<Parsed>, Memory> {
+    let mut statements = Vec::new(alloc);
+    statements.push(Stmt::Return(at, value))?;
+    Ok(Block { statements })
+}
+
+/// `if n < 2 then return n;`
+fn branches(alloc: Global) -> Result<Vec<Branch<Parsed>>, Memory> {
+    let test = test(alloc)?;
+    let value = n(alloc, at(4, 8))?;
+    let block = returned(alloc, at(4, 1), value)?;
+    let mut branches = Vec::new(alloc);
+    branches.push(Branch { test, block })?;
+    Ok(branches)
+}
+
 /// The body of fibonacci: `if n < 2 then return n; else return fibonacci(n - 1) + fibonacci(n - 2); end if;`
 fn body(alloc: Global) -> Result<Block<Parsed>, Memory> {
-    let test = Expr::Binary(
-        site(at(3, 4)),
-        BinaryOperator::Less,
-        n(alloc, at(3, 4))?,
-        digit(alloc, 2, at(3, 8))?,
-    );
-    let mut first = Vec::new(alloc);
-    first.push(Stmt::Return(at(4, 1), n(alloc, at(4, 8))?))?;
-    let sum = Expr::Binary(
-        site(at(6, 8)),
-        BinaryOperator::Add,
-        call(alloc, 1, at(6, 8), at(6, 18))?,
-        call(alloc, 2, at(6, 27), at(6, 37))?,
-    );
-    let mut last = Vec::new(alloc);
-    last.push(Stmt::Return(at(6, 1), Box::new(alloc, sum)?))?;
-    let mut branches = Vec::new(alloc);
-    branches.push(Branch {
-        test: Box::new(alloc, test)?,
-        block: Block { statements: first },
-    })?;
+    let branches = branches(alloc)?;
+    let value = sum(alloc)?;
+    let last = returned(alloc, at(6, 1), value)?;
     let mut statements = Vec::new(alloc);
-    statements.push(Stmt::IfElse(at(3, 1), branches, Block { statements: last }))?;
+    statements.push(Stmt::IfElse(at(3, 1), branches, last))?;
     Ok(Block { statements })
 }
 
