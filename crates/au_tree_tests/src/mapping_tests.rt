@@ -2,9 +2,10 @@
 
 ghost use Rattle.std.specs.Prelude.{◌<◌, ◌≤◌, length};
 
+use crate::tree_tests::{OUTLINE, fibonacci, outline};
 use au_base::{Memory, Name, Pos};
-use au_mapping::{Turn, map_expr, map_phase};
-use au_syntax::{Expr, Ident, Literal, Module, Parsed, Part, Phase, Site, Whole};
+use au_mapping::{Turn, map_expr, map_module, map_phase};
+use au_syntax::{Decl, Expr, Ident, Literal, Module, Parsed, Part, Phase, Site, Whole};
 use std::alloc::Global;
 use std::test::Fail;
 
@@ -171,5 +172,20 @@ fn a_whole_file_stays_whole(rt: HostRuntime) -> Result<(), Fail> {
     let mapped = map_phase::<Parsed, Counted, Count>(alloc, whole, &mut count)?;
     assert_eq!(rt; mapped.depth(), 0);
     assert_eq!(rt; count.made, 0);
+    Ok(())
+}
+
+#[test]
+fn the_fibonacci_program_keeps_its_nodes_and_places(rt: HostRuntime) -> Result<(), Fail> {
+    let mut count = Count { made: 0 };
+    let module = fibonacci(rt.alloc())?;
+    let mapped = map_module::<Parsed, Counted, Count>(rt.alloc(), module, &mut count)?;
+    assert_eq!(rt; count.made, 15, "13 expressions, 2 calls");
+    match mapped.declarations.as_slice() {
+        [Decl::FunctionBody(_, _, _, body, _)] => {
+            assert_eq!(rt; outline(rt.alloc(), body)?.as_bytes(), OUTLINE);
+        }
+        _ => assert!(rt; false, "one function"),
+    }
     Ok(())
 }

@@ -5,7 +5,8 @@ ghost use Rattle.std.specs.Prelude.{◌<◌, ◌≤◌, length};
 use au_base::{Memory, Name, Pos, Text};
 use au_syntax::{
     BinaryOperator, Block, Branch, Decl, Expr, Field, Ident, Literal, Module, Node, Parsed, Part,
-    Signature, Site, Stmt, TypeName, TypeText, Whole, laws, nodes_of_block, nodes_of_expression,
+    Phase, Signature, Site, Stmt, TypeName, TypeText, Whole, laws, nodes_of_block,
+    nodes_of_expression,
 };
 use std::alloc::Global;
 use std::test::Fail;
@@ -107,7 +108,7 @@ fn body(alloc: Global) -> Result<Block<Parsed>, Memory> {
 }
 
 /// The module with fibonacci alone.
-fn fibonacci(alloc: Global) -> Result<Module<Parsed>, Memory> {
+pub(crate) fn fibonacci(alloc: Global) -> Result<Module<Parsed>, Memory> {
     let mut parameters = Vec::new(alloc);
     parameters.push(Field {
         name: ident(alloc, b"n", at(2, 20))?,
@@ -139,7 +140,7 @@ fn fibonacci(alloc: Global) -> Result<Module<Parsed>, Memory> {
 }
 
 /// What a node is, by one letter.
-fn letter(node: &Node<Parsed>) -> (u8, Pos) {
+fn letter<P: Phase>(node: &Node<P>) -> (u8, Pos) {
     match node {
         Node::Expression(Expr::Number(site, _)) => (b'7', site.at),
         Node::Expression(Expr::Path(site, _, _)) => (b'x', site.at),
@@ -155,7 +156,7 @@ fn letter(node: &Node<Parsed>) -> (u8, Pos) {
 }
 
 /// The nodes of a block with their places, in order.
-fn outline(alloc: Global, block: &Block<Parsed>) -> Result<Text, Fail> {
+pub(crate) fn outline<P: Phase>(alloc: Global, block: &Block<P>) -> Result<Text, Fail> {
     let mut shown = Text::new(alloc);
     for node in nodes_of_block(alloc, block)? {
         let (letter, at) = letter(&node);
@@ -167,7 +168,7 @@ fn outline(alloc: Global, block: &Block<Parsed>) -> Result<Text, Fail> {
 }
 
 /// The nodes of fibonacci's body in the order of the text.
-const OUTLINE: &[u8] =
+pub(crate) const OUTLINE: &[u8] =
     b"I3:1 +3:4 x3:4 73:8 R4:1 x4:8 R6:1 +6:8 f6:8 +6:18 x6:18 76:18 f6:27 +6:37 x6:37 76:37 ";
 
 #[test]
