@@ -15,7 +15,7 @@ use Rattle.austral_cli.specs.declared.checking.CheckFault.TheVariants as fault
 use Rattle.au_base.specs.Places.{place_after}
 use Rattle.au_lexer.specs.Cut.{Cut, tokens_among, token_at, StopsAt}
 use Rattle.au_lexer.specs.Pieces.{Piece, spelling, what_of}
-use Rattle.au_parser.specs.Files.{IsStrangePlace}
+use Rattle.au_printing.specs.Files.{IsStrangePlace}
 use Rattle.austral_cli.specs.Calls.{AreTold, IsPlaced, is_read}
 use Rattle.austral_cli.specs.Jobs.{Task, IsJob}
 use Rattle.austral_cli.specs.Outcomes.{Arises, Comes}

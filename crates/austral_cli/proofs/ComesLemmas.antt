@@ -7,10 +7,10 @@ use Rattle.au_base.specs.Outside.{Files}
 use Rattle.au_base.specs.Places.{place_after}
 use Rattle.au_lexer.specs.Cut.{Cut}
 use Rattle.au_lexer.specs.Passing.{IsWithinLimits}
-use Rattle.au_parser.specs.Files.{IsUnfinished, IsStrangePlace}
-use Rattle.au_parser.specs.declared.faults.ParseFault.{ParseFault}
-use Rattle.au_parser.specs.declared.faults.ParseFault.TheVariants as parsing
-use Rattle.au_syntax.specs.declared.printing.First.{First}
+use Rattle.au_printing.specs.Files.{IsUnfinished, IsStrangePlace}
+use Rattle.au_printing.specs.declared.faults.ParseFault.{ParseFault}
+use Rattle.au_printing.specs.declared.faults.ParseFault.TheVariants as parsing
+use Rattle.au_printing.specs.declared.files.First.{First}
 use Rattle.austral_cli.specs.Halts.{ComesTo, Says, parse_halt}
 use Rattle.austral_cli.specs.declared.outcomes.Outcome.{Outcome}
 use Rattle.austral_cli.specs.declared.outcomes.Outcome.TheVariants as outcome

@@ -8,11 +8,11 @@ use Rattle.au_base.specs.declared.tokens.Token.{Token}
 use Rattle.au_base.specs.Limits.{most_file_bytes}
 use Rattle.au_base.specs.Outside.{Files}
 use Rattle.au_base.specs.Places.{place_after}
-use Rattle.au_syntax.specs.declared.printing.First.{First}
+use Rattle.au_printing.specs.declared.files.First.{First}
 use Rattle.au_lexer.specs.Cut.{Lexed, tokens, stray, passes, Lexes}
 use Rattle.au_lexer.proofs.UniqueLemmas.{one_outcome}
-use Rattle.au_parser.specs.Files.{Reads, IsUnfinished, IsStrangePlace}
-use Rattle.au_parser.proofs.FileLaws.{one_file, read_or_unfinished, read_or_strange, unfinished_or_strange, one_strange}
+use Rattle.au_printing.specs.Files.{Reads, IsUnfinished, IsStrangePlace}
+use Rattle.au_printing.proofs.FileLaws.{one_file, read_or_unfinished, read_or_strange, unfinished_or_strange, one_strange}
 use Rattle.austral_cli.specs.Calls.{AreTold, IsPaid, CameTo, Pays, is_decided}
 use Rattle.austral_cli.specs.Jobs.{Task, IsJob, IsNoJob}
 use Rattle.austral_cli.specs.Outcomes.{FileComes, Comes, Arises, Owes, Due, due_of, file_limit}

@@ -7,7 +7,7 @@ use Rattle.au_base.specs.Outside.{Files, Adds, AddsFront, HasRisen}
 use Rattle.austral_cli.specs.Outcomes.{Due, Owes, Arises, due_line, printed}
 use Rattle.austral_cli.specs.Lines.{refusal_place, refusal_line, limit_line, missing_line, read_fault_line}
 use Rattle.std.specs.List.{flat_map}
-use Rattle.au_syntax.specs.declared.printing.First.{First}
+use Rattle.au_printing.specs.declared.files.First.{First}
 use Rattle.austral_cli.specs.declared.refusals.Refusal.{Refusal}
 use Rattle.austral_cli.specs.declared.answering.AnswerFault.{AnswerFault}
 use Rattle.austral_cli.specs.declared.answering.AnswerFault.TheVariants as answer

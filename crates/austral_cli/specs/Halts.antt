@@ -3,8 +3,8 @@ use Rattle.std.specs.Prelude.{ℕ, Bool, false, List, [], ◌∷◌, Option, Res
 use Rattle.au_base.specs.Outside.{Files}
 use Rattle.au_lexer.specs.declared.lexing.LexFault.{LexFault}
 use Rattle.au_lexer.specs.declared.lexing.LexFault.TheVariants as lexing
-use Rattle.au_parser.specs.declared.faults.ParseFault.{ParseFault}
-use Rattle.au_parser.specs.declared.faults.ParseFault.TheVariants as parsing
+use Rattle.au_printing.specs.declared.faults.ParseFault.{ParseFault}
+use Rattle.au_printing.specs.declared.faults.ParseFault.TheVariants as parsing
 use Rattle.austral_cli.specs.Calls.{AreTold, is_read}
 use Rattle.austral_cli.specs.Outcomes.{Comes}
 use Rattle.austral_cli.specs.declared.checking.CheckFault.TheVariants as fault

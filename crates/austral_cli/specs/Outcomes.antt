@@ -9,10 +9,10 @@ use Rattle.au_base.specs.declared.tokens.Token.{Token}
 use Rattle.au_base.specs.Limits.{most_file_bytes}
 use Rattle.au_base.specs.Outside.{Files}
 use Rattle.au_base.specs.Places.{place_after}
-use Rattle.au_syntax.specs.declared.printing.Print.{Print}
+use Rattle.au_printing.specs.declared.files.Print.{Print}
 use Rattle.au_lexer.specs.Cut.{Cut, IsStray, PassesLimit}
 use Rattle.au_lexer.specs.Passing.{IsWithinLimits}
-use Rattle.au_parser.specs.Files.{Reads, IsUnfinished, IsStrangePlace}
+use Rattle.au_printing.specs.Files.{Reads, IsUnfinished, IsStrangePlace}
 use Rattle.austral_cli.specs.Jobs.{IsJob, IsNoJob}
 use Rattle.austral_cli.specs.Lines.{words_line, missing_line, limit_line, refusal_line}
 use Rattle.austral_cli.specs.declared.jobs.Command.TheVariants.{Run}

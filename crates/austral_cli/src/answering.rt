@@ -10,7 +10,7 @@ ghost use Rattle.austral_cli.specs.Outcomes.{printed, due_of};
 use crate::outcomes::Outcome;
 use crate::refusals::{limit_text, missing_text, refusal_text};
 use au_base::{Memory, Sink, Status, WriteFault, put_all};
-use au_syntax::{First, Print};
+use au_printing::{First, Print};
 use std::alloc::Global;
 use thiserror::Error;
 

@@ -13,8 +13,8 @@ use crate::outcomes::Outcome;
 use crate::refusals::Refusal;
 use au_base::{Fetch, Limit, LimitKind, MOST_FILE_BYTES, Memory, Pos, Shelf, Text};
 use au_lexer::{LexFault, lex};
-use au_parser::{ParseFault, parse};
-use au_syntax::First;
+use au_printing::{ParseFault, parse};
+use au_printing::First;
 use std::alloc::Global;
 use thiserror::Error;
 

@@ -2,7 +2,7 @@
 
 use crate::refusals::Refusal;
 use au_base::{Limit, Text};
-use au_syntax::First;
+use au_printing::First;
 
 /// What words and files come to, where nothing fails and memory is there.
 #[derive(Drop)]
