@@ -7,10 +7,10 @@ ghost use Rattle.au_printing.specs.Files.{whats, Reads, IsUnfinished, IsStrangeP
 ghost use Rattle.au_printing.specs.Readers.{ReadsPrints, StopsInPrint, StopsInFile};
 
 use crate::faults::ParseFault;
+use crate::files::{First, Print};
 use crate::readers::{argument, closing, no_more, opening, print_name};
 use crate::stops::Stop;
 use au_base::{Pos, Sequence, Token};
-use crate::files::{First, Print};
 use std::alloc::Global;
 
 /// The one file whose tokens these are. `end` is the place behind the file's last byte.
