@@ -1,5 +1,5 @@
 -- What words and files come to, and where a refusal's place lies.
-use Rattle.std.proofs.Common.{◌≡◌, ℕ, zero, suc, ◌<◌, Bool, true, ◌==◌, List, [], ◌∷◌, ◌++◌, length, get_or, map, Option, Some, None, String, ap, ◌∙◌, sym, refl, subst, arith, slice_get}
+use Rattle.std.proofs.Common.{◌≡◌, ℕ, zero, suc, ◌<◌, Bool, true, ◌==◌, List, [], ◌∷◌, ◌++◌, length, get_or, map, Option, Some, None, String, ap, ◌∙◌, sym, refl, subst, arith, slice_get, unwrap_or, inl, inr}
 use Rattle.std.specs.Global.{Global}
 use Rattle.std.specs.List.{list_all}
 use Rattle.std.specs.Option.{option_map}
@@ -19,6 +19,7 @@ use Rattle.au_printing.specs.Files.{IsStrangePlace}
 use Rattle.austral_cli.specs.Calls.{AreTold, IsPlaced, is_read}
 use Rattle.austral_cli.specs.Jobs.{Task, IsJob}
 use Rattle.austral_cli.specs.Outcomes.{Arises, Comes}
+use Rattle.austral_cli.specs.Trees.{IsNoPrinting, IsPlaceIn}
 use Rattle.austral_cli.specs.declared.jobs.Command.TheVariants.{Run}
 use Rattle.austral_cli.specs.declared.outcomes.Outcome.{Outcome}
 use Rattle.austral_cli.specs.declared.outcomes.Outcome.TheVariants as outcome
@@ -76,19 +77,38 @@ place_in_file file (token ∷ tokens) (suc index) at h is = place_in_file file t
 stops_in_file : (bytes rest : List ℕ) (at : Pos) → StopsAt 0 bytes rest at → at.file < 1
 stops_in_file bytes rest at stop = subst (λ (p : Pos). p.file < 1) (sym stop.place) (omega arith)
 
+all_in_file : (bytes : List ℕ) (tokens : List Token) → Cut 0 bytes tokens → list_all (in_file 0) tokens ≡ true
+all_in_file bytes tokens cut = ap (list_all (in_file 0)) cut.2 ∙ tokens_in_file 0 [] cut.0
+
 strange_in_file : (bytes : List ℕ) (tokens : List Token) (at : Pos) → Cut 0 bytes tokens → IsStrangePlace tokens at → at.file < 1
 strange_in_file bytes tokens at cut strange =
-    let all = ap (list_all (in_file 0)) cut.2 ∙ tokens_in_file 0 [] cut.0 in
-    let is = place_in_file 0 tokens strange.0 at all strange.2 in
+    let is = place_in_file 0 tokens strange.0 at (all_in_file bytes tokens cut) strange.2 in
     omega arith
+
+no_printing_in_file : (bytes : List ℕ) (tokens : List Token) (at : Pos) → Cut 0 bytes tokens → IsNoPrinting tokens (place_after 0 bytes) at → at.file < 1
+no_printing_in_file bytes tokens at cut none = elim none [
+  | inl strange ↦ strange_in_file bytes tokens at cut strange
+  | inr unfinished ↦ subst (λ (p : Pos). p.file < 1) (sym unfinished.1) (omega arith)
+]
+
+-- the place of a token, or the end
+place_or_end : (bytes : List ℕ) (tokens : List Token) (index : ℕ) (found : Option Pos) → Cut 0 bytes tokens → option_map (λ (token : Token). token.at) (slice_get tokens index) ≡ found → (unwrap_or found (place_after 0 bytes)).file < 1
+place_or_end bytes tokens index None cut is = omega arith
+place_or_end bytes tokens index (Some at) cut is =
+    let e = place_in_file 0 tokens index at (all_in_file bytes tokens cut) is in
+    omega arith
+
+place_in : (bytes : List ℕ) (tokens : List Token) (at : Pos) → Cut 0 bytes tokens → IsPlaceIn tokens (place_after 0 bytes) at → at.file < 1
+place_in bytes tokens at cut place =
+    subst (λ (p : Pos). p.file < 1) (sym place.2) (place_or_end bytes tokens place.0 (option_map (λ (token : Token). token.at) (slice_get tokens place.0)) cut refl)
 
 pub placed : (files : Files) (name : List ℕ) (arisen : Outcome) → Comes files (name ∷ []) arisen → IsPlaced 1 arisen
 placed files name outcome.NoJob comes = tt
 placed files name (outcome.Missing other) comes = tt
 placed files name (outcome.Passes limit) comes = tt
 placed files name (outcome.Refused (Byte at)) comes = stops_in_file comes.0 comes.2.0 at comes.2.1
-placed files name (outcome.Refused (Syntax at)) comes = subst (λ (p : Pos). p.file < 1) (sym comes.2.1) (omega arith)
-placed files name (outcome.Refused (NotYet at)) comes = strange_in_file comes.0 comes.2.0 at comes.2.1 comes.2.3
+placed files name (outcome.Refused (Syntax at)) comes = place_in comes.0 comes.2.0 at comes.2.1 comes.2.3.1
+placed files name (outcome.Refused (NotYet at)) comes = no_printing_in_file comes.0 comes.2.0 at comes.2.1 comes.2.3.1
 placed files name (outcome.Prints first) comes = tt
 
 -- a read fault is one that was counted

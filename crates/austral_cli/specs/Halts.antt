@@ -12,7 +12,7 @@ use Rattle.austral_cli.specs.declared.checking.Halt.{Halt}
 use Rattle.austral_cli.specs.declared.checking.Halt.TheVariants as halt
 use Rattle.austral_cli.specs.declared.outcomes.Outcome.{Outcome}
 use Rattle.austral_cli.specs.declared.outcomes.Outcome.TheVariants as outcome
-use Rattle.austral_cli.specs.declared.refusals.Refusal.TheVariants.{Byte, Syntax, NotYet}
+use Rattle.austral_cli.specs.declared.refusals.Refusal.TheVariants.{Byte, NotYet}
 
 -- The program of one file, of those that are told, comes to this.
 abbrev pub ComesTo : Option Files → List ℕ → Outcome → Type 0
@@ -36,8 +36,8 @@ lex_halt (lexing.Byte at) = halt.Known (outcome.Refused (Byte at))
 lex_halt (lexing.Limit limit) = halt.Known (outcome.Passes limit)
 lex_halt lexing.Memory = halt.Unknown fault.Memory
 
--- what a program comes to whose tokens aren't read
-abbrev pub parse_halt : ParseFault → Halt
-parse_halt (parsing.Syntax at) = halt.Known (outcome.Refused (Syntax at))
-parse_halt (parsing.NotYet at) = halt.Known (outcome.Refused (NotYet at))
-parse_halt parsing.Memory = halt.Unknown fault.Memory
+-- what a program comes to whose tokens have a tree, and don't print
+abbrev pub printing_halt : ParseFault → Halt
+printing_halt (parsing.Syntax at) = halt.Known (outcome.Refused (NotYet at))
+printing_halt (parsing.NotYet at) = halt.Known (outcome.Refused (NotYet at))
+printing_halt parsing.Memory = halt.Unknown fault.Memory

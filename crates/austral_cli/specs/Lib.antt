@@ -1,5 +1,6 @@
 pub mod Jobs
 pub mod Lines
+pub mod Trees
 pub mod Outcomes
 pub mod Calls
 pub mod Halts

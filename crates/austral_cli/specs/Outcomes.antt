@@ -12,13 +12,13 @@ use Rattle.au_base.specs.Places.{place_after}
 use Rattle.au_printing.specs.declared.files.Print.{Print}
 use Rattle.au_lexer.specs.Cut.{Cut, IsStray, PassesLimit}
 use Rattle.au_lexer.specs.Passing.{IsWithinLimits}
-use Rattle.au_printing.specs.Files.{Reads, IsUnfinished, IsStrangePlace}
 use Rattle.austral_cli.specs.Jobs.{IsJob, IsNoJob}
+use Rattle.austral_cli.specs.Trees.{HasTree, HasNoTree, TokensCome}
 use Rattle.austral_cli.specs.Lines.{words_line, missing_line, limit_line, refusal_line}
 use Rattle.austral_cli.specs.declared.jobs.Command.TheVariants.{Run}
 use Rattle.austral_cli.specs.declared.outcomes.Outcome.{Outcome}
 use Rattle.austral_cli.specs.declared.outcomes.Outcome.TheVariants as outcome
-use Rattle.austral_cli.specs.declared.refusals.Refusal.TheVariants.{Byte, Syntax, NotYet}
+use Rattle.austral_cli.specs.declared.refusals.Refusal.TheVariants.{Byte}
 
 -- the limit of a file's bytes, with the one count that passes it
 abbrev pub file_limit : Limit
@@ -53,15 +53,11 @@ abbrev pub HasTokens : List ℕ → (List Token → Type 0) → Type 0
 HasTokens bytes P = (tokens : List Token) × Cut 0 bytes tokens × IsWithinLimits tokens × P tokens
 
 -- What a file comes to, by its bytes: the first cause that the cut into tokens has counts, a limit or a
--- byte that begins no token, and then the first token that is out of place, or the end.
+-- byte that begins no token, and then what its tokens come to.
 abbrev pub FileComes : List ℕ → Outcome → Type 0
-FileComes bytes (outcome.Passes limit) = PassesLimit 0 bytes limit
 FileComes bytes (outcome.Refused (Byte at)) = IsStray 0 bytes at
-FileComes bytes (outcome.Refused (Syntax at)) = HasTokens bytes IsUnfinished × (at ≡ place_after 0 bytes)
-FileComes bytes (outcome.Refused (NotYet at)) = HasTokens bytes (λ tokens. IsStrangePlace tokens at)
-FileComes bytes (outcome.Prints first) = HasTokens bytes (Reads first)
-FileComes bytes outcome.NoJob = ⊥
-FileComes bytes (outcome.Missing name) = ⊥
+FileComes bytes (outcome.Passes limit) = PassesLimit 0 bytes limit ⊎ HasTokens bytes (λ tokens. TokensCome tokens (place_after 0 bytes) (outcome.Passes limit))
+FileComes bytes other = HasTokens bytes (λ tokens. TokensCome tokens (place_after 0 bytes) other)
 
 -- What a program comes to, by the names of its files: they are fetched in order, and then its one
 -- file is cut and read.
@@ -109,3 +105,16 @@ due_of names (outcome.Prints first) = record {
 abbrev pub Owes : List (List ℕ) → Files → Due → Type 0
 Owes words files due =
     (names : List (List ℕ)) × (arisen : Outcome) × Arises words files names arisen × (due ≡ due_of names arisen)
+
+-- The file of a job, where it's cut into tokens within the limits, has a tree within the limits: then one
+-- thing alone is owed. Where it has none, it isn't said yet which place or which limit is told.
+abbrev pub IsSettled : List (List ℕ) → Files → Type 0
+IsSettled words files =
+    (name bytes : List ℕ) (tokens : List Token) → IsJob words (record { command = Run; files = name ∷ [] }) → IsFile files name bytes
+    → Cut 0 bytes tokens → IsWithinLimits tokens → HasTree tokens
+
+-- The file of a job is cut into tokens within the limits, which have no tree.
+abbrev pub IsUnread : List (List ℕ) → Files → Type 0
+IsUnread words files =
+    (name : List ℕ) × IsJob words (record { command = Run; files = name ∷ [] })
+    × (bytes : List ℕ) × IsFile files name bytes × HasTokens bytes HasNoTree

@@ -1,19 +1,21 @@
 //! From the files of a program to its tree, in the order of refusals.
 
-ghost use Rattle.std.specs.Prelude.{◌≡◌, ◌≤◌, IfOk};
+ghost use Rattle.std.specs.Prelude.{◌≡◌, ◌≤◌, false, length, IfOk};
 ghost use Rattle.au_base.specs.Outside.{Files, Counts};
 ghost use Rattle.austral_cli.specs.Calls.{AreTold, is_read_fault, is_missing};
-ghost use Rattle.austral_cli.specs.Halts.{ComesTo, Says, is_read_halt, lex_halt, parse_halt};
+ghost use Rattle.austral_cli.specs.Halts.{ComesTo, Says, is_read_halt, lex_halt, printing_halt};
+ghost use Rattle.au_base.specs.Limits.{most_tokens};
 ghost use Rattle.austral_cli.specs.Outcomes.{IsFile};
+ghost use Rattle.austral_cli.specs.Trees.{TokensCome, place_or};
 ghost use Rattle.austral_cli.specs.declared.checking.CheckFault.TheVariants as fault;
 ghost use Rattle.austral_cli.specs.declared.checking.Halt.TheVariants as halt;
 ghost use Rattle.austral_cli.specs.declared.outcomes.Outcome.TheVariants as outcome;
 
 use crate::outcomes::Outcome;
 use crate::refusals::Refusal;
-use au_base::{Fetch, Limit, LimitKind, MOST_FILE_BYTES, Memory, Pos, Shelf, Text};
+use au_base::{Fetch, Limit, LimitKind, MOST_FILE_BYTES, Memory, Pos, Shelf, Text, Token};
 use au_lexer::{LexFault, lex};
-use au_printing::{ParseFault, parse};
+use au_parser::{ParseFault, parse};
 use au_printing::First;
 use std::alloc::Global;
 use thiserror::Error;
@@ -58,14 +60,18 @@ impl From<LexFault> for Halt {
     }
 }
 
-impl From<ParseFault> for Halt {
-    ghost from_gives = { λ e h. h ≡ parse_halt e };
+impl From<au_printing::ParseFault> for Halt {
+    ghost from_gives = { λ e h. h ≡ printing_halt e };
 
-    fn from(e: ParseFault) -> Halt {
+    fn from(e: au_printing::ParseFault) -> Halt {
         match e {
-            ParseFault::Syntax(at) => Halt::Known(Outcome::Refused(Refusal::Syntax(at))),
-            ParseFault::NotYet(at) => Halt::Known(Outcome::Refused(Refusal::NotYet(at))),
-            ParseFault::Memory => Halt::Unknown(CheckFault::Memory),
+            au_printing::ParseFault::Syntax(at) => Halt::Known(Outcome::Refused(Refusal::NotYet(
+                at,
+            ))),
+            au_printing::ParseFault::NotYet(at) => Halt::Known(Outcome::Refused(Refusal::NotYet(
+                at,
+            ))),
+            au_printing::ParseFault::Memory => Halt::Unknown(CheckFault::Memory),
         }
     }
 }
@@ -86,7 +92,7 @@ pub fn check<S: Shelf>(alloc: Global, shelf: &mut S, name: &str) -> Result<Outco
 }
 
 /// The tree of the program of one file. The order of refusals is that of these steps: the file is
-/// fetched, then cut into tokens, and then read.
+/// fetched, then cut into tokens, and then its tokens are read.
 fn tree<S: Shelf>(alloc: Global, shelf: &mut S, name: &str) -> Result<First, Halt>
     ensures comes { Says result (λ first. ComesTo (S.files shelf.old) name.now (outcome.Prints first))
         (ComesTo (S.files shelf.old) name.now) }
@@ -99,7 +105,37 @@ fn tree<S: Shelf>(alloc: Global, shelf: &mut S, name: &str) -> Result<First, Hal
     let bytes = fetched(alloc, shelf, name)?;
     let tokens = lex(alloc, 0, bytes.as_slice())?;
     let end = Pos::start(0).after(bytes.as_slice());
-    Ok(parse(alloc, tokens.as_slice(), end)?)
+    printing(alloc, tokens.as_slice(), end)
+}
+
+/// What the tokens of a file print, whose end is this place. They are read as a tree first; then it is
+/// seen whether that is one that prints.
+fn printing(alloc: Global, tokens: &[Token], end: Pos) -> Result<First, Halt>
+    requires fewer { length tokens.now ≤ most_tokens }
+    ensures comes { Says result (λ first. TokensCome tokens.now end (outcome.Prints first)) (TokensCome tokens.now end) }
+    ensures is_read { is_read_halt result ≡ false }
+    ensures is_found { Says result (λ _. Unit {0}) (λ arisen. is_missing arisen ≡ false) }
+{
+    match parse(alloc, tokens) {
+        Ok(_tree) => {}
+        Err(ParseFault::Syntax(index)) => {
+            let at = place_at(tokens, index, end);
+            return Err(Halt::Known(Outcome::Refused(Refusal::Syntax(at))));
+        }
+        Err(ParseFault::Limit(limit)) => return Err(Halt::Known(Outcome::Passes(limit))),
+        Err(ParseFault::Memory) => return Err(Halt::Unknown(CheckFault::Memory)),
+    }
+    Ok(au_printing::parse(alloc, tokens, end)?)
+}
+
+/// The place of a token, or the end of the file behind the last one.
+fn place_at(tokens: &[Token], index: u32, end: Pos) -> Pos
+    ensures { result ≡ place_or end tokens.now index }
+{
+    match tokens.get(index as usize) {
+        Some(token) => token.at,
+        None => end,
+    }
 }
 
 /// The bytes of a file.

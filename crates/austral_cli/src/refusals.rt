@@ -13,7 +13,7 @@ use std::alloc::{AllocError, Global};
 pub enum Refusal {
     /// The byte at this place begins no token.
     Byte(Pos),
-    /// The file ends too early.
+    /// The token at this place stands where no file has it, or the file ends too early.
     Syntax(Pos),
     /// The program needs something that is not built yet.
     NotYet(Pos),

@@ -93,39 +93,59 @@ fn runs(rt: HostRuntime) -> Result<(), Fail> {
 }
 
 /// Files that are refused, with their lines.
-const REFUSED: [(&[u8], &[u8]); 20] = [
+const REFUSED: [(&[u8], &[u8]); 28] = [
     (b"", b"m.aum:1:1: syntax\n"),
     (b"module body M is", b"m.aum:1:17: syntax\n"),
     (b"module body M is\n", b"m.aum:2:1: syntax\n"),
     (b"  \t\r\n  ", b"m.aum:2:3: syntax\n"),
     (b"-- \xff", b"m.aum:1:5: syntax\n"),
+    (b"\"\"\"doc\"\"\"", b"m.aum:1:10: syntax\n"),
+    (b"module M is", b"m.aum:1:12: syntax\n"),
+    (b"module body M.N is", b"m.aum:1:19: syntax\n"),
+    (b"module body M is 1", b"m.aum:1:18: syntax\n"),
+    (b"module body M is end module body", b"m.aum:1:33: syntax\n"),
+    (b"module M is end module body.", b"m.aum:1:24: syntax\n"),
+    (b"module body M is function f() is", b"m.aum:1:31: syntax\n"),
+    (
+        b"module body M is\nfunction f(a: Nat8, b: Nat8, c: Nat8): Nat8 is\nreturn a + b * c;\nend;\nend module body.",
+        b"m.aum:3:14: syntax\n",
+    ),
+    (
+        b"module body M is function main(): ExitCode is print(\"a\") print(\"b\");",
+        b"m.aum:1:58: syntax\n",
+    ),
+    (
+        b"module body M is function main(): ExitCode is return ExitSuccess(); end; end module body.\n.",
+        b"m.aum:2:1: syntax\n",
+    ),
     (
         b"module body M is\nend module body.",
         b"m.aum:2:1: not yet\n",
     ),
-    (b"module M is", b"m.aum:1:8: not yet\n"),
-    (b"module body M.N is", b"m.aum:1:14: not yet\n"),
     (
-        b"module body M is function Main(): ExitCode is",
+        b"module body M is\npragma Unsafe_Module;\nend module body.",
+        b"m.aum:2:1: not yet\n",
+    ),
+    (b"module M is end module.", b"m.aum:1:8: not yet\n"),
+    (
+        b"module body M.N is end module body.",
+        b"m.aum:1:14: not yet\n",
+    ),
+    (
+        b"module body M is function Main(): ExitCode is return nil; end; end module body.",
         b"m.aum:1:27: not yet\n",
     ),
-    (b"module body M is 1", b"m.aum:1:18: not yet\n"),
     (
-        b"module body M is function main(): ExitCode is print(42);",
+        b"module body M is function main(): ExitCode is print(42); return nil; end; end module body.",
         b"m.aum:1:53: not yet\n",
     ),
-    (b"\"\"\"doc\"\"\"", b"m.aum:1:10: syntax\n"),
     (
-        b"module body M is function main(): ExitCode is print(\"a\") print(\"b\");",
-        b"m.aum:1:58: not yet\n",
-    ),
-    (
-        b"module body M is function main(): ExitCode is return ExitSuccess(); end; end module body.\n.",
-        b"m.aum:2:1: not yet\n",
+        b"import M (a);\nmodule body M is end module body.",
+        b"m.aum:1:1: not yet\n",
     ),
     (b"module body \xc3\xa9 is", b"m.aum:1:13: byte\n"),
     (b"x\n  \"abc", b"m.aum:2:3: byte\n"),
-    (b"x\n  \"\"\"", b"m.aum:2:3: byte\n"),
+    (b"module body M is \"\"\"", b"m.aum:1:18: byte\n"),
     (b"x \"a\tb\"", b"m.aum:1:3: byte\n"),
     (b"x \"a\\qb\"", b"m.aum:1:3: byte\n"),
     (b"module\r\tbody #", b"m.aum:1:14: byte\n"),
@@ -218,12 +238,12 @@ const LARGE: [(&[u8], u8, usize, &[u8], u8); 11] = [
         b"limit: tokens 262145 above 262144\n",
         8,
     ),
-    (b"", b'x', 64, b"m.aum:1:1: not yet\n", 2),
+    (b"", b'x', 64, b"m.aum:1:1: syntax\n", 2),
     (b"", b'x', 65, b"limit: name bytes 65 above 64\n", 8),
-    (b"", b'9', 38, b"m.aum:1:1: not yet\n", 2),
+    (b"", b'9', 38, b"m.aum:1:1: syntax\n", 2),
     (b"", b'9', 39, b"limit: literal digits 39 above 38\n", 8),
     (b"", b'0', 1000, b"limit: literal digits 39 above 38\n", 8),
-    (b"\"", b'x', 65_536, b"m.aum:1:1: not yet\n", 2),
+    (b"\"", b'x', 65_536, b"m.aum:1:1: syntax\n", 2),
     (
         b"\"",
         b'x',
@@ -242,6 +262,31 @@ fn large_files(rt: HostRuntime) -> Result<(), Fail> {
         let left = left_by(rt.alloc(), "run m.aum", "m.aum", bytes, 1000)?;
         assert_eq!(rt; left.status, *status);
         assert_eq!(rt; left.err.written(), *err);
+    }
+    Ok(())
+}
+
+/// An exit code in so many parentheses, and the line with its status.
+const NESTED: [(usize, &[u8], u8); 3] = [
+    (98, b"m.aum:3:8: not yet\n", 2),
+    (99, b"limit: nesting 101 above 100\n", 8),
+    (200, b"limit: nesting 101 above 100\n", 8),
+];
+
+#[test]
+fn nesting(rt: HostRuntime) -> Result<(), Fail> {
+    for (count, err, status) in &NESTED {
+        let head = b"module body M is\nfunction main(): ExitCode is\nreturn ";
+        let mut bytes = head.to_vec(rt.alloc())?;
+        bytes.resize(head.len() + *count, b'(')?;
+        bytes.extend_from_slice(b"ExitSuccess()")?;
+        let size = bytes.len();
+        bytes.resize(size + *count, b')')?;
+        bytes.extend_from_slice(b";\nend;\nend module body.")?;
+        let left = left_by(rt.alloc(), "run m.aum", "m.aum", bytes, 1000)?;
+        assert_eq!(rt; left.status, *status);
+        assert_eq!(rt; left.err.written(), *err);
+        assert_eq!(rt; left.out.written(), b"".as_slice());
     }
     Ok(())
 }

@@ -6,7 +6,7 @@ use Rattle.au_base.specs.declared.statuses.Status.TheVariants.{ReadFault}
 use Rattle.austral_cli.specs.Lines.{read_fault_line}
 use Rattle.austral_cli.specs.Outcomes.{due_line}
 use Rattle.austral_cli.proofs.ArisesLemmas.{read_risen}
-use Rattle.austral_cli.proofs.DueLemmas.{paid_so, pays_owed, came_words, came_no_job}
+use Rattle.austral_cli.proofs.DueLemmas.{paid_so, pays_owed, came_words, came_no_job, came_unread}
 use Rattle.austral_cli.proofs.top.austral.Goals as goal
 
 pub returns-in-Ok-put_all-clause-due : goal.returns-in-Ok-put_all-clause-due
@@ -21,7 +21,7 @@ returns-in-Err-Read-clause-write_fault g c = λ _.
 
 -- What was found was paid.
 pub returns-in-Ok-answer-clause-only : goal.returns-in-Ok-answer-clause-only
-returns-in-Ok-answer-clause-only g c = λ files due is owes decided.
+returns-in-Ok-answer-clause-only g c = λ files due is settled owes decided.
     let words = map string_bytes c.args.words.now in
     let told = g.S.Shelf.files c.args.shelf.now in
     let faults = g.S.Shelf.faults c.args.shelf.now in
@@ -32,7 +32,21 @@ returns-in-Ok-answer-clause-only g c = λ files due is owes decided.
     let err = g.E.Sink.written c.args.err.now in
     let err' = g.E.Sink.written c.answer.new.err in
     let paid = paid_so words (map string_bytes c.in-Ok.names.items) (map string_bytes c.as_slice.result.now) told faults faults' c.in-Ok.outcome ends out out' err err' (ap (map string_bytes) c.as_slice.ensures.value) c.in-Ok.ensures.arises c.in-Ok-answer.ensures.pays in
-    pays_owed words told faults faults' ends out out' err err' files due paid decided is owes
+    pays_owed words told faults faults' ends out out' err err' files due paid decided is settled owes
+
+pub returns-in-Ok-answer-clause-unread : goal.returns-in-Ok-answer-clause-unread
+returns-in-Ok-answer-clause-unread g c = λ files is unread decided.
+    let words = map string_bytes c.args.words.now in
+    let told = g.S.Shelf.files c.args.shelf.now in
+    let faults = g.S.Shelf.faults c.args.shelf.now in
+    let faults' = g.S.Shelf.faults c.outcome_of.new.shelf in
+    let ends = c.in-Ok-answer.status in
+    let out = g.O.Sink.written c.args.out.now in
+    let out' = g.O.Sink.written c.answer.new.out in
+    let err = g.E.Sink.written c.args.err.now in
+    let err' = g.E.Sink.written c.answer.new.err in
+    let paid = paid_so words (map string_bytes c.in-Ok.names.items) (map string_bytes c.as_slice.result.now) told faults faults' c.in-Ok.outcome ends out out' err err' (ap (map string_bytes) c.as_slice.ensures.value) c.in-Ok.ensures.arises c.in-Ok-answer.ensures.pays in
+    came_unread words told faults faults' ends out out' err err' files paid decided is unread
 
 pub returns-in-Ok-answer-clause-words : goal.returns-in-Ok-answer-clause-words
 returns-in-Ok-answer-clause-words g c = λ is.

@@ -1,0 +1,4 @@
+mod PlainTrees
+pub mod Keeping
+mod FileLaws
+mod ReaderLaws

@@ -1,0 +1,6 @@
+//! Reads expressions.
+#![tactic(auto)]
+
+pub mod expressions;
+
+pub use expressions::{call, expression};

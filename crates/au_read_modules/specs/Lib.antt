@@ -1,0 +1,2 @@
+pub mod DeclarationReading
+pub mod ModuleReading

@@ -1,0 +1,230 @@
+//! Functions, instances and classes.
+
+ghost use Rattle.std.specs.Prelude.{List, ℕ, map, Some};
+ghost use Rattle.au_reading.specs.Reading.{Gives};
+ghost use Rattle.au_reading.specs.Reading as steps;
+ghost use Rattle.au_reading.specs.Bounds.{usual};
+ghost use Rattle.au_base.specs.declared.tokens.Keyword.TheVariants as word;
+ghost use Rattle.au_base.specs.declared.tokens.What.TheVariants as what;
+ghost use Rattle.au_read_modules.specs.DeclarationReading.{class_at, class_method_at, general_at, generalized_at, generalized_in, generalized_of, method_at};
+ghost use Rattle.au_syntax.specs.Modules.{Header};
+ghost use Rattle.au_syntax.specs.Plain.{PlainMethod};
+ghost use Rattle.au_syntax.specs.Views as views;
+ghost use Rattle.au_syntax.specs.declared.modules.Part.TheVariants as file_part;
+
+use crate::parts::{generics, instance_head, signature, type_parameter};
+use au_base::{Keyword, MOST_NESTING, Pos, Sign, Token, What};
+use au_read_statements::{block, end_place};
+use au_reading::{Entry, Expected, Stop, expect, is_word, name, place, repeated, stop_before};
+use au_syntax::{Decl, Generic, Method, Parsed, Part, Phase, Signature};
+use std::alloc::Global;
+
+/// A method of a class.
+pub struct ClassMethodEntry;
+
+impl Entry for ClassMethodEntry {
+    type Item = Signature<Parsed>;
+
+    ghost Seen = { Header (List ℕ) };
+
+    ghost see = { views.header ⟦<Parsed as Phase>⟧ };
+
+    ghost begins_by = { steps.is_front (what.Word word.KwMethod) };
+
+    ghost read_at = { class_method_at usual };
+
+    fn begins(tokens: &[Token]) -> bool {
+        is_word(Keyword::KwMethod, tokens)
+    }
+
+    #[tactic(auto, unfolding(crate::specs::DeclarationReading::class_method_at))]
+    fn read(alloc: Global, tokens: &[Token]) -> Result<(Signature<Parsed>, &[Token]), Stop> {
+        let rest = expect(&[Expected::Word(Keyword::KwMethod)], tokens)?;
+        let (signature, rest) = signature(alloc, rest)?;
+        let rest = expect(&[Expected::Sign(Sign::Semicolon)], rest)?;
+        Ok((signature, rest))
+    }
+}
+
+/// A method of an instance.
+pub struct MethodEntry;
+
+impl Entry for MethodEntry {
+    type Item = Method<Parsed>;
+
+    ghost Seen = { PlainMethod };
+
+    ghost see = { views.method_body ⟦<Parsed as Phase>⟧ };
+
+    ghost begins_by = { steps.is_front (what.Word word.KwMethod) };
+
+    ghost read_at = { method_at usual };
+
+    fn begins(tokens: &[Token]) -> bool {
+        is_word(Keyword::KwMethod, tokens)
+    }
+
+    #[tactic(auto, unfolding(crate::specs::DeclarationReading::method_at))]
+    fn read(alloc: Global, tokens: &[Token]) -> Result<(Method<Parsed>, &[Token]), Stop> {
+        let rest = expect(&[Expected::Word(Keyword::KwMethod)], tokens)?;
+        let (signature, rest) = signature(alloc, rest)?;
+        let rest = expect(&[Expected::Word(Keyword::KwIs)], rest)?;
+        let (body, rest) = block(alloc, MOST_NESTING, rest)?;
+        let (end, rest) = end_place(rest)?;
+        let rest = expect(&[Expected::Sign(Sign::Semicolon)], rest)?;
+        Ok((
+            Method {
+                signature,
+                body,
+                end,
+            },
+            rest,
+        ))
+    }
+}
+
+/// Reads a class.
+///
+/// # Errors
+///
+/// `Fault::Syntax` where a token is missing, and `Fault::Passed` where a type passes a limit.
+#[tactic(auto, using(au_syntax::proofs::DeclarationLemmas::declaration_steps, std::proofs::lemmas::Grind::common_steps), unfolding(crate::specs::DeclarationReading::class_at))]
+pub fn class(alloc: Global, tokens: &[Token]) -> Result<(Decl<Parsed>, &[Token]), Stop>
+    ensures { Gives (λ x. (views.declaration ⟦<Parsed as Phase>⟧ x.0, x.1.now)) result (class_at usual tokens.now) }
+{
+    let at = place(tokens);
+    let rest = expect(&[Expected::Word(Keyword::KwTypeclass)], tokens)?;
+    let (name, rest) = name(alloc, rest)?;
+    let rest = expect(&[Expected::Sign(Sign::LeftParenthesis)], rest)?;
+    let (parameter, rest) = type_parameter(alloc, rest)?;
+    let middle = [
+        Expected::Sign(Sign::RightParenthesis),
+        Expected::Word(Keyword::KwIs),
+    ];
+    let rest = expect(&middle, rest)?;
+    let (methods, rest) = repeated::<ClassMethodEntry>(alloc, rest)?;
+    let closing = [
+        Expected::Word(Keyword::KwEnd),
+        Expected::Sign(Sign::Semicolon),
+    ];
+    let rest = expect(&closing, rest)?;
+    Ok((Decl::Class(at, name, parameter, methods), rest))
+}
+
+/// Reads a function of an interface behind its type parameters.
+#[tactic(auto, using(au_syntax::proofs::DeclarationLemmas::declaration_steps, std::proofs::lemmas::Grind::common_steps))]
+fn function(
+    alloc: Global,
+    at: Pos,
+    generics: Vec<Generic<Parsed>>,
+    tokens: &[Token],
+) -> Result<(Decl<Parsed>, &[Token]), Stop>
+    ensures { Gives (λ x. (views.declaration ⟦<Parsed as Phase>⟧ x.0, x.1.now)) result (steps.shaped (generalized_of at) (λ ts. steps.joined_at (generalized_in usual file_part.Interface (Some (what.Word word.KwFunction))) (map (views.constrained ⟦<Parsed as Phase>⟧) generics.items, ts)) tokens.now) }
+{
+    let rest = expect(&[Expected::Word(Keyword::KwFunction)], tokens)?;
+    let (signature, rest) = signature(alloc, rest)?;
+    let rest = expect(&[Expected::Sign(Sign::Semicolon)], rest)?;
+    Ok((Decl::Function(at, generics, signature), rest))
+}
+
+/// Reads an instance of an interface behind its type parameters.
+#[tactic(auto, using(au_syntax::proofs::DeclarationLemmas::declaration_steps, std::proofs::lemmas::Grind::common_steps))]
+fn instance(
+    alloc: Global,
+    at: Pos,
+    generics: Vec<Generic<Parsed>>,
+    tokens: &[Token],
+) -> Result<(Decl<Parsed>, &[Token]), Stop>
+    ensures { Gives (λ x. (views.declaration ⟦<Parsed as Phase>⟧ x.0, x.1.now)) result (steps.shaped (generalized_of at) (λ ts. steps.joined_at (generalized_in usual file_part.Interface (Some (what.Word word.KwInstance))) (map (views.constrained ⟦<Parsed as Phase>⟧) generics.items, ts)) tokens.now) }
+{
+    let (head, rest) = instance_head(alloc, tokens)?;
+    let rest = expect(&[Expected::Sign(Sign::Semicolon)], rest)?;
+    Ok((Decl::Instance(at, generics, head.class, head.of), rest))
+}
+
+/// Reads a function of a body behind its type parameters.
+#[tactic(auto, using(au_syntax::proofs::DeclarationLemmas::declaration_steps, std::proofs::lemmas::Grind::common_steps))]
+fn function_body(
+    alloc: Global,
+    at: Pos,
+    generics: Vec<Generic<Parsed>>,
+    tokens: &[Token],
+) -> Result<(Decl<Parsed>, &[Token]), Stop>
+    ensures { Gives (λ x. (views.declaration ⟦<Parsed as Phase>⟧ x.0, x.1.now)) result (steps.shaped (generalized_of at) (λ ts. steps.joined_at (generalized_in usual file_part.Body (Some (what.Word word.KwFunction))) (map (views.constrained ⟦<Parsed as Phase>⟧) generics.items, ts)) tokens.now) }
+{
+    let rest = expect(&[Expected::Word(Keyword::KwFunction)], tokens)?;
+    let (signature, rest) = signature(alloc, rest)?;
+    let rest = expect(&[Expected::Word(Keyword::KwIs)], rest)?;
+    let (body, rest) = block(alloc, MOST_NESTING, rest)?;
+    let (end, rest) = end_place(rest)?;
+    let rest = expect(&[Expected::Sign(Sign::Semicolon)], rest)?;
+    Ok((Decl::FunctionBody(at, generics, signature, body, end), rest))
+}
+
+/// Reads an instance of a body behind its type parameters.
+#[tactic(auto, using(au_syntax::proofs::DeclarationLemmas::declaration_steps, std::proofs::lemmas::Grind::common_steps))]
+fn instance_body(
+    alloc: Global,
+    at: Pos,
+    generics: Vec<Generic<Parsed>>,
+    tokens: &[Token],
+) -> Result<(Decl<Parsed>, &[Token]), Stop>
+    ensures { Gives (λ x. (views.declaration ⟦<Parsed as Phase>⟧ x.0, x.1.now)) result (steps.shaped (generalized_of at) (λ ts. steps.joined_at (generalized_in usual file_part.Body (Some (what.Word word.KwInstance))) (map (views.constrained ⟦<Parsed as Phase>⟧) generics.items, ts)) tokens.now) }
+{
+    let (head, rest) = instance_head(alloc, tokens)?;
+    let rest = expect(&[Expected::Word(Keyword::KwIs)], rest)?;
+    let (methods, rest) = repeated::<MethodEntry>(alloc, rest)?;
+    let closing = [
+        Expected::Word(Keyword::KwEnd),
+        Expected::Sign(Sign::Semicolon),
+    ];
+    let rest = expect(&closing, rest)?;
+    Ok((
+        Decl::InstanceBody(at, generics, head.class, head.of, methods),
+        rest,
+    ))
+}
+
+/// Reads a function or an instance behind its type parameters.
+#[tactic(auto, unfolding(crate::specs::DeclarationReading::generalized_at, crate::specs::DeclarationReading::instance_head_at))]
+fn generalized(
+    alloc: Global,
+    part: Part,
+    at: Pos,
+    generics: Vec<Generic<Parsed>>,
+    tokens: &[Token],
+) -> Result<(Decl<Parsed>, &[Token]), Stop>
+    ensures { Gives (λ x. (views.declaration ⟦<Parsed as Phase>⟧ x.0, x.1.now)) result (steps.shaped (generalized_of at) (λ ts. steps.joined_at (generalized_at usual part) (map (views.constrained ⟦<Parsed as Phase>⟧) generics.items, ts)) tokens.now) }
+{
+    let [first, ..] = tokens else {
+        return Err(stop_before(tokens));
+    };
+    match part {
+        Part::Interface => match &first.what {
+            What::Word(Keyword::KwFunction) => function(alloc, at, generics, tokens),
+            _ => instance(alloc, at, generics, tokens),
+        },
+        Part::Body => match &first.what {
+            What::Word(Keyword::KwFunction) => function_body(alloc, at, generics, tokens),
+            _ => instance_body(alloc, at, generics, tokens),
+        },
+    }
+}
+
+/// Reads a function or an instance, with its type parameters before it.
+///
+/// # Errors
+///
+/// `Fault::Syntax` where a token is missing, and `Fault::Passed` where a limit is passed.
+#[tactic(auto, unfolding(crate::specs::DeclarationReading::general_at))]
+pub fn general(
+    alloc: Global,
+    part: Part,
+    tokens: &[Token],
+) -> Result<(Decl<Parsed>, &[Token]), Stop>
+    ensures { Gives (λ x. (views.declaration ⟦<Parsed as Phase>⟧ x.0, x.1.now)) result (general_at usual part tokens.now) }
+{
+    let at = place(tokens);
+    let (generics, rest) = generics(alloc, tokens)?;
+    generalized(alloc, part, at, generics, rest)
+}

@@ -1,0 +1,13 @@
+//! Reads declarations and modules.
+#![tactic(auto)]
+
+pub mod declarations;
+pub mod functions;
+pub mod imports;
+pub mod modules;
+pub mod parts;
+#[cfg(test)]
+mod tests;
+pub mod types;
+
+pub use modules::file;

@@ -1,0 +1,254 @@
+//! Universes, type parameters, and the heads of types, functions and instances.
+
+ghost use Rattle.std.specs.Prelude.{List, ℕ, map};
+ghost use Rattle.au_base.specs.declared.tokens.Sign.TheVariants as sign;
+ghost use Rattle.au_base.specs.declared.tokens.What.TheVariants as what;
+ghost use Rattle.au_reading.specs.Reading.{Gives};
+ghost use Rattle.au_reading.specs.Bounds.{usual};
+ghost use Rattle.au_read_modules.specs.DeclarationReading as reading;
+ghost use Rattle.au_read_modules.specs.DeclarationReading.{universe_at, in_universe_at, parameters_at, constrained_at, generics_at, type_head_at, labelled_at, header_at, instance_head_at};
+ghost use Rattle.au_syntax.specs.Modules.{InUniverse, Constrained};
+ghost use Rattle.au_syntax.specs.Types.{Labelled};
+ghost use Rattle.au_syntax.specs.Views as views;
+
+use au_base::{Keyword, Sign, Token, What};
+use au_read_types::written_type;
+use au_reading::{
+    Expected, NamePart, Part, Stop, bracketed, expect, is_sign, is_word, listed, name, stop_before,
+};
+use au_syntax::{
+    Field, Generic, Ident, Parsed, Phase, Signature, TypeParameter, TypeText, Universe,
+};
+use std::alloc::Global;
+
+/// Reads a universe.
+///
+/// # Errors
+///
+/// `Fault::Syntax` where none stands.
+pub fn universe(tokens: &[Token]) -> Result<(Universe, &[Token]), Stop>
+    ensures { Gives (λ x. (x.0, x.1.now)) result (universe_at tokens.now) }
+{
+    match tokens {
+        [] => Err(stop_before(tokens)),
+        [first, rest @ ..] => match &first.what {
+            What::Word(Keyword::KwFree) => Ok((Universe::Free, rest)),
+            What::Word(Keyword::KwLinear) => Ok((Universe::Linear, rest)),
+            What::Word(Keyword::KwAnyUniverse) => Ok((Universe::AnyType, rest)),
+            What::Word(Keyword::KwRegion) => Ok((Universe::Region, rest)),
+            _ => Err(stop_before(tokens)),
+        },
+    }
+}
+
+/// Reads a type parameter and its universe.
+///
+/// # Errors
+///
+/// `Fault::Syntax` where one of its tokens is missing.
+pub fn type_parameter(
+    alloc: Global,
+    tokens: &[Token],
+) -> Result<(TypeParameter<Parsed>, &[Token]), Stop>
+    ensures { Gives (λ x. (views.in_universe ⟦<Parsed as Phase>⟧ x.0, x.1.now)) result (in_universe_at tokens.now) }
+{
+    let (name, rest) = name(alloc, tokens)?;
+    let rest = expect(&[Expected::Sign(Sign::Colon)], rest)?;
+    let (universe, rest) = universe(rest)?;
+    Ok((TypeParameter { name, universe }, rest))
+}
+
+/// A type parameter in a list.
+pub struct TypeParameterPart;
+
+impl Part for TypeParameterPart {
+    type Item = TypeParameter<Parsed>;
+
+    ghost Seen = { InUniverse (List ℕ) };
+
+    ghost see = { views.in_universe ⟦<Parsed as Phase>⟧ };
+
+    ghost read_at = { in_universe_at };
+
+    fn read(alloc: Global, tokens: &[Token]) -> Result<(TypeParameter<Parsed>, &[Token]), Stop> {
+        type_parameter(alloc, tokens)
+    }
+}
+
+/// A type parameter with its constraints, in a list.
+pub struct GenericPart;
+
+impl Part for GenericPart {
+    type Item = Generic<Parsed>;
+
+    ghost Seen = { Constrained (List ℕ) };
+
+    ghost see = { views.constrained ⟦<Parsed as Phase>⟧ };
+
+    ghost read_at = { constrained_at };
+
+    fn read(alloc: Global, tokens: &[Token]) -> Result<(Generic<Parsed>, &[Token]), Stop> {
+        let (parameter, rest) = type_parameter(alloc, tokens)?;
+        let (classes, rest) = bracketed::<NamePart>(
+            alloc,
+            Sign::LeftParenthesis,
+            Sign::RightParenthesis,
+            rest,
+        )?;
+        Ok((Generic { parameter, classes }, rest))
+    }
+}
+
+/// Reads `generic` with its type parameters, or nothing.
+///
+/// # Errors
+///
+/// `Fault::Syntax` where one of its tokens is missing.
+pub fn generics(alloc: Global, tokens: &[Token]) -> Result<(Vec<Generic<Parsed>>, &[Token]), Stop>
+    ensures { Gives (λ x. (map (views.constrained ⟦<Parsed as Phase>⟧) x.0.items, x.1.now)) result (generics_at tokens.now) }
+{
+    if !is_word(Keyword::KwGeneric, tokens) {
+        return Ok((Vec::new(alloc), tokens));
+    }
+    let opening = [
+        Expected::Word(Keyword::KwGeneric),
+        Expected::Sign(Sign::LeftBracket),
+    ];
+    let rest = expect(&opening, tokens)?;
+    let (generics, rest) = listed::<GenericPart>(alloc, rest)?;
+    let rest = expect(&[Expected::Sign(Sign::RightBracket)], rest)?;
+    Ok((generics, rest))
+}
+
+/// The head of a type's declaration.
+#[derive(Drop)]
+pub struct TypeHead {
+    /// The type's name.
+    pub name: Ident<Parsed>,
+    /// Its parameters.
+    pub parameters: Vec<TypeParameter<Parsed>>,
+    /// Its universe.
+    pub universe: Universe,
+}
+
+/// Reads the name, the type parameters and the universe of a type's declaration.
+///
+/// # Errors
+///
+/// `Fault::Syntax` where one of its tokens is missing.
+pub fn type_head(alloc: Global, tokens: &[Token]) -> Result<(TypeHead, &[Token]), Stop>
+    ensures { Gives (λ x. ((views.placed ⟦<Parsed as Phase>⟧ x.0.name, (map (views.in_universe ⟦<Parsed as Phase>⟧) x.0.parameters.items, x.0.universe)), x.1.now)) result (type_head_at tokens.now) }
+{
+    let (name, rest) = name(alloc, tokens)?;
+    let (parameters, rest) = bracketed::<TypeParameterPart>(
+        alloc,
+        Sign::LeftBracket,
+        Sign::RightBracket,
+        rest,
+    )?;
+    let rest = expect(&[Expected::Sign(Sign::Colon)], rest)?;
+    let (universe, rest) = universe(rest)?;
+    Ok((
+        TypeHead {
+            name,
+            parameters,
+            universe,
+        },
+        rest,
+    ))
+}
+
+/// Reads a name with its type.
+///
+/// # Errors
+///
+/// `Fault::Syntax` where a token is missing, and `Fault::Passed` where the type passes a limit.
+pub fn labelled(alloc: Global, tokens: &[Token]) -> Result<(Field<Parsed>, &[Token]), Stop>
+    ensures { Gives (λ x. (views.labelled ⟦<Parsed as Phase>⟧ x.0, x.1.now)) result (labelled_at usual tokens.now) }
+{
+    let (name, rest) = name(alloc, tokens)?;
+    let rest = expect(&[Expected::Sign(Sign::Colon)], rest)?;
+    let (of, rest) = written_type(alloc, rest)?;
+    Ok((Field { name, of }, rest))
+}
+
+/// A parameter of a function.
+pub struct LabelledPart;
+
+impl Part for LabelledPart {
+    type Item = Field<Parsed>;
+
+    ghost Seen = { Labelled (List ℕ) };
+
+    ghost see = { views.labelled ⟦<Parsed as Phase>⟧ };
+
+    ghost read_at = { labelled_at usual };
+
+    fn read(alloc: Global, tokens: &[Token]) -> Result<(Field<Parsed>, &[Token]), Stop> {
+        labelled(alloc, tokens)
+    }
+}
+
+/// Reads the parameters of a function, or none before its parenthesis.
+fn parameters(alloc: Global, tokens: &[Token]) -> Result<(Vec<Field<Parsed>>, &[Token]), Stop>
+    ensures { Gives (λ x. (map (views.labelled ⟦<Parsed as Phase>⟧) x.0.items, x.1.now)) result (reading.maybe_listed (what.Sign sign.RightParenthesis) (labelled_at usual) tokens.now) }
+{
+    if is_sign(Sign::RightParenthesis, tokens) {
+        return Ok((Vec::new(alloc), tokens));
+    }
+    listed::<LabelledPart>(alloc, tokens)
+}
+
+/// Reads a function's name, parameters and result.
+///
+/// # Errors
+///
+/// `Fault::Syntax` where a token is missing, and `Fault::Passed` where a type passes a limit.
+#[tactic(auto, unfolding(crate::specs::DeclarationReading::header_at))]
+pub fn signature(alloc: Global, tokens: &[Token]) -> Result<(Signature<Parsed>, &[Token]), Stop>
+    ensures { Gives (λ x. (views.header ⟦<Parsed as Phase>⟧ x.0, x.1.now)) result (header_at usual tokens.now) }
+{
+    let (name, rest) = name(alloc, tokens)?;
+    let rest = expect(&[Expected::Sign(Sign::LeftParenthesis)], rest)?;
+    let (parameters, rest) = parameters(alloc, rest)?;
+    let closing = [
+        Expected::Sign(Sign::RightParenthesis),
+        Expected::Sign(Sign::Colon),
+    ];
+    let rest = expect(&closing, rest)?;
+    let (result, rest) = written_type(alloc, rest)?;
+    Ok((
+        Signature {
+            name,
+            parameters,
+            result,
+        },
+        rest,
+    ))
+}
+
+/// The class and the type of an instance.
+#[derive(Drop)]
+pub struct InstanceHead {
+    /// The class.
+    pub class: Ident<Parsed>,
+    /// The type.
+    pub of: TypeText,
+}
+
+/// Reads the class and the type of an instance.
+///
+/// # Errors
+///
+/// `Fault::Syntax` where a token is missing, and `Fault::Passed` where the type passes a limit.
+#[tactic(auto, unfolding(crate::specs::DeclarationReading::instance_head_at))]
+pub fn instance_head(alloc: Global, tokens: &[Token]) -> Result<(InstanceHead, &[Token]), Stop>
+    ensures { Gives (λ x. ((views.placed ⟦<Parsed as Phase>⟧ x.0.class, views.written x.0.of), x.1.now)) result (instance_head_at usual tokens.now) }
+{
+    let rest = expect(&[Expected::Word(Keyword::KwInstance)], tokens)?;
+    let (class, rest) = name(alloc, rest)?;
+    let rest = expect(&[Expected::Sign(Sign::LeftParenthesis)], rest)?;
+    let (of, rest) = written_type(alloc, rest)?;
+    let rest = expect(&[Expected::Sign(Sign::RightParenthesis)], rest)?;
+    Ok((InstanceHead { class, of }, rest))
+}

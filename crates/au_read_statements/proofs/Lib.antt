@@ -1,0 +1,12 @@
+pub mod Lower
+pub mod Nesting
+pub mod PartForms
+pub mod StatementForm
+pub mod PlainRows
+pub mod BlockRows
+pub mod FirstWords
+pub mod BranchForms
+pub mod ConditionalRow
+pub mod StatementLaws
+pub mod CodeLists
+pub mod CodeBorrows

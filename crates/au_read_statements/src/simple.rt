@@ -1,0 +1,203 @@
+//! Statements that hold no block.
+
+ghost use Rattle.std.specs.Prelude.{◌≡◌, ◌∷◌, [], drop, map};
+ghost use Rattle.au_base.specs.declared.tokens.Keyword.TheVariants as keyword;
+ghost use Rattle.au_base.specs.declared.tokens.Sign.TheVariants as sign;
+ghost use Rattle.au_base.specs.declared.tokens.What.TheVariants as what;
+ghost use Rattle.au_read_expressions.specs.ExpressionReading as spelled;
+ghost use Rattle.au_read_statements.specs.StatementReading as spec;
+ghost use Rattle.au_reading.specs.Bounds.{usual};
+ghost use Rattle.au_reading.specs.Reading.{Gives, built, closed, exactly, front};
+ghost use Rattle.au_syntax.specs.Views as views;
+
+use crate::parts::BoundPart;
+use au_base::{Keyword, Sign, Token, What};
+use au_read_expressions::{call, expression};
+use au_read_types::written_type;
+use au_reading::{Expected, Stop, after, dotted, expect, fields, listed, name, place};
+use au_syntax::{Binding, Expr, Ident, Parsed, Phase, Stmt};
+use std::alloc::Global;
+
+/// Reads an expression.
+pub(crate) fn boxed(
+    alloc: Global,
+    levels: u32,
+    tokens: &[Token],
+) -> Result<(Box<Expr<Parsed>>, &[Token]), Stop>
+    ensures { Gives (λ x. (views.expression ⟦<Parsed as Phase>⟧ x.0.value, x.1.now)) result (spelled.expression_at usual levels tokens.now) }
+{
+    let (value, rest) = expression(alloc, levels, tokens)?;
+    let value = Box::new(alloc, value)?;
+    Ok((value, rest))
+}
+
+/// Reads an expression, and `;` behind it.
+fn ended(
+    alloc: Global,
+    levels: u32,
+    tokens: &[Token],
+) -> Result<(Box<Expr<Parsed>>, &[Token]), Stop>
+    ensures { Gives (λ x. (views.expression ⟦<Parsed as Phase>⟧ x.0.value, x.1.now)) result (closed (what.Sign sign.Semicolon ∷ []) (spelled.expression_at usual levels) tokens.now) }
+{
+    let (value, rest) = boxed(alloc, levels, tokens)?;
+    let rest = expect(&[Expected::Sign(Sign::Semicolon)], rest)?;
+    Ok((value, rest))
+}
+
+/// Reads `skip;`.
+#[tactic(auto, using(au_syntax::proofs::StatementLemmas::statement_steps, std::proofs::lemmas::Grind::common_steps))]
+pub(crate) fn skip(tokens: &[Token]) -> Result<(Stmt<Parsed>, &[Token]), Stop>
+    ensures { Gives (λ x. (views.statement ⟦<Parsed as Phase>⟧ x.0, x.1.now)) result
+        (built spec.skip_of (exactly (what.Word keyword.KwSkip ∷ what.Sign sign.Semicolon ∷ [])) tokens.now) }
+{
+    let known = [
+        Expected::Word(Keyword::KwSkip),
+        Expected::Sign(Sign::Semicolon),
+    ];
+    let rest = expect(&known, tokens)?;
+    Ok((Stmt::Skip(place(tokens)), rest))
+}
+
+/// Reads a declaration of a variable.
+#[tactic(auto, unfolding(crate::specs::StatementReading::declare_with), using(au_syntax::proofs::StatementLemmas::statement_steps, std::proofs::lemmas::Grind::common_steps))]
+pub(crate) fn declare(
+    alloc: Global,
+    levels: u32,
+    word: Keyword,
+    binding: Binding,
+    tokens: &[Token],
+) -> Result<(Stmt<Parsed>, &[Token]), Stop>
+    ensures { Gives (λ x. (views.statement ⟦<Parsed as Phase>⟧ x.0, x.1.now)) result
+        (spec.declare_with usual (spelled.expression_at usual levels) (spelled.call_at usual levels) (spec.block_at usual levels) word binding tokens.now) }
+{
+    let rest = expect(&[Expected::Word(word)], tokens)?;
+    let (variable, rest) = name(alloc, rest)?;
+    let rest = expect(&[Expected::Sign(Sign::Colon)], rest)?;
+    let (of, rest) = written_type(alloc, rest)?;
+    let rest = expect(&[Expected::Sign(Sign::Assign)], rest)?;
+    let (value, rest) = ended(alloc, levels, rest)?;
+    Ok((Stmt::Let(place(tokens), binding, variable, of, value), rest))
+}
+
+/// Reads a declaration of a variable for each field.
+#[tactic(auto, unfolding(crate::specs::StatementReading::destructure_with), using(au_syntax::proofs::StatementLemmas::statement_steps, std::proofs::lemmas::Grind::common_steps))]
+fn destructure(
+    alloc: Global,
+    levels: u32,
+    tokens: &[Token],
+) -> Result<(Stmt<Parsed>, &[Token]), Stop>
+    ensures { Gives (λ x. (views.statement ⟦<Parsed as Phase>⟧ x.0, x.1.now)) result
+        (spec.destructure_with usual (spelled.expression_at usual levels) (spelled.call_at usual levels) (spec.block_at usual levels) tokens.now) }
+{
+    let opening = [
+        Expected::Word(Keyword::KwLet),
+        Expected::Sign(Sign::LeftBrace),
+    ];
+    let rest = expect(&opening, tokens)?;
+    let (binds, rest) = listed::<BoundPart>(alloc, rest)?;
+    let closing = [
+        Expected::Sign(Sign::RightBrace),
+        Expected::Sign(Sign::Assign),
+    ];
+    let rest = expect(&closing, rest)?;
+    let (value, rest) = ended(alloc, levels, rest)?;
+    Ok((Stmt::Destructure(place(tokens), binds, value), rest))
+}
+
+/// Reads what begins with `let`.
+pub(crate) fn let_statement(
+    alloc: Global,
+    levels: u32,
+    tokens: &[Token],
+) -> Result<(Stmt<Parsed>, &[Token]), Stop>
+    ensures { Gives (λ x. (views.statement ⟦<Parsed as Phase>⟧ x.0, x.1.now)) result
+        (spec.let_by usual (spelled.expression_at usual levels) (spelled.call_at usual levels) (spec.block_at usual levels) (front (drop 1 tokens.now)) tokens.now) }
+{
+    match after(tokens) {
+        [] => declare(alloc, levels, Keyword::KwLet, Binding::Let, tokens),
+        [second, ..] => match &second.what {
+            What::Sign(Sign::LeftBrace) => destructure(alloc, levels, tokens),
+            _ => declare(alloc, levels, Keyword::KwLet, Binding::Let, tokens),
+        },
+    }
+}
+
+/// Reads an assignment to a variable or to a part of it.
+#[tactic(auto, unfolding(crate::specs::StatementReading::assign_with), using(au_syntax::proofs::StatementLemmas::statement_steps, std::proofs::lemmas::Grind::common_steps))]
+fn assign(alloc: Global, levels: u32, tokens: &[Token]) -> Result<(Stmt<Parsed>, &[Token]), Stop>
+    ensures { Gives (λ x. (views.statement ⟦<Parsed as Phase>⟧ x.0, x.1.now)) result
+        (spec.assign_with usual (spelled.expression_at usual levels) (spelled.call_at usual levels) (spec.block_at usual levels) tokens.now) }
+{
+    let (variable, rest) = name(alloc, tokens)?;
+    let (parts, rest) = fields(alloc, rest)?;
+    let rest = expect(&[Expected::Sign(Sign::Assign)], rest)?;
+    let (value, rest) = ended(alloc, levels, rest)?;
+    Ok((Stmt::Assign(place(tokens), variable, parts, value), rest))
+}
+
+/// Reads an assignment to a part behind a reference.
+#[tactic(auto, unfolding(crate::specs::StatementReading::assign_through_with), using(au_syntax::proofs::StatementLemmas::statement_steps, std::proofs::lemmas::Grind::common_steps))]
+fn assign_through(
+    alloc: Global,
+    levels: u32,
+    tokens: &[Token],
+) -> Result<(Stmt<Parsed>, &[Token]), Stop>
+    ensures { Gives (λ x. (views.statement ⟦<Parsed as Phase>⟧ x.0, x.1.now)) result
+        (spec.assign_through_with usual (spelled.expression_at usual levels) (spelled.call_at usual levels) (spec.block_at usual levels) tokens.now) }
+{
+    let (variable, rest) = name(alloc, tokens)?;
+    let rest = expect(&[Expected::Sign(Sign::Arrow)], rest)?;
+    let (parts, rest) = dotted(alloc, rest)?;
+    let rest = expect(&[Expected::Sign(Sign::Assign)], rest)?;
+    let (value, rest) = ended(alloc, levels, rest)?;
+    Ok((
+        Stmt::AssignThrough(place(tokens), variable, parts, value),
+        rest,
+    ))
+}
+
+/// Reads a call whose result is discarded.
+#[tactic(auto, unfolding(crate::specs::StatementReading::discard_with), using(au_syntax::proofs::StatementLemmas::statement_steps, std::proofs::lemmas::Grind::common_steps))]
+fn discard(alloc: Global, levels: u32, tokens: &[Token]) -> Result<(Stmt<Parsed>, &[Token]), Stop>
+    ensures { Gives (λ x. (views.statement ⟦<Parsed as Phase>⟧ x.0, x.1.now)) result
+        (spec.discard_with usual (spelled.expression_at usual levels) (spelled.call_at usual levels) (spec.block_at usual levels) tokens.now) }
+{
+    let (value, rest) = call(alloc, levels, tokens)?;
+    let rest = expect(&[Expected::Sign(Sign::Semicolon)], rest)?;
+    let value = Box::new(alloc, value)?;
+    Ok((Stmt::Call(place(tokens), value), rest))
+}
+
+/// Reads what begins with a name.
+pub(crate) fn named_statement(
+    alloc: Global,
+    levels: u32,
+    tokens: &[Token],
+) -> Result<(Stmt<Parsed>, &[Token]), Stop>
+    ensures { Gives (λ x. (views.statement ⟦<Parsed as Phase>⟧ x.0, x.1.now)) result
+        (spec.named_by usual (spelled.expression_at usual levels) (spelled.call_at usual levels) (spec.block_at usual levels) (front (drop 1 tokens.now)) tokens.now) }
+{
+    match after(tokens) {
+        [] => assign(alloc, levels, tokens),
+        [second, ..] => match &second.what {
+            What::Sign(Sign::LeftParenthesis) => discard(alloc, levels, tokens),
+            What::Sign(Sign::Arrow) => assign_through(alloc, levels, tokens),
+            _ => assign(alloc, levels, tokens),
+        },
+    }
+}
+
+/// Reads `return` and its expression.
+#[tactic(auto, unfolding(crate::specs::StatementReading::return_with), using(au_syntax::proofs::StatementLemmas::statement_steps, std::proofs::lemmas::Grind::common_steps))]
+pub(crate) fn return_statement(
+    alloc: Global,
+    levels: u32,
+    tokens: &[Token],
+) -> Result<(Stmt<Parsed>, &[Token]), Stop>
+    ensures { Gives (λ x. (views.statement ⟦<Parsed as Phase>⟧ x.0, x.1.now)) result
+        (spec.return_with usual (spelled.expression_at usual levels) (spelled.call_at usual levels) (spec.block_at usual levels) tokens.now) }
+{
+    let rest = expect(&[Expected::Word(Keyword::KwReturn)], tokens)?;
+    let (value, rest) = ended(alloc, levels, rest)?;
+    Ok((Stmt::Return(place(tokens), value), rest))
+}

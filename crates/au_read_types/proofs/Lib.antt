@@ -1,0 +1,3 @@
+pub mod TypeNodes
+pub mod TypeForm
+pub mod TypeSteps

@@ -1,0 +1,10 @@
+//! Reads written types.
+#![tactic(auto)]
+
+mod nodes;
+pub mod types;
+
+pub use types::written_type;
+
+#[cfg(test)]
+mod tests;
