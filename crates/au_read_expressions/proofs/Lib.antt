@@ -6,3 +6,4 @@ pub mod CallLaws
 pub mod AtomLaws
 pub mod ExpressionLaws
 pub mod ExpressionReads
+pub mod CodeLemmas

@@ -1,1 +1,3 @@
 pub mod ExpressionReading
+pub mod FirstTokens
+pub mod Arguments

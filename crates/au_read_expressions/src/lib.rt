@@ -1,6 +1,8 @@
 //! Reads expressions.
 #![tactic(auto)]
 
+mod atoms;
 pub mod expressions;
+mod first;
 
 pub use expressions::{call, expression};
