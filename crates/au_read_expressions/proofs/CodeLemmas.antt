@@ -4,12 +4,12 @@ use Rattle.std.proofs.Common.{◌≡◌, ◌≢◌, ℕ, zero, suc, ◌-◌, ◌
 use Rattle.std.specs.Global.{Global}
 use Rattle.std.proofs.lemmas.Bool.{leb-true, leb-false, le-leb, lt-leb}
 use Rattle.au_base.specs.declared.places.Pos.{Pos}
-use Rattle.au_base.specs.declared.tokens.Sign.TheVariants.{RightParenthesis, FatArrow}
+use Rattle.au_base.specs.declared.tokens.Sign.TheVariants.{LeftParenthesis, RightParenthesis, FatArrow}
 use Rattle.au_base.specs.declared.tokens.Token.{Token}
 use Rattle.au_base.specs.declared.tokens.What.{What}
 use Rattle.au_base.specs.declared.tokens.What.TheVariants.{Word, Sign, Name, Number, Text}
 use Rattle.au_reading.specs.Bounds.{Bounds}
-use Rattle.au_reading.specs.Reading.{Read, ◌>>=◌, front, is_front, begins_with, name_at, tokens_at, nothing_at, joined_with, built_at, closed, shaped, listed, exactly}
+use Rattle.au_reading.specs.Reading.{Read, ◌>>=◌, front, is_front, begins_with, place_of, name_at, tokens_at, nothing_at, behind, joined_at, joined_with, built_at, closed, shaped, listed, exactly}
 use Rattle.au_reading.proofs.Steps.{given, when_true}
 use Rattle.au_read_expressions.specs.Arguments.{argument, called, called_by_name, called_in_order}
 use Rattle.au_read_expressions.specs.ExpressionReading.{site, call_of, begins_atom, begins_expression, expressions_of, arguments_of, Given, in_order, by_name, labelled, none_given, given_by, given_at, call_with, atom_with, expression_with, too_deep, no_call, expression_at, atom_at, call_at}
@@ -152,6 +152,15 @@ module _ (inner inner_atom : List Token → Read PlainExpression) where
         → called inner inner_atom at name ts ≡ called_in_order inner inner_atom at name ts
     unfolding called called_in_order
     called_ordered ts some label = ap (λ r. r >>= joined_with name >>= built_at (call_of at)) (given_in_order ts some label)
+
+    -- behind the name and the parenthesis stands the rest of a call
+    pub call_called : (ts mid rest : List Token) → at ≡ place_of ts → name_at ts ≡ Ok (name, mid) → tokens_at (Sign LeftParenthesis ∷ []) mid ≡ Ok rest
+        → call_with inner inner_atom ts ≡ called inner inner_atom at name rest
+    unfolding call_with called
+    call_called ts mid rest place named open_here =
+        ap (λ r. r >>= joined_at (behind (Sign LeftParenthesis ∷ []) (given_at inner inner_atom)) >>= built_at (call_of (place_of ts))) named
+        ∙ ap (λ r. r >>= given_at inner inner_atom >>= joined_with name >>= built_at (call_of (place_of ts))) open_here
+        ∙ ap (λ p. given_at inner inner_atom rest >>= joined_with name >>= built_at (call_of p)) (sym place)
 
 pub ruleset called_steps = (called_none, called_named, called_ordered)
 

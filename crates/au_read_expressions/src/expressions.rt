@@ -149,8 +149,8 @@ fn negation(
 {
     let at = site(tokens);
     let rest = expect(&[Expected::Word(Keyword::KwNot)], tokens)?;
-    let (of, rest) = atom(alloc, levels, rest)?;
-    Ok((boxed(alloc, Expr::Not(at, of))?, rest))
+    let (operand, rest) = atom(alloc, levels, rest)?;
+    Ok((boxed(alloc, Expr::Not(at, operand))?, rest))
 }
 
 /// Reads `if .. then .. else ..`.

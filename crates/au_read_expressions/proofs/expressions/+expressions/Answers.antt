@@ -6,10 +6,11 @@ use Rattle.au_reading.specs.Bounds.{usual}
 use Rattle.au_reading.specs.Reading as reading
 use Rattle.au_reading.proofs.Steps.{passes_on}
 use Rattle.au_reading.proofs.Loops.{with_front, map_pushed, separated_on, separated_fails, separated_ends, separated_over}
-use Rattle.au_syntax.specs.Views.{expression}
+use Rattle.au_syntax.specs.Views.{placed, expression}
 use Rattle.au_syntax.specs.contracts.parsed.ParsedPhase.TheImpl.{ghosts as parsed}
 use Rattle.au_read_expressions.specs.Arguments.{argument}
 use Rattle.au_read_expressions.specs.ExpressionReading.{labelled, expression_at, atom_at}
+use Rattle.au_read_expressions.proofs.CodeLemmas.{call_called}
 use Rattle.au_read_expressions.proofs.expressions.+expressions.Goals as goal
 
 pub expression_list-returns-in_err-one : goal.expression_list-returns-in_err-one
@@ -63,3 +64,9 @@ pub labelled_list-returns : goal.labelled_list-returns
 labelled_list-returns t c =
     let read = reading.listed (labelled (expression_at usual c.args.levels) (atom_at usual c.args.levels)) c.args.tokens.now in
     subst (λ e. reading.Stops e read) (sym c.stop_before.ensures) (sym c.loop.invariant ∙ separated_over (what.Sign Comma) (labelled (expression_at usual c.args.levels) (atom_at usual c.args.levels)) (map (argument parsed) c.loop.arguments.items) (length c.args.tokens.now - c.loop.counter) c.loop.rest.now (omega (arith, c.loop-test.false)))
+
+pub call_within-returns : goal.call_within-returns
+call_within-returns t c =
+    subst (λ r. reading.Gives (λ x. (expression parsed x.0.value, x.1.now)) c.given.result r)
+    (sym (call_called (expression_at usual c.args.levels) (atom_at usual c.args.levels) c.site-at.result.at (placed parsed c.in_ok-of.of) c.args.tokens.now c.in_ok-of.rest.now c.in_ok-rest.rest.now c.site-at.ensures.place c.in_ok-of.ensures c.in_ok-rest.ensures))
+    c.given.ensures
