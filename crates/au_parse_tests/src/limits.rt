@@ -5,7 +5,7 @@ use crate::sources::{BLOCK_BACK, BLOCK_FRONT, VALUE_BACK, VALUE_FRONT, decided};
 use std::test::Fail;
 
 /// Expressions of a constant, which may be 100 levels deep.
-const VALUES: [(&[u8], u32, &[u8], &[u8], &[u8]); 50] = [
+const VALUES: [(&[u8], u32, &[u8], &[u8], &[u8]); 25] = [
     (b"(", 99, b"a", b")", b"accepted"),
     (b"(", 100, b"a", b")", b"Nesting 101 above 100"),
     (b"(", 98, b"a + b", b")", b"accepted"),
@@ -31,6 +31,10 @@ const VALUES: [(&[u8], u32, &[u8], &[u8], &[u8]); 50] = [
     (b"!", 99, b"not a", b"", b"3:100"),
     (b"f(", 100, b"", b")", b"accepted"),
     (b"f(", 101, b"", b")", b"Nesting 101 above 100"),
+];
+
+/// More of them.
+const MORE_VALUES: [(&[u8], u32, &[u8], &[u8], &[u8]); 25] = [
     (b"f(", 100, b"a", b")", b"Nesting 101 above 100"),
     (b"f(a, ", 99, b"b", b")", b"accepted"),
     (b"f(a, ", 100, b"b", b")", b"Nesting 101 above 100"),
@@ -73,11 +77,11 @@ const VALUES: [(&[u8], u32, &[u8], &[u8], &[u8]); 50] = [
     (b"(", 100, b"-", b")", b"Nesting 101 above 100"),
     (b"(", 100, b"", b")", b"3:101"),
     (b"(", 101, b"", b"", b"Nesting 101 above 100"),
-    (b"(", 50_000, b"", b"", b"Nesting 101 above 100"),
+    (b"(", 20_000, b"", b"", b"Nesting 101 above 100"),
 ];
 
 /// Blocks of a function, which may be 100 levels deep, the expressions of their statements among them.
-const BLOCKS: [(&[u8], u32, &[u8], &[u8], &[u8]); 45] = [
+const BLOCKS: [(&[u8], u32, &[u8], &[u8], &[u8]); 15] = [
     (
         b"borrow x as r in R do ",
         100,
@@ -171,6 +175,10 @@ const BLOCKS: [(&[u8], u32, &[u8], &[u8], &[u8]); 45] = [
         b"Nesting 101 above 100",
     ),
     (b"if a then ", 99, b"skip; ", b"end if; ", b"accepted"),
+];
+
+/// More of them.
+const MORE_BLOCKS: [(&[u8], u32, &[u8], &[u8], &[u8]); 15] = [
     (
         b"if a then ",
         100,
@@ -276,6 +284,10 @@ const BLOCKS: [(&[u8], u32, &[u8], &[u8], &[u8]); 45] = [
         b"end borrow; ",
         b"Nesting 101 above 100",
     ),
+];
+
+/// More of them.
+const OTHER_BLOCKS: [(&[u8], u32, &[u8], &[u8], &[u8]); 15] = [
     (
         b"borrow x as r in R do ",
         99,
@@ -421,7 +433,7 @@ const ARGUMENTS: [(&[u8], u32, &[u8], &[u8], &[u8]); 20] = [
     (b"B, ", 4094, b"B", b"", b"accepted"),
     (b"B, ", 4095, b"B", b"", b"TypeNodes 4097 above 4096"),
     (b"B, ", 4999, b"B", b"", b"TypeNodes 5001 above 4096"),
-    (b"B, ", 40_000, b"B", b"", b"TypeNodes 40002 above 4096"),
+    (b"B, ", 10_000, b"B", b"", b"TypeNodes 10002 above 4096"),
     (b"B[C], ", 2047, b"B", b"", b"accepted"),
     (b"B[C], ", 2047, b"B[C]", b"", b"TypeNodes 4097 above 4096"),
     (b"&[B, R], ", 1364, b"&[B, R]", b"", b"accepted"),
@@ -495,12 +507,21 @@ const METHOD_BACK: &[u8] = b"\nend; end;\nend module body.";
 const WRONG_FRONT: &[u8] = b"module body M is\nconstant c: T :=\na b + ";
 
 #[test]
-fn nesting_has_a_limit(rt: HostRuntime) -> Result<(), Fail> {
+fn nesting_of_values_has_a_limit(rt: HostRuntime) -> Result<(), Fail> {
     let alloc = rt.alloc();
     decided(&rt, alloc, VALUE_FRONT, &VALUES, VALUE_BACK)?;
-    decided(&rt, alloc, BLOCK_FRONT, &BLOCKS, BLOCK_BACK)?;
-    decided(&rt, alloc, METHOD_FRONT, &METHODS, METHOD_BACK)?;
+    decided(&rt, alloc, VALUE_FRONT, &MORE_VALUES, VALUE_BACK)?;
     decided(&rt, alloc, WRONG_FRONT, &WRONG_BEFORE, VALUE_BACK)?;
+    Ok(())
+}
+
+#[test]
+fn nesting_of_blocks_has_a_limit(rt: HostRuntime) -> Result<(), Fail> {
+    let alloc = rt.alloc();
+    decided(&rt, alloc, BLOCK_FRONT, &BLOCKS, BLOCK_BACK)?;
+    decided(&rt, alloc, BLOCK_FRONT, &MORE_BLOCKS, BLOCK_BACK)?;
+    decided(&rt, alloc, BLOCK_FRONT, &OTHER_BLOCKS, BLOCK_BACK)?;
+    decided(&rt, alloc, METHOD_FRONT, &METHODS, METHOD_BACK)?;
     Ok(())
 }
 
