@@ -6,7 +6,7 @@ use Rattle.au_base.specs.declared.statuses.Status.{Status}
 use Rattle.au_base.specs.declared.statuses.Status.TheVariants as status
 use Rattle.au_base.specs.declared.tokens.Token.{Token}
 use Rattle.au_base.specs.Limits.{most_file_bytes}
-use Rattle.au_base.specs.Outside.{Files}
+use Rattle.au_base.specs.Outside.{Files, Adds}
 use Rattle.au_base.specs.Places.{place_after}
 use Rattle.au_printing.specs.declared.files.First.{First}
 use Rattle.au_base.specs.declared.limits.Limit.{Limit}
@@ -16,7 +16,7 @@ use Rattle.au_lexer.proofs.UniqueLemmas.{one_outcome}
 use Rattle.au_parser.proofs.Keeping.{fits_none}
 use Rattle.au_printing.specs.Files.{Reads, IsUnfinished, IsStrangePlace}
 use Rattle.au_printing.proofs.FileLaws.{one_file, read_or_unfinished, read_or_strange, unfinished_or_strange, one_strange}
-use Rattle.austral_cli.specs.Calls.{AreTold, IsPaid, CameTo, Pays, is_decided}
+use Rattle.austral_cli.specs.Calls.{AreTold, IsPaid, CameTo, IsRefusedSo, Pays, is_decided}
 use Rattle.austral_cli.specs.Jobs.{Task, IsJob, IsNoJob}
 use Rattle.austral_cli.specs.Outcomes.{FileComes, Comes, Arises, IsFile, IsSettled, IsUnread, Owes, Due, due_of, file_limit}
 use Rattle.austral_cli.specs.Trees.{HasTree, HasNoTree, IsNoPrinting, TokensCome}
@@ -269,6 +269,24 @@ came words told faults faults' ends out out' err err' paid decided = elim paid.1
 no_words : (success : Bool) → status.Words ≡ cond success status.Success status.Failure → ⊥
 no_words true e = cc
 no_words false e = cc
+
+no_refusal : (success : Bool) → status.Refused ≡ cond success status.Success status.Failure → ⊥
+no_refusal true e = cc
+no_refusal false e = cc
+
+-- the line of a refusal was paid for a program that is refused
+pub came_refused : (words : List (List ℕ)) (told : Option Files) (faults faults' : ℕ) (ends : Status) (out out' err err' : Option (List ℕ)) → IsPaid words told faults faults' ends out out' err err' → ends ≡ status.Refused
+    → CameTo words told (IsRefusedSo err err')
+came_refused words told faults faults' ends out out' err err' paid is =
+    let h = came words told faults faults' ends out out' err err' paid (ap is_decided is) in
+    (h.0, h.1, h.2, h.3, h.4, so h.2 h.3 err err' (sym is ∙ h.5.status) h.5.err_bytes)
+  where
+    so : (names : List (List ℕ)) (arisen : Outcome) (err err' : Option (List ℕ)) → status.Refused ≡ (due_of names arisen).status → Adds err err' (due_of names arisen).err → IsRefusedSo err err' names arisen
+    so names outcome.NoJob err err' e adds = absurd cc
+    so names (outcome.Missing name) err err' e adds = absurd cc
+    so names (outcome.Passes limit) err err' e adds = absurd cc
+    so names (outcome.Refused refusal) err err' e adds = (refusal, refl, adds)
+    so names (outcome.Prints first) err err' e adds = absurd (no_refusal first.success e)
 
 -- the words line was paid for words that are no job
 pub came_words : (words : List (List ℕ)) (told : Option Files) (faults faults' : ℕ) (ends : Status) (out out' err err' : Option (List ℕ)) → IsPaid words told faults faults' ends out out' err err' → ends ≡ status.Words → IsNoJob words
