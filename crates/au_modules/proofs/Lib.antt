@@ -1,0 +1,5 @@
+pub mod LimitLemmas
+pub mod PartLemmas
+pub mod PlaceLemmas
+pub mod ProgramLemmas
+pub mod SlotLemmas

@@ -1,0 +1,16 @@
+//! From the files of a program to its modules.
+#![tactic(auto)]
+
+pub mod faults;
+pub mod gathering;
+pub mod laws;
+pub mod limits;
+pub mod modules;
+pub mod parts;
+pub mod rounds;
+#[cfg(test)]
+mod tests;
+
+pub use faults::ModuleFault;
+pub use gathering::gather;
+pub use modules::Modules;
