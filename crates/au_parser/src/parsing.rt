@@ -1,8 +1,10 @@
 //! From the tokens of a file to its tree.
 
-ghost use Rattle.std.specs.Prelude.{◌≡◌, ◌<◌, ◌≤◌, ℕ, IfOk, IsTrue, MatchResult, length};
+ghost use Rattle.std.specs.Prelude.{◌≡◌, ◌<◌, ◌≤◌, ◌-◌, ℕ, IfOk, IsTrue, MatchResult, length};
 ghost use Rattle.au_base.specs.declared.limits.Limit.{Limit};
+ghost use Rattle.au_read_modules.specs.ModuleReading.{file_at};
 ghost use Rattle.au_reading.specs.Bounds.{usual, ModulePasses};
+ghost use Rattle.au_reading.specs.declared.faults.Fault.TheVariants.{Syntax, Passed};
 ghost use Rattle.au_syntax.specs.Files.{says};
 ghost use Rattle.au_syntax.specs.Forms.{formed_module};
 ghost use Rattle.au_syntax.specs.Plain.{PlainModule};
@@ -36,6 +38,12 @@ pub fn parse(alloc: Global, tokens: &[Token]) -> Result<Whole<Parsed>, ParseFaul
     // A tree that has these words passes the limit.
     ensures limit { (l : Limit) → result ≡ Err (ParseFault.Limit l)
         → (m : PlainModule) → IsTrue (formed_module m) → Spells m tokens.now → ModulePasses usual m l }
+    // A fault is that of the reader of files: `Limit` comes only where reading meets something that passes
+    // this limit, and `Syntax` with the index of the token where it stops.
+    ensures stops { (index : ℕ) → result ≡ Err (ParseFault.Syntax index)
+        → (left : ℕ) × (file_at usual tokens.now ≡ Err (Syntax left)) × (index ≡ length tokens.now - left) }
+    ensures passes { (l : Limit) → result ≡ Err (ParseFault.Limit l)
+        → (left : ℕ) × (file_at usual tokens.now ≡ Err (Passed l left)) }
     // The tree that has these words is returned, if it is within the limits.
     ensures only { (m : PlainModule) → IsTrue (formed_module m) → Spells m tokens.now → IsTrue (fits m)
         → MatchResult result (λ whole. says ⟦<Parsed as Phase>⟧ whole.tree ≡ m)

@@ -58,3 +58,20 @@ returns-in-Err-Fault-Syntax-clause-only c = λ m good spelled small.
     (none_within file_sound file_found c.args.tokens.now c.in-Err-Fault-Syntax.field-0-0
     (stopped c.in-Err-Fault-Syntax.field-0 c.in-Err-Fault-Syntax.field-0-0 c.in-Err-Fault-Syntax.field-0-0 (file_at usual c.args.tokens.now)
     c.in-Err-Fault-Syntax.ensures c.in-Err-Fault-Syntax.field-0-is refl) m good spelled small)
+
+pub returns-in-Err-Fault-Passed-clause-passes : goal.returns-in-Err-Fault-Passed-clause-passes
+returns-in-Err-Fault-Passed-clause-passes c = λ l is.
+    let same : c.in-Err-Fault-Passed.limit ≡ l = cc in (
+      c.in-Err-Fault-Passed.field-0-0-1,
+      stopped c.in-Err-Fault-Passed.field-0 c.in-Err-Fault-Passed.field-0-0 (Passed l c.in-Err-Fault-Passed.field-0-0-1) (file_at usual c.args.tokens.now)
+          c.in-Err-Fault-Passed.ensures c.in-Err-Fault-Passed.field-0-is (c.in-Err-Fault-Passed.field-0-0-is ∙ ap (λ x. Passed x c.in-Err-Fault-Passed.field-0-0-1) same),
+    )
+
+pub returns-in-Err-Fault-Syntax-clause-stops : goal.returns-in-Err-Fault-Syntax-clause-stops
+returns-in-Err-Fault-Syntax-clause-stops c = λ index is.
+    let here : c.saturating_sub.result ≡ index = cc in (
+      c.in-Err-Fault-Syntax.left,
+      stopped c.in-Err-Fault-Syntax.field-0 c.in-Err-Fault-Syntax.field-0-0 (Syntax c.in-Err-Fault-Syntax.left) (file_at usual c.args.tokens.now)
+          c.in-Err-Fault-Syntax.ensures c.in-Err-Fault-Syntax.field-0-is c.in-Err-Fault-Syntax.field-0-0-is,
+      omega (arith, here, c.saturating_sub.ensures),
+    )
