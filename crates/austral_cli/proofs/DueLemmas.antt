@@ -1,5 +1,5 @@
 -- Words and files owe one thing.
-use Rattle.std.proofs.Common.{◌≡◌, ℕ, ◌<◌, ◌≤◌, Bool, true, false, cond, List, [], ◌∷◌, length, Option, Some, None, ap, ◌∙◌, sym, refl, subst, arith, ◌⊎◌, inl, inr, slice_get, codes}
+use Rattle.std.proofs.Common.{◌≡◌, ℕ, ◌<◌, ◌≤◌, ◌-◌, Err, Bool, true, false, cond, List, [], ◌∷◌, length, Option, Some, None, ap, ◌∙◌, sym, refl, subst, arith, ◌⊎◌, inl, inr, slice_get, codes}
 use Rattle.std.specs.Option.{option_map}
 use Rattle.au_base.specs.declared.places.Pos.{Pos}
 use Rattle.au_base.specs.declared.statuses.Status.{Status}
@@ -18,8 +18,14 @@ use Rattle.au_printing.specs.Files.{Reads, IsUnfinished, IsStrangePlace}
 use Rattle.au_printing.proofs.FileLaws.{one_file, read_or_unfinished, read_or_strange, unfinished_or_strange, one_strange}
 use Rattle.austral_cli.specs.Calls.{AreTold, IsPaid, CameTo, IsRefusedSo, Pays, is_decided}
 use Rattle.austral_cli.specs.Jobs.{Task, IsJob, IsNoJob}
-use Rattle.austral_cli.specs.Outcomes.{FileComes, Comes, Arises, IsFile, IsSettled, IsUnread, Owes, Due, due_of, file_limit}
-use Rattle.austral_cli.specs.Trees.{HasTree, HasNoTree, IsNoPrinting, TokensCome}
+use Rattle.austral_cli.specs.Outcomes.{FileComes, Comes, Arises, IsFile, IsUnread, Owes, Due, due_of, file_limit}
+use Rattle.au_read_modules.specs.ModuleReading.{file_at}
+use Rattle.au_reading.specs.Bounds.{usual}
+use Rattle.au_reading.specs.Reading.{Read}
+use Rattle.au_reading.specs.declared.faults.Fault.{Fault}
+use Rattle.au_reading.specs.declared.faults.Fault.TheVariants as reading
+use Rattle.au_syntax.specs.Plain.{PlainModule}
+use Rattle.austral_cli.specs.Trees.{HasTree, HasNoTree, IsNoPrinting, TokensCome, place_or}
 use Rattle.austral_cli.specs.declared.jobs.Command.TheVariants.{Run}
 use Rattle.austral_cli.specs.declared.outcomes.Outcome.{Outcome}
 use Rattle.austral_cli.specs.declared.outcomes.Outcome.TheVariants as outcome
@@ -49,14 +55,29 @@ IsTreeOutcome list end arisen =
     ((first : First) × Reads first list × (arisen ≡ outcome.Prints first))
     ⊎ ((at : Pos) × IsNoPrinting list end at × (arisen ≡ outcome.Refused (NotYet at)))
 
-tree_outcome : (list : List Token) (end : Pos) (arisen : Outcome) → HasTree list → TokensCome list end arisen → IsTreeOutcome list end arisen
-tree_outcome list end outcome.NoJob tree comes = absurd comes
-tree_outcome list end (outcome.Missing name) tree comes = absurd comes
-tree_outcome list end (outcome.Passes limit) tree comes = absurd (fits_none tree.0 limit tree.3 (comes tree.0 tree.1 tree.2))
-tree_outcome list end (outcome.Refused (Byte at)) tree comes = absurd comes
-tree_outcome list end (outcome.Refused (Syntax at)) tree comes = absurd (comes.0 tree.0 tree.1 tree.2)
-tree_outcome list end (outcome.Refused (NotYet at)) tree comes = inr (at, comes.1, refl)
-tree_outcome list end (outcome.Prints first) tree comes = inl (first, comes.1, refl)
+-- what the fault of the reader comes to
+abbrev fault_outcome : List Token → Pos → Fault → Outcome
+fault_outcome list end (reading.Syntax left) = outcome.Refused (Syntax (place_or end list (length list - left)))
+fault_outcome list end (reading.Passed limit left) = outcome.Passes limit
+
+-- tokens that have no tree within the limits come to the fault of the reader
+abbrev IsFaultOutcome : List Token → Pos → Outcome → Type 0
+IsFaultOutcome list end arisen = (HasTree list → ⊥) × ((f : Fault) × (file_at usual list ≡ Err f) × (arisen ≡ fault_outcome list end f))
+
+read_outcome : (list : List Token) (end : Pos) (arisen : Outcome) → TokensCome list end arisen → (HasTree list × IsTreeOutcome list end arisen) ⊎ IsFaultOutcome list end arisen
+read_outcome list end outcome.NoJob comes = absurd comes
+read_outcome list end (outcome.Missing name) comes = absurd comes
+read_outcome list end (outcome.Passes limit) comes = inr (
+  λ tree. fits_none tree.0 limit tree.3 (comes.0 tree.0 tree.1 tree.2),
+  (reading.Passed limit comes.1.0, comes.1.1, refl),
+)
+read_outcome list end (outcome.Refused (Byte at)) comes = absurd comes
+read_outcome list end (outcome.Refused (Syntax at)) comes = inr (
+  λ tree. comes.0 tree.0 tree.1 tree.2,
+  (reading.Syntax comes.1.0, comes.1.1, ap (λ p. outcome.Refused (Syntax p)) comes.1.2),
+)
+read_outcome list end (outcome.Refused (NotYet at)) comes = inl (comes.0, inr (at, comes.1, refl))
+read_outcome list end (outcome.Prints first) comes = inl (comes.0, inl (first, comes.1, refl))
 
 -- tokens that have a tree come to one thing
 strange_same : (list : List Token) (a b : Pos) → IsStrangePlace list a → IsStrangePlace list b → a ≡ b
@@ -95,24 +116,34 @@ outcomes_same list end x y a b = elim a [
   ]
 ]
 
--- tokens of these bytes have a tree
-abbrev AreTrees : List ℕ → Type 0
-AreTrees bytes = (list : List Token) → Cut 0 bytes list → IsWithinLimits list → HasTree list
+-- the reader has one fault
+one_fault : (read : Read PlainModule) (f g : Fault) → read ≡ Err f → read ≡ Err g → f ≡ g
+one_fault read f g x y = let e : ◌≡◌ {A = Read PlainModule} (Err f) (Err g) = sym x ∙ y in cc
 
-shape_same : (bytes : List ℕ) (lexed : Lexed) (x y : Outcome) → AreTrees bytes → Lexes 0 bytes lexed → Shape bytes lexed x → Shape bytes lexed y → x ≡ y
-shape_same bytes (tokens list) x y trees lexes a b =
-    let tree = trees list lexes.0 lexes.1 in
-    let end = place_after 0 bytes in
-    outcomes_same list end x y (tree_outcome list end x tree a) (tree_outcome list end y tree b)
-shape_same bytes (stray at) x y trees lexes a b = a ∙ sym b
-shape_same bytes (passes limit) x y trees lexes a b = a ∙ sym b
+-- tokens come to one thing
+tokens_same : (list : List Token) (end : Pos) (x y : Outcome) → TokensCome list end x → TokensCome list end y → x ≡ y
+tokens_same list end x y a b = elim (read_outcome list end x a) [
+  | inl p ↦ elim (read_outcome list end y b) [
+    | inl q ↦ outcomes_same list end x y p.1 q.1
+    | inr q ↦ absurd (q.0 p.0)
+  ]
+  | inr p ↦ elim (read_outcome list end y b) [
+    | inl q ↦ absurd (p.0 q.0)
+    | inr q ↦ p.1.2 ∙ ap (fault_outcome list end) (one_fault (file_at usual list) p.1.0 q.1.0 p.1.1 q.1.1) ∙ sym q.1.2
+  ]
+]
+
+shape_same : (bytes : List ℕ) (lexed : Lexed) (x y : Outcome) → Shape bytes lexed x → Shape bytes lexed y → x ≡ y
+shape_same bytes (tokens list) x y a b = tokens_same list (place_after 0 bytes) x y a b
+shape_same bytes (stray at) x y a b = a ∙ sym b
+shape_same bytes (passes limit) x y a b = a ∙ sym b
 
 -- a file comes to one thing
-file_same : (bytes : List ℕ) (x y : Outcome) → AreTrees bytes → FileComes bytes x → FileComes bytes y → x ≡ y
-file_same bytes x y trees a b =
+file_same : (bytes : List ℕ) (x y : Outcome) → FileComes bytes x → FileComes bytes y → x ≡ y
+file_same bytes x y a b =
     let p = shape bytes x a in
     let q = shape bytes y b in
-    shape_same bytes p.0 x y trees p.1 p.2 (subst (λ l. Shape bytes l y) (one_outcome 0 bytes q.0 p.0 q.1 p.1) q.2)
+    shape_same bytes p.0 x y p.2 (subst (λ l. Shape bytes l y) (one_outcome 0 bytes q.0 p.0 q.1 p.1) q.2)
 
 -- tokens that have no tree come to a refusal of syntax or to a limit
 unread_outcome : (list : List Token) (end : Pos) (arisen : Outcome) → HasNoTree list → TokensCome list end arisen
@@ -164,8 +195,8 @@ no_bytes files name a x y = let e : None ≡ Some a = sym x ∙ y in cc
 too_small : (files : Files) (name a b : List ℕ) → files name ≡ Some a → files name ≡ Some b → most_file_bytes < length a → length b ≤ most_file_bytes → ⊥
 too_small files name a b x y large small = let same = ap length (one_bytes files name a b x y) in omega arith
 
-had_same : (files : Files) (name : List ℕ) (x y : Outcome) → ((bytes : List ℕ) → IsFile files name bytes → AreTrees bytes) → IsHad files name x → IsHad files name y → x ≡ y
-had_same files name x y trees a b = elim a [
+had_same : (files : Files) (name : List ℕ) (x y : Outcome) → IsHad files name x → IsHad files name y → x ≡ y
+had_same files name x y a b = elim a [
   | inl p ↦ elim b [
     | inl q ↦ p.1 ∙ sym q.1
     | inr v ↦ elim v [ inl q ↦ absurd (no_bytes files name q.0 p.0 q.1) | inr q ↦ absurd (no_bytes files name q.0 p.0 q.1) ]
@@ -182,7 +213,7 @@ had_same files name x y trees a b = elim a [
       | inl q ↦ absurd (no_bytes files name p.0 q.0 p.1)
       | inr v ↦ elim v [
         | inl q ↦ absurd (too_small files name q.0 p.0 q.1 p.1 q.2 p.2)
-        | inr q ↦ file_same p.0 x y (trees p.0 (p.1, p.2)) p.3 (subst (λ c. FileComes c y) (one_bytes files name q.0 p.0 q.1 p.1) q.3)
+        | inr q ↦ file_same p.0 x y p.3 (subst (λ c. FileComes c y) (one_bytes files name q.0 p.0 q.1 p.1) q.3)
       ]
     ]
   ]
@@ -213,20 +244,19 @@ one_name words a b x y =
     tails : (run a b : List ℕ) → run ∷ a ∷ [] ≡ run ∷ b ∷ [] → a ≡ b
     tails run a b e = cc
 
-one_job : (words : List (List ℕ)) (files : Files) (ns ms : List (List ℕ)) (x y : Outcome) → IsSettled words files → JobComes words files ns x → JobComes words files ms y → due_of ns x ≡ due_of ms y
+one_job : (words : List (List ℕ)) (files : Files) (ns ms : List (List ℕ)) (x y : Outcome) → JobComes words files ns x → JobComes words files ms y → due_of ns x ≡ due_of ms y
 unfolding JobComes
-one_job words files ns ms x y settled a b =
+one_job words files ns ms x y a b =
     let name = one_name words b.0.0 a.0.0 b.0.1 a.0.1 in
     let first = names_of words ns a.0 in
     let second = names_of words ms b.0 ∙ ap (λ n. n ∷ []) name in
-    let job = subst (λ n. IsJob words (record { command = Run; files = n })) first a.0 in
-    let same = had_same files a.0.0 x y (λ bytes is list. settled a.0.0 bytes list job is) (had files a.0.0 x (subst (λ n. Comes files n x) first a.1)) (had files a.0.0 y (subst (λ n. Comes files n y) second b.1)) in
+    let same = had_same files a.0.0 x y (had files a.0.0 x (subst (λ n. Comes files n x) first a.1)) (had files a.0.0 y (subst (λ n. Comes files n y) second b.1)) in
     ap (λ n. due_of n x) (first ∙ sym second) ∙ ap (due_of ms) same
 
--- Words and files owe one thing, where it's settled.
-pub one_due : (words : List (List ℕ)) (files : Files) (a b : Due) → IsSettled words files → Owes words files a → Owes words files b → a ≡ b
+-- Words and files owe one thing.
+pub one_due : (words : List (List ℕ)) (files : Files) (a b : Due) → Owes words files a → Owes words files b → a ≡ b
 unfolding JobComes
-one_due words files a b settled x y =
+one_due words files a b x y =
     elim (is_arisen words files x.0 x.1 x.2) [
       | inl p ↦ elim (is_arisen words files y.0 y.1 y.2) [
         | inl q ↦ x.3 ∙ ap (due_of x.0) p.1 ∙ sym (y.3 ∙ ap (due_of y.0) q.1)
@@ -234,18 +264,18 @@ one_due words files a b settled x y =
       ]
       | inr p ↦ elim (is_arisen words files y.0 y.1 y.2) [
         | inl q ↦ absurd (q.0 (record { command = Run; files = x.0 }) p.0)
-        | inr q ↦ x.3 ∙ one_job words files x.0 y.0 x.1 y.1 settled p q ∙ sym y.3
+        | inr q ↦ x.3 ∙ one_job words files x.0 y.0 x.1 y.1 p q ∙ sym y.3
       ]
     ]
 
 -- What is owed is what was paid.
 pub pays_owed : (words : List (List ℕ)) (told : Option Files) (faults faults' : ℕ) (ends : Status) (out out' err err' : Option (List ℕ)) (files : Files) (due : Due) →
-    IsPaid words told faults faults' ends out out' err err' → is_decided ends ≡ true → told ≡ Some files → IsSettled words files → Owes words files due →
+    IsPaid words told faults faults' ends out out' err err' → is_decided ends ≡ true → told ≡ Some files → Owes words files due →
     Pays due ends out out' err err'
-pays_owed words told faults faults' ends out out' err err' files due paid decided is settled owes = elim paid.1 [
+pays_owed words told faults faults' ends out out' err err' files due paid decided is owes = elim paid.1 [
   | inl owed ↦
       let same : owed.0 ≡ files = subst (λ t. AreTold t owed.0) is owed.1 in
-      subst (λ d. Pays d ends out out' err err') (one_due words files paid.0 due settled (subst (λ f. Owes words f paid.0) same owed.2) owes) paid.2
+      subst (λ d. Pays d ends out out' err err') (one_due words files paid.0 due (subst (λ f. Owes words f paid.0) same owed.2) owes) paid.2
   | inr risen ↦
       let fault : ends ≡ status.ReadFault = paid.2.status ∙ ap (λ (d : Due). d.status) risen.1 in
       let e = sym (ap is_decided fault) ∙ decided in

@@ -13,7 +13,7 @@ use Rattle.au_printing.specs.declared.files.Print.{Print}
 use Rattle.au_lexer.specs.Cut.{Cut, IsStray, PassesLimit}
 use Rattle.au_lexer.specs.Passing.{IsWithinLimits}
 use Rattle.austral_cli.specs.Jobs.{IsJob, IsNoJob}
-use Rattle.austral_cli.specs.Trees.{HasTree, HasNoTree, TokensCome}
+use Rattle.austral_cli.specs.Trees.{HasNoTree, TokensCome}
 use Rattle.austral_cli.specs.Lines.{words_line, missing_line, limit_line, refusal_line}
 use Rattle.austral_cli.specs.declared.jobs.Command.TheVariants.{Run}
 use Rattle.austral_cli.specs.declared.outcomes.Outcome.{Outcome}
@@ -105,13 +105,6 @@ due_of names (outcome.Prints first) = record {
 abbrev pub Owes : List (List ℕ) → Files → Due → Type 0
 Owes words files due =
     (names : List (List ℕ)) × (arisen : Outcome) × Arises words files names arisen × (due ≡ due_of names arisen)
-
--- The file of a job, where it's cut into tokens within the limits, has a tree within the limits: then one
--- thing alone is owed. Where it has none, it isn't said yet which place or which limit is told.
-abbrev pub IsSettled : List (List ℕ) → Files → Type 0
-IsSettled words files =
-    (name bytes : List ℕ) (tokens : List Token) → IsJob words (record { command = Run; files = name ∷ [] }) → IsFile files name bytes
-    → Cut 0 bytes tokens → IsWithinLimits tokens → HasTree tokens
 
 -- The file of a job is cut into tokens within the limits, which have no tree.
 abbrev pub IsUnread : List (List ℕ) → Files → Type 0

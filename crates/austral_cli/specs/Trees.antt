@@ -1,11 +1,13 @@
 -- Which tokens have a tree, and what tokens come to.
-use Rattle.std.specs.Prelude.{◌≡◌, ◌⊎◌, ℕ, ◌≤◌, List, IsTrue, length, unwrap_or, slice_get}
+use Rattle.std.specs.Prelude.{◌≡◌, ◌⊎◌, ℕ, ◌-◌, List, Err, IsTrue, length, unwrap_or, slice_get}
 use Rattle.std.specs.Option.{option_map}
 use Rattle.au_base.specs.declared.limits.Limit.{Limit}
 use Rattle.au_base.specs.declared.places.Pos.{Pos}
 use Rattle.au_base.specs.declared.tokens.Token.{Token}
 use Rattle.au_printing.specs.Files.{Reads, IsUnfinished, IsStrangePlace}
+use Rattle.au_read_modules.specs.ModuleReading.{file_at}
 use Rattle.au_reading.specs.Bounds.{ModulePasses, usual}
+use Rattle.au_reading.specs.declared.faults.Fault.TheVariants as reading
 use Rattle.au_syntax.specs.Forms.{formed_module}
 use Rattle.au_syntax.specs.Plain.{PlainModule}
 use Rattle.au_syntax.specs.Sizes.{fits}
@@ -22,17 +24,20 @@ HasTree tokens = (m : PlainModule) × IsTrue (formed_module m) × Spells m token
 abbrev pub HasNoTree : List Token → Type 0
 HasNoTree tokens = (m : PlainModule) → IsTrue (formed_module m) → Spells m tokens → ⊥
 
--- Whatever tree has these words passes this limit.
+-- Whatever tree has these words passes this limit, and it's the first that reading meets.
 abbrev pub TreesPass : List Token → Limit → Type 0
-TreesPass tokens limit = (m : PlainModule) → IsTrue (formed_module m) → Spells m tokens → ModulePasses usual m limit
+TreesPass tokens limit =
+    ((m : PlainModule) → IsTrue (formed_module m) → Spells m tokens → ModulePasses usual m limit)
+    × ((left : ℕ) × (file_at usual tokens ≡ Err (reading.Passed limit left)))
 
 -- the place of a token, or the end of the file behind the last one
 abbrev pub place_or : Pos → List Token → ℕ → Pos
 place_or end tokens index = unwrap_or (option_map (λ (token : Token). token.at) (slice_get tokens index)) end
 
--- a place of a token, or the end
+-- The place of the token at which reading stops, or the end where it stops behind the last one.
 abbrev pub IsPlaceIn : List Token → Pos → Pos → Type 0
-IsPlaceIn tokens end at = (index : ℕ) × (index ≤ length tokens) × (at ≡ place_or end tokens index)
+IsPlaceIn tokens end at =
+    (left : ℕ) × (file_at usual tokens ≡ Err (reading.Syntax left)) × (at ≡ place_or end tokens (length tokens - left))
 
 -- The tokens don't print: one of them stands where no file that prints has it, or they are too few.
 abbrev pub IsNoPrinting : List Token → Pos → Pos → Type 0

@@ -5,7 +5,7 @@ ghost use Rattle.std.specs.String.{string_bytes};
 ghost use Rattle.au_base.specs.Outside.{Files, HasRisen, Counts};
 ghost use Rattle.austral_cli.specs.Calls.{AreTold, CameTo, HasPassed, HasRun, IsCut, IsMissingSo, IsPaid, IsPlaced, IsRefusedSo, IsUntouched, MayOwe, Pays, is_decided, is_read_fault, is_missing};
 ghost use Rattle.austral_cli.specs.Jobs.{IsNoJob};
-ghost use Rattle.austral_cli.specs.Outcomes.{Arises, Due, IsSettled, IsUnread, Owes};
+ghost use Rattle.austral_cli.specs.Outcomes.{Arises, Due, IsUnread, Owes};
 
 use crate::answering::{AnswerFault, answer};
 use crate::checking::{CheckFault, check};
@@ -31,10 +31,10 @@ pub fn austral<S: Shelf, I: Source, O: Sink, E: Sink>(
     ensures due { result ≢ Status.WriteFault → result ≢ Status.Memory
         → IsPaid (map string_bytes words.now) (S.files shelf.old) (S.faults shelf.old) (S.faults shelf.new) result
         (O.written out.old) (O.written out.new) (E.written err.old) (E.written err.new) }
-    // Where files are told, what the words and the files owe is what is paid, if the file has a tree within
-    // the limits. If it has none, it's refused, or a limit is told.
+    // Where files are told, what the words and the files owe is what is paid: they owe one thing alone. A
+    // file that has no tree is refused, or a limit is told.
     ensures only { (files : Files) (due : Due) → S.files shelf.old ≡ Some files
-        → IsSettled (map string_bytes words.now) files → Owes (map string_bytes words.now) files due → IsTrue (is_decided result)
+        → Owes (map string_bytes words.now) files due → IsTrue (is_decided result)
         → Pays due result (O.written out.old) (O.written out.new) (E.written err.old) (E.written err.new) }
     ensures unread { (files : Files) → S.files shelf.old ≡ Some files → IsUnread (map string_bytes words.now) files
         → IsTrue (is_decided result) → (result ≡ Status.Refused) ⊎ (result ≡ Status.Limit) }

@@ -21,7 +21,7 @@ returns-in-Err-Read-clause-write_fault g c = λ _.
 
 -- What was found was paid.
 pub returns-in-Ok-answer-clause-only : goal.returns-in-Ok-answer-clause-only
-returns-in-Ok-answer-clause-only g c = λ files due is settled owes decided.
+returns-in-Ok-answer-clause-only g c = λ files due is owes decided.
     let words = map string_bytes c.args.words.now in
     let told = g.S.Shelf.files c.args.shelf.now in
     let faults = g.S.Shelf.faults c.args.shelf.now in
@@ -32,7 +32,7 @@ returns-in-Ok-answer-clause-only g c = λ files due is settled owes decided.
     let err = g.E.Sink.written c.args.err.now in
     let err' = g.E.Sink.written c.answer.new.err in
     let paid = paid_so words (map string_bytes c.in-Ok.names.items) (map string_bytes c.as_slice.result.now) told faults faults' c.in-Ok.outcome ends out out' err err' (ap (map string_bytes) c.as_slice.ensures.value) c.in-Ok.ensures.arises c.in-Ok-answer.ensures.pays in
-    pays_owed words told faults faults' ends out out' err err' files due paid decided is settled owes
+    pays_owed words told faults faults' ends out out' err err' files due paid decided is owes
 
 pub returns-in-Ok-answer-clause-unread : goal.returns-in-Ok-answer-clause-unread
 returns-in-Ok-answer-clause-unread g c = λ files is unread decided.
