@@ -1,5 +1,5 @@
 -- What words and files come to, and where a refusal's place lies.
-use Rattle.std.proofs.Common.{◌≡◌, ℕ, zero, suc, ◌<◌, Bool, true, ◌==◌, List, [], ◌∷◌, ◌++◌, length, get_or, map, Option, Some, None, String, ap, ◌∙◌, sym, refl, subst, arith, slice_get, unwrap_or, inl, inr}
+use Rattle.std.proofs.Common.{◌≡◌, ℕ, zero, suc, ◌<◌, Bool, true, ◌==◌, List, [], ◌∷◌, ◌++◌, length, get_or, map, Option, Some, None, String, ap, ◌∙◌, sym, refl, subst, arith, slice_get, unwrap_or, inl, inr, ◌-◌}
 use Rattle.std.specs.Global.{Global}
 use Rattle.std.specs.List.{list_all}
 use Rattle.std.specs.Option.{option_map}
@@ -100,7 +100,7 @@ place_or_end bytes tokens index (Some at) cut is =
 
 place_in : (bytes : List ℕ) (tokens : List Token) (at : Pos) → Cut 0 bytes tokens → IsPlaceIn tokens (place_after 0 bytes) at → at.file < 1
 place_in bytes tokens at cut place =
-    subst (λ (p : Pos). p.file < 1) (sym place.2) (place_or_end bytes tokens place.0 (option_map (λ (token : Token). token.at) (slice_get tokens place.0)) cut refl)
+    subst (λ (p : Pos). p.file < 1) (sym place.2) (place_or_end bytes tokens (length tokens - place.0) (option_map (λ (token : Token). token.at) (slice_get tokens (length tokens - place.0))) cut refl)
 
 pub placed : (files : Files) (name : List ℕ) (arisen : Outcome) → Comes files (name ∷ []) arisen → IsPlaced 1 arisen
 placed files name outcome.NoJob comes = tt
