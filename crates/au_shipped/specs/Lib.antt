@@ -1,7 +1,2 @@
-pub mod Building
-pub mod TerminalInterface
-pub mod BoxInterface
-pub mod BufferInterface
-pub mod PervasiveInterface
 pub mod Calls
 pub mod Shipped

@@ -1,15 +1,22 @@
 -- The shipped interfaces, each with the number of its file, and the names of their calls.
 use Rattle.std.specs.Prelude.{ℕ, Bool, false, ◌||◌, List, [], ◌∷◌, ◌++◌, map, Option, Some, None}
 use Rattle.std.specs.Str.{bytes_eq}
+use Rattle.au_syntax.specs.contracts.parsed.ParsedPhase.TheImpl.{ghosts as parsed}
+use Rattle.au_syntax.specs.declared.wholes.FileTree.{FileTree}
+use Rattle.au_syntax.specs.Files.{says}
 use Rattle.au_syntax.specs.Modules.{Header, function, class}
 use Rattle.au_syntax.specs.Plain.{Bytes, PlainDeclaration, PlainModule}
 use Rattle.au_syntax.specs.Sizes.{joined}
-use Rattle.au_shipped.specs.Building.{place}
-use Rattle.au_shipped.specs.PervasiveInterface.{pervasive}
-use Rattle.au_shipped.specs.BoxInterface.{boxes}
-use Rattle.au_shipped.specs.BufferInterface.{buffers}
-use Rattle.au_shipped.specs.TerminalInterface.{terminal}
+use Rattle.au_interfaces.specs.Building.{place}
+use Rattle.au_interfaces.specs.PervasiveInterface.{pervasive}
+use Rattle.au_interfaces.specs.BoxInterface.{boxes}
+use Rattle.au_interfaces.specs.BufferInterface.{buffers}
+use Rattle.au_interfaces.specs.TerminalInterface.{terminal}
 use Rattle.au_shipped.specs.Calls.{found}
+
+-- the number of a file of the code, and what it says
+abbrev pub file_says : FileTree → ℕ × PlainModule
+file_says f = (f.file, says parsed f.tree.tree)
 
 -- the shipped interfaces in order, each behind the number of its file
 abbrev pub shipped_files : List (ℕ × PlainModule)

@@ -3,7 +3,7 @@
 ghost use Rattle.std.specs.Prelude.{◌≡◌, ◌<◌, ◌≤◌, IfOk, length, map};
 ghost use Rattle.au_base.specs.Limits.{most_name_bytes};
 ghost use Rattle.au_syntax.specs.Views as views;
-ghost use Rattle.au_shipped.specs.Building as spec;
+ghost use Rattle.au_interfaces.specs.Building as spec;
 
 use au_base::{Memory, Name, Pos};
 use au_syntax::{
@@ -13,7 +13,7 @@ use au_syntax::{
 use std::alloc::Global;
 
 /// The place of everything in the interface of this file.
-pub(crate) fn place(file: u16) -> Pos
+pub fn place(file: u16) -> Pos
     ensures { result ≡ spec.place file }
 {
     Pos {

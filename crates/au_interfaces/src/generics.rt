@@ -3,7 +3,7 @@
 ghost use Rattle.std.specs.Prelude.{◌≡◌, [], ◌∷◌, IfOk, map, codes};
 ghost use Rattle.au_syntax.specs.declared.declarations.Universe.TheVariants as universes;
 ghost use Rattle.au_syntax.specs.Views as views;
-ghost use Rattle.au_shipped.specs.Building as spec;
+ghost use Rattle.au_interfaces.specs.Building as spec;
 
 use crate::building::generic;
 use au_base::{Memory, Pos};

@@ -2,8 +2,8 @@
 
 ghost use Rattle.std.specs.Prelude.{◌≡◌, IfOk, map, codes};
 ghost use Rattle.au_syntax.specs.Views as views;
-ghost use Rattle.au_shipped.specs.Building as spec;
-ghost use Rattle.au_shipped.specs.BoxInterface as box_interface;
+ghost use Rattle.au_interfaces.specs.Building as spec;
+ghost use Rattle.au_interfaces.specs.BoxInterface as box_interface;
 
 use crate::building::{
     a_function, an_opaque, applied, interface, name, over, reads, simple, takes, writes,

@@ -2,8 +2,8 @@
 
 ghost use Rattle.std.specs.Prelude.{◌≡◌, IfOk, map, codes};
 ghost use Rattle.au_syntax.specs.Views as views;
-ghost use Rattle.au_shipped.specs.Building as spec;
-ghost use Rattle.au_shipped.specs.TerminalInterface as terminal;
+ghost use Rattle.au_interfaces.specs.Building as spec;
+ghost use Rattle.au_interfaces.specs.TerminalInterface as terminal;
 
 use crate::building::{a_function, an_opaque, applied, interface, name, simple, takes, writes};
 use crate::generics::over_region;

@@ -1,0 +1,17 @@
+use Rattle.std.proofs.Common.{ap, ◌∙◌, map, [], ◌∷◌}
+use Rattle.au_syntax.specs.contracts.parsed.ParsedPhase.TheImpl.{ghosts as parsed}
+use Rattle.au_syntax.specs.Views.{declaration}
+use Rattle.au_interfaces.specs.Building.{interface}
+use Rattle.au_interfaces.proofs.terminal.terminal.Goals as goal
+
+pub returns : goal.returns
+returns c =
+    let declared = ap (map (declaration parsed)) c.in_ok-declarations.ensures.items
+    ∙ (λ j.
+    c.in_ok-of.ensures j
+    ∷ c.in_ok-acquire.ensures j
+    ∷ c.in_ok-read.ensures j
+    ∷ c.in_ok-write.ensures j
+    ∷ c.in_ok-release.ensures j
+    ∷ []) in
+    c.interface.ensures ∙ (λ i. interface c.args.at (c.in_ok-name.ensures i) (declared i))
