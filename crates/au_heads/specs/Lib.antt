@@ -1,0 +1,2 @@
+pub mod HeadsOf
+pub mod Walks

@@ -1,0 +1,4 @@
+pub mod ExportLemmas
+pub mod ImportLemmas
+pub mod PutLemmas
+pub mod SeenLemmas

@@ -1,0 +1,5 @@
+pub mod Exporting
+pub mod Importing
+pub mod Meanings
+pub mod Owned
+pub mod Placing

@@ -1,0 +1,221 @@
+//! Puts what imports bring.
+
+ghost use Rattle.std.specs.Prelude.{◌≡◌, ◌<◌, IfOk, OnOk, Some, drop, length, map, slice_get};
+ghost use Rattle.std.specs.List.{flat_map};
+ghost use Rattle.au_modules.specs.Names.{dotted};
+ghost use Rattle.au_modules.specs.Programs.{ModuleParts};
+ghost use Rattle.au_modules.specs.Seen.{tree_seen};
+ghost use Rattle.au_modules.specs.Slots as slots;
+ghost use Rattle.au_names.specs.Exporting.{AreExports, imports_seen};
+ghost use Rattle.au_names.specs.Importing as spec;
+ghost use Rattle.au_names.specs.Importing.{along, brings, brought, imported};
+ghost use Rattle.au_names.specs.Owned.{interface_of};
+ghost use Rattle.au_syntax.specs.Plain.{plain_importing, plain_name, plain_renaming};
+ghost use Rattle.au_syntax.specs.Sizes.{joined};
+ghost use Rattle.au_syntax.specs.Views.{importing, placed, renaming};
+ghost use Rattle.au_syntax.specs.contracts.parsed.ParsedPhase.TheImpl.{ghosts as parsed};
+ghost use Rattle.au_tables.specs.Tables.{find, with_all};
+
+use crate::exports::{Exports, offered_names};
+use crate::members::put_members_in;
+use crate::putting::put_found;
+use crate::targets::Target;
+use au_base::{Memory, Text};
+use au_modules::Modules;
+use au_syntax::{Ident, Import, Parsed, Renamed, Whole};
+use au_tables::{Space, Table};
+use au_types::DeclAt;
+use std::alloc::Global;
+
+/// The parts of a name, a dot before each of them.
+fn dotted_text(alloc: Global, names: &Vec<Ident<Parsed>>) -> Result<Text, Memory>
+    ensures { IfOk result (λ text. text ≡ flat_map dotted names.now.items) }
+{
+    let mut text = Text::new(alloc);
+    for one in names {
+        text.push(b'.')?;
+        text.append(one.name.as_bytes())?;
+    }
+    Ok(text)
+}
+
+/// Bytes without the first.
+fn past_first(bytes: &[u8]) -> &[u8]
+    ensures { result.now ≡ drop 1 bytes.now }
+{
+    if bytes.is_empty() {
+        return bytes;
+    }
+    &bytes[1..]
+}
+
+/// The place of the module that has a name, given by its parts.
+fn place_named(
+    alloc: Global,
+    exports: &Exports,
+    names: &Vec<Ident<Parsed>>,
+) -> Result<Option<u16>, Memory>
+    ensures { IfOk result (λ found. found ≡ find (joined (map (plain_name parsed.name_bytes) (map (placed parsed) names.now.items))) exports.now.places) }
+{
+    let text = dotted_text(alloc, names)?;
+    Ok(exports.places.get(past_first(text.as_bytes())).copied())
+}
+
+/// The name under which an item brings what it names.
+fn given_name(item: &Renamed<Parsed>) -> &[u8]
+    ensures { result.now ≡ spec.given_name (plain_renaming parsed.name_bytes (renaming parsed item.now)) }
+{
+    match &item.alias {
+        None => item.name.name.as_bytes(),
+        Some(alias) => alias.name.as_bytes(),
+    }
+}
+
+/// Puts the cases or methods that come along under a name from the module at a place.
+fn put_along(
+    alloc: Global,
+    table: &mut Table<Target>,
+    modules: &Modules,
+    exports: &Exports,
+    other: u16,
+    name: &[u8],
+) -> Result<(), Memory>
+    requires within { other < length (slots.modules modules.now) }
+    requires made { AreExports exports.now (slots.modules modules.now) }
+    ensures { (m : ModuleParts) → slice_get (slots.modules modules.now) other ≡ Some m → OnOk result (table.new ≡ with_all table.old (along other name.now (interface_of m))) }
+{
+    let types = offered_names(exports, other as usize, Space::Types);
+    match types.get(name) {
+        None => Ok(()),
+        Some(number) => {
+            let at = DeclAt {
+                module: other,
+                decl: *number,
+            };
+            let file = modules.interface(other as usize);
+            put_members_in(alloc, table, at, file)?;
+            Ok(())
+        }
+    }
+}
+
+/// Puts what an item brings from the module at a place.
+fn put_item(
+    alloc: Global,
+    table: &mut Table<Target>,
+    modules: &Modules,
+    exports: &Exports,
+    space: Space,
+    other: u16,
+    item: &Renamed<Parsed>,
+) -> Result<(), Memory>
+    requires within { other < length (slots.modules modules.now) }
+    requires made { AreExports exports.now (slots.modules modules.now) }
+    ensures { (m : ModuleParts) → slice_get (slots.modules modules.now) other ≡ Some m → OnOk result (table.new ≡ with_all table.old (brought space other m (plain_renaming parsed.name_bytes (renaming parsed item.now)))) }
+{
+    let name = item.name.name.as_bytes();
+    let names = offered_names(exports, other as usize, space);
+    let local = given_name(item);
+    put_found(alloc, table, other, names, name, local)?;
+    match space {
+        Space::Values => Ok(()),
+        Space::Callables => {
+            put_along(alloc, table, modules, exports, other, name)?;
+            Ok(())
+        }
+        Space::Types => Ok(()),
+    }
+}
+
+/// Puts what items bring from the module at a place.
+fn put_items(
+    alloc: Global,
+    table: &mut Table<Target>,
+    modules: &Modules,
+    exports: &Exports,
+    space: Space,
+    other: u16,
+    items: &Vec<Renamed<Parsed>>,
+) -> Result<(), Memory>
+    requires within { other < length (slots.modules modules.now) }
+    requires made { AreExports exports.now (slots.modules modules.now) }
+    ensures { (m : ModuleParts) → slice_get (slots.modules modules.now) other ≡ Some m → OnOk result (table.new ≡ with_all table.old (flat_map (brought space other m) (map (plain_renaming parsed.name_bytes) (map (renaming parsed) items.now.items)))) }
+{
+    for item in items {
+        put_item(alloc, table, modules, exports, space, other, item)?;
+    }
+    Ok(())
+}
+
+/// Puts what an import in the module at a place brings, if its module stands before.
+fn put_import(
+    alloc: Global,
+    table: &mut Table<Target>,
+    modules: &Modules,
+    exports: &Exports,
+    space: Space,
+    place: usize,
+    import: &Import<Parsed>,
+) -> Result<(), Memory>
+    requires within { place < length (slots.modules modules.now) }
+    requires made { AreExports exports.now (slots.modules modules.now) }
+    ensures { OnOk result (table.new ≡ with_all table.old (brings space (slots.modules modules.now) place (plain_importing parsed.name_bytes (importing parsed import.now)))) }
+{
+    let found = place_named(alloc, exports, &import.module)?;
+    match found {
+        None => Ok(()),
+        Some(other) => {
+            if (other as usize) < place {
+                put_items(alloc, table, modules, exports, space, other, &import.items)?;
+                Ok(())
+            } else {
+                Ok(())
+            }
+        }
+    }
+}
+
+/// Puts what imports in the module at a place bring.
+fn put_imports(
+    alloc: Global,
+    table: &mut Table<Target>,
+    modules: &Modules,
+    exports: &Exports,
+    space: Space,
+    place: usize,
+    imports: &Vec<Import<Parsed>>,
+) -> Result<(), Memory>
+    requires within { place < length (slots.modules modules.now) }
+    requires made { AreExports exports.now (slots.modules modules.now) }
+    ensures { OnOk result (table.new ≡ with_all table.old (imported space (slots.modules modules.now) place (map (plain_importing parsed.name_bytes) (map (importing parsed) imports.now.items)))) }
+{
+    for import in imports {
+        put_import(alloc, table, modules, exports, space, place, import)?;
+    }
+    Ok(())
+}
+
+/// Puts what the imports of a file of the module at a place bring, if there is one.
+#[tactic(auto, using(au_tables::proofs::TableLemmas::put_steps, std::proofs::lemmas::Grind::common_steps))]
+pub fn put_imported(
+    alloc: Global,
+    table: &mut Table<Target>,
+    modules: &Modules,
+    exports: &Exports,
+    space: Space,
+    place: usize,
+    file: Option<&Whole<Parsed>>,
+) -> Result<(), Memory>
+    requires within { place < length (slots.modules modules.now) }
+    requires made { AreExports exports.now (slots.modules modules.now) }
+    ensures { OnOk result (table.new ≡ with_all table.old (imported space (slots.modules modules.now) place (imports_seen (tree_seen file.entry)))) }
+{
+    match file {
+        None => Ok(()),
+        Some(file) => {
+            let tree = file.tree();
+            put_imports(alloc, table, modules, exports, space, place, &tree.imports)?;
+            Ok(())
+        }
+    }
+}

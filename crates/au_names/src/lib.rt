@@ -1,0 +1,16 @@
+//! What names mean in a part of a module: the tables of the names that it sees, in the three spaces.
+#![tactic(auto)]
+
+pub mod exports;
+mod imports;
+pub mod laws;
+mod members;
+pub mod part_names;
+mod putting;
+pub mod seeing;
+pub mod targets;
+
+pub use exports::{Exports, exports_of};
+pub use part_names::PartNames;
+pub use seeing::names_seen;
+pub use targets::Target;

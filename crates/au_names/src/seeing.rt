@@ -1,0 +1,151 @@
+//! The names that a part of a module sees.
+
+ghost use Rattle.std.specs.Prelude.{◌≡◌, ◌<◌, IfOk, OnOk, Some, length, slice_get};
+ghost use Rattle.std.specs.Option.{option_map};
+ghost use Rattle.au_modules.specs.Programs.{ModuleParts};
+ghost use Rattle.au_modules.specs.Seen.{interface_tree, tree_seen};
+ghost use Rattle.au_modules.specs.Slots as slots;
+ghost use Rattle.au_names.specs.Exporting.{AreExports, body_names, declarations_seen, imports_seen};
+ghost use Rattle.au_names.specs.Meanings.{declared_by, imports_in, part_of, seen};
+ghost use Rattle.au_names.specs.Owned.{own};
+ghost use Rattle.au_tables.specs.Tables.{with_all};
+
+use crate::exports::{Exports, MOST_PLACES, names_from, no_names, offered_names};
+use crate::imports::put_imported;
+use crate::part_names::{PartNames, declarations};
+use crate::putting::{in_space, put_table};
+use crate::targets::Target;
+use au_base::Memory;
+use au_modules::Modules;
+use au_syntax::{Parsed, Part, Whole};
+use au_tables::{NameTables, Space, Table};
+use std::alloc::Global;
+
+/// How many declarations the interface of the module at a place has.
+fn interface_length(modules: &Modules, place: usize) -> usize
+    requires { place < length (slots.modules modules.now) }
+    ensures { result ≡ length (declarations_seen (interface_tree (slice_get (slots.modules modules.now) place))) }
+{
+    match modules.interface(place) {
+        None => 0,
+        Some(file) => file.tree().declarations.len(),
+    }
+}
+
+/// The names that the body of the module at a place brings in.
+fn named_in_body(alloc: Global, modules: &Modules, place: usize) -> Result<NameTables, Memory>
+    requires { place < length (slots.modules modules.now) }
+    ensures { IfOk result (λ names. option_map body_names (slice_get (slots.modules modules.now) place) ≡ Some names) }
+{
+    let first = interface_length(modules, place);
+    match modules.body(place) {
+        None => Ok(no_names(alloc)),
+        Some(file) => {
+            let tree = file.tree();
+            let names = names_from(alloc, tree, first)?;
+            Ok(names)
+        }
+    }
+}
+
+/// The file of a part of the module at a place, if the module has it.
+fn part_file(modules: &Modules, place: usize, part: Part) -> Option<&Whole<Parsed>>
+    requires { place < length (slots.modules modules.now) }
+    ensures { (m : ModuleParts) → slice_get (slots.modules modules.now) place ≡ Some m → imports_seen (tree_seen result) ≡ imports_in (part_of part m) }
+{
+    match part {
+        Part::Interface => modules.interface(place),
+        Part::Body => modules.body(place),
+    }
+}
+
+/// Puts what the declarations of the module at a place bring in.
+fn put_own(
+    alloc: Global,
+    table: &mut Table<Target>,
+    modules: &Modules,
+    exports: &Exports,
+    body: &NameTables,
+    space: Space,
+    place: u16,
+) -> Result<(), Memory>
+    requires within { place < length (slots.modules modules.now) }
+    requires made { AreExports exports.now (slots.modules modules.now) }
+    requires body { option_map body_names (slice_get (slots.modules modules.now) place) ≡ Some body.now }
+    ensures { (m : ModuleParts) → slice_get (slots.modules modules.now) place ≡ Some m → OnOk result (table.new ≡ with_all table.old (own space place m)) }
+{
+    let offered = offered_names(exports, place as usize, space);
+    put_table(alloc, table, place, offered)?;
+    let hidden = in_space(body, space);
+    put_table(alloc, table, place, hidden)?;
+    Ok(())
+}
+
+/// The names of a space that a part of the module at a place sees, given what its body brings in. A
+/// place that doesn't fit is answered by `Memory`.
+fn table_seen(
+    alloc: Global,
+    modules: &Modules,
+    exports: &Exports,
+    body: &NameTables,
+    space: Space,
+    place: usize,
+    part: Part,
+) -> Result<Table<Target>, Memory>
+    requires within { place < length (slots.modules modules.now) }
+    requires made { AreExports exports.now (slots.modules modules.now) }
+    requires body { option_map body_names (slice_get (slots.modules modules.now) place) ≡ Some body.now }
+    ensures { (m : ModuleParts) → slice_get (slots.modules modules.now) place ≡ Some m → IfOk result (λ table. table ≡ seen space (slots.modules modules.now) place m part) }
+{
+    if MOST_PLACES <= place {
+        return Err(Memory);
+    }
+    let file = part_file(modules, place, part);
+    let mut table = Table::new(alloc);
+    let number = place as u16;
+    put_own(alloc, &mut table, modules, exports, body, space, number)?;
+    put_imported(alloc, &mut table, modules, exports, space, place, file)?;
+    let pervasive = offered_names(exports, 0, space);
+    put_table(alloc, &mut table, 0, pervasive)?;
+    Ok(table)
+}
+
+/// What names mean in a part of the module at a place, the first that each name means: what the module
+/// declares, then what the imports of that part bring, then what is pervasive.
+///
+/// # Errors
+///
+/// Only for want of memory.
+pub fn names_seen(
+    alloc: Global,
+    modules: &Modules,
+    exports: &Exports,
+    place: usize,
+    part: Part,
+) -> Result<PartNames, Memory>
+    requires within { place < length (slots.modules modules.now) }
+    requires made { AreExports exports.now (slots.modules modules.now) }
+    ensures values { (m : ModuleParts) → slice_get (slots.modules modules.now) place ≡ Some m → IfOk result (λ names. names.values ≡ declared_by (seen Space.Values (slots.modules modules.now) place m part)) }
+    ensures callables { (m : ModuleParts) → slice_get (slots.modules modules.now) place ≡ Some m → IfOk result (λ names. names.callables ≡ seen Space.Callables (slots.modules modules.now) place m part) }
+    ensures types { (m : ModuleParts) → slice_get (slots.modules modules.now) place ≡ Some m → IfOk result (λ names. names.types ≡ declared_by (seen Space.Types (slots.modules modules.now) place m part)) }
+{
+    let body = named_in_body(alloc, modules, place)?;
+    let seen_values = table_seen(alloc, modules, exports, &body, Space::Values, place, part)?;
+    let callables = table_seen(
+        alloc,
+        modules,
+        exports,
+        &body,
+        Space::Callables,
+        place,
+        part,
+    )?;
+    let seen_types = table_seen(alloc, modules, exports, &body, Space::Types, place, part)?;
+    let values = declarations(alloc, &seen_values)?;
+    let types = declarations(alloc, &seen_types)?;
+    Ok(PartNames {
+        values,
+        callables,
+        types,
+    })
+}

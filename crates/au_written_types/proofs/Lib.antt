@@ -1,0 +1,2 @@
+pub mod MeantLemmas
+pub mod MovedLemmas

@@ -1,0 +1,4 @@
+pub mod Senses
+pub mod Meant
+pub mod Views
+pub mod Moved
