@@ -101,7 +101,7 @@ fn tell_part(
         tell(wrong, b"a constant", said.as_bytes(), MEANT[index])?;
         index += 1;
     }
-    assert_eq!(rt; index, first + 4);
+    assert!(rt; index >= 4 && index - 4 == first);
     Ok(())
 }
 
