@@ -120,7 +120,7 @@ pub fn exports_of(alloc: Global, modules: &Modules) -> Result<Exports, Memory>
 }
 
 /// The names of a space that the interface of the module at a place offers.
-pub(crate) fn offered_names(exports: &Exports, place: usize, space: Space) -> &Table<u32>
+pub fn offered_names(exports: &Exports, place: usize, space: Space) -> &Table<u32>
     requires { place < length exports.now.interfaces.items }
     ensures { (program : List ModuleParts) (m : ModuleParts) → AreExports exports.now program → slice_get program place ≡ Some m → result.now ≡ table_of space (interface_of m) }
 {

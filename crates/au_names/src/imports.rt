@@ -49,8 +49,12 @@ fn past_first(bytes: &[u8]) -> &[u8]
     &bytes[1..]
 }
 
-/// The place of the module that has a name, given by its parts.
-fn place_named(
+/// The place of the module that has a name, given by its parts, if the program has it.
+///
+/// # Errors
+///
+/// Only for want of memory.
+pub fn place_named(
     alloc: Global,
     exports: &Exports,
     names: &Vec<Ident<Parsed>>,
@@ -61,8 +65,8 @@ fn place_named(
     Ok(exports.places.get(past_first(text.as_bytes())).copied())
 }
 
-/// The name under which an item brings what it names.
-fn given_name(item: &Renamed<Parsed>) -> &[u8]
+/// The name under which an item brings what it names: that after its `as`, or its own.
+pub fn given_name(item: &Renamed<Parsed>) -> &[u8]
     ensures { result.now ≡ spec.given_name (plain_renaming parsed.name_bytes (renaming parsed item.now)) }
 {
     match &item.alias {
@@ -196,6 +200,10 @@ fn put_imports(
 }
 
 /// Puts what the imports of a file of the module at a place bring, if there is one.
+///
+/// # Errors
+///
+/// Only for want of memory.
 #[tactic(auto, using(au_tables::proofs::TableLemmas::put_steps, std::proofs::lemmas::Grind::common_steps))]
 pub fn put_imported(
     alloc: Global,

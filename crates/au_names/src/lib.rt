@@ -2,7 +2,7 @@
 #![tactic(auto)]
 
 pub mod exports;
-mod imports;
+pub mod imports;
 pub mod laws;
 mod members;
 pub mod part_names;
