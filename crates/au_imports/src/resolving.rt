@@ -1,0 +1,40 @@
+//! From modules to a program of which every name is known.
+
+ghost use Rattle.std.specs.Prelude.{◌≡◌, ◌⊎◌, IfOk, Some, None, Err};
+ghost use Rattle.au_imports.specs.Importing.{refusal_of};
+ghost use Rattle.au_modules.specs.Slots.{modules};
+
+use crate::faults::ImportFault;
+use au_modules::Modules;
+use au_name_faults::name_fault;
+use au_promises::promise_fault;
+use au_resolved::Resolved;
+use std::alloc::Global;
+
+/// The program of these modules, where every name means one thing and every promise of an interface is kept.
+///
+/// # Errors
+///
+/// What the modules are refused for, the first: of names, modules by their places, the interface of each
+/// before its body, in the order of the text (`ImportFault::NoModule`, `ImportFault::Late`,
+/// `ImportFault::NotVisible`, `ImportFault::NameTwice`); then of promises, modules by their places, the
+/// declarations of each interface in the order of the text (`ImportFault::NotDefined`,
+/// `ImportFault::Differs`). `ImportFault::Memory` where no memory was found, in place of any other answer.
+pub fn resolve(alloc: Global, program: Modules) -> Result<Resolved, ImportFault>
+    // The modules are kept, with all that is known of their names and types.
+    ensures kept { IfOk result (λ resolved. resolved ≡ program) }
+    // Nothing is refused where they are.
+    ensures accepted { IfOk result (λ resolved. refusal_of (modules program) ≡ None) }
+    // What is refused is refused for this, or memory ran out.
+    ensures refused { (e : ImportFault) → result ≡ Err e
+        → (e ≡ ImportFault.Memory) ⊎ (refusal_of (modules program) ≡ Some e) }
+{
+    let resolved = Resolved::of(alloc, program)?;
+    if let Some(found) = name_fault(alloc, &resolved)? {
+        return Err(ImportFault::from(found));
+    }
+    if let Some(found) = promise_fault(alloc, &resolved)? {
+        return Err(ImportFault::from(found));
+    }
+    Ok(resolved)
+}

@@ -1,0 +1,10 @@
+//! The names that a declaration declares and writes, in the order of the text, and its type parameters.
+#![tactic(auto)]
+
+pub mod listing;
+pub mod mentions;
+pub mod scopes;
+
+pub use listing::mentions_of;
+pub use mentions::Mention;
+pub use scopes::type_parameters;

@@ -1,0 +1,34 @@
+-- What is made before the names of a program are looked at, so that each is found by a table.
+use Rattle.std.specs.Prelude.{◌≡◌, ℕ, List, [], map, reverse}
+use Rattle.au_syntax.specs.declared.modules.Part.{Part}
+use Rattle.au_tables.specs.declared.name_tables.NameTables.{NameTables}
+use Rattle.au_tables.specs.declared.spaces.Space.{Space}
+use Rattle.au_tables.specs.declared.spaces.Space.TheVariants.{Values, Callables, Types}
+use Rattle.au_tables.specs.DeclaredNames.{table_of}
+use Rattle.au_tables.specs.Tables.{firsts}
+use Rattle.au_modules.specs.Programs.{ModuleParts}
+use Rattle.au_names.specs.Exporting.{AreExports}
+use Rattle.au_names.specs.Owned.{interface_of}
+use Rattle.au_name_faults.specs.declared.brought.Brought.{Brought}
+use Rattle.au_name_faults.specs.declared.offers.Offers.{Offers}
+use Rattle.au_name_faults.specs.Clashing.{brought_to}
+
+-- the tables of the names that an interface offers, with the number of the last declaration of each
+abbrev pub last_offers : ModuleParts → NameTables
+last_offers m = record {
+  values = table_of Values (reverse (interface_of m));
+  callables = table_of Callables (reverse (interface_of m));
+  types = table_of Types (reverse (interface_of m));
+}
+
+-- These are the offers of a program's interfaces, by their places.
+pub record AreOffers (program : List ModuleParts) (offers : Offers) : Type 0 where
+  pub exports : AreExports offers.exports program
+  pub lasts : offers.lasts.items ≡ map last_offers program
+
+-- These are the tables of what the imports of a part of the module at a place bring, the first that
+-- each name is given.
+pub record AreBrought (program : List ModuleParts) (place : ℕ) (m : ModuleParts) (part : Part) (brought : Brought) : Type 0 where
+  pub values : brought.values ≡ firsts (brought_to program place m part Values)
+  pub callables : brought.callables ≡ firsts (brought_to program place m part Callables)
+  pub types : brought.types ≡ firsts (brought_to program place m part Types)

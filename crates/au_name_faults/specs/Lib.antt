@@ -1,0 +1,4 @@
+pub mod Choices
+pub mod Clashing
+pub mod Gathered
+pub mod NameFaults

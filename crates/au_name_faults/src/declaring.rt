@@ -1,0 +1,1 @@
+//! What declarations are refused for.
