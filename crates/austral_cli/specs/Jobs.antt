@@ -15,15 +15,26 @@ pub record Task : Type 0 where
 abbrev pub task_of : Job → Task
 task_of job = record { command = job.command; files = map string_bytes job.files.items }
 
--- whether a word is the name of one file: it isn't empty, it doesn't begin with `-`, and it holds no comma
-abbrev pub is_file_name : List ℕ → Bool
-is_file_name word = not (length word == 0) && not (starts_with nat_eq word (codes "-")) && not (list_any (λ byte. byte == 44) word)
+-- the names in a part: what stands between its commas
+unfoldable pub names_in : List ℕ → List (List ℕ)
+names_in [] = [] ∷ []
+names_in (byte ∷ rest) = if byte == 44 then [] ∷ names_in rest else onto byte (names_in rest)
+  where
+    -- a byte before those of the first name
+    onto : ℕ → List (List ℕ) → List (List ℕ)
+    onto byte [] = (byte ∷ []) ∷ []
+    onto byte (name ∷ names) = (byte ∷ name) ∷ names
 
--- The words ask for this: `run` and the name of one file.
+-- whether a word is a part: it doesn't begin with `-`, and none of its names is empty
+abbrev pub is_part : List ℕ → Bool
+is_part word = not (starts_with nat_eq word (codes "-")) && not (list_any is_empty (names_in word))
+
+-- The words ask for this: `run` and parts, at least one.
 abbrev pub IsJob : List (List ℕ) → Task → Type 0
 IsJob words task =
-    (name : List ℕ) × (words ≡ codes "run" ∷ name ∷ []) × IsTrue (is_file_name name)
-    × (task ≡ record { command = Run; files = name ∷ [] })
+    (first : List ℕ) × (others : List (List ℕ)) × (words ≡ codes "run" ∷ first ∷ others)
+    × IsTrue (list_all is_part (first ∷ others))
+    × (task ≡ record { command = Run; files = flat_map names_in (first ∷ others) })
 
 -- The words ask for nothing.
 abbrev pub IsNoJob : List (List ℕ) → Type 0

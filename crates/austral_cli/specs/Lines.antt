@@ -5,7 +5,7 @@ use Rattle.au_base.specs.declared.limits.LimitKind.{LimitKind}
 use Rattle.au_base.specs.declared.limits.LimitKind.TheVariants as kind
 use Rattle.au_base.specs.declared.places.Pos.{Pos}
 use Rattle.austral_cli.specs.declared.refusals.Refusal.{Refusal}
-use Rattle.austral_cli.specs.declared.refusals.Refusal.TheVariants.{Byte, Syntax, NotYet}
+use Rattle.austral_cli.specs.declared.refusals.Refusal.TheVariants.{Byte, Syntax, NotYet, TwiceGiven, NoBody, Unsafe, NoModule, Late, NotVisible, NameTwice, NotDefined, Differs}
 
 -- each line ends with a newline
 abbrev pub line : List ℕ → List ℕ
@@ -51,16 +51,21 @@ abbrev pub place_text : List (List ℕ) → Pos → List ℕ
 place_text names at =
     unwrap_or (slice_get names at.file) [] ++ codes ":" ++ decimal at.line ++ codes ":" ++ decimal at.column
 
-abbrev pub refusal_place : Refusal → Pos
-refusal_place (Byte at) = at
-refusal_place (Syntax at) = at
-refusal_place (NotYet at) = at
-
-abbrev pub refusal_word : Refusal → List ℕ
-refusal_word (Byte at) = codes ": byte"
-refusal_word (Syntax at) = codes ": syntax"
-refusal_word (NotYet at) = codes ": not yet"
+-- the line where a program is refused, without its end
+abbrev pub refusal_text : List (List ℕ) → Refusal → List ℕ
+refusal_text names (Byte at) = place_text names at ++ codes ": byte"
+refusal_text names (Syntax at) = place_text names at ++ codes ": syntax"
+refusal_text names (NotYet at) = place_text names at ++ codes ": not yet"
+refusal_text names (TwiceGiven name) = codes "module " ++ name ++ codes ": given twice"
+refusal_text names (NoBody name) = codes "module " ++ name ++ codes ": no body"
+refusal_text names (Unsafe at) = place_text names at ++ codes ": unsafe module"
+refusal_text names (NoModule at name) = place_text names at ++ codes ": no module " ++ name
+refusal_text names (Late at name) = place_text names at ++ codes ": module " ++ name ++ codes " stands later"
+refusal_text names (NotVisible at name) = place_text names at ++ codes ": name not visible: " ++ name
+refusal_text names (NameTwice at name) = place_text names at ++ codes ": name twice: " ++ name
+refusal_text names (NotDefined at name) = place_text names at ++ codes ": not defined: " ++ name
+refusal_text names (Differs at other name) = place_text names at ++ codes ": differs from " ++ place_text names other ++ codes ": " ++ name
 
 -- the line where a program is refused
 abbrev pub refusal_line : List (List ℕ) → Refusal → List ℕ
-refusal_line names refusal = line (place_text names (refusal_place refusal) ++ refusal_word refusal)
+refusal_line names refusal = line (refusal_text names refusal)

@@ -2,7 +2,7 @@
 use Rattle.std.specs.Prelude.{◌≡◌, ℕ, ◌<◌, ◌≤◌, ◌⊎◌, List, [], ◌∷◌, ◌++◌, length, Some, None, if◌then◌else◌}
 use Rattle.std.specs.List.{flat_map}
 use Rattle.au_base.specs.declared.limits.Limit.{Limit}
-use Rattle.au_base.specs.declared.limits.LimitKind.TheVariants.{FileBytes}
+use Rattle.au_base.specs.declared.limits.LimitKind.TheVariants as kind
 use Rattle.au_base.specs.declared.statuses.Status.{Status}
 use Rattle.au_base.specs.declared.statuses.Status.TheVariants as status
 use Rattle.au_base.specs.declared.tokens.Token.{Token}
@@ -13,7 +13,8 @@ use Rattle.au_printing.specs.declared.files.Print.{Print}
 use Rattle.au_lexer.specs.Cut.{Cut, IsStray, PassesLimit}
 use Rattle.au_lexer.specs.Passing.{IsWithinLimits}
 use Rattle.austral_cli.specs.Jobs.{IsJob, IsNoJob}
-use Rattle.austral_cli.specs.Trees.{HasNoTree, TokensCome}
+use Rattle.austral_cli.specs.Programs.{ReadsCome}
+use Rattle.austral_cli.specs.Trees.{AreRead, FirstHalts, HasNoTree, HasTokens, ReadFile}
 use Rattle.austral_cli.specs.Lines.{words_line, missing_line, limit_line, refusal_line}
 use Rattle.austral_cli.specs.declared.jobs.Command.TheVariants.{Run}
 use Rattle.austral_cli.specs.declared.outcomes.Outcome.{Outcome}
@@ -22,7 +23,7 @@ use Rattle.austral_cli.specs.declared.refusals.Refusal.TheVariants.{Byte}
 
 -- the limit of a file's bytes, with the one count that passes it
 abbrev pub file_limit : Limit
-file_limit = record { kind = FileBytes; count = 1048577; most = 1048576 }
+file_limit = record { kind = kind.FileBytes; count = 1048577; most = 1048576 }
 
 -- The file of this name has these bytes, and isn't too large.
 abbrev pub IsFile : Files → List ℕ → List ℕ → Type 0
@@ -44,31 +45,37 @@ abbrev pub IsFirst : (List ℕ → Type 0) → Files → List (List ℕ) → Typ
 IsFirst P files [] = ⊥
 IsFirst P files (name ∷ names) = P name ⊎ (((bytes : List ℕ) × IsFile files name bytes) × IsFirst P files names)
 
--- The program is one file, of whose bytes P holds.
-abbrev pub OneFile : Files → List (List ℕ) → (List ℕ → Type 0) → Type 0
-OneFile files names P = (bytes : List ℕ) × AreFiles files names (bytes ∷ []) × P bytes
+-- how many files a program may have
+abbrev pub most_files : ℕ
+most_files = 128
 
--- The bytes of the first file are cut into tokens that pass no limit, and P holds of them.
-abbrev pub HasTokens : List ℕ → (List Token → Type 0) → Type 0
-HasTokens bytes P = (tokens : List Token) × Cut 0 bytes tokens × IsWithinLimits tokens × P tokens
+-- the limit of the number of files, with the whole count that passes it
+abbrev pub files_limit : ℕ → Limit
+files_limit count = record { kind = kind.Files; count = count; most = most_files }
 
--- What a file comes to, by its bytes: the first cause that the cut into tokens has counts, a limit or a
--- byte that begins no token, and then what its tokens come to.
-abbrev pub FileComes : List ℕ → Outcome → Type 0
-FileComes bytes (outcome.Refused (Byte at)) = IsStray 0 bytes at
-FileComes bytes (outcome.Passes limit) = PassesLimit 0 bytes limit ⊎ HasTokens bytes (λ tokens. TokensCome tokens (place_after 0 bytes) (outcome.Passes limit))
-FileComes bytes other = HasTokens bytes (λ tokens. TokensCome tokens (place_after 0 bytes) other)
+-- What a program comes to, by the bytes of its files: the first file that can't be read counts, and where each
+-- is read, what is read.
+abbrev pub BytesCome : List (List ℕ) → Outcome → Type 0
+BytesCome all arisen = FirstHalts 0 all arisen ⊎ ((reads : List ReadFile) × AreRead 0 all reads × ReadsCome reads arisen)
 
--- What a program comes to, by the names of its files: they are fetched in order, and then its one
--- file is cut and read.
+-- The files of these names can be had, and come to this.
+abbrev pub FilesCome : Files → List (List ℕ) → Outcome → Type 0
+FilesCome files names arisen = (all : List (List ℕ)) × AreFiles files names all × BytesCome all arisen
+
+-- What a program of so few files as it may have comes to, by their names: they are fetched in order, and then
+-- they are read.
+abbrev pub FewCome : Files → List (List ℕ) → Outcome → Type 0
+FewCome files names outcome.NoJob = ⊥
+FewCome files names (outcome.Missing name) = IsFirst (λ one. (one ≡ name) × (files one ≡ None)) files names
+FewCome files names (outcome.Passes limit) = ((limit ≡ file_limit) × IsFirst (IsTooLarge files) files names) ⊎ FilesCome files names (outcome.Passes limit)
+FewCome files names (outcome.Refused refusal) = FilesCome files names (outcome.Refused refusal)
+FewCome files names (outcome.Prints first) = FilesCome files names (outcome.Prints first)
+
+-- What a program comes to, by the names of its files.
 abbrev pub Comes : Files → List (List ℕ) → Outcome → Type 0
-Comes files names outcome.NoJob = ⊥
-Comes files names (outcome.Missing name) = IsFirst (λ one. (one ≡ name) × (files one ≡ None)) files names
-Comes files names (outcome.Passes limit) =
-    ((limit ≡ file_limit) × IsFirst (IsTooLarge files) files names)
-    ⊎ OneFile files names (λ bytes. FileComes bytes (outcome.Passes limit))
-Comes files names (outcome.Refused refusal) = OneFile files names (λ bytes. FileComes bytes (outcome.Refused refusal))
-Comes files names (outcome.Prints first) = OneFile files names (λ bytes. FileComes bytes (outcome.Prints first))
+Comes files names arisen =
+    ((most_files < length names) × (arisen ≡ outcome.Passes (files_limit (length names))))
+    ⊎ ((length names ≤ most_files) × FewCome files names arisen)
 
 -- When words and files come to an outcome: the words are no job, or they ask to run a program.
 abbrev pub Arises : List (List ℕ) → Files → List (List ℕ) → Outcome → Type 0
@@ -106,8 +113,10 @@ abbrev pub Owes : List (List ℕ) → Files → Due → Type 0
 Owes words files due =
     (names : List (List ℕ)) × (arisen : Outcome) × Arises words files names arisen × (due ≡ due_of names arisen)
 
--- The file of a job is cut into tokens within the limits, which have no tree.
+-- The files of a job can be had and are few enough, and one of them is cut into tokens within the limits, which
+-- have no tree.
 abbrev pub IsUnread : List (List ℕ) → Files → Type 0
 IsUnread words files =
-    (name : List ℕ) × IsJob words (record { command = Run; files = name ∷ [] })
-    × (bytes : List ℕ) × IsFile files name bytes × HasTokens bytes HasNoTree
+    (names : List (List ℕ)) × IsJob words (record { command = Run; files = names }) × (length names ≤ most_files)
+    × (all : List (List ℕ)) × AreFiles files names all
+    × (file : ℕ) × (bytes : List ℕ) × (slice_get all file ≡ Some bytes) × HasTokens file bytes HasNoTree

@@ -1,9 +1,12 @@
 -- Which tokens have a tree, and what tokens come to.
-use Rattle.std.specs.Prelude.{◌≡◌, ◌⊎◌, ℕ, ◌-◌, List, Err, IsTrue, length, unwrap_or, slice_get}
+use Rattle.std.specs.Prelude.{◌≡◌, ◌⊎◌, ℕ, ◌+◌, ◌-◌, List, [], ◌∷◌, Err, IsTrue, length, unwrap_or, slice_get}
 use Rattle.std.specs.Option.{option_map}
 use Rattle.au_base.specs.declared.limits.Limit.{Limit}
 use Rattle.au_base.specs.declared.places.Pos.{Pos}
 use Rattle.au_base.specs.declared.tokens.Token.{Token}
+use Rattle.au_base.specs.Places.{place_after}
+use Rattle.au_lexer.specs.Cut.{Cut, IsStray, PassesLimit}
+use Rattle.au_lexer.specs.Passing.{IsWithinLimits}
 use Rattle.au_printing.specs.Files.{Reads, IsUnfinished, IsStrangePlace}
 use Rattle.au_read_modules.specs.ModuleReading.{file_at}
 use Rattle.au_reading.specs.Bounds.{ModulePasses, usual}
@@ -43,13 +46,43 @@ IsPlaceIn tokens end at =
 abbrev pub IsNoPrinting : List Token → Pos → Pos → Type 0
 IsNoPrinting tokens end at = IsStrangePlace tokens at ⊎ (IsUnfinished tokens × (at ≡ end))
 
--- What the tokens of a file come to, whose end is this place: they have no tree, or their tree passes a
--- limit, or it is one that prints, or another.
-abbrev pub TokensCome : List Token → Pos → Outcome → Type 0
-TokensCome tokens end (outcome.Refused (Syntax at)) = HasNoTree tokens × IsPlaceIn tokens end at
-TokensCome tokens end (outcome.Passes limit) = TreesPass tokens limit
-TokensCome tokens end (outcome.Refused (NotYet at)) = HasTree tokens × IsNoPrinting tokens end at
-TokensCome tokens end (outcome.Prints first) = HasTree tokens × Reads first tokens
-TokensCome tokens end (outcome.Refused (Byte at)) = ⊥
-TokensCome tokens end outcome.NoJob = ⊥
-TokensCome tokens end (outcome.Missing name) = ⊥
+-- a file that was read: its tokens, the place of its end, and its tree
+pub record ReadFile : Type 0 where
+  pub tokens : List Token
+  pub end : Pos
+  pub tree : PlainModule
+
+-- The bytes of the file of a number are cut into tokens that pass no limit, and P holds of them.
+abbrev pub HasTokens : ℕ → List ℕ → (List Token → Type 0) → Type 0
+HasTokens file bytes P = (tokens : List Token) × Cut file bytes tokens × IsWithinLimits tokens × P tokens
+
+-- A file of these bytes was read so: it is cut into these tokens, which are the words of this tree, and no
+-- limit is passed.
+pub record IsRead (file : ℕ) (bytes : List ℕ) (one : ReadFile) : Type 0 where
+  pub cut : Cut file bytes one.tokens
+  pub within : IsWithinLimits one.tokens
+  pub end : one.end ≡ place_after file bytes
+  pub formed : IsTrue (formed_module one.tree)
+  pub spelled : Spells one.tree one.tokens
+  pub fits : IsTrue (fits one.tree)
+
+-- What a file of these bytes comes to that can't be read: the first cause that the cut into tokens has counts, a
+-- limit or a byte that begins no token; or its tokens have no tree, or their tree passes a limit.
+abbrev pub Halts : ℕ → List ℕ → Outcome → Type 0
+Halts file bytes (outcome.Refused (Byte at)) = IsStray file bytes at
+Halts file bytes (outcome.Passes limit) = PassesLimit file bytes limit ⊎ HasTokens file bytes (λ tokens. TreesPass tokens limit)
+Halts file bytes (outcome.Refused (Syntax at)) =
+    HasTokens file bytes (λ tokens. HasNoTree tokens × IsPlaceIn tokens (place_after file bytes) at)
+Halts file bytes other = ⊥
+
+-- Files in order, the first of this number, were read so.
+abbrev pub AreRead : ℕ → List (List ℕ) → List ReadFile → Type 0
+AreRead file [] [] = Unit {0}
+AreRead file (bytes ∷ others) (one ∷ rest) = IsRead file bytes one × AreRead (file + 1) others rest
+AreRead file bytes reads = ⊥
+
+-- The first of files in order that can't be read comes to this.
+abbrev pub FirstHalts : ℕ → List (List ℕ) → Outcome → Type 0
+FirstHalts file [] arisen = ⊥
+FirstHalts file (bytes ∷ others) arisen =
+    Halts file bytes arisen ⊎ (((one : ReadFile) × IsRead file bytes one) × FirstHalts (file + 1) others arisen)
