@@ -1,0 +1,68 @@
+//! The shipped calls by name.
+
+use au_base::{IntKind, Name};
+use au_ints::WrapOp;
+use au_shipped::{Prim, prim_of};
+use std::alloc::Global;
+use std::test::Fail;
+
+/// Calls by the names of their modules and their own, with the kind of integers that they are for, and the shipped
+/// calls that they are.
+const CALLS: [(&[u8], &[u8], Option<IntKind>, Option<Prim>); 11] = [
+    (
+        b"Austral.Pervasive",
+        b"print",
+        Some(IntKind::Nat8),
+        Some(Prim::PrintInt),
+    ),
+    (b"Austral.Pervasive", b"print", None, Some(Prim::PrintText)),
+    (b"Austral.Pervasive", b"abort", None, Some(Prim::Abort)),
+    (
+        b"Austral.Pervasive",
+        b"modularSubtract",
+        Some(IntKind::Int64),
+        Some(Prim::Wrap(WrapOp::Subtract, IntKind::Int64)),
+    ),
+    (
+        b"Austral.Pervasive",
+        b"toIndex",
+        Some(IntKind::Nat8),
+        Some(Prim::Convert(IntKind::Index)),
+    ),
+    (b"Standard.Box", b"boxGetMut", None, Some(Prim::BoxGetMut)),
+    (b"Standard.Buffer", b"nth", None, Some(Prim::Nth)),
+    (
+        b"Standard.IO.Terminal",
+        b"readByte",
+        None,
+        Some(Prim::ReadByte),
+    ),
+    (b"Standard.Box", b"nth", None, None),
+    (b"Standard", b"unbox", None, None),
+    (b"Austral.Pervasive", b"Some", None, None),
+];
+
+/// What the call of these names is.
+fn call_of(
+    alloc: Global,
+    home: &[u8],
+    call: &[u8],
+    of: Option<IntKind>,
+) -> Result<Option<Prim>, Fail> {
+    if home.is_empty() || home.len() > 64 || call.is_empty() || call.len() > 64 {
+        return Err(Fail::new("no name"));
+    }
+    let home = Name::copy_of(alloc, home)?;
+    let call = Name::copy_of(alloc, call)?;
+    Ok(prim_of(&home, &call, of))
+}
+
+#[test]
+fn shipped_calls_are_found_by_their_names(rt: HostRuntime) -> Result<(), Fail> {
+    let alloc = rt.alloc();
+    for (home, call, of, due) in CALLS {
+        let found = call_of(alloc, home, call, of)?;
+        assert!(rt; found == due);
+    }
+    Ok(())
+}
