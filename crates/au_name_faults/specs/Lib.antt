@@ -1,4 +1,5 @@
 pub mod Choices
 pub mod Clashing
 pub mod Gathered
+pub mod Good
 pub mod NameFaults

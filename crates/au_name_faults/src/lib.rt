@@ -7,6 +7,7 @@ pub mod declaring;
 pub mod faults;
 pub mod finding;
 pub mod importing;
+pub mod laws;
 pub mod offers;
 
 pub use faults::NameFault;

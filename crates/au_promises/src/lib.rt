@@ -3,6 +3,7 @@
 
 pub mod faults;
 pub mod finding;
+pub mod laws;
 
 pub use faults::PromiseFault;
 pub use finding::promise_fault;
