@@ -1,4 +1,5 @@
 pub mod Choices
 pub mod Clashing
+pub mod Declaring
 pub mod Gathered
 pub mod NameFaults
