@@ -3,6 +3,7 @@
 
 pub mod listing;
 pub mod mentions;
+mod pushing;
 pub mod scopes;
 
 pub use listing::mentions_of;

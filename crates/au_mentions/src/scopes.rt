@@ -1,23 +1,77 @@
 //! The type parameters of declarations.
 
-ghost use Rattle.std.specs.Prelude.{◌≡◌, IfOk};
+ghost use Rattle.std.specs.Prelude.{◌≡◌, ◌∷◌, [], IfOk, map};
+ghost use Rattle.au_heads.specs.HeadsOf.{parameter};
 ghost use Rattle.au_mentions.specs.Mentions as spec;
-ghost use Rattle.au_syntax.specs.Plain.{plain_declaration};
-ghost use Rattle.au_syntax.specs.Views.{declaration};
+ghost use Rattle.au_mentions.specs.Said.{generics_said, parameters_said};
+ghost use Rattle.au_syntax.specs.Plain.{plain_declaration, plain_in_universe};
+ghost use Rattle.au_syntax.specs.Views.{declaration, in_universe};
 ghost use Rattle.au_syntax.specs.contracts.parsed.ParsedPhase.TheImpl.{ghosts as parsed};
 
 use au_base::Memory;
-use au_syntax::{Decl, Parsed};
-use au_types::Params;
+use au_syntax::{Decl, Generic, Parsed, TypeParameter};
+use au_types::{Parameter, Params};
 use std::alloc::Global;
+
+/// A type parameter.
+fn parameter_of(alloc: Global, one: &TypeParameter<Parsed>) -> Result<Parameter, Memory>
+    ensures { IfOk result (λ made. made ≡ parameter (plain_in_universe parsed.name_bytes (in_universe parsed one.now))) }
+{
+    let universe = one.universe;
+    let name = one.name.name.copy(alloc)?;
+    Ok(Parameter { name, universe })
+}
+
+/// Type parameters in brackets.
+fn params_of(alloc: Global, list: &Vec<TypeParameter<Parsed>>) -> Result<Params, Memory>
+    ensures { IfOk result (λ params. params ≡ map parameter (parameters_said list.now.items)) }
+{
+    let mut params = Params::new(alloc);
+    for one in list {
+        params.push(parameter_of(alloc, one)?)?;
+    }
+    Ok(params)
+}
+
+/// Type parameters behind `generic`.
+fn generic_params_of(alloc: Global, list: &Vec<Generic<Parsed>>) -> Result<Params, Memory>
+    ensures { IfOk result (λ params. params ≡ map spec.generic_parameter (generics_said list.now.items)) }
+{
+    let mut params = Params::new(alloc);
+    for one in list {
+        params.push(parameter_of(alloc, &one.parameter)?)?;
+    }
+    Ok(params)
+}
+
+/// The type parameter of a class, alone.
+fn alone(alloc: Global, one: &TypeParameter<Parsed>) -> Result<Params, Memory>
+    ensures { IfOk result (λ params. params ≡ parameter (plain_in_universe parsed.name_bytes (in_universe parsed one.now)) ∷ []) }
+{
+    let mut params = Params::new(alloc);
+    params.push(parameter_of(alloc, one)?)?;
+    Ok(params)
+}
 
 /// The type parameters of a declaration, in order. They are in scope in all of it.
 ///
 /// # Errors
 ///
 /// Only for want of memory.
+#[tactic(auto, using(au_syntax::proofs::DeclarationLemmas::declaration_steps, std::proofs::lemmas::Grind::common_steps))]
 pub fn type_parameters(alloc: Global, decl: &Decl<Parsed>) -> Result<Params, Memory>
     ensures { IfOk result (λ params. params ≡ spec.type_parameters (plain_declaration parsed.name_bytes (declaration parsed decl.now))) }
 {
-    Err(Memory)
+    match decl {
+        Decl::Constant(_, _, _) => Ok(Params::new(alloc)),
+        Decl::Opaque(_, _, list, _) => params_of(alloc, list),
+        Decl::Record(_, _, list, _, _) => params_of(alloc, list),
+        Decl::Union(_, _, list, _, _) => params_of(alloc, list),
+        Decl::Function(_, generics, _) => generic_params_of(alloc, generics),
+        Decl::Class(_, _, one, _) => alone(alloc, one),
+        Decl::Instance(_, generics, _, _) => generic_params_of(alloc, generics),
+        Decl::ConstantBody(_, _, _, _) => Ok(Params::new(alloc)),
+        Decl::FunctionBody(_, generics, _, _, _) => generic_params_of(alloc, generics),
+        Decl::InstanceBody(_, generics, _, _, _) => generic_params_of(alloc, generics),
+    }
 }

@@ -1,5 +1,6 @@
 pub mod Choices
 pub mod Clashing
+pub mod Declaring
 pub mod Gathered
 pub mod Good
 pub mod NameFaults

@@ -3,6 +3,7 @@
 #![tactic(auto)]
 
 pub mod brought;
+pub mod built_in;
 pub mod declaring;
 pub mod faults;
 pub mod finding;

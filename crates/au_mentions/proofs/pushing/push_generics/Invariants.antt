@@ -1,0 +1,9 @@
+use Rattle.std.proofs.Common.{◌≡◌, ◌++◌, take}
+use Rattle.std.specs.List.{flat_map}
+use Rattle.au_mentions.specs.Mentions.{constraint_mentions}
+use Rattle.au_mentions.specs.Said.{generics_said}
+use Rattle.au_mentions.proofs.pushing.push_generics.Given as goal
+
+-- the names of the items that are visited
+abbrev pub invariant-loop-one : goal.invariant-loop-one
+invariant-loop-one l = l.list.items ≡ l.fn.list.items ++ flat_map constraint_mentions (generics_said (take l.one-index l.one-items))
