@@ -1,17 +1,16 @@
 -- What imports bring, item by item, and from where.
-use Rattle.std.proofs.Common.{◌≡◌, ℕ, ◌<◌, ◌⊎◌, inl, inr, Bool, true, false, true≢false, cond, List, [], ◌∷◌, ◌++◌, map, filter, length, get_or, Option, Some, None, refl, ap, sym, ◌∙◌, subst, arith}
+use Rattle.std.proofs.Common.{◌≡◌, ℕ, ◌<◌, ◌⊎◌, inl, inr, Bool, true, false, true≢false, cond, List, [], ◌∷◌, map, filter, length, get_or, Option, Some, None, refl, ap, sym, ◌∙◌, subst}
 use Rattle.std.specs.Prelude.{if◌then◌else◌, nat_lt, slice_get}
 use Rattle.std.specs.List.{flat_map, position_or_len}
 use Rattle.std.specs.Option.{option_map}
 use Rattle.std.specs.Str.{bytes_eq}
 use Rattle.std.proofs.lemmas.Bool.{lt-ltb, ltb-true}
-use Rattle.std.proofs.lemmas.Option.{none-some, cond_some, slice_get-get_or}
+use Rattle.std.proofs.lemmas.Option.{cond_some, slice_get-get_or}
 use Rattle.std.proofs.lemmas.Slice.Eq.{bytes_eq-Decides}
 use Rattle.au_syntax.specs.declared.modules.Part.{Part}
 use Rattle.au_syntax.specs.Modules.{Importing}
 use Rattle.au_syntax.specs.Names.{Renaming}
 use Rattle.au_syntax.specs.Plain.{Bytes, PlainDeclaration}
-use Rattle.au_syntax.specs.Sizes.{joined}
 use Rattle.au_tables.specs.declared.spaces.Space.{Space}
 use Rattle.au_tables.specs.declared.spaces.Space.TheVariants.{Values, Callables, Types}
 use Rattle.au_tables.specs.DeclaredNames.{given}

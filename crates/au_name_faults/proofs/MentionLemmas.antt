@@ -1,10 +1,10 @@
 -- What a declaration mentions as declared is what it brings in.
-use Rattle.std.proofs.Common.{◌≡◌, ◌⊎◌, inl, inr, List, [], ◌∷◌, ◌++◌, map, refl, ap, sym, ◌∙◌, subst}
+use Rattle.std.proofs.Common.{◌≡◌, ◌⊎◌, inl, inr, List, [], ◌∷◌, ◌++◌, map, refl, ap, subst}
 use Rattle.std.specs.List.{flat_map}
 use Rattle.au_base.specs.declared.places.Pos.{Pos}
 use Rattle.au_syntax.specs.Modules.{Constrained, Header, Variant, constant, opaque_type, record_type, union_type, function, class, instance, constant_body, function_body, instance_body}
 use Rattle.au_syntax.specs.Names.{Placed}
-use Rattle.au_syntax.specs.Plain.{Bytes, PlainDeclaration, PlainMethod}
+use Rattle.au_syntax.specs.Plain.{Bytes, PlainDeclaration}
 use Rattle.au_syntax.specs.Types.{WrittenType, WrittenTypes, Labelled, named, reference, no_types, types}
 use Rattle.au_tables.specs.declared.spaces.Space.{Space}
 use Rattle.au_tables.specs.declared.spaces.Space.TheVariants.{Values, Callables, Types}
@@ -56,6 +56,7 @@ writes_written name x m = head_or IsWritten (Writes name.name name.at) [] x tt (
 
 mutual
   unfolding type_mentions argument_mentions
+
   type_written : (t : WrittenType) (x : Mention) → Among x (type_mentions t) → IsWritten x
   type_written (named name args) x m = both IsWritten (writes name) (argument_mentions args) x (writes_written name x) (arguments_written args x) m
   type_written (reference at access target region) x m = both IsWritten (type_mentions target) (writes region) x (type_written target x) (writes_written region x) m
