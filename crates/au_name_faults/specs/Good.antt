@@ -39,7 +39,7 @@ module _ (program : List ModuleParts) (place : ℕ) (m : ModuleParts) (part : Pa
   abbrev pub brought : Space → List (Bytes × Target)
   brought space = imported space program place (imports_in (part_of part m))
 
-  -- An import brings this under the name, or it is the first that is pervasive there: of two that are the first counts.
+  -- An import brings this under the name, or it is what is pervasive there: the first, where two declarations are.
   -- To the first module its own names are no others'.
   abbrev pub IsForeign : Space → Bytes → Target → Type 0
   IsForeign space name meaning =
