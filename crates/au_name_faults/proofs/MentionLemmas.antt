@@ -133,7 +133,7 @@ mention_fits (function_body at generics header body stop) x m = generic_fits (fu
 mention_fits (instance_body at generics name t methods) x m =
     written_fits (instance_body at generics name t methods) x
     (both IsWritten (instance_mentions generics name t) (flat_map method_mentions methods) x (instance_written generics name t x)
-    (each IsWritten method_mentions methods x (λ one among n. header_written one.header x n)) m)
+    (each IsWritten method_mentions methods x (λ one two n. header_written one.header x n)) m)
 
 pub declared_of_mention : (d : PlainDeclaration) (space : Space) (name : Bytes) (at : Pos) → Among (Declares space name at) (mentions d) → Among name (declared_names space d)
 declared_of_mention d space name at m = mention_fits d (Declares space name at) m

@@ -96,7 +96,7 @@ module _ (program : List ModuleParts) (place : ℕ) (m : ModuleParts) where
   unkept_from : (body promises : List PlainDeclaration) → unkept program place m body promises ≡ None
       → (promise : PlainDeclaration) (name : Bytes) → Among promise promises → promised promise ≡ Some name → IsKept program place m body promise
   unfolding unkept
-  unkept_from body [] h promise name among says = absurd among
+  unkept_from body [] h promise name none says = absurd none
   unkept_from body (p ∷ ps) h promise name (inl here) says =
       subst (λ one. IsKept program place m body one) here
       (fault_from body p name (ap promised here ∙ says) (or_first (promise_fault_of program place m body p) (unkept program place m body ps) h))
