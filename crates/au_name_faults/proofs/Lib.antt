@@ -1,1 +1,9 @@
+pub mod BroughtLemmas
+pub mod ChoiceLemmas
+pub mod ClashLemmas
 pub mod DeclaringLemmas
+pub mod FreeLemmas
+pub mod GoodLemmas
+pub mod MentionLemmas
+pub mod NumberLemmas
+pub mod RuleLemmas

@@ -10,7 +10,7 @@ use Rattle.au_syntax.specs.Plain.{Bytes, PlainDeclaration}
 use Rattle.au_syntax.specs.Sizes.{joined}
 use Rattle.au_tables.specs.declared.spaces.Space.{Space}
 use Rattle.au_tables.specs.declared.spaces.Space.TheVariants.{Types}
-use Rattle.au_tables.specs.Tables.{has_name}
+use Rattle.au_tables.specs.Tables.{find, has_name}
 use Rattle.au_modules.specs.Programs.{ModuleParts}
 use Rattle.au_heads.specs.HeadsOf.{heads_of}
 use Rattle.au_names.specs.declared.targets.Target.{Target}
@@ -39,10 +39,11 @@ module _ (program : List ModuleParts) (place : ℕ) (m : ModuleParts) (part : Pa
   abbrev pub brought : Space → List (Bytes × Target)
   brought space = imported space program place (imports_in (part_of part m))
 
-  -- An import brings this under the name, or it is pervasive. To the first module its own names are no others'.
+  -- An import brings this under the name, or it is what is pervasive there: the first, where two declarations are.
+  -- To the first module its own names are no others'.
   abbrev pub IsForeign : Space → Bytes → Target → Type 0
   IsForeign space name meaning =
-      Contains (brought space) (name, meaning) ⊎ ((place ≢ 0) × Contains (pervasive space program) (name, meaning))
+      Contains (brought space) (name, meaning) ⊎ ((place ≢ 0) × (find name (pervasive space program) ≡ Some meaning))
 
   -- The names of a part of the module at a place are good.
   pub record NamesAreGood : Type 0 where

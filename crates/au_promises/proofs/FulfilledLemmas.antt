@@ -1,0 +1,170 @@
+-- Promises are refused for nothing exactly where every body fulfils its interface.
+use Rattle.std.proofs.Common.{◌≡◌, ℕ, zero, suc, ◌+◌, ◌<◌, ◌⊎◌, inl, inr, Bool, true, false, List, [], ◌∷◌, length, get_or, Option, Some, None, refl, ap, sym, ◌∙◌, subst, find, Contains, IsTrue, slice_get, arith, zero-add}
+use Rattle.std.specs.Prelude.{if◌then◌else◌}
+use Rattle.std.specs.Option.{option_or}
+use Rattle.std.proofs.lemmas.Option.{none-some, same_Some}
+use Rattle.au_syntax.specs.Modules.{constant, opaque_type, function, instance}
+use Rattle.au_syntax.specs.Plain.{Bytes, PlainDeclaration}
+use Rattle.au_modules.specs.Programs.{Entry, ModuleParts}
+use Rattle.au_promises.specs.declared.faults.PromiseFault.TheVariants.{Differs}
+use Rattle.au_promises.specs.Promises.{declaration_place, promised, defines, keeps, kept_by, promise_fault_of, unkept, parts_fault, module_fault, faults_from, promise_fault}
+use Rattle.au_promises.specs.Fulfilled.{IsKept, Fulfils, AllFulfil}
+
+-- ---- neither of two
+
+or_first : {A : Type 0} (o p : Option A) → option_or o p ≡ None → o ≡ None
+or_first None p h = refl
+or_first (Some x) p h = cc
+
+or_second : {A : Type 0} (o p : Option A) → option_or o p ≡ None → p ≡ None
+or_second None p h = h
+or_second (Some x) p h = cc
+
+or_neither : {A : Type 0} (o p : Option A) → o ≡ None → p ≡ None → option_or o p ≡ None
+or_neither o p h k = ap (λ one. option_or one p) h ∙ k
+
+-- ---- one of a list
+
+-- this is one of the items
+abbrev Among : {A : Type 0} → A → List A → Type 0
+Among x [] = ⊥
+Among x (y ∷ ys) = (y ≡ x) ⊎ Among x ys
+
+among : {A : Type 0} (xs : List A) (x : A) → Contains xs x → Among x xs
+among [] x c = omega (arith, c.1)
+among (y ∷ ys) x c = by c.0 c.1 c.2 (among ys x)
+  where
+    by : (k : ℕ) → k < length (y ∷ ys) → get_or (y ∷ ys) k x ≡ x → (Contains ys x → Among x ys) → Among x (y ∷ ys)
+    by zero within here rest = inl here
+    by (suc k) within here rest = inr (rest (k, omega arith, here))
+
+contains : {A : Type 0} (xs : List A) (x : A) → Among x xs → Contains xs x
+contains [] x a = absurd a
+contains (y ∷ ys) x (inl here) = (0, omega arith, here)
+contains (y ∷ ys) x (inr later) =
+    let there : Contains ys x = contains ys x later in
+    (suc there.0, omega (arith, there.1), there.2)
+
+-- ---- one promise
+
+agrees : {A : Type 0} (b : Bool) (x : A) → (if b then None else Some x) ≡ None → b ≡ true
+agrees true x h = refl
+agrees false x h = cc
+
+module _ (program : List ModuleParts) (place : ℕ) (m : ModuleParts) where
+  kept_is : (name : Bytes) (promise : PlainDeclaration) (o : Option PlainDeclaration) → kept_by program place m name promise o ≡ None
+      → (d : PlainDeclaration) × (o ≡ Some d) × IsTrue (keeps program place m promise d)
+  kept_is name promise None h = absurd (none-some _ (sym h))
+  kept_is name promise (Some d) h = (d, refl, agrees (keeps program place m promise d) (Differs (declaration_place promise) (declaration_place d) name) h)
+
+  kept_to : (name : Bytes) (promise : PlainDeclaration) (o : Option PlainDeclaration) (d : PlainDeclaration) → o ≡ Some d → keeps program place m promise d ≡ true
+      → kept_by program place m name promise o ≡ None
+  kept_to name promise o d found agreed =
+      ap (kept_by program place m name promise) found
+      ∙ ap (λ b. if b then None else Some (Differs (declaration_place promise) (declaration_place d) name)) agreed
+
+  fault_from : (body : List PlainDeclaration) (promise : PlainDeclaration) (name : Bytes) → promised promise ≡ Some name
+      → promise_fault_of program place m body promise ≡ None → IsKept program place m body promise
+  fault_from body (constant at own t) name says h =
+      kept_is own.name (constant at own t) (find (defines program place m (constant at own t)) body) h
+  fault_from body (opaque_type at own parameters universe) name says h =
+      kept_is own.name (opaque_type at own parameters universe) (find (defines program place m (opaque_type at own parameters universe)) body) h
+  fault_from body (function at generics header) name says h =
+      kept_is header.name.name (function at generics header) (find (defines program place m (function at generics header)) body) h
+  fault_from body (instance at generics own t) name says h =
+      kept_is own.name (instance at generics own t) (find (defines program place m (instance at generics own t)) body) h
+  fault_from body other name says h = absurd (none-some name says)
+
+  fault_to : (body : List PlainDeclaration) (promise : PlainDeclaration) → ((name : Bytes) → promised promise ≡ Some name → IsKept program place m body promise)
+      → promise_fault_of program place m body promise ≡ None
+  fault_to body (constant at own t) h =
+      let kept : IsKept program place m body (constant at own t) = h own.name refl in
+      kept_to own.name (constant at own t) (find (defines program place m (constant at own t)) body) kept.0 kept.1 kept.2
+  fault_to body (opaque_type at own parameters universe) h =
+      let kept : IsKept program place m body (opaque_type at own parameters universe) = h own.name refl in
+      kept_to own.name (opaque_type at own parameters universe) (find (defines program place m (opaque_type at own parameters universe)) body) kept.0 kept.1 kept.2
+  fault_to body (function at generics header) h =
+      let kept : IsKept program place m body (function at generics header) = h header.name.name refl in
+      kept_to header.name.name (function at generics header) (find (defines program place m (function at generics header)) body) kept.0 kept.1 kept.2
+  fault_to body (instance at generics own t) h =
+      let kept : IsKept program place m body (instance at generics own t) = h own.name refl in
+      kept_to own.name (instance at generics own t) (find (defines program place m (instance at generics own t)) body) kept.0 kept.1 kept.2
+  fault_to body other h = refl
+
+  -- ---- the promises of an interface
+
+  unkept_from : (body promises : List PlainDeclaration) → unkept program place m body promises ≡ None
+      → (promise : PlainDeclaration) (name : Bytes) → Among promise promises → promised promise ≡ Some name → IsKept program place m body promise
+  unfolding unkept
+  unkept_from body [] h promise name none says = absurd none
+  unkept_from body (p ∷ ps) h promise name (inl here) says =
+      subst (λ one. IsKept program place m body one) here
+      (fault_from body p name (ap promised here ∙ says) (or_first (promise_fault_of program place m body p) (unkept program place m body ps) h))
+  unkept_from body (p ∷ ps) h promise name (inr later) says =
+      unkept_from body ps (or_second (promise_fault_of program place m body p) (unkept program place m body ps) h) promise name later says
+
+  unkept_to : (body promises : List PlainDeclaration)
+      → ((promise : PlainDeclaration) (name : Bytes) → Among promise promises → promised promise ≡ Some name → IsKept program place m body promise)
+      → unkept program place m body promises ≡ None
+  unfolding unkept
+  unkept_to body [] h = refl
+  unkept_to body (p ∷ ps) h =
+      or_neither (promise_fault_of program place m body p) (unkept program place m body ps)
+      (fault_to body p (λ name says. h p name (inl refl) says))
+      (unkept_to body ps (λ promise name later says. h promise name (inr later) says))
+
+  -- ---- the parts of a module
+
+  parts_from : (i b : Option Entry) → parts_fault program place m i b ≡ None
+      → (interface body : Entry) → i ≡ Some interface → b ≡ Some body → Fulfils program place m interface body
+  parts_from i b h interface body first second promise name contained says =
+      let both : parts_fault program place m (Some interface) (Some body) ≡ None =
+      sym (ap (λ o. parts_fault program place m o b) first ∙ ap (parts_fault program place m (Some interface)) second) ∙ h in
+      unkept_from body.tree.declarations interface.tree.declarations both promise name (among interface.tree.declarations promise contained) says
+
+  parts_to : (i b : Option Entry) → ((interface body : Entry) → i ≡ Some interface → b ≡ Some body → Fulfils program place m interface body)
+      → parts_fault program place m i b ≡ None
+  parts_to None b h = refl
+  parts_to (Some interface) None h = refl
+  parts_to (Some interface) (Some body) h =
+      unkept_to body.tree.declarations interface.tree.declarations
+      (λ promise name one says. h interface body refl refl promise name (contains interface.tree.declarations promise one) says)
+
+-- ---- modules by their places
+
+modules_from : (program : List ModuleParts) (start : ℕ) (rest : List ModuleParts) → faults_from program start rest ≡ None
+    → (i : ℕ) (m : ModuleParts) → slice_get rest i ≡ Some m → module_fault program (start + i) m ≡ None
+unfolding faults_from
+modules_from program start [] h i m here = absurd (none-some m here)
+modules_from program start (x ∷ xs) h zero m here =
+    let same : start + 0 ≡ start = omega arith in
+    ap (λ place. module_fault program place m) same
+    ∙ ap (module_fault program start) (sym (same_Some x m here))
+    ∙ or_first (module_fault program start x) (faults_from program (start + 1) xs) h
+modules_from program start (x ∷ xs) h (suc i) m here =
+    let same : start + suc i ≡ start + 1 + i = omega arith in
+    ap (λ place. module_fault program place m) same
+    ∙ modules_from program (start + 1) xs (or_second (module_fault program start x) (faults_from program (start + 1) xs) h) i m here
+
+modules_to : (program : List ModuleParts) (start : ℕ) (rest : List ModuleParts)
+    → ((i : ℕ) (m : ModuleParts) → slice_get rest i ≡ Some m → module_fault program (start + i) m ≡ None) → faults_from program start rest ≡ None
+unfolding faults_from
+modules_to program start [] h = refl
+modules_to program start (x ∷ xs) h =
+    let first : start ≡ start + 0 = omega arith in
+    or_neither (module_fault program start x) (faults_from program (start + 1) xs)
+    (ap (λ place. module_fault program place x) first ∙ h 0 x refl)
+    (modules_to program (start + 1) xs (λ i m here. let next : start + 1 + i ≡ start + suc i = omega arith in ap (λ place. module_fault program place m) next ∙ h (suc i) m here))
+
+-- ---- all
+
+pub fulfilled_from : (program : List ModuleParts) → promise_fault program ≡ None → AllFulfil program
+fulfilled_from program h place m interface body here first second =
+    let none : module_fault program place m ≡ None =
+    ap (λ p. module_fault program p m) (sym (zero-add place)) ∙ modules_from program 0 program h place m here in
+    parts_from program place m m.interface m.body none interface body first second
+
+pub fulfilled_accepted : (program : List ModuleParts) → AllFulfil program → promise_fault program ≡ None
+fulfilled_accepted program h =
+    modules_to program 0 program
+    (λ place m here. ap (λ p. module_fault program p m) (zero-add place) ∙ parts_to program place m m.interface m.body (λ interface body first second. h place m interface body here first second))
