@@ -1,1 +1,3 @@
-
+pub mod AgreeingLemmas
+pub mod DefinitionLemmas
+pub mod PromiseLemmas

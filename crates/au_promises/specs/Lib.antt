@@ -1,2 +1,4 @@
 pub mod Agreeing
+pub mod Defining
 pub mod Promises
+pub mod Written

@@ -1,0 +1,7 @@
+use Rattle.au_promises.proofs.definitions.instances_defined.Goals as goal
+
+pub loop-index-preserved : goal.loop-index-preserved
+loop-index-preserved c = ?
+
+pub returns : goal.returns
+returns c = ?
