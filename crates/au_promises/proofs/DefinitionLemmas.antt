@@ -210,13 +210,12 @@ among_instances sight scope name t all indices found are is =
     ∙ find_filtered (instance_defined sight scope name t) is_instance (λ d h. no_instance sight scope name t d h) all
 
 -- the next index, and those that are left
-pub among_next : (p : PlainDeclaration → Bool) (all : List PlainDeclaration) (indices : List ℕ) (k : ℕ) (index : ℕ) → k < length indices → index ≡ get_or indices k index
-    → find p (picked all (drop k indices)) ≡ option_or (find p (listed (slice_get all index))) (find p (picked all (drop (k + 1) indices)))
-among_next p all indices k index h here =
-    ap (λ r. find p (picked all r)) (drop-cons indices k index h)
-    ∙ ap (λ j. find p (picked all (j ∷ drop (suc k) indices))) (sym here)
-    ∙ ap (λ n. find p (picked all (index ∷ drop n indices))) (sym (add-one k))
-    ∙ find-append p (listed (slice_get all index)) (picked all (drop (k + 1) indices))
+pub among_next : (p : PlainDeclaration → Bool) (all : List PlainDeclaration) (indices : List ℕ) (k d : ℕ) → k < length indices
+    → find p (picked all (drop k indices)) ≡ option_or (find p (listed (slice_get all (get_or indices k d)))) (find p (picked all (drop (k + 1) indices)))
+among_next p all indices k d h =
+    ap (λ r. find p (picked all r)) (drop-cons indices k d h)
+    ∙ ap (λ n. find p (picked all (get_or indices k d ∷ drop n indices))) (sym (add-one k))
+    ∙ find-append p (listed (slice_get all (get_or indices k d))) (picked all (drop (k + 1) indices))
 
 -- no index is left
 pub among_end : (p : PlainDeclaration → Bool) (all : List PlainDeclaration) (indices : List ℕ) (k : ℕ) → length indices ≤ k → find p (picked all (drop k indices)) ≡ None

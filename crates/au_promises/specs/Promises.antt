@@ -63,6 +63,12 @@ is_name name (Some other) = bytes_eq name other
 abbrev pub same_heading : List (InUniverse Bytes) → Universe → List (InUniverse Bytes) → Universe → Bool
 same_heading parameters universe others other = all_agree same_parameter parameters others && same_universe universe other
 
+-- what defines an opaque type has its type parameters and its universe
+abbrev pub keeps_type : List (InUniverse Bytes) → Universe → PlainDeclaration → Bool
+keeps_type parameters universe (record_type at name others other fields) = same_heading parameters universe others other
+keeps_type parameters universe (union_type at name others other cases) = same_heading parameters universe others other
+keeps_type parameters universe d = false
+
 module _ (sight : Sight) where
   -- a declaration of the body defines an instance of this class for this type
   abbrev pub instance_defined : List Parameter → Placed Bytes → WrittenType → PlainDeclaration → Bool
@@ -83,12 +89,6 @@ module _ (sight : Sight) where
   abbrev pub keeps_constant : WrittenType → PlainDeclaration → Bool
   keeps_constant t (constant_body at name u value) = same_type sight [] t [] u
   keeps_constant t d = false
-
-  -- what defines an opaque type has its type parameters and its universe
-  abbrev pub keeps_type : List (InUniverse Bytes) → Universe → PlainDeclaration → Bool
-  keeps_type parameters universe (record_type at name others other fields) = same_heading parameters universe others other
-  keeps_type parameters universe (union_type at name others other cases) = same_heading parameters universe others other
-  keeps_type parameters universe d = false
 
   -- what defines a function has its type parameters, parameters and result
   abbrev pub keeps_function : List (Constrained Bytes) → Header Bytes → PlainDeclaration → Bool

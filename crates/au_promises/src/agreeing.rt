@@ -278,7 +278,14 @@ fn same_signature(
 ) -> Result<bool, Memory>
     ensures { IfOk result (λ same. same ≡ spec.same_signature (sight_in sight.now) scope.now (header_of one.now) outer.now (header_of other.now)) }
 {
-    if same_labels(alloc, sight, scope, &one.parameters, outer, &other.parameters)? {
+    if same_labels(
+        alloc,
+        sight,
+        scope,
+        &one.parameters,
+        outer,
+        &other.parameters,
+    )? {
         same_type(alloc, sight, scope, &one.result, outer, &other.result)
     } else {
         Ok(false)

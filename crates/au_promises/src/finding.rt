@@ -152,7 +152,15 @@ fn instance_found<'a>(
     ensures { IfOk result (λ found. declared_seen found ≡ find (spec.instance_defined (sight_in sight.now) (agreeing.scope_of (generics_of list.now.items)) (name_of name.now) (written of.now)) (declarations_of decls.now.items)) }
 {
     let scope = scope_of(alloc, list)?;
-    instance_among(alloc, sight, &scope, name, of, decls, &definitions.instances)
+    instance_among(
+        alloc,
+        sight,
+        &scope,
+        name,
+        of,
+        decls,
+        &definitions.instances,
+    )
 }
 
 /// The first declaration of a body that defines a promise, if there is one.

@@ -6,9 +6,7 @@ ghost use Rattle.au_promises.specs.Promises as spec;
 ghost use Rattle.au_promises.specs.Written.{declared_of, generics_of, header_of, parameters_of, sight_in};
 ghost use Rattle.au_syntax.specs.Views.{written};
 
-use crate::agreeing::{
-    same_function, same_generics, same_parameters, same_type, same_universe,
-};
+use crate::agreeing::{same_function, same_generics, same_parameters, same_type, same_universe};
 use crate::sights::Sight;
 use au_base::Memory;
 use au_syntax::{Decl, Generic, Parsed, Signature, TypeParameter, TypeText, Universe};
@@ -66,11 +64,7 @@ fn keeps_constant(
 
 /// Whether a declaration defines a type of these type parameters and this universe.
 #[tactic(auto, using(au_syntax::proofs::DeclarationLemmas::declaration_steps, std::proofs::lemmas::Grind::common_steps))]
-fn keeps_type(
-    list: &Vec<TypeParameter<Parsed>>,
-    universe: Universe,
-    decl: &Decl<Parsed>,
-) -> bool
+fn keeps_type(list: &Vec<TypeParameter<Parsed>>, universe: Universe, decl: &Decl<Parsed>) -> bool
     ensures { result ≡ spec.keeps_type (parameters_of list.now.items) universe (declared_of decl.now) }
 {
     match decl {
@@ -107,7 +101,9 @@ fn keeps_function(
         Decl::Class(_, _, _, _) => Ok(false),
         Decl::Instance(_, _, _, _) => Ok(false),
         Decl::ConstantBody(_, _, _, _) => Ok(false),
-        Decl::FunctionBody(_, others, other, _, _) => same_function(alloc, sight, list, one, others, other),
+        Decl::FunctionBody(_, others, other, _, _) => same_function(
+            alloc, sight, list, one, others, other,
+        ),
         Decl::InstanceBody(_, _, _, _, _) => Ok(false),
     }
 }
