@@ -30,14 +30,11 @@ module _ {A B C : Type 0} (agree : C → C → Bool) (p : B → C) (v : A → B)
   disagree [] [] differ = absurd (differ refl)
   disagree [] (y ∷ ys) differ = refl
   disagree (x ∷ xs) [] differ = refl
-  disagree (x ∷ xs) (y ∷ ys) differ = by (agree (p (v x)) (p (v y)))
+  disagree (x ∷ xs) (y ∷ ys) differ = by (agree (p (v x)) (p (v y))) (disagree xs ys (λ e. differ (ap suc e)))
     where
-      rest : all_agree agree (map p (map v xs)) (map p (map v ys)) ≡ false
-      rest = disagree xs ys (λ e. differ (ap suc e))
-
-      by : (b : Bool) → (b && all_agree agree (map p (map v xs)) (map p (map v ys))) ≡ false
-      by true = rest
-      by false = refl
+      by : (b : Bool) → all_agree agree (map p (map v xs)) (map p (map v ys)) ≡ false → (b && all_agree agree (map p (map v xs)) (map p (map v ys))) ≡ false
+      by true rest = rest
+      by false rest = refl
 
   -- Two lists have one length, and those of their items that are left decide whether they agree.
   pub record AgreeSoFar (xs ys : List A) (i : ℕ) : Type 0 where
