@@ -1,15 +1,20 @@
 -- Where the definitions of a body stand, and which is found.
-use Rattle.std.proofs.Common.{◌≡◌, ℕ, ◌+◌, ◌<◌, ◌≤◌, suc, Bool, true, false, cond, ◌&&◌, List, [], ◌∷◌, ◌++◌, length, map, filter, find, take, drop, get_or, Option, None, Some, is_some, refl, sym, ap, ◌∙◌, subst, true≢false, add-one, drop-cons}
+use Rattle.std.proofs.Common.{◌≡◌, ℕ, ◌+◌, ◌<◌, ◌≤◌, ◌⊎◌, inl, inr, suc, Bool, true, false, cond, ◌&&◌, List, [], ◌∷◌, ◌++◌, length, map, filter, find, take, drop, get_or, Option, None, Some, is_some, refl, sym, ap, ◌∙◌, subst, true≢false, add-one, drop-cons}
 use Rattle.std.specs.Prelude.{slice_get}
 use Rattle.std.specs.List.{flat_map}
-use Rattle.std.specs.Option.{option_map, option_or}
+use Rattle.std.specs.Borrow.{Bor}
+use Rattle.std.specs.Option.{option_map, option_or, IfSome}
 use Rattle.std.specs.Str.{bytes_eq}
+use lib.Dec.{ltb}
+use Rattle.std.proofs.lemmas.Bool.{lt-ltb, le-ltb, cases_lt}
 use Rattle.std.proofs.lemmas.Grind.{flat_map-append}
 use Rattle.std.proofs.lemmas.List.{take_more, take_all, drop_all, append-nil, map-append}
 use Rattle.std.proofs.lemmas.List.Elements.{filter-append}
 use Rattle.std.proofs.lemmas.List.Folds.{find-append}
-use Rattle.std.proofs.lemmas.Option.{none-some, same_Some, slice_get-map, slice_get_read}
+use Rattle.std.proofs.lemmas.Option.{none-some, same_Some, slice_get-map, slice_get_past, slice_get_read}
 use Rattle.std.proofs.lemmas.Slice.Eq.{bytes_eq-Decides}
+use Rattle.au_syntax.specs.declared.declarations.Decl.{Decl}
+use Rattle.au_syntax.specs.declared.parsed.Parsed.{Parsed}
 use Rattle.au_syntax.specs.Modules.{instance_body}
 use Rattle.au_syntax.specs.Names.{Placed}
 use Rattle.au_syntax.specs.Plain.{Bytes, PlainDeclaration}
@@ -18,16 +23,24 @@ use Rattle.au_types.specs.declared.parameters.Parameter.{Parameter}
 use Rattle.au_tables.specs.Tables as tables
 use Rattle.au_tables.specs.Tables.{has_name, with_pair}
 use Rattle.au_tables.proofs.TableLemmas.{with_pair-old, with_pair-new}
+use Rattle.au_promises.specs.declared.definitions.Definitions.{Definitions}
 use Rattle.au_promises.specs.declared.definitions.Sort.{Sort}
+use Rattle.au_promises.specs.declared.definitions.Sort.TheVariants.{Constants, Types, Functions}
 use Rattle.au_promises.specs.Agreeing.{Sight}
 use Rattle.au_promises.specs.Promises.{instance_defined, is_name}
-use Rattle.au_promises.specs.Defining.{name_defined, is_defined, with_name, with_index, AreFirst, is_instance, listed, picked}
+use Rattle.au_promises.specs.Defining.{name_defined, is_defined, with_name, with_index, table_of, AreDefinitions, AreFirst, is_instance, listed, picked}
+use Rattle.au_promises.specs.Written.{declared_seen}
 
 -- ---- options
 
 or_none : {A : Type 0} (o : Option A) → option_or o None ≡ o
 or_none None = refl
 or_none (Some x) = refl
+
+-- a declaration is there where it is seen
+pub is_seen : (found : Option (Bor (Decl Parsed (List ℕ) (Unit {0}) (Unit {0})))) → is_some (declared_seen found) ≡ is_some found
+is_seen None = refl
+is_seen (Some b) = refl
 
 -- what is there counts
 pub or_there : {A : Type 0} (o p : Option A) → is_some o ≡ true → option_or o p ≡ o
@@ -77,6 +90,18 @@ module _ {A B C : Type 0} (p : B → C) (v : A → B) where
   seen_at : (xs : List A) (i : ℕ) (x : A) → i < length xs → x ≡ get_or xs i x → slice_get (map p (map v xs)) i ≡ Some (p (v x))
   seen_at xs i x h here =
       slice_get-map p (map v xs) i ∙ ap (option_map p) (slice_get-map v xs i) ∙ ap (λ o. option_map p (option_map v o)) (slice_get_read xs (length xs) i x refl h here)
+
+  -- what is got at an index, as it is seen
+  pub seen_got : (xs : List A) (i : ℕ) (r : Option (Bor A)) → is_some r ≡ ltb i (length xs) → IfSome r (λ b. b.now ≡ get_or xs i b.now)
+      → option_map (λ b. p (v b.now)) r ≡ slice_get (map p (map v xs)) i
+  seen_got xs i r has is = by r (cases_lt i (length xs)) has is
+    where
+      by : (r : Option (Bor A)) → (i < length xs) ⊎ (length xs ≤ i) → is_some r ≡ ltb i (length xs) → IfSome r (λ b. b.now ≡ get_or xs i b.now)
+          → option_map (λ b. p (v b.now)) r ≡ slice_get (map p (map v xs)) i
+      by None (inl less) has is = absurd (true≢false (sym (has ∙ lt-ltb i (length xs) less)))
+      by None (inr more) has is = sym (slice_get-map p (map v xs) i ∙ ap (option_map p) (slice_get-map v xs i) ∙ ap (λ o. option_map p (option_map v o)) (slice_get_past xs i more))
+      by (Some b) (inl less) has is = sym (seen_at xs i b.now less is)
+      by (Some b) (inr more) has is = absurd (true≢false (has ∙ le-ltb i (length xs) more))
 
   -- what is left from an item on
   pub seen_left : (xs : List A) (i : ℕ) (x : A) → i < length xs → x ≡ get_or xs i x → map p (map v (drop i xs)) ≡ p (v x) ∷ map p (map v (drop (i + 1) xs))
@@ -155,6 +180,12 @@ first_next p v sort before after xs i x h here old new name =
 pub first_all : {A B : Type 0} (p : B → PlainDeclaration) (v : A → B) (sort : Sort) (table : List (Bytes × ℕ)) (xs : List A) (i : ℕ) → length xs ≤ i
     → AreFirst sort (map p (map v xs)) (map p (map v (take i xs))) table → AreFirst sort (map p (map v xs)) (map p (map v xs)) table
 first_all p v sort table xs i past old name = old name ∙ ap (λ r. option_map Some (find (is_defined sort name) (map p (map v r)))) (take_all i xs past)
+
+-- the table of a sort finds the first of this sort
+pub first_of : (sort : Sort) (all : List PlainDeclaration) (definitions : Definitions) → AreDefinitions all definitions → AreFirst sort all all (table_of sort definitions)
+first_of Constants all definitions are = are.constants
+first_of Types all definitions are = are.types
+first_of Functions all definitions are = are.functions
 
 -- nothing has this name
 pub first_missing : (all : List PlainDeclaration) (index : Option ℕ) (found : Option PlainDeclaration) → option_map (slice_get all) index ≡ option_map Some found → index ≡ None → None ≡ found

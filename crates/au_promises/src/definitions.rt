@@ -1,7 +1,7 @@
 //! Where the definitions of a body stand among its declarations, so that none is found by a walk through
 //! the body.
 
-ghost use Rattle.std.specs.Prelude.{◌≡◌, IfOk, OnOk, filter, find};
+ghost use Rattle.std.specs.Prelude.{◌≡◌, IfOk, OnOk, filter, find, slice_get};
 ghost use Rattle.std.specs.Option.{option_copied};
 ghost use Rattle.au_promises.specs.Defining as defining;
 ghost use Rattle.au_promises.specs.Defining.{AreDefinitions, AreFirst};
@@ -206,6 +206,13 @@ impl Definitions {
     }
 }
 
+/// The declaration of an index, if there is one.
+pub fn declared_at(decls: &Vec<Decl<Parsed>>, index: usize) -> Option<&Decl<Parsed>>
+    ensures { declared_seen result ≡ slice_get (declarations_of decls.now.items) index }
+{
+    decls.get(index)
+}
+
 /// The first definition of a name of a sort, if there is one, given the definitions of the body.
 pub fn found_by<'a>(
     decls: &'a Vec<Decl<Parsed>>,
@@ -218,6 +225,6 @@ pub fn found_by<'a>(
 {
     match definitions.table(sort).get(name.as_bytes()) {
         None => None,
-        Some(index) => decls.get(*index),
+        Some(index) => declared_at(decls, *index),
     }
 }

@@ -13,7 +13,7 @@ ghost use Rattle.au_promises.specs.Written.{declarations_of, declared_of, declar
 ghost use Rattle.au_syntax.specs.Views.{written};
 
 use crate::agreeing::{same_class, same_type, scope_of};
-use crate::definitions::{Definitions, Sort, found_by};
+use crate::definitions::{Definitions, Sort, declared_at, found_by};
 use crate::faults::PromiseFault;
 use crate::keeping::keeps;
 use crate::sights::Sight;
@@ -130,7 +130,7 @@ fn instance_among<'a>(
     ensures { IfOk result (λ found. declared_seen found ≡ find (spec.instance_defined (sight_in sight.now) scope.now (name_of name.now) (written of.now)) (defining.picked (declarations_of decls.now.items) indices.now.items)) }
 {
     for index in indices {
-        let found = instance_if(alloc, sight, scope, name, of, decls.get(*index))?;
+        let found = instance_if(alloc, sight, scope, name, of, declared_at(decls, *index))?;
         if found.is_some() {
             return Ok(found);
         }

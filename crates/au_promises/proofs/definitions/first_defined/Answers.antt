@@ -1,5 +1,7 @@
-use Rattle.std.proofs.Common.{List, ap, ◌∙◌, subst}
+use Rattle.std.proofs.Common.{ℕ, List, ap, ◌∙◌, subst}
 use Rattle.au_syntax.specs.contracts.parsed.ParsedPhase.TheImpl.{ghosts as parsed}
+use Rattle.au_syntax.specs.declared.declarations.Decl.{Decl}
+use Rattle.au_syntax.specs.declared.parsed.Parsed.{Parsed}
 use Rattle.au_syntax.specs.Plain.{plain_declaration}
 use Rattle.au_syntax.specs.Views.{declaration}
 use Rattle.au_promises.specs.Defining.{AreFirst, with_name}
@@ -17,6 +19,6 @@ loop-index-preserved c =
 
 pub returns : goal.returns
 returns c =
-    let first = λ ds. AreFirst c.args.sort (declarations_of ds) (declarations_of ds) c.loop-index.table in
+    let first = λ (ds : List (Decl Parsed (List ℕ) (Unit {0}) (Unit {0}))). AreFirst c.args.sort (declarations_of ds) (declarations_of ds) c.loop-index.table in
     subst first c.deref-one-items.ensures.value
     (first_all (plain_declaration parsed.name_bytes) (declaration parsed) c.args.sort c.loop-index.table c.deref-one-items.result.now c.loop-index.index c.loop-index-test.false c.loop-index.invariant)

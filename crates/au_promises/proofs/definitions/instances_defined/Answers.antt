@@ -1,5 +1,7 @@
-use Rattle.std.proofs.Common.{◌≡◌, filter, subst}
+use Rattle.std.proofs.Common.{◌≡◌, ℕ, List, filter, subst}
 use Rattle.au_syntax.specs.contracts.parsed.ParsedPhase.TheImpl.{ghosts as parsed}
+use Rattle.au_syntax.specs.declared.declarations.Decl.{Decl}
+use Rattle.au_syntax.specs.declared.parsed.Parsed.{Parsed}
 use Rattle.au_syntax.specs.Plain.{plain_declaration}
 use Rattle.au_syntax.specs.Views.{declaration}
 use Rattle.au_promises.specs.Defining.{is_instance, picked}
@@ -14,6 +16,6 @@ loop-index-preserved c =
 
 pub returns : goal.returns
 returns c =
-    let chosen = λ ds. picked (declarations_of ds) c.loop-index.indices.items ≡ filter is_instance (declarations_of ds) in
+    let chosen = λ (ds : List (Decl Parsed (List ℕ) (Unit {0}) (Unit {0}))). picked (declarations_of ds) c.loop-index.indices.items ≡ filter is_instance (declarations_of ds) in
     subst chosen c.deref-one-items.ensures.value
     (pick_all (plain_declaration parsed.name_bytes) (declaration parsed) c.loop-index.indices.items c.deref-one-items.result.now c.loop-index.index c.loop-index-test.false c.loop-index.invariant)
