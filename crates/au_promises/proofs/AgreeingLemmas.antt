@@ -1,7 +1,30 @@
 -- Lists that agree, item by item.
 use Rattle.std.proofs.Common.{◌≡◌, ℕ, ◌+◌, ◌<◌, ◌≤◌, suc, Bool, true, false, ◌&&◌, List, [], ◌∷◌, length, map, drop, get_or, refl, sym, ap, ◌∙◌, add-one, drop-cons}
 use Rattle.std.proofs.lemmas.List.{drop_all}
-use Rattle.au_promises.specs.Agreeing.{all_agree}
+use denote.Enum.Bare.{sameb}
+use Rattle.au_syntax.specs.contracts.declarations.Universe.{the_type as universe}
+use Rattle.au_syntax.specs.declared.declarations.Universe.{Universe}
+use Rattle.au_syntax.specs.declared.declarations.Universe.TheVariants as universes
+use Rattle.au_promises.specs.Agreeing.{all_agree, same_universe}
+
+-- the test for equality decides whether universes are the same
+pub universes_same : (a b : Universe) → sameb universe a b ≡ same_universe a b
+universes_same universes.Free universes.Free = refl
+universes_same universes.Free universes.Linear = refl
+universes_same universes.Free universes.AnyType = refl
+universes_same universes.Free universes.Region = refl
+universes_same universes.Linear universes.Free = refl
+universes_same universes.Linear universes.Linear = refl
+universes_same universes.Linear universes.AnyType = refl
+universes_same universes.Linear universes.Region = refl
+universes_same universes.AnyType universes.Free = refl
+universes_same universes.AnyType universes.Linear = refl
+universes_same universes.AnyType universes.AnyType = refl
+universes_same universes.AnyType universes.Region = refl
+universes_same universes.Region universes.Free = refl
+universes_same universes.Region universes.Linear = refl
+universes_same universes.Region universes.AnyType = refl
+universes_same universes.Region universes.Region = refl
 
 -- what is left from an item on, of a list that is seen through two views
 left : {A B C : Type 0} (p : B → C) (v : A → B) (xs : List A) (i : ℕ) (x : A) → i < length xs → x ≡ get_or xs i x

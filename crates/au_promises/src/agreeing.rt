@@ -20,32 +20,7 @@ use std::alloc::Global;
 pub fn same_universe(one: Universe, other: Universe) -> bool
     ensures { result ≡ spec.same_universe one other }
 {
-    match one {
-        Universe::Free => match other {
-            Universe::Free => true,
-            Universe::Linear => false,
-            Universe::AnyType => false,
-            Universe::Region => false,
-        },
-        Universe::Linear => match other {
-            Universe::Free => false,
-            Universe::Linear => true,
-            Universe::AnyType => false,
-            Universe::Region => false,
-        },
-        Universe::AnyType => match other {
-            Universe::Free => false,
-            Universe::Linear => false,
-            Universe::AnyType => true,
-            Universe::Region => false,
-        },
-        Universe::Region => match other {
-            Universe::Free => false,
-            Universe::Linear => false,
-            Universe::AnyType => false,
-            Universe::Region => true,
-        },
-    }
+    one == other
 }
 
 /// Whether two names are written alike.
