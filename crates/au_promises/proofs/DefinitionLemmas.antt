@@ -1,7 +1,6 @@
 -- Where the definitions of a body stand, and which is found.
-use Rattle.std.proofs.Common.{◌≡◌, ℕ, ◌+◌, ◌<◌, ◌≤◌, ◌⊎◌, inl, inr, suc, Bool, true, false, cond, ◌&&◌, List, [], ◌∷◌, ◌++◌, length, map, filter, find, take, drop, get_or, Option, None, Some, is_some, refl, sym, ap, ◌∙◌, subst, true≢false, add-one, drop-cons}
+use Rattle.std.proofs.Common.{◌≡◌, ℕ, ◌+◌, ◌<◌, ◌≤◌, ◌⊎◌, inl, inr, suc, Bool, true, false, cond, List, [], ◌∷◌, ◌++◌, length, map, filter, find, take, drop, get_or, Option, None, Some, is_some, refl, sym, ap, ◌∙◌, subst, true≢false, add-one, drop-cons}
 use Rattle.std.specs.Prelude.{slice_get}
-use Rattle.std.specs.List.{flat_map}
 use Rattle.std.specs.Borrow.{Bor}
 use Rattle.std.specs.Option.{option_map, option_or, IfSome}
 use Rattle.std.specs.Str.{bytes_eq}

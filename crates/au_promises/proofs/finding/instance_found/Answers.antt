@@ -20,6 +20,6 @@ returns c =
     (λ found. declared_seen found ≡ find (instance_defined sight scope name t) (picked all indices))
     (λ found. declared_seen found ≡ find (instance_defined sight (scope_of (generics_of c.args.list.now.items)) name t) all)
     (λ found is.
-        among_instances sight scope name t all indices (declared_seen found) c.requires.instances is
-        ∙ ap (λ s. find (instance_defined sight s name t) all) c.in_ok-scope.ensures)
+    among_instances sight scope name t all indices (declared_seen found) c.requires.instances is
+    ∙ ap (λ s. find (instance_defined sight s name t) all) c.in_ok-scope.ensures)
     c.instance_among.ensures
