@@ -1,12 +1,14 @@
 -- Promises are refused for nothing exactly where every body fulfils its interface.
 use Rattle.std.proofs.Common.{◌≡◌, ℕ, zero, suc, ◌+◌, ◌<◌, ◌⊎◌, inl, inr, Bool, true, false, List, [], ◌∷◌, length, get_or, Option, Some, None, refl, ap, sym, ◌∙◌, subst, find, Contains, IsTrue, slice_get, arith, zero-add}
 use Rattle.std.specs.Prelude.{if◌then◌else◌}
-use Rattle.std.specs.Option.{option_or}
+use Rattle.std.specs.Option.{option_map, option_or}
 use Rattle.std.proofs.lemmas.Option.{none-some, same_Some}
 use Rattle.au_syntax.specs.Modules.{constant, opaque_type, function, instance}
-use Rattle.au_syntax.specs.Plain.{Bytes, PlainDeclaration}
+use Rattle.au_syntax.specs.Plain.{Bytes, PlainDeclaration, PlainModule}
 use Rattle.au_modules.specs.Programs.{Entry, ModuleParts}
 use Rattle.au_promises.specs.declared.faults.PromiseFault.TheVariants.{Differs}
+use Rattle.au_modules.specs.Seen.{body_tree, interface_tree}
+use Rattle.au_promises.specs.Agreeing.{Sight, sight_of}
 use Rattle.au_promises.specs.Promises.{declaration_place, promised, defines, keeps, kept_by, promise_fault_of, unkept, parts_fault, module_fault, faults_from, promise_fault}
 use Rattle.au_promises.specs.Fulfilled.{IsKept, Fulfils, AllFulfil}
 
@@ -51,84 +53,84 @@ agrees : {A : Type 0} (b : Bool) (x : A) → (if b then None else Some x) ≡ No
 agrees true x h = refl
 agrees false x h = cc
 
-module _ (program : List ModuleParts) (place : ℕ) (m : ModuleParts) where
-  kept_is : (name : Bytes) (promise : PlainDeclaration) (o : Option PlainDeclaration) → kept_by program place m name promise o ≡ None
-      → (d : PlainDeclaration) × (o ≡ Some d) × IsTrue (keeps program place m promise d)
+module _ (sight : Sight) where
+  kept_is : (name : Bytes) (promise : PlainDeclaration) (o : Option PlainDeclaration) → kept_by sight name promise o ≡ None
+      → (d : PlainDeclaration) × (o ≡ Some d) × IsTrue (keeps sight promise d)
   kept_is name promise None h = absurd (none-some _ (sym h))
-  kept_is name promise (Some d) h = (d, refl, agrees (keeps program place m promise d) (Differs (declaration_place promise) (declaration_place d) name) h)
+  kept_is name promise (Some d) h = (d, refl, agrees (keeps sight promise d) (Differs (declaration_place promise) (declaration_place d) name) h)
 
-  kept_to : (name : Bytes) (promise : PlainDeclaration) (o : Option PlainDeclaration) (d : PlainDeclaration) → o ≡ Some d → keeps program place m promise d ≡ true
-      → kept_by program place m name promise o ≡ None
+  kept_to : (name : Bytes) (promise : PlainDeclaration) (o : Option PlainDeclaration) (d : PlainDeclaration) → o ≡ Some d → keeps sight promise d ≡ true
+      → kept_by sight name promise o ≡ None
   kept_to name promise o d found agreed =
-      ap (kept_by program place m name promise) found
+      ap (kept_by sight name promise) found
       ∙ ap (λ b. if b then None else Some (Differs (declaration_place promise) (declaration_place d) name)) agreed
 
   fault_from : (body : List PlainDeclaration) (promise : PlainDeclaration) (name : Bytes) → promised promise ≡ Some name
-      → promise_fault_of program place m body promise ≡ None → IsKept program place m body promise
+      → promise_fault_of sight body promise ≡ None → IsKept sight body promise
   fault_from body (constant at own t) name says h =
-      kept_is own.name (constant at own t) (find (defines program place m (constant at own t)) body) h
+      kept_is own.name (constant at own t) (find (defines sight (constant at own t)) body) h
   fault_from body (opaque_type at own parameters universe) name says h =
-      kept_is own.name (opaque_type at own parameters universe) (find (defines program place m (opaque_type at own parameters universe)) body) h
+      kept_is own.name (opaque_type at own parameters universe) (find (defines sight (opaque_type at own parameters universe)) body) h
   fault_from body (function at generics header) name says h =
-      kept_is header.name.name (function at generics header) (find (defines program place m (function at generics header)) body) h
+      kept_is header.name.name (function at generics header) (find (defines sight (function at generics header)) body) h
   fault_from body (instance at generics own t) name says h =
-      kept_is own.name (instance at generics own t) (find (defines program place m (instance at generics own t)) body) h
+      kept_is own.name (instance at generics own t) (find (defines sight (instance at generics own t)) body) h
   fault_from body other name says h = absurd (none-some name says)
 
-  fault_to : (body : List PlainDeclaration) (promise : PlainDeclaration) → ((name : Bytes) → promised promise ≡ Some name → IsKept program place m body promise)
-      → promise_fault_of program place m body promise ≡ None
+  fault_to : (body : List PlainDeclaration) (promise : PlainDeclaration) → ((name : Bytes) → promised promise ≡ Some name → IsKept sight body promise)
+      → promise_fault_of sight body promise ≡ None
   fault_to body (constant at own t) h =
-      let kept : IsKept program place m body (constant at own t) = h own.name refl in
-      kept_to own.name (constant at own t) (find (defines program place m (constant at own t)) body) kept.0 kept.1 kept.2
+      let kept : IsKept sight body (constant at own t) = h own.name refl in
+      kept_to own.name (constant at own t) (find (defines sight (constant at own t)) body) kept.0 kept.1 kept.2
   fault_to body (opaque_type at own parameters universe) h =
-      let kept : IsKept program place m body (opaque_type at own parameters universe) = h own.name refl in
-      kept_to own.name (opaque_type at own parameters universe) (find (defines program place m (opaque_type at own parameters universe)) body) kept.0 kept.1 kept.2
+      let kept : IsKept sight body (opaque_type at own parameters universe) = h own.name refl in
+      kept_to own.name (opaque_type at own parameters universe) (find (defines sight (opaque_type at own parameters universe)) body) kept.0 kept.1 kept.2
   fault_to body (function at generics header) h =
-      let kept : IsKept program place m body (function at generics header) = h header.name.name refl in
-      kept_to header.name.name (function at generics header) (find (defines program place m (function at generics header)) body) kept.0 kept.1 kept.2
+      let kept : IsKept sight body (function at generics header) = h header.name.name refl in
+      kept_to header.name.name (function at generics header) (find (defines sight (function at generics header)) body) kept.0 kept.1 kept.2
   fault_to body (instance at generics own t) h =
-      let kept : IsKept program place m body (instance at generics own t) = h own.name refl in
-      kept_to own.name (instance at generics own t) (find (defines program place m (instance at generics own t)) body) kept.0 kept.1 kept.2
+      let kept : IsKept sight body (instance at generics own t) = h own.name refl in
+      kept_to own.name (instance at generics own t) (find (defines sight (instance at generics own t)) body) kept.0 kept.1 kept.2
   fault_to body other h = refl
 
   -- ---- the promises of an interface
 
-  unkept_from : (body promises : List PlainDeclaration) → unkept program place m body promises ≡ None
-      → (promise : PlainDeclaration) (name : Bytes) → Among promise promises → promised promise ≡ Some name → IsKept program place m body promise
+  unkept_from : (body promises : List PlainDeclaration) → unkept sight body promises ≡ None
+      → (promise : PlainDeclaration) (name : Bytes) → Among promise promises → promised promise ≡ Some name → IsKept sight body promise
   unfolding unkept
   unkept_from body [] h promise name none says = absurd none
   unkept_from body (p ∷ ps) h promise name (inl here) says =
-      subst (λ one. IsKept program place m body one) here
-      (fault_from body p name (ap promised here ∙ says) (or_first (promise_fault_of program place m body p) (unkept program place m body ps) h))
+      subst (λ one. IsKept sight body one) here
+      (fault_from body p name (ap promised here ∙ says) (or_first (promise_fault_of sight body p) (unkept sight body ps) h))
   unkept_from body (p ∷ ps) h promise name (inr later) says =
-      unkept_from body ps (or_second (promise_fault_of program place m body p) (unkept program place m body ps) h) promise name later says
+      unkept_from body ps (or_second (promise_fault_of sight body p) (unkept sight body ps) h) promise name later says
 
   unkept_to : (body promises : List PlainDeclaration)
-      → ((promise : PlainDeclaration) (name : Bytes) → Among promise promises → promised promise ≡ Some name → IsKept program place m body promise)
-      → unkept program place m body promises ≡ None
+      → ((promise : PlainDeclaration) (name : Bytes) → Among promise promises → promised promise ≡ Some name → IsKept sight body promise)
+      → unkept sight body promises ≡ None
   unfolding unkept
   unkept_to body [] h = refl
   unkept_to body (p ∷ ps) h =
-      or_neither (promise_fault_of program place m body p) (unkept program place m body ps)
+      or_neither (promise_fault_of sight body p) (unkept sight body ps)
       (fault_to body p (λ name says. h p name (inl refl) says))
       (unkept_to body ps (λ promise name later says. h promise name (inr later) says))
 
   -- ---- the parts of a module
 
-  parts_from : (i b : Option Entry) → parts_fault program place m i b ≡ None
-      → (interface body : Entry) → i ≡ Some interface → b ≡ Some body → Fulfils program place m interface body
+  parts_from : (i b : Option PlainModule) → parts_fault sight i b ≡ None
+      → (interface body : PlainModule) → i ≡ Some interface → b ≡ Some body → Fulfils sight interface body
   parts_from i b h interface body first second promise name contained says =
-      let both : parts_fault program place m (Some interface) (Some body) ≡ None =
-      sym (ap (λ o. parts_fault program place m o b) first ∙ ap (parts_fault program place m (Some interface)) second) ∙ h in
-      unkept_from body.tree.declarations interface.tree.declarations both promise name (among interface.tree.declarations promise contained) says
+      let both : parts_fault sight (Some interface) (Some body) ≡ None =
+      sym (ap (λ o. parts_fault sight o b) first ∙ ap (parts_fault sight (Some interface)) second) ∙ h in
+      unkept_from body.declarations interface.declarations both promise name (among interface.declarations promise contained) says
 
-  parts_to : (i b : Option Entry) → ((interface body : Entry) → i ≡ Some interface → b ≡ Some body → Fulfils program place m interface body)
-      → parts_fault program place m i b ≡ None
+  parts_to : (i b : Option PlainModule) → ((interface body : PlainModule) → i ≡ Some interface → b ≡ Some body → Fulfils sight interface body)
+      → parts_fault sight i b ≡ None
   parts_to None b h = refl
   parts_to (Some interface) None h = refl
   parts_to (Some interface) (Some body) h =
-      unkept_to body.tree.declarations interface.tree.declarations
-      (λ promise name one says. h interface body refl refl promise name (contains interface.tree.declarations promise one) says)
+      unkept_to body.declarations interface.declarations
+      (λ promise name one says. h interface body refl refl promise name (contains interface.declarations promise one) says)
 
 -- ---- modules by their places
 
@@ -158,13 +160,35 @@ modules_to program start (x ∷ xs) h =
 
 -- ---- all
 
+-- the file in which it is written
+file_of : (o : Option Entry) (tree : PlainModule) → option_map (λ (e : Entry). e.tree) o ≡ Some tree → (e : Entry) × (o ≡ Some e) × (e.tree ≡ tree)
+file_of None tree h = absurd (none-some tree h)
+file_of (Some e) tree h = (e, refl, same_Some e.tree tree h)
+
+module_from : (program : List ModuleParts) (place : ℕ) (m : ModuleParts) → module_fault program place m ≡ None
+    → (interface body : Entry) → m.interface ≡ Some interface → m.body ≡ Some body → Fulfils (sight_of program place m) interface.tree body.tree
+module_from program place m h interface body first second =
+    parts_from (sight_of program place m) (interface_tree (Some m)) (body_tree (Some m)) h interface.tree body.tree
+    (ap (λ o. option_map (λ (e : Entry). e.tree) o) first) (ap (λ o. option_map (λ (e : Entry). e.tree) o) second)
+
+module_to : (program : List ModuleParts) (place : ℕ) (m : ModuleParts)
+    → ((interface body : Entry) → m.interface ≡ Some interface → m.body ≡ Some body → Fulfils (sight_of program place m) interface.tree body.tree)
+    → module_fault program place m ≡ None
+module_to program place m h =
+    parts_to (sight_of program place m) (interface_tree (Some m)) (body_tree (Some m))
+    (λ interface body first second.
+      let i : (e : Entry) × (m.interface ≡ Some e) × (e.tree ≡ interface) = file_of m.interface interface first in
+      let b : (e : Entry) × (m.body ≡ Some e) × (e.tree ≡ body) = file_of m.body body second in
+      subst (λ t. Fulfils (sight_of program place m) t body) i.2
+      (subst (λ t. Fulfils (sight_of program place m) i.0.tree t) b.2 (h i.0 b.0 i.1 b.1)))
+
 pub fulfilled_from : (program : List ModuleParts) → promise_fault program ≡ None → AllFulfil program
 fulfilled_from program h place m interface body here first second =
     let none : module_fault program place m ≡ None =
     ap (λ p. module_fault program p m) (sym (zero-add place)) ∙ modules_from program 0 program h place m here in
-    parts_from program place m m.interface m.body none interface body first second
+    module_from program place m none interface body first second
 
 pub fulfilled_accepted : (program : List ModuleParts) → AllFulfil program → promise_fault program ≡ None
 fulfilled_accepted program h =
     modules_to program 0 program
-    (λ place m here. ap (λ p. module_fault program p m) (zero-add place) ∙ parts_to program place m m.interface m.body (λ interface body first second. h place m interface body here first second))
+    (λ place m here. ap (λ p. module_fault program p m) (zero-add place) ∙ module_to program place m (λ interface body first second. h place m interface body here first second))

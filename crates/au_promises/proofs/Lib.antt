@@ -1,1 +1,4 @@
+pub mod AgreeingLemmas
+pub mod DefinitionLemmas
 pub mod FulfilledLemmas
+pub mod PromiseLemmas

@@ -13,6 +13,7 @@ use Rattle.au_syntax.specs.Plain.{Bytes}
 use Rattle.au_syntax.specs.Types.{WrittenType, Labelled}
 use Rattle.au_tables.specs.declared.spaces.Space.TheVariants.{Types}
 use Rattle.au_tables.specs.Tables.{find}
+use Rattle.au_types.specs.declared.headings.Head.{Head}
 use Rattle.au_types.specs.declared.parameters.Parameter.{Parameter}
 use Rattle.au_types.specs.declared.types.DeclAt.{DeclAt}
 use Rattle.au_types.specs.Rows.{same_place}
@@ -49,27 +50,45 @@ same_declaration name other (Some a) (Some b) = same_place a b
 same_declaration name other None None = bytes_eq name other
 same_declaration name other a b = false
 
+-- two names, as they are written
+abbrev pub same_name : Placed Bytes → Placed Bytes → Bool
+same_name a b = bytes_eq a.name b.name
+
 -- two type parameters
 abbrev pub same_parameter : InUniverse Bytes → InUniverse Bytes → Bool
-same_parameter a b = bytes_eq a.name.name b.name.name && same_universe a.universe b.universe
+same_parameter a b = same_name a.name b.name && same_universe a.universe b.universe
 
 -- type parameters behind `generic`, as those of a scope
 abbrev pub scope_of : List (Constrained Bytes) → List Parameter
 scope_of generics = map (λ p. parameter p.parameter) generics
 
-module _ (program : List ModuleParts) (place : ℕ) (m : ModuleParts) where
-  -- the names of types and classes that a part of the module sees
-  abbrev pub visible : Part → List (Bytes × DeclAt)
-  visible part = declared_by (seen Types program place m part)
+-- what is seen of a module: the names of types and classes that its interface and its body see, and the
+-- rows of the declared types of the program
+pub record Sight : Type 0 where
+  pub interface : List (Bytes × DeclAt)
+  pub body : List (Bytes × DeclAt)
+  pub rows : List (DeclAt × Head)
 
+-- the names of types and classes that a part of the module at a place sees
+abbrev pub visible : List ModuleParts → ℕ → ModuleParts → Part → List (Bytes × DeclAt)
+visible program place m part = declared_by (seen Types program place m part)
+
+-- what is seen of the module at a place
+abbrev pub sight_of : List ModuleParts → ℕ → ModuleParts → Sight
+sight_of program place m = record {
+  interface = visible program place m Interface;
+  body = visible program place m Body;
+  rows = heads_of program;
+}
+
+module _ (sight : Sight) where
   -- a name of the interface and one of the body are of one class
   abbrev pub same_class : Placed Bytes → Placed Bytes → Bool
-  same_class a b = same_declaration a.name b.name (find a.name (visible Interface)) (find b.name (visible Body))
+  same_class a b = same_declaration a.name b.name (find a.name sight.interface) (find b.name sight.body)
 
   -- a written type of the interface and one of the body, each with its type parameters, mean one type
   abbrev pub same_type : List Parameter → WrittenType → List Parameter → WrittenType → Bool
-  same_type scope t other u =
-      same_meaning (meant [] scope (visible Interface) (heads_of program) t) (meant [] other (visible Body) (heads_of program) u)
+  same_type scope t other u = same_meaning (meant [] scope sight.interface sight.rows t) (meant [] other sight.body sight.rows u)
 
   -- two type parameters behind `generic`, with the classes of their constraints in order
   abbrev pub same_generic : Constrained Bytes → Constrained Bytes → Bool
@@ -77,11 +96,12 @@ module _ (program : List ModuleParts) (place : ℕ) (m : ModuleParts) where
 
   -- two parameters of functions
   abbrev pub same_labelled : List Parameter → List Parameter → Labelled Bytes → Labelled Bytes → Bool
-  same_labelled scope other a b = bytes_eq a.name.name b.name.name && same_type scope a.of other b.of
+  same_labelled scope other a b = same_name a.name b.name && same_type scope a.of other b.of
+
+  -- the parameters and the results of two functions, each with its type parameters
+  abbrev pub same_signature : List Parameter → Header Bytes → List Parameter → Header Bytes → Bool
+  same_signature scope h other k = all_agree (same_labelled scope other) h.parameters k.parameters && same_type scope h.result other k.result
 
   -- two functions: their type parameters, parameters and results
   abbrev pub same_function : List (Constrained Bytes) → Header Bytes → List (Constrained Bytes) → Header Bytes → Bool
-  same_function generics h others k =
-      all_agree same_generic generics others
-      && (all_agree (same_labelled (scope_of generics) (scope_of others)) h.parameters k.parameters
-      && same_type (scope_of generics) h.result (scope_of others) k.result)
+  same_function generics h others k = all_agree same_generic generics others && same_signature (scope_of generics) h (scope_of others) k

@@ -1,3 +1,5 @@
 pub mod Agreeing
+pub mod Defining
 pub mod Promises
 pub mod Fulfilled
+pub mod Written

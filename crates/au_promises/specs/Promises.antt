@@ -1,16 +1,20 @@
 -- What the interface of a module promises, and what its body is refused for: each constant, opaque type,
 -- function and instance of the interface has a definition in the body, and the first of them agrees with it.
-use Rattle.std.specs.Prelude.{◌+◌, ℕ, Bool, true, false, ◌&&◌, List, [], ◌∷◌, Option, None, Some, find, if◌then◌else◌}
+use Rattle.std.specs.Prelude.{◌+◌, ℕ, Bool, false, ◌&&◌, List, [], ◌∷◌, Option, None, Some, find, if◌then◌else◌}
 use Rattle.std.specs.Option.{option_or}
 use Rattle.std.specs.Str.{bytes_eq}
 use Rattle.au_base.specs.declared.places.Pos.{Pos}
-use Rattle.au_syntax.specs.Modules.{constant, opaque_type, record_type, union_type, function, class, instance, constant_body, function_body, instance_body}
+use Rattle.au_syntax.specs.declared.declarations.Universe.{Universe}
+use Rattle.au_syntax.specs.Modules.{InUniverse, Constrained, Header, constant, opaque_type, record_type, union_type, function, class, instance, constant_body, function_body, instance_body}
 use Rattle.au_syntax.specs.Names.{Placed}
-use Rattle.au_syntax.specs.Plain.{Bytes, PlainDeclaration}
-use Rattle.au_modules.specs.Programs.{Entry, ModuleParts}
+use Rattle.au_syntax.specs.Plain.{Bytes, PlainDeclaration, PlainModule}
+use Rattle.au_syntax.specs.Types.{WrittenType}
+use Rattle.au_modules.specs.Programs.{ModuleParts}
+use Rattle.au_modules.specs.Seen.{interface_tree, body_tree}
+use Rattle.au_types.specs.declared.parameters.Parameter.{Parameter}
 use Rattle.au_promises.specs.declared.faults.PromiseFault.{PromiseFault}
 use Rattle.au_promises.specs.declared.faults.PromiseFault.TheVariants.{NotDefined, Differs}
-use Rattle.au_promises.specs.Agreeing.{all_agree, same_class, same_function, same_generic, same_parameter, same_type, same_universe, scope_of}
+use Rattle.au_promises.specs.Agreeing.{all_agree, same_class, same_function, same_generic, same_parameter, same_type, same_universe, scope_of, Sight, sight_of}
 
 -- the place of a declaration's first token
 abbrev pub declaration_place : PlainDeclaration → Pos
@@ -34,29 +38,74 @@ promised (function at generics header) = Some header.name.name
 promised (instance at generics name t) = Some name.name
 promised other = None
 
-module _ (program : List ModuleParts) (place : ℕ) (m : ModuleParts) where
+-- the name of the constant that a declaration of a body defines, if it defines one
+abbrev pub constant_defined : PlainDeclaration → Option Bytes
+constant_defined (constant_body at name t value) = Some name.name
+constant_defined d = None
+
+-- the name of the type that a declaration of a body defines, if it defines one: a record or a union
+abbrev pub type_defined : PlainDeclaration → Option Bytes
+type_defined (record_type at name parameters universe fields) = Some name.name
+type_defined (union_type at name parameters universe cases) = Some name.name
+type_defined d = None
+
+-- the name of the function that a declaration of a body defines, if it defines one
+abbrev pub function_defined : PlainDeclaration → Option Bytes
+function_defined (function_body at generics header body stop) = Some header.name.name
+function_defined d = None
+
+-- a name is defined
+abbrev pub is_name : Bytes → Option Bytes → Bool
+is_name name None = false
+is_name name (Some other) = bytes_eq name other
+
+-- the type parameters and the universes of two types
+abbrev pub same_heading : List (InUniverse Bytes) → Universe → List (InUniverse Bytes) → Universe → Bool
+same_heading parameters universe others other = all_agree same_parameter parameters others && same_universe universe other
+
+-- what defines an opaque type has its type parameters and its universe
+abbrev pub keeps_type : List (InUniverse Bytes) → Universe → PlainDeclaration → Bool
+keeps_type parameters universe (record_type at name others other fields) = same_heading parameters universe others other
+keeps_type parameters universe (union_type at name others other cases) = same_heading parameters universe others other
+keeps_type parameters universe d = false
+
+module _ (sight : Sight) where
+  -- a declaration of the body defines an instance of this class for this type
+  abbrev pub instance_defined : List Parameter → Placed Bytes → WrittenType → PlainDeclaration → Bool
+  instance_defined scope name t (instance_body at generics other u methods) =
+      same_class sight name other && same_type sight scope t (scope_of generics) u
+  instance_defined scope name t d = false
+
   -- a declaration of the body defines what is promised: one of its sort and name, and for an
   -- instance one of its class and type
   abbrev pub defines : PlainDeclaration → PlainDeclaration → Bool
-  defines (constant at name t) (constant_body at' other u value) = bytes_eq name.name other.name
-  defines (opaque_type at name parameters universe) (record_type at' other parameters' universe' fields) = bytes_eq name.name other.name
-  defines (opaque_type at name parameters universe) (union_type at' other parameters' universe' cases) = bytes_eq name.name other.name
-  defines (function at generics header) (function_body at' generics' header' body stop) = bytes_eq header.name.name header'.name.name
-  defines (instance at generics name t) (instance_body at' generics' other u methods) =
-      same_class program place m name other && same_type program place m (scope_of generics) t (scope_of generics') u
+  defines (constant at name t) d = is_name name.name (constant_defined d)
+  defines (opaque_type at name parameters universe) d = is_name name.name (type_defined d)
+  defines (function at generics header) d = is_name header.name.name (function_defined d)
+  defines (instance at generics name t) d = instance_defined (scope_of generics) name t d
   defines promise d = false
+
+  -- what defines a constant is of its type
+  abbrev pub keeps_constant : WrittenType → PlainDeclaration → Bool
+  keeps_constant t (constant_body at name u value) = same_type sight [] t [] u
+  keeps_constant t d = false
+
+  -- what defines a function has its type parameters, parameters and result
+  abbrev pub keeps_function : List (Constrained Bytes) → Header Bytes → PlainDeclaration → Bool
+  keeps_function generics header (function_body at others other body stop) = same_function sight generics header others other
+  keeps_function generics header d = false
+
+  -- what defines an instance has its type parameters
+  abbrev pub keeps_instance : List (Constrained Bytes) → PlainDeclaration → Bool
+  keeps_instance generics (instance_body at others name t methods) = all_agree (same_generic sight) generics others
+  keeps_instance generics d = false
 
   -- what defines a promise agrees with it
   abbrev pub keeps : PlainDeclaration → PlainDeclaration → Bool
-  keeps (constant at name t) (constant_body at' other u value) = same_type program place m [] t [] u
-  keeps (opaque_type at name parameters universe) (record_type at' other parameters' universe' fields) =
-      all_agree same_parameter parameters parameters' && same_universe universe universe'
-  keeps (opaque_type at name parameters universe) (union_type at' other parameters' universe' cases) =
-      all_agree same_parameter parameters parameters' && same_universe universe universe'
-  keeps (function at generics header) (function_body at' generics' header' body stop) =
-      same_function program place m generics header generics' header'
-  keeps (instance at generics name t) (instance_body at' generics' other u methods) =
-      all_agree (same_generic program place m) generics generics'
+  keeps (constant at name t) d = keeps_constant t d
+  keeps (opaque_type at name parameters universe) d = keeps_type parameters universe d
+  keeps (function at generics header) d = keeps_function generics header d
+  keeps (instance at generics name t) d = keeps_instance generics d
   keeps promise d = false
 
   -- a promise of this name, by the first declaration of the body that defines it, if there is one
@@ -65,13 +114,14 @@ module _ (program : List ModuleParts) (place : ℕ) (m : ModuleParts) where
   kept_by name promise (Some d) =
       if keeps promise d then None else Some (Differs (declaration_place promise) (declaration_place d) name)
 
+  -- what is promised under a name, if anything is, over the declarations of the body
+  abbrev pub fault_by_name : List PlainDeclaration → PlainDeclaration → Option Bytes → Option PromiseFault
+  fault_by_name body promise None = None
+  fault_by_name body promise (Some name) = kept_by name promise (find (defines promise) body)
+
   -- a declaration of the interface, over those of the body
   abbrev pub promise_fault_of : List PlainDeclaration → PlainDeclaration → Option PromiseFault
-  promise_fault_of body promise = by_name (promised promise)
-    where
-      by_name : Option Bytes → Option PromiseFault
-      by_name None = None
-      by_name (Some name) = kept_by name promise (find (defines promise) body)
+  promise_fault_of body promise = fault_by_name body promise (promised promise)
 
   -- the first of these declarations of the interface that isn't kept
   unfoldable pub unkept : List PlainDeclaration → List PlainDeclaration → Option PromiseFault
@@ -79,13 +129,13 @@ module _ (program : List ModuleParts) (place : ℕ) (m : ModuleParts) where
   unkept body (promise ∷ promises) = option_or (promise_fault_of body promise) (unkept body promises)
 
   -- the two parts of the module: what is shipped has no body and owes nothing
-  abbrev pub parts_fault : Option Entry → Option Entry → Option PromiseFault
-  parts_fault (Some interface) (Some body) = unkept body.tree.declarations interface.tree.declarations
+  abbrev pub parts_fault : Option PlainModule → Option PlainModule → Option PromiseFault
+  parts_fault (Some interface) (Some body) = unkept body.declarations interface.declarations
   parts_fault interface body = None
 
 -- the module at a place
 abbrev pub module_fault : List ModuleParts → ℕ → ModuleParts → Option PromiseFault
-module_fault program place m = parts_fault program place m m.interface m.body
+module_fault program place m = parts_fault (sight_of program place m) (interface_tree (Some m)) (body_tree (Some m))
 
 -- the modules from a place on
 unfoldable pub faults_from : List ModuleParts → ℕ → List ModuleParts → Option PromiseFault

@@ -1,13 +1,318 @@
 //! The first promise of a program that isn't kept.
 
-ghost use Rattle.std.specs.Prelude.{◌≡◌, IfOk};
+ghost use Rattle.std.specs.Prelude.{◌≡◌, ◌<◌, IfOk, Some, find, length, slice_get};
+ghost use Rattle.std.specs.Option.{option_copied};
+ghost use Rattle.au_modules.specs.Programs.{ModuleParts};
+ghost use Rattle.au_modules.specs.Seen.{tree_seen};
 ghost use Rattle.au_modules.specs.Slots as slots;
+ghost use Rattle.au_promises.specs.Agreeing as agreeing;
+ghost use Rattle.au_promises.specs.Defining as defining;
+ghost use Rattle.au_promises.specs.Defining.{AreDefinitions};
 ghost use Rattle.au_promises.specs.Promises as spec;
+ghost use Rattle.au_promises.specs.Written.{declarations_of, declared_of, declared_seen, generics_of, name_of, sight_in};
+ghost use Rattle.au_syntax.specs.Views.{written};
 
+use crate::agreeing::{same_class, same_type, scope_of};
+use crate::definitions::{Definitions, Sort, declared_at, found_by};
 use crate::faults::PromiseFault;
-use au_base::Memory;
+use crate::keeping::keeps;
+use crate::sights::Sight;
+use au_base::{Memory, Name, Pos};
 use au_resolved::Resolved;
+use au_syntax::{Decl, Generic, Ident, Parsed, Part, TypeText, Whole};
+use au_types::Params;
 use std::alloc::Global;
+
+/// The place of a declaration's first token.
+#[tactic(auto, using(au_syntax::proofs::DeclarationLemmas::declaration_steps, std::proofs::lemmas::Grind::common_steps))]
+fn declaration_place(decl: &Decl<Parsed>) -> Pos
+    ensures { result ≡ spec.declaration_place (declared_of decl.now) }
+{
+    match decl {
+        Decl::Constant(at, _, _) => *at,
+        Decl::Opaque(at, _, _, _) => *at,
+        Decl::Record(at, _, _, _, _) => *at,
+        Decl::Union(at, _, _, _, _) => *at,
+        Decl::Function(at, _, _) => *at,
+        Decl::Class(at, _, _, _) => *at,
+        Decl::Instance(at, _, _, _) => *at,
+        Decl::ConstantBody(at, _, _, _) => *at,
+        Decl::FunctionBody(at, _, _, _, _) => *at,
+        Decl::InstanceBody(at, _, _, _, _) => *at,
+    }
+}
+
+/// What is promised, if a declaration of an interface promises anything.
+#[tactic(auto, using(au_syntax::proofs::DeclarationLemmas::declaration_steps, std::proofs::lemmas::Grind::common_steps))]
+fn promised(decl: &Decl<Parsed>) -> Option<&Name>
+    ensures { option_copied result ≡ spec.promised (declared_of decl.now) }
+{
+    match decl {
+        Decl::Constant(_, name, _) => Some(&name.name),
+        Decl::Opaque(_, name, _, _) => Some(&name.name),
+        Decl::Record(_, _, _, _, _) => None,
+        Decl::Union(_, _, _, _, _) => None,
+        Decl::Function(_, _, signature) => Some(&signature.name.name),
+        Decl::Class(_, _, _, _) => None,
+        Decl::Instance(_, _, name, _) => Some(&name.name),
+        Decl::ConstantBody(_, _, _, _) => None,
+        Decl::FunctionBody(_, _, _, _, _) => None,
+        Decl::InstanceBody(_, _, _, _, _) => None,
+    }
+}
+
+/// Whether a declaration defines an instance of this class for this type.
+#[tactic(auto, using(au_syntax::proofs::DeclarationLemmas::declaration_steps, std::proofs::lemmas::Grind::common_steps))]
+fn is_instance_of(
+    alloc: Global,
+    sight: &Sight,
+    scope: &Params,
+    name: &Ident<Parsed>,
+    of: &TypeText,
+    decl: &Decl<Parsed>,
+) -> Result<bool, Memory>
+    ensures { IfOk result (λ is. is ≡ spec.instance_defined (sight_in sight.now) scope.now (name_of name.now) (written of.now) (declared_of decl.now)) }
+{
+    match decl {
+        Decl::Constant(_, _, _) => Ok(false),
+        Decl::Opaque(_, _, _, _) => Ok(false),
+        Decl::Record(_, _, _, _, _) => Ok(false),
+        Decl::Union(_, _, _, _, _) => Ok(false),
+        Decl::Function(_, _, _) => Ok(false),
+        Decl::Class(_, _, _, _) => Ok(false),
+        Decl::Instance(_, _, _, _) => Ok(false),
+        Decl::ConstantBody(_, _, _, _) => Ok(false),
+        Decl::FunctionBody(_, _, _, _, _) => Ok(false),
+        Decl::InstanceBody(_, others, other, its, _) => {
+            if same_class(sight, name, other) {
+                let outer = scope_of(alloc, others)?;
+                same_type(alloc, sight, scope, of, &outer, its)
+            } else {
+                Ok(false)
+            }
+        },
+    }
+}
+
+/// A declaration, if there is one and it defines an instance of this class for this type.
+fn instance_if<'a>(
+    alloc: Global,
+    sight: &Sight,
+    scope: &Params,
+    name: &Ident<Parsed>,
+    of: &TypeText,
+    found: Option<&'a Decl<Parsed>>,
+) -> Result<Option<&'a Decl<Parsed>>, Memory>
+    ensures { IfOk result (λ one. declared_seen one ≡ find (spec.instance_defined (sight_in sight.now) scope.now (name_of name.now) (written of.now)) (defining.listed (declared_seen found.entry))) }
+{
+    match found {
+        None => Ok(None),
+        Some(decl) => {
+            if is_instance_of(alloc, sight, scope, name, of, decl)? {
+                Ok(Some(decl))
+            } else {
+                Ok(None)
+            }
+        }
+    }
+}
+
+/// The first of the instances of these indices that is one of this class for this type, if there is one.
+fn instance_among<'a>(
+    alloc: Global,
+    sight: &Sight,
+    scope: &Params,
+    name: &Ident<Parsed>,
+    of: &TypeText,
+    decls: &'a Vec<Decl<Parsed>>,
+    indices: &Vec<usize>,
+) -> Result<Option<&'a Decl<Parsed>>, Memory>
+    ensures { IfOk result (λ found. declared_seen found ≡ find (spec.instance_defined (sight_in sight.now) scope.now (name_of name.now) (written of.now)) (defining.picked (declarations_of decls.now.items) indices.now.items)) }
+{
+    for index in indices {
+        let found = instance_if(alloc, sight, scope, name, of, declared_at(decls, *index))?;
+        if found.is_some() {
+            return Ok(found);
+        }
+    }
+    Ok(None)
+}
+
+/// The first declaration of a body that defines an instance of this class for this type, if there is one.
+fn instance_found<'a>(
+    alloc: Global,
+    sight: &Sight,
+    list: &Vec<Generic<Parsed>>,
+    name: &Ident<Parsed>,
+    of: &TypeText,
+    decls: &'a Vec<Decl<Parsed>>,
+    definitions: &Definitions,
+) -> Result<Option<&'a Decl<Parsed>>, Memory>
+    requires { AreDefinitions (declarations_of decls.now.items) definitions.now }
+    ensures { IfOk result (λ found. declared_seen found ≡ find (spec.instance_defined (sight_in sight.now) (agreeing.scope_of (generics_of list.now.items)) (name_of name.now) (written of.now)) (declarations_of decls.now.items)) }
+{
+    let scope = scope_of(alloc, list)?;
+    instance_among(
+        alloc,
+        sight,
+        &scope,
+        name,
+        of,
+        decls,
+        &definitions.instances,
+    )
+}
+
+/// The first declaration of a body that defines a promise, if there is one.
+#[tactic(auto, using(au_syntax::proofs::DeclarationLemmas::declaration_steps, crate::proofs::DefinitionLemmas::nothing_found, std::proofs::lemmas::Grind::common_steps))]
+fn definition_of<'a>(
+    alloc: Global,
+    sight: &Sight,
+    decls: &'a Vec<Decl<Parsed>>,
+    definitions: &Definitions,
+    promise: &Decl<Parsed>,
+) -> Result<Option<&'a Decl<Parsed>>, Memory>
+    requires { AreDefinitions (declarations_of decls.now.items) definitions.now }
+    ensures { IfOk result (λ found. declared_seen found ≡ find (spec.defines (sight_in sight.now) (declared_of promise.now)) (declarations_of decls.now.items)) }
+{
+    match promise {
+        Decl::Constant(_, name, _) => {
+            Ok(found_by(decls, definitions, Sort::Constants, &name.name))
+        }
+        Decl::Opaque(_, name, _, _) => Ok(found_by(decls, definitions, Sort::Types, &name.name)),
+        Decl::Record(_, _, _, _, _) => Ok(None),
+        Decl::Union(_, _, _, _, _) => Ok(None),
+        Decl::Function(_, _, signature) => {
+            let name = &signature.name.name;
+            Ok(found_by(decls, definitions, Sort::Functions, name))
+        }
+        Decl::Class(_, _, _, _) => Ok(None),
+        Decl::Instance(_, list, name, of) => {
+            instance_found(alloc, sight, list, name, of, decls, definitions)
+        }
+        Decl::ConstantBody(_, _, _, _) => Ok(None),
+        Decl::FunctionBody(_, _, _, _, _) => Ok(None),
+        Decl::InstanceBody(_, _, _, _, _) => Ok(None),
+    }
+}
+
+/// What is refused where a promise of this name has this definition, if it has one.
+fn fault_by(
+    alloc: Global,
+    sight: &Sight,
+    name: &Name,
+    promise: &Decl<Parsed>,
+    found: Option<&Decl<Parsed>>,
+) -> Result<Option<PromiseFault>, Memory>
+    ensures { IfOk result (λ fault. fault ≡ spec.kept_by (sight_in sight.now) name.now (declared_of promise.now) (declared_seen found.entry)) }
+{
+    let at = declaration_place(promise);
+    match found {
+        None => Ok(Some(PromiseFault::NotDefined(at, name.copy(alloc)?))),
+        Some(decl) => {
+            if keeps(alloc, sight, promise, decl)? {
+                Ok(None)
+            } else {
+                let by = declaration_place(decl);
+                Ok(Some(PromiseFault::Differs(at, by, name.copy(alloc)?)))
+            }
+        }
+    }
+}
+
+/// What is refused of a declaration of the interface, given the definitions of the body.
+fn fault_of(
+    alloc: Global,
+    sight: &Sight,
+    decls: &Vec<Decl<Parsed>>,
+    definitions: &Definitions,
+    promise: &Decl<Parsed>,
+) -> Result<Option<PromiseFault>, Memory>
+    requires { AreDefinitions (declarations_of decls.now.items) definitions.now }
+    ensures { IfOk result (λ fault. fault ≡ spec.promise_fault_of (sight_in sight.now) (declarations_of decls.now.items) (declared_of promise.now)) }
+{
+    match promised(promise) {
+        None => Ok(None),
+        Some(name) => {
+            let found = definition_of(alloc, sight, decls, definitions, promise)?;
+            fault_by(alloc, sight, name, promise, found)
+        }
+    }
+}
+
+/// The first of these declarations of the interface that isn't kept, given the definitions of the body.
+fn unkept(
+    alloc: Global,
+    sight: &Sight,
+    decls: &Vec<Decl<Parsed>>,
+    definitions: &Definitions,
+    promises: &Vec<Decl<Parsed>>,
+) -> Result<Option<PromiseFault>, Memory>
+    requires { AreDefinitions (declarations_of decls.now.items) definitions.now }
+    ensures { IfOk result (λ fault. fault ≡ spec.unkept (sight_in sight.now) (declarations_of decls.now.items) (declarations_of promises.now.items)) }
+{
+    for promise in promises {
+        let fault = fault_of(alloc, sight, decls, definitions, promise)?;
+        if fault.is_some() {
+            return Ok(fault);
+        }
+    }
+    Ok(None)
+}
+
+/// The first of the declarations of an interface that the declarations of its body don't keep.
+fn body_fault(
+    alloc: Global,
+    sight: &Sight,
+    decls: &Vec<Decl<Parsed>>,
+    promises: &Vec<Decl<Parsed>>,
+) -> Result<Option<PromiseFault>, Memory>
+    ensures { IfOk result (λ fault. fault ≡ spec.unkept (sight_in sight.now) (declarations_of decls.now.items) (declarations_of promises.now.items)) }
+{
+    let definitions = Definitions::of(alloc, decls)?;
+    unkept(alloc, sight, decls, &definitions, promises)
+}
+
+/// What is refused of the two parts of a module, where it has both.
+fn parts_fault(
+    alloc: Global,
+    sight: &Sight,
+    interface: Option<&Whole<Parsed>>,
+    body: Option<&Whole<Parsed>>,
+) -> Result<Option<PromiseFault>, Memory>
+    ensures { IfOk result (λ fault. fault ≡ spec.parts_fault (sight_in sight.now) (tree_seen interface.entry) (tree_seen body.entry)) }
+{
+    match interface {
+        None => Ok(None),
+        Some(promises) => match body {
+            None => Ok(None),
+            Some(file) => {
+                let decls = &file.tree().declarations;
+                body_fault(alloc, sight, decls, &promises.tree().declarations)
+            }
+        },
+    }
+}
+
+/// What is refused of the module at a place.
+fn module_fault(
+    alloc: Global,
+    resolved: &Resolved,
+    place: usize,
+) -> Result<Option<PromiseFault>, Memory>
+    requires { place < length (slots.modules resolved.now) }
+    ensures { (m : ModuleParts) → slice_get (slots.modules resolved.now) place ≡ Some m → IfOk result (λ fault. fault ≡ spec.module_fault (slots.modules resolved.now) place m) }
+{
+    let modules = resolved.modules();
+    let sight = Sight {
+        interface: &resolved.names(place, Part::Interface).types,
+        body: &resolved.names(place, Part::Body).types,
+        heads: resolved.heads_ref(),
+    };
+    let interface = modules.interface(place);
+    let body = modules.body(place);
+    parts_fault(alloc, &sight, interface, body)
+}
 
 /// The first promise of the interfaces of a program that isn't kept: modules by their places, the
 /// declarations of each interface in the order of the text.
@@ -18,5 +323,11 @@ use std::alloc::Global;
 pub fn promise_fault(alloc: Global, resolved: &Resolved) -> Result<Option<PromiseFault>, Memory>
     ensures { IfOk result (λ found. found ≡ spec.promise_fault (slots.modules resolved.now)) }
 {
-    Err(Memory)
+    for place in 0..resolved.modules().len() {
+        let fault = module_fault(alloc, resolved, place)?;
+        if fault.is_some() {
+            return Ok(fault);
+        }
+    }
+    Ok(None)
 }

@@ -1,0 +1,230 @@
+//! Where the definitions of a body stand among its declarations, so that none is found by a walk through
+//! the body.
+
+ghost use Rattle.std.specs.Prelude.{◌≡◌, IfOk, OnOk, filter, find, slice_get};
+ghost use Rattle.std.specs.Option.{option_copied};
+ghost use Rattle.au_promises.specs.Defining as defining;
+ghost use Rattle.au_promises.specs.Defining.{AreDefinitions, AreFirst};
+ghost use Rattle.au_promises.specs.Promises as spec;
+ghost use Rattle.au_promises.specs.Written.{declarations_of, declared_of, declared_seen};
+
+use au_base::{Memory, Name};
+use au_syntax::{Decl, Parsed};
+use au_tables::Table;
+use std::alloc::Global;
+
+/// A sort of definitions that have names.
+#[derive(Clone, Copy)]
+pub enum Sort {
+    /// Constants.
+    Constants,
+    /// Types: records and unions.
+    Types,
+    /// Functions.
+    Functions,
+}
+
+/// Where the definitions of a body stand, by their indices among its declarations.
+#[derive(Drop)]
+pub struct Definitions {
+    /// The first constant of each name.
+    pub constants: Table<usize>,
+    /// The first type of each name.
+    pub types: Table<usize>,
+    /// The first function of each name.
+    pub functions: Table<usize>,
+    /// The instances, in order.
+    pub instances: Vec<usize>,
+}
+
+/// The name of the constant that a declaration defines, if it defines one.
+#[tactic(auto, using(au_syntax::proofs::DeclarationLemmas::declaration_steps, std::proofs::lemmas::Grind::common_steps))]
+fn constant_defined(decl: &Decl<Parsed>) -> Option<&Name>
+    ensures { option_copied result ≡ spec.constant_defined (declared_of decl.now) }
+{
+    match decl {
+        Decl::Constant(_, _, _) => None,
+        Decl::Opaque(_, _, _, _) => None,
+        Decl::Record(_, _, _, _, _) => None,
+        Decl::Union(_, _, _, _, _) => None,
+        Decl::Function(_, _, _) => None,
+        Decl::Class(_, _, _, _) => None,
+        Decl::Instance(_, _, _, _) => None,
+        Decl::ConstantBody(_, name, _, _) => Some(&name.name),
+        Decl::FunctionBody(_, _, _, _, _) => None,
+        Decl::InstanceBody(_, _, _, _, _) => None,
+    }
+}
+
+/// The name of the type that a declaration defines, if it defines one.
+#[tactic(auto, using(au_syntax::proofs::DeclarationLemmas::declaration_steps, std::proofs::lemmas::Grind::common_steps))]
+fn type_defined(decl: &Decl<Parsed>) -> Option<&Name>
+    ensures { option_copied result ≡ spec.type_defined (declared_of decl.now) }
+{
+    match decl {
+        Decl::Constant(_, _, _) => None,
+        Decl::Opaque(_, _, _, _) => None,
+        Decl::Record(_, name, _, _, _) => Some(&name.name),
+        Decl::Union(_, name, _, _, _) => Some(&name.name),
+        Decl::Function(_, _, _) => None,
+        Decl::Class(_, _, _, _) => None,
+        Decl::Instance(_, _, _, _) => None,
+        Decl::ConstantBody(_, _, _, _) => None,
+        Decl::FunctionBody(_, _, _, _, _) => None,
+        Decl::InstanceBody(_, _, _, _, _) => None,
+    }
+}
+
+/// The name of the function that a declaration defines, if it defines one.
+#[tactic(auto, using(au_syntax::proofs::DeclarationLemmas::declaration_steps, std::proofs::lemmas::Grind::common_steps))]
+fn function_defined(decl: &Decl<Parsed>) -> Option<&Name>
+    ensures { option_copied result ≡ spec.function_defined (declared_of decl.now) }
+{
+    match decl {
+        Decl::Constant(_, _, _) => None,
+        Decl::Opaque(_, _, _, _) => None,
+        Decl::Record(_, _, _, _, _) => None,
+        Decl::Union(_, _, _, _, _) => None,
+        Decl::Function(_, _, _) => None,
+        Decl::Class(_, _, _, _) => None,
+        Decl::Instance(_, _, _, _) => None,
+        Decl::ConstantBody(_, _, _, _) => None,
+        Decl::FunctionBody(_, _, signature, _, _) => Some(&signature.name.name),
+        Decl::InstanceBody(_, _, _, _, _) => None,
+    }
+}
+
+/// Whether a declaration defines an instance.
+#[tactic(auto, using(au_syntax::proofs::DeclarationLemmas::declaration_steps, std::proofs::lemmas::Grind::common_steps))]
+fn is_instance(decl: &Decl<Parsed>) -> bool
+    ensures { result ≡ defining.is_instance (declared_of decl.now) }
+{
+    match decl {
+        Decl::Constant(_, _, _) => false,
+        Decl::Opaque(_, _, _, _) => false,
+        Decl::Record(_, _, _, _, _) => false,
+        Decl::Union(_, _, _, _, _) => false,
+        Decl::Function(_, _, _) => false,
+        Decl::Class(_, _, _, _) => false,
+        Decl::Instance(_, _, _, _) => false,
+        Decl::ConstantBody(_, _, _, _) => false,
+        Decl::FunctionBody(_, _, _, _, _) => false,
+        Decl::InstanceBody(_, _, _, _, _) => true,
+    }
+}
+
+/// The name that a declaration defines of a sort, if it defines one.
+fn name_defined(sort: Sort, decl: &Decl<Parsed>) -> Option<&Name>
+    ensures { option_copied result ≡ defining.name_defined sort (declared_of decl.now) }
+{
+    match sort {
+        Sort::Constants => constant_defined(decl),
+        Sort::Types => type_defined(decl),
+        Sort::Functions => function_defined(decl),
+    }
+}
+
+/// Puts an index under a name, if there is one and it has no index.
+fn put_name(table: &mut Table<usize>, name: Option<&Name>, index: usize) -> Result<(), Memory>
+    ensures { OnOk result (table.new ≡ defining.with_name table.old (option_copied name.entry) index) }
+{
+    match name {
+        None => Ok(()),
+        Some(name) => {
+            table.put(name.as_bytes(), index)?;
+            Ok(())
+        }
+    }
+}
+
+/// The first definition of each name of a sort, by its index.
+fn first_defined(
+    alloc: Global,
+    sort: Sort,
+    decls: &Vec<Decl<Parsed>>,
+) -> Result<Table<usize>, Memory>
+    ensures { IfOk result (λ table. AreFirst sort (declarations_of decls.now.items) (declarations_of decls.now.items) table) }
+{
+    let mut table = Table::new(alloc);
+    for (index, one) in decls.iter().enumerate() {
+        put_name(&mut table, name_defined(sort, one), index)?;
+    }
+    Ok(table)
+}
+
+/// Puts an index behind others, if it is wanted.
+fn push_if(indices: &mut Vec<usize>, wanted: bool, index: usize) -> Result<(), Memory>
+    ensures { OnOk result (indices.new.items ≡ defining.with_index indices.old.items wanted index) }
+{
+    if wanted {
+        indices.push(index)?;
+    }
+    Ok(())
+}
+
+/// The instances, by their indices.
+fn instances_defined(alloc: Global, decls: &Vec<Decl<Parsed>>) -> Result<Vec<usize>, Memory>
+    ensures { IfOk result (λ indices. defining.picked (declarations_of decls.now.items) indices.items ≡ filter defining.is_instance (declarations_of decls.now.items)) }
+{
+    let mut indices = Vec::new(alloc);
+    for (index, one) in decls.iter().enumerate() {
+        push_if(&mut indices, is_instance(one), index)?;
+    }
+    Ok(indices)
+}
+
+impl Definitions {
+    /// The definitions of a body.
+    ///
+    /// # Errors
+    ///
+    /// Only for want of memory.
+    pub fn of(alloc: Global, decls: &Vec<Decl<Parsed>>) -> Result<Definitions, Memory>
+        ensures { IfOk result (λ definitions. AreDefinitions (declarations_of decls.now.items) definitions) }
+    {
+        let constants = first_defined(alloc, Sort::Constants, decls)?;
+        let types = first_defined(alloc, Sort::Types, decls)?;
+        let functions = first_defined(alloc, Sort::Functions, decls)?;
+        let instances = instances_defined(alloc, decls)?;
+        Ok(Definitions {
+            constants,
+            types,
+            functions,
+            instances,
+        })
+    }
+
+    /// The table of a sort.
+    fn table(&self, sort: Sort) -> &Table<usize>
+        ensures { result.now ≡ defining.table_of sort self.now }
+    {
+        match sort {
+            Sort::Constants => &self.constants,
+            Sort::Types => &self.types,
+            Sort::Functions => &self.functions,
+        }
+    }
+}
+
+/// The declaration of an index, if there is one.
+pub fn declared_at(decls: &Vec<Decl<Parsed>>, index: usize) -> Option<&Decl<Parsed>>
+    ensures { declared_seen result ≡ slice_get (declarations_of decls.now.items) index }
+{
+    decls.get(index)
+}
+
+/// The first definition of a name of a sort, if there is one, given the definitions of the body.
+pub fn found_by<'a>(
+    decls: &'a Vec<Decl<Parsed>>,
+    definitions: &Definitions,
+    sort: Sort,
+    name: &Name,
+) -> Option<&'a Decl<Parsed>>
+    requires { AreDefinitions (declarations_of decls.now.items) definitions.now }
+    ensures { declared_seen result ≡ find (defining.is_defined sort name.now) (declarations_of decls.now.items) }
+{
+    match definitions.table(sort).get(name.as_bytes()) {
+        None => None,
+        Some(index) => declared_at(decls, *index),
+    }
+}
