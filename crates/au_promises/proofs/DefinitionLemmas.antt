@@ -186,12 +186,6 @@ first_of Constants all definitions are = are.constants
 first_of Types all definitions are = are.types
 first_of Functions all definitions are = are.functions
 
--- nothing has this name
-pub first_missing : (all : List PlainDeclaration) (index : Option ℕ) (found : Option PlainDeclaration) → option_map (slice_get all) index ≡ option_map Some found → index ≡ None → None ≡ found
-first_missing all None None e h = refl
-first_missing all None (Some d) e h = absurd (none-some (Some d) e)
-first_missing all (Some i) found e h = absurd (none-some i (sym h))
-
 -- the declaration at this index has it
 pub first_there : (all : List PlainDeclaration) (index : Option ℕ) (i : ℕ) (found : Option PlainDeclaration) → option_map (slice_get all) index ≡ option_map Some found → index ≡ Some i → slice_get all i ≡ found
 first_there all None i found e h = absurd (none-some i h)

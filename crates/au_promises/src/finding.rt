@@ -164,7 +164,7 @@ fn instance_found<'a>(
 }
 
 /// The first declaration of a body that defines a promise, if there is one.
-#[tactic(auto, using(au_syntax::proofs::DeclarationLemmas::declaration_steps, crate::proofs::DefinitionLemmas::nothing_found, std::proofs::lemmas::Grind::common_steps))]
+#[tactic(auto, using(au_syntax::proofs::DeclarationLemmas::declaration_steps, std::proofs::lemmas::Grind::common_steps))]
 fn definition_of<'a>(
     alloc: Global,
     sight: &Sight,
