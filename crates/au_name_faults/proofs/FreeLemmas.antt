@@ -20,8 +20,8 @@ use Rattle.au_name_faults.specs.NameFaults.{import_fault, means_nothing, mention
 use Rattle.au_name_faults.specs.Good.{IsSourced}
 use Rattle.au_name_faults.proofs.ChoiceLemmas.{or_first, or_second, or_neither, Among, contains, first_from, first_to, so_from, so_to}
 use Rattle.au_name_faults.proofs.MentionLemmas.{declared_of_mention, mention_of_declared}
-use Rattle.au_name_faults.proofs.BroughtLemmas.{IsBrought, brought_item, item_brings}
-use Rattle.au_name_faults.proofs.ClashLemmas.{AreAlone, ItemsPass, import_from, import_to, item_alone, item_to}
+use Rattle.au_name_faults.proofs.SourceLemmas.{IsBrought, brought_item, item_brings}
+use Rattle.au_name_faults.proofs.ItemLemmas.{AreAlone, ItemsPass, import_from, import_to, item_alone, item_to}
 
 module _ (program : List ModuleParts) (place : ℕ) (m : ModuleParts) (part : Part) where
   pub record IsFree : Type 0 where

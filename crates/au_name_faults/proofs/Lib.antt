@@ -1,6 +1,6 @@
-pub mod BroughtLemmas
+pub mod SourceLemmas
 pub mod ChoiceLemmas
-pub mod ClashLemmas
+pub mod ItemLemmas
 pub mod DeclaringLemmas
 pub mod FreeLemmas
 pub mod GoodLemmas

@@ -22,8 +22,8 @@ use Rattle.au_name_faults.specs.Clashing.{is_built_in, is_offered, pervasive_tar
 use Rattle.au_name_faults.specs.Good.{IsSourced, IsForeign, NamesAreGood}
 use Rattle.au_name_faults.proofs.ChoiceLemmas.{Among, among, contains, among-append, among-append_left, among-append_right, found_among, among_has, has_among, has_some}
 use Rattle.au_name_faults.proofs.NumberLemmas.{among-names_in, among-names_in_from, among-numbered, among-numbered_from}
-use Rattle.au_name_faults.proofs.BroughtLemmas.{targets_among, targets_from, find-targets, brought_before}
-use Rattle.au_name_faults.proofs.ClashLemmas.{other_from, other_to, IsAlone, alone_from, alone_to, one_brought}
+use Rattle.au_name_faults.proofs.SourceLemmas.{targets_among, targets_from, find-targets, brought_before}
+use Rattle.au_name_faults.proofs.ItemLemmas.{other_from, other_to, IsAlone, alone_from, alone_to, one_brought}
 use Rattle.au_name_faults.proofs.FreeLemmas.{IsFree}
 
 -- ---- what is pervasive

@@ -29,7 +29,7 @@ use Rattle.au_name_faults.specs.NameFaults.{first_place, given, is_apart, is_hid
 use Rattle.au_name_faults.specs.Good.{IsOffered, IsSourced}
 use Rattle.au_name_faults.proofs.ChoiceLemmas.{or_first, or_second, or_neither, Among, among, among-append, among-append_left, among-append_right, first_from, first_to, so_from, so_to, found_among, among_found}
 use Rattle.au_name_faults.proofs.NumberLemmas.{one_number, one_number_to}
-use Rattle.au_name_faults.proofs.BroughtLemmas.{renamed_among, renamed_from, place_there}
+use Rattle.au_name_faults.proofs.SourceLemmas.{renamed_among, renamed_from, place_there}
 
 -- ---- one meaning
 
