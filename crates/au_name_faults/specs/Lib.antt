@@ -1,4 +1,6 @@
 pub mod Choices
 pub mod Clashing
 pub mod Gathered
+pub mod Importers
 pub mod NameFaults
+pub mod Parts

@@ -3,10 +3,14 @@
 #![tactic(auto)]
 
 pub mod brought;
+pub mod built_in;
+mod clashes;
+mod declared_names;
 pub mod declaring;
 pub mod faults;
 pub mod finding;
 pub mod importing;
+mod members;
 pub mod offers;
 
 pub use faults::NameFault;
