@@ -15,7 +15,7 @@ use Rattle.au_tables.proofs.DeclaredLemmas.{numbered-append}
 use Rattle.au_modules.specs.Programs.{ModuleParts}
 use Rattle.au_modules.specs.Seen.{interface_tree}
 use Rattle.au_names.specs.Exporting.{in_space, declarations_seen}
-use Rattle.au_names.specs.Owned.{declarations_in, interface_of}
+use Rattle.au_names.specs.Owned.{interface_of}
 use Rattle.au_names.proofs.ExportLemmas.{interface_seen, nothing}
 use Rattle.au_names.proofs.PutLemmas.{drop_at, with_all-append}
 use Rattle.au_name_faults.specs.Clashing.{first_offered, last_offered}

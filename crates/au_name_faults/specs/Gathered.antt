@@ -1,9 +1,8 @@
 -- What is made before the names of a program are looked at, so that each is found by a table.
-use Rattle.std.specs.Prelude.{◌≡◌, ℕ, List, [], map, reverse}
+use Rattle.std.specs.Prelude.{◌≡◌, ℕ, List, map, reverse}
 use Rattle.au_syntax.specs.declared.modules.Part.{Part}
 use Rattle.au_syntax.specs.Plain.{PlainDeclaration}
 use Rattle.au_tables.specs.declared.name_tables.NameTables.{NameTables}
-use Rattle.au_tables.specs.declared.spaces.Space.{Space}
 use Rattle.au_tables.specs.declared.spaces.Space.TheVariants.{Values, Callables, Types}
 use Rattle.au_tables.specs.DeclaredNames.{numbered, table_of}
 use Rattle.au_tables.specs.Tables.{firsts}

@@ -61,7 +61,8 @@ pub fn last_offered(importer: &Importer, place: usize, space: Space, name: &[u8]
     requires within { place < length (program_of importer.now) }
     ensures { (m : ModuleParts) → slice_get (program_of importer.now) place ≡ Some m → result ≡ spec.last_offered space m name.now }
 {
-    let names = table_in(&importer.offers.lasts[place], space);
+    let tables = &importer.offers.lasts[place];
+    let names = table_in(tables, space);
     names.get(name).copied()
 }
 

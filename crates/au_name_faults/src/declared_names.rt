@@ -6,9 +6,9 @@ ghost use Rattle.au_syntax.specs.Views.{declaration, header, variant};
 ghost use Rattle.au_tables.specs.DeclaredNames.{callable_names, declared_names, given, type_names, value_names};
 ghost use Rattle.au_tables.specs.Tables.{with_all, with_pair};
 
-use au_tables::{Space, Table};
 use au_base::Memory;
 use au_syntax::{Decl, Ident, Phase, Signature, UnionCase};
+use au_tables::{Space, Table};
 
 /// Puts a name with a number.
 fn put_name<P: Phase>(table: &mut Table<u32>, name: &Ident<P>, number: u32) -> Result<(), Memory>

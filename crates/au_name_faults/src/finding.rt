@@ -85,9 +85,7 @@ fn part_fault(
         None => Ok(None),
         Some(file) => {
             let tree = file.tree();
-            tree_fault(
-                alloc, resolved, offers, interface, body, place, part, tree,
-            )
+            tree_fault(alloc, resolved, offers, interface, body, place, part, tree)
         }
     }
 }
