@@ -1,9 +1,14 @@
-pub mod SourceLemmas
+pub mod BroughtLemmas
 pub mod ChoiceLemmas
-pub mod ItemLemmas
+pub mod ClashLemmas
 pub mod DeclaringLemmas
+pub mod FindingLemmas
 pub mod FreeLemmas
 pub mod GoodLemmas
+pub mod ImportingLemmas
+pub mod ItemLemmas
 pub mod MentionLemmas
 pub mod NumberLemmas
+pub mod OfferLemmas
 pub mod RuleLemmas
+pub mod SourceLemmas

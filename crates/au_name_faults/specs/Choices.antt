@@ -1,5 +1,5 @@
 -- The first of several things that may be there.
-use Rattle.std.specs.Prelude.{Bool, true, false, List, [], ◌∷◌, Option, None, Some, if◌then◌else◌}
+use Rattle.std.specs.Prelude.{Bool, List, [], ◌∷◌, Option, None, Some, if◌then◌else◌}
 use Rattle.std.specs.Option.{option_or}
 
 -- the first that a function gives for the items of a list, in order

@@ -1,25 +1,29 @@
 -- What is made before the names of a program are looked at, so that each is found by a table.
-use Rattle.std.specs.Prelude.{◌≡◌, ℕ, List, [], map, reverse}
+use Rattle.std.specs.Prelude.{◌≡◌, ℕ, List, map, reverse}
 use Rattle.au_syntax.specs.declared.modules.Part.{Part}
+use Rattle.au_syntax.specs.Plain.{PlainDeclaration}
 use Rattle.au_tables.specs.declared.name_tables.NameTables.{NameTables}
-use Rattle.au_tables.specs.declared.spaces.Space.{Space}
 use Rattle.au_tables.specs.declared.spaces.Space.TheVariants.{Values, Callables, Types}
-use Rattle.au_tables.specs.DeclaredNames.{table_of}
+use Rattle.au_tables.specs.DeclaredNames.{numbered, table_of}
 use Rattle.au_tables.specs.Tables.{firsts}
 use Rattle.au_modules.specs.Programs.{ModuleParts}
 use Rattle.au_names.specs.Exporting.{AreExports}
-use Rattle.au_names.specs.Owned.{interface_of}
+use Rattle.au_names.specs.Owned.{declarations_in}
 use Rattle.au_name_faults.specs.declared.brought.Brought.{Brought}
 use Rattle.au_name_faults.specs.declared.offers.Offers.{Offers}
 use Rattle.au_name_faults.specs.Clashing.{brought_to}
 
+-- the tables of the names of declarations that are numbered from 0, with the number of the last declaration of each
+abbrev pub last_tables : List PlainDeclaration → NameTables
+last_tables ds = record {
+  values = table_of Values (reverse (numbered 0 ds));
+  callables = table_of Callables (reverse (numbered 0 ds));
+  types = table_of Types (reverse (numbered 0 ds));
+}
+
 -- the tables of the names that an interface offers, with the number of the last declaration of each
 abbrev pub last_offers : ModuleParts → NameTables
-last_offers m = record {
-  values = table_of Values (reverse (interface_of m));
-  callables = table_of Callables (reverse (interface_of m));
-  types = table_of Types (reverse (interface_of m));
-}
+last_offers m = last_tables (declarations_in m.interface)
 
 -- These are the offers of a program's interfaces, by their places.
 pub record AreOffers (program : List ModuleParts) (offers : Offers) : Type 0 where

@@ -3,4 +3,6 @@ pub mod Clashing
 pub mod Declaring
 pub mod Gathered
 pub mod Good
+pub mod Importers
 pub mod NameFaults
+pub mod Parts

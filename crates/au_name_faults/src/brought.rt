@@ -1,16 +1,24 @@
 //! What the imports of a part bring, by name.
 
-ghost use Rattle.std.specs.Prelude.{◌≡◌, ◌<◌, IfOk, Some, length, slice_get};
+ghost use Rattle.std.specs.Prelude.{◌≡◌, ◌<◌, ℕ, List, IfOk, Some, length, slice_get};
 ghost use Rattle.au_modules.specs.Programs.{ModuleParts};
+ghost use Rattle.au_modules.specs.Seen.{tree_seen};
 ghost use Rattle.au_modules.specs.Slots as slots;
+ghost use Rattle.au_name_faults.specs.Clashing as clashing;
 ghost use Rattle.au_name_faults.specs.Gathered.{AreBrought};
-ghost use Rattle.au_names.specs.Exporting.{AreExports};
+ghost use Rattle.au_names.specs.Exporting.{AreExports, imports_seen};
+ghost use Rattle.au_names.specs.Importing.{imported};
+ghost use Rattle.au_names.specs.Meanings.{part_of};
+ghost use Rattle.au_name_faults.specs.Parts.{tree_of};
+ghost use Rattle.au_syntax.specs.declared.modules.Part.{Part as ThePart};
+ghost use Rattle.au_tables.specs.Tables.{firsts};
 
 use au_base::Memory;
 use au_modules::Modules;
+use au_names::imports::put_imported;
 use au_names::{Exports, Target};
-use au_syntax::Part;
-use au_tables::Table;
+use au_syntax::{Parsed, Part, Whole};
+use au_tables::{Space, Table};
 use std::alloc::Global;
 
 /// What the imports of a part bring, by spaces: the first that each name is given.
@@ -22,6 +30,35 @@ pub struct Brought {
     pub callables: Table<Target>,
     /// The types.
     pub types: Table<Target>,
+}
+
+/// The file of a part of the module at a place, if the module has it.
+pub fn part_file(modules: &Modules, place: usize, part: Part) -> Option<&Whole<Parsed>>
+    requires { place < length (slots.modules modules.now) }
+    ensures { (m : ModuleParts) → slice_get (slots.modules modules.now) place ≡ Some m → tree_seen result ≡ tree_of (part_of part m) }
+{
+    match part {
+        Part::Interface => modules.interface(place),
+        Part::Body => modules.body(place),
+    }
+}
+
+/// What the imports of a file of the module at a place bring into a space, if there is one.
+fn table_brought(
+    alloc: Global,
+    modules: &Modules,
+    exports: &Exports,
+    space: Space,
+    place: usize,
+    file: Option<&Whole<Parsed>>,
+) -> Result<Table<Target>, Memory>
+    requires within { place < length (slots.modules modules.now) }
+    requires made { AreExports exports.now (slots.modules modules.now) }
+    ensures { IfOk result (λ table. table ≡ firsts (imported space (slots.modules modules.now) place (imports_seen (tree_seen file.entry)))) }
+{
+    let mut table = Table::new(alloc);
+    put_imported(alloc, &mut table, modules, exports, space, place, file)?;
+    Ok(table)
 }
 
 /// What the imports of a part of the module at a place bring.
@@ -40,5 +77,24 @@ pub fn brought_to(
     requires made { AreExports exports.now (slots.modules modules.now) }
     ensures { (m : ModuleParts) → slice_get (slots.modules modules.now) place ≡ Some m → IfOk result (λ brought. AreBrought (slots.modules modules.now) place m part brought) }
 {
-    Err(Memory)
+    let file = part_file(modules, place, part);
+    let values = table_brought(alloc, modules, exports, Space::Values, place, file)?;
+    let callables = table_brought(alloc, modules, exports, Space::Callables, place, file)?;
+    let types = table_brought(alloc, modules, exports, Space::Types, place, file)?;
+    Ok(Brought {
+        values,
+        callables,
+        types,
+    })
+}
+
+/// The table of a space.
+pub fn in_space(brought: &Brought, space: Space) -> &Table<Target>
+    ensures { (program : List ModuleParts) (place : ℕ) (m : ModuleParts) (part : ThePart) → AreBrought program place m part brought.now → result.now ≡ firsts (clashing.brought_to program place m part space) }
+{
+    match space {
+        Space::Values => &brought.values,
+        Space::Callables => &brought.callables,
+        Space::Types => &brought.types,
+    }
 }

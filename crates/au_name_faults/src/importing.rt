@@ -1,1 +1,263 @@
 //! What imports are refused for.
+
+ghost use Rattle.std.specs.Prelude.{◌≡◌, ◌<◌, IfOk, Some, length, map, slice_get};
+ghost use Rattle.std.specs.List.{flat_map};
+ghost use Rattle.au_modules.specs.Names.{dotted};
+ghost use Rattle.au_modules.specs.Programs.{ModuleParts};
+ghost use Rattle.au_modules.specs.Slots as slots;
+ghost use Rattle.au_name_faults.specs.Choices.{first_of};
+ghost use Rattle.au_name_faults.specs.Gathered.{AreBrought, AreOffers};
+ghost use Rattle.au_name_faults.specs.Importers as importers;
+ghost use Rattle.au_name_faults.specs.Importers.{IsOf, IsReady, program_of};
+ghost use Rattle.au_name_faults.specs.NameFaults as spec;
+ghost use Rattle.au_syntax.specs.Plain.{plain_importing, plain_name, plain_renaming};
+ghost use Rattle.au_syntax.specs.Sizes.{joined};
+ghost use Rattle.au_syntax.specs.Views.{importing, placed, renaming};
+ghost use Rattle.au_syntax.specs.contracts.parsed.ParsedPhase.TheImpl.{ghosts as parsed};
+
+use crate::brought::Brought;
+use crate::clashes::{Importer, first_offered, import_clashes, last_offered};
+use crate::faults::NameFault;
+use crate::members::along_fault;
+use crate::offers::Offers;
+use au_base::{MOST_NAME_BYTES, Memory, Name, Pos, Text};
+use au_modules::Modules;
+use au_names::imports::place_named;
+use au_syntax::{Ident, Import, Parsed, Part, Renamed};
+use au_tables::Space;
+use au_types::DeclAt;
+use std::alloc::Global;
+
+/// The parts of a name, a dot before each of them.
+fn dotted_text(alloc: Global, names: &Vec<Ident<Parsed>>) -> Result<Text, Memory>
+    ensures { IfOk result (λ text. text ≡ flat_map dotted names.now.items) }
+{
+    let mut text = Text::new(alloc);
+    for one in names {
+        text.push(b'.')?;
+        text.append(one.name.as_bytes())?;
+    }
+    Ok(text)
+}
+
+/// The name of a module, given by its parts. Bytes that are no name stand in no tree: they are answered by
+/// `Memory`.
+fn joined_name(alloc: Global, names: &Vec<Ident<Parsed>>) -> Result<Name, Memory>
+    ensures { IfOk result (λ name. name ≡ joined (map (plain_name parsed.name_bytes) (map (placed parsed) names.now.items))) }
+{
+    let text = dotted_text(alloc, names)?;
+    let bytes = text.as_bytes();
+    if bytes.len() < 2 || MOST_NAME_BYTES < bytes.len() - 1 {
+        return Err(Memory);
+    }
+    Name::copy_of(alloc, &bytes[1..])
+}
+
+/// The place of the first of names, or else this place.
+fn first_place(at: Pos, names: &Vec<Ident<Parsed>>) -> Pos
+    ensures { result ≡ spec.first_place at (map (plain_name parsed.name_bytes) (map (placed parsed) names.now.items)) }
+{
+    match names.first() {
+        None => at,
+        Some(name) => name.at,
+    }
+}
+
+/// The name that an item gives: that after its `as`, or its own.
+fn given(item: &Renamed<Parsed>) -> &Ident<Parsed>
+    ensures { plain_name parsed.name_bytes (placed parsed result.now) ≡ spec.given (plain_renaming parsed.name_bytes (renaming parsed item.now)) }
+{
+    match &item.alias {
+        None => &item.name,
+        Some(alias) => alias,
+    }
+}
+
+/// Whether two numbers of declarations are there and aren't one.
+fn is_apart(first: Option<u32>, last: Option<u32>) -> bool
+    ensures { result ≡ spec.is_apart first last }
+{
+    match (first, last) {
+        (Some(first), Some(last)) => first != last,
+        _ => false,
+    }
+}
+
+/// Whether no space of the interface of the module at a place has the name.
+fn is_hidden(importer: &Importer, from: u16, name: &[u8]) -> bool
+    requires ready { IsReady importer.now }
+    requires within { from < length (program_of importer.now) }
+    ensures { (m other : ModuleParts) → slice_get (program_of importer.now) from ≡ Some other → result ≡ spec.is_hidden (program_of importer.now) importer.now.place m importer.now.part from other name.now }
+{
+    let place = from as usize;
+    let seen = first_offered(importer, place, Space::Values, name).is_some()
+        || first_offered(importer, place, Space::Callables, name).is_some()
+        || first_offered(importer, place, Space::Types, name).is_some();
+    !seen
+}
+
+/// Whether what is found under a name in the module at a place, if anything is, clashes under a local name.
+fn found_clashes(
+    importer: &Importer,
+    from: u16,
+    space: Space,
+    name: &[u8],
+    local: &[u8],
+    found: Option<u32>,
+) -> bool
+    requires { IsReady importer.now }
+    ensures { (m other : ModuleParts) → IsOf importer.now m → result ≡ spec.found_clashes (program_of importer.now) importer.now.place m importer.now.part from other space name.now local.now found }
+{
+    match found {
+        None => false,
+        Some(number) => {
+            let at = DeclAt {
+                module: from,
+                decl: number,
+            };
+            import_clashes(importer, space, local, at, name)
+        }
+    }
+}
+
+/// Whether an item brings two different things into a space, or something that clashes.
+fn item_clashes(importer: &Importer, from: u16, item: &Renamed<Parsed>, space: Space) -> bool
+    requires ready { IsReady importer.now }
+    requires within { from < length (program_of importer.now) }
+    ensures { (m other : ModuleParts) → IsOf importer.now m → slice_get (program_of importer.now) from ≡ Some other → result ≡ spec.item_clashes (program_of importer.now) importer.now.place m importer.now.part from other (plain_renaming parsed.name_bytes (renaming parsed item.now)) space }
+{
+    let place = from as usize;
+    let name = item.name.name.as_bytes();
+    let first = first_offered(importer, place, space, name);
+    let last = last_offered(importer, place, space, name);
+    if is_apart(first, last) {
+        return true;
+    }
+    let local = given(item).name.as_bytes();
+    found_clashes(importer, from, space, name, local, first)
+}
+
+/// Whether an item brings two different things into some space, or something that clashes.
+fn any_clashes(importer: &Importer, from: u16, item: &Renamed<Parsed>) -> bool
+    requires ready { IsReady importer.now }
+    requires within { from < length (program_of importer.now) }
+    ensures { (m other : ModuleParts) → IsOf importer.now m → slice_get (program_of importer.now) from ≡ Some other → result ≡ importers.any_clashes importer.now m from other (plain_renaming parsed.name_bytes (renaming parsed item.now)) }
+{
+    item_clashes(importer, from, item, Space::Values)
+        || item_clashes(importer, from, item, Space::Callables)
+        || item_clashes(importer, from, item, Space::Types)
+}
+
+/// What an item of an import of the module at a place is refused for.
+fn item_fault(
+    alloc: Global,
+    importer: &Importer,
+    from: u16,
+    item: &Renamed<Parsed>,
+) -> Result<Option<NameFault>, Memory>
+    requires ready { IsReady importer.now }
+    requires within { from < length (program_of importer.now) }
+    ensures { (m other : ModuleParts) → IsOf importer.now m → slice_get (program_of importer.now) from ≡ Some other → IfOk result (λ found. found ≡ spec.item_fault (program_of importer.now) importer.now.place m importer.now.part from other (plain_renaming parsed.name_bytes (renaming parsed item.now))) }
+{
+    if is_hidden(importer, from, item.name.name.as_bytes()) {
+        let name = item.name.name.copy(alloc)?;
+        return Ok(Some(NameFault::NotVisible(item.name.at, name)));
+    }
+    if any_clashes(importer, from, item) {
+        let local = given(item);
+        let name = local.name.copy(alloc)?;
+        return Ok(Some(NameFault::NameTwice(local.at, name)));
+    }
+    along_fault(alloc, importer, from, &item.name)
+}
+
+/// What items of an import of the module at a place are refused for.
+fn items_fault(
+    alloc: Global,
+    importer: &Importer,
+    from: u16,
+    items: &Vec<Renamed<Parsed>>,
+) -> Result<Option<NameFault>, Memory>
+    requires ready { IsReady importer.now }
+    requires within { from < length (program_of importer.now) }
+    ensures { (m other : ModuleParts) → IsOf importer.now m → slice_get (program_of importer.now) from ≡ Some other → IfOk result (λ found. found ≡ first_of (spec.item_fault (program_of importer.now) importer.now.place m importer.now.part from other) (map (plain_renaming parsed.name_bytes) (map (renaming parsed) items.now.items))) }
+{
+    for item in items {
+        if let Some(fault) = item_fault(alloc, importer, from, item)? {
+            return Ok(Some(fault));
+        }
+    }
+    Ok(None)
+}
+
+/// What an import is refused for.
+fn import_fault(
+    alloc: Global,
+    importer: &Importer,
+    import: &Import<Parsed>,
+) -> Result<Option<NameFault>, Memory>
+    requires { IsReady importer.now }
+    ensures { (m : ModuleParts) → IsOf importer.now m → IfOk result (λ found. found ≡ spec.import_fault (program_of importer.now) importer.now.place m importer.now.part (plain_importing parsed.name_bytes (importing parsed import.now))) }
+{
+    match place_named(alloc, &importer.offers.exports, &import.module)? {
+        None => {
+            let name = joined_name(alloc, &import.module)?;
+            let at = first_place(import.at, &import.module);
+            Ok(Some(NameFault::NoModule(at, name)))
+        }
+        Some(from) => {
+            if (from as usize) < importer.place {
+                return items_fault(alloc, importer, from, &import.items);
+            }
+            let name = joined_name(alloc, &import.module)?;
+            let at = first_place(import.at, &import.module);
+            Ok(Some(NameFault::Late(at, name)))
+        }
+    }
+}
+
+/// What imports are refused for.
+fn all_imports_fault(
+    alloc: Global,
+    importer: &Importer,
+    imports: &Vec<Import<Parsed>>,
+) -> Result<Option<NameFault>, Memory>
+    requires { IsReady importer.now }
+    ensures { (m : ModuleParts) → IsOf importer.now m → IfOk result (λ found. found ≡ first_of (spec.import_fault (program_of importer.now) importer.now.place m importer.now.part) (map (plain_importing parsed.name_bytes) (map (importing parsed) imports.now.items))) }
+{
+    for import in imports {
+        if let Some(fault) = import_fault(alloc, importer, import)? {
+            return Ok(Some(fault));
+        }
+    }
+    Ok(None)
+}
+
+/// What imports of a part of the module at a place are refused for, the first in the order of the text.
+///
+/// # Errors
+///
+/// Only for want of memory.
+pub fn imports_fault(
+    alloc: Global,
+    modules: &Modules,
+    offers: &Offers,
+    brought: &Brought,
+    place: usize,
+    part: Part,
+    imports: &Vec<Import<Parsed>>,
+) -> Result<Option<NameFault>, Memory>
+    requires within { place < length (slots.modules modules.now) }
+    requires offers { AreOffers (slots.modules modules.now) offers.now }
+    requires brought { (m : ModuleParts) → slice_get (slots.modules modules.now) place ≡ Some m → AreBrought (slots.modules modules.now) place m part brought.now }
+    ensures { (m : ModuleParts) → slice_get (slots.modules modules.now) place ≡ Some m → IfOk result (λ found. found ≡ first_of (spec.import_fault (slots.modules modules.now) place m part) (map (plain_importing parsed.name_bytes) (map (importing parsed) imports.now.items))) }
+{
+    let importer = Importer {
+        modules,
+        offers,
+        brought,
+        place,
+        part,
+    };
+    all_imports_fault(alloc, &importer, imports)
+}

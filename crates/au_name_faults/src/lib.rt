@@ -4,11 +4,14 @@
 
 pub mod brought;
 pub mod built_in;
+mod clashes;
+mod declared_names;
 pub mod declaring;
 pub mod faults;
 pub mod finding;
 pub mod importing;
 pub mod laws;
+mod members;
 pub mod offers;
 
 pub use faults::NameFault;

@@ -1,14 +1,24 @@
 //! What the interfaces of a program offer.
 
-ghost use Rattle.std.specs.Prelude.{◌≡◌, IfOk};
+ghost use Rattle.std.specs.Prelude.{◌≡◌, ◌<◌, [], IfOk, Some, length, map, reverse, slice_get};
+ghost use Rattle.std.specs.Option.{option_map};
 ghost use Rattle.au_modules.specs.Slots as slots;
-ghost use Rattle.au_name_faults.specs.Gathered.{AreOffers};
+ghost use Rattle.au_name_faults.specs.Gathered.{AreOffers, last_offers, last_tables};
+ghost use Rattle.au_syntax.specs.Plain.{plain_declaration};
+ghost use Rattle.au_syntax.specs.Views.{declaration};
+ghost use Rattle.au_syntax.specs.contracts.parsed.ParsedPhase.TheImpl.{ghosts as parsed};
+ghost use Rattle.au_tables.specs.DeclaredNames.{numbered, table_of};
 
+use crate::declared_names::put_declared;
 use au_base::Memory;
 use au_modules::Modules;
-use au_names::Exports;
-use au_tables::NameTables;
+use au_names::{Exports, exports_of};
+use au_syntax::{Decl, Parsed};
+use au_tables::{NameTables, Space, Table};
 use std::alloc::Global;
+
+/// How many declarations may be numbered.
+const MOST_NUMBERS: usize = 1 << 32;
 
 /// What the interfaces of a program offer, made once.
 #[derive(Drop)]
@@ -20,6 +30,84 @@ pub struct Offers {
     pub lasts: Vec<NameTables>,
 }
 
+/// The table of a space of declarations that are numbered from 0, from the last to the first. Numbers that
+/// don't fit are answered by `Memory`.
+fn last_table(
+    alloc: Global,
+    space: Space,
+    declarations: &Vec<Decl<Parsed>>,
+) -> Result<Table<u32>, Memory>
+    ensures { IfOk result (λ table. table ≡ table_of space (reverse (numbered 0 (map (plain_declaration parsed.name_bytes) (map (declaration parsed) declarations.now.items))))) }
+{
+    if MOST_NUMBERS < declarations.len() {
+        return Err(Memory);
+    }
+    let mut table = Table::new(alloc);
+    let mut left = declarations.len();
+    while left > 0 {
+        left -= 1;
+        put_declared(&mut table, space, &declarations[left], left as u32)?;
+    }
+    Ok(table)
+}
+
+/// The tables of declarations that are numbered from 0, from the last to the first.
+fn tables_back(alloc: Global, declarations: &Vec<Decl<Parsed>>) -> Result<NameTables, Memory>
+    ensures { IfOk result (λ names. names ≡ last_tables (map (plain_declaration parsed.name_bytes) (map (declaration parsed) declarations.now.items))) }
+{
+    let values = last_table(alloc, Space::Values, declarations)?;
+    let callables = last_table(alloc, Space::Callables, declarations)?;
+    let types = last_table(alloc, Space::Types, declarations)?;
+    Ok(NameTables {
+        values,
+        callables,
+        types,
+    })
+}
+
+/// No names.
+fn no_names(alloc: Global) -> NameTables
+    ensures { result ≡ last_tables [] }
+{
+    let values = Table::new(alloc);
+    let callables = Table::new(alloc);
+    let types = Table::new(alloc);
+    NameTables {
+        values,
+        callables,
+        types,
+    }
+}
+
+/// The names that the interface of the module at a place offers, each with the number of its last
+/// declaration.
+fn last_offered(alloc: Global, modules: &Modules, place: usize) -> Result<NameTables, Memory>
+    requires { place < length (slots.modules modules.now) }
+    ensures { IfOk result (λ names. option_map last_offers (slice_get (slots.modules modules.now) place) ≡ Some names) }
+{
+    match modules.interface(place) {
+        None => Ok(no_names(alloc)),
+        Some(file) => {
+            let tree = file.tree();
+            let names = tables_back(alloc, &tree.declarations)?;
+            Ok(names)
+        }
+    }
+}
+
+/// The names that each interface offers, each with the number of its last declaration, by the place of the
+/// module.
+fn all_lasts(alloc: Global, modules: &Modules) -> Result<Vec<NameTables>, Memory>
+    ensures { IfOk result (λ lasts. lasts.items ≡ map last_offers (slots.modules modules.now)) }
+{
+    let mut lasts = Vec::new(alloc);
+    for place in 0..modules.len() {
+        let names = last_offered(alloc, modules, place)?;
+        lasts.push(names)?;
+    }
+    Ok(lasts)
+}
+
 /// What the interfaces of a program offer.
 ///
 /// # Errors
@@ -28,5 +116,7 @@ pub struct Offers {
 pub fn offers_of(alloc: Global, modules: &Modules) -> Result<Offers, Memory>
     ensures { IfOk result (λ offers. AreOffers (slots.modules modules.now) offers) }
 {
-    Err(Memory)
+    let exports = exports_of(alloc, modules)?;
+    let lasts = all_lasts(alloc, modules)?;
+    Ok(Offers { exports, lasts })
 }

@@ -1,0 +1,20 @@
+use Rattle.std.proofs.Common.{◌≡◌, ap, ◌∙◌, subst}
+use Rattle.std.specs.Prelude.{IfOk, slice_get}
+use Rattle.std.specs.Option.{option_or}
+use Rattle.au_syntax.specs.contracts.parsed.ParsedPhase.TheImpl.{ghosts as parsed}
+use Rattle.au_syntax.specs.Files.{says}
+use Rattle.au_modules.specs.Slots as slots
+use Rattle.au_name_faults.specs.Choices.{first_of}
+use Rattle.au_name_faults.specs.NameFaults.{declaration_fault, import_fault}
+use Rattle.au_name_faults.proofs.FindingLemmas.{part_there}
+use Rattle.au_name_faults.proofs.finding.part_fault.Goals as goal
+
+pub returns-in-Some : goal.returns-in-Some
+returns-in-Some c = λ m here.
+    let program = slots.modules c.args.resolved.now in
+    let place = c.args.place in
+    let part = c.args.part in
+    subst (λ z. IfOk c.tree_fault.result (λ found. found ≡ z))
+    (ap (λ t. option_or (first_of (import_fault program place m part) (says parsed t).imports) (first_of (declaration_fault program place m part) (says parsed t).declarations)) c.tree-tree.ensures.same
+    ∙ part_there program place m part (says parsed c.in-Some.file.now.tree) (c.in-Some.ensures m (ap (λ r. slice_get (slots.modules r) place) c.modules.ensures ∙ here)))
+    (c.tree_fault.ensures m here)

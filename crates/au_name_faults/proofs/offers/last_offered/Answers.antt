@@ -1,0 +1,16 @@
+use Rattle.std.proofs.Common.{None, Some, sym, ap, ◌∙◌}
+use Rattle.au_syntax.specs.contracts.parsed.ParsedPhase.TheImpl.{ghosts as parsed}
+use Rattle.au_syntax.specs.Files.{says}
+use Rattle.au_modules.specs.Slots as slots
+use Rattle.au_name_faults.specs.Gathered.{last_tables}
+use Rattle.au_name_faults.proofs.OfferLemmas.{lasts_seen}
+use Rattle.au_name_faults.proofs.offers.last_offered.Goals as goal
+
+pub returns-in-None : goal.returns-in-None
+returns-in-None c = lasts_seen (slots.modules c.args.modules.now) c.args.place None c.requires c.in-None.ensures ∙ ap Some (sym c.no_names.ensures)
+
+pub returns-in_ok-names-in-Some : goal.returns-in_ok-names-in-Some
+returns-in_ok-names-in-Some c =
+    lasts_seen (slots.modules c.args.modules.now) c.args.place (Some (says parsed c.in-Some.file.now.tree)) c.requires c.in-Some.ensures
+    ∙ ap (λ t. Some (last_tables (says parsed t).declarations)) (sym c.tree-tree.ensures.same)
+    ∙ ap Some (sym c.in_ok-names-in-Some.ensures)

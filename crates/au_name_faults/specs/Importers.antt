@@ -1,0 +1,44 @@
+-- A part of a module whose imports are looked at, with what is known of its program.
+use Rattle.std.specs.Prelude.{◌≡◌, ◌<◌, ℕ, ◌||◌, Bool, List, Option, Some, length, slice_get}
+use Rattle.au_base.specs.declared.places.Pos.{Pos}
+use Rattle.au_syntax.specs.Names.{Renaming}
+use Rattle.au_syntax.specs.Plain.{Bytes}
+use Rattle.au_tables.specs.declared.spaces.Space.{Space}
+use Rattle.au_tables.specs.declared.spaces.Space.TheVariants.{Values, Callables, Types}
+use Rattle.au_modules.specs.Programs.{ModuleParts}
+use Rattle.au_modules.specs.Slots as slots
+use Rattle.au_names.specs.declared.targets.Target.{Target}
+use Rattle.au_name_faults.specs.declared.clashes.Importer.{Importer}
+use Rattle.au_name_faults.specs.declared.faults.NameFault.{NameFault}
+use Rattle.au_name_faults.specs.Clashing.{import_clashes}
+use Rattle.au_name_faults.specs.Gathered.{AreBrought, AreOffers}
+use Rattle.au_name_faults.specs.NameFaults.{item_clashes, member_fault}
+
+-- the modules of the program
+abbrev pub program_of : Importer → List ModuleParts
+program_of one = slots.modules one.modules.now
+
+-- This is the module of the part.
+abbrev pub IsOf : Importer → ModuleParts → Type 0
+IsOf one m = slice_get (program_of one) one.place ≡ Some m
+
+-- What is known of the program is so.
+pub record IsReady (one : Importer) : Type 0 where
+  pub within : one.place < length (program_of one)
+  pub offers : AreOffers (program_of one) one.offers.now
+  pub brought : (m : ModuleParts) → IsOf one m → AreBrought (program_of one) one.place m one.part one.brought.now
+
+-- whether what the imports of the part bring under a name clashes
+abbrev pub clashes_in : Importer → ModuleParts → Space → Bytes → Target → Bool
+clashes_in one m = import_clashes (program_of one) one.place m one.part
+
+-- whether an item of an import of the module at another place clashes in some space
+abbrev pub any_clashes : Importer → ModuleParts → ℕ → ModuleParts → Renaming Bytes → Bool
+any_clashes one m from other item =
+    item_clashes (program_of one) one.place m one.part from other item Values
+    || item_clashes (program_of one) one.place m one.part from other item Callables
+    || item_clashes (program_of one) one.place m one.part from other item Types
+
+-- what is refused of a case or a method that comes along from the module at another place
+abbrev pub fault_in : Importer → ModuleParts → ℕ → ModuleParts → Pos → Bytes × Target → Option NameFault
+fault_in one m from other = member_fault (program_of one) one.place m one.part from other

@@ -1,0 +1,128 @@
+//! Puts the names that one declaration brings in.
+
+ghost use Rattle.std.specs.Prelude.{◌≡◌, map, OnOk};
+ghost use Rattle.au_syntax.specs.Plain.{plain_declaration, plain_header, plain_variant};
+ghost use Rattle.au_syntax.specs.Views.{declaration, header, variant};
+ghost use Rattle.au_tables.specs.DeclaredNames.{callable_names, declared_names, given, type_names, value_names};
+ghost use Rattle.au_tables.specs.Tables.{with_all, with_pair};
+
+use au_base::Memory;
+use au_syntax::{Decl, Ident, Phase, Signature, UnionCase};
+use au_tables::{Space, Table};
+
+/// Puts a name with a number.
+fn put_name<P: Phase>(table: &mut Table<u32>, name: &Ident<P>, number: u32) -> Result<(), Memory>
+    ensures { OnOk result (table.new ≡ with_pair table.old (P.name_bytes (P.see_name name.now.name)) number) }
+{
+    table.put(P::bytes_of(&name.name), number)?;
+    Ok(())
+}
+
+/// Puts the names of a union's cases.
+fn put_cases<P: Phase>(
+    table: &mut Table<u32>,
+    cases: &Vec<UnionCase<P>>,
+    number: u32,
+) -> Result<(), Memory>
+    ensures { OnOk result (table.new ≡ with_all table.old (given number (map (λ c. c.name.name) (map (plain_variant P.name_bytes) (map (variant P.Phase) cases.now.items))))) }
+{
+    for one in cases {
+        put_name(table, &one.name, number)?;
+    }
+    Ok(())
+}
+
+/// Puts the names of a class's methods.
+fn put_methods<P: Phase>(
+    table: &mut Table<u32>,
+    methods: &Vec<Signature<P>>,
+    number: u32,
+) -> Result<(), Memory>
+    ensures { OnOk result (table.new ≡ with_all table.old (given number (map (λ h. h.name.name) (map (plain_header P.name_bytes) (map (header P.Phase) methods.now.items))))) }
+{
+    for one in methods {
+        put_name(table, &one.name, number)?;
+    }
+    Ok(())
+}
+
+/// Puts the values that a declaration brings in.
+#[tactic(auto, using(au_syntax::proofs::DeclarationLemmas::declaration_steps, au_tables::proofs::TableLemmas::put_steps, std::proofs::lemmas::Grind::common_steps))]
+fn put_values<P: Phase>(table: &mut Table<u32>, decl: &Decl<P>, number: u32) -> Result<(), Memory>
+    ensures { OnOk result (table.new ≡ with_all table.old (given number (value_names (plain_declaration P.name_bytes (declaration P.Phase decl.now))))) }
+{
+    match decl {
+        Decl::Constant(_, name, _) => put_name(table, name, number),
+        Decl::Opaque(_, _, _, _) => Ok(()),
+        Decl::Record(_, _, _, _, _) => Ok(()),
+        Decl::Union(_, _, _, _, _) => Ok(()),
+        Decl::Function(_, _, _) => Ok(()),
+        Decl::Class(_, _, _, _) => Ok(()),
+        Decl::Instance(_, _, _, _) => Ok(()),
+        Decl::ConstantBody(_, name, _, _) => put_name(table, name, number),
+        Decl::FunctionBody(_, _, _, _, _) => Ok(()),
+        Decl::InstanceBody(_, _, _, _, _) => Ok(()),
+    }
+}
+
+/// Puts the callables that a declaration brings in.
+#[tactic(auto, using(au_syntax::proofs::DeclarationLemmas::declaration_steps, au_tables::proofs::TableLemmas::put_steps, std::proofs::lemmas::Grind::common_steps))]
+fn put_callables<P: Phase>(
+    table: &mut Table<u32>,
+    decl: &Decl<P>,
+    number: u32,
+) -> Result<(), Memory>
+    ensures { OnOk result (table.new ≡ with_all table.old (given number (callable_names (plain_declaration P.name_bytes (declaration P.Phase decl.now))))) }
+{
+    match decl {
+        Decl::Constant(_, _, _) => Ok(()),
+        Decl::Opaque(_, _, _, _) => Ok(()),
+        Decl::Record(_, name, _, _, _) => put_name(table, name, number),
+        Decl::Union(_, _, _, _, cases) => put_cases(table, cases, number),
+        Decl::Function(_, _, signature) => put_name(table, &signature.name, number),
+        Decl::Class(_, _, _, methods) => put_methods(table, methods, number),
+        Decl::Instance(_, _, _, _) => Ok(()),
+        Decl::ConstantBody(_, _, _, _) => Ok(()),
+        Decl::FunctionBody(_, _, signature, _, _) => put_name(table, &signature.name, number),
+        Decl::InstanceBody(_, _, _, _, _) => Ok(()),
+    }
+}
+
+/// Puts the types that a declaration brings in.
+#[tactic(auto, using(au_syntax::proofs::DeclarationLemmas::declaration_steps, au_tables::proofs::TableLemmas::put_steps, std::proofs::lemmas::Grind::common_steps))]
+fn put_types<P: Phase>(table: &mut Table<u32>, decl: &Decl<P>, number: u32) -> Result<(), Memory>
+    ensures { OnOk result (table.new ≡ with_all table.old (given number (type_names (plain_declaration P.name_bytes (declaration P.Phase decl.now))))) }
+{
+    match decl {
+        Decl::Constant(_, _, _) => Ok(()),
+        Decl::Opaque(_, name, _, _) => put_name(table, name, number),
+        Decl::Record(_, name, _, _, _) => put_name(table, name, number),
+        Decl::Union(_, name, _, _, _) => put_name(table, name, number),
+        Decl::Function(_, _, _) => Ok(()),
+        Decl::Class(_, name, _, _) => put_name(table, name, number),
+        Decl::Instance(_, _, _, _) => Ok(()),
+        Decl::ConstantBody(_, _, _, _) => Ok(()),
+        Decl::FunctionBody(_, _, _, _, _) => Ok(()),
+        Decl::InstanceBody(_, _, _, _, _) => Ok(()),
+    }
+}
+
+/// Puts the names of a space that a declaration brings in.
+///
+/// # Errors
+///
+/// Only for want of memory.
+pub fn put_declared<P: Phase>(
+    table: &mut Table<u32>,
+    space: Space,
+    decl: &Decl<P>,
+    number: u32,
+) -> Result<(), Memory>
+    ensures { OnOk result (table.new ≡ with_all table.old (given number (declared_names space (plain_declaration P.name_bytes (declaration P.Phase decl.now))))) }
+{
+    match space {
+        Space::Values => put_values(table, decl, number),
+        Space::Callables => put_callables(table, decl, number),
+        Space::Types => put_types(table, decl, number),
+    }
+}
