@@ -177,10 +177,10 @@ module_to : (program : List ModuleParts) (place : ℕ) (m : ModuleParts)
 module_to program place m h =
     parts_to (sight_of program place m) (interface_tree (Some m)) (body_tree (Some m))
     (λ interface body first second.
-      let i : (e : Entry) × (m.interface ≡ Some e) × (e.tree ≡ interface) = file_of m.interface interface first in
-      let b : (e : Entry) × (m.body ≡ Some e) × (e.tree ≡ body) = file_of m.body body second in
-      subst (λ t. Fulfils (sight_of program place m) t body) i.2
-      (subst (λ t. Fulfils (sight_of program place m) i.0.tree t) b.2 (h i.0 b.0 i.1 b.1)))
+    let i : (e : Entry) × (m.interface ≡ Some e) × (e.tree ≡ interface) = file_of m.interface interface first in
+    let b : (e : Entry) × (m.body ≡ Some e) × (e.tree ≡ body) = file_of m.body body second in
+    subst (λ t. Fulfils (sight_of program place m) t body) i.2
+    (subst (λ t. Fulfils (sight_of program place m) i.0.tree t) b.2 (h i.0 b.0 i.1 b.1)))
 
 pub fulfilled_from : (program : List ModuleParts) → promise_fault program ≡ None → AllFulfil program
 fulfilled_from program h place m interface body here first second =
