@@ -1,6 +1,10 @@
 pub mod JobLemmas
-pub mod ComesLemmas
 pub mod SinkLemmas
-pub mod ArisesLemmas
-pub mod DueLemmas
 pub mod ReadLemmas
+pub mod FetchLemmas
+pub mod HaltLemmas
+pub mod PrintLemmas
+pub mod NameLemmas
+pub mod DueLemmas
+pub mod ComesLemmas
+pub mod ArisesLemmas

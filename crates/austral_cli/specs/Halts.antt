@@ -1,6 +1,5 @@
 -- Why a program prints nothing.
-use Rattle.std.specs.Prelude.{◌≡◌, ℕ, Bool, false, List, Option, Some, None, IfSome, Result, Ok, Err}
-use Rattle.std.specs.declared.vec.Vec.{Vec}
+use Rattle.std.specs.Prelude.{◌≡◌, ℕ, Bool, false, List, Option, Some, None, IfSome, Result, Ok, Err, Vec}
 use Rattle.std.specs.Global.{Global}
 use Rattle.au_base.specs.Outside.{Files}
 use Rattle.au_lexer.specs.declared.lexing.LexFault.{LexFault}

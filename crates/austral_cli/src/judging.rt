@@ -38,9 +38,8 @@ fn with_shipped(alloc: Global, own: Vec<FileTree>) -> Result<Vec<FileTree>, Memo
     ensures { IfOk result (λ files. map entry files.items ≡ shipped_entries ++ map entry own.items) }
 {
     let mut files = shipped(alloc)?;
-    for file in own {
-        files.push(file)?;
-    }
+    let mut left = own;
+    files.append(&mut left)?;
     Ok(files)
 }
 
