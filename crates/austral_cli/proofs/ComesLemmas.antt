@@ -6,17 +6,11 @@ use Rattle.au_base.specs.declared.places.Pos.{Pos}
 use Rattle.au_base.specs.declared.tokens.Token.{Token}
 use Rattle.au_base.specs.Outside.{Files, Counts}
 use Rattle.au_base.specs.Places.{place_after}
-use Rattle.au_imports.specs.declared.faults.ImportFault.{ImportFault}
-use Rattle.au_imports.specs.declared.faults.ImportFault.TheVariants as imports
-use Rattle.au_imports.specs.Importing as importing
 use Rattle.au_lexer.specs.Cut.{Cut, IsStray, PassesLimit}
 use Rattle.au_lexer.specs.Passing.{IsWithinLimits}
 use Rattle.au_lexer.specs.declared.lexing.LexFault.{LexFault}
 use Rattle.au_lexer.specs.declared.lexing.LexFault.TheVariants as lexing
-use Rattle.au_modules.specs.declared.faults.ModuleFault.{ModuleFault}
-use Rattle.au_modules.specs.declared.faults.ModuleFault.TheVariants as modules
-use Rattle.au_modules.specs.Programs as programs
-use Rattle.au_modules.specs.Programs.{Entry, entry, modules_of}
+use Rattle.au_modules.specs.Programs.{entry}
 use Rattle.au_printing.specs.declared.files.First.{First}
 use Rattle.au_syntax.specs.declared.wholes.FileTree.{FileTree}
 use Rattle.austral_cli.specs.Calls.{AreTold, is_missing}
@@ -38,15 +32,7 @@ use Rattle.austral_cli.proofs.FetchLemmas.{files_few}
 use Rattle.austral_cli.proofs.HaltLemmas.{not_missing}
 use Rattle.austral_cli.proofs.PrintLemmas.{bytes_found}
 
--- what a step says, said of another thing
-pub says_so : {T U : Type 0} (r : Result T Halt) (q : Result U Halt) (G : T → Type 0) (H : U → Type 0) (K L : Outcome → Type 0) →
-    ((x : T) → r ≡ Ok x → (y : U) × (q ≡ Ok y) × (G x → H y)) → ((e : Halt) → r ≡ Err e → q ≡ Err e) → ((o : Outcome) → K o → L o) → Says r G K → Says q H L
-says_so (Ok x) q G H K L ok err known h =
-    let y = ok x refl in
-    subst (λ z. Says z H L) (sym y.1) (y.2 h)
-says_so (Err (halt.Known arisen)) q G H K L ok err known h = subst (λ z. Says z H L) (sym (err (halt.Known arisen) refl)) (known arisen h)
-says_so (Err (halt.Unknown e)) q G H K L ok err known h = subst (λ z. Says z H L) (sym (err (halt.Unknown e) refl)) tt
-
+-- what a step says, said of other things
 pub says_map : {T : Type 0} (r : Result T Halt) (G H : T → Type 0) (K L : Outcome → Type 0) → ((x : T) → G x → H x) → ((o : Outcome) → K o → L o) → Says r G K → Says r H L
 says_map (Ok x) G H K L gave known h = gave x h
 says_map (Err (halt.Known arisen)) G H K L gave known h = known arisen h
@@ -75,32 +61,6 @@ pub kept_one : (file : ℕ) (bytes : List ℕ) (all : List (List ℕ)) (tree : F
 unfolding entries
 kept_one file bytes all tree printing trees printings one rest =
     (one.0 ∷ rest.0, (one.1, rest.1), ap (λ e. e ∷ map entry trees) one.2 ∙ ap (λ l. record { file = file; tree = one.0.tree } ∷ l) rest.2.0, (one.3, rest.3))
-
--- ---- the program
-
--- what a fault of modules comes to, the program comes to
-pub modules_judged : {T : Type 0} (files : List Entry) (e : ModuleFault) (G : T → Type 0) → (e ≡ modules.Memory) ⊎ (programs.refusal_of files ≡ Some e) →
-    Says {T = T} (Err (known_or_memory (module_outcome e))) G (λ x. program_outcome files ≡ Some x)
-modules_judged files (modules.TwiceGiven name) G h = elim h [ inl p ↦ cc | inr p ↦ rw p refl ]
-modules_judged files (modules.NoBody name) G h = elim h [ inl p ↦ cc | inr p ↦ rw p refl ]
-modules_judged files (modules.Unsafe at) G h = elim h [ inl p ↦ cc | inr p ↦ rw p refl ]
-modules_judged files (modules.Limit limit) G h = elim h [ inl p ↦ cc | inr p ↦ rw p refl ]
-modules_judged files modules.Memory G h = tt
-
--- what a fault of names or promises comes to, the program comes to
-pub imports_judged : {T : Type 0} (files : List Entry) (e : ImportFault) (G : T → Type 0) → programs.refusal_of files ≡ None → (e ≡ imports.Memory) ⊎ (importing.refusal_of (modules_of files) ≡ Some e) →
-    Says {T = T} (Err (known_or_memory (import_outcome e))) G (λ x. program_outcome files ≡ Some x)
-imports_judged files (imports.NoModule at name) G none h = elim h [ inl p ↦ cc | inr p ↦ rw (none, p) refl ]
-imports_judged files (imports.Late at name) G none h = elim h [ inl p ↦ cc | inr p ↦ rw (none, p) refl ]
-imports_judged files (imports.NotVisible at name) G none h = elim h [ inl p ↦ cc | inr p ↦ rw (none, p) refl ]
-imports_judged files (imports.NameTwice at name) G none h = elim h [ inl p ↦ cc | inr p ↦ rw (none, p) refl ]
-imports_judged files (imports.NotDefined at name) G none h = elim h [ inl p ↦ cc | inr p ↦ rw (none, p) refl ]
-imports_judged files (imports.Differs at other name) G none h = elim h [ inl p ↦ cc | inr p ↦ rw (none, p) refl ]
-imports_judged files imports.Memory G none h = tt
-
--- the program is good
-pub judged_good : (files : List Entry) → programs.refusal_of files ≡ None → importing.refusal_of (modules_of files) ≡ None → program_outcome files ≡ None
-judged_good files none good = rw (none, good) refl
 
 -- ---- what is printed
 

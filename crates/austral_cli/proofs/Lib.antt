@@ -6,5 +6,6 @@ pub mod HaltLemmas
 pub mod PrintLemmas
 pub mod NameLemmas
 pub mod DueLemmas
+pub mod JudgeLemmas
 pub mod ComesLemmas
 pub mod ArisesLemmas
