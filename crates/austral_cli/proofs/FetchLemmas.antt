@@ -95,9 +95,9 @@ are_as_many files [] (bytes ∷ all) are = absurd are
 are_as_many files (name ∷ names) [] are = absurd are
 are_as_many files (name ∷ names) (bytes ∷ all) are = ap suc (are_as_many files names all are.1)
 
-file_at : (files : Files) (names all : List (List ℕ)) (i : ℕ) (d e : List ℕ) → AreFiles files names all → i < length names → IsFile files (get_or names i d) (get_or all i e)
-file_at files [] [] i d e are h = absurd (omega arith)
-file_at files [] (bytes ∷ all) i d e are h = absurd are
+file_at : (files : Files) (names : List (String Global)) (all : List (Vec ℕ Global)) (i : ℕ) (d : String Global) (e : Vec ℕ Global) → AreFiles files (map string_bytes names) (map bytes_in all) → i < length names
+    → IsFile files (string_bytes (get_or names i d)) (get_or all i e).items
+file_at files [] all i d e are h = absurd (omega arith)
 file_at files (name ∷ names) [] i d e are h = absurd are
 file_at files (name ∷ names) (bytes ∷ all) zero d e are h = are.0
 file_at files (name ∷ names) (bytes ∷ all) (suc i) d e are h = file_at files names all i d e are.1 (omega arith)
@@ -108,21 +108,29 @@ same_bytes a b h = search (rules, bytes_eq-Decides)
 own_bytes : (a : List ℕ) → bytes_eq a a ≡ true
 own_bytes a = search (rules, bytes_eq-Decides)
 
-pub found_before : (told : Option Files) (before all : List (List ℕ)) (name bytes : List ℕ) (i : ℕ) (e : List ℕ) → position (bytes_eq name) before ≡ Some i → bytes ≡ get_or all i e → Extends told before all (λ files. IsFile files name bytes)
-found_before told before all name bytes i e is same = λ files known are.
-    let at = position-Some (bytes_eq name) before i [] is in
-    let named : name ≡ get_or before i [] = same_bytes name (get_or before i []) at.1 in
-    (files, known, are, subst (λ n. IsFile files n bytes) (sym named) (subst (λ b. IsFile files (get_or before i []) b) (sym same) (file_at files before all i [] e are at.0)))
+-- whether a text is this name
+abbrev is_name : List ℕ → String Global → Bool
+is_name name = λ one. bytes_eq name (string_bytes one)
 
-none_before : (p : List ℕ → Bool) (names : List (List ℕ)) → position p names ≡ None → All (λ one. p one ≡ false) names
-none_before p names none = All-from_get_or (λ one. p one ≡ false) names [] (λ i h. past i h (cases_lt (position_or_len p names) (length names)))
+pub found_before : (told : Option Files) (before : List (String Global)) (all : List (Vec ℕ Global)) (name bytes : List ℕ) (i : ℕ) (e : Vec ℕ Global) → position (λ one. bytes_eq name (string_bytes one)) before ≡ Some i → bytes ≡ (get_or all i e).items
+    → Extends told (map string_bytes before) (map bytes_in all) (λ files. IsFile files name bytes)
+found_before told [] all name bytes i e is same = λ files known are. cc
+found_before told (first ∷ before) all name bytes i e is same = λ files known are.
+    let at = position-Some (is_name name) (first ∷ before) i first is in
+    let named : name ≡ string_bytes (get_or (first ∷ before) i first) = same_bytes name (string_bytes (get_or (first ∷ before) i first)) at.1 in
+    let file = file_at files (first ∷ before) all i first e are at.0 in
+    (files, known, are, subst (λ n. IsFile files n bytes) (sym named) (subst (λ b. IsFile files (string_bytes (get_or (first ∷ before) i first)) b) (sym same) file))
+
+none_before : (p : String Global → Bool) (names : List (String Global)) → position p names ≡ None → All (λ one. p one ≡ false) names
+none_before p [] none = tt
+none_before p (first ∷ names) none = All-from_get_or (λ one. p one ≡ false) (first ∷ names) first (λ i h. past i h (cases_lt (position_or_len p (first ∷ names)) (length (first ∷ names))))
   where
-    past : (i : ℕ) → i < length names → (position_or_len p names < length names) ⊎ (length names ≤ position_or_len p names) → p (get_or names i []) ≡ false
+    past : (i : ℕ) → i < length (first ∷ names) → (position_or_len p (first ∷ names) < length (first ∷ names)) ⊎ (length (first ∷ names) ≤ position_or_len p (first ∷ names)) → p (get_or (first ∷ names) i first) ≡ false
     past i h (inl less) =
-        let found : position p names ≡ Some (position_or_len p names) = ap (λ b. cond b (Some (position_or_len p names)) None) (lt-ltb (position_or_len p names) (length names) less) in
-        let e : Some (position_or_len p names) ≡ None = sym found ∙ none in
+        let found : position p (first ∷ names) ≡ Some (position_or_len p (first ∷ names)) = ap (λ b. cond b (Some (position_or_len p (first ∷ names))) None) (lt-ltb (position_or_len p (first ∷ names)) (length (first ∷ names)) less) in
+        let e : Some (position_or_len p (first ∷ names)) ≡ None = sym found ∙ none in
         cc
-    past i h (inr more) = fails_before_first p names i [] (omega arith)
+    past i h (inr more) = let low : i < position_or_len p (first ∷ names) = omega arith in fails_before_first p (first ∷ names) i first low
 
 -- files with what was found under one name
 put : Files → List ℕ → Option (List ℕ) → Files
@@ -132,17 +140,19 @@ put_same : (files : Files) (name : List ℕ) (found : Option (List ℕ)) → put
 unfolding put
 put_same files name found = ap (λ b. cond b found (files name)) (own_bytes name)
 
-put_kept : (files : Files) (name : List ℕ) (found : Option (List ℕ)) (before all : List (List ℕ)) → All (λ one. bytes_eq name one ≡ false) before → AreFiles files before all → AreFiles (put files name found) before all
+put_kept : (files : Files) (name : List ℕ) (found : Option (List ℕ)) (before : List (String Global)) (all : List (Vec ℕ Global)) → All (λ one. is_name name one ≡ false) before → AreFiles files (map string_bytes before) (map bytes_in all)
+    → AreFiles (put files name found) (map string_bytes before) (map bytes_in all)
 unfolding put
 put_kept files name found [] [] none are = tt
 put_kept files name found [] (bytes ∷ all) none are = absurd are
 put_kept files name found (one ∷ before) [] none are = absurd are
 put_kept files name found (one ∷ before) (bytes ∷ all) none are =
-    ((ap (λ b. cond b found (files one)) none.0 ∙ are.0.0, are.0.1), put_kept files name found before all none.1 are.1)
+    ((ap (λ b. cond b found (files (string_bytes one))) none.0 ∙ are.0.0, are.0.1), put_kept files name found before all none.1 are.1)
 
-pub found_new : (told : Option Files) (before all : List (List ℕ)) (name : List ℕ) (Q : Files → Type 0) → position (bytes_eq name) before ≡ None → Tells told name Q → Extends told before all Q
+pub found_new : (told : Option Files) (before : List (String Global)) (all : List (Vec ℕ Global)) (name : List ℕ) (Q : Files → Type 0) → position (λ one. bytes_eq name (string_bytes one)) before ≡ None → Tells told name Q
+    → Extends told (map string_bytes before) (map bytes_in all) Q
 found_new None before all name Q new tells = λ files known are.
-    (put files name tells.0, tt, put_kept files name tells.0 before all (none_before (bytes_eq name) before new) are, tells.2 (put files name tells.0) (put_same files name tells.0))
+    (put files name tells.0, tt, put_kept files name tells.0 before all (none_before (is_name name) before new) are, tells.2 (put files name tells.0) (put_same files name tells.0))
 found_new (Some known) before all name Q new tells = λ files same are.
     (files, same, are, tells.2 files (ap (λ (f : Files). f name) same ∙ tells.1))
 

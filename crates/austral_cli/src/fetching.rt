@@ -62,7 +62,7 @@ fn fetch_next<S: Shelf>(
 
 /// The index of a name among others.
 fn place_of(names: &[String], name: &str) -> Option<usize>
-    ensures { result ≡ position (bytes_eq name.now) (map string_bytes names.now) }
+    ensures { result ≡ position (λ one. bytes_eq name.now (string_bytes one)) names.now }
 {
     names.iter().position(|one| name == one.as_str())
 }
