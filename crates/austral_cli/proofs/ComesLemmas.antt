@@ -53,15 +53,6 @@ uncut file bytes (lexing.Byte at) G byte limit = byte at refl
 uncut file bytes (lexing.Limit l) G byte limit = inl (limit l refl)
 uncut file bytes lexing.Memory G byte limit = tt
 
--- ---- files in order
-
--- one file more is read
-pub kept_one : (file : ℕ) (bytes : List ℕ) (all : List (List ℕ)) (tree : FileTree) (printing : Printing) (trees : List FileTree) (printings : List Printing) →
-    IsKept file bytes tree printing → AreKept (file + 1) all trees printings → AreKept file (bytes ∷ all) (tree ∷ trees) (printing ∷ printings)
-unfolding entries
-kept_one file bytes all tree printing trees printings one rest =
-    (one.0 ∷ rest.0, (one.1, rest.1), ap (λ e. e ∷ map entry trees) one.2 ∙ ap (λ l. record { file = file; tree = one.0.tree } ∷ l) rest.2.0, (one.3, rest.3))
-
 -- ---- what is printed
 
 -- the first file that doesn't print

@@ -1,11 +1,12 @@
 -- Files that are fetched in order.
-use Rattle.std.proofs.Common.{◌≡◌, ℕ, zero, suc, ◌+◌, ◌<◌, ◌≤◌, Bool, true, false, cond, List, [], ◌∷◌, ◌++◌, length, get_or, take, drop, map, Option, Some, None, IfSome, Vec, String, ap, ◌∙◌, sym, refl, subst, arith, rules, ◌⊎◌, inl, inr, length-append, length-map}
+use Rattle.std.proofs.Common.{◌≡◌, ℕ, zero, suc, ◌+◌, ◌<◌, ◌≤◌, Bool, true, false, cond, List, [], ◌∷◌, ◌++◌, length, get_or, take, drop, map, Option, Some, None, IfSome, Vec, String, ap, ◌∙◌, sym, refl, subst, arith, rules, ◌⊎◌, inl, inr, length-append}
 use Rattle.std.specs.Prelude.{position, vec_len}
 use Rattle.std.specs.Global.{Global}
 use Rattle.std.specs.List.{All, position_or_len}
 use Rattle.std.specs.Str.{bytes_eq}
 use Rattle.std.specs.String.{string_bytes}
 use Rattle.std.proofs.lemmas.Bool.{cases_lt, lt-ltb}
+use Rattle.std.proofs.lemmas.List.{drop_more, map-append, take_more, take-append-drop}
 use Rattle.std.proofs.lemmas.List.Elements.{All-from_get_or}
 use Rattle.std.proofs.lemmas.List.Quantifiers.{position-Some}
 use Rattle.std.proofs.lemmas.List.Sums.{fails_before_first}
@@ -17,6 +18,7 @@ use Rattle.austral_cli.specs.Halts.{AreFilesOf, Extends, FewComeTo, IsUnhad, Tel
 use Rattle.austral_cli.specs.Outcomes.{AreFiles, BytesCome, FewCome, FilesCome, IsFile, IsFirst, IsTooLarge, file_limit}
 use Rattle.austral_cli.specs.declared.outcomes.Outcome.{Outcome}
 use Rattle.austral_cli.specs.declared.outcomes.Outcome.TheVariants as outcome
+use Rattle.austral_cli.proofs.ArisesLemmas.{told_files}
 use Rattle.austral_cli.proofs.HaltLemmas.{is_of_files}
 
 -- ---- the first file that can't be had
@@ -176,3 +178,50 @@ pub are_small : (files : Files) (names : List (List ℕ)) (all : List (Vec ℕ G
 are_small files names [] are = tt
 are_small files [] (bytes ∷ all) are = absurd are
 are_small files (name ∷ names) (bytes ∷ all) are = (are.0.1, are_small files names all are.1)
+
+-- the names before an index and the one there
+names_to : (names : List (String Global)) (i : ℕ) (name : String Global) → i < length names → name ≡ get_or names i name → map string_bytes (take (i + 1) names) ≡ map string_bytes (take i names) ++ string_bytes name ∷ []
+names_to names i name h is =
+    ap (map string_bytes) (take_more names i name h) ∙ map-append string_bytes (take i names) (get_or names i name ∷ [])
+    ∙ ap (λ (n : String Global). map string_bytes (take i names) ++ string_bytes n ∷ []) (sym is)
+
+-- the names before an index, the one there, and those behind it
+names_at : (names : List (String Global)) (i : ℕ) (name : String Global) → i < length names → name ≡ get_or names i name → map string_bytes names ≡ map string_bytes (take i names) ++ string_bytes name ∷ map string_bytes (drop (i + 1) names)
+names_at names i name h is =
+    ap (map string_bytes) (sym (take-append-drop i names)) ∙ map-append string_bytes (take i names) (drop i names)
+    ∙ ap (λ l. map string_bytes (take i names) ++ map string_bytes l) (drop_more names i name h)
+    ∙ ap (λ (n : String Global). map string_bytes (take i names) ++ string_bytes n ∷ map string_bytes (drop (i + 1) names)) (sym is)
+
+-- what is said of the files before an index, in other words for them
+extends_same : (told given : Option Files) (names before : List (String Global)) (all had : List (Vec ℕ Global)) (Q R : Files → Type 0) → given ≡ told → before ≡ names → had ≡ all → Q ≡ R
+    → Extends given (map string_bytes before) (map bytes_in had) Q → Extends told (map string_bytes names) (map bytes_in all) R
+extends_same told given names before all had Q R shelf list bytes same h =
+    subst (λ t. Extends t (map string_bytes names) (map bytes_in all) R) shelf
+    (subst (λ (l : List (String Global)). Extends given (map string_bytes l) (map bytes_in all) R) list
+    (subst (λ (l : List (Vec ℕ Global)). Extends given (map string_bytes before) (map bytes_in l) R) bytes
+    (subst (λ P. Extends given (map string_bytes before) (map bytes_in had) P) same h)))
+
+-- one more file is fetched
+pub fetched_more : (told given : Option Files) (names before : List (String Global)) (i : ℕ) (name : String Global) (text : List ℕ) (all had more : List (Vec ℕ Global)) (bytes : Vec ℕ Global) →
+    given ≡ told → i < length names → name ≡ get_or names i name → before ≡ take i names → had ≡ all → text ≡ string_bytes name → more ≡ all ++ bytes ∷ [] →
+    AreFilesOf told (map string_bytes (take i names)) (map bytes_in all) → Extends given (map string_bytes before) (map bytes_in had) (λ files. IsFile files text bytes.items) →
+    AreFilesOf told (map string_bytes (take (i + 1) names)) (map bytes_in more)
+fetched_more told given names before i name text all had more bytes shelf h is list same spelled pushed are next =
+    let e = extends_same told given (take i names) before all had (λ files. IsFile files text bytes.items) (λ files. IsFile files (string_bytes name) bytes.items) shelf list same (ap (λ t files. IsFile files t bytes.items) spelled) next in
+    let both = files_more told (map string_bytes (take i names)) (map bytes_in all) (string_bytes name) bytes.items are e in
+    let items : map bytes_in more ≡ map bytes_in all ++ bytes.items ∷ [] = ap (map bytes_in) pushed ∙ map-append bytes_in all (bytes ∷ []) in
+    subst (λ ns. AreFilesOf told ns (map bytes_in more)) (sym (names_to names i name h is))
+    (subst (λ l. AreFilesOf told (map string_bytes (take i names) ++ string_bytes name ∷ []) l) (sym items) both)
+
+-- a file can't be had
+pub fetched_end : (told given : Option Files) (names before : List (String Global)) (i : ℕ) (name : String Global) (text : List ℕ) (all had : List (Vec ℕ Global)) (x : Outcome) →
+    given ≡ told → i < length names → name ≡ get_or names i name → before ≡ take i names → had ≡ all → text ≡ string_bytes name →
+    AreFilesOf told (map string_bytes (take i names)) (map bytes_in all) → Extends given (map string_bytes before) (map bytes_in had) (λ files. IsUnhad files text x) →
+    FewComeTo told (map string_bytes names) x
+fetched_end told given names before i name text all had x shelf h is list same spelled are next =
+    let e = extends_same told given (take i names) before all had (λ files. IsUnhad files text x) (λ files. IsUnhad files (string_bytes name) x) shelf list same (ap (λ t files. IsUnhad files t x) spelled) next in
+    subst (λ ns. FewComeTo told ns x) (sym (names_at names i name h is)) (files_end told (map string_bytes (take i names)) (map bytes_in all) (string_bytes name) (map string_bytes (drop (i + 1) names)) x are e)
+
+-- nothing is fetched yet
+pub none_fetched : (told : Option Files) → AreFilesOf told [] []
+none_fetched told = let h = told_files told in (h.0, h.1, tt)

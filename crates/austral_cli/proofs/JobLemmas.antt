@@ -1,8 +1,9 @@
 -- Words and the parts in them.
-use Rattle.std.proofs.Common.{◌≡◌, ℕ, ◌+◌, ◌<◌, ◌≤◌, ◌==◌, Bool, true, false, List, [], ◌∷◌, ◌++◌, String, length, get_or, drop, map, ap, ◌∙◌, sym, refl, subst, arith, codes, length-append, length-map}
+use Rattle.std.proofs.Common.{◌≡◌, ℕ, ◌+◌, ◌<◌, ◌≤◌, ◌==◌, Bool, true, false, List, [], ◌∷◌, ◌++◌, String, length, get_or, drop, map, ap, ◌∙◌, sym, refl, subst, arith, codes, length-append}
 use Rattle.std.specs.Global.{Global}
 use Rattle.std.specs.List.{flat_map, list_all}
 use Rattle.std.specs.String.{string_bytes}
+use Rattle.std.proofs.lemmas.List.{length-map}
 use Rattle.std.proofs.lemmas.List.Splits.{length-slice_split}
 use Rattle.austral_cli.specs.Jobs.{IsJob, IsNoJob, Task, is_part, names_in}
 use Rattle.austral_cli.specs.declared.jobs.Command.TheVariants.{Run}

@@ -6,6 +6,7 @@ pub mod HaltLemmas
 pub mod PrintLemmas
 pub mod NameLemmas
 pub mod DueLemmas
+pub mod KeptLemmas
 pub mod JudgeLemmas
 pub mod ComesLemmas
 pub mod ArisesLemmas
