@@ -1,6 +1,6 @@
 -- What steps say, from what the steps in them say.
 use Rattle.std.proofs.Common.{◌≡◌, ℕ, ◌+◌, ◌<◌, ◌≤◌, Bool, true, false, List, [], ◌∷◌, ◌++◌, length, get_or, drop, map, Option, Some, None, Result, Ok, Err, Vec, ap, ◌∙◌, sym, refl, subst, arith, ◌⊎◌, inl, inr, append_assoc}
-use Rattle.std.specs.Global.{Global}
+use Rattle.std.specs.Option.{option_to_list}
 use Rattle.au_base.specs.declared.limits.Limit.{Limit}
 use Rattle.au_base.specs.declared.places.Pos.{Pos}
 use Rattle.au_base.specs.declared.tokens.Token.{Token}
@@ -82,6 +82,12 @@ pub last_prints : (before : List Printing) (at : Pos) → first_stop (before ++ 
 last_prints [] at none = cc
 last_prints (Prints first ∷ before) at none = last_prints before at none
 last_prints (Stops other ∷ before) at none = cc
+
+-- what is popped off files that print is what the last one prints
+pub popped_prints : (items left : List Printing) (popped : Option Printing) → 0 < length items → (popped ≡ None → length items ≡ 0) → items ≡ left ++ option_to_list popped → first_stop items ≡ None → (first : First) × (popped ≡ Some (Prints first))
+popped_prints items left None some empty is none = let e = empty refl in absurd (omega arith)
+popped_prints items left (Some (Prints first)) some empty is none = (first, refl)
+popped_prints items left (Some (Stops at)) some empty is none = absurd (last_prints left at (sym (ap first_stop is) ∙ none))
 
 -- ---- the files of names
 
