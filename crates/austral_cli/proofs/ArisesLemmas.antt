@@ -1,5 +1,5 @@
 -- What words and files come to.
-use Rattle.std.proofs.Common.{◌≡◌, ℕ, Bool, List, Option, Some, None, ap, refl, subst, ◌⊎◌, inl, inr}
+use Rattle.std.proofs.Common.{◌≡◌, ℕ, List, Option, Some, None, ap, refl, subst, inl, inr}
 use Rattle.au_base.specs.Outside.{Files, Counts, HasRisen}
 use Rattle.austral_cli.specs.declared.halts.CheckFault.{CheckFault}
 use Rattle.austral_cli.specs.declared.halts.CheckFault.TheVariants as fault

@@ -1,35 +1,29 @@
 -- What steps say, from what the steps in them say.
-use Rattle.std.proofs.Common.{◌≡◌, ℕ, ◌+◌, ◌<◌, ◌≤◌, Bool, true, false, List, [], ◌∷◌, ◌++◌, length, get_or, drop, map, Option, Some, None, Result, Ok, Err, Vec, ap, ◌∙◌, sym, refl, subst, arith, ◌⊎◌, inl, inr, append_assoc}
-use Rattle.std.specs.Option.{option_to_list}
-use Rattle.au_base.specs.declared.limits.Limit.{Limit}
+use Rattle.std.proofs.Common.{◌≡◌, ℕ, ◌<◌, ◌≤◌, List, [], ◌∷◌, ◌++◌, length, Option, Some, None, Result, Ok, Err, ap, ◌∙◌, sym, refl, subst, arith, inl, inr}
+use Rattle.std.specs.Option.{IsSome, option_to_list}
 use Rattle.au_base.specs.declared.places.Pos.{Pos}
 use Rattle.au_base.specs.declared.tokens.Token.{Token}
 use Rattle.au_base.specs.Outside.{Files, Counts}
 use Rattle.au_base.specs.Places.{place_after}
-use Rattle.au_lexer.specs.Cut.{Cut, IsStray, PassesLimit}
+use Rattle.au_lexer.specs.Cut.{Cut}
 use Rattle.au_lexer.specs.Passing.{IsWithinLimits}
-use Rattle.au_lexer.specs.declared.lexing.LexFault.{LexFault}
-use Rattle.au_lexer.specs.declared.lexing.LexFault.TheVariants as lexing
-use Rattle.au_modules.specs.Programs.{entry}
 use Rattle.au_printing.specs.declared.files.First.{First}
-use Rattle.au_syntax.specs.declared.wholes.FileTree.{FileTree}
-use Rattle.austral_cli.specs.Calls.{AreTold, is_missing}
-use Rattle.austral_cli.specs.Halts.{AreFilesOf, ComesTo, FewComeTo, Says, known_or_memory, lex_halt}
-use Rattle.austral_cli.specs.Outcomes.{BytesCome, Comes, files_limit, most_files}
-use Rattle.austral_cli.specs.Programs.{IsUnprinting, PrintingComes, ReadsCome, entries, import_outcome, module_outcome, program_outcome, shipped_entries}
-use Rattle.austral_cli.specs.Reading.{AllPrintSo, AreKept, IsKept, first_stop}
-use Rattle.austral_cli.specs.Trees.{AreRead, FirstHalts, Halts, IsRead, ReadFile}
-use Rattle.austral_cli.specs.declared.halts.CheckFault.TheVariants as fault
+use Rattle.austral_cli.specs.Calls.{is_missing}
+use Rattle.austral_cli.specs.Halts.{AreFilesOf, ComesTo, FewComeTo, Says}
+use Rattle.austral_cli.specs.Outcomes.{BytesCome, files_limit, most_files}
+use Rattle.austral_cli.specs.Programs.{IsUnprinting, PrintingComes}
+use Rattle.austral_cli.specs.Reading.{AllPrintSo, TokensHalt, first_stop}
+use Rattle.austral_cli.specs.Trees.{Halts, ReadFile}
 use Rattle.austral_cli.specs.declared.halts.Halt.{Halt}
 use Rattle.austral_cli.specs.declared.halts.Halt.TheVariants as halt
 use Rattle.austral_cli.specs.declared.outcomes.Outcome.{Outcome}
 use Rattle.austral_cli.specs.declared.outcomes.Outcome.TheVariants as outcome
 use Rattle.austral_cli.specs.declared.reading.Printing.{Printing}
 use Rattle.austral_cli.specs.declared.reading.Printing.TheVariants.{Prints, Stops}
-use Rattle.austral_cli.specs.declared.refusals.Refusal.TheVariants.{Byte, NotYet}
+use Rattle.austral_cli.specs.declared.refusals.Refusal.TheVariants.{NotYet}
 use Rattle.austral_cli.proofs.ArisesLemmas.{told_files}
 use Rattle.austral_cli.proofs.FetchLemmas.{files_few}
-use Rattle.austral_cli.proofs.HaltLemmas.{not_missing}
+use Rattle.austral_cli.proofs.HaltLemmas.{halts_so, not_missing}
 use Rattle.austral_cli.proofs.PrintLemmas.{bytes_found}
 
 -- what a step says, said of other things
@@ -45,13 +39,10 @@ halts_with (halt.Unknown e) G H K L known h = tt
 
 -- ---- one file
 
--- a file that isn't cut
-pub uncut : {T : Type 0} (file : ℕ) (bytes : List ℕ) (e : LexFault) (G : T → Type 0) →
-    ((at : Pos) → e ≡ lexing.Byte at → IsStray file bytes at) → ((limit : Limit) → e ≡ lexing.Limit limit → PassesLimit file bytes limit) →
-    Says {T = T} (Err (lex_halt e)) G (Halts file bytes)
-uncut file bytes (lexing.Byte at) G byte limit = byte at refl
-uncut file bytes (lexing.Limit l) G byte limit = inl (limit l refl)
-uncut file bytes lexing.Memory G byte limit = tt
+-- what its tokens halt with, a file halts with
+pub halts_from : (file : ℕ) (bytes : List ℕ) (list read : List Token) (end : Pos) (x : Outcome) → Cut file bytes list → IsWithinLimits list → read ≡ list → end ≡ place_after file bytes → TokensHalt read end x → Halts file bytes x
+halts_from file bytes list read end x cut within same behind h =
+    halts_so file bytes list x cut within (subst (λ ts. TokensHalt ts (place_after file bytes) x) same (subst (λ p. TokensHalt read p x) behind h))
 
 -- ---- what is printed
 
@@ -84,10 +75,10 @@ last_prints (Prints first ∷ before) at none = last_prints before at none
 last_prints (Stops other ∷ before) at none = cc
 
 -- what is popped off files that print is what the last one prints
-pub popped_prints : (items left : List Printing) (popped : Option Printing) → 0 < length items → (popped ≡ None → length items ≡ 0) → items ≡ left ++ option_to_list popped → first_stop items ≡ None → (first : First) × (popped ≡ Some (Prints first))
-popped_prints items left None some empty is none = let e = empty refl in absurd (omega arith)
-popped_prints items left (Some (Prints first)) some empty is none = (first, refl)
-popped_prints items left (Some (Stops at)) some empty is none = absurd (last_prints left at (sym (ap first_stop is) ∙ none))
+pub popped_prints : (items left : List Printing) (popped : Option Printing) → IsSome popped → items ≡ left ++ option_to_list popped → first_stop items ≡ None → (first : First) × (popped ≡ Some (Prints first))
+popped_prints items left None some is none = cc
+popped_prints items left (Some (Prints first)) some is none = (first, refl)
+popped_prints items left (Some (Stops at)) some is none = absurd (last_prints left at (sym (ap first_stop is) ∙ none))
 
 -- ---- the files of names
 

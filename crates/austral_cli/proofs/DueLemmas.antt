@@ -1,10 +1,10 @@
 -- Words and files owe one thing.
-use Rattle.std.proofs.Common.{◌≡◌, ℕ, ◌+◌, ◌<◌, ◌≤◌, Bool, true, false, cond, List, [], ◌∷◌, length, drop, Option, Some, None, ap, ◌∙◌, sym, refl, subst, arith, ◌⊎◌, inl, inr, slice_get, codes}
+use Rattle.std.proofs.Common.{◌≡◌, ℕ, ◌+◌, ◌≤◌, Bool, true, false, cond, List, length, drop, Option, Some, ap, ◌∙◌, sym, refl, subst, arith, ◌⊎◌, inl, inr, slice_get}
 use Rattle.std.specs.List.{flat_map}
 use Rattle.au_base.specs.declared.statuses.Status.{Status}
 use Rattle.au_base.specs.declared.statuses.Status.TheVariants as status
 use Rattle.au_base.specs.Outside.{Files, Adds}
-use Rattle.austral_cli.specs.Calls.{AreTold, IsPaid, CameTo, HasPassed, HasRun, IsMissingSo, IsRefusedSo, Pays, is_decided}
+use Rattle.austral_cli.specs.Calls.{AreTold, IsPaid, CameTo, HasPassed, HasRun, IsRefusedSo, Pays, is_decided}
 use Rattle.austral_cli.specs.Jobs.{Task, IsJob, IsNoJob, names_in}
 use Rattle.austral_cli.specs.Outcomes.{AreFiles, Arises, BytesCome, Comes, Due, FewCome, IsUnread, Owes, due_of, most_files}
 use Rattle.austral_cli.specs.Trees.{HasNoTree, HasTokens, IsRead}
@@ -106,6 +106,64 @@ came_refused words told faults faults' ends out out' err err' paid is =
     so names (outcome.Passes limit) err err' e adds = absurd cc
     so names (outcome.Refused refusal) err err' e adds = (refusal, refl, adds)
     so names (outcome.Prints first) err err' e adds = absurd (no_refusal first.success e)
+
+-- a status of an exit code
+abbrev is_exit : Status → Bool
+is_exit status.Success = true
+is_exit status.Failure = true
+is_exit status.Refused = false
+is_exit status.Abort = false
+is_exit status.Steps = false
+is_exit status.ReadFault = false
+is_exit status.WriteFault = false
+is_exit status.Memory = false
+is_exit status.Limit = false
+is_exit status.Missing = false
+is_exit status.Words = false
+
+no_exit : (success : Bool) (ends : Status) → cond success status.Success status.Failure ≡ ends → is_exit ends ≡ false → ⊥
+no_exit true ends e other = let h : true ≡ false = ap is_exit e ∙ other in cc
+no_exit false ends e other = let h : true ≡ false = ap is_exit e ∙ other in cc
+
+same_exit : (a b : Bool) → cond a status.Success status.Failure ≡ cond b status.Success status.Failure → b ≡ a
+same_exit true true e = refl
+same_exit true false e = cc
+same_exit false true e = cc
+same_exit false false e = refl
+
+-- the line of a limit was paid for a limit that is passed
+pub came_limit : (words : List (List ℕ)) (told : Option Files) (faults faults' : ℕ) (ends : Status) (out out' err err' : Option (List ℕ)) → IsPaid words told faults faults' ends out out' err err' → ends ≡ status.Limit
+    → CameTo words told (HasPassed err err')
+came_limit words told faults faults' ends out out' err err' paid is =
+    let h = came words told faults faults' ends out out' err err' paid (ap is_decided is) in
+    (h.0, h.1, h.2, h.3, h.4, so h.2 h.3 err err' (sym is ∙ h.5.status) h.5.err_bytes)
+  where
+    so : (names : List (List ℕ)) (arisen : Outcome) (err err' : Option (List ℕ)) → status.Limit ≡ (due_of names arisen).status → Adds err err' (due_of names arisen).err → HasPassed err err' names arisen
+    so names outcome.NoJob err err' e adds = absurd cc
+    so names (outcome.Missing name) err err' e adds = absurd cc
+    so names (outcome.Passes limit) err err' e adds = (limit, refl, adds)
+    so names (outcome.Refused refusal) err err' e adds = absurd cc
+    so names (outcome.Prints first) err err' e adds = absurd (no_exit first.success status.Limit (sym e) refl)
+
+-- what a program prints was paid for a program that prints
+ran_so : (success : Bool) (names : List (List ℕ)) (arisen : Outcome) (out out' : Option (List ℕ)) → cond success status.Success status.Failure ≡ (due_of names arisen).status → Adds out out' (due_of names arisen).out → HasRun success out out' names arisen
+ran_so success names outcome.NoJob out out' e adds = absurd (no_exit success status.Words e refl)
+ran_so success names (outcome.Missing name) out out' e adds = absurd (no_exit success status.Missing e refl)
+ran_so success names (outcome.Passes limit) out out' e adds = absurd (no_exit success status.Limit e refl)
+ran_so success names (outcome.Refused refusal) out out' e adds = absurd (no_exit success status.Refused e refl)
+ran_so success names (outcome.Prints first) out out' e adds = (first, refl, same_exit success first.success e, adds)
+
+pub came_success : (words : List (List ℕ)) (told : Option Files) (faults faults' : ℕ) (ends : Status) (out out' err err' : Option (List ℕ)) → IsPaid words told faults faults' ends out out' err err' → ends ≡ status.Success
+    → CameTo words told (HasRun true out out')
+came_success words told faults faults' ends out out' err err' paid is =
+    let h = came words told faults faults' ends out out' err err' paid (ap is_decided is) in
+    (h.0, h.1, h.2, h.3, h.4, ran_so true h.2 h.3 out out' (sym is ∙ h.5.status) h.5.out_bytes)
+
+pub came_failure : (words : List (List ℕ)) (told : Option Files) (faults faults' : ℕ) (ends : Status) (out out' err err' : Option (List ℕ)) → IsPaid words told faults faults' ends out out' err err' → ends ≡ status.Failure
+    → CameTo words told (HasRun false out out')
+came_failure words told faults faults' ends out out' err err' paid is =
+    let h = came words told faults faults' ends out out' err err' paid (ap is_decided is) in
+    (h.0, h.1, h.2, h.3, h.4, ran_so false h.2 h.3 out out' (sym is ∙ h.5.status) h.5.out_bytes)
 
 -- the words line was paid for words that are no job
 pub came_words : (words : List (List ℕ)) (told : Option Files) (faults faults' : ℕ) (ends : Status) (out out' err err' : Option (List ℕ)) → IsPaid words told faults faults' ends out out' err err' → ends ≡ status.Words → IsNoJob words

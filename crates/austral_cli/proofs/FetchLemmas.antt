@@ -1,19 +1,17 @@
 -- Files that are fetched in order.
 use Rattle.std.proofs.Common.{◌≡◌, ℕ, zero, suc, ◌+◌, ◌<◌, ◌≤◌, Bool, true, false, cond, List, [], ◌∷◌, ◌++◌, length, get_or, take, drop, map, Option, Some, None, IfSome, Vec, String, ap, ◌∙◌, sym, refl, subst, arith, rules, ◌⊎◌, inl, inr, length-append}
-use Rattle.std.specs.Prelude.{position, vec_len}
+use Rattle.std.specs.Prelude.{position}
 use Rattle.std.specs.Global.{Global}
 use Rattle.std.specs.List.{All, position_or_len}
 use Rattle.std.specs.Str.{bytes_eq}
 use Rattle.std.specs.String.{string_bytes}
 use Rattle.std.proofs.lemmas.Bool.{cases_lt, lt-ltb}
-use Rattle.std.proofs.lemmas.List.{drop_more, map-append, take_more, take-append-drop}
-use Rattle.std.proofs.lemmas.List.Elements.{All-from_get_or}
+use Rattle.std.proofs.lemmas.List.{drop_more, length-map, map-append, take_more, take-append-drop}
 use Rattle.std.proofs.lemmas.List.Quantifiers.{position-Some}
 use Rattle.std.proofs.lemmas.List.Sums.{fails_before_first}
 use Rattle.std.proofs.lemmas.Slice.Eq.{bytes_eq-Decides}
 use Rattle.au_base.specs.Limits.{most_file_bytes}
 use Rattle.au_base.specs.Outside.{Files}
-use Rattle.austral_cli.specs.Calls.{AreTold}
 use Rattle.austral_cli.specs.Halts.{AreFilesOf, Extends, FewComeTo, IsUnhad, Tells, bytes_in}
 use Rattle.austral_cli.specs.Outcomes.{AreFiles, BytesCome, FewCome, FilesCome, IsFile, IsFirst, IsTooLarge, file_limit}
 use Rattle.austral_cli.specs.declared.outcomes.Outcome.{Outcome}
@@ -124,15 +122,14 @@ found_before told (first ∷ before) all name bytes i e is same = λ files known
     (files, known, are, subst (λ n. IsFile files n bytes) (sym named) (subst (λ b. IsFile files (string_bytes (get_or (first ∷ before) i first)) b) (sym same) file))
 
 none_before : (p : String Global → Bool) (names : List (String Global)) → position p names ≡ None → All (λ one. p one ≡ false) names
-none_before p [] none = tt
-none_before p (first ∷ names) none = All-from_get_or (λ one. p one ≡ false) (first ∷ names) first (λ i h. past i h (cases_lt (position_or_len p (first ∷ names)) (length (first ∷ names))))
+none_before p names none = λ k d h. past k d h (cases_lt (position_or_len p names) (length names))
   where
-    past : (i : ℕ) → i < length (first ∷ names) → (position_or_len p (first ∷ names) < length (first ∷ names)) ⊎ (length (first ∷ names) ≤ position_or_len p (first ∷ names)) → p (get_or (first ∷ names) i first) ≡ false
-    past i h (inl less) =
-        let found : position p (first ∷ names) ≡ Some (position_or_len p (first ∷ names)) = ap (λ b. cond b (Some (position_or_len p (first ∷ names))) None) (lt-ltb (position_or_len p (first ∷ names)) (length (first ∷ names)) less) in
-        let e : Some (position_or_len p (first ∷ names)) ≡ None = sym found ∙ none in
+    past : (k : ℕ) (d : String Global) → k < length names → (position_or_len p names < length names) ⊎ (length names ≤ position_or_len p names) → p (get_or names k d) ≡ false
+    past k d h (inl less) =
+        let found : position p names ≡ Some (position_or_len p names) = ap (λ b. cond b (Some (position_or_len p names)) None) (lt-ltb (position_or_len p names) (length names) less) in
+        let e : Some (position_or_len p names) ≡ None = sym found ∙ none in
         cc
-    past i h (inr more) = let low : i < position_or_len p (first ∷ names) = omega arith in fails_before_first p (first ∷ names) i first low
+    past k d h (inr more) = let low : k < position_or_len p names = omega arith in fails_before_first p names k d low
 
 -- files with what was found under one name
 put : Files → List ℕ → Option (List ℕ) → Files
@@ -149,7 +146,9 @@ put_kept files name found [] [] none are = tt
 put_kept files name found [] (bytes ∷ all) none are = absurd are
 put_kept files name found (one ∷ before) [] none are = absurd are
 put_kept files name found (one ∷ before) (bytes ∷ all) none are =
-    ((ap (λ b. cond b found (files (string_bytes one))) none.0 ∙ are.0.0, are.0.1), put_kept files name found before all none.1 are.1)
+    let first : is_name name one ≡ false = none 0 one (omega arith) in
+    let rest : All (λ other. is_name name other ≡ false) before = λ k d h. none (suc k) d (omega arith) in
+    ((ap (λ b. cond b found (files (string_bytes one))) first ∙ are.0.0, are.0.1), put_kept files name found before all rest are.1)
 
 pub found_new : (told : Option Files) (before : List (String Global)) (all : List (Vec ℕ Global)) (name : List ℕ) (Q : Files → Type 0) → position (λ one. bytes_eq name (string_bytes one)) before ≡ None → Tells told name Q
     → Extends told (map string_bytes before) (map bytes_in all) Q
@@ -174,10 +173,14 @@ tells_large (Some files) name room known large =
 -- ---- the files of names in the code
 
 -- none of the files that can be had is too large
-pub are_small : (files : Files) (names : List (List ℕ)) (all : List (Vec ℕ Global)) → AreFiles files names (map bytes_in all) → All (λ (bytes : Vec ℕ Global). vec_len bytes ≤ most_file_bytes) all
-are_small files names [] are = tt
-are_small files [] (bytes ∷ all) are = absurd are
-are_small files (name ∷ names) (bytes ∷ all) are = (are.0.1, are_small files names all are.1)
+small_at : (files : Files) (names : List (List ℕ)) (all : List (Vec ℕ Global)) (k : ℕ) (d : Vec ℕ Global) → AreFiles files names (map bytes_in all) → k < length all → length (get_or all k d).items ≤ most_file_bytes
+small_at files names [] k d are h = absurd (omega arith)
+small_at files [] (bytes ∷ all) k d are h = absurd are
+small_at files (name ∷ names) (bytes ∷ all) zero d are h = are.0.1
+small_at files (name ∷ names) (bytes ∷ all) (suc k) d are h = small_at files names all k d are.1 (omega arith)
+
+pub are_small : (files : Files) (names : List (List ℕ)) (all : List (Vec ℕ Global)) → AreFiles files names (map bytes_in all) → All (λ (bytes : Vec ℕ Global). length bytes.items ≤ most_file_bytes) all
+are_small files names all are = λ k d h. small_at files names all k d are h
 
 -- the names before an index and the one there
 names_to : (names : List (String Global)) (i : ℕ) (name : String Global) → i < length names → name ≡ get_or names i name → map string_bytes (take (i + 1) names) ≡ map string_bytes (take i names) ++ string_bytes name ∷ []
@@ -225,3 +228,8 @@ fetched_end told given names before i name text all had x shelf h is list same s
 -- nothing is fetched yet
 pub none_fetched : (told : Option Files) → AreFilesOf told [] []
 none_fetched told = let h = told_files told in (h.0, h.1, tt)
+
+-- as many are fetched as there are names
+pub fetched_length : (told : Option Files) (names : List (String Global)) (all : List (Vec ℕ Global)) → AreFilesOf told (map string_bytes names) (map bytes_in all) → length names ≡ length all
+fetched_length told names all are =
+    sym (length-map names string_bytes) ∙ are_as_many are.0 (map string_bytes names) (map bytes_in all) are.2 ∙ length-map all bytes_in

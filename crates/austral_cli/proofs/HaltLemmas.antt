@@ -1,16 +1,13 @@
 -- A file halts with one thing, or it is read as one thing, and not both.
-use Rattle.std.proofs.Common.{◌≡◌, ℕ, zero, suc, ◌+◌, ◌-◌, Err, Bool, true, false, List, [], ◌∷◌, length, Option, Some, None, ap, ◌∙◌, sym, refl, subst, arith, ◌⊎◌, inl, inr, slice_get}
+use Rattle.std.proofs.Common.{◌≡◌, ℕ, zero, suc, ◌+◌, ◌-◌, Err, Bool, true, false, List, [], ◌∷◌, length, Some, ap, ◌∙◌, sym, refl, subst, arith, ◌⊎◌, inl, inr, slice_get}
 use Rattle.au_base.specs.declared.places.Pos.{Pos}
-use Rattle.au_base.specs.declared.limits.Limit.{Limit}
 use Rattle.au_base.specs.declared.statuses.Status.TheVariants as status
 use Rattle.au_base.specs.declared.tokens.Token.{Token}
 use Rattle.au_base.specs.Places.{place_after}
 use Rattle.au_lexer.specs.Cut.{Cut, Lexed, tokens, stray, passes, Lexes}
 use Rattle.au_lexer.specs.Passing.{IsWithinLimits}
 use Rattle.au_lexer.proofs.UniqueLemmas.{one_cut, one_outcome}
-use Rattle.au_parser.proofs.FileLaws.{one_tree}
 use Rattle.au_parser.proofs.Keeping.{fits_none}
-use Rattle.au_parser.proofs.ReaderLaws.{file_sound, file_found}
 use Rattle.au_read_modules.specs.ModuleReading.{file_at}
 use Rattle.au_reading.specs.Bounds.{usual}
 use Rattle.au_reading.specs.Reading.{Read}
@@ -25,6 +22,7 @@ use Rattle.austral_cli.specs.Trees.{AreRead, FirstHalts, Halts, HasNoTree, HasTo
 use Rattle.austral_cli.specs.declared.outcomes.Outcome.{Outcome}
 use Rattle.austral_cli.specs.declared.outcomes.Outcome.TheVariants as outcome
 use Rattle.austral_cli.specs.declared.refusals.Refusal.TheVariants.{Byte, Syntax}
+use Rattle.austral_cli.proofs.TreeLemmas.{one_tree}
 
 -- what a file halts with, by what its bytes are cut into
 abbrev Shape : ℕ → List ℕ → Lexed → Outcome → Type 0
@@ -113,7 +111,7 @@ pub read_same : (file : ℕ) (bytes : List ℕ) (a b : ReadFile) → IsRead file
 read_same file bytes a b x y =
     let list = one_cut file bytes a.tokens b.tokens x.cut y.cut in
     same_parts a b list (x.end ∙ sym y.end)
-    (one_tree file_sound file_found a.tree b.tree x.formed y.formed b.tokens (subst (λ ts. Spells a.tree ts) list x.spelled) y.spelled)
+    (one_tree a.tree b.tree x.formed y.formed b.tokens (subst (λ ts. Spells a.tree ts) list x.spelled) y.spelled)
 
 -- a file of which the tokens have no tree isn't read
 pub treeless : (file : ℕ) (bytes : List ℕ) (one : ReadFile) → HasTokens file bytes HasNoTree → IsRead file bytes one → ⊥

@@ -1,11 +1,12 @@
 -- Words and the parts in them.
-use Rattle.std.proofs.Common.{◌≡◌, ℕ, ◌+◌, ◌<◌, ◌≤◌, ◌==◌, Bool, true, false, List, [], ◌∷◌, ◌++◌, String, length, get_or, drop, map, ap, ◌∙◌, sym, refl, subst, arith, codes, length-append}
+use Rattle.std.proofs.Common.{Bor, ◌≡◌, ℕ, ◌<◌, ◌≤◌, ◌==◌, Bool, true, false, List, [], ◌∷◌, String, length, get_or, drop, map, ap, ◌∙◌, sym, refl, arith, codes, length-append}
 use Rattle.std.specs.Global.{Global}
-use Rattle.std.specs.List.{flat_map, list_all}
+use Rattle.std.specs.Prelude.{nat_eq, not, ◌&&◌, ◌||◌}
+use Rattle.std.specs.List.{flat_map, list_all, list_any, starts_with}
 use Rattle.std.specs.String.{string_bytes}
 use Rattle.std.proofs.lemmas.List.{length-map}
 use Rattle.std.proofs.lemmas.List.Splits.{length-slice_split}
-use Rattle.austral_cli.specs.Jobs.{IsJob, IsNoJob, Task, is_part, names_in}
+use Rattle.austral_cli.specs.Jobs.{IsJob, IsNoJob, is_empty, is_part, names_in}
 use Rattle.austral_cli.specs.declared.jobs.Command.TheVariants.{Run}
 
 -- words that ask for a job
@@ -59,3 +60,12 @@ some_files parts files some are =
     let names = some_names (map string_bytes parts) many in
     let same = ap length are in
     omega (arith, length-map files string_bytes)
+
+-- whether a word is a part, by its names
+any_of : (names : List (Bor (List ℕ))) → list_any is_empty (map (λ name. name.now) names) ≡ list_any (λ name. is_empty name.now) names
+any_of [] = refl
+any_of (name ∷ names) = ap (λ b. is_empty name.now || b) (any_of names)
+
+pub part_so : (word : List ℕ) (names : List (Bor (List ℕ))) (empty : Bool) → starts_with nat_eq word (codes "-") ≡ false → map (λ name. name.now) names ≡ names_in word → empty ≡ list_any (λ name. is_empty name.now) names → not empty ≡ is_part word
+part_so word names empty dash are is =
+    ap not (is ∙ sym (any_of names) ∙ ap (list_any is_empty) are) ∙ ap (λ b. not b && not (list_any is_empty (names_in word))) (sym dash)

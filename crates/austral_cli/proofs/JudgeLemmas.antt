@@ -1,5 +1,5 @@
 -- What the modules of a program come to.
-use Rattle.std.proofs.Common.{◌≡◌, ℕ, List, [], ◌∷◌, ◌++◌, map, Option, Some, None, Err, ap, ◌∙◌, sym, refl, subst, ◌⊎◌, inl, inr}
+use Rattle.std.proofs.Common.{◌≡◌, ℕ, List, [], ◌∷◌, ◌++◌, map, Some, None, Err, ap, ◌∙◌, refl, subst, ◌⊎◌, inl, inr}
 use Rattle.au_imports.specs.declared.faults.ImportFault.{ImportFault}
 use Rattle.au_imports.specs.declared.faults.ImportFault.TheVariants as imports
 use Rattle.au_imports.specs.Importing as importing
@@ -16,6 +16,7 @@ use Rattle.austral_cli.specs.Programs.{import_outcome, module_outcome, program_o
 -- what a fault of modules comes to, the program comes to
 modules_judged : {T : Type 0} (files : List Entry) (e : ModuleFault) (G : T → Type 0) → (e ≡ modules.Memory) ⊎ (programs.refusal_of files ≡ Some e) →
     Says {T = T} (Err (known_or_memory (module_outcome e))) G (λ x. program_outcome files ≡ Some x)
+unfolding program_outcome
 modules_judged files (modules.TwiceGiven name) G h = elim h [ inl p ↦ cc | inr p ↦ rw p refl ]
 modules_judged files (modules.NoBody name) G h = elim h [ inl p ↦ cc | inr p ↦ rw p refl ]
 modules_judged files (modules.Unsafe at) G h = elim h [ inl p ↦ cc | inr p ↦ rw p refl ]
@@ -25,6 +26,7 @@ modules_judged files modules.Memory G h = tt
 -- what a fault of names or promises comes to, the program comes to
 imports_judged : {T : Type 0} (files : List Entry) (e : ImportFault) (G : T → Type 0) → programs.refusal_of files ≡ None → (e ≡ imports.Memory) ⊎ (importing.refusal_of (modules_of files) ≡ Some e) →
     Says {T = T} (Err (known_or_memory (import_outcome e))) G (λ x. program_outcome files ≡ Some x)
+unfolding program_outcome
 imports_judged files (imports.NoModule at name) G none h = elim h [ inl p ↦ cc | inr p ↦ rw (none, p) refl ]
 imports_judged files (imports.Late at name) G none h = elim h [ inl p ↦ cc | inr p ↦ rw (none, p) refl ]
 imports_judged files (imports.NotVisible at name) G none h = elim h [ inl p ↦ cc | inr p ↦ rw (none, p) refl ]
@@ -35,6 +37,7 @@ imports_judged files imports.Memory G none h = tt
 
 -- the program is good
 judged_good : (files : List Entry) → programs.refusal_of files ≡ None → importing.refusal_of (modules_of files) ≡ None → program_outcome files ≡ None
+unfolding program_outcome
 judged_good files none good = rw (none, good) refl
 
 -- the same of files that were given, and of their modules
@@ -62,6 +65,7 @@ entries_of_both [] rest = refl
 entries_of_both (f ∷ first) rest = ap (λ l. entry f ∷ l) (entries_of_both first rest)
 
 pub shipped_first : (first own all : List FileTree) → map file_says first ≡ shipped_files → all ≡ first ++ own → map entry all ≡ shipped_entries ++ map entry own
+unfolding shipped_entries
 shipped_first first own all are same =
     ap (map entry) same ∙ entries_of_both first own
     ∙ ap (λ l. l ++ map entry own) (entries_of first ∙ ap (map (λ (f : ℕ × PlainModule). record { file = f.0; tree = f.1 })) are)

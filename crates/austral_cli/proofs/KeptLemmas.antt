@@ -1,13 +1,13 @@
 -- Files that are read in order.
-use Rattle.std.proofs.Common.{◌≡◌, ℕ, ◌+◌, ◌<◌, ◌≤◌, List, [], ◌∷◌, ◌++◌, length, get_or, drop, map, Vec, ap, ◌∙◌, sym, refl, subst, inl, inr, append_assoc}
+use Rattle.std.proofs.Common.{◌≡◌, ℕ, suc, ◌+◌, ◌<◌, ◌≤◌, List, [], ◌∷◌, ◌++◌, length, get_or, drop, map, Vec, ap, ◌∙◌, sym, refl, subst, inl, inr, append_assoc}
 use Rattle.std.specs.Global.{Global}
-use Rattle.std.proofs.lemmas.List.{append-nil, drop_all, drop_more}
+use Rattle.std.proofs.lemmas.List.{append-nil, drop_all, drop_more, length-map}
 use Rattle.au_modules.specs.Programs.{entry}
 use Rattle.au_syntax.specs.declared.wholes.FileTree.{FileTree}
 use Rattle.austral_cli.specs.Halts.{bytes_in}
 use Rattle.austral_cli.specs.Programs.{entries}
-use Rattle.austral_cli.specs.Reading.{AreKept, IsKept}
-use Rattle.austral_cli.specs.Trees.{FirstHalts, Halts}
+use Rattle.austral_cli.specs.Reading.{AllPrintSo, AreKept, IsKept}
+use Rattle.austral_cli.specs.Trees.{AreRead, FirstHalts, Halts, ReadFile}
 use Rattle.austral_cli.specs.declared.outcomes.Outcome.{Outcome}
 use Rattle.austral_cli.specs.declared.reading.Printing.{Printing}
 
@@ -65,3 +65,20 @@ kept_all all i trees printings past before =
     let whole = before [] [] (subst (λ l. AreKept i l [] []) (sym none) (kept_none i)) in
     subst (λ l. AreKept 0 (map bytes_in all) l printings) (append-nil trees)
     (subst (λ l. AreKept 0 (map bytes_in all) (trees ++ []) l) (append-nil printings) whole)
+
+-- as many are kept as there are files
+read_length : (file : ℕ) (all : List (List ℕ)) (reads : List ReadFile) → AreRead file all reads → length all ≡ length reads
+read_length file [] [] h = refl
+read_length file [] (one ∷ reads) h = absurd h
+read_length file (bytes ∷ all) [] h = absurd h
+read_length file (bytes ∷ all) (one ∷ reads) h = ap suc (read_length (file + 1) all reads h.1)
+
+print_length : (printings : List Printing) (reads : List ReadFile) → AllPrintSo printings reads → length printings ≡ length reads
+print_length [] [] h = refl
+print_length [] (one ∷ reads) h = absurd h
+print_length (printing ∷ printings) [] h = absurd h
+print_length (printing ∷ printings) (one ∷ reads) h = ap suc (print_length printings reads h.1)
+
+pub kept_length : (file : ℕ) (all : List (Vec ℕ Global)) (trees : List FileTree) (printings : List Printing) → AreKept file (map bytes_in all) trees printings → length all ≡ length printings
+kept_length file all trees printings h =
+    sym (length-map all bytes_in) ∙ read_length file (map bytes_in all) h.0 h.1 ∙ sym (print_length printings h.0 h.3)

@@ -2,6 +2,7 @@ pub mod JobLemmas
 pub mod SinkLemmas
 pub mod ReadLemmas
 pub mod FetchLemmas
+pub mod TreeLemmas
 pub mod HaltLemmas
 pub mod PrintLemmas
 pub mod NameLemmas

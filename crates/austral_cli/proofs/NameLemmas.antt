@@ -3,7 +3,7 @@ use Rattle.std.proofs.Common.{◌≡◌, ℕ, ◌<◌, ◌≤◌, List, [], ◌�
 use Rattle.au_base.specs.Limits.{most_file_bytes}
 use Rattle.au_base.specs.Outside.{Files}
 use Rattle.austral_cli.specs.Halts.{IsUnhad}
-use Rattle.austral_cli.specs.Outcomes.{AreFiles, BytesCome, Comes, FewCome, FilesCome, IsFile, IsFirst, file_limit, files_limit, most_files}
+use Rattle.austral_cli.specs.Outcomes.{AreFiles, BytesCome, Comes, FewCome, IsFile, IsFirst, file_limit}
 use Rattle.austral_cli.specs.declared.outcomes.Outcome.{Outcome}
 use Rattle.austral_cli.specs.declared.outcomes.Outcome.TheVariants as outcome
 use Rattle.austral_cli.proofs.FetchLemmas.{few_had}

@@ -1,5 +1,5 @@
 -- Files that were read come to one thing.
-use Rattle.std.proofs.Common.{◌≡◌, ℕ, true, List, [], ◌∷◌, ◌++◌, length, Option, Some, None, ap, ◌∙◌, sym, refl, subst, arith, ◌⊎◌, inl, inr, slice_get}
+use Rattle.std.proofs.Common.{◌≡◌, ℕ, true, List, [], ◌∷◌, ◌++◌, Option, Some, None, ap, ◌∙◌, sym, refl, subst, ◌⊎◌, inl, inr, slice_get}
 use Rattle.std.specs.Option.{option_map, option_or}
 use Rattle.au_base.specs.declared.places.Pos.{Pos}
 use Rattle.au_base.specs.declared.tokens.Token.{Token}
@@ -11,7 +11,7 @@ use Rattle.au_modules.specs.declared.faults.ModuleFault.TheVariants as modules
 use Rattle.au_modules.specs.Programs as programs
 use Rattle.au_modules.specs.Programs.{Entry, modules_of}
 use Rattle.au_printing.specs.declared.files.First.{First}
-use Rattle.au_printing.specs.Files.{Reads, IsUnfinished, IsStrangePlace}
+use Rattle.au_printing.specs.Files.{Reads, IsStrangePlace}
 use Rattle.au_printing.proofs.FileLaws.{one_file, read_or_unfinished, read_or_strange, unfinished_or_strange, one_strange}
 use Rattle.austral_cli.specs.Outcomes.{BytesCome}
 use Rattle.austral_cli.specs.Programs.{IsUnprinting, PrintingComes, PrintsSo, ReadsCome, entries, import_outcome, judged_by, module_outcome, program_outcome, shipped_entries}
@@ -170,6 +170,7 @@ printing_found (one ∷ next ∷ rest) x h = elim h [
 ]
 
 reads_found : (reads : List ReadFile) (x : Outcome) → ReadsCome reads x → is_of_files x ≡ true
+unfolding program_outcome
 reads_found reads x h = elim h [
   | inl p ↦ judged_found (programs.refusal_of (shipped_entries ++ entries 0 reads)) (importing.refusal_of (modules_of (shipped_entries ++ entries 0 reads))) x p
   | inr p ↦ printing_found reads x p.1

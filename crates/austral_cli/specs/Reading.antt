@@ -11,8 +11,7 @@ use Rattle.austral_cli.specs.declared.outcomes.Outcome.{Outcome}
 use Rattle.austral_cli.specs.declared.outcomes.Outcome.TheVariants as outcome
 use Rattle.austral_cli.specs.declared.reading.Printing.{Printing}
 use Rattle.austral_cli.specs.declared.reading.Printing.TheVariants.{Prints, Stops}
-use Rattle.austral_cli.specs.declared.reading.Sources.{Sources}
-use Rattle.austral_cli.specs.declared.refusals.Refusal.TheVariants.{Byte, Syntax, NotYet, TwiceGiven, NoBody, Unsafe, NoModule, Late, NotVisible, NameTwice, NotDefined, Differs}
+use Rattle.austral_cli.specs.declared.refusals.Refusal.TheVariants.{Syntax}
 
 -- What tokens come to that are the words of no tree within the limits.
 abbrev pub TokensHalt : List Token → Pos → Outcome → Type 0

@@ -1,6 +1,6 @@
 //! What a program of files comes to, in the order of refusals.
 
-ghost use Rattle.std.specs.Prelude.{◌≡◌, ◌≤◌, ◌<◌, All, false, map, length, vec_len, IfOk};
+ghost use Rattle.std.specs.Prelude.{◌≡◌, ◌≤◌, ◌<◌, All, false, map, length, IfOk};
 ghost use Rattle.std.specs.String.{string_bytes};
 ghost use Rattle.au_base.specs.Limits.{most_file_bytes};
 ghost use Rattle.au_base.specs.Outside.{Counts};
@@ -79,7 +79,7 @@ fn few_enough(count: usize) -> Result<(), Halt>
 fn first_of(alloc: Global, all: &[Vec<u8>]) -> Result<First, Halt>
     requires some { 0 < length all.now }
     requires few { length all.now ≤ most_files }
-    requires small { All (λ bytes. vec_len bytes ≤ most_file_bytes) all.now }
+    requires small { All (λ bytes. length bytes.items ≤ most_file_bytes) all.now }
     ensures comes { Says result (λ first. BytesCome (map bytes_in all.now) (outcome.Prints first)) (BytesCome (map bytes_in all.now)) }
     ensures is_read { is_read_halt result ≡ false }
 {

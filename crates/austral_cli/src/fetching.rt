@@ -1,6 +1,6 @@
 //! The bytes of a program's files, in order.
 
-ghost use Rattle.std.specs.Prelude.{◌≡◌, ◌≤◌, map, length, position};
+ghost use Rattle.std.specs.Prelude.{◌≡◌, ◌≤◌, IfOk, map, length, position};
 ghost use Rattle.std.specs.Str.{bytes_eq};
 ghost use Rattle.std.specs.String.{string_bytes};
 ghost use Rattle.au_base.specs.Outside.{Counts};
@@ -11,7 +11,7 @@ ghost use Rattle.austral_cli.specs.Outcomes.{IsFile};
 use crate::halts::{CheckFault, Halt};
 use crate::outcomes::Outcome;
 use au_base::{Fetch, Limit, LimitKind, MOST_FILE_BYTES, Shelf, Text};
-use std::alloc::Global;
+use std::alloc::{AllocError, Global};
 
 /// The bytes of the files of these names, up to the first that can't be had.
 pub fn fetch_all<S: Shelf>(
@@ -55,9 +55,19 @@ fn fetch_next<S: Shelf>(
     ensures files { S.files shelf.new ≡ S.files shelf.old }
 {
     match place_of(before, name) {
-        Some(index) => Ok(all[index].clone()?),
+        Some(index) => {
+            let bytes = copy_of(alloc, all[index].as_slice())?;
+            Ok(bytes)
+        }
         None => fetched(alloc, shelf, name),
     }
+}
+
+/// The same bytes.
+fn copy_of(alloc: Global, bytes: &[u8]) -> Result<Vec<u8>, AllocError>
+    ensures { IfOk result (λ copy. copy.items ≡ bytes.now) }
+{
+    bytes.to_vec(alloc)
 }
 
 /// The index of a name among others.

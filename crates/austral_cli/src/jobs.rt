@@ -1,7 +1,7 @@
 //! What the words of the command line ask for.
 
 ghost use Rattle.std.specs.Prelude.{◌≡◌, ◌<◌, ◌++◌, Err, IfOk, IsTrue, OnOk, false, map, length};
-ghost use Rattle.std.specs.List.{flat_map, list_all};
+ghost use Rattle.std.specs.List.{flat_map, list_all, list_any};
 ghost use Rattle.std.specs.String.{string_bytes};
 ghost use Rattle.austral_cli.specs.Jobs as asked;
 
@@ -60,12 +60,22 @@ fn names_of(alloc: Global, part: &str) -> Result<Vec<&str>, AllocError>
     part.split(',').collect(alloc)
 }
 
+/// Whether one of these names is empty.
+fn has_empty(names: &[&str]) -> bool
+    ensures { result ≡ list_any (λ name. asked.is_empty name.now) names.now }
+{
+    names.iter().any(|name| name.is_empty())
+}
+
 /// Whether a word of these names is a part.
 fn is_part(word: &str, names: &[&str]) -> bool
     requires { map (λ name. name.now) names.now ≡ asked.names_in word.now }
     ensures { result ≡ asked.is_part word.now }
 {
-    !word.as_bytes().starts_with(b"-") && !names.iter().any(|name| name.is_empty())
+    if word.as_bytes().starts_with(b"-") {
+        return false;
+    }
+    !has_empty(names)
 }
 
 /// Puts the names in a part behind others.

@@ -1,6 +1,6 @@
 //! From the trees of files to what the program comes to.
 
-ghost use Rattle.std.specs.Prelude.{◌≡◌, ◌<◌, ◌++◌, List, Some, None, IfOk, false, map, vec_len};
+ghost use Rattle.std.specs.Prelude.{◌≡◌, ◌<◌, ◌++◌, List, Some, None, IfOk, false, map, length};
 ghost use Rattle.au_modules.specs.Programs.{entry};
 ghost use Rattle.austral_cli.specs.Halts.{Says, is_read_halt};
 ghost use Rattle.austral_cli.specs.Programs.{PrintingComes, program_outcome, shipped_entries};
@@ -46,7 +46,7 @@ fn with_shipped(alloc: Global, own: Vec<FileTree>) -> Result<Vec<FileTree>, Memo
 /// What the program prints, whose files print so: the first that doesn't print ends it, and the last one
 /// says what is printed.
 pub fn printed(printings: Vec<Printing>) -> Result<First, Halt>
-    requires { 0 < vec_len printings }
+    requires { 0 < length printings.items }
     ensures comes { (reads : List ReadFile) → AllPrintSo printings.items reads
         → Says result (λ first. PrintingComes reads (outcome.Prints first)) (PrintingComes reads) }
     ensures is_read { is_read_halt result ≡ false }
@@ -57,7 +57,8 @@ pub fn printed(printings: Vec<Printing>) -> Result<First, Halt>
     let mut left = printings;
     match left.pop() {
         Some(Printing::Prints(first)) => Ok(first),
-        _ => unreachable!(),
+        Some(Printing::Stops(_)) => unreachable!(),
+        None => unreachable!(),
     }
 }
 

@@ -1,6 +1,6 @@
 //! From the bytes of files to their trees, and to what they print.
 
-ghost use Rattle.std.specs.Prelude.{◌≡◌, ◌≤◌, ◌<◌, ◌+◌, ◌^◌, All, IfOk, false, map, length, vec_len};
+ghost use Rattle.std.specs.Prelude.{◌≡◌, ◌≤◌, ◌<◌, ◌+◌, ◌^◌, All, IfOk, false, map, length};
 ghost use Rattle.au_base.specs.Limits.{most_file_bytes, most_tokens};
 ghost use Rattle.au_syntax.specs.Files.{says};
 ghost use Rattle.au_syntax.specs.Words.{Spells};
@@ -41,7 +41,7 @@ pub struct Sources {
 /// Reads files in order, up to the first that can't be read. The number of the first is 0.
 pub fn read_all(alloc: Global, all: &[Vec<u8>]) -> Result<Sources, Halt>
     requires few { length all.now ≤ most_files }
-    requires small { All (λ bytes. vec_len bytes ≤ most_file_bytes) all.now }
+    requires small { All (λ bytes. length bytes.items ≤ most_file_bytes) all.now }
     ensures comes { Says result
         (λ sources. AreKept 0 (map bytes_in all.now) sources.trees.items sources.printings.items)
         (FirstHalts 0 (map bytes_in all.now)) }

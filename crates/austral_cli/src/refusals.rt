@@ -75,7 +75,7 @@ fn add_refusal(text: &mut Vec<u8>, refusal: &Refusal, files: &[String]) -> Resul
 
 /// Adds the name of a module, and what is said of it.
 fn add_module(text: &mut Vec<u8>, name: &Name, words: &[u8]) -> Result<(), Memory>
-    ensures { OnOk result (text.new.items ≡ text.old.items ++ codes "module " ++ name.now ++ words.now) }
+    ensures { OnOk result (text.new.items ≡ text.old.items ++ (codes "module " ++ name.now ++ words.now)) }
 {
     text.extend_from_slice(b"module ")?;
     text.extend_from_slice(name.as_bytes())?;
@@ -85,7 +85,7 @@ fn add_module(text: &mut Vec<u8>, name: &Name, words: &[u8]) -> Result<(), Memor
 
 /// Adds a place, and what is said of it.
 fn add_placed(text: &mut Vec<u8>, at: Pos, files: &[String], words: &[u8]) -> Result<(), Memory>
-    ensures { OnOk result (text.new.items ≡ text.old.items ++ lines.place_text (map string_bytes files.now) at ++ words.now) }
+    ensures { OnOk result (text.new.items ≡ text.old.items ++ (lines.place_text (map string_bytes files.now) at ++ words.now)) }
 {
     add_place(text, at, files)?;
     text.extend_from_slice(words)?;
@@ -100,7 +100,7 @@ fn add_naming(
     words: &[u8],
     name: &Name,
 ) -> Result<(), Memory>
-    ensures { OnOk result (text.new.items ≡ text.old.items ++ lines.place_text (map string_bytes files.now) at ++ words.now ++ name.now) }
+    ensures { OnOk result (text.new.items ≡ text.old.items ++ (lines.place_text (map string_bytes files.now) at ++ words.now ++ name.now)) }
 {
     add_placed(text, at, files, words)?;
     text.extend_from_slice(name.as_bytes())?;
@@ -109,8 +109,8 @@ fn add_naming(
 
 /// Adds the place of an import, and the name of a module that stands later.
 fn add_late(text: &mut Vec<u8>, at: Pos, files: &[String], name: &Name) -> Result<(), Memory>
-    ensures { OnOk result (text.new.items ≡ text.old.items ++ lines.place_text (map string_bytes files.now) at
-        ++ codes ": module " ++ name.now ++ codes " stands later") }
+    ensures { OnOk result (text.new.items ≡ text.old.items ++ (lines.place_text (map string_bytes files.now) at
+        ++ codes ": module " ++ name.now ++ codes " stands later")) }
 {
     add_naming(text, at, files, b": module ", name)?;
     text.extend_from_slice(b" stands later")?;
@@ -125,8 +125,8 @@ fn add_differing(
     files: &[String],
     name: &Name,
 ) -> Result<(), Memory>
-    ensures { OnOk result (text.new.items ≡ text.old.items ++ lines.place_text (map string_bytes files.now) at
-        ++ codes ": differs from " ++ lines.place_text (map string_bytes files.now) other ++ codes ": " ++ name.now) }
+    ensures { OnOk result (text.new.items ≡ text.old.items ++ (lines.place_text (map string_bytes files.now) at
+        ++ codes ": differs from " ++ lines.place_text (map string_bytes files.now) other ++ codes ": " ++ name.now)) }
 {
     add_placed(text, at, files, b": differs from ")?;
     add_naming(text, other, files, b": ", name)

@@ -5,4 +5,4 @@ use Rattle.austral_cli.specs.Jobs.{names_in}
 use Rattle.austral_cli.proofs.jobs.push_part.Given as goal
 
 abbrev pub invariant-loop-name : goal.invariant-loop-name
-invariant-loop-name l = map string_bytes l.files.items ++ map (λ name. name.now) (drop l.name-index l.names.items) ≡ map string_bytes l.fn.files.items ++ names_in l.word
+invariant-loop-name l = map string_bytes l.files.items ++ map (λ name. name.now) (drop l.name-index l.name-items) ≡ map string_bytes l.fn.files.items ++ names_in l.word
