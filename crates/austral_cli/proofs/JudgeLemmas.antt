@@ -64,8 +64,12 @@ entries_of_both : (first rest : List FileTree) → map entry (first ++ rest) ≡
 entries_of_both [] rest = refl
 entries_of_both (f ∷ first) rest = ap (λ l. entry f ∷ l) (entries_of_both first rest)
 
-pub shipped_first : (first own all : List FileTree) → map file_says first ≡ shipped_files → all ≡ first ++ own → map entry all ≡ shipped_entries ++ map entry own
-unfolding shipped_entries
-shipped_first first own all are same =
+-- files that say what a list does, and others behind them
+listed_first : (list : List (ℕ × PlainModule)) (first own all : List FileTree) → map file_says first ≡ list → all ≡ first ++ own → map entry all ≡ map (λ (f : ℕ × PlainModule). record { file = f.0; tree = f.1 }) list ++ map entry own
+listed_first list first own all are same =
     ap (map entry) same ∙ entries_of_both first own
     ∙ ap (λ l. l ++ map entry own) (entries_of first ∙ ap (map (λ (f : ℕ × PlainModule). record { file = f.0; tree = f.1 })) are)
+
+pub shipped_first : (first own all : List FileTree) → map file_says first ≡ shipped_files → all ≡ first ++ own → map entry all ≡ shipped_entries ++ map entry own
+unfolding shipped_entries
+shipped_first first own all are same = listed_first shipped_files first own all are same
