@@ -1,6 +1,13 @@
 pub mod JobLemmas
-pub mod ComesLemmas
 pub mod SinkLemmas
-pub mod ArisesLemmas
-pub mod DueLemmas
 pub mod ReadLemmas
+pub mod FetchLemmas
+pub mod TreeLemmas
+pub mod HaltLemmas
+pub mod PrintLemmas
+pub mod NameLemmas
+pub mod DueLemmas
+pub mod KeptLemmas
+pub mod JudgeLemmas
+pub mod ComesLemmas
+pub mod ArisesLemmas

@@ -1,18 +1,18 @@
 -- How a call ends, and what it leaves on the sinks.
-use Rattle.std.specs.Prelude.{◌≡◌, ◌<◌, ◌⊎◌, ℕ, Bool, true, false, List, Option, IfSome, Result, Ok, Err}
+use Rattle.std.specs.Prelude.{◌≡◌, ◌⊎◌, ℕ, Bool, true, false, List, Option, IfSome, Result, Ok, Err}
 use Rattle.au_base.specs.declared.limits.Limit.{Limit}
 use Rattle.au_base.specs.declared.statuses.Status.{Status}
 use Rattle.au_base.specs.declared.statuses.Status.TheVariants as status
 use Rattle.au_base.specs.Outside.{Files, Adds, AddsFront, HasRisen}
 use Rattle.austral_cli.specs.Outcomes.{Due, Owes, Arises, due_line, printed}
-use Rattle.austral_cli.specs.Lines.{refusal_place, refusal_line, limit_line, missing_line, read_fault_line}
+use Rattle.austral_cli.specs.Lines.{refusal_line, limit_line, missing_line, read_fault_line}
 use Rattle.std.specs.List.{flat_map}
 use Rattle.au_printing.specs.declared.files.First.{First}
 use Rattle.austral_cli.specs.declared.refusals.Refusal.{Refusal}
 use Rattle.austral_cli.specs.declared.answering.AnswerFault.{AnswerFault}
 use Rattle.austral_cli.specs.declared.answering.AnswerFault.TheVariants as answer
-use Rattle.austral_cli.specs.declared.checking.CheckFault.{CheckFault}
-use Rattle.austral_cli.specs.declared.checking.CheckFault.TheVariants as fault
+use Rattle.austral_cli.specs.declared.halts.CheckFault.{CheckFault}
+use Rattle.austral_cli.specs.declared.halts.CheckFault.TheVariants as fault
 use Rattle.austral_cli.specs.declared.outcomes.Outcome.{Outcome}
 use Rattle.austral_cli.specs.declared.outcomes.Outcome.TheVariants as outcome
 
@@ -56,14 +56,6 @@ is_missing (outcome.Missing name) = true
 is_missing (outcome.Passes limit) = false
 is_missing (outcome.Refused refusal) = false
 is_missing (outcome.Prints first) = false
-
--- The place of a refusal is in one of so many files.
-abbrev pub IsPlaced : ℕ → Outcome → Type 0
-IsPlaced count outcome.NoJob = Unit {0}
-IsPlaced count (outcome.Missing name) = Unit {0}
-IsPlaced count (outcome.Passes limit) = Unit {0}
-IsPlaced count (outcome.Refused refusal) = (refusal_place refusal).file < count
-IsPlaced count (outcome.Prints first) = Unit {0}
 
 -- One sink failed: a front of what is due stands on each, and where `out` failed `err` is as it was.
 pub record IsCut (due : Due) (out out' err err' : Option (List ℕ)) (faults faults' errors errors' : ℕ) : Type 0 where

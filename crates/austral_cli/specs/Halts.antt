@@ -1,22 +1,29 @@
--- Why a program has no tree.
-use Rattle.std.specs.Prelude.{ℕ, Bool, false, List, [], ◌∷◌, Option, Result, Ok, Err}
+-- Why a program prints nothing.
+use Rattle.std.specs.Prelude.{◌≡◌, ℕ, Bool, false, List, Option, Some, None, IfSome, Result, Ok, Err, Vec}
+use Rattle.std.specs.Global.{Global}
 use Rattle.au_base.specs.Outside.{Files}
 use Rattle.au_lexer.specs.declared.lexing.LexFault.{LexFault}
 use Rattle.au_lexer.specs.declared.lexing.LexFault.TheVariants as lexing
-use Rattle.au_printing.specs.declared.faults.ParseFault.{ParseFault}
-use Rattle.au_printing.specs.declared.faults.ParseFault.TheVariants as parsing
 use Rattle.austral_cli.specs.Calls.{AreTold, is_read}
-use Rattle.austral_cli.specs.Outcomes.{Comes}
-use Rattle.austral_cli.specs.declared.checking.CheckFault.TheVariants as fault
-use Rattle.austral_cli.specs.declared.checking.Halt.{Halt}
-use Rattle.austral_cli.specs.declared.checking.Halt.TheVariants as halt
+use Rattle.austral_cli.specs.Outcomes.{AreFiles, Comes, FewCome, IsTooLarge, file_limit}
+use Rattle.austral_cli.specs.declared.halts.CheckFault.TheVariants as fault
+use Rattle.austral_cli.specs.declared.halts.Halt.{Halt}
+use Rattle.austral_cli.specs.declared.halts.Halt.TheVariants as halt
 use Rattle.austral_cli.specs.declared.outcomes.Outcome.{Outcome}
 use Rattle.austral_cli.specs.declared.outcomes.Outcome.TheVariants as outcome
-use Rattle.austral_cli.specs.declared.refusals.Refusal.TheVariants.{Byte, NotYet}
+use Rattle.austral_cli.specs.declared.refusals.Refusal.TheVariants.{Byte}
 
--- The program of one file, of those that are told, comes to this.
-abbrev pub ComesTo : Option Files → List ℕ → Outcome → Type 0
-ComesTo told name arisen = (files : Files) × AreTold told files × Comes files (name ∷ []) arisen
+-- The program of files of these names, of those that are told, comes to this.
+abbrev pub ComesTo : Option Files → List (List ℕ) → Outcome → Type 0
+ComesTo told names arisen = (files : Files) × AreTold told files × Comes files names arisen
+
+-- The same, where the files are as few as they may be.
+abbrev pub FewComeTo : Option Files → List (List ℕ) → Outcome → Type 0
+FewComeTo told names arisen = (files : Files) × AreTold told files × FewCome files names arisen
+
+-- The files of these names, of those that are told, have these bytes.
+abbrev pub AreFilesOf : Option Files → List (List ℕ) → List (List ℕ) → Type 0
+AreFilesOf told names all = (files : Files) × AreTold told files × AreFiles files names all
 
 -- What a step says: of the value that it gave, or of what the program comes to where that is known.
 abbrev pub Says : {T : Type 0} → Result T Halt → (T → Type 0) → (Outcome → Type 0) → Type 0
@@ -36,8 +43,30 @@ lex_halt (lexing.Byte at) = halt.Known (outcome.Refused (Byte at))
 lex_halt (lexing.Limit limit) = halt.Known (outcome.Passes limit)
 lex_halt lexing.Memory = halt.Unknown fault.Memory
 
--- what a program comes to whose tokens have a tree, and don't print
-abbrev pub printing_halt : ParseFault → Halt
-printing_halt (parsing.Syntax at) = halt.Known (outcome.Refused (NotYet at))
-printing_halt (parsing.NotYet at) = halt.Known (outcome.Refused (NotYet at))
-printing_halt parsing.Memory = halt.Unknown fault.Memory
+-- a cause that is known, or want of memory
+abbrev pub known_or_memory : Option Outcome → Halt
+known_or_memory (Some arisen) = halt.Known arisen
+known_or_memory None = halt.Unknown fault.Memory
+
+-- A file can't be had, for this.
+abbrev pub IsUnhad : Files → List ℕ → Outcome → Type 0
+IsUnhad files name (outcome.Missing other) = (name ≡ other) × (files name ≡ None)
+IsUnhad files name (outcome.Passes limit) = (limit ≡ file_limit) × IsTooLarge files name
+IsUnhad files name outcome.NoJob = ⊥
+IsUnhad files name (outcome.Refused refusal) = ⊥
+IsUnhad files name (outcome.Prints first) = ⊥
+
+-- The files of which one has what was found under its name, as the files that are told do: Q holds of them.
+abbrev pub Tells : Option Files → List ℕ → (Files → Type 0) → Type 0
+Tells told name Q =
+    (found : Option (List ℕ)) × IfSome told (λ known. known name ≡ found) × ((files : Files) → files name ≡ found → Q files)
+
+-- Whichever files have these bytes under these names: some files have too, and Q holds of them.
+abbrev pub Extends : Option Files → List (List ℕ) → List (List ℕ) → (Files → Type 0) → Type 0
+Extends told names all Q =
+    (files : Files) → AreTold told files → AreFiles files names all
+    → (more : Files) × AreTold told more × AreFiles more names all × Q more
+
+-- the bytes in vectors
+abbrev pub bytes_in : Vec ℕ Global → List ℕ
+bytes_in bytes = bytes.items

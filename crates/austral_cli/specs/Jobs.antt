@@ -1,6 +1,6 @@
 -- What words ask for.
-use Rattle.std.specs.Prelude.{◌≡◌, ℕ, Bool, not, nat_eq, length, ◌==◌, ◌&&◌, IsTrue, List, [], ◌∷◌, map, codes}
-use Rattle.std.specs.List.{list_any, starts_with}
+use Rattle.std.specs.Prelude.{◌≡◌, ℕ, Bool, not, nat_eq, length, ◌==◌, ◌&&◌, IsTrue, List, ◌∷◌, map, codes}
+use Rattle.std.specs.List.{list_all, list_any, flat_map, slice_split, starts_with}
 use Rattle.std.specs.String.{string_bytes}
 use Rattle.austral_cli.specs.declared.jobs.Command.{Command}
 use Rattle.austral_cli.specs.declared.jobs.Command.TheVariants.{Run}
@@ -16,14 +16,11 @@ abbrev pub task_of : Job → Task
 task_of job = record { command = job.command; files = map string_bytes job.files.items }
 
 -- the names in a part: what stands between its commas
-unfoldable pub names_in : List ℕ → List (List ℕ)
-names_in [] = [] ∷ []
-names_in (byte ∷ rest) = if byte == 44 then [] ∷ names_in rest else onto byte (names_in rest)
-  where
-    -- a byte before those of the first name
-    onto : ℕ → List (List ℕ) → List (List ℕ)
-    onto byte [] = (byte ∷ []) ∷ []
-    onto byte (name ∷ names) = (byte ∷ name) ∷ names
+abbrev pub names_in : List ℕ → List (List ℕ)
+names_in word = slice_split (λ byte. byte == 44) word
+
+abbrev pub is_empty : List ℕ → Bool
+is_empty name = length name == 0
 
 -- whether a word is a part: it doesn't begin with `-`, and none of its names is empty
 abbrev pub is_part : List ℕ → Bool

@@ -5,3 +5,4 @@ pub mod Programs
 pub mod Outcomes
 pub mod Calls
 pub mod Halts
+pub mod Reading

@@ -1,17 +1,13 @@
 -- What words and files come to, and what is due for it.
-use Rattle.std.specs.Prelude.{◌≡◌, ℕ, ◌<◌, ◌≤◌, ◌⊎◌, List, [], ◌∷◌, ◌++◌, length, Some, None, if◌then◌else◌}
+use Rattle.std.specs.Prelude.{◌≡◌, ℕ, ◌<◌, ◌≤◌, ◌⊎◌, List, [], ◌∷◌, ◌++◌, length, slice_get, Some, None, if◌then◌else◌}
 use Rattle.std.specs.List.{flat_map}
 use Rattle.au_base.specs.declared.limits.Limit.{Limit}
 use Rattle.au_base.specs.declared.limits.LimitKind.TheVariants as kind
 use Rattle.au_base.specs.declared.statuses.Status.{Status}
 use Rattle.au_base.specs.declared.statuses.Status.TheVariants as status
-use Rattle.au_base.specs.declared.tokens.Token.{Token}
 use Rattle.au_base.specs.Limits.{most_file_bytes}
 use Rattle.au_base.specs.Outside.{Files}
-use Rattle.au_base.specs.Places.{place_after}
 use Rattle.au_printing.specs.declared.files.Print.{Print}
-use Rattle.au_lexer.specs.Cut.{Cut, IsStray, PassesLimit}
-use Rattle.au_lexer.specs.Passing.{IsWithinLimits}
 use Rattle.austral_cli.specs.Jobs.{IsJob, IsNoJob}
 use Rattle.austral_cli.specs.Programs.{ReadsCome}
 use Rattle.austral_cli.specs.Trees.{AreRead, FirstHalts, HasNoTree, HasTokens, ReadFile}
@@ -19,7 +15,6 @@ use Rattle.austral_cli.specs.Lines.{words_line, missing_line, limit_line, refusa
 use Rattle.austral_cli.specs.declared.jobs.Command.TheVariants.{Run}
 use Rattle.austral_cli.specs.declared.outcomes.Outcome.{Outcome}
 use Rattle.austral_cli.specs.declared.outcomes.Outcome.TheVariants as outcome
-use Rattle.austral_cli.specs.declared.refusals.Refusal.TheVariants.{Byte}
 
 -- the limit of a file's bytes, with the one count that passes it
 abbrev pub file_limit : Limit

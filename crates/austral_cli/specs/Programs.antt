@@ -1,7 +1,7 @@
 -- What the files of a program come to once they are read: they are gathered into modules behind the shipped
 -- ones, the names and promises of the modules are judged, and then each file in order is one that prints.
 use Rattle.std.specs.Prelude.{◌≡◌, ◌⊎◌, ◌+◌, ℕ, List, [], ◌∷◌, ◌++◌, map, Option, None, Some}
-use Rattle.std.specs.Option.{option_map, option_or}
+use Rattle.std.specs.Option.{option_or}
 use Rattle.au_printing.specs.declared.files.First.{First}
 use Rattle.au_printing.specs.Files.{Reads}
 use Rattle.au_modules.specs.declared.faults.ModuleFault.{ModuleFault}
@@ -24,7 +24,7 @@ entries file [] = []
 entries file (one ∷ rest) = record { file = file; tree = one.tree } ∷ entries (file + 1) rest
 
 -- the files that are shipped
-abbrev pub shipped_entries : List Entry
+unfoldable pub shipped_entries : List Entry
 shipped_entries = map (λ (f : ℕ × PlainModule). record { file = f.0; tree = f.1 }) shipped_files
 
 -- what a program comes to whose files aren't those of modules: want of memory is no cause of the files
@@ -51,7 +51,7 @@ judged_by outcome_of None = None
 judged_by outcome_of (Some fault) = outcome_of fault
 
 -- the files are those of modules, and then names and promises are good, or the program comes to this
-abbrev pub program_outcome : List Entry → Option Outcome
+unfoldable pub program_outcome : List Entry → Option Outcome
 program_outcome files =
     option_or (judged_by module_outcome (programs.refusal_of files))
     (judged_by import_outcome (importing.refusal_of (modules_of files)))

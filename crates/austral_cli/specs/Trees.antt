@@ -7,7 +7,7 @@ use Rattle.au_base.specs.declared.tokens.Token.{Token}
 use Rattle.au_base.specs.Places.{place_after}
 use Rattle.au_lexer.specs.Cut.{Cut, IsStray, PassesLimit}
 use Rattle.au_lexer.specs.Passing.{IsWithinLimits}
-use Rattle.au_printing.specs.Files.{Reads, IsUnfinished, IsStrangePlace}
+use Rattle.au_printing.specs.Files.{IsUnfinished, IsStrangePlace}
 use Rattle.au_read_modules.specs.ModuleReading.{file_at}
 use Rattle.au_reading.specs.Bounds.{ModulePasses, usual}
 use Rattle.au_reading.specs.declared.faults.Fault.TheVariants as reading
@@ -17,7 +17,7 @@ use Rattle.au_syntax.specs.Sizes.{fits}
 use Rattle.au_syntax.specs.Words.{Spells}
 use Rattle.austral_cli.specs.declared.outcomes.Outcome.{Outcome}
 use Rattle.austral_cli.specs.declared.outcomes.Outcome.TheVariants as outcome
-use Rattle.austral_cli.specs.declared.refusals.Refusal.TheVariants.{Byte, Syntax, NotYet}
+use Rattle.austral_cli.specs.declared.refusals.Refusal.TheVariants.{Byte, Syntax}
 
 -- The tokens are the words of a tree within the limits.
 abbrev pub HasTree : List Token → Type 0

@@ -1,14 +1,14 @@
 //! What a call writes, and the status with which it ends.
 
-ghost use Rattle.std.specs.Prelude.{◌≡◌, OnOk, OnErr, IfOk, IfErr, IsOkUnless, map, length, if◌then◌else◌};
+ghost use Rattle.std.specs.Prelude.{◌≡◌, OnOk, OnErr, IfOk, IfErr, IsOkUnless, map, if◌then◌else◌};
 ghost use Rattle.std.specs.List.{flat_map};
 ghost use Rattle.std.specs.String.{string_bytes};
 ghost use Rattle.au_base.specs.Outside.{HasRisen, Adds, AddsFront};
-ghost use Rattle.austral_cli.specs.Calls.{Fails, IsPlaced, Pays};
+ghost use Rattle.austral_cli.specs.Calls.{Fails, Pays};
 ghost use Rattle.austral_cli.specs.Outcomes.{printed, due_of};
 
 use crate::outcomes::Outcome;
-use crate::refusals::{limit_text, missing_text, refusal_text};
+use crate::refusals::{limit_line, missing_line, refusal_line};
 use au_base::{Memory, Sink, Status, WriteFault, put_all};
 use au_printing::{First, Print};
 use std::alloc::Global;
@@ -98,7 +98,6 @@ pub fn answer<O: Sink, E: Sink>(
     out: &mut O,
     err: &mut E,
 ) -> Result<Status, AnswerFault>
-    requires { IsPlaced (length names.now) outcome.now }
     ensures pays { IfOk result (λ status. Pays (due_of (map string_bytes names.now) outcome.now) status
         (O.written out.old) (O.written out.new) (E.written err.old) (E.written err.new)) }
     ensures quiet { OnOk result ((O.faults out.new ≡ O.faults out.old) × (E.faults err.new ≡ E.faults err.old)) }
@@ -109,15 +108,15 @@ pub fn answer<O: Sink, E: Sink>(
     match outcome {
         Outcome::NoJob => say(err, WORDS_LINE, Status::Words),
         Outcome::Missing(name) => {
-            let line = missing_text(alloc, name.as_bytes())?;
+            let line = missing_line(alloc, name.as_bytes())?;
             say(err, line.as_slice(), Status::Missing)
         }
         Outcome::Passes(limit) => {
-            let line = limit_text(alloc, limit)?;
+            let line = limit_line(alloc, limit)?;
             say(err, line.as_slice(), Status::Limit)
         }
         Outcome::Refused(refusal) => {
-            let line = refusal_text(alloc, refusal, names)?;
+            let line = refusal_line(alloc, refusal, names)?;
             say(err, line.as_slice(), Status::Refused)
         }
         Outcome::Prints(first) => {

@@ -1,6 +1,7 @@
 //! What the words of the command line ask for.
 
-ghost use Rattle.std.specs.Prelude.{◌≡◌, Err, IfOk, map, length};
+ghost use Rattle.std.specs.Prelude.{◌≡◌, ◌<◌, ◌++◌, Err, IfOk, IsTrue, OnOk, false, map, length};
+ghost use Rattle.std.specs.List.{flat_map, list_all, list_any};
 ghost use Rattle.std.specs.String.{string_bytes};
 ghost use Rattle.austral_cli.specs.Jobs as asked;
 
@@ -52,23 +53,70 @@ impl<T: Drop> From<AllocFailed<T>> for WordsFault {
     }
 }
 
-/// Whether a word is the name of one file.
-fn is_file_name(word: &[u8]) -> bool
-    ensures { result ≡ asked.is_file_name word.now }
+/// The names in a part: what stands between its commas.
+fn names_of(alloc: Global, part: &str) -> Result<Vec<&str>, AllocError>
+    ensures { IfOk result (λ names. map (λ name. name.now) names.items ≡ asked.names_in part.now) }
 {
-    !word.is_empty() && !word.starts_with(b"-") && !word.contains(&b',')
+    part.split(',').collect(alloc)
 }
 
-/// The job that the words ask for: `run` and the name of one file.
+/// Whether one of these names is empty.
+fn has_empty(names: &[&str]) -> bool
+    ensures { result ≡ list_any (λ name. asked.is_empty name.now) names.now }
+{
+    names.iter().any(|name| name.is_empty())
+}
+
+/// Whether a word of these names is a part.
+fn is_part(word: &str, names: &[&str]) -> bool
+    requires { map (λ name. name.now) names.now ≡ asked.names_in word.now }
+    ensures { result ≡ asked.is_part word.now }
+{
+    if word.as_bytes().starts_with(b"-") {
+        return false;
+    }
+    !has_empty(names)
+}
+
+/// Puts the names in a part behind others.
+fn push_part(alloc: Global, files: &mut Vec<String>, word: &str) -> Result<(), WordsFault>
+    ensures names { OnOk result (map string_bytes files.new.items ≡ map string_bytes files.old.items ++ asked.names_in word.now) }
+    ensures part { OnOk result (IsTrue (asked.is_part word.now)) }
+    ensures no_part { result ≡ Err WordsFault.NoJob → asked.is_part word.now ≡ false }
+{
+    let names = names_of(alloc, word)?;
+    if !is_part(word, names.as_slice()) {
+        return Err(WordsFault::NoJob);
+    }
+    for name in &names {
+        let file = String::from_str(alloc, *name)?;
+        files.push(file)?;
+    }
+    Ok(())
+}
+
+/// The names in parts, in order.
+fn files_of(alloc: Global, parts: &[String]) -> Result<Vec<String>, WordsFault>
+    ensures names { IfOk result (λ files. map string_bytes files.items ≡ flat_map asked.names_in (map string_bytes parts.now)) }
+    ensures parts { OnOk result (IsTrue (list_all asked.is_part (map string_bytes parts.now))) }
+    ensures no_part { result ≡ Err WordsFault.NoJob → list_all asked.is_part (map string_bytes parts.now) ≡ false }
+{
+    let mut files = Vec::new(alloc);
+    for part in parts {
+        push_part(alloc, &mut files, part.as_str())?;
+    }
+    Ok(files)
+}
+
+/// The job that the words ask for: `run` and parts, at least one.
 pub fn read_words(alloc: Global, words: &[String]) -> Result<Job, WordsFault>
     ensures job { IfOk result (λ job. asked.IsJob (map string_bytes words.now) (asked.task_of job)) }
-    ensures one_file { IfOk result (λ job. length job.files.items ≡ 1) }
+    ensures some { IfOk result (λ job. 0 < length job.files.items) }
     ensures no_job { result ≡ Err WordsFault.NoJob → asked.IsNoJob (map string_bytes words.now) }
 {
     match words {
-        [command, file] if command.as_str() == "run" && is_file_name(file.as_bytes()) => {
-            let mut files = Vec::new(alloc);
-            files.push(file.clone()?)?;
+        [command, _, ..] if command.as_str() == "run" => {
+            let files = files_of(alloc, &words[1..])?;
             Ok(Job {
                 command: Command::Run,
                 files,

@@ -4,8 +4,12 @@
 mod adapters;
 mod answering;
 mod checking;
+mod fetching;
+mod halts;
 mod jobs;
+mod judging;
 mod outcomes;
+mod reading;
 mod refusals;
 mod top;
 

@@ -1,15 +1,15 @@
 //! Refusals, and the lines on `err`.
 
-ghost use Rattle.std.specs.Prelude.{◌≡◌, ◌<◌, ◌++◌, IfOk, map, length};
+ghost use Rattle.std.specs.Prelude.{◌≡◌, ◌++◌, ◌∷◌, [], IfOk, OnOk, codes, map, slice_get, unwrap_or};
 ghost use Rattle.std.specs.String.{string_bytes};
 ghost use Rattle.austral_cli.specs.Lines as lines;
 
-use au_base::{Limit, LimitKind, Memory, Pos};
+use au_base::{Limit, LimitKind, Memory, Name, Pos};
 use itoa::Buffer;
 use std::alloc::{AllocError, Global};
 
 /// Why a program is refused.
-#[derive(Clone, Copy, Debug, PartialEq, Eq)]
+#[derive(Debug, Drop)]
 pub enum Refusal {
     /// The byte at this place begins no token.
     Byte(Pos),
@@ -17,47 +17,142 @@ pub enum Refusal {
     Syntax(Pos),
     /// The program needs something that is not built yet.
     NotYet(Pos),
-}
-
-impl Refusal {
-    /// The place of the refusal.
-    pub fn place(&self) -> Pos
-        ensures { result ≡ lines.refusal_place self.now }
-    {
-        match self {
-            Refusal::Byte(at) => *at,
-            Refusal::Syntax(at) => *at,
-            Refusal::NotYet(at) => *at,
-        }
-    }
-
-    /// What the line says behind the place.
-    fn word(&self) -> &'static [u8]
-        ensures { result.now ≡ lines.refusal_word self.now }
-    {
-        match self {
-            Refusal::Byte(_) => b": byte",
-            Refusal::Syntax(_) => b": syntax",
-            Refusal::NotYet(_) => b": not yet",
-        }
-    }
+    /// A part of the module of this name is given twice, or it's the name of a shipped module.
+    TwiceGiven(Name),
+    /// The module of this name has an interface and no body.
+    NoBody(Name),
+    /// A module has the pragma of unsafe modules, at this place.
+    Unsafe(Pos),
+    /// The module that is imported at this place isn't there.
+    NoModule(Pos, Name),
+    /// The module that is imported at this place stands later, or is the module itself.
+    Late(Pos, Name),
+    /// The name at this place means nothing there.
+    NotVisible(Pos, Name),
+    /// The name at this place means something else already.
+    NameTwice(Pos, Name),
+    /// What the interface declares at this place isn't defined by the body.
+    NotDefined(Pos, Name),
+    /// What the interface declares at the first place, the body defines differently at the second.
+    Differs(Pos, Pos, Name),
 }
 
 /// The line of a refusal on `err`. The files are those of the program, in order.
-pub fn refusal_text(alloc: Global, refusal: &Refusal, files: &[String]) -> Result<Vec<u8>, Memory>
-    requires { (lines.refusal_place refusal.now).file < length files.now }
+pub fn refusal_line(alloc: Global, refusal: &Refusal, files: &[String]) -> Result<Vec<u8>, Memory>
     ensures { IfOk result (λ text. text.items ≡ lines.refusal_line (map string_bytes files.now) refusal.now) }
 {
-    let at = refusal.place();
-    let mut text = Vec::from_slice(alloc, files[at.file as usize].as_bytes())?;
+    let mut text = Vec::new(alloc);
+    add_refusal(&mut text, refusal, files)?;
+    text.extend_from_slice(b"\n")?;
+    Ok(text)
+}
+
+/// Adds the line of a refusal, without its end.
+fn add_refusal(text: &mut Vec<u8>, refusal: &Refusal, files: &[String]) -> Result<(), Memory>
+    ensures { OnOk result (text.new.items ≡ text.old.items ++ lines.refusal_text (map string_bytes files.now) refusal.now) }
+{
+    match refusal {
+        Refusal::Byte(at) => add_placed(text, *at, files, b": byte"),
+        Refusal::Syntax(at) => add_placed(text, *at, files, b": syntax"),
+        Refusal::NotYet(at) => add_placed(text, *at, files, b": not yet"),
+        Refusal::TwiceGiven(name) => add_module(text, name, b": given twice"),
+        Refusal::NoBody(name) => add_module(text, name, b": no body"),
+        Refusal::Unsafe(at) => add_placed(text, *at, files, b": unsafe module"),
+        Refusal::NoModule(at, name) => add_naming(text, *at, files, b": no module ", name),
+        Refusal::Late(at, name) => add_late(text, *at, files, name),
+        Refusal::NotVisible(at, name) => add_naming(
+            text,
+            *at,
+            files,
+            b": name not visible: ",
+            name,
+        ),
+        Refusal::NameTwice(at, name) => add_naming(text, *at, files, b": name twice: ", name),
+        Refusal::NotDefined(at, name) => add_naming(text, *at, files, b": not defined: ", name),
+        Refusal::Differs(at, other, name) => add_differing(text, *at, *other, files, name),
+    }
+}
+
+/// Adds the name of a module, and what is said of it.
+fn add_module(text: &mut Vec<u8>, name: &Name, words: &[u8]) -> Result<(), Memory>
+    ensures { OnOk result (text.new.items ≡ text.old.items ++ (codes "module " ++ name.now ++ words.now)) }
+{
+    text.extend_from_slice(b"module ")?;
+    text.extend_from_slice(name.as_bytes())?;
+    text.extend_from_slice(words)?;
+    Ok(())
+}
+
+/// Adds a place, and what is said of it.
+fn add_placed(text: &mut Vec<u8>, at: Pos, files: &[String], words: &[u8]) -> Result<(), Memory>
+    ensures { OnOk result (text.new.items ≡ text.old.items ++ (lines.place_text (map string_bytes files.now) at ++ words.now)) }
+{
+    add_place(text, at, files)?;
+    text.extend_from_slice(words)?;
+    Ok(())
+}
+
+/// Adds a place, and what is said of a name there.
+fn add_naming(
+    text: &mut Vec<u8>,
+    at: Pos,
+    files: &[String],
+    words: &[u8],
+    name: &Name,
+) -> Result<(), Memory>
+    ensures { OnOk result (text.new.items ≡ text.old.items ++ (lines.place_text (map string_bytes files.now) at ++ words.now ++ name.now)) }
+{
+    add_placed(text, at, files, words)?;
+    text.extend_from_slice(name.as_bytes())?;
+    Ok(())
+}
+
+/// Adds the place of an import, and the name of a module that stands later.
+fn add_late(text: &mut Vec<u8>, at: Pos, files: &[String], name: &Name) -> Result<(), Memory>
+    ensures { OnOk result (text.new.items ≡ text.old.items ++ (lines.place_text (map string_bytes files.now) at
+        ++ codes ": module " ++ name.now ++ codes " stands later")) }
+{
+    add_naming(text, at, files, b": module ", name)?;
+    text.extend_from_slice(b" stands later")?;
+    Ok(())
+}
+
+/// Adds the place of a declaration, that of the definition that differs from it, and the name.
+fn add_differing(
+    text: &mut Vec<u8>,
+    at: Pos,
+    other: Pos,
+    files: &[String],
+    name: &Name,
+) -> Result<(), Memory>
+    ensures { OnOk result (text.new.items ≡ text.old.items ++ (lines.place_text (map string_bytes files.now) at
+        ++ codes ": differs from " ++ lines.place_text (map string_bytes files.now) other ++ codes ": " ++ name.now)) }
+{
+    add_placed(text, at, files, b": differs from ")?;
+    add_naming(text, other, files, b": ", name)
+}
+
+/// Adds a place, with the name of its file.
+fn add_place(text: &mut Vec<u8>, at: Pos, files: &[String]) -> Result<(), Memory>
+    ensures { OnOk result (text.new.items ≡ text.old.items ++ lines.place_text (map string_bytes files.now) at) }
+{
     let mut digits = Buffer::new();
+    text.extend_from_slice(name_of(files, at.file))?;
     text.extend_from_slice(b":")?;
     text.extend_from_slice(digits.format(at.line).as_bytes())?;
     text.extend_from_slice(b":")?;
     text.extend_from_slice(digits.format(at.column).as_bytes())?;
-    text.extend_from_slice(refusal.word())?;
-    text.extend_from_slice(b"\n")?;
-    Ok(text)
+    Ok(())
+}
+
+/// The name of the file of a number, or no bytes.
+fn name_of(files: &[String], file: u16) -> &[u8]
+    ensures { result.now ≡ unwrap_or (slice_get (map string_bytes files.now) file) [] }
+{
+    match files.get(file as usize) {
+        Some(name) => name.as_bytes(),
+        None => b"",
+    }
 }
 
 /// What a limit counts, as its line says it.
@@ -84,7 +179,7 @@ fn limit_word(kind: LimitKind) -> &'static [u8]
 }
 
 /// The line of a limit that is passed.
-pub fn limit_text(alloc: Global, limit: &Limit) -> Result<Vec<u8>, Memory>
+pub fn limit_line(alloc: Global, limit: &Limit) -> Result<Vec<u8>, Memory>
     ensures { IfOk result (λ text. text.items ≡ lines.limit_line limit.now) }
 {
     let mut text = Vec::from_slice(alloc, b"limit: ")?;
@@ -99,7 +194,7 @@ pub fn limit_text(alloc: Global, limit: &Limit) -> Result<Vec<u8>, Memory>
 }
 
 /// The line of a file that is missing.
-pub fn missing_text(alloc: Global, name: &[u8]) -> Result<Vec<u8>, Memory>
+pub fn missing_line(alloc: Global, name: &[u8]) -> Result<Vec<u8>, Memory>
     ensures { IfOk result (λ text. text.items ≡ lines.missing_line name.now) }
 {
     let mut text = Vec::from_slice(alloc, b"missing: ")?;

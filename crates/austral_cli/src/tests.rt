@@ -26,12 +26,22 @@ fn left_by(
     bytes: Vec<u8>,
     room: usize,
 ) -> Result<Left, Fail> {
+    let mut files = Vec::new(alloc);
+    files.push((String::from_str(alloc, name)?, bytes))?;
+    left_by_files(alloc, words, files, room)
+}
+
+/// Calls the program with these words over files.
+fn left_by_files(
+    alloc: Global,
+    words: &str,
+    files: Vec<(String, Vec<u8>)>,
+    room: usize,
+) -> Result<Left, Fail> {
     let mut list = Vec::new(alloc);
     for word in words.split_whitespace() {
         list.push(String::from_str(alloc, word)?)?;
     }
-    let mut files = Vec::new(alloc);
-    files.push((String::from_str(alloc, name)?, bytes))?;
     let mut shelf = SureShelf::new(files);
     let mut input = SureSource::new(b"unread".to_vec(alloc)?);
     let mut out = MemorySink::new(alloc, room, Vec::new(alloc))?;
@@ -124,9 +134,9 @@ const REFUSED: [(&[u8], &[u8]); 28] = [
     ),
     (
         b"module body M is\npragma Unsafe_Module;\nend module body.",
-        b"m.aum:2:1: not yet\n",
+        b"m.aum:2:1: unsafe module\n",
     ),
-    (b"module M is end module.", b"m.aum:1:8: not yet\n"),
+    (b"module M is end module.", b"module M: no body\n"),
     (
         b"module body M.N is end module body.",
         b"m.aum:1:14: not yet\n",
@@ -141,7 +151,7 @@ const REFUSED: [(&[u8], &[u8]); 28] = [
     ),
     (
         b"import M (a);\nmodule body M is end module body.",
-        b"m.aum:1:1: not yet\n",
+        b"m.aum:1:8: module M stands later\n",
     ),
     (b"module body \xc3\xa9 is", b"m.aum:1:13: byte\n"),
     (b"x\n  \"abc", b"m.aum:2:3: byte\n"),
@@ -178,8 +188,8 @@ const NO_JOBS: [&str; 9] = [
     "run --steps=0 a.aum",
     "run --life",
     "run -a.aum",
-    "run a.aum,b.aum",
-    "run a.aum b.aum",
+    "run a.aum,",
+    "run a.aum -b.aum",
     "check a.aum",
     "Run a.aum",
 ];

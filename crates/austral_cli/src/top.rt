@@ -1,14 +1,15 @@
 //! The call that the program is.
 
-ghost use Rattle.std.specs.Prelude.{◌≡◌, ◌≢◌, ◌⊎◌, ◌≤◌, Some, true, false, IfOk, IsTrue, map, vec_len, length};
+ghost use Rattle.std.specs.Prelude.{◌≡◌, ◌≢◌, ◌⊎◌, ◌≤◌, Some, true, false, IfOk, IsTrue, map, vec_len};
 ghost use Rattle.std.specs.String.{string_bytes};
 ghost use Rattle.au_base.specs.Outside.{Files, HasRisen, Counts};
-ghost use Rattle.austral_cli.specs.Calls.{AreTold, CameTo, HasPassed, HasRun, IsCut, IsMissingSo, IsPaid, IsPlaced, IsRefusedSo, IsUntouched, MayOwe, Pays, is_decided, is_read_fault, is_missing};
+ghost use Rattle.austral_cli.specs.Calls.{AreTold, CameTo, HasPassed, HasRun, IsCut, IsMissingSo, IsPaid, IsRefusedSo, IsUntouched, MayOwe, Pays, is_decided, is_read_fault, is_missing};
 ghost use Rattle.austral_cli.specs.Jobs.{IsNoJob};
 ghost use Rattle.austral_cli.specs.Outcomes.{Arises, Due, IsUnread, Owes};
 
 use crate::answering::{AnswerFault, answer};
-use crate::checking::{CheckFault, check};
+use crate::checking::check;
+use crate::halts::CheckFault;
 use crate::jobs::{WordsFault, read_words};
 use crate::outcomes::Outcome;
 use au_base::{Shelf, Sink, Source, Status, WriteFault, put_all};
@@ -89,7 +90,7 @@ pub fn austral<S: Shelf, I: Source, O: Sink, E: Sink>(
 }
 
 /// What the words and the files come to, with the names of the program's files: first the words are
-/// read, then the files are fetched, and then the program is cut and read.
+/// read, and then the program of the files is checked.
 fn outcome_of<S: Shelf>(
     alloc: Global,
     words: &[String],
@@ -97,7 +98,6 @@ fn outcome_of<S: Shelf>(
 ) -> Result<(Vec<String>, Outcome), CheckFault>
     ensures arises { IfOk result (λ found. (files : Files) × AreTold (S.files shelf.old) files
         × Arises (map string_bytes words.now) files (map string_bytes found.0.items) found.1) }
-    ensures placed { IfOk result (λ found. IsPlaced (length found.0.items) found.1) }
     ensures faults { Counts (is_read_fault result) (S.faults shelf.old) (S.faults shelf.new) }
     ensures misses { IfOk result (λ found. Counts (is_missing found.1) (S.misses shelf.old) (S.misses shelf.new)) }
     ensures files { S.files shelf.new ≡ S.files shelf.old }
@@ -108,6 +108,6 @@ fn outcome_of<S: Shelf>(
         Err(WordsFault::Memory) => return Err(CheckFault::Memory),
     };
     let names = job.files;
-    let outcome = check(alloc, shelf, names[0].as_str())?;
+    let outcome = check(alloc, shelf, names.as_slice())?;
     Ok((names, outcome))
 }

@@ -6,7 +6,7 @@ use Rattle.au_base.specs.declared.statuses.Status.TheVariants.{ReadFault}
 use Rattle.austral_cli.specs.Lines.{read_fault_line}
 use Rattle.austral_cli.specs.Outcomes.{due_line}
 use Rattle.austral_cli.proofs.ArisesLemmas.{read_risen}
-use Rattle.austral_cli.proofs.DueLemmas.{paid_so, pays_owed, came_words, came_no_job, came_refused, came_unread}
+use Rattle.austral_cli.proofs.DueLemmas.{paid_so, pays_owed, came_words, came_no_job, came_refused, came_unread, came_limit, came_success, came_failure}
 use Rattle.austral_cli.proofs.top.austral.Goals as goal
 
 pub returns-in-Ok-put_all-clause-due : goal.returns-in-Ok-put_all-clause-due
@@ -61,6 +61,48 @@ returns-in-Ok-answer-clause-refused g c = λ is.
     let err' = g.E.Sink.written c.answer.new.err in
     let paid = paid_so words (map string_bytes c.in-Ok.names.items) (map string_bytes c.as_slice.result.now) told faults faults' c.in-Ok.outcome ends out out' err err' (ap (map string_bytes) c.as_slice.ensures.value) c.in-Ok.ensures.arises c.in-Ok-answer.ensures.pays in
     came_refused words told faults faults' ends out out' err err' paid is
+
+pub returns-in-Ok-answer-clause-limit : goal.returns-in-Ok-answer-clause-limit
+returns-in-Ok-answer-clause-limit g c = λ is.
+    let words = map string_bytes c.args.words.now in
+    let told = g.S.Shelf.files c.args.shelf.now in
+    let faults = g.S.Shelf.faults c.args.shelf.now in
+    let faults' = g.S.Shelf.faults c.outcome_of.new.shelf in
+    let ends = c.in-Ok-answer.status in
+    let out = g.O.Sink.written c.args.out.now in
+    let out' = g.O.Sink.written c.answer.new.out in
+    let err = g.E.Sink.written c.args.err.now in
+    let err' = g.E.Sink.written c.answer.new.err in
+    let paid = paid_so words (map string_bytes c.in-Ok.names.items) (map string_bytes c.as_slice.result.now) told faults faults' c.in-Ok.outcome ends out out' err err' (ap (map string_bytes) c.as_slice.ensures.value) c.in-Ok.ensures.arises c.in-Ok-answer.ensures.pays in
+    came_limit words told faults faults' ends out out' err err' paid is
+
+pub returns-in-Ok-answer-clause-success : goal.returns-in-Ok-answer-clause-success
+returns-in-Ok-answer-clause-success g c = λ is.
+    let words = map string_bytes c.args.words.now in
+    let told = g.S.Shelf.files c.args.shelf.now in
+    let faults = g.S.Shelf.faults c.args.shelf.now in
+    let faults' = g.S.Shelf.faults c.outcome_of.new.shelf in
+    let ends = c.in-Ok-answer.status in
+    let out = g.O.Sink.written c.args.out.now in
+    let out' = g.O.Sink.written c.answer.new.out in
+    let err = g.E.Sink.written c.args.err.now in
+    let err' = g.E.Sink.written c.answer.new.err in
+    let paid = paid_so words (map string_bytes c.in-Ok.names.items) (map string_bytes c.as_slice.result.now) told faults faults' c.in-Ok.outcome ends out out' err err' (ap (map string_bytes) c.as_slice.ensures.value) c.in-Ok.ensures.arises c.in-Ok-answer.ensures.pays in
+    came_success words told faults faults' ends out out' err err' paid is
+
+pub returns-in-Ok-answer-clause-failure : goal.returns-in-Ok-answer-clause-failure
+returns-in-Ok-answer-clause-failure g c = λ is.
+    let words = map string_bytes c.args.words.now in
+    let told = g.S.Shelf.files c.args.shelf.now in
+    let faults = g.S.Shelf.faults c.args.shelf.now in
+    let faults' = g.S.Shelf.faults c.outcome_of.new.shelf in
+    let ends = c.in-Ok-answer.status in
+    let out = g.O.Sink.written c.args.out.now in
+    let out' = g.O.Sink.written c.answer.new.out in
+    let err = g.E.Sink.written c.args.err.now in
+    let err' = g.E.Sink.written c.answer.new.err in
+    let paid = paid_so words (map string_bytes c.in-Ok.names.items) (map string_bytes c.as_slice.result.now) told faults faults' c.in-Ok.outcome ends out out' err err' (ap (map string_bytes) c.as_slice.ensures.value) c.in-Ok.ensures.arises c.in-Ok-answer.ensures.pays in
+    came_failure words told faults faults' ends out out' err err' paid is
 
 pub returns-in-Ok-answer-clause-words : goal.returns-in-Ok-answer-clause-words
 returns-in-Ok-answer-clause-words g c = λ is.
