@@ -55,4 +55,6 @@ fn words_of(rt: &HostRuntime) -> io::Result<Vec<String>> {
 }
 
 #[cfg(test)]
+mod file_tests;
+#[cfg(test)]
 mod tests;

@@ -12,10 +12,10 @@ use std::test::Fail;
 
 /// What a call leaves: the bytes on `out` and on `err`, and the number of its status.
 #[derive(Drop)]
-struct Left {
-    out: MemorySink,
-    err: MemorySink,
-    status: u8,
+pub(crate) struct Left {
+    pub(crate) out: MemorySink,
+    pub(crate) err: MemorySink,
+    pub(crate) status: u8,
 }
 
 /// Calls the program with these words over one file.
@@ -32,7 +32,7 @@ fn left_by(
 }
 
 /// Calls the program with these words over files.
-fn left_by_files(
+pub(crate) fn left_by_files(
     alloc: Global,
     words: &str,
     files: Vec<(String, Vec<u8>)>,
