@@ -1,0 +1,1 @@
+//! Word lists and their jobs.
