@@ -68,14 +68,9 @@ is_run Compile = false
 is_run Explain = false
 is_run Check = false
 
--- a byte of a name that a byte of this value doesn't end
+-- whether a byte is another than a sign
 abbrev pub is_other : ℕ → ℕ → Bool
 is_other sign byte = not (byte == sign)
-
--- whether bytes are one byte or more
-abbrev pub is_some_bytes : List ℕ → Bool
-is_some_bytes [] = false
-is_some_bytes (byte ∷ bytes) = true
 
 -- names with single signs between
 abbrev pub joined : ℕ → List (List ℕ) → List ℕ
@@ -84,7 +79,7 @@ joined sign (name ∷ names) = name ++ flat_map (λ other. sign ∷ other) names
 
 -- whether bytes can name a file: there are some, and none is a comma
 abbrev pub is_file_name : List ℕ → Bool
-is_file_name name = is_some_bytes name && list_all (is_other 44) name
+is_file_name name = not (length name == 0) && list_all (is_other 44) name
 
 -- a letter, and then letters, digits and `_`
 abbrev pub is_spelled_as_name : List ℕ → Bool

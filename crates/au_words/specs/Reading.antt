@@ -1,5 +1,5 @@
 -- How the words are read, one behind another, as functions of the words.
-use Rattle.std.specs.Prelude.{◌≡◌, ℕ, ◌+◌, Bool, true, false, not, nat_eq, nat_le, ◌==◌, ◌&&◌, List, [], ◌∷◌, ◌++◌, length, take, drop, Option, Some, None, Result, Ok, Err, Vec, if◌then◌else◌, slice_index, codes, option_and_then, IsTrue}
+use Rattle.std.specs.Prelude.{◌≡◌, ℕ, ◌+◌, Bool, true, false, not, nat_eq, nat_le, ◌==◌, ◌&&◌, List, [], ◌∷◌, ◌++◌, length, take, drop, Option, Some, None, Result, Ok, Err, Vec, if◌then◌else◌, codes, option_and_then, IsTrue}
 use Rattle.std.specs.List.{list_all, prefix_len, starts_with}
 use Rattle.std.specs.Global.{Global}
 use Rattle.std.specs.Option.{is_none}
@@ -73,7 +73,7 @@ entry_at bytes =
 
 -- whether bytes are one to thirteen digits, the first of them no zero
 abbrev pub are_digits : List ℕ → Bool
-are_digits bytes = nat_le (length bytes) 13 && list_all is_digit bytes && not (slice_index bytes 0 == 48)
+are_digits bytes = nat_le (length bytes) 13 && list_all is_digit bytes && not (starts_with nat_eq bytes (codes "0"))
 
 -- the number of steps that bytes spell
 unfoldable pub steps_at : List ℕ → Option ℕ
@@ -117,6 +117,13 @@ abbrev pub with_life : Command → Said → Option State
 with_life command said =
     if is_run command && not said.life then Some (record { due = due.Piece; said = record said { life = true } }) else None
 
+-- a word that gives an option and its value with `=` between
+unfoldable pub value_step : Command → Said → List ℕ → Option State
+value_step command said word =
+    if starts_with nat_eq word (codes "--entry=") then with_entry command said (entry_at (drop 8 word))
+    else (if starts_with nat_eq word (codes "--steps=") then with_steps command said (steps_at (drop 8 word))
+    else None)
+
 -- a word that begins with `-` and has more bytes
 unfoldable pub option_step : Command → Said → List ℕ → Option State
 option_step command said word =
@@ -124,9 +131,7 @@ option_step command said word =
     else (if bytes_eq word (codes "--life") then with_life command said
     else (if bytes_eq word (codes "--entry") then Some (record { due = due.Entry; said = said })
     else (if bytes_eq word (codes "--steps") then Some (record { due = due.Steps; said = said })
-    else (if starts_with nat_eq word (codes "--entry=") then with_entry command said (entry_at (drop 8 word))
-    else (if starts_with nat_eq word (codes "--steps=") then with_steps command said (steps_at (drop 8 word))
-    else None)))))
+    else value_step command said word)))
 
 -- a word where such a one is due
 unfoldable pub step_due : Command → Said → List ℕ → Due → Option State

@@ -25,14 +25,22 @@ fn number(digits: &[u8]) -> u64
     value
 }
 
+/// Whether all bytes are digits.
+fn are_all_digits(bytes: &[u8]) -> bool
+    ensures { result ≡ list_all kinds.is_digit bytes.now }
+{
+    bytes.iter().all(|byte| is_digit(*byte))
+}
+
 /// Whether bytes are one to thirteen digits, the first of them no zero.
 fn are_digits(bytes: &[u8]) -> bool
     ensures { result ≡ read.are_digits bytes.now }
 {
-    bytes.len() <= 13 && bytes.iter().all(|byte| is_digit(*byte)) && !bytes.starts_with(b"0")
+    bytes.len() <= 13 && are_all_digits(bytes) && !bytes.starts_with(b"0")
 }
 
 /// The number of steps that a value spells.
+#[tactic(auto, using(crate::proofs::StepLemmas::few_digits), unfolding(crate::specs::Reading::steps_at))]
 pub fn steps(value: &[u8]) -> Result<u64, WordsFault>
     ensures { read.Finds result (read.steps_at value.now) }
 {

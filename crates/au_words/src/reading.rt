@@ -142,6 +142,25 @@ impl Reader {
         self
     }
 
+    /// A word more that gives an option and its value with `=` between.
+    #[tactic(auto, unfolding(crate::specs::Reading::value_step))]
+    fn read_value(
+        self,
+        alloc: Global,
+        command: Command,
+        word: &[u8],
+    ) -> Result<Reader, WordsFault>
+        ensures { read.Reads result (read.value_step command (read.state_of self).said word.now) }
+    {
+        if word.starts_with(b"--entry=") {
+            self.with_entry(alloc, command, &word[8..])
+        } else if word.starts_with(b"--steps=") {
+            self.with_steps(command, &word[8..])
+        } else {
+            Err(WordsFault::NoJob)
+        }
+    }
+
     /// A word more that begins with `-` and has more bytes.
     #[tactic(auto, unfolding(crate::specs::Reading::option_step))]
     fn read_option(
@@ -160,12 +179,8 @@ impl Reader {
             Ok(self.with_due(Due::Entry))
         } else if word == b"--steps".as_slice() {
             Ok(self.with_due(Due::Steps))
-        } else if word.starts_with(b"--entry=") {
-            self.with_entry(alloc, command, &word[8..])
-        } else if word.starts_with(b"--steps=") {
-            self.with_steps(command, &word[8..])
         } else {
-            Err(WordsFault::NoJob)
+            self.read_value(alloc, command, word)
         }
     }
 
