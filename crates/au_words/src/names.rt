@@ -162,6 +162,7 @@ fn is_home(alloc: Global, bytes: &[u8]) -> Result<bool, Memory>
 }
 
 /// The entry that a value spells.
+#[tactic(auto, using(crate::proofs::NameLemmas::home_some, crate::proofs::NameLemmas::function_some), unfolding(crate::specs::Reading::entry_at))]
 pub fn entry(alloc: Global, value: &[u8]) -> Result<Entry, WordsFault>
     ensures { read.Finds result (read.entry_at value.now) }
 {
