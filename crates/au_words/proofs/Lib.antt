@@ -1,2 +1,5 @@
 pub mod NameLemmas
+pub mod EntryLemmas
 pub mod StepLemmas
+pub mod ReadLemmas
+pub mod JobLemmas

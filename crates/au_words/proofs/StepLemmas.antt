@@ -65,8 +65,8 @@ steps_found bytes steps h =
 zero_no : (bytes : List ℕ) → 48 < get_or bytes 0 0 → not (starts_with nat_eq bytes (codes "0")) ≡ true
 zero_no [] h = refl
 zero_no (byte ∷ bytes) h =
-    elim (cases_Bool (nat_eq byte 48)) [
-      | inl is ↦ let e = eqb-true byte 48 is in absurd (omega arith)
+    elim (cases_Bool (nat_eq 48 byte)) [
+      | inl is ↦ let e = eqb-true 48 byte is in absurd (omega arith)
       | inr not_one ↦ ap (λ b. not b) (ap (λ b. b && true) not_one)
     ]
 

@@ -41,21 +41,29 @@ fn read_all(alloc: Global, command: Command, words: &[String]) -> Result<Reader,
     Ok(reader)
 }
 
-/// The job of a command and the words behind it.
-fn read_behind(alloc: Global, command: Command, words: &[String]) -> Result<Job, WordsFault>
-    ensures { read.GivesTask command result (map string_bytes words.now) }
+/// The job of a command and of what is read behind it.
+fn job(command: Command, reader: Reader) -> Job
+    ensures { asked.task_of result ≡ asked.task_said command (read.state_of reader).said }
 {
-    let reader = read_all(alloc, command, words)?;
-    if !reader.may_end() {
-        return Err(WordsFault::NoJob);
-    }
-    Ok(Job {
+    Job {
         command,
         files: reader.files,
         entry: reader.entry,
         steps: reader.steps.unwrap_or(USUAL_STEPS),
         life: reader.life,
-    })
+    }
+}
+
+/// The job of a command and the words behind it.
+fn read_behind(alloc: Global, command: Command, words: &[String]) -> Result<Job, WordsFault>
+    ensures { read.GivesTask command result (map string_bytes words.now) }
+{
+    let reader = read_all(alloc, command, words)?;
+    if reader.may_end() {
+        Ok(job(command, reader))
+    } else {
+        Err(WordsFault::NoJob)
+    }
 }
 
 /// The job that the words of a command line ask for, the program's name left out.
