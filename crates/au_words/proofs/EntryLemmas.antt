@@ -83,17 +83,17 @@ entry_found bytes entry h =
     elim (chosen (home_size bytes == length bytes) _ _ (Some entry) h) [
       | inl w ↦ absurd (let e = w.1 in cc)
       | inr w ↦ elim (chosen (is_home (home_at bytes) && is_function (function_at bytes)) _ _ (Some entry) w.1) [
-          | inl v ↦
-              let found : Entry = record { home = home_at bytes; function = function_at bytes } in
-              let same : found ≡ entry = (let e = v.1 in cc) in
-              let parts = and_parts (is_home (home_at bytes)) (is_function (function_at bytes)) v.0 in
-              let home = home_found (home_at bytes) parts.0 in
-              let function = and_parts (nat_le (length (function_at bytes)) most_name_bytes) (is_name (function_at bytes)) parts.1 in
-              let has : home_size bytes ≢ length bytes = λ e. absurd (let t = eq-eqb (home_size bytes) (length bytes) e in let f = w.0 in cc) in
-              subst (λ n. IsEntry n × (entry_spelling n ≡ bytes)) same
-              ((home.0, home.1, function.1, leb-true (length (function_at bytes)) most_name_bytes function.0), at_colon bytes has)
-          | inr v ↦ absurd (let e = v.1 in cc)
-        ]
+        | inl v ↦
+            let found : Entry = record { home = home_at bytes; function = function_at bytes } in
+            let same : found ≡ entry = (let e = v.1 in cc) in
+            let parts = and_parts (is_home (home_at bytes)) (is_function (function_at bytes)) v.0 in
+            let home = home_found (home_at bytes) parts.0 in
+            let function = and_parts (nat_le (length (function_at bytes)) most_name_bytes) (is_name (function_at bytes)) parts.1 in
+            let has : home_size bytes ≢ length bytes = λ e. absurd (let t = eq-eqb (home_size bytes) (length bytes) e in let f = w.0 in cc) in
+            subst (λ n. IsEntry n × (entry_spelling n ≡ bytes)) same
+            ((home.0, home.1, function.1, leb-true (length (function_at bytes)) most_name_bytes function.0), at_colon bytes has)
+        | inr v ↦ absurd (let e = v.1 in cc)
+      ]
     ]
 
 take_whole : (xs ys : List ℕ) → take (length xs) (xs ++ ys) ≡ xs
@@ -120,9 +120,9 @@ entry_again entry is =
     let short : length bytes ≡ length home + length (58 ∷ function) = length-append home (58 ∷ function) in
     let other : home_size bytes ≢ length bytes = λ e. omega (arith, e, size, short) in
     let test : (is_home (home_at bytes) && is_function (function_at bytes)) ≡ true =
-        and_from (is_home (home_at bytes)) (is_function (function_at bytes))
-        (ap is_home before ∙ home_again home is.0 is.1)
-        (ap is_function behind ∙ and_from (nat_le (length function) most_name_bytes) (is_name function) (le-leb (length function) most_name_bytes is.3) is.2) in
+    and_from (is_home (home_at bytes)) (is_function (function_at bytes))
+    (ap is_home before ∙ home_again home is.0 is.1)
+    (ap is_function behind ∙ and_from (nat_le (length function) most_name_bytes) (is_name function) (le-leb (length function) most_name_bytes is.3) is.2) in
     when_false (home_size bytes == length bytes) _ _ (ne_eqb (home_size bytes) (length bytes) other)
     ∙ when_true (is_home (home_at bytes) && is_function (function_at bytes)) _ _ test
     ∙ ap (λ l. Some (entry_of l (function_at bytes))) before

@@ -21,15 +21,15 @@ command_found word command h =
     elim (chosen (bytes_eq word (codes "run")) _ _ (Some command) h) [
       | inl w ↦ let same : Run ≡ command = (let e = w.1 in cc) in subst Found same ((bytes_eq-Decides word (codes "run")).0 w.0)
       | inr w ↦ elim (chosen (bytes_eq word (codes "compile")) _ _ (Some command) w.1) [
-          | inl v ↦ let same : Compile ≡ command = (let e = v.1 in cc) in subst Found same ((bytes_eq-Decides word (codes "compile")).0 v.0)
-          | inr v ↦ elim (chosen (bytes_eq word (codes "explain")) _ _ (Some command) v.1) [
-              | inl u ↦ let same : Explain ≡ command = (let e = u.1 in cc) in subst Found same ((bytes_eq-Decides word (codes "explain")).0 u.0)
-              | inr u ↦ elim (chosen (bytes_eq word (codes "check")) _ _ (Some command) u.1) [
-                  | inl t ↦ let same : Check ≡ command = (let e = t.1 in cc) in subst Found same ((bytes_eq-Decides word (codes "check")).0 t.0)
-                  | inr t ↦ absurd (let e = t.1 in cc)
-                ]
-            ]
+        | inl v ↦ let same : Compile ≡ command = (let e = v.1 in cc) in subst Found same ((bytes_eq-Decides word (codes "compile")).0 v.0)
+        | inr v ↦ elim (chosen (bytes_eq word (codes "explain")) _ _ (Some command) v.1) [
+          | inl u ↦ let same : Explain ≡ command = (let e = u.1 in cc) in subst Found same ((bytes_eq-Decides word (codes "explain")).0 u.0)
+          | inr u ↦ elim (chosen (bytes_eq word (codes "check")) _ _ (Some command) u.1) [
+            | inl t ↦ let same : Check ≡ command = (let e = t.1 in cc) in subst Found same ((bytes_eq-Decides word (codes "check")).0 t.0)
+            | inr t ↦ absurd (let e = t.1 in cc)
+          ]
         ]
+      ]
     ]
 
 pub command_again : (command : Command) → command_at (command_word command) ≡ Some command

@@ -54,13 +54,13 @@ module _ (sign : ℕ) where
   joined_from (byte ∷ bytes) names name =
       elim (cases_Bool (byte == sign)) [
         | inl h ↦ let same : byte ≡ sign = eqb-true byte sign h in
-                  ap (joined sign) (when_true (byte == sign) _ _ h)
-                  ∙ joined_from bytes (names ++ name ∷ []) []
-                  ∙ joined_last names name bytes
-                  ∙ ap (λ b. joined sign (names ++ (name ++ b ∷ bytes) ∷ [])) (sym same)
+            ap (joined sign) (when_true (byte == sign) _ _ h)
+            ∙ joined_from bytes (names ++ name ∷ []) []
+            ∙ joined_last names name bytes
+            ∙ ap (λ b. joined sign (names ++ (name ++ b ∷ bytes) ∷ [])) (sym same)
         | inr h ↦ ap (joined sign) (when_false (byte == sign) _ _ h)
-                  ∙ joined_from bytes names (name ++ byte ∷ [])
-                  ∙ ap (λ l. joined sign (names ++ l ∷ [])) (append_assoc name (byte ∷ []) bytes)
+            ∙ joined_from bytes names (name ++ byte ∷ [])
+            ∙ ap (λ l. joined sign (names ++ l ∷ [])) (append_assoc name (byte ∷ []) bytes)
       ]
 
   -- something is cut
@@ -112,7 +112,7 @@ unfolding part_at
 part_found word names h =
     elim (chosen (list_all is_file_name (cut 44 word)) (Some (cut 44 word)) None (Some names) h) [
       | inl w ↦ let same : cut 44 word ≡ names = (let e = w.1 in cc) in
-                subst (λ l. IsPart l word) same (some_cut 44 word, w.0, sym (joined_cut 44 word))
+          subst (λ l. IsPart l word) same (some_cut 44 word, w.0, sym (joined_cut 44 word))
       | inr w ↦ absurd (let e = w.1 in cc)
     ]
 
@@ -120,6 +120,6 @@ pub part_again : (word : List ℕ) (names : List (List ℕ)) → IsPart names wo
 unfolding part_at
 part_again word names is =
     let free : list_all (list_all (is_other 44)) names ≡ true =
-        all_pass is_file_name (list_all (is_other 44)) (λ name h. (and_parts (not (length name == 0)) (list_all (is_other 44) name) h).1) names is.1 in
+    all_pass is_file_name (list_all (is_other 44)) (λ name h. (and_parts (not (length name == 0)) (list_all (is_other 44) name) h).1) names is.1 in
     let same : cut 44 word ≡ names = ap (cut 44) is.2 ∙ cut_joined 44 names is.0 free in
     when_true (list_all is_file_name (cut 44 word)) (Some (cut 44 word)) None (ap (list_all is_file_name) same ∙ is.1) ∙ ap (λ l. Some l) same

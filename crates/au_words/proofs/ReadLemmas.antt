@@ -107,22 +107,31 @@ goes_behind command said word names words last is goes =
 goes_entry : (command : Command) (said : Said) (value : Entry) (front words : List (List ℕ)) (last : Said)
     → IsEntry value → Gives (codes "--entry") (entry_spelling value) front → takes_entry command ≡ true → said.entry ≡ None
     → Goes command false (with_value said value) words last → Goes command false said (front ++ words) last
-goes_entry command said value front words last is gives taken none goes =
-    (entry value ∷ goes.0, (front, words, refl, (is, gives), goes.1), and_from (takes_entry command) _ taken goes.2,
-    (goes.3.0, goes.3.1 ∙ sym (ap (λ o. option_to_list o ++ value ∷ flat_map entries_of goes.0) none), goes.3.2, goes.3.3))
+goes_entry command said value front words last is gives taken none goes = (
+  entry value ∷ goes.0,
+  (front, words, refl, (is, gives), goes.1),
+  and_from (takes_entry command) _ taken goes.2,
+  (goes.3.0, goes.3.1 ∙ sym (ap (λ o. option_to_list o ++ value ∷ flat_map entries_of goes.0) none), goes.3.2, goes.3.3),
+)
 
 goes_steps : (command : Command) (said : Said) (value : ℕ) (front words : List (List ℕ)) (last : Said)
     → AreSteps value → Gives (codes "--steps") (decimal value) front → is_run command ≡ true → said.steps ≡ None
     → Goes command false (with_count said value) words last → Goes command false said (front ++ words) last
-goes_steps command said value front words last are gives taken none goes =
-    (steps value ∷ goes.0, (front, words, refl, (are, gives), goes.1), and_from (is_run command) _ taken goes.2,
-    (goes.3.0, goes.3.1, goes.3.2 ∙ sym (ap (λ o. option_to_list o ++ value ∷ flat_map steps_of goes.0) none), goes.3.3))
+goes_steps command said value front words last are gives taken none goes = (
+  steps value ∷ goes.0,
+  (front, words, refl, (are, gives), goes.1),
+  and_from (is_run command) _ taken goes.2,
+  (goes.3.0, goes.3.1, goes.3.2 ∙ sym (ap (λ o. option_to_list o ++ value ∷ flat_map steps_of goes.0) none), goes.3.3),
+)
 
 goes_life : (command : Command) (said : Said) (words : List (List ℕ)) (last : Said)
     → is_run command ≡ true → said.life ≡ false → Goes command false (with_lives said) words last → Goes command false said (codes "--life" ∷ words) last
-goes_life command said words last taken none goes =
-    (life ∷ goes.0, (codes "--life" ∷ [], words, refl, refl, goes.1), and_from (is_run command) _ taken goes.2,
-    (goes.3.0, goes.3.1, goes.3.2, goes.3.3 ∙ sym (ap (λ b. given b ++ true ∷ flat_map lives_of goes.0) none)))
+goes_life command said words last taken none goes = (
+  life ∷ goes.0,
+  (codes "--life" ∷ [], words, refl, refl, goes.1),
+  and_from (is_run command) _ taken goes.2,
+  (goes.3.0, goes.3.1, goes.3.2, goes.3.3 ∙ sym (ap (λ b. given b ++ true ∷ flat_map lives_of goes.0) none)),
+)
 
 goes_mark : (command : Command) (said : Said) (words : List (List ℕ)) (last : Said) → Goes command true said words last → Goes command false said (codes "--" ∷ words) last
 goes_mark command said words last goes = (mark ∷ goes.0, (codes "--" ∷ [], words, refl, refl, goes.1), goes.2, goes.3)
@@ -156,7 +165,7 @@ entry_read command said None state h = cc
 entry_read command said (Some value) state h =
     elim (chosen (takes_entry command && is_none said.entry) _ _ (Some state) h) [
       | inl w ↦ let parts = and_parts (takes_entry command) (is_none said.entry) w.0 in
-                (value, refl, parts.0, none_is said.entry parts.1, (let e = w.1 in cc))
+          (value, refl, parts.0, none_is said.entry parts.1, (let e = w.1 in cc))
       | inr w ↦ absurd (let e = w.1 in cc)
     ]
 
@@ -166,7 +175,7 @@ steps_read command said None state h = cc
 steps_read command said (Some value) state h =
     elim (chosen (is_run command && is_none said.steps) _ _ (Some state) h) [
       | inl w ↦ let parts = and_parts (is_run command) (is_none said.steps) w.0 in
-                (value, refl, parts.0, none_is said.steps parts.1, (let e = w.1 in cc))
+          (value, refl, parts.0, none_is said.steps parts.1, (let e = w.1 in cc))
       | inr w ↦ absurd (let e = w.1 in cc)
     ]
 
@@ -175,7 +184,7 @@ life_read : (command : Command) (said : Said) (state : State) → with_life comm
 life_read command said state h =
     elim (chosen (is_run command && not said.life) _ _ (Some state) h) [
       | inl w ↦ let parts = and_parts (is_run command) (not said.life) w.0 in
-                (parts.0, not_true said.life parts.1, (let e = w.1 in cc))
+          (parts.0, not_true said.life parts.1, (let e = w.1 in cc))
       | inr w ↦ absurd (let e = w.1 in cc)
     ]
 
@@ -210,12 +219,12 @@ came_value command said word words state last h comes =
           came_entry command said (drop 8 word) (word ∷ []) words state last
           (λ other e. inl (ap (λ l. l ∷ []) (spelled ∙ ap (λ v. codes "--entry=" ++ v) (sym e)))) w.1 comes
       | inr w ↦ elim (chosen (starts_with nat_eq word (codes "--steps=")) _ _ (Some state) w.1) [
-          | inl v ↦
-              let spelled : word ≡ codes "--steps=" ++ drop 8 word = begins word (codes "--steps=") v.0 in
-              came_steps command said (drop 8 word) (word ∷ []) words state last
-              (λ other e. inl (ap (λ l. l ∷ []) (spelled ∙ ap (λ v. codes "--steps=" ++ v) (sym e)))) v.1 comes
-          | inr v ↦ absurd (let e = v.1 in cc)
-        ]
+        | inl v ↦
+            let spelled : word ≡ codes "--steps=" ++ drop 8 word = begins word (codes "--steps=") v.0 in
+            came_steps command said (drop 8 word) (word ∷ []) words state last
+            (λ other e. inl (ap (λ l. l ∷ []) (spelled ∙ ap (λ v. codes "--steps=" ++ v) (sym e)))) v.1 comes
+        | inr v ↦ absurd (let e = v.1 in cc)
+      ]
     ]
 
 -- a word that begins with `-` and has more bytes
@@ -230,21 +239,21 @@ came_option command said word words state last h comes =
           let same : at_due due.Part said ≡ state = (let e = w.1 in cc) in
           subst Found (sym ((bytes_eq-Decides word (codes "--")).0 w.0)) (goes_mark command said words last (subst Next (sym same) comes))
       | inr w ↦ elim (chosen (bytes_eq word (codes "--life")) _ _ (Some state) w.1) [
-          | inl v ↦
-              let read = life_read command said state v.1 in
-              subst Found (sym ((bytes_eq-Decides word (codes "--life")).0 v.0)) (goes_life command said words last read.0 read.1 (subst Next (sym read.2) comes))
-          | inr v ↦ elim (chosen (bytes_eq word (codes "--entry")) _ _ (Some state) v.1) [
-              | inl u ↦
-                  let same : at_due due.Entry said ≡ state = (let e = u.1 in cc) in
-                  subst Found (sym ((bytes_eq-Decides word (codes "--entry")).0 u.0)) (subst Next (sym same) comes)
-              | inr u ↦ elim (chosen (bytes_eq word (codes "--steps")) _ _ (Some state) u.1) [
-                  | inl t ↦
-                      let same : at_due due.Steps said ≡ state = (let e = t.1 in cc) in
-                      subst Found (sym ((bytes_eq-Decides word (codes "--steps")).0 t.0)) (subst Next (sym same) comes)
-                  | inr t ↦ came_value command said word words state last t.1 comes
-                ]
-            ]
+        | inl v ↦
+            let read = life_read command said state v.1 in
+            subst Found (sym ((bytes_eq-Decides word (codes "--life")).0 v.0)) (goes_life command said words last read.0 read.1 (subst Next (sym read.2) comes))
+        | inr v ↦ elim (chosen (bytes_eq word (codes "--entry")) _ _ (Some state) v.1) [
+          | inl u ↦
+              let same : at_due due.Entry said ≡ state = (let e = u.1 in cc) in
+              subst Found (sym ((bytes_eq-Decides word (codes "--entry")).0 u.0)) (subst Next (sym same) comes)
+          | inr u ↦ elim (chosen (bytes_eq word (codes "--steps")) _ _ (Some state) u.1) [
+            | inl t ↦
+                let same : at_due due.Steps said ≡ state = (let e = t.1 in cc) in
+                subst Found (sym ((bytes_eq-Decides word (codes "--steps")).0 t.0)) (subst Next (sym same) comes)
+            | inr t ↦ came_value command said word words state last t.1 comes
+          ]
         ]
+      ]
     ]
 
 -- a word where such a one is due
@@ -336,8 +345,8 @@ ends_entry : (command : Command) (said : Said) (value : Entry) (front words : Li
 unfolding step_due option_step value_step
 ends_entry command said value front words last is gives taken none ends =
     let read : with_entry command said (entry_at (entry_spelling value)) ≡ Some (at_due due.Piece (with_value said value)) =
-        ap (with_entry command said) (entry_again value is)
-        ∙ when_true (takes_entry command && is_none said.entry) _ _ (and_from (takes_entry command) (is_none said.entry) taken (ap is_none none)) in
+    ap (with_entry command said) (entry_again value is)
+    ∙ when_true (takes_entry command && is_none said.entry) _ _ (and_from (takes_entry command) (is_none said.entry) taken (ap is_none none)) in
     let Found : List (List ℕ) → Type 0 = λ l. Ends command (at_due due.Piece said) (l ++ words) last in
     elim gives [
       | inl e ↦ subst Found (sym e) (ends_option command said 45 (codes "entry=" ++ entry_spelling value) (at_due due.Piece (with_value said value)) words last read ends)
@@ -353,8 +362,8 @@ ends_steps : (command : Command) (said : Said) (value : ℕ) (front words : List
 unfolding step_due option_step value_step
 ends_steps command said value front words last are gives taken none ends =
     let read : with_steps command said (steps_at (decimal value)) ≡ Some (at_due due.Piece (with_count said value)) =
-        ap (with_steps command said) (steps_again value are)
-        ∙ when_true (is_run command && is_none said.steps) _ _ (and_from (is_run command) (is_none said.steps) taken (ap is_none none)) in
+    ap (with_steps command said) (steps_again value are)
+    ∙ when_true (is_run command && is_none said.steps) _ _ (and_from (is_run command) (is_none said.steps) taken (ap is_none none)) in
     let Found : List (List ℕ) → Type 0 = λ l. Ends command (at_due due.Piece said) (l ++ words) last in
     elim gives [
       | inl e ↦ subst Found (sym e) (ends_option command said 45 (codes "steps=" ++ decimal value) (at_due due.Piece (with_count said value)) words last read ends)

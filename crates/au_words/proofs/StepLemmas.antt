@@ -45,16 +45,16 @@ steps_found bytes steps h =
     let value : ℕ = digits_value 10 bytes in
     elim (chosen (are_digits bytes && nat_le 1 value && nat_le value most_steps) (Some value) None (Some steps) h) [
       | inl w ↦ let same : value ≡ steps = (let e = w.1 in cc) in
-                let outer = and_parts (are_digits bytes && nat_le 1 value) (nat_le value most_steps) w.0 in
-                let inner = and_parts (are_digits bytes) (nat_le 1 value) outer.0 in
-                let kinds = and_parts (nat_le (length bytes) 13 && list_all is_digit bytes) (not (starts_with nat_eq bytes (codes "0"))) inner.0 in
-                let digits = and_parts (nat_le (length bytes) 13) (list_all is_digit bytes) kinds.0 in
-                let low : 1 ≤ value = leb-true 1 value inner.1 in
-                let high : value ≤ most_steps = leb-true value most_steps outer.1 in
-                let some : 0 < length bytes = some_digits bytes low in
-                let first : get_or bytes 0 0 ≡ 48 → length bytes ≡ 1 = λ e. absurd (no_zero bytes kinds.1 e) in
-                subst (λ n. AreSteps n × (decimal n ≡ bytes)) same
-                ((low, high), decimal-digits_value (numerals_by_value _ tells_digits) bytes (all_digits bytes digits.1) some first (few_digits bytes digits.1 (leb-true (length bytes) 13 digits.0)))
+          let outer = and_parts (are_digits bytes && nat_le 1 value) (nat_le value most_steps) w.0 in
+          let inner = and_parts (are_digits bytes) (nat_le 1 value) outer.0 in
+          let kinds = and_parts (nat_le (length bytes) 13 && list_all is_digit bytes) (not (starts_with nat_eq bytes (codes "0"))) inner.0 in
+          let digits = and_parts (nat_le (length bytes) 13) (list_all is_digit bytes) kinds.0 in
+          let low : 1 ≤ value = leb-true 1 value inner.1 in
+          let high : value ≤ most_steps = leb-true value most_steps outer.1 in
+          let some : 0 < length bytes = some_digits bytes low in
+          let first : get_or bytes 0 0 ≡ 48 → length bytes ≡ 1 = λ e. absurd (no_zero bytes kinds.1 e) in
+          subst (λ n. AreSteps n × (decimal n ≡ bytes)) same
+          ((low, high), decimal-digits_value (numerals_by_value _ tells_digits) bytes (all_digits bytes digits.1) some first (few_digits bytes digits.1 (leb-true (length bytes) 13 digits.0)))
       | inr w ↦ absurd (let e = w.1 in cc)
     ]
   where
@@ -80,9 +80,9 @@ steps_again steps are =
     let below : steps < 10 ^ 13 = omega (arith, are.1) in
     let length_small : length bytes ≤ 13 = length-decimal-le 13 steps (omega arith) below small in
     let kinds : are_digits bytes ≡ true =
-        and_from (nat_le (length bytes) 13 && list_all is_digit bytes) (not (starts_with nat_eq bytes (codes "0")))
-        (and_from (nat_le (length bytes) 13) (list_all is_digit bytes) (le-leb (length bytes) 13 length_small) (digits_all bytes numeral.0.1))
-        (zero_no bytes (first_decimal steps (omega (arith, are.0)) small)) in
+    and_from (nat_le (length bytes) 13 && list_all is_digit bytes) (not (starts_with nat_eq bytes (codes "0")))
+    (and_from (nat_le (length bytes) 13) (list_all is_digit bytes) (le-leb (length bytes) 13 length_small) (digits_all bytes numeral.0.1))
+    (zero_no bytes (first_decimal steps (omega (arith, are.0)) small)) in
     let low : nat_le 1 (digits_value 10 bytes) ≡ true = le-leb 1 (digits_value 10 bytes) (omega (arith, value, are.0)) in
     let high : nat_le (digits_value 10 bytes) most_steps ≡ true = le-leb (digits_value 10 bytes) most_steps (omega (arith, value, are.1)) in
     when_true (are_digits bytes && nat_le 1 (digits_value 10 bytes) && nat_le (digits_value 10 bytes) most_steps) (Some (digits_value 10 bytes)) None (and_from _ _ (and_from _ _ kinds low) high)

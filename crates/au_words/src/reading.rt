@@ -144,12 +144,7 @@ impl Reader {
 
     /// A word more that gives an option and its value with `=` between.
     #[tactic(auto, unfolding(crate::specs::Reading::value_step))]
-    fn read_value(
-        self,
-        alloc: Global,
-        command: Command,
-        word: &[u8],
-    ) -> Result<Reader, WordsFault>
+    fn read_value(self, alloc: Global, command: Command, word: &[u8]) -> Result<Reader, WordsFault>
         ensures { read.Reads result (read.value_step command (read.state_of self).said word.now) }
     {
         if word.starts_with(b"--entry=") {
@@ -163,12 +158,7 @@ impl Reader {
 
     /// A word more that begins with `-` and has more bytes.
     #[tactic(auto, unfolding(crate::specs::Reading::option_step))]
-    fn read_option(
-        self,
-        alloc: Global,
-        command: Command,
-        word: &[u8],
-    ) -> Result<Reader, WordsFault>
+    fn read_option(self, alloc: Global, command: Command, word: &[u8]) -> Result<Reader, WordsFault>
         ensures { read.Reads result (read.option_step command (read.state_of self).said word.now) }
     {
         if word == b"--".as_slice() {
