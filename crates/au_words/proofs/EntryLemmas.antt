@@ -1,6 +1,6 @@
 -- Entries, which are cut at their colon.
-use Rattle.std.proofs.Common.{◌≡◌, ◌≢◌, ℕ, ◌+◌, ◌<◌, ◌≤◌, suc, Bool, true, false, not, ◌&&◌, ◌||◌, ◌==◌, nat_le, List, [], ◌∷◌, ◌++◌, length, take, drop, get_or, Option, Some, None, flat_map, ap, ◌∙◌, sym, refl, subst, arith, inl, inr, le-leb, leb-true, eqb-true, eq-eqb, ne_eqb, take-append-drop, drop-cons, append_assoc, length-append, add-one}
-use Rattle.std.specs.List.{list_all, prefix_len}
+use Rattle.std.proofs.Common.{◌≡◌, ◌≢◌, ℕ, ◌+◌, ◌<◌, ◌≤◌, suc, Bool, true, false, not, ◌&&◌, ◌||◌, ◌==◌, nat_le, List, [], ◌∷◌, ◌++◌, length, take, drop, get_or, Some, flat_map, ap, ◌∙◌, sym, refl, subst, arith, inl, inr, le-leb, leb-true, eqb-true, eq-eqb, ne_eqb, take-append-drop, drop-cons, length-append, add-one}
+use Rattle.std.specs.List.{list_all}
 use Rattle.std.proofs.lemmas.Bool.{and_parts, and_from, cases_Bool}
 use Rattle.std.proofs.lemmas.List.Folds.{list_all-append}
 use Rattle.std.proofs.lemmas.List.Sums.{prefix_len_stops, prefix_len-le-length}
@@ -10,7 +10,7 @@ use Rattle.au_lexer.proofs.RunLemmas.{chosen, when_true, when_false, prefix_pass
 use Rattle.au_words.specs.Jobs.{is_spelled_as_name, is_other, is_name, is_keyword, joined, IsModuleName, IsEntry, entry_spelling}
 use Rattle.au_words.specs.Reading.{cut, home_size, home_at, function_at, is_home, is_function, entry_at}
 use Rattle.au_words.specs.declared.jobs.Entry.{Entry}
-use Rattle.au_words.proofs.NameLemmas.{all_pass, cut_joined, joined_cut, some_cut, not_true}
+use Rattle.au_words.proofs.NameLemmas.{all_pass, cut_joined, joined_cut, some_cut}
 
 -- a byte that may stand in a name is no sign
 other_than : (sign byte : ℕ) → is_name_byte sign ≡ false → is_name_byte byte ≡ true → is_other sign byte ≡ true

@@ -1,11 +1,11 @@
 -- The job that words ask for is the one that is read.
-use Rattle.std.proofs.Common.{◌≡◌, ◌≢◌, ℕ, ◌≤◌, Bool, true, false, nat_le, List, [], ◌∷◌, length, Option, Some, None, Result, Ok, Err, IfOk, codes, ap, ◌∙◌, sym, refl, subst, arith, inl, inr, le-leb, leb-true}
+use Rattle.std.proofs.Common.{◌≡◌, ◌≢◌, ℕ, ◌≤◌, false, nat_le, List, [], ◌∷◌, length, Some, None, Result, Ok, Err, IfOk, codes, ap, ◌∙◌, sym, refl, subst, arith, inl, inr, le-leb, leb-true}
 use Rattle.std.specs.Str.{bytes_eq}
 use Rattle.std.proofs.lemmas.Bool.{and_parts, and_from}
 use Rattle.std.proofs.lemmas.Slice.Eq.{bytes_eq-Decides}
 use Rattle.au_lexer.proofs.RunLemmas.{chosen}
 use Rattle.au_words.specs.Jobs.{Said, Task, task_of, task_said, command_word, AreSaid, IsJob, IsNoJob}
-use Rattle.au_words.specs.Reading.{State, start, is_done, may_end, read_from, ComesTo, GivesTask, command_at}
+use Rattle.au_words.specs.Reading.{start, is_done, ComesTo, GivesTask, command_at}
 use Rattle.au_words.specs.declared.jobs.Command.{Command}
 use Rattle.au_words.specs.declared.jobs.Command.TheVariants.{Run, Compile, Explain, Check}
 use Rattle.au_words.specs.declared.jobs.Job.{Job}
@@ -90,18 +90,27 @@ no_command word words none task (other, rest, said, spelled, are, same) =
 pub no_word : IsNoJob []
 no_word task asks = let e = asks.3 in cc
 
+same_command : (command other : Command) → command_word command ≡ command_word other → command ≡ other
+same_command command other h =
+    let known : Some command ≡ Some other = sym (command_again command) ∙ ap command_at h ∙ command_again other in
+    let alike : command ≡ other = (let e = known in cc) in
+    alike
+
+-- what is read is one thing
+one_reading : (command : Command) (words : List (List ℕ)) (said other : Said) → ComesTo command words said → ComesTo command words other → said ≡ other
+one_reading command words said other (last, read, may, is) (last', read', may', is') =
+    let both : Some last ≡ Some last' = sym read ∙ read' in
+    let alike : last ≡ last' = (let e = both in cc) in
+    sym is ∙ ap (λ s. s.said) alike ∙ is'
+
 -- words ask for one job at most
 pub one_job : (words : List (List ℕ)) (task other : Task) → IsJob words task → IsJob words other → task ≡ other
-one_job words task other (command, rest, said, spelled, are, same) (command', rest', said', spelled', are', same') =
+one_job words task other (command, rest, said, spelled, are, is) (command', rest', said', spelled', are', is') =
     let both : command_word command ∷ rest ≡ command_word command' ∷ rest' = sym spelled ∙ spelled' in
     let first : command_word command ≡ command_word command' = (let e = both in cc) in
     let behind : rest ≡ rest' = (let e = both in cc) in
-    let known : Some command ≡ Some command' = sym (command_again command) ∙ ap command_at first ∙ command_again command' in
-    let alike : command ≡ command' = (let e = known in cc) in
-    let comes = said_come command rest said are in
-    let comes' = said_come command rest said' (subst (λ c. AreSaid c rest said') (sym alike) (subst (λ l. AreSaid command' l said') (sym behind) are')) in
-    let read : Some comes.0 ≡ Some comes'.0 = sym comes.1 ∙ comes'.1 in
-    let last : comes.0 ≡ comes'.0 = (let e = read in cc) in
-    let saying : said ≡ said' = sym comes.3 ∙ ap (λ s. s.said) last ∙ comes'.3 in
+    let alike : command ≡ command' = same_command command command' first in
+    let again : AreSaid command rest said' = subst (λ c. AreSaid c rest said') (sym alike) (subst (λ l. AreSaid command' l said') (sym behind) are') in
+    let saying : said ≡ said' = one_reading command rest said said' (said_come command rest said are) (said_come command rest said' again) in
     let tasks : task_said command said ≡ task_said command' said' = ap (λ c. task_said c said) alike ∙ ap (task_said command') saying in
-    same ∙ tasks ∙ sym same'
+    is ∙ (tasks ∙ sym is')

@@ -1,10 +1,10 @@
 -- Names, and what stands between signs.
-use Rattle.std.proofs.Common.{◌≡◌, ◌≢◌, ℕ, ◌<◌, Bool, true, false, cond, not, ◌&&◌, ◌==◌, List, [], ◌∷◌, ◌++◌, length, drop, get_or, flat_map, ap, ◌∙◌, sym, refl, subst, arith, eqb-true, eq-eqb, append_assoc, append-nil, inl, inr, Option, Some, None}
+use Rattle.std.proofs.Common.{◌≡◌, ◌≢◌, ℕ, ◌<◌, Bool, true, false, not, ◌&&◌, ◌==◌, List, [], ◌∷◌, ◌++◌, length, drop, get_or, flat_map, ap, ◌∙◌, sym, refl, subst, arith, eqb-true, eq-eqb, append_assoc, append-nil, inl, inr, Some, None}
 use Rattle.std.specs.List.{list_all}
 use Rattle.std.proofs.lemmas.Bool.{and_parts, and_from, cases_Bool}
 use Rattle.au_lexer.specs.Bytes.{is_letter, is_name_byte}
 use Rattle.au_lexer.proofs.RunLemmas.{chosen, when_true, when_false}
-use Rattle.au_words.specs.Jobs.{is_spelled_as_name, is_other, is_file_name, is_name, is_keyword, joined, IsPart}
+use Rattle.au_words.specs.Jobs.{is_spelled_as_name, is_other, is_file_name, joined, IsPart}
 use Rattle.au_words.specs.Reading.{cut, cut_from, is_home, is_function, part_at}
 
 -- a name by its first byte and the others

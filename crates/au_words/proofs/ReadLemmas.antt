@@ -1,13 +1,13 @@
 -- What the words behind a command say is what is read from them.
-use Rattle.std.proofs.Common.{◌≡◌, ℕ, ◌<◌, Bool, true, false, not, ◌&&◌, List, [], ◌∷◌, ◌++◌, length, drop, arith, lt-ltb, eqb-true, eq-eqb, Option, Some, None, option_to_list, option_and_then, flat_map, codes, decimal, nat_eq, ap, ◌∙◌, sym, refl, subst, inl, inr, append_assoc, append-nil, IsTrue, ◌⊎◌}
+use Rattle.std.proofs.Common.{◌≡◌, ℕ, Bool, true, false, not, ◌&&◌, List, [], ◌∷◌, ◌++◌, length, drop, arith, lt-ltb, eqb-true, eq-eqb, Option, Some, None, option_to_list, option_and_then, flat_map, codes, decimal, nat_eq, ap, ◌∙◌, sym, refl, subst, inl, inr, append_assoc, append-nil, IsTrue}
 use Rattle.std.specs.List.{list_all, starts_with}
 use Rattle.std.specs.Option.{is_none}
 use Rattle.std.specs.Str.{bytes_eq}
-use Rattle.std.proofs.lemmas.Bool.{and_parts, and_from, cases_Bool}
+use Rattle.std.proofs.lemmas.Bool.{and_parts, and_from}
 use Rattle.std.proofs.lemmas.Slice.Eq.{bytes_eq-Decides, starts_is}
 use Rattle.au_lexer.proofs.RunLemmas.{chosen, when_true, when_false}
-use Rattle.au_words.specs.Jobs.{Said, Piece, part, entry, steps, life, mark, is_mark, is_dashed, is_marked, IsPart, IsEntry, AreSteps, entry_spelling, Gives, Spells, SpellsBehind, SpellsAll, takes, takes_entry, is_run, files_of, entries_of, steps_of, lives_of, given}
-use Rattle.au_words.specs.Reading.{State, start, part_at, entry_at, steps_at, with_part, with_entry, with_steps, with_life, value_step, option_step, step_due, step, read_from, is_done}
+use Rattle.au_words.specs.Jobs.{Said, Piece, part, entry, steps, life, mark, is_dashed, is_marked, IsPart, IsEntry, AreSteps, entry_spelling, Gives, SpellsAll, takes, takes_entry, is_run, files_of, entries_of, steps_of, lives_of, given}
+use Rattle.au_words.specs.Reading.{State, part_at, entry_at, steps_at, with_part, with_entry, with_steps, with_life, value_step, option_step, step_due, step, read_from, is_done}
 use Rattle.au_words.specs.declared.jobs.Command.{Command}
 use Rattle.au_words.specs.declared.jobs.Entry.{Entry}
 use Rattle.au_words.specs.declared.reading.Due.{Due}

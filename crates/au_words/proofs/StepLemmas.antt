@@ -1,6 +1,5 @@
 -- Numbers of steps.
-use Rattle.std.proofs.Common.{◌≡◌, ◌≢◌, ℕ, ◌-◌, ◌<◌, ◌≤◌, ◌^◌, Bool, true, false, not, ◌&&◌, nat_le, nat_eq, List, [], ◌∷◌, length, get_or, Option, Some, None, codes, ap, ◌∙◌, sym, refl, subst, arith, decimal, inl, inr, le-leb, leb-true, eq-eqb, eqb-true}
-use Rattle.std.specs.Char.{digit_value}
+use Rattle.std.proofs.Common.{◌≡◌, ◌≢◌, ℕ, ◌<◌, ◌≤◌, ◌^◌, true, not, ◌&&◌, nat_le, nat_eq, List, [], ◌∷◌, length, get_or, Some, None, codes, ap, ◌∙◌, refl, subst, arith, decimal, inl, inr, le-leb, leb-true, eq-eqb, eqb-true}
 use Rattle.std.specs.List.{list_all, starts_with}
 use Rattle.std.specs.Str.Parse.{AllDigits, digits_value}
 use Rattle.std.proofs.lemmas.Bool.{and_parts, and_from, cases_Bool}

@@ -186,6 +186,7 @@ const NO_VALUES: [&str; 30] = [
 #[test]
 fn jobs(rt: HostRuntime) -> Result<(), Fail> {
     laws::one_job();
+    laws::names_of_the_language();
     for (text, want) in JOBS {
         assert_eq!(rt;
             outcome(rt.alloc(), text)?.as_bytes(),

@@ -1,11 +1,9 @@
 -- The words are a command and those behind it, of which the job is read.
-use Rattle.std.proofs.Common.{◌≡◌, List, [], ◌∷◌, ℕ, IfOk, map, Some, Err, String, ap, ◌∙◌, sym, subst}
-use Rattle.std.specs.Global.{Global}
+use Rattle.std.proofs.Common.{◌≡◌, List, ◌∷◌, ℕ, IfOk, map, ap, ◌∙◌, sym, subst}
 use Rattle.std.specs.String.{string_bytes}
 use Rattle.au_words.specs.Jobs.{IsJob, IsNoJob, task_of}
 use Rattle.au_words.specs.Reading.{command_at}
-use Rattle.au_words.specs.declared.jobs.WordsFault.TheVariants.{NoJob}
-use Rattle.au_words.proofs.JobLemmas.{job_asked, no_job_asked, no_command, no_word}
+use Rattle.au_words.proofs.JobLemmas.{job_asked, no_job_asked, no_command}
 use Rattle.au_words.proofs.words.read_words.Goals as goal
 
 pub returns-in-Some-command-clause-job : goal.returns-in-Some-command-clause-job
