@@ -8,7 +8,7 @@
 -- The value of `--entry` and of `--steps` stands behind `=` in the same word, or is the next word, which
 -- then doesn't begin with `-`. `--life` has no value. A part is one file name or more with single commas
 -- between, none of them empty. A word that begins with `-` and has more bytes is no part. Behind a word
--- `--` all words are parts.
+-- `--` all words are parts, whatever they begin with, and there may be none.
 --
 -- N is a number from 1 to 1,000,000,000,000 in decimal digits, with no zero before it and no sign.
 -- Without the option the steps are 1,000,000,000. M is names with single dots between, of at most 64
@@ -231,8 +231,8 @@ pub record Said : Type 0 where
   pub steps : Option ℕ
   pub life : Bool
 
--- The pieces say this. What stands on each left has at most one element, so that no option is given
--- twice.
+-- The pieces say this. The list of an option on the left has at most one element, so that no option is
+-- given twice.
 abbrev pub Says : List Piece → Said → Type 0
 Says pieces said =
     (said.files ≡ flat_map files_of pieces)

@@ -131,7 +131,7 @@ const NO_JOBS: [&str; 30] = [
     "run|--step=5|a.aum",
     "run|--ent=M:f|a.aum",
     "run|--Steps=5|a.aum",
-    "run|--help|a.aum",
+    "run|--step|5|a.aum",
     "run|-h|a.aum",
     "run|a.aum|--version",
     "--help",
