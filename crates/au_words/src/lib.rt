@@ -1,0 +1,17 @@
+//! From the words of a command line to the job that they ask for.
+//!
+//! `specs/Jobs.antt` says what the jobs are and how words spell them, `read_words` reads them, and `laws`
+//! says that words ask for one job at most.
+#![tactic(auto)]
+
+mod counts;
+mod jobs;
+pub mod laws;
+mod names;
+mod reading;
+#[cfg(test)]
+mod tests;
+mod words;
+
+pub use jobs::{Command, Entry, Job, WordsFault};
+pub use words::read_words;
