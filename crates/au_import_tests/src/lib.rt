@@ -9,6 +9,8 @@ mod imports;
 #[cfg(test)]
 mod large;
 #[cfg(test)]
+mod many;
+#[cfg(test)]
 mod order;
 #[cfg(test)]
 mod programs;
