@@ -8,7 +8,7 @@ use Rattle.au_base.specs.Limits.{most_name_bytes}
 use Rattle.au_lexer.specs.Bytes.{is_letter, is_digit, is_name_byte}
 use Rattle.au_lexer.proofs.RunLemmas.{chosen, when_true, when_false, prefix_pass}
 use Rattle.au_words.specs.Jobs.{is_spelled_as_name, is_other, is_name, is_keyword, joined, IsModuleName, IsEntry, entry_spelling}
-use Rattle.au_words.specs.Reading.{cut, home_size, home_at, function_at, is_home, is_function, entry_at}
+use Rattle.au_words.specs.Reading.{between, home_size, home_at, function_at, is_home, is_function, entry_at}
 use Rattle.au_words.specs.declared.jobs.Entry.{Entry}
 use Rattle.au_words.proofs.NameLemmas.{all_pass, cut_joined, joined_cut, some_cut}
 
@@ -67,14 +67,14 @@ at_colon bytes has =
 -- a module's name of at most 64 bytes
 home_found : (bytes : List ℕ) → is_home bytes ≡ true → IsModuleName bytes × (length bytes ≤ most_name_bytes)
 home_found bytes h =
-    let parts = and_parts (nat_le (length bytes) most_name_bytes) (list_all is_name (cut 46 bytes)) h in
-    ((cut 46 bytes, some_cut 46 bytes, parts.1, sym (joined_cut 46 bytes)), leb-true (length bytes) most_name_bytes parts.0)
+    let parts = and_parts (nat_le (length bytes) most_name_bytes) (list_all is_name (between 46 bytes)) h in
+    ((between 46 bytes, some_cut 46 bytes, parts.1, sym (joined_cut 46 bytes)), leb-true (length bytes) most_name_bytes parts.0)
 
 home_again : (bytes : List ℕ) → IsModuleName bytes → length bytes ≤ most_name_bytes → is_home bytes ≡ true
 home_again bytes named few =
     let free : list_all (list_all (is_other 46)) named.0 ≡ true = all_pass is_name (list_all (is_other 46)) (name_without 46 refl) named.0 named.2 in
-    let same : cut 46 bytes ≡ named.0 = ap (cut 46) named.3 ∙ cut_joined 46 named.0 named.1 free in
-    and_from (nat_le (length bytes) most_name_bytes) (list_all is_name (cut 46 bytes)) (le-leb (length bytes) most_name_bytes few) (ap (list_all is_name) same ∙ named.2)
+    let same : between 46 bytes ≡ named.0 = ap (between 46) named.3 ∙ cut_joined 46 named.0 named.1 free in
+    and_from (nat_le (length bytes) most_name_bytes) (list_all is_name (between 46 bytes)) (le-leb (length bytes) most_name_bytes few) (ap (list_all is_name) same ∙ named.2)
 
 -- the entry that bytes spell
 pub entry_found : (bytes : List ℕ) (entry : Entry) → entry_at bytes ≡ Some entry → IsEntry entry × (entry_spelling entry ≡ bytes)

@@ -1,17 +1,45 @@
 -- The job that words ask for is the one that is read.
-use Rattle.std.proofs.Common.{◌≡◌, ◌≢◌, ℕ, ◌≤◌, false, nat_le, List, [], ◌∷◌, length, Some, None, Result, Ok, Err, IfOk, codes, ap, ◌∙◌, sym, refl, subst, arith, inl, inr, le-leb, leb-true}
-use Rattle.std.specs.Str.{bytes_eq}
-use Rattle.std.proofs.lemmas.Bool.{and_parts, and_from}
+use Rattle.std.proofs.Common.{◌≡◌, ◌≢◌, ℕ, zero, suc, List, [], ◌∷◌, String, map, Option, Some, None, Result, Ok, Err, IfOk, option_map, codes, ap, ◌∙◌, sym, refl, subst, arith, inl, inr}
+use Rattle.std.specs.Global.{Global}
+use Rattle.std.specs.List.{All}
+use Rattle.std.specs.Str.{IsUtf8, bytes_eq}
+use Rattle.std.specs.String.{string_bytes}
 use Rattle.std.proofs.lemmas.Slice.Eq.{bytes_eq-Decides}
+use Rattle.std.proofs.lemmas.Str.{IsUtf8-string_bytes}
 use Rattle.au_lexer.proofs.RunLemmas.{chosen}
+use Rattle.clap.specs.Faults.{fault_of}
+use Rattle.clap.specs.Matches.{subcommand_name_of}
+use Rattle.clap.specs.Simple.{subcommand_of, subcommand_rows_of}
+use Rattle.clap.specs.Walk.{Row}
+use Rattle.clap.specs.declared.ArgMatches.{ArgMatches}
+use Rattle.clap.specs.declared.ArgMatches.TheViews.{out-ArgMatches}
+use Rattle.au_words.specs.Given.{AreGiven, Given, Shows, program}
 use Rattle.au_words.specs.Jobs.{Said, Task, task_of, task_said, command_word, AreSaid, IsJob, IsNoJob}
-use Rattle.au_words.specs.Reading.{start, is_done, ComesTo, GivesTask, command_at}
+use Rattle.au_words.specs.Reading.{GivesTask, IsFound, command_at, said_at}
 use Rattle.au_words.specs.declared.jobs.Command.{Command}
 use Rattle.au_words.specs.declared.jobs.Command.TheVariants.{Run, Compile, Explain, Check}
 use Rattle.au_words.specs.declared.jobs.Job.{Job}
 use Rattle.au_words.specs.declared.jobs.WordsFault.{WordsFault}
 use Rattle.au_words.specs.declared.jobs.WordsFault.TheVariants.{NoJob, Memory}
-use Rattle.au_words.proofs.ReadLemmas.{sound, complete}
+use Rattle.au_words.proofs.LeafLemmas.{leaf_complete, leaf_sound}
+use Rattle.au_words.proofs.Leaves.{leaf_rows}
+use Rattle.au_words.proofs.PieceLemmas.{given_said, said_given}
+use Rattle.au_words.proofs.TopLemmas.{top_complete, top_rows, top_sound}
+use Rattle.au_words.proofs.ValueLemmas.{same_given}
+
+-- the words of a program are text
+pub all_utf8 : (words : List (String Global)) → All IsUtf8 (map string_bytes words)
+all_utf8 [] k d lt = absurd (omega arith)
+all_utf8 (word ∷ words) zero d lt = IsUtf8-string_bytes word
+all_utf8 (word ∷ words) (suc k) d lt = all_utf8 words k d (omega arith)
+
+names_first : {X : Type 0} (name : X → List ℕ) (rows : X → List Row) (o : Option X) → option_map name o ≡ option_map (λ (p : List ℕ × List Row). p.0) (option_map (λ x. (name x, rows x)) o)
+names_first name rows None = refl
+names_first name rows (Some x) = refl
+
+-- the name of the command that was found, by what was found of it
+pub name_of_rows : (found : ArgMatches) → subcommand_name_of found ≡ option_map (λ p. p.0) (subcommand_rows_of found)
+name_of_rows found = names_first _ _ (out-ArgMatches found).subcommand
 
 -- a command by its word
 pub command_found : (word : List ℕ) (command : Command) → command_at word ≡ Some command → word ≡ command_word command
@@ -39,78 +67,85 @@ command_again Compile = refl
 command_again Explain = refl
 command_again Check = refl
 
-some_length : (names : List (List ℕ)) → names ≢ [] → 1 ≤ length names
-some_length [] some = absurd (some refl)
-some_length (name ∷ names) some = omega arith
-
-length_some : (names : List (List ℕ)) → 1 ≤ length names → names ≢ []
-length_some [] some e = omega arith
-length_some (name ∷ names) some e = cc
-
--- what is read is said
-come_said : (command : Command) (words : List (List ℕ)) (said : Said) → ComesTo command words said → AreSaid command words said
-come_said command words said (last, read, may, same) =
-    let parts = and_parts (is_done last.due) (nat_le 1 (length last.said.files)) may in
-    let goes = sound words command start last read parts.0 in
-    subst (λ s. AreSaid command words s) same
-    (record { pieces = goes.0; spelled = goes.1; taken = goes.2; says = goes.3; some = length_some last.said.files (leb-true 1 (length last.said.files) parts.1) })
-
--- what is said is read
-said_come : (command : Command) (words : List (List ℕ)) (said : Said) → AreSaid command words said → ComesTo command words said
-said_come command words said are =
-    let ends = complete command are.pieces false start.said words said are.spelled are.taken are.says in
-    (record { due = ends.0; said = said }, ends.2, and_from (is_done ends.0) (nat_le 1 (length said.files)) ends.1 (le-leb 1 (length said.files) (some_length said.files are.some)), refl)
-
--- the job that is read is the one that is asked for
-pub job_asked : (word : List ℕ) (words : List (List ℕ)) (command : Command) (result : Result Job WordsFault)
-    → command_at word ≡ Some command → GivesTask command result words → IfOk result (λ job. IsJob (word ∷ words) (task_of job))
-job_asked word words command (Ok job) named gives =
-    (command, words, gives.0, ap (λ w. w ∷ words) (command_found word command named), come_said command words gives.0 gives.2, gives.1)
-job_asked word words command (Err fault) named gives = tt
-
--- words that come to no job ask for none
-pub no_job_asked : (word : List ℕ) (words : List (List ℕ)) (command : Command) (result : Result Job WordsFault)
-    → command_at word ≡ Some command → GivesTask command result words → result ≡ Err NoJob → IsNoJob (word ∷ words)
-no_job_asked word words command (Ok job) named gives is task asks = absurd (let e = is in cc)
-no_job_asked word words command (Err Memory) named gives is task asks = absurd (let e = is in cc)
-no_job_asked word words command (Err NoJob) named gives is task (other, rest, said, spelled, are, same) =
-    let first : word ≡ command_word other = (let e = spelled in cc) in
-    let behind : words ≡ rest = (let e = spelled in cc) in
-    let known : Some command ≡ Some other = sym named ∙ ap command_at first ∙ command_again other in
-    let alike : other ≡ command = (let e = known in cc) in
-    gives said (said_come command words said (subst (λ c. AreSaid c words said) alike (subst (λ l. AreSaid other l said) (sym behind) are)))
-
--- words that begin with no command ask for nothing
-pub no_command : (word : List ℕ) (words : List (List ℕ)) → command_at word ≡ None → IsNoJob (word ∷ words)
-no_command word words none task (other, rest, said, spelled, are, same) =
-    let first : word ≡ command_word other = (let e = spelled in cc) in
-    let known : None ≡ Some other = sym none ∙ ap command_at first ∙ command_again other in
-    cc
-
-pub no_word : IsNoJob []
-no_word task asks = let e = asks.3 in cc
-
 same_command : (command other : Command) → command_word command ≡ command_word other → command ≡ other
 same_command command other h =
     let known : Some command ≡ Some other = sym (command_again command) ∙ ap command_at h ∙ command_again other in
     let alike : command ≡ other = (let e = known in cc) in
     alike
 
--- what is read is one thing
-one_reading : (command : Command) (words : List (List ℕ)) (said other : Said) → ComesTo command words said → ComesTo command words other → said ≡ other
-one_reading command words said other (last, read, may, is) (last', read', may', is') =
-    let both : Some last ≡ Some last' = sym read ∙ read' in
-    let alike : last ≡ last' = (let e = both in cc) in
-    sym is ∙ ap (λ s. s.said) alike ∙ is'
+-- words are one command's, with the same words behind it
+same_words : (words rest rest' : List (List ℕ)) (command other : Command) → words ≡ command_word command ∷ rest → words ≡ command_word other ∷ rest' → (other ≡ command) × (rest' ≡ rest)
+same_words words rest rest' command other spelled spelled' =
+    let both : command_word other ∷ rest' ≡ command_word command ∷ rest = sym spelled' ∙ spelled in
+    let first : command_word other ≡ command_word command = (let e = both in cc) in
+    (same_command other command first, (let e = both in cc))
+
+-- words give one thing
+one_given : (command : Command) (words : List (List ℕ)) (what other : Given) → AreGiven command words what → AreGiven command words other → other ≡ what
+one_given command words what other are are' =
+    let shows = (leaf_complete command words what are).1 in
+    let shows' = (leaf_complete command words other are').1 in
+    same_given what other.parts other.entry other.steps other.life _ (sym shows'.parts ∙ shows.parts) (sym shows'.entry ∙ shows.entry) (sym shows'.steps ∙ shows.steps) shows'.life shows.life
+
+-- a command and what is behind it, of words that are a job
+pub given_by_job : (words rest : List (List ℕ)) (command : Command) (task : Task) → words ≡ command_word command ∷ rest → IsJob words task
+    → (what : Given) × (said : Said) × AreGiven command rest what × (said_at what ≡ Some said) × (task ≡ task_said command said)
+given_by_job words rest command task spelled (other, rest', said, spelled', are, same) =
+    let alike = same_words words rest rest' command other spelled spelled' in
+    let here : AreSaid command rest said = subst (λ c. AreSaid c rest said) alike.0 (subst (λ l. AreSaid other l said) alike.1 are) in
+    let given = said_given command rest said here in
+    (given.0, said, given.1, given.2, same ∙ ap (λ c. task_said c said) alike.0)
+
+-- the command that was found, and what is given behind it
+pub found_so : (words : List (List ℕ)) (is : IsFound words (subcommand_of program words)) (found : ArgMatches) (word : List ℕ) (rows : List Row)
+    → subcommand_rows_of found ≡ subcommand_of program words → Some word ≡ subcommand_name_of found → Some rows ≡ option_map (λ p. p.1) (subcommand_rows_of found)
+    → (word ≡ command_word is.0) × Shows rows is.3
+found_so words is found word rows shown name behind =
+    let both = shown ∙ is.6 in
+    let named : Some word ≡ Some (command_word is.0) = name ∙ name_of_rows found ∙ ap (option_map (λ p. p.0)) both in
+    let same : Some rows ≡ Some is.2 = behind ∙ ap (option_map (λ p. p.1)) both in
+    let alike : is.2 ≡ rows = (let e = same in cc) in
+    ((let e = named in cc), subst (λ (r : List Row). Shows r is.3) alike is.7)
+
+-- words that the library takes are found
+pub matched : (words : List (List ℕ)) → All IsUtf8 words → fault_of program words ≡ [] → IsFound words (subcommand_of program words)
+matched words utf8 passes =
+    let top = top_sound words passes in
+    let rest_utf8 : All IsUtf8 top.1 = λ k d lt. subst (All IsUtf8) top.2 utf8 (suc k) d (omega arith) in
+    let given = leaf_sound top.0 top.1 rest_utf8 top.3 in
+    let shows = (leaf_complete top.0 top.1 given.0 given.1).1 in
+    (top.0, top.1, leaf_rows top.0 top.1, given.0, top.2, given.1, ap (subcommand_of program) top.2 ∙ top_rows top.0 top.1, shows)
+
+-- words that the library refuses are no job
+pub unmatched : (words : List (List ℕ)) → fault_of program words ≢ [] → IsNoJob words
+unmatched words fails task (command, rest, said, spelled, are, same) =
+    let given = said_given command rest said are in
+    let passes = top_complete command rest (leaf_complete command rest given.0 given.1).0 in
+    fails (ap (fault_of program) spelled ∙ passes)
+
+-- the job that is read is the one that is asked for
+pub job_asked : (words : List (List ℕ)) (found : Option (List ℕ × List Row)) (is : IsFound words found) (result : Result Job WordsFault) → GivesTask is.0 result (said_at is.3)
+    → IfOk result (λ job. IsJob words (task_of job))
+job_asked words found is (Ok job) gives = (is.0, is.1, gives.0, is.4, given_said is.0 is.1 is.3 gives.0 is.5 gives.1, gives.2)
+job_asked words found is (Err fault) gives = tt
+
+-- words in which no job is read ask for none
+pub no_job_asked : (words : List (List ℕ)) (found : Option (List ℕ × List Row)) (is : IsFound words found) (result : Result Job WordsFault) → GivesTask is.0 result (said_at is.3)
+    → result ≡ Err NoJob → IsNoJob words
+no_job_asked words found is (Ok job) gives none = absurd (let e = none in cc)
+no_job_asked words found is (Err Memory) gives none = absurd (let e = none in cc)
+no_job_asked words found is (Err NoJob) gives none = λ task asks.
+    let given = given_by_job words is.1 is.0 task is.4 asks in
+    let same = one_given is.0 is.1 is.3 given.0 is.5 given.2 in
+    let both : Some given.1 ≡ None = sym given.3 ∙ ap said_at same ∙ gives in
+    cc
 
 -- words ask for one job at most
 pub one_job : (words : List (List ℕ)) (task other : Task) → IsJob words task → IsJob words other → task ≡ other
-one_job words task other (command, rest, said, spelled, are, is) (command', rest', said', spelled', are', is') =
-    let both : command_word command ∷ rest ≡ command_word command' ∷ rest' = sym spelled ∙ spelled' in
-    let first : command_word command ≡ command_word command' = (let e = both in cc) in
-    let behind : rest ≡ rest' = (let e = both in cc) in
-    let alike : command ≡ command' = same_command command command' first in
-    let again : AreSaid command rest said' = subst (λ c. AreSaid c rest said') (sym alike) (subst (λ l. AreSaid command' l said') (sym behind) are') in
-    let saying : said ≡ said' = one_reading command rest said said' (said_come command rest said are) (said_come command rest said' again) in
-    let tasks : task_said command said ≡ task_said command' said' = ap (λ c. task_said c said) alike ∙ ap (task_said command') saying in
-    is ∙ (tasks ∙ sym is')
+one_job words task other (command, rest, said, spelled, are, is) job =
+    let given = said_given command rest said are in
+    let given' = given_by_job words rest command other spelled job in
+    let same = one_given command rest given.0 given'.0 given.1 given'.2 in
+    let both : Some given'.1 ≡ Some said = sym given'.3 ∙ ap said_at same ∙ given.2 in
+    let alike : given'.1 ≡ said = (let e = both in cc) in
+    is ∙ (ap (task_said command) (sym alike) ∙ sym given'.4)

@@ -1,11 +1,12 @@
 -- Names, and what stands between signs.
-use Rattle.std.proofs.Common.{◌≡◌, ◌≢◌, ℕ, ◌<◌, Bool, true, false, not, ◌&&◌, ◌==◌, List, [], ◌∷◌, ◌++◌, length, drop, get_or, flat_map, ap, ◌∙◌, sym, refl, subst, arith, eqb-true, eq-eqb, append_assoc, append-nil, inl, inr, Some, None}
-use Rattle.std.specs.List.{list_all}
+use Rattle.std.proofs.Common.{◌≡◌, ◌≢◌, ℕ, ◌<◌, Bool, true, false, not, ◌&&◌, ◌==◌, List, [], ◌∷◌, ◌++◌, length, drop, get_or, flat_map, ap, ◌∙◌, sym, refl, subst, arith, eqb-true, eq-eqb, append-nil, inl, inr, Some, None}
+use Rattle.std.specs.List.{list_all, list_any, onto_first}
 use Rattle.std.proofs.lemmas.Bool.{and_parts, and_from, cases_Bool}
+use Rattle.std.proofs.lemmas.List.Splits.{length-slice_split, slice_split-cons_no, slice_split-cons_yes}
 use Rattle.au_lexer.specs.Bytes.{is_letter, is_name_byte}
-use Rattle.au_lexer.proofs.RunLemmas.{chosen, when_true, when_false}
+use Rattle.au_lexer.proofs.RunLemmas.{chosen, when_false}
 use Rattle.au_words.specs.Jobs.{is_spelled_as_name, is_other, is_file_name, joined, IsPart}
-use Rattle.au_words.specs.Reading.{cut, cut_from, is_home, is_function, part_at}
+use Rattle.au_words.specs.Reading.{between, is_empty, is_home, is_function, part_at}
 
 -- a name by its first byte and the others
 pub spelled : (bytes : List ℕ) → is_spelled_as_name bytes ≡ (is_letter (get_or bytes 0 0) && list_all is_name_byte (drop 1 bytes))
@@ -18,7 +19,6 @@ function_some [] h = cc
 function_some (byte ∷ bytes) h = omega arith
 
 pub home_some : (bytes : List ℕ) → is_home bytes ≡ true → 0 < length bytes
-unfolding cut
 home_some [] h = cc
 home_some (byte ∷ bytes) h = omega arith
 
@@ -33,87 +33,107 @@ pub not_true : (b : Bool) → not b ≡ true → b ≡ false
 not_true true h = cc
 not_true false h = refl
 
--- a list with an element at its end isn't empty
-some_last : {X : Type 0} (xs : List X) (x : X) → xs ++ x ∷ [] ≢ []
-some_last [] x h = cc
-some_last (y ∷ ys) x h = cc
-
 module _ (sign : ℕ) where
-  -- a sign between the last two names
-  flat_last : (names : List (List ℕ)) (name bytes : List ℕ) → flat_map (λ other. sign ∷ other) ((names ++ name ∷ []) ++ bytes ∷ []) ≡ flat_map (λ other. sign ∷ other) (names ++ (name ++ sign ∷ bytes) ∷ [])
-  flat_last [] name bytes = ap (λ l. sign ∷ l) (sym (append_assoc name (sign ∷ bytes) []))
-  flat_last (first ∷ names) name bytes = ap (λ l. (sign ∷ first) ++ l) (flat_last names name bytes)
+  abbrev is_sign : ℕ → Bool
+  is_sign byte = byte == sign
 
-  joined_last : (names : List (List ℕ)) (name bytes : List ℕ) → joined sign ((names ++ name ∷ []) ++ bytes ∷ []) ≡ joined sign (names ++ (name ++ sign ∷ bytes) ∷ [])
-  joined_last [] name bytes = sym (append_assoc name (sign ∷ bytes) [])
-  joined_last (first ∷ names) name bytes = ap (λ l. first ++ l) (flat_last names name bytes)
+  -- there is something between signs
+  pub some_cut : (bytes : List ℕ) → between sign bytes ≢ []
+  some_cut bytes none = let e = ap length none in omega (arith, length-slice_split is_sign bytes)
 
-  -- what is cut is joined again
-  joined_from : (bytes : List ℕ) (names : List (List ℕ)) (name : List ℕ) → joined sign (cut_from sign names name bytes) ≡ joined sign (names ++ (name ++ bytes) ∷ [])
-  joined_from [] names name = ap (λ l. joined sign (names ++ l ∷ [])) (sym (append-nil name))
-  joined_from (byte ∷ bytes) names name =
+  flat_joined : (names : List (List ℕ)) → names ≢ [] → flat_map (λ other. sign ∷ other) names ≡ sign ∷ joined sign names
+  flat_joined [] some = absurd (some refl)
+  flat_joined (name ∷ names) some = refl
+
+  onto_joined : (byte : ℕ) (names : List (List ℕ)) → names ≢ [] → joined sign (onto_first byte names) ≡ byte ∷ joined sign names
+  onto_joined byte [] some = absurd (some refl)
+  onto_joined byte (name ∷ names) some = refl
+
+  -- what stands between signs is joined again
+  pub joined_cut : (bytes : List ℕ) → joined sign (between sign bytes) ≡ bytes
+  joined_cut [] = refl
+  joined_cut (byte ∷ bytes) =
       elim (cases_Bool (byte == sign)) [
-        | inl h ↦ let same : byte ≡ sign = eqb-true byte sign h in
-            ap (joined sign) (when_true (byte == sign) _ _ h)
-            ∙ joined_from bytes (names ++ name ∷ []) []
-            ∙ joined_last names name bytes
-            ∙ ap (λ b. joined sign (names ++ (name ++ b ∷ bytes) ∷ [])) (sym same)
-        | inr h ↦ ap (joined sign) (when_false (byte == sign) _ _ h)
-            ∙ joined_from bytes names (name ++ byte ∷ [])
-            ∙ ap (λ l. joined sign (names ++ l ∷ [])) (append_assoc name (byte ∷ []) bytes)
+        | inl is ↦
+            ap (joined sign) (slice_split-cons_yes is_sign byte bytes is)
+            ∙ flat_joined (between sign bytes) (some_cut bytes)
+            ∙ ap (λ l. sign ∷ l) (joined_cut bytes)
+            ∙ ap (λ b. b ∷ bytes) (sym (eqb-true byte sign is))
+        | inr not_one ↦
+            ap (joined sign) (slice_split-cons_no is_sign byte bytes not_one)
+            ∙ onto_joined byte (between sign bytes) (some_cut bytes)
+            ∙ ap (λ l. byte ∷ l) (joined_cut bytes)
       ]
 
-  -- something is cut
-  cut_some : (bytes : List ℕ) (names : List (List ℕ)) (name : List ℕ) → cut_from sign names name bytes ≢ []
-  cut_some [] names name h = some_last names name h
-  cut_some (byte ∷ bytes) names name h =
+  onto_other : (byte : ℕ) (names : List (List ℕ)) → is_other sign byte ≡ true → list_all (list_all (is_other sign)) names ≡ true → list_all (list_all (is_other sign)) (onto_first byte names) ≡ true
+  onto_other byte [] other free = and_from (is_other sign byte && true) true (and_from (is_other sign byte) true other refl) refl
+  onto_other byte (name ∷ names) other free =
+      let parts = and_parts (list_all (is_other sign) name) (list_all (list_all (is_other sign)) names) free in
+      and_from (is_other sign byte && list_all (is_other sign) name) (list_all (list_all (is_other sign)) names) (and_from (is_other sign byte) (list_all (is_other sign) name) other parts.0) parts.1
+
+  -- no sign stands between signs
+  pub cut_other : (bytes : List ℕ) → list_all (list_all (is_other sign)) (between sign bytes) ≡ true
+  cut_other [] = refl
+  cut_other (byte ∷ bytes) =
       elim (cases_Bool (byte == sign)) [
-        | inl is ↦ cut_some bytes (names ++ name ∷ []) [] (sym (when_true (byte == sign) _ _ is) ∙ h)
-        | inr not_one ↦ cut_some bytes names (name ++ byte ∷ []) (sym (when_false (byte == sign) _ _ not_one) ∙ h)
+        | inl is ↦ ap (list_all (list_all (is_other sign))) (slice_split-cons_yes is_sign byte bytes is) ∙ cut_other bytes
+        | inr not_one ↦
+            ap (list_all (list_all (is_other sign))) (slice_split-cons_no is_sign byte bytes not_one)
+            ∙ onto_other byte (between sign bytes) (ap not not_one) (cut_other bytes)
       ]
 
-  -- bytes that are no sign go to the name
-  cut_pass : (bytes rest : List ℕ) (names : List (List ℕ)) (name : List ℕ) → list_all (is_other sign) bytes ≡ true → cut_from sign names name (bytes ++ rest) ≡ cut_from sign names (name ++ bytes) rest
-  cut_pass [] rest names name h = ap (λ n. cut_from sign names n rest) (sym (append-nil name))
-  cut_pass (byte ∷ bytes) rest names name h =
+  -- bytes that are no sign stay together
+  cut_alone : (bytes : List ℕ) → list_all (is_other sign) bytes ≡ true → between sign bytes ≡ bytes ∷ []
+  cut_alone [] h = refl
+  cut_alone (byte ∷ bytes) h =
       let parts = and_parts (is_other sign byte) (list_all (is_other sign) bytes) h in
-      when_false (byte == sign) _ _ (not_true (byte == sign) parts.0)
-      ∙ cut_pass bytes rest names (name ++ byte ∷ []) parts.1
-      ∙ ap (λ n. cut_from sign names n rest) (append_assoc name (byte ∷ []) bytes)
+      slice_split-cons_no is_sign byte bytes (not_true (byte == sign) parts.0) ∙ ap (onto_first byte) (cut_alone bytes parts.1)
 
-  cut_flat : (others : List (List ℕ)) (names : List (List ℕ)) (name : List ℕ) → list_all (list_all (is_other sign)) others ≡ true → cut_from sign names name (flat_map (λ other. sign ∷ other) others) ≡ names ++ name ∷ others
-  cut_flat [] names name h = refl
-  cut_flat (other ∷ others) names name h =
-      let parts = and_parts (list_all (is_other sign) other) (list_all (list_all (is_other sign)) others) h in
-      when_true (sign == sign) _ _ (eq-eqb sign sign refl)
-      ∙ cut_pass other (flat_map (λ l. sign ∷ l) others) (names ++ name ∷ []) [] parts.0
-      ∙ cut_flat others (names ++ name ∷ []) other parts.1
-      ∙ append_assoc names (name ∷ []) (other ∷ others)
+  cut_first : (bytes rest : List ℕ) → list_all (is_other sign) bytes ≡ true → between sign (bytes ++ sign ∷ rest) ≡ bytes ∷ between sign rest
+  cut_first [] rest h = slice_split-cons_yes is_sign sign rest (eq-eqb sign sign refl)
+  cut_first (byte ∷ bytes) rest h =
+      let parts = and_parts (is_other sign byte) (list_all (is_other sign) bytes) h in
+      slice_split-cons_no is_sign byte (bytes ++ sign ∷ rest) (not_true (byte == sign) parts.0) ∙ ap (onto_first byte) (cut_first bytes rest parts.1)
+
+  cut_flat : (name : List ℕ) (names : List (List ℕ)) → list_all (is_other sign) name ≡ true → list_all (list_all (is_other sign)) names ≡ true
+      → between sign (name ++ flat_map (λ other. sign ∷ other) names) ≡ name ∷ names
+  cut_flat name [] h more = ap (between sign) (append-nil name) ∙ cut_alone name h
+  cut_flat name (other ∷ others) h more =
+      let parts = and_parts (list_all (is_other sign) other) (list_all (list_all (is_other sign)) others) more in
+      cut_first name (other ++ flat_map (λ l. sign ∷ l) others) h ∙ ap (λ l. name ∷ l) (cut_flat other others parts.0 parts.1)
 
   -- names that are joined are cut again
-  pub cut_joined : (names : List (List ℕ)) → names ≢ [] → list_all (list_all (is_other sign)) names ≡ true → cut sign (joined sign names) ≡ names
-  unfolding cut
+  pub cut_joined : (names : List (List ℕ)) → names ≢ [] → list_all (list_all (is_other sign)) names ≡ true → between sign (joined sign names) ≡ names
   cut_joined [] some h = absurd (some refl)
   cut_joined (name ∷ names) some h =
       let parts = and_parts (list_all (is_other sign) name) (list_all (list_all (is_other sign)) names) h in
-      cut_pass name (flat_map (λ l. sign ∷ l) names) [] [] parts.0 ∙ cut_flat names [] name parts.1
+      cut_flat name names parts.0 parts.1
 
-  pub joined_cut : (bytes : List ℕ) → joined sign (cut sign bytes) ≡ bytes
-  unfolding cut
-  joined_cut bytes = joined_from bytes [] [] ∙ append-nil bytes
+-- names without commas of which none is empty can name files
+files_from : (names : List (List ℕ)) → list_any is_empty names ≡ false → list_all (list_all (is_other 44)) names ≡ true → list_all is_file_name names ≡ true
+files_from [] some free = refl
+files_from (name ∷ names) some free =
+    let parts = and_parts (list_all (is_other 44) name) (list_all (list_all (is_other 44)) names) free in
+    elim (cases_Bool (is_empty name)) [
+      | inl e ↦ absurd (let bad = rw e at some in cc)
+      | inr e ↦ and_from (is_file_name name) (list_all is_file_name names) (and_from (not (is_empty name)) (list_all (is_other 44) name) (ap not e) parts.0)
+          (files_from names (rw e at some) parts.1)
+    ]
 
-  pub some_cut : (bytes : List ℕ) → cut sign bytes ≢ []
-  unfolding cut
-  some_cut bytes = cut_some bytes [] []
+none_empty : (names : List (List ℕ)) → list_all is_file_name names ≡ true → list_any is_empty names ≡ false
+none_empty [] h = refl
+none_empty (name ∷ names) h =
+    let parts = and_parts (is_file_name name) (list_all is_file_name names) h in
+    rw (not_true (is_empty name) (and_parts (not (is_empty name)) (list_all (is_other 44) name) parts.0).0) (none_empty names parts.1)
 
 -- a part is read as it is
 pub part_found : (word : List ℕ) (names : List (List ℕ)) → part_at word ≡ Some names → IsPart names word
 unfolding part_at
 part_found word names h =
-    elim (chosen (list_all is_file_name (cut 44 word)) (Some (cut 44 word)) None (Some names) h) [
-      | inl w ↦ let same : cut 44 word ≡ names = (let e = w.1 in cc) in
-          subst (λ l. IsPart l word) same (some_cut 44 word, w.0, sym (joined_cut 44 word))
-      | inr w ↦ absurd (let e = w.1 in cc)
+    elim (chosen (list_any is_empty (between 44 word)) None (Some (between 44 word)) (Some names) h) [
+      | inl w ↦ absurd (let e = w.1 in cc)
+      | inr w ↦ let same : between 44 word ≡ names = (let e = w.1 in cc) in
+          subst (λ l. IsPart l word) same (some_cut 44 word, files_from (between 44 word) w.0 (cut_other 44 word), sym (joined_cut 44 word))
     ]
 
 pub part_again : (word : List ℕ) (names : List (List ℕ)) → IsPart names word → part_at word ≡ Some names
@@ -121,5 +141,5 @@ unfolding part_at
 part_again word names is =
     let free : list_all (list_all (is_other 44)) names ≡ true =
     all_pass is_file_name (list_all (is_other 44)) (λ name h. (and_parts (not (length name == 0)) (list_all (is_other 44) name) h).1) names is.1 in
-    let same : cut 44 word ≡ names = ap (cut 44) is.2 ∙ cut_joined 44 names is.0 free in
-    when_true (list_all is_file_name (cut 44 word)) (Some (cut 44 word)) None (ap (list_all is_file_name) same ∙ is.1) ∙ ap (λ l. Some l) same
+    let same : between 44 word ≡ names = ap (between 44) is.2 ∙ cut_joined 44 names is.0 free in
+    when_false (list_any is_empty (between 44 word)) None (Some (between 44 word)) (ap (list_any is_empty) same ∙ none_empty names is.1) ∙ ap (λ l. Some l) same

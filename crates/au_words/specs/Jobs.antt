@@ -14,9 +14,10 @@
 -- Without the option the steps are 1,000,000,000. M is names with single dots between, of at most 64
 -- bytes together, and f is a name of at most 64 bytes. A name is a letter and then letters, digits and
 -- `_`, and no keyword.
-use Rattle.std.specs.Prelude.{◌≡◌, ◌≢◌, ℕ, ◌≤◌, Bool, true, false, not, nat_eq, nat_lt, ◌==◌, ◌&&◌, ◌||◌, ◌⊎◌, IsTrue, IsFalse, List, [], ◌∷◌, ◌++◌, length, Option, option_to_list, unwrap_or, flat_map, codes, decimal}
+use Rattle.std.specs.Prelude.{◌≡◌, ◌≢◌, ℕ, ◌≤◌, Bool, true, false, not, nat_eq, nat_lt, ◌==◌, ◌&&◌, ◌||◌, ◌⊎◌, IsTrue, IsFalse, List, [], ◌∷◌, ◌++◌, length, Option, option_to_list, unwrap_or, flat_map, map, codes, decimal}
 use Rattle.std.specs.List.{list_all, starts_with}
 use Rattle.std.specs.Str.{bytes_eq}
+use Rattle.std.specs.String.{string_bytes}
 use Rattle.au_base.specs.Limits.{most_name_bytes}
 use Rattle.au_base.specs.declared.tokens.Keyword.{Keyword}
 use Rattle.au_base.specs.Tokens.{keywords, keyword_spelling}
@@ -37,7 +38,7 @@ pub record Task : Type 0 where
 
 -- what a job asks for
 abbrev pub task_of : Job → Task
-task_of job = record { command = job.command; files = job.files.items; entry = job.entry; steps = job.steps; life = job.life }
+task_of job = record { command = job.command; files = map string_bytes job.files.items; entry = job.entry; steps = job.steps; life = job.life }
 
 -- the steps without the option
 abbrev pub usual_steps : ℕ

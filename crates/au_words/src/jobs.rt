@@ -1,6 +1,7 @@
 //! What the words of a command line ask for.
 
-use au_base::{Memory, Name, Text};
+use au_base::{Memory, Name};
+use clap::error::ErrorKind;
 use std::alloc::{AllocError, AllocFailed};
 use thiserror::Error;
 
@@ -31,7 +32,7 @@ pub struct Entry {
 pub struct Job {
     pub command: Command,
     /// The names of the program's files in order.
-    pub files: Vec<Text>,
+    pub files: Vec<String>,
     /// The function that the program begins with, if it is given.
     pub entry: Option<Entry>,
     /// How many steps a run may take.
@@ -81,5 +82,21 @@ impl From<Memory> for WordsFault {
 
     fn from(_e: Memory) -> WordsFault {
         WordsFault::Memory
+    }
+}
+
+impl From<clap::Error> for WordsFault {
+    ghost use Rattle.std.specs.Prelude.{◌≡◌, ◌≢◌};
+    ghost use Rattle.clap.specs.Words.{kind_of};
+    ghost use Rattle.clap.specs.declared.error.kind.ErrorKind.TheVariants as kind;
+    ghost use Rattle.au_words.specs.declared.jobs.WordsFault.TheVariants as fault;
+
+    ghost from_gives = { λ error e. (kind_of error ≡ kind.OutOfMemory → e ≡ fault.Memory) × (kind_of error ≢ kind.OutOfMemory → e ≡ fault.NoJob) };
+
+    fn from(error: clap::Error) -> WordsFault {
+        match error.kind() {
+            ErrorKind::OutOfMemory => WordsFault::Memory,
+            _ => WordsFault::NoJob,
+        }
     }
 }

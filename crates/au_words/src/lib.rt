@@ -1,6 +1,6 @@
 //! From the words of a command line to the job that they ask for.
 //!
-//! `specs/Jobs.antt` says what the jobs are and how words spell them, `read_words` reads them, and `laws`
+//! `specs/Jobs.antt` says what the jobs are and how words spell them, `read_words` reads them by `clap`, and `laws`
 //! says that words ask for one job at most.
 #![tactic(auto)]
 
@@ -8,9 +8,10 @@ mod counts;
 mod jobs;
 pub mod laws;
 mod names;
-mod reading;
+mod program;
 #[cfg(test)]
 mod tests;
+mod values;
 mod words;
 
 pub use jobs::{Command, Entry, Job, WordsFault};

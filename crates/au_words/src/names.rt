@@ -1,14 +1,15 @@
 //! The names in words: of files, of modules and of functions.
 
-ghost use Rattle.std.specs.Prelude.{◌≡◌, ◌<◌, ◌≤◌, length, IfOk};
-ghost use Rattle.std.specs.List.{list_all};
+ghost use Rattle.std.specs.Prelude.{◌≡◌, ◌<◌, ◌≤◌, length, map, IfOk};
+ghost use Rattle.std.specs.List.{list_all, list_any};
+ghost use Rattle.std.specs.String.{string_bytes};
 ghost use Rattle.au_lexer.specs.Bytes as kinds;
 ghost use Rattle.au_words.specs.Jobs as asked;
 ghost use Rattle.au_words.specs.Reading as read;
 
 use crate::jobs::{Entry, WordsFault};
-use au_base::{Keyword, MOST_NAME_BYTES, Memory, Name, Text};
-use std::alloc::Global;
+use au_base::{Keyword, MOST_NAME_BYTES, Name};
+use std::alloc::{AllocError, Global};
 
 /// Whether a byte is a letter.
 fn is_letter(byte: u8) -> bool
@@ -73,64 +74,41 @@ fn is_name(bytes: &[u8]) -> bool
     is_spelled_as_name(bytes) && !is_keyword(bytes)
 }
 
-/// Whether no byte is a comma.
-fn has_no_comma(bytes: &[u8]) -> bool
-    ensures { result ≡ list_all (asked.is_other 44) bytes.now }
+/// What stands between the commas in a word.
+fn pieces(alloc: Global, word: &str) -> Result<Vec<&str>, AllocError>
+    ensures { IfOk result (λ names. map (λ name. name.now) names.items ≡ read.between 44 word.now) }
 {
-    bytes.iter().all(|byte| *byte != b',')
+    word.split(',').collect(alloc)
 }
 
-/// Whether bytes can name a file.
-fn is_file_name(bytes: &[u8]) -> bool
-    ensures { result ≡ asked.is_file_name bytes.now }
+/// Whether one of these names is empty.
+fn has_empty(names: &[&str]) -> bool
+    ensures { result ≡ list_any read.is_empty (map (λ name. name.now) names.now) }
 {
-    !bytes.is_empty() && has_no_comma(bytes)
+    names.iter().any(|name| name.is_empty())
 }
 
-/// What stands between the signs in bytes.
-#[tactic(auto, unfolding(crate::specs::Reading::cut))]
-fn cut(alloc: Global, bytes: &[u8], sign: u8) -> Result<Vec<Text>, Memory>
-    ensures { IfOk result (λ names. names.items ≡ read.cut sign bytes.now) }
+/// Copies of texts, in order.
+fn copies(alloc: Global, texts: &[&str]) -> Result<Vec<String>, AllocError>
+    ensures { IfOk result (λ copies. map string_bytes copies.items ≡ map (λ text. text.now) texts.now) }
 {
-    let mut names: Vec<Text> = Vec::new(alloc);
-    let mut name = Text::new(alloc);
-    for byte in bytes {
-        if *byte == sign {
-            names.push(name)?;
-            name = Text::new(alloc);
-        } else {
-            name.push(*byte)?;
-        }
+    let mut copies = Vec::new(alloc);
+    for text in texts {
+        copies.push(String::from_str(alloc, *text)?)?;
     }
-    names.push(name)?;
-    Ok(names)
-}
-
-/// Whether all names can name files.
-fn are_file_names(names: &[Text]) -> bool
-    ensures { result ≡ list_all asked.is_file_name names.now }
-{
-    names.iter().all(|name| is_file_name(name.as_bytes()))
-}
-
-/// Whether all are names.
-fn are_names(names: &[Text]) -> bool
-    ensures { result ≡ list_all asked.is_name names.now }
-{
-    names.iter().all(|name| is_name(name.as_bytes()))
+    Ok(copies)
 }
 
 /// The file names of a part.
 #[tactic(auto, unfolding(crate::specs::Reading::part_at))]
-pub fn part(alloc: Global, word: &[u8]) -> Result<Vec<Text>, WordsFault>
-    ensures { read.FindsItems result (read.part_at word.now) }
+pub fn part(alloc: Global, word: &str) -> Result<Vec<String>, WordsFault>
+    ensures { read.FindsFiles result (read.part_at word.now) }
 {
-    let names = cut(alloc, word, b',')?;
-    if are_file_names(names.as_slice()) {
-        Ok(names)
-    } else {
-        Err(WordsFault::NoJob)
+    let names = pieces(alloc, word)?;
+    if has_empty(names.as_slice()) {
+        return Err(WordsFault::NoJob);
     }
+    Ok(copies(alloc, names.as_slice())?)
 }
 
 /// How many bytes stand before the first colon.
@@ -153,12 +131,18 @@ fn is_function(bytes: &[u8]) -> bool
     bytes.len() <= MOST_NAME_BYTES && is_name(bytes)
 }
 
-/// Whether bytes are a module's name of at most 64 bytes.
-fn is_home(alloc: Global, bytes: &[u8]) -> Result<bool, Memory>
-    ensures { IfOk result (λ is. is ≡ read.is_home bytes.now) }
+/// Whether all that stands between dots are names.
+fn are_names(bytes: &[u8]) -> bool
+    ensures { result ≡ list_all asked.is_name (read.between 46 bytes.now) }
 {
-    let names = cut(alloc, bytes, b'.')?;
-    Ok(bytes.len() <= MOST_NAME_BYTES && are_names(names.as_slice()))
+    bytes.split(|byte| *byte == b'.').all(|name| is_name(name))
+}
+
+/// Whether bytes are a module's name of at most 64 bytes.
+fn is_home(bytes: &[u8]) -> bool
+    ensures { result ≡ read.is_home bytes.now }
+{
+    bytes.len() <= MOST_NAME_BYTES && are_names(bytes)
 }
 
 /// The entry that a value spells.
@@ -172,7 +156,7 @@ pub fn entry(alloc: Global, value: &[u8]) -> Result<Entry, WordsFault>
     }
     let home = &value[..size];
     let function = &value[size + 1..];
-    if !is_home(alloc, home)? || !is_function(function) {
+    if !is_home(home) || !is_function(function) {
         return Err(WordsFault::NoJob);
     }
     Ok(Entry {

@@ -1,16 +1,19 @@
 //! The job that words ask for.
 
-ghost use Rattle.std.specs.Prelude.{◌≡◌, Err, IfOk, map};
+ghost use Rattle.std.specs.Prelude.{◌≡◌, ◌≢◌, [], Err, IfOk, map};
 ghost use Rattle.std.specs.String.{string_bytes};
+ghost use Rattle.clap.specs.Words.{fault_of, found_of, rows_of, subcommand_of, subcommand_rows_of};
+ghost use Rattle.au_words.specs.Given as given;
+ghost use Rattle.au_words.specs.Given.{program};
 ghost use Rattle.au_words.specs.Jobs as asked;
+ghost use Rattle.au_words.specs.Jobs.{command_word};
 ghost use Rattle.au_words.specs.Reading as read;
 
 use crate::jobs::{Command, Job, WordsFault};
-use crate::reading::Reader;
+use crate::program::program;
+use crate::values::job;
+use clap::ArgMatches;
 use std::alloc::Global;
-
-/// The steps without the option.
-const USUAL_STEPS: u64 = 1_000_000_000;
 
 /// The command that a word is.
 #[tactic(auto, unfolding(crate::specs::Reading::command_at))]
@@ -30,39 +33,25 @@ fn command(word: &str) -> Option<Command>
     }
 }
 
-/// What words behind a command come to.
-fn read_all(alloc: Global, command: Command, words: &[String]) -> Result<Reader, WordsFault>
-    ensures { read.Reads result (read.read_from command read.start (map string_bytes words.now)) }
+/// What `clap` finds in words.
+fn found_in<'a>(alloc: Global, words: &'a [String]) -> Result<ArgMatches<'a>, WordsFault>
+    ensures passes { IfOk result (λ found. fault_of program (map string_bytes words.entry.now) ≡ []) }
+    ensures rows { IfOk result (λ found. subcommand_rows_of found ≡ subcommand_of program (map string_bytes words.entry.now)) }
+    ensures fails { result ≡ Err WordsFault.NoJob → fault_of program (map string_bytes words.entry.now) ≢ [] }
 {
-    let mut reader = Reader::new(alloc);
-    for word in words {
-        reader = reader.read(alloc, command, word.as_bytes())?;
-    }
-    Ok(reader)
+    let command = program(alloc)?;
+    let found = command.try_get_matches_from(words)?;
+    Ok(found)
 }
 
-/// The job of a command and of what is read behind it.
-fn job(command: Command, reader: Reader) -> Job
-    ensures { asked.task_of result ≡ asked.task_said command (read.state_of reader).said }
+/// The job of the command that a word is, from what was found behind it.
+fn job_of(alloc: Global, word: &str, behind: &ArgMatches) -> Result<Job, WordsFault>
+    ensures { (asked : Command) (what : given.Given) → word.now ≡ command_word asked → given.Shows (rows_of (found_of behind.now)) what
+        → read.GivesTask asked result (read.said_at what) }
 {
-    Job {
-        command,
-        files: reader.files,
-        entry: reader.entry,
-        steps: reader.steps.unwrap_or(USUAL_STEPS),
-        life: reader.life,
-    }
-}
-
-/// The job of a command and the words behind it.
-fn read_behind(alloc: Global, command: Command, words: &[String]) -> Result<Job, WordsFault>
-    ensures { read.GivesTask command result (map string_bytes words.now) }
-{
-    let reader = read_all(alloc, command, words)?;
-    if reader.may_end() {
-        Ok(job(command, reader))
-    } else {
-        Err(WordsFault::NoJob)
+    match command(word) {
+        Some(command) => job(alloc, command, behind),
+        None => Err(WordsFault::NoJob),
     }
 }
 
@@ -75,11 +64,9 @@ pub fn read_words(alloc: Global, words: &[String]) -> Result<Job, WordsFault>
     ensures job { IfOk result (λ job. asked.IsJob (map string_bytes words.now) (asked.task_of job)) }
     ensures no_job { result ≡ Err WordsFault.NoJob → asked.IsNoJob (map string_bytes words.now) }
 {
-    let Some((first, rest)) = words.split_first() else {
-        return Err(WordsFault::NoJob);
-    };
-    match command(first.as_str()) {
-        Some(command) => read_behind(alloc, command, rest),
+    let found = found_in(alloc, words)?;
+    match found.subcommand() {
+        Some((word, behind)) => job_of(alloc, word, behind),
         None => Err(WordsFault::NoJob),
     }
 }
