@@ -1,23 +1,24 @@
 -- Words and files owe one thing.
-use Rattle.std.proofs.Common.{◌≡◌, ℕ, ◌+◌, ◌≤◌, Bool, true, false, cond, List, length, drop, Option, Some, ap, ◌∙◌, sym, refl, subst, arith, ◌⊎◌, inl, inr, slice_get}
-use Rattle.std.specs.List.{flat_map}
+use Rattle.std.proofs.Common.{◌≡◌, ℕ, ◌+◌, ◌≤◌, Bool, true, false, cond, List, length, Option, Some, None, ap, ◌∙◌, sym, refl, subst, arith, ◌⊎◌, inl, inr, slice_get}
 use Rattle.au_base.specs.declared.statuses.Status.{Status}
 use Rattle.au_base.specs.declared.statuses.Status.TheVariants as status
 use Rattle.au_base.specs.Outside.{Files, Adds}
 use Rattle.austral_cli.specs.Calls.{AreTold, IsPaid, CameTo, HasPassed, HasRun, IsRefusedSo, Pays, is_decided}
-use Rattle.austral_cli.specs.Jobs.{Task, IsJob, IsNoJob, names_in}
-use Rattle.austral_cli.specs.Outcomes.{AreFiles, Arises, BytesCome, Comes, Due, FewCome, IsUnread, Owes, due_of, most_files}
+use Rattle.au_words.specs.Jobs.{Task, IsJob, IsNoJob}
+use Rattle.au_words.proofs.JobLemmas.{one_job}
+use Rattle.austral_cli.specs.Jobs.{unbuilt_of}
+use Rattle.austral_cli.specs.Outcomes.{AreFiles, Arises, Asks, BytesCome, Comes, Due, FewCome, IsUnread, Owes, due_of, most_files}
 use Rattle.austral_cli.specs.Trees.{HasNoTree, HasTokens, IsRead}
-use Rattle.austral_cli.specs.declared.jobs.Command.TheVariants.{Run}
+use Rattle.austral_cli.specs.declared.jobs.Unbuilt.{Unbuilt}
 use Rattle.austral_cli.specs.declared.outcomes.Outcome.{Outcome}
 use Rattle.austral_cli.specs.declared.outcomes.Outcome.TheVariants as outcome
 use Rattle.austral_cli.proofs.FetchLemmas.{few_had}
 use Rattle.austral_cli.proofs.HaltLemmas.{first_status, read_at, treeless}
 use Rattle.austral_cli.proofs.NameLemmas.{comes_same, files_same, first_or_files}
 
--- a job of words, with what its program comes to
+-- a job of words, with what it comes to
 JobComes : List (List ℕ) → Files → List (List ℕ) → Outcome → Type 0
-JobComes words files names arisen = IsJob words (record { command = Run; files = names }) × Comes files names arisen
+JobComes words files names arisen = (task : Task) × IsJob words task × (names ≡ task.files) × Asks (unbuilt_of task) files names arisen
 
 -- no job, or a job
 is_arisen : (words : List (List ℕ)) (files : Files) (names : List (List ℕ)) (arisen : Outcome) → Arises words files names arisen → (IsNoJob words × (arisen ≡ outcome.NoJob)) ⊎ JobComes words files names arisen
@@ -28,19 +29,19 @@ is_arisen words files names (outcome.Passes limit) h = inr h
 is_arisen words files names (outcome.Refused refusal) h = inr h
 is_arisen words files names (outcome.Prints first) h = inr h
 
--- the names of a job are those in the words behind the first
-names_of : (words names : List (List ℕ)) → IsJob words (record { command = Run; files = names }) → names ≡ flat_map names_in (drop 1 words)
-names_of words names job = ap (λ (t : Task). t.files) job.4 ∙ sym (ap (λ ws. flat_map names_in (drop 1 ws)) job.2)
+-- what is asked for comes to one thing
+asks_same : (what : Option Unbuilt) (files : Files) (names : List (List ℕ)) (x y : Outcome) → Asks what files names x → Asks what files names y → x ≡ y
+asks_same (Some what) files names x y a b = a ∙ sym b
+asks_same None files names x y a b = comes_same files names x y a b
 
-same_names : (words ns ms : List (List ℕ)) → IsJob words (record { command = Run; files = ns }) → IsJob words (record { command = Run; files = ms }) → ns ≡ ms
-same_names words ns ms a b = names_of words ns a ∙ sym (names_of words ms b)
-
-one_job : (words : List (List ℕ)) (files : Files) (ns ms : List (List ℕ)) (x y : Outcome) → JobComes words files ns x → JobComes words files ms y → due_of ns x ≡ due_of ms y
+-- one thing is due for a job
+same_due : (words : List (List ℕ)) (files : Files) (ns ms : List (List ℕ)) (x y : Outcome) → JobComes words files ns x → JobComes words files ms y → due_of ns x ≡ due_of ms y
 unfolding JobComes
-one_job words files ns ms x y a b =
-    let names = same_names words ns ms a.0 b.0 in
-    let same = comes_same files ms x y (subst (λ n. Comes files n x) names a.1) b.1 in
-    ap (λ n. due_of n x) names ∙ ap (due_of ms) same
+same_due words files ns ms x y a b =
+    let task : a.0 ≡ b.0 = one_job words a.0 b.0 a.1 b.1 in
+    let names : ns ≡ ms = a.2 ∙ ap (λ (t : Task). t.files) task ∙ sym b.2 in
+    let asks : Asks (unbuilt_of b.0) files ms x = subst (λ (t : Task). Asks (unbuilt_of t) files ms x) task (subst (λ n. Asks (unbuilt_of a.0) files n x) names a.3) in
+    ap (λ n. due_of n x) names ∙ ap (due_of ms) (asks_same (unbuilt_of b.0) files ms x y asks b.3)
 
 -- Words and files owe one thing.
 pub one_due : (words : List (List ℕ)) (files : Files) (a b : Due) → Owes words files a → Owes words files b → a ≡ b
@@ -49,11 +50,11 @@ one_due words files a b x y =
     elim (is_arisen words files x.0 x.1 x.2) [
       | inl p ↦ elim (is_arisen words files y.0 y.1 y.2) [
         | inl q ↦ x.3 ∙ ap (due_of x.0) p.1 ∙ sym (y.3 ∙ ap (due_of y.0) q.1)
-        | inr q ↦ absurd (p.0 (record { command = Run; files = y.0 }) q.0)
+        | inr q ↦ absurd (p.0 q.0 q.1)
       ]
       | inr p ↦ elim (is_arisen words files y.0 y.1 y.2) [
-        | inl q ↦ absurd (q.0 (record { command = Run; files = x.0 }) p.0)
-        | inr q ↦ x.3 ∙ one_job words files x.0 y.0 x.1 y.1 p q ∙ sym y.3
+        | inl q ↦ absurd (q.0 p.0 p.1)
+        | inr q ↦ x.3 ∙ same_due words files x.0 y.0 x.1 y.1 p q ∙ sym y.3
       ]
     ]
 
@@ -184,11 +185,8 @@ came_no_job words told faults faults' ends out out' err err' paid none decided =
     let h = came words told faults faults' ends out out' err err' paid decided in
     elim (is_arisen words h.0 h.2 h.3 h.4) [
       | inl p ↦ h.5.status ∙ ap (λ o. (due_of h.2 o).status) p.1
-      | inr p ↦ absurd (none (record { command = Run; files = h.2 }) (job_of words h.0 h.2 h.3 p))
+      | inr p ↦ absurd (none p.0 p.1)
     ]
-  where
-    job_of : (words : List (List ℕ)) (files : Files) (names : List (List ℕ)) (arisen : Outcome) → JobComes words files names arisen → IsJob words (record { command = Run; files = names })
-    job_of words files names arisen j = j.0
 
 -- a file among those whose bytes come to something that has no tree
 unread_bytes : (names all : List (List ℕ)) (file : ℕ) (bytes : List ℕ) (x : Outcome) → slice_get all file ≡ Some bytes → HasTokens file bytes HasNoTree → BytesCome all x
@@ -223,12 +221,15 @@ came_unread words told faults faults' ends out out' err err' files paid decided 
     let h = came words told faults faults' ends out out' err err' paid decided in
     let same : h.0 ≡ files = subst (λ t. AreTold t h.0) is h.1 in
     elim (is_arisen words h.0 h.2 h.3 h.4) [
-      | inl p ↦ absurd (p.0 (record { command = Run; files = unread.0 }) unread.1)
+      | inl p ↦ absurd (p.0 unread.0 unread.1)
       | inr p ↦
-          let names = same_names words unread.0 h.2 unread.1 p.0 in
-          let few : length h.2 ≤ most_files = subst (λ n. length n ≤ most_files) names unread.2 in
-          let are : AreFiles files h.2 unread.3 = subst (λ n. AreFiles files n unread.3) names unread.4 in
-          elim (unread_comes files h.2 unread.3 unread.5 unread.6 h.3 few are unread.7 unread.8 (subst (λ f. Comes f h.2 h.3) same p.1)) [
+          let task : unread.0 ≡ p.0 = one_job words unread.0 p.0 unread.1 p.1 in
+          let names : unread.0.files ≡ h.2 = ap (λ (t : Task). t.files) task ∙ sym p.2 in
+          let few : length h.2 ≤ most_files = subst (λ n. length n ≤ most_files) names unread.3 in
+          let are : AreFiles files h.2 unread.4 = subst (λ n. AreFiles files n unread.4) names unread.5 in
+          let built : unbuilt_of p.0 ≡ None = ap unbuilt_of (sym task) ∙ unread.2 in
+          let comes : Comes files h.2 h.3 = subst (λ what. Asks what files h.2 h.3) built (subst (λ f. Asks (unbuilt_of p.0) f h.2 h.3) same p.3) in
+          elim (unread_comes files h.2 unread.4 unread.6 unread.7 h.3 few are unread.8 unread.9 comes) [
             | inl e ↦ inl (h.5.status ∙ e)
             | inr e ↦ inr (h.5.status ∙ e)
           ]

@@ -1,4 +1,3 @@
-pub mod JobLemmas
 pub mod SinkLemmas
 pub mod ReadLemmas
 pub mod FetchLemmas

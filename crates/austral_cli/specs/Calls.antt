@@ -93,7 +93,7 @@ CameTo words told P =
     (files : Files) × AreTold told files × (names : List (List ℕ)) × (arisen : Outcome)
     × Arises words files names arisen × P names arisen
 
--- The program is refused, and its line stands on `err`.
+-- What the words ask for is refused, and its line stands on `err`.
 abbrev pub IsRefusedSo : Option (List ℕ) → Option (List ℕ) → List (List ℕ) → Outcome → Type 0
 IsRefusedSo err err' names arisen =
     (refusal : Refusal) × (arisen ≡ outcome.Refused refusal) × Adds err err' (refusal_line names refusal)

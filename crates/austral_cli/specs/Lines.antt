@@ -4,8 +4,10 @@ use Rattle.au_base.specs.declared.limits.Limit.{Limit}
 use Rattle.au_base.specs.declared.limits.LimitKind.{LimitKind}
 use Rattle.au_base.specs.declared.limits.LimitKind.TheVariants as kind
 use Rattle.au_base.specs.declared.places.Pos.{Pos}
+use Rattle.austral_cli.specs.declared.jobs.Unbuilt.{Unbuilt}
+use Rattle.austral_cli.specs.declared.jobs.Unbuilt.TheVariants as unbuilt
 use Rattle.austral_cli.specs.declared.refusals.Refusal.{Refusal}
-use Rattle.austral_cli.specs.declared.refusals.Refusal.TheVariants.{Byte, Syntax, NotYet, TwiceGiven, NoBody, Unsafe, NoModule, Late, NotVisible, NameTwice, NotDefined, Differs}
+use Rattle.austral_cli.specs.declared.refusals.Refusal.TheVariants.{Byte, Syntax, NotYet, TwiceGiven, NoBody, Unsafe, NoModule, Late, NotVisible, NameTwice, NotDefined, Differs, WordNotYet}
 
 -- each line ends with a newline
 abbrev pub line : List ℕ → List ℕ
@@ -51,7 +53,16 @@ abbrev pub place_text : List (List ℕ) → Pos → List ℕ
 place_text names at =
     unwrap_or (slice_get names at.file) [] ++ codes ":" ++ decimal at.line ++ codes ":" ++ decimal at.column
 
--- the line where a program is refused, without its end
+-- the word for what isn't built yet, as its line says it
+abbrev pub unbuilt_word : Unbuilt → List ℕ
+unbuilt_word unbuilt.Check = codes "check"
+unbuilt_word unbuilt.Explain = codes "explain"
+unbuilt_word unbuilt.Compile = codes "compile"
+unbuilt_word unbuilt.Entry = codes "entry"
+unbuilt_word unbuilt.Steps = codes "steps"
+unbuilt_word unbuilt.Life = codes "life"
+
+-- the line of a refusal, without its end
 abbrev pub refusal_text : List (List ℕ) → Refusal → List ℕ
 refusal_text names (Byte at) = place_text names at ++ codes ": byte"
 refusal_text names (Syntax at) = place_text names at ++ codes ": syntax"
@@ -65,7 +76,8 @@ refusal_text names (NotVisible at name) = place_text names at ++ codes ": name n
 refusal_text names (NameTwice at name) = place_text names at ++ codes ": name twice: " ++ name
 refusal_text names (NotDefined at name) = place_text names at ++ codes ": not defined: " ++ name
 refusal_text names (Differs at other name) = place_text names at ++ codes ": differs from " ++ place_text names other ++ codes ": " ++ name
+refusal_text names (WordNotYet what) = codes "not yet: " ++ unbuilt_word what
 
--- the line where a program is refused
+-- the line of a refusal
 abbrev pub refusal_line : List (List ℕ) → Refusal → List ℕ
 refusal_line names refusal = line (refusal_text names refusal)

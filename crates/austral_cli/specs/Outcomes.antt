@@ -1,5 +1,5 @@
 -- What words and files come to, and what is due for it.
-use Rattle.std.specs.Prelude.{◌≡◌, ℕ, ◌<◌, ◌≤◌, ◌⊎◌, List, [], ◌∷◌, ◌++◌, length, slice_get, Some, None, if◌then◌else◌}
+use Rattle.std.specs.Prelude.{◌≡◌, ℕ, ◌<◌, ◌≤◌, ◌⊎◌, List, [], ◌∷◌, ◌++◌, length, slice_get, Option, Some, None, if◌then◌else◌}
 use Rattle.std.specs.List.{flat_map}
 use Rattle.au_base.specs.declared.limits.Limit.{Limit}
 use Rattle.au_base.specs.declared.limits.LimitKind.TheVariants as kind
@@ -8,13 +8,15 @@ use Rattle.au_base.specs.declared.statuses.Status.TheVariants as status
 use Rattle.au_base.specs.Limits.{most_file_bytes}
 use Rattle.au_base.specs.Outside.{Files}
 use Rattle.au_printing.specs.declared.files.Print.{Print}
-use Rattle.austral_cli.specs.Jobs.{IsJob, IsNoJob}
+use Rattle.au_words.specs.Jobs.{Task, IsJob, IsNoJob}
+use Rattle.austral_cli.specs.Jobs.{unbuilt_of}
 use Rattle.austral_cli.specs.Programs.{ReadsCome}
 use Rattle.austral_cli.specs.Trees.{AreRead, FirstHalts, HasNoTree, HasTokens, ReadFile}
 use Rattle.austral_cli.specs.Lines.{words_line, missing_line, limit_line, refusal_line}
-use Rattle.austral_cli.specs.declared.jobs.Command.TheVariants.{Run}
+use Rattle.austral_cli.specs.declared.jobs.Unbuilt.{Unbuilt}
 use Rattle.austral_cli.specs.declared.outcomes.Outcome.{Outcome}
 use Rattle.austral_cli.specs.declared.outcomes.Outcome.TheVariants as outcome
+use Rattle.austral_cli.specs.declared.refusals.Refusal.TheVariants.{WordNotYet}
 
 -- the limit of a file's bytes, with the one count that passes it
 abbrev pub file_limit : Limit
@@ -72,10 +74,20 @@ Comes files names arisen =
     ((most_files < length names) × (arisen ≡ outcome.Passes (files_limit (length names))))
     ⊎ ((length names ≤ most_files) × FewCome files names arisen)
 
--- When words and files come to an outcome: the words are no job, or they ask to run a program.
+-- What a job of files of these names comes to: where it asks for this that isn't built it is refused, whatever
+-- the files are, and where it asks for no such thing the files come to it.
+abbrev pub Asks : Option Unbuilt → Files → List (List ℕ) → Outcome → Type 0
+Asks (Some what) files names arisen = arisen ≡ outcome.Refused (WordNotYet what)
+Asks None files names arisen = Comes files names arisen
+
+-- When words and files come to an outcome: the words are no job, or they are a job that comes to it.
 abbrev pub Arises : List (List ℕ) → Files → List (List ℕ) → Outcome → Type 0
 Arises words files names outcome.NoJob = IsNoJob words
-Arises words files names other = IsJob words (record { command = Run; files = names }) × Comes files names other
+Arises words files names other = (task : Task) × IsJob words task × (names ≡ task.files) × Asks (unbuilt_of task) files names other
+
+-- The words ask for no file: they are no job, or a job that asks for something that isn't built.
+abbrev pub AsksForNoFile : List (List ℕ) → Type 0
+AsksForNoFile words = IsNoJob words ⊎ ((task : Task) × (what : Unbuilt) × IsJob words task × (unbuilt_of task ≡ Some what))
 
 -- what a print writes
 abbrev pub printed : Print → List ℕ
@@ -108,10 +120,10 @@ abbrev pub Owes : List (List ℕ) → Files → Due → Type 0
 Owes words files due =
     (names : List (List ℕ)) × (arisen : Outcome) × Arises words files names arisen × (due ≡ due_of names arisen)
 
--- The files of a job can be had and are few enough, and one of them is cut into tokens within the limits, which
--- have no tree.
+-- The words are a job that asks for nothing that isn't built, its files can be had and are few enough, and one of
+-- them is cut into tokens within the limits, which have no tree.
 abbrev pub IsUnread : List (List ℕ) → Files → Type 0
 IsUnread words files =
-    (names : List (List ℕ)) × IsJob words (record { command = Run; files = names }) × (length names ≤ most_files)
-    × (all : List (List ℕ)) × AreFiles files names all
+    (task : Task) × IsJob words task × (unbuilt_of task ≡ None) × (length task.files ≤ most_files)
+    × (all : List (List ℕ)) × AreFiles files task.files all
     × (file : ℕ) × (bytes : List ℕ) × (slice_get all file ≡ Some bytes) × HasTokens file bytes HasNoTree

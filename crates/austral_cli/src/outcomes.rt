@@ -13,7 +13,7 @@ pub enum Outcome {
     Missing(Text),
     /// A quantity passes its limit.
     Passes(Limit),
-    /// The program is refused.
+    /// What the words ask for is not built yet, or the program is refused.
     Refused(Refusal),
     /// The program prints, and returns an exit code.
     Prints(First),

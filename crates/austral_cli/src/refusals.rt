@@ -4,11 +4,12 @@ ghost use Rattle.std.specs.Prelude.{◌≡◌, ◌++◌, ◌∷◌, [], IfOk, On
 ghost use Rattle.std.specs.String.{string_bytes};
 ghost use Rattle.austral_cli.specs.Lines as lines;
 
+use crate::jobs::Unbuilt;
 use au_base::{Limit, LimitKind, Memory, Name, Pos};
 use itoa::Buffer;
 use std::alloc::{AllocError, Global};
 
-/// Why a program is refused.
+/// Why what the words ask for is refused.
 #[derive(Debug, Drop)]
 pub enum Refusal {
     /// The byte at this place begins no token.
@@ -35,6 +36,8 @@ pub enum Refusal {
     NotDefined(Pos, Name),
     /// What the interface declares at the first place, the body defines differently at the second.
     Differs(Pos, Pos, Name),
+    /// The words ask for something that is not built yet.
+    WordNotYet(Unbuilt),
 }
 
 /// The line of a refusal on `err`. The files are those of the program, in order.
@@ -70,6 +73,30 @@ fn add_refusal(text: &mut Vec<u8>, refusal: &Refusal, files: &[String]) -> Resul
         Refusal::NameTwice(at, name) => add_naming(text, *at, files, b": name twice: ", name),
         Refusal::NotDefined(at, name) => add_naming(text, *at, files, b": not defined: ", name),
         Refusal::Differs(at, other, name) => add_differing(text, *at, *other, files, name),
+        Refusal::WordNotYet(what) => add_unbuilt(text, *what),
+    }
+}
+
+/// Adds that something is not built yet, with its word.
+fn add_unbuilt(text: &mut Vec<u8>, what: Unbuilt) -> Result<(), Memory>
+    ensures { OnOk result (text.new.items ≡ text.old.items ++ (codes "not yet: " ++ lines.unbuilt_word what)) }
+{
+    text.extend_from_slice(b"not yet: ")?;
+    text.extend_from_slice(unbuilt_word(what))?;
+    Ok(())
+}
+
+/// The word for what is not built yet, as its line says it.
+fn unbuilt_word(what: Unbuilt) -> &'static [u8]
+    ensures { result.now ≡ lines.unbuilt_word what }
+{
+    match what {
+        Unbuilt::Check => b"check",
+        Unbuilt::Explain => b"explain",
+        Unbuilt::Compile => b"compile",
+        Unbuilt::Entry => b"entry",
+        Unbuilt::Steps => b"steps",
+        Unbuilt::Life => b"life",
     }
 }
 

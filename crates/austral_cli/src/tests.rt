@@ -182,25 +182,79 @@ const WORDS: &[u8] =
     b"words: run [--entry=M:f] [--steps=N] [--life] PART.. | compile [--entry=M:f] PART.. | explain PART.. | check PART..\n";
 
 /// Words that are no job.
-const NO_JOBS: [&str; 9] = [
+const NO_JOBS: [&str; 14] = [
     "",
     "run",
-    "run --steps=0 a.aum",
-    "run --life",
-    "run -a.aum",
-    "run a.aum,",
-    "run a.aum -b.aum",
-    "check a.aum",
     "Run a.aum",
+    "--help",
+    "run a.aum,",
+    "run -a.aum",
+    "run a.aum -b.aum",
+    "run --version a.aum",
+    "run --life",
+    "run --life --life a.aum",
+    "check --life a.aum",
+    "run --steps=0 a.aum",
+    "run --steps=05 a.aum",
+    "run --steps=1000000000001 a.aum",
 ];
 
 #[test]
-fn words(rt: HostRuntime) -> Result<(), Fail> {
+fn words_that_are_no_job(rt: HostRuntime) -> Result<(), Fail> {
     for words in &NO_JOBS {
         let left = left_by(rt.alloc(), words, "a.aum", HELLO.to_vec(rt.alloc())?, 1000)?;
         assert_eq!(rt; left.status, 64, "{words}");
         assert_eq!(rt; left.out.written(), b"".as_slice(), "{words}");
         assert_eq!(rt; left.err.written(), WORDS, "{words}");
+    }
+    Ok(())
+}
+
+/// Words that ask for something that is not built yet, with the line.
+const UNBUILT: [(&str, &[u8]); 9] = [
+    ("check a.aum", b"not yet: check\n"),
+    ("explain a.aum", b"not yet: explain\n"),
+    ("compile a.aum", b"not yet: compile\n"),
+    ("compile --entry=M:f a.aum", b"not yet: compile\n"),
+    ("run --entry=M:f a.aum", b"not yet: entry\n"),
+    ("run --steps=5 --entry=M:f a.aum", b"not yet: entry\n"),
+    ("run --steps 5 a.aum", b"not yet: steps\n"),
+    ("run --life --steps=5 a.aum", b"not yet: steps\n"),
+    ("run --life a.aum", b"not yet: life\n"),
+];
+
+/// No file is there, and none is looked for: that would end with 9.
+#[test]
+fn words_not_yet(rt: HostRuntime) -> Result<(), Fail> {
+    for (words, err) in &UNBUILT {
+        let left = left_by_files(rt.alloc(), words, Vec::new(rt.alloc()), 1000)?;
+        assert_eq!(rt; left.status, 2, "{words}");
+        assert_eq!(rt; left.out.written(), b"".as_slice(), "{words}");
+        assert_eq!(rt; left.err.written(), *err, "{words}");
+    }
+    Ok(())
+}
+
+/// Words that ask to run a file, with its name.
+const JOBS: [(&str, &str); 5] = [
+    ("run a.aum", "a.aum"),
+    ("run --steps=1000000000 a.aum", "a.aum"),
+    ("run a.aum --steps 1000000000", "a.aum"),
+    ("run -", "-"),
+    ("run -- -x.aum", "-x.aum"),
+];
+
+#[test]
+fn words_that_run(rt: HostRuntime) -> Result<(), Fail> {
+    for (words, name) in &JOBS {
+        let left = left_by(rt.alloc(), words, name, HELLO.to_vec(rt.alloc())?, 1000)?;
+        assert_eq!(rt; left.status, 0, "{words}");
+        assert_eq!(rt;
+            left.out.written(),
+            b"Hello, world!\n".as_slice(),
+            "{words}"
+        );
+        assert_eq!(rt; left.err.written(), b"".as_slice(), "{words}");
     }
     Ok(())
 }

@@ -3,16 +3,18 @@
 ghost use Rattle.std.specs.Prelude.{◌≡◌, ◌≢◌, ◌⊎◌, ◌≤◌, Some, true, false, IfOk, IsTrue, map, vec_len};
 ghost use Rattle.std.specs.String.{string_bytes};
 ghost use Rattle.au_base.specs.Outside.{Files, HasRisen, Counts};
+ghost use Rattle.au_words.specs.Jobs.{IsNoJob};
 ghost use Rattle.austral_cli.specs.Calls.{AreTold, CameTo, HasPassed, HasRun, IsCut, IsMissingSo, IsPaid, IsRefusedSo, IsUntouched, MayOwe, Pays, is_decided, is_read_fault, is_missing};
-ghost use Rattle.austral_cli.specs.Jobs.{IsNoJob};
-ghost use Rattle.austral_cli.specs.Outcomes.{Arises, Due, IsUnread, Owes};
+ghost use Rattle.austral_cli.specs.Outcomes.{Arises, AsksForNoFile, Due, IsUnread, Owes};
 
 use crate::answering::{AnswerFault, answer};
 use crate::checking::check;
 use crate::halts::CheckFault;
-use crate::jobs::{WordsFault, read_words};
+use crate::jobs::unbuilt_of;
 use crate::outcomes::Outcome;
+use crate::refusals::Refusal;
 use au_base::{Shelf, Sink, Source, Status, WriteFault, put_all};
+use au_words::{WordsFault, read_words};
 use std::alloc::Global;
 
 /// The line where the shelf failed.
@@ -33,7 +35,7 @@ pub fn austral<S: Shelf, I: Source, O: Sink, E: Sink>(
         → IsPaid (map string_bytes words.now) (S.files shelf.old) (S.faults shelf.old) (S.faults shelf.new) result
         (O.written out.old) (O.written out.new) (E.written err.old) (E.written err.new) }
     // Where files are told, what the words and the files owe is what is paid: they owe one thing alone. A
-    // file that has no tree is refused, or a limit is told.
+    // file that has no tree is refused, or a limit is told, unless the words ask for what is not built.
     ensures only { (files : Files) (due : Due) → S.files shelf.old ≡ Some files
         → Owes (map string_bytes words.now) files due → IsTrue (is_decided result)
         → Pays due result (O.written out.old) (O.written out.new) (E.written err.old) (E.written err.new) }
@@ -42,7 +44,7 @@ pub fn austral<S: Shelf, I: Source, O: Sink, E: Sink>(
     // 64 comes exactly where the words are no job.
     ensures words { result ≡ Status.Words → IsNoJob (map string_bytes words.now) }
     ensures no_job { IsNoJob (map string_bytes words.now) → IsTrue (is_decided result) → result ≡ Status.Words }
-    // 2 comes with the line of a refusal that the file has.
+    // 2 comes with the line of a refusal that the words or the files have.
     ensures refused { result ≡ Status.Refused → CameTo (map string_bytes words.now) (S.files shelf.old)
         (IsRefusedSo (E.written err.old) (E.written err.new)) }
     // 8 comes with the line of a limit that is passed, and 9 with that of the first file that is missing.
@@ -72,6 +74,8 @@ pub fn austral<S: Shelf, I: Source, O: Sink, E: Sink>(
         × (O.faults out.new ≡ O.faults out.old) × (E.faults err.new ≡ E.faults err.old) }
     ensures no_miss { IsTrue (is_decided result) → result ≢ Status.Missing
         → S.misses shelf.new ≡ S.misses shelf.old }
+    // Where the words ask for no file, the shelf neither fails nor misses one.
+    ensures idle { AsksForNoFile (map string_bytes words.now) → (S.faults shelf.new ≡ S.faults shelf.old) × (S.misses shelf.new ≡ S.misses shelf.old) }
     ensures input { (I.left input.new ≡ I.left input.old) × (I.faults input.new ≡ I.faults input.old) }
     ensures files { S.files shelf.new ≡ S.files shelf.old }
 {
@@ -90,7 +94,8 @@ pub fn austral<S: Shelf, I: Source, O: Sink, E: Sink>(
 }
 
 /// What the words and the files come to, with the names of the program's files: first the words are
-/// read, and then the program of the files is checked.
+/// read, and then the program of the files is checked. Where the words ask for something that is not
+/// built yet, no file is fetched.
 fn outcome_of<S: Shelf>(
     alloc: Global,
     words: &[String],
@@ -100,6 +105,7 @@ fn outcome_of<S: Shelf>(
         × Arises (map string_bytes words.now) files (map string_bytes found.0.items) found.1) }
     ensures faults { Counts (is_read_fault result) (S.faults shelf.old) (S.faults shelf.new) }
     ensures misses { IfOk result (λ found. Counts (is_missing found.1) (S.misses shelf.old) (S.misses shelf.new)) }
+    ensures idle { AsksForNoFile (map string_bytes words.now) → (S.faults shelf.new ≡ S.faults shelf.old) × (S.misses shelf.new ≡ S.misses shelf.old) }
     ensures files { S.files shelf.new ≡ S.files shelf.old }
 {
     let job = match read_words(alloc, words) {
@@ -107,6 +113,9 @@ fn outcome_of<S: Shelf>(
         Err(WordsFault::NoJob) => return Ok((Vec::new(alloc), Outcome::NoJob)),
         Err(WordsFault::Memory) => return Err(CheckFault::Memory),
     };
+    if let Some(what) = unbuilt_of(&job) {
+        return Ok((job.files, Outcome::Refused(Refusal::WordNotYet(what))));
+    }
     let names = job.files;
     let outcome = check(alloc, shelf, names.as_slice())?;
     Ok((names, outcome))
