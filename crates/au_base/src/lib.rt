@@ -30,7 +30,7 @@ pub use limits::{
 pub use memory_shelf::MemoryShelf;
 pub use memory_sink::MemorySink;
 pub use memory_source::MemorySource;
-pub use names::Name;
+pub use names::{Entry, Name};
 pub use null_sink::NullSink;
 pub use outside::{Fetch, Next, Put, Shelf, Sink, Source};
 pub use places::Pos;

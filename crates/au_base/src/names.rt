@@ -53,3 +53,12 @@ impl Name {
         self.text.as_bytes()
     }
 }
+
+/// The function that a program begins with.
+#[derive(Debug, Drop)]
+pub struct Entry {
+    /// The name of its module, with dots.
+    pub module: Name,
+    /// Its own name.
+    pub function: Name,
+}

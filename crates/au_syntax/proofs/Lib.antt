@@ -4,5 +4,3 @@ pub mod StatementLemmas
 pub mod DeclarationLemmas
 pub mod DepthLemmas
 pub mod PartLemmas
-pub mod VisitLemmas
-pub mod CopyLemmas

@@ -12,5 +12,4 @@ pub mod Depths
 pub mod Sizes
 pub mod Files
 pub mod Parts
-pub mod Visits
 pub mod Examples

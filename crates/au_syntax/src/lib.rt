@@ -1,7 +1,6 @@
 //! What a file says, without its spelling.
 #![tactic(auto)]
 
-pub mod copying;
 pub mod declarations;
 pub mod depths;
 pub mod expressions;
@@ -12,7 +11,6 @@ pub mod parsed;
 pub mod phases;
 pub mod statements;
 pub mod types;
-pub mod visiting;
 pub mod wholes;
 
 pub use declarations::{Decl, Generic, Method, Signature, TypeParameter, UnionCase, Universe};
@@ -23,5 +21,4 @@ pub use parsed::Parsed;
 pub use phases::Phase;
 pub use statements::{Arm, Binding, Block, Branch, Stmt};
 pub use types::{Access, TypeName, TypeText};
-pub use visiting::{Node, nodes_of_block, nodes_of_expression};
 pub use wholes::{FileTree, Whole};

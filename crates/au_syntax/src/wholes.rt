@@ -1,17 +1,11 @@
 //! Whole files.
 
-ghost use Rattle.std.specs.Prelude.{◌≡◌, ◌≤◌, IfOk, IsTrue};
-ghost use Rattle.au_base.specs.Limits.{most_nesting};
-ghost use Rattle.au_syntax.specs.Depths as depths;
-ghost use Rattle.au_syntax.specs.Files.{says, is_formed, is_within, is_allowed};
-ghost use Rattle.au_syntax.specs.Views.{module_tree};
+ghost use Rattle.std.specs.Prelude.{◌≡◌, IsTrue};
+ghost use Rattle.au_syntax.specs.Files.{is_formed, is_within, is_allowed};
 
-use crate::depths::module_depth;
 use crate::modules::Module;
 use crate::parsed::Parsed;
 use crate::phases::Phase;
-use au_base::Memory;
-use std::alloc::Global;
 
 /// The module of a file, of which is known that it has the form that the grammar asks for (operands
 /// are atoms, and the last block of a conditional doesn't begin with an `if`), that it is within the
@@ -62,21 +56,5 @@ impl<P: Phase> Whole<P> {
         ensures allowed { IsTrue (is_allowed P.Phase result) }
     {
         self.tree
-    }
-
-    /// A whole file that says the same.
-    pub fn copy(&self, alloc: Global) -> Result<Whole<P>, Memory>
-        ensures { IfOk result (λ copy. module_tree P.Phase copy.tree ≡ module_tree P.Phase self.now.tree) }
-    {
-        let tree = self.tree().copy(alloc)?;
-        Ok(Whole::new(tree))
-    }
-
-    /// Its nesting: the expressions and statements from a declaration down to the deepest of them.
-    pub fn depth(&self) -> u32
-        ensures depth { result ≡ depths.module_depth (says P.Phase self.now.tree) }
-        ensures most { result ≤ most_nesting }
-    {
-        module_depth(&self.tree)
     }
 }

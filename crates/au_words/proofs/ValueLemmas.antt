@@ -6,7 +6,7 @@ use Rattle.clap.specs.Matches.{ReadsOne}
 use Rattle.au_words.specs.Given.{Given}
 use Rattle.au_words.specs.Jobs.{Said}
 use Rattle.au_words.specs.Reading.{entry_at, files_at, optional, said_at, steps_at}
-use Rattle.au_words.specs.declared.jobs.Entry.{Entry}
+use Rattle.au_base.specs.declared.names.Entry.{Entry}
 
 -- what is said, by what is read
 abbrev pub said_of : Bool → List (List ℕ) → Option Entry → Option ℕ → Said

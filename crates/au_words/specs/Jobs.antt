@@ -24,7 +24,7 @@ use Rattle.au_base.specs.Tokens.{keywords, keyword_spelling}
 use Rattle.au_lexer.specs.Bytes.{is_letter, is_name_byte}
 use Rattle.au_words.specs.declared.jobs.Command.{Command}
 use Rattle.au_words.specs.declared.jobs.Command.TheVariants.{Run, Compile, Explain, Check}
-use Rattle.au_words.specs.declared.jobs.Entry.{Entry}
+use Rattle.au_base.specs.declared.names.Entry.{Entry}
 use Rattle.au_words.specs.declared.jobs.Job.{Job}
 
 -- what is asked for: the command, the names of all files in order, the entry if one is given, how many
@@ -111,12 +111,12 @@ IsModuleName bytes = (names : List (List ℕ)) × (names ≢ []) × IsTrue (list
 -- There can be such an entry.
 abbrev pub IsEntry : Entry → Type 0
 IsEntry entry =
-    IsModuleName entry.home × (length entry.home ≤ most_name_bytes)
+    IsModuleName entry.module × (length entry.module ≤ most_name_bytes)
     × IsTrue (is_name entry.function) × (length entry.function ≤ most_name_bytes)
 
 -- how an entry is spelled: the module's name, a colon, and the function's
 abbrev pub entry_spelling : Entry → List ℕ
-entry_spelling entry = entry.home ++ 58 ∷ entry.function
+entry_spelling entry = entry.module ++ 58 ∷ entry.function
 
 -- There can be so many steps.
 abbrev pub AreSteps : ℕ → Type 0

@@ -13,7 +13,7 @@ use Rattle.au_words.specs.Given.{AreGiven, Given, Shows}
 use Rattle.au_words.specs.Jobs.{Said, command_word, task_of, task_said, is_other, is_name, most_steps}
 use Rattle.au_words.specs.declared.jobs.Command.{Command}
 use Rattle.au_words.specs.declared.jobs.Command.TheVariants.{Run, Compile, Explain, Check}
-use Rattle.au_words.specs.declared.jobs.Entry.{Entry}
+use Rattle.au_base.specs.declared.names.Entry.{Entry}
 use Rattle.au_words.specs.declared.jobs.Job.{Job}
 use Rattle.au_words.specs.declared.jobs.WordsFault.{WordsFault}
 use Rattle.au_words.specs.declared.jobs.WordsFault.TheVariants.{NoJob, Memory}
@@ -71,7 +71,7 @@ is_function bytes = nat_le (length bytes) most_name_bytes && is_name bytes
 unfoldable pub entry_at : List ℕ → Option Entry
 entry_at bytes =
     if home_size bytes == length bytes then None
-    else (if is_home (home_at bytes) && is_function (function_at bytes) then Some (record { home = home_at bytes; function = function_at bytes })
+    else (if is_home (home_at bytes) && is_function (function_at bytes) then Some (record { module = home_at bytes; function = function_at bytes })
     else None)
 
 -- whether bytes are one to thirteen digits, the first of them no zero

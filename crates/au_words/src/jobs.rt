@@ -1,6 +1,6 @@
 //! What the words of a command line ask for.
 
-use au_base::{Memory, Name};
+use au_base::{Entry, Memory};
 use clap::error::ErrorKind;
 use std::alloc::{AllocError, AllocFailed};
 use thiserror::Error;
@@ -16,15 +16,6 @@ pub enum Command {
     Explain,
     /// Say whether it is refused.
     Check,
-}
-
-/// The function that a program begins with.
-#[derive(Debug, Drop)]
-pub struct Entry {
-    /// The name of its module, with dots.
-    pub home: Name,
-    /// Its own name.
-    pub function: Name,
 }
 
 /// A command, and what it is to work on.

@@ -14,5 +14,5 @@ mod tests;
 mod values;
 mod words;
 
-pub use jobs::{Command, Entry, Job, WordsFault};
+pub use jobs::{Command, Job, WordsFault};
 pub use words::read_words;

@@ -7,8 +7,8 @@ ghost use Rattle.au_lexer.specs.Bytes as kinds;
 ghost use Rattle.au_words.specs.Jobs as asked;
 ghost use Rattle.au_words.specs.Reading as read;
 
-use crate::jobs::{Entry, WordsFault};
-use au_base::{Keyword, MOST_NAME_BYTES, Name};
+use crate::jobs::WordsFault;
+use au_base::{Entry, Keyword, MOST_NAME_BYTES, Name};
 use std::alloc::{AllocError, Global};
 
 /// Whether a byte is a letter.
@@ -160,7 +160,7 @@ pub fn entry(alloc: Global, value: &[u8]) -> Result<Entry, WordsFault>
         return Err(WordsFault::NoJob);
     }
     Ok(Entry {
-        home: Name::copy_of(alloc, home)?,
+        module: Name::copy_of(alloc, home)?,
         function: Name::copy_of(alloc, function)?,
     })
 }

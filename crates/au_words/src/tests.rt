@@ -27,7 +27,7 @@ fn show(alloc: Global, job: &Job) -> Result<Text, Fail> {
     shown.push(b' ')?;
     match &job.entry {
         Some(entry) => {
-            shown.append(entry.home.as_bytes())?;
+            shown.append(entry.module.as_bytes())?;
             shown.push(b':')?;
             shown.append(entry.function.as_bytes())?;
         }

@@ -6,8 +6,9 @@ ghost use Rattle.au_words.specs.Given as given;
 ghost use Rattle.au_words.specs.Reading as read;
 
 use crate::counts::steps;
-use crate::jobs::{Command, Entry, Job, WordsFault};
+use crate::jobs::{Command, Job, WordsFault};
 use crate::names::{entry, part};
+use au_base::Entry;
 use clap::ArgMatches;
 use std::alloc::Global;
 
