@@ -1,5 +1,5 @@
 -- The parts of a shipped interface, as it is written. Everything in it has one and the same place.
-use Rattle.std.specs.Prelude.{ℕ, List, [], ◌∷◌, None}
+use Rattle.std.specs.Prelude.{ℕ, List, [], None}
 use Rattle.au_base.specs.declared.places.Pos.{Pos}
 use Rattle.au_syntax.specs.declared.declarations.Universe.{Universe}
 use Rattle.au_syntax.specs.declared.modules.Part.TheVariants.{Interface}
