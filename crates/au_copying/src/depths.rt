@@ -1,18 +1,15 @@
-//! How deep trees are nested.
+//! How deep statements, declarations and modules are nested.
 //!
 //! A whole file is far within what can be counted; a deeper tree is counted up to 2^32 - 1.
 
 ghost use Rattle.std.specs.Prelude.{◌≡◌, ◌+◌, max, map};
-ghost use Rattle.au_syntax.specs.Views.{expression, expression_all, argument_all, statement, statement_all, block, branch_all, arm_all, method_body, declaration, module_tree};
-ghost use Rattle.au_syntax.specs.Plain.{plain_expression, plain_expressions, plain_arguments, plain_statement, plain_statements, plain_branches, plain_arms, plain_method, plain_declaration, plain_module};
+ghost use Rattle.au_syntax.specs.Views.{expression, statement, block, branch_all, arm_all, method_body, declaration, module_tree};
+ghost use Rattle.au_syntax.specs.Plain.{plain_expression, plain_statement, plain_statements, plain_branches, plain_arms, plain_method, plain_declaration, plain_module};
 ghost use Rattle.au_syntax.specs.Depths as spec;
 ghost use Rattle.au_syntax.specs.Depths.{counted, greatest};
 
-use crate::declarations::{Decl, Method};
-use crate::expressions::{Argument, Expr};
-use crate::modules::Module;
-use crate::phases::Phase;
-use crate::statements::{Arm, Block, Branch, Stmt};
+use au_syntax::depths::expression_depth;
+use au_syntax::{Arm, Block, Branch, Decl, Method, Module, Phase, Stmt};
 
 /// One more.
 fn one_more(depth: u32) -> u32
@@ -28,79 +25,11 @@ fn deeper(one: u32, other: u32) -> u32
     if one < other { other } else { one }
 }
 
-/// The nesting of an expression.
-#[tactic(auto, using(crate::proofs::ExpressionLemmas::expression_steps, std::proofs::lemmas::Grind::common_steps))]
-#[cycle(expression_depth)]
-pub fn expression_depth<P: Phase>(expr: &Expr<P>) -> u32
-    ensures { result ≡ counted (spec.expression_depth (plain_expression P.name_bytes (expression P.Phase expr.now))) }
-{
-    match expr {
-        Expr::Number(_, _) => 1,
-        Expr::Negative(_, _) => 1,
-        Expr::Text(_, _) => 1,
-        Expr::Bool(_, _) => 1,
-        Expr::Nil(_) => 1,
-        Expr::Path(_, _, _) => 1,
-        Expr::Arrow(_, _, _) => 1,
-        Expr::Borrow(_, _, _) => 1,
-        Expr::BorrowPart(_, _, _) => 1,
-        Expr::Call(_, _, arguments, _) => one_more(expressions_depth(arguments)),
-        Expr::NamedCall(_, _, arguments, _) => one_more(arguments_depth(arguments)),
-        Expr::Parenthesized(_, inner) => one_more(expression_depth(inner)),
-        Expr::Dereference(_, inner) => one_more(expression_depth(inner)),
-        Expr::Not(_, inner) => one_more(expression_depth(inner)),
-        Expr::Typed(_, inner, _) => one_more(expression_depth(inner)),
-        Expr::Binary(_, _, first, second) => {
-            one_more(deeper(expression_depth(first), expression_depth(second)))
-        }
-        Expr::If(_, test, first, second) => {
-            let branches = deeper(expression_depth(first), expression_depth(second));
-            one_more(deeper(expression_depth(test), branches))
-        }
-    }
-}
-
-/// The nesting of the deepest of some expressions, 0 where there is none.
-#[tactic(auto, using(crate::proofs::ExpressionLemmas::expression_steps))]
-#[cycle(expression_depth)]
-fn expressions_depth<P: Phase>(exprs: &Vec<Expr<P>>) -> u32
-    ensures { result ≡ counted (spec.expressions_depth (plain_expressions P.name_bytes (expression_all P.Phase exprs.now.items))) }
-{
-    let mut deepest = 0;
-    for one in exprs {
-        let depth = expression_depth(one);
-        deepest = deeper(deepest, depth);
-    }
-    deepest
-}
-
-/// The nesting of the deepest of some named arguments.
-#[tactic(auto, using(crate::proofs::ExpressionLemmas::expression_steps))]
-#[cycle(expression_depth)]
-fn arguments_depth<P: Phase>(arguments: &Vec<Argument<P>>) -> u32
-    ensures { result ≡ counted (spec.arguments_depth (plain_arguments P.name_bytes (argument_all P.Phase arguments.now.items))) }
-{
-    let mut deepest = 0;
-    for one in arguments {
-        let depth = argument_depth(one);
-        deepest = deeper(deepest, depth);
-    }
-    deepest
-}
-
-/// The nesting of a named argument.
-#[cycle(expression_depth)]
-fn argument_depth<P: Phase>(argument: &Argument<P>) -> u32
-    ensures { result ≡ counted (spec.expression_depth (plain_expression P.name_bytes (expression P.Phase argument.now.value))) }
-{
-    expression_depth(&argument.value)
-}
-
 /// The nesting of a statement.
-#[tactic(auto, using(crate::proofs::StatementLemmas::statement_steps, std::proofs::lemmas::Grind::common_steps))]
 #[cycle(statement_depth)]
-pub fn statement_depth<P: Phase>(stmt: &Stmt<P>) -> u32
-    ensures { result ≡ counted (spec.statement_depth (plain_statement P.name_bytes (statement P.Phase stmt.now))) }
+fn statement_depth<P: Phase>(stmt: &Stmt<P>) -> u32
+    ensures { result
+        ≡ counted (spec.statement_depth (plain_statement P.name_bytes (statement P.Phase stmt.now))) }
 {
     match stmt {
         Stmt::Skip(_) => 1,
@@ -128,9 +57,8 @@ pub fn statement_depth<P: Phase>(stmt: &Stmt<P>) -> u32
 }
 
 /// The nesting of the deepest statement of a block, 0 where there is none.
-#[tactic(auto, using(crate::proofs::ExpressionLemmas::expression_steps))]
 #[cycle(statement_depth)]
-pub fn block_depth<P: Phase>(body: &Block<P>) -> u32
+fn block_depth<P: Phase>(body: &Block<P>) -> u32
     ensures { result ≡ counted (spec.block_depth (plain_statements P.name_bytes (block P.Phase body.now))) }
 {
     let mut deepest = 0;
@@ -142,10 +70,11 @@ pub fn block_depth<P: Phase>(body: &Block<P>) -> u32
 }
 
 /// The nesting of the deepest of some branches.
-#[tactic(auto, using(crate::proofs::ExpressionLemmas::expression_steps))]
 #[cycle(statement_depth)]
 fn branches_depth<P: Phase>(branches: &Vec<Branch<P>>) -> u32
-    ensures { result ≡ counted (spec.branches_depth (plain_branches P.name_bytes (branch_all P.Phase branches.now.items))) }
+    ensures { result
+        ≡ counted (spec.branches_depth (plain_branches P.name_bytes
+        (branch_all P.Phase branches.now.items))) }
 {
     let mut deepest = 0;
     for one in branches {
@@ -156,7 +85,6 @@ fn branches_depth<P: Phase>(branches: &Vec<Branch<P>>) -> u32
 }
 
 /// The nesting of the deepest of some arms.
-#[tactic(auto, using(crate::proofs::ExpressionLemmas::expression_steps))]
 #[cycle(statement_depth)]
 fn arms_depth<P: Phase>(arms: &Vec<Arm<P>>) -> u32
     ensures { result ≡ counted (spec.arms_depth (plain_arms P.name_bytes (arm_all P.Phase arms.now.items))) }
@@ -172,7 +100,9 @@ fn arms_depth<P: Phase>(arms: &Vec<Arm<P>>) -> u32
 /// The nesting of a branch: of its test and its block.
 #[cycle(statement_depth)]
 fn branch_depth<P: Phase>(branch: &Branch<P>) -> u32
-    ensures { result ≡ counted (max (spec.expression_depth (plain_expression P.name_bytes (expression P.Phase branch.now.test.value)))
+    ensures { result
+        ≡ counted (max (spec.expression_depth (plain_expression P.name_bytes
+        (expression P.Phase branch.now.test.value)))
         (spec.block_depth (plain_statements P.name_bytes (block P.Phase branch.now.block)))) }
 {
     deeper(expression_depth(&branch.test), block_depth(&branch.block))
@@ -181,14 +111,17 @@ fn branch_depth<P: Phase>(branch: &Branch<P>) -> u32
 /// The nesting of an arm, which is that of its block.
 #[cycle(statement_depth)]
 fn arm_depth<P: Phase>(arm: &Arm<P>) -> u32
-    ensures { result ≡ counted (spec.block_depth (plain_statements P.name_bytes (block P.Phase arm.now.block))) }
+    ensures { result
+        ≡ counted (spec.block_depth (plain_statements P.name_bytes (block P.Phase arm.now.block))) }
 {
     block_depth(&arm.block)
 }
 
 /// The nesting of the deepest of some methods.
 fn methods_depth<P: Phase>(methods: &Vec<Method<P>>) -> u32
-    ensures { result ≡ counted (greatest spec.method_depth (map (plain_method P.name_bytes) (map (method_body P.Phase) methods.now.items))) }
+    ensures { result
+        ≡ counted (greatest spec.method_depth (map (plain_method P.name_bytes) (map
+        (method_body P.Phase) methods.now.items))) }
 {
     let mut deepest = 0;
     for one in methods {
@@ -199,9 +132,9 @@ fn methods_depth<P: Phase>(methods: &Vec<Method<P>>) -> u32
 }
 
 /// The nesting of a declaration, which is no node itself.
-#[tactic(auto, using(crate::proofs::DeclarationLemmas::declaration_steps, std::proofs::lemmas::Grind::common_steps))]
-pub fn declaration_depth<P: Phase>(decl: &Decl<P>) -> u32
-    ensures { result ≡ counted (spec.declaration_depth (plain_declaration P.name_bytes (declaration P.Phase decl.now))) }
+fn declaration_depth<P: Phase>(decl: &Decl<P>) -> u32
+    ensures { result
+        ≡ counted (spec.declaration_depth (plain_declaration P.name_bytes (declaration P.Phase decl.now))) }
 {
     match decl {
         Decl::Constant(_, _, _) => 0,
@@ -218,8 +151,9 @@ pub fn declaration_depth<P: Phase>(decl: &Decl<P>) -> u32
 }
 
 /// The nesting of a module: that of its deepest declaration.
-pub fn module_depth<P: Phase>(tree: &Module<P>) -> u32
-    ensures { result ≡ counted (spec.module_depth (plain_module P.name_bytes (module_tree P.Phase tree.now))) }
+pub(crate) fn module_depth<P: Phase>(tree: &Module<P>) -> u32
+    ensures { result
+        ≡ counted (spec.module_depth (plain_module P.name_bytes (module_tree P.Phase tree.now))) }
 {
     let mut deepest = 0;
     for one in &tree.declarations {

@@ -1,12 +1,13 @@
-use Rattle.std.proofs.Common.{ap, ◌∙◌, max}
+use Rattle.std.proofs.Common.{ap, ◌∙◌, max, arith}
 use Rattle.std.proofs.lemmas.List.{take_all}
 use Rattle.au_syntax.specs.declared.statements.Arm.{size-Arm}
 use Rattle.au_syntax.specs.declared.statements.Branch.{size-Branch}
 use Rattle.au_syntax.specs.Views as view
 use Rattle.au_syntax.specs.Plain as plain
 use Rattle.au_syntax.specs.Depths as spec
+use Rattle.au_syntax.proofs.StatementLemmas.{let_says, destructure_says, assign_says, assign_through_says, if_says, if_else_says, case_says, while_says, for_says, borrow_says, borrow_typed_says, call_says, return_says, skip_says}
 use Rattle.au_syntax.proofs.DepthLemmas as lemmas
-use Rattle.au_syntax.proofs.depths.+statement_depth.Goals as goal
+use Rattle.au_copying.proofs.depths.+statement_depth.Goals as goal
 
 pub block_depth-returns : goal.block_depth-returns
 block_depth-returns g t c =
@@ -51,3 +52,45 @@ arms_depth-arm_depth-depth-requires g t c κs within = (
       c.decreases c.deref-one-items.ensures.value c.loop-one-test.true c.one-item.is,
   within,
 )
+
+pub statement_depth-returns-in-Let : goal.statement_depth-returns-in-Let
+statement_depth-returns-in-Let g t c = grind (arith, let_says)
+
+pub statement_depth-returns-in-Destructure : goal.statement_depth-returns-in-Destructure
+statement_depth-returns-in-Destructure g t c = grind (arith, destructure_says)
+
+pub statement_depth-returns-in-Assign : goal.statement_depth-returns-in-Assign
+statement_depth-returns-in-Assign g t c = grind (arith, assign_says)
+
+pub statement_depth-returns-in-AssignThrough : goal.statement_depth-returns-in-AssignThrough
+statement_depth-returns-in-AssignThrough g t c = grind (arith, assign_through_says)
+
+pub statement_depth-returns-in-If : goal.statement_depth-returns-in-If
+statement_depth-returns-in-If g t c = grind (arith, if_says)
+
+pub statement_depth-returns-in-IfElse : goal.statement_depth-returns-in-IfElse
+statement_depth-returns-in-IfElse g t c = grind (arith, if_else_says)
+
+pub statement_depth-returns-in-Case : goal.statement_depth-returns-in-Case
+statement_depth-returns-in-Case g t c = grind (arith, case_says)
+
+pub statement_depth-returns-in-While : goal.statement_depth-returns-in-While
+statement_depth-returns-in-While g t c = grind (arith, while_says)
+
+pub statement_depth-returns-in-For : goal.statement_depth-returns-in-For
+statement_depth-returns-in-For g t c = grind (arith, for_says)
+
+pub statement_depth-returns-in-Borrow : goal.statement_depth-returns-in-Borrow
+statement_depth-returns-in-Borrow g t c = grind (arith, borrow_says)
+
+pub statement_depth-returns-in-BorrowTyped : goal.statement_depth-returns-in-BorrowTyped
+statement_depth-returns-in-BorrowTyped g t c = grind (arith, borrow_typed_says)
+
+pub statement_depth-returns-in-Call : goal.statement_depth-returns-in-Call
+statement_depth-returns-in-Call g t c = grind (arith, call_says)
+
+pub statement_depth-returns-in-Return : goal.statement_depth-returns-in-Return
+statement_depth-returns-in-Return g t c = grind (arith, return_says)
+
+pub statement_depth-returns-in-Skip : goal.statement_depth-returns-in-Skip
+statement_depth-returns-in-Skip g t c = grind (arith, skip_says)

@@ -3,7 +3,7 @@ use Rattle.au_syntax.specs.Views.{statement_all, branch_all, arm_all}
 use Rattle.au_syntax.specs.Plain.{plain_statements, plain_branches, plain_arms}
 use Rattle.au_syntax.specs.Depths as spec
 use Rattle.au_syntax.specs.Depths.{counted}
-use Rattle.au_syntax.proofs.depths.+statement_depth.Given as goal
+use Rattle.au_copying.proofs.depths.+statement_depth.Given as goal
 
 -- the depth of what is visited
 abbrev pub invariant-block_depth-loop-one : goal.invariant-block_depth-loop-one

@@ -4,7 +4,7 @@ use Rattle.au_syntax.specs.Views as view
 use Rattle.au_syntax.specs.Plain as plain
 use Rattle.au_syntax.specs.Depths as spec
 use Rattle.au_syntax.proofs.DepthLemmas as lemmas
-use Rattle.au_syntax.proofs.depths.module_depth.Goals as goal
+use Rattle.au_copying.proofs.depths.module_depth.Goals as goal
 
 pub returns : goal.returns
 returns g c =

@@ -2,7 +2,7 @@ use Rattle.std.proofs.Common.{◌≡◌, take, map}
 use Rattle.au_syntax.specs.Views as view
 use Rattle.au_syntax.specs.Plain as plain
 use Rattle.au_syntax.specs.Depths as spec
-use Rattle.au_syntax.proofs.depths.module_depth.Given as goal
+use Rattle.au_copying.proofs.depths.module_depth.Given as goal
 
 -- the depth of what is visited
 abbrev pub invariant-loop-one : goal.invariant-loop-one

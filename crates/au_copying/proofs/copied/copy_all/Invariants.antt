@@ -1,5 +1,5 @@
 use Rattle.std.proofs.Common.{◌≡◌, take, map}
-use Rattle.au_syntax.proofs.copying.copy_all.Given as goal
+use Rattle.au_copying.proofs.copied.copy_all.Given as goal
 
 -- the items copied so far
 abbrev pub invariant-loop-one : goal.invariant-loop-one

@@ -1,6 +1,6 @@
 use Rattle.std.proofs.Common.{◌≡◌, take}
 use Rattle.au_syntax.specs.Views.{written_all}
-use Rattle.au_syntax.proofs.copying.+copy_type.Given as goal
+use Rattle.au_copying.proofs.types.+copy_type.Given as goal
 
 -- the types copied so far
 abbrev pub invariant-copy_types-loop-one : goal.invariant-copy_types-loop-one

@@ -1,41 +1,11 @@
-//! Copies of trees, which say the same.
+//! Copies of written types.
 
-ghost use Rattle.std.specs.Prelude.{◌≡◌, IfOk, map};
+ghost use Rattle.std.specs.Prelude.{◌≡◌, IfOk};
 ghost use Rattle.au_syntax.specs.Views.{written, written_all, type_name};
 
-mod declarations;
-mod expressions;
-mod modules;
-mod names;
-mod statements;
-
-use crate::types::{TypeName, TypeText};
 use au_base::Memory;
+use au_syntax::{TypeName, TypeText};
 use std::alloc::Global;
-
-/// What can be copied alone, so that a vector of it can be copied by one loop.
-trait Copied: Drop {
-    // what contracts see of a value: what it says, and not where it lies in memory
-    ghost Seen: { Type 0 };
-
-    ghost see: { Self → Seen };
-
-    /// A value that says the same.
-    fn copy_item(&self, alloc: Global) -> Result<Self, Memory>
-        ensures { IfOk result (λ copy. see copy ≡ see self.now) };
-}
-
-/// A vector whose items say the same, each in its place.
-fn copy_all<T: Copied>(alloc: Global, items: &Vec<T>) -> Result<Vec<T>, Memory>
-    ensures { IfOk result (λ copies. map T.see copies.items ≡ map T.see items.now.items) }
-{
-    let mut copies = Vec::new(alloc);
-    for one in items {
-        let copy = one.copy_item(alloc)?;
-        copies.push(copy)?;
-    }
-    Ok(copies)
-}
 
 fn copy_type_name(alloc: Global, name: &TypeName) -> Result<TypeName, Memory>
     ensures { IfOk result (λ copy. type_name copy ≡ type_name name.now) }
@@ -46,9 +16,8 @@ fn copy_type_name(alloc: Global, name: &TypeName) -> Result<TypeName, Memory>
 }
 
 /// A written type that says the same.
-#[tactic(auto, using(crate::proofs::TypeLemmas::type_steps))]
 #[cycle(copy_type)]
-pub fn copy_type(alloc: Global, of: &TypeText) -> Result<TypeText, Memory>
+pub(crate) fn copy_type(alloc: Global, of: &TypeText) -> Result<TypeText, Memory>
     ensures { IfOk result (λ copy. written copy ≡ written of.now) }
 {
     match of {
@@ -73,7 +42,6 @@ fn copy_boxed_type(alloc: Global, of: &TypeText) -> Result<Box<TypeText>, Memory
     Ok(Box::new(alloc, copy)?)
 }
 
-#[tactic(auto, using(crate::proofs::TypeLemmas::type_steps))]
 #[cycle(copy_type)]
 fn copy_types(alloc: Global, types: &Vec<TypeText>) -> Result<Vec<TypeText>, Memory>
     ensures { IfOk result (λ copies. written_all copies.items ≡ written_all types.now.items) }

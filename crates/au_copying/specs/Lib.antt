@@ -1,0 +1,3 @@
+pub use Rattle.au_syntax.specs.Views
+pub use Rattle.au_syntax.specs.Files
+pub use Rattle.au_syntax.specs.Depths
