@@ -1,217 +1,278 @@
 //! Word lists and the jobs that they ask for, written by hand from the rule.
 
-use crate::{Job, laws, read_words};
-use au_base::Text;
+use crate::{Command, Job, laws, read_words};
+use au_base::Entry;
 use std::alloc::Global;
 use std::test::Fail;
 
-/// The words that a text gives with `|` between, or none of an empty text.
+/// The steps of a run whose words give none.
+const USUAL: u64 = 1_000_000_000;
+
+/// Words with `|` between, and the job that they ask for: its command, its files with `|` between, its entry as
+/// `M:f` or nothing, its steps, and whether lives are told.
+struct Row {
+    words: &'static str,
+    command: Command,
+    files: &'static str,
+    entry: &'static str,
+    steps: u64,
+    life: bool,
+}
+
+/// Words that ask for a job.
+const JOBS: [Row; 24] = [
+    Row {
+        words: "run|a.aum",
+        command: Command::Run,
+        files: "a.aum",
+        entry: "",
+        steps: USUAL,
+        life: false,
+    },
+    Row {
+        words: "compile|a.aum",
+        command: Command::Compile,
+        files: "a.aum",
+        entry: "",
+        steps: USUAL,
+        life: false,
+    },
+    Row {
+        words: "explain|a.aum",
+        command: Command::Explain,
+        files: "a.aum",
+        entry: "",
+        steps: USUAL,
+        life: false,
+    },
+    Row {
+        words: "check|a.aum",
+        command: Command::Check,
+        files: "a.aum",
+        entry: "",
+        steps: USUAL,
+        life: false,
+    },
+    // parts and options in any order
+    Row {
+        words: "run|--steps|5|--entry=M:f|--|-x.aum",
+        command: Command::Run,
+        files: "-x.aum",
+        entry: "M:f",
+        steps: 5,
+        life: false,
+    },
+    Row {
+        words: "run|a.aum|--steps=5|b.aum",
+        command: Command::Run,
+        files: "a.aum|b.aum",
+        entry: "",
+        steps: 5,
+        life: false,
+    },
+    Row {
+        words: "run|a.aum|--life|--entry|A.B_2.C:main_1|--steps|10",
+        command: Command::Run,
+        files: "a.aum",
+        entry: "A.B_2.C:main_1",
+        steps: 10,
+        life: true,
+    },
+    Row {
+        words: "run|--life|a.aum",
+        command: Command::Run,
+        files: "a.aum",
+        entry: "",
+        steps: USUAL,
+        life: true,
+    },
+    Row {
+        words: "compile|a.aum|--entry=M:f",
+        command: Command::Compile,
+        files: "a.aum",
+        entry: "M:f",
+        steps: USUAL,
+        life: false,
+    },
+    // parts
+    Row {
+        words: "run|a.aum,b.aum|c.aum",
+        command: Command::Run,
+        files: "a.aum|b.aum|c.aum",
+        entry: "",
+        steps: USUAL,
+        life: false,
+    },
+    Row {
+        words: "check|a.aum|a.aum",
+        command: Command::Check,
+        files: "a.aum|a.aum",
+        entry: "",
+        steps: USUAL,
+        life: false,
+    },
+    Row {
+        words: "check|a b.aum,-b",
+        command: Command::Check,
+        files: "a b.aum|-b",
+        entry: "",
+        steps: USUAL,
+        life: false,
+    },
+    Row {
+        words: "run|run|=5",
+        command: Command::Run,
+        files: "run|=5",
+        entry: "",
+        steps: USUAL,
+        life: false,
+    },
+    // a dash alone, and the mark
+    Row {
+        words: "run|-",
+        command: Command::Run,
+        files: "-",
+        entry: "",
+        steps: USUAL,
+        life: false,
+    },
+    Row {
+        words: "run|-|--",
+        command: Command::Run,
+        files: "-",
+        entry: "",
+        steps: USUAL,
+        life: false,
+    },
+    Row {
+        words: "explain|--|--steps",
+        command: Command::Explain,
+        files: "--steps",
+        entry: "",
+        steps: USUAL,
+        life: false,
+    },
+    Row {
+        words: "run|a.aum|--|--|--life|--steps=5",
+        command: Command::Run,
+        files: "a.aum|--|--life|--steps=5",
+        entry: "",
+        steps: USUAL,
+        life: false,
+    },
+    Row {
+        words: "check|--|-|-a,-b",
+        command: Command::Check,
+        files: "-|-a|-b",
+        entry: "",
+        steps: USUAL,
+        life: false,
+    },
+    Row {
+        words: "run|--entry=M:f|--|--entry=N:g",
+        command: Command::Run,
+        files: "--entry=N:g",
+        entry: "M:f",
+        steps: USUAL,
+        life: false,
+    },
+    // the least and the most
+    Row {
+        words: "run|--steps=1|a.aum",
+        command: Command::Run,
+        files: "a.aum",
+        entry: "",
+        steps: 1,
+        life: false,
+    },
+    Row {
+        words: "run|--steps|1000000000000|a.aum",
+        command: Command::Run,
+        files: "a.aum",
+        entry: "",
+        steps: 1_000_000_000_000,
+        life: false,
+    },
+    Row {
+        words: "run|--entry=M:fabcdefghijabcdefghijabcdefghijabcdefghijabcdefghijabcdefghijxyz|a.aum",
+        command: Command::Run,
+        files: "a.aum",
+        entry: "M:fabcdefghijabcdefghijabcdefghijabcdefghijabcdefghijabcdefghijxyz",
+        steps: USUAL,
+        life: false,
+    },
+    Row {
+        words: "run|--entry=Abcdefghijklmnopqrstuvwxyz12345.Bbcdefghijklmnopqrstuvwxyz123456:f|a.aum",
+        command: Command::Run,
+        files: "a.aum",
+        entry: "Abcdefghijklmnopqrstuvwxyz12345.Bbcdefghijklmnopqrstuvwxyz123456:f",
+        steps: USUAL,
+        life: false,
+    },
+    // longer names than keywords
+    Row {
+        words: "run|--entry=modules:Type1|a.aum",
+        command: Command::Run,
+        files: "a.aum",
+        entry: "modules:Type1",
+        steps: USUAL,
+        life: false,
+    },
+];
+
+/// The words that a text gives with `|` between.
 fn words_of(alloc: Global, text: &str) -> Result<Vec<String>, Fail> {
     let mut words = Vec::new(alloc);
-    if !text.is_empty() {
-        for word in text.split('|') {
-            words.push(String::from_str(alloc, word)?)?;
-        }
+    for word in text.split('|') {
+        words.push(String::from_str(alloc, word)?)?;
     }
     Ok(words)
 }
 
-/// A job as `COMMAND FILE|FILE| ENTRY STEPS`, with `-` for no entry, and ` life` behind if it is given.
-fn show(alloc: Global, job: &Job) -> Result<Text, Fail> {
-    let mut shown = Text::new(alloc);
-    shown.append(format!(in alloc; "{:?} ", job.command)?.as_bytes())?;
-    for file in &job.files {
-        shown.append(file.as_bytes())?;
-        shown.push(b'|')?;
-    }
-    shown.push(b' ')?;
-    match &job.entry {
-        Some(entry) => {
-            shown.append(entry.module.as_bytes())?;
-            shown.push(b':')?;
-            shown.append(entry.function.as_bytes())?;
+/// Whether names are those of a text with `|` between.
+fn are_named(names: &[String], text: &str) -> bool {
+    let mut rest = names.iter();
+    for name in text.split('|') {
+        match rest.next() {
+            Some(one) if one.as_str() == name => {}
+            _ => return false,
         }
-        None => shown.push(b'-')?,
     }
-    shown.append(format!(in alloc; " {}", job.steps)?.as_bytes())?;
-    if job.life {
-        shown.append(b" life")?;
-    }
-    Ok(shown)
+    rest.next().is_none()
 }
 
-/// What words come to: their job, or a fault.
-fn outcome(alloc: Global, text: &str) -> Result<Text, Fail> {
-    let words = words_of(alloc, text)?;
-    match read_words(alloc, words.as_slice()) {
-        Ok(job) => show(alloc, &job),
-        Err(fault) => Ok(Text::copy_of(alloc, format!(in alloc; "{fault}")?.as_bytes())?),
+/// Whether an entry is the one of a text `M:f`, or none of an empty text.
+fn is_entered(entry: &Option<Entry>, text: &str) -> bool {
+    match (entry, text.split_once(':')) {
+        (Some(entry), Some((home, function))) => {
+            entry.module.as_bytes() == home.as_bytes()
+                && entry.function.as_bytes() == function.as_bytes()
+        }
+        (None, None) => true,
+        _ => false,
     }
 }
 
-/// Words that ask for a job, with it.
-const JOBS: [(&str, &str); 24] = [
-    ("run|a.aum", "Run a.aum| - 1000000000"),
-    ("compile|a.aum", "Compile a.aum| - 1000000000"),
-    ("explain|a.aum", "Explain a.aum| - 1000000000"),
-    ("check|a.aum", "Check a.aum| - 1000000000"),
-    // parts and options in any order
-    ("run|--steps|5|--entry=M:f|--|-x.aum", "Run -x.aum| M:f 5"),
-    ("run|a.aum|--steps=5|b.aum", "Run a.aum|b.aum| - 5"),
-    (
-        "run|a.aum|--life|--entry|A.B_2.C:main_1|--steps|10",
-        "Run a.aum| A.B_2.C:main_1 10 life",
-    ),
-    ("run|--life|a.aum", "Run a.aum| - 1000000000 life"),
-    ("compile|a.aum|--entry=M:f", "Compile a.aum| M:f 1000000000"),
-    // parts
-    (
-        "run|a.aum,b.aum|c.aum",
-        "Run a.aum|b.aum|c.aum| - 1000000000",
-    ),
-    ("check|a.aum|a.aum", "Check a.aum|a.aum| - 1000000000"),
-    ("check|a b.aum,-b", "Check a b.aum|-b| - 1000000000"),
-    ("run|run|=5", "Run run|=5| - 1000000000"),
-    // a dash alone, and the mark
-    ("run|-", "Run -| - 1000000000"),
-    ("run|-|--", "Run -| - 1000000000"),
-    ("explain|--|--steps", "Explain --steps| - 1000000000"),
-    (
-        "run|a.aum|--|--|--life|--steps=5",
-        "Run a.aum|--|--life|--steps=5| - 1000000000",
-    ),
-    ("check|--|-|-a,-b", "Check -|-a|-b| - 1000000000"),
-    (
-        "run|--entry=M:f|--|--entry=N:g",
-        "Run --entry=N:g| M:f 1000000000",
-    ),
-    // the least and the most
-    ("run|--steps=1|a.aum", "Run a.aum| - 1"),
-    (
-        "run|--steps|1000000000000|a.aum",
-        "Run a.aum| - 1000000000000",
-    ),
-    (
-        "run|--entry=M:fabcdefghijabcdefghijabcdefghijabcdefghijabcdefghijabcdefghijxyz|a.aum",
-        "Run a.aum| M:fabcdefghijabcdefghijabcdefghijabcdefghijabcdefghijabcdefghijxyz 1000000000",
-    ),
-    (
-        "run|--entry=Abcdefghijklmnopqrstuvwxyz12345.Bbcdefghijklmnopqrstuvwxyz123456:f|a.aum",
-        "Run a.aum| Abcdefghijklmnopqrstuvwxyz12345.Bbcdefghijklmnopqrstuvwxyz123456:f 1000000000",
-    ),
-    // longer names than keywords
-    (
-        "run|--entry=modules:Type1|a.aum",
-        "Run a.aum| modules:Type1 1000000000",
-    ),
-];
-
-/// Words that ask for none: commands, parts and other options.
-const NO_JOBS: [&str; 30] = [
-    // no command, and no part
-    "",
-    "run",
-    "build|a.aum",
-    "Run|a.aum",
-    "run.aum",
-    "|a.aum",
-    "run|--life",
-    // no part
-    "run||a.aum",
-    "run|a.aum,",
-    "run|,a.aum",
-    "run|a,,b",
-    "run|,",
-    "run|-x.aum",
-    "run|-,a.aum",
-    // the mark alone, and an empty word behind it
-    "run|--",
-    "run|a.aum|--|",
-    // options that there are not
-    "run|--step=5|a.aum",
-    "run|--ent=M:f|a.aum",
-    "run|--Steps=5|a.aum",
-    "run|--step|5|a.aum",
-    "run|-h|a.aum",
-    "run|a.aum|--version",
-    "--help",
-    "-h",
-    "--version",
-    // options of other commands
-    "compile|--steps=5|a.aum",
-    "compile|--life|a.aum",
-    "explain|--entry=M:f|a.aum",
-    "explain|--life|a.aum",
-    "check|--steps|5|a.aum",
-];
-
-/// Words that ask for none: the values of options.
-const NO_VALUES: [&str; 30] = [
-    // numbers of steps
-    "run|--steps=05|a.aum",
-    "run|--steps=0|a.aum",
-    "run|--steps=|a.aum",
-    "run|--steps=+5|a.aum",
-    "run|--steps=1000000000001|a.aum",
-    "run|--steps=99999999999999999999999|a.aum",
-    "run|--steps=5x|a.aum",
-    // no value, and one that begins with a dash
-    "run|a.aum|--steps",
-    "run|--steps|a.aum",
-    "run|--steps|-5|a.aum",
-    "run|--steps|--|5|a.aum",
-    "run|--entry|-M:f|a.aum",
-    // an option twice, and a value where none is
-    "run|--steps=5|--steps=5|a.aum",
-    "run|--entry=M:f|--entry|M:f|a.aum",
-    "run|--life|--life|a.aum",
-    "run|--life=yes|a.aum",
-    // entries
-    "run|--entry=f|a.aum",
-    "run|--entry=M:f:g|a.aum",
-    "run|--entry=|a.aum",
-    "run|--entry=M:|a.aum",
-    "run|--entry=:f|a.aum",
-    "run|--entry=M..N:f|a.aum",
-    "run|--entry=M.:f|a.aum",
-    "run|--entry=M:f.g|a.aum",
-    "run|--entry=end:f|a.aum",
-    "run|--entry=M:end|a.aum",
-    "run|--entry=1M:f|a.aum",
-    "run|--entry=M:_f|a.aum",
-    "run|--entry=M:fabcdefghijabcdefghijabcdefghijabcdefghijabcdefghijabcdefghijxyza|a.aum",
-    "run|--entry=Abcdefghijklmnopqrstuvwxyz12345.Bbcdefghijklmnopqrstuvwxyz1234567:f|a.aum",
-];
+/// Whether a job is the one of a row.
+fn is_job(job: &Job, row: &Row) -> bool {
+    job.command == row.command
+        && job.steps == row.steps
+        && job.life == row.life
+        && are_named(job.files.as_slice(), row.files)
+        && is_entered(&job.entry, row.entry)
+}
 
 #[test]
-fn jobs(rt: HostRuntime) -> Result<(), Fail> {
+fn words_ask_for_their_job(rt: HostRuntime) -> Result<(), Fail> {
     laws::one_job();
     laws::names_of_the_language();
-    for (text, want) in JOBS {
-        assert_eq!(rt;
-            outcome(rt.alloc(), text)?.as_bytes(),
-            want.as_bytes(),
-            "{text}"
-        );
-    }
-    Ok(())
-}
-
-#[test]
-fn no_jobs(rt: HostRuntime) -> Result<(), Fail> {
-    for text in NO_JOBS {
-        assert_eq!(rt;
-            outcome(rt.alloc(), text)?.as_bytes(),
-            b"the words are no job".as_slice(),
-            "{text}"
-        );
-    }
-    for text in NO_VALUES {
-        assert_eq!(rt;
-            outcome(rt.alloc(), text)?.as_bytes(),
-            b"the words are no job".as_slice(),
-            "{text}"
-        );
+    for row in &JOBS {
+        let words = words_of(rt.alloc(), row.words)?;
+        let found = match read_words(rt.alloc(), words.as_slice()) {
+            Ok(job) => is_job(&job, row),
+            Err(_) => false,
+        };
+        assert!(rt; found, "{}", row.words);
     }
     Ok(())
 }
