@@ -1,5 +1,5 @@
 -- What steps say, from what the steps in them say.
-use Rattle.std.proofs.Common.{◌≡◌, ℕ, ◌<◌, ◌≤◌, List, [], ◌∷◌, ◌++◌, length, Option, Some, None, Result, Ok, Err, ap, ◌∙◌, sym, refl, subst, arith, inl, inr}
+use Rattle.std.proofs.Common.{◌≡◌, ℕ, ◌<◌, ◌≤◌, true, false, List, [], ◌∷◌, ◌++◌, length, Option, Some, None, Result, Ok, Err, ap, ◌∙◌, sym, refl, subst, arith, inl, inr}
 use Rattle.std.specs.Option.{IsSome, option_to_list}
 use Rattle.au_base.specs.declared.places.Pos.{Pos}
 use Rattle.au_base.specs.declared.tokens.Token.{Token}
@@ -8,8 +8,7 @@ use Rattle.au_base.specs.Places.{place_after}
 use Rattle.au_lexer.specs.Cut.{Cut}
 use Rattle.au_lexer.specs.Passing.{IsWithinLimits}
 use Rattle.au_printing.specs.declared.files.First.{First}
-use Rattle.au_outcomes.specs.Halts.{is_missing}
-use Rattle.au_outcomes.specs.Halts.{AreFilesOf, ComesTo, FewComeTo, Says}
+use Rattle.au_outcomes.specs.Halts.{AreFilesOf, ComesTo, FewComeTo, Says, is_missing, is_read_halt}
 use Rattle.au_outcomes.specs.Outcomes.{BytesCome, files_limit, most_files}
 use Rattle.au_outcomes.specs.Programs.{IsUnprinting, PrintingComes}
 use Rattle.au_outcomes.specs.Reading.{AllPrintSo, TokensHalt, first_stop}
@@ -35,6 +34,11 @@ says_map (Err (halt.Unknown e)) G H K L gave known h = tt
 pub halts_with : {T U : Type 0} (e : Halt) (G : T → Type 0) (H : U → Type 0) (K L : Outcome → Type 0) → ((o : Outcome) → K o → L o) → Says {T = T} (Err e) G K → Says {T = U} (Err e) H L
 halts_with (halt.Known arisen) G H K L known h = known arisen h
 halts_with (halt.Unknown e) G H K L known h = tt
+
+-- a halt of one step is the halt of another
+pub read_with : (T U : Type 0) (e : Halt) → is_read_halt {T = T} (Err e) ≡ true → is_read_halt {T = U} (Err e) ≡ true
+read_with T U (halt.Known arisen) h = cc
+read_with T U (halt.Unknown e) h = h
 
 -- ---- one file
 
@@ -97,9 +101,13 @@ pub bytes_come : (told : Option Files) (names all : List (List ℕ)) (x : Outcom
 bytes_come told names all x few files h =
     (files.0, files.1, inr (few, files_few files.0 names all x files.2 h (bytes_found all x h)))
 
+-- a count that stays
+stays : (old new : ℕ) → new ≡ old → Counts false old new
+stays old new same = (omega arith, same)
+
 -- a step that is about bytes counts no miss
 pub no_miss : (r : Result First Halt) (all : List (List ℕ)) (old new : ℕ) → Says r (λ first. BytesCome all (outcome.Prints first)) (BytesCome all) → new ≡ old →
     Says r (λ first. new ≡ old) (λ x. Counts (is_missing x) old new)
 no_miss (Ok first) all old new h same = same
-no_miss (Err (halt.Known x)) all old new h same = subst (λ b. Counts b old new) (sym (not_missing x (bytes_found all x h))) (omega (arith, same), same)
+no_miss (Err (halt.Known x)) all old new h same = subst (λ b. Counts b old new) (sym (not_missing x (bytes_found all x h))) (stays old new same)
 no_miss (Err (halt.Unknown e)) all old new h same = tt

@@ -12,8 +12,8 @@ use Rattle.std.proofs.lemmas.List.Sums.{fails_before_first}
 use Rattle.std.proofs.lemmas.Slice.Eq.{bytes_eq-Decides}
 use Rattle.au_base.specs.Limits.{most_file_bytes}
 use Rattle.au_base.specs.Outside.{Files}
-use Rattle.au_outcomes.specs.Halts.{AreFilesOf, AreTold, Extends, FewComeTo, IsUnhad, Tells, bytes_in}
-use Rattle.au_outcomes.specs.Outcomes.{AreFiles, BytesCome, FewCome, FilesCome, IsFile, IsFirst, IsTooLarge, file_limit}
+use Rattle.au_outcomes.specs.Halts.{AreFilesOf, AreTold, Extends, FewComeTo, IsUnhad, StopsIn, Tells, bytes_in}
+use Rattle.au_outcomes.specs.Outcomes.{AreFiles, BytesCome, FewCome, FilesCome, IsFile, IsFirst, IsTooLarge, file_limit, most_files}
 use Rattle.au_outcomes.specs.declared.outcomes.Outcome.{Outcome}
 use Rattle.au_outcomes.specs.declared.outcomes.Outcome.TheVariants as outcome
 use Rattle.au_outcomes.proofs.HaltLemmas.{is_of_files}
@@ -228,6 +228,13 @@ pub fetched_end : (told given : Option Files) (names before : List (String Globa
 fetched_end told given names before i name text all had x shelf h is list same spelled are next =
     let e = extends_same told given (take i names) before all had (λ files. IsUnhad files text x) (λ files. IsUnhad files (string_bytes name) x) shelf list same (ap (λ t files. IsUnhad files t x) spelled) next in
     subst (λ ns. FewComeTo told ns x) (sym (names_at names i name h is)) (files_end told (map string_bytes (take i names)) (map bytes_in all) (string_bytes name) (map string_bytes (drop (i + 1) names)) x are e)
+
+-- a file behind others that can be had, where the shelf failed
+pub fetched_stop : (told : Option Files) (names : List (String Global)) (i : ℕ) (name : String Global) (all : List (Vec ℕ Global)) → length names ≤ most_files → i < length names → name ≡ get_or names i name →
+    AreFilesOf told (map string_bytes (take i names)) (map bytes_in all) → StopsIn told (map string_bytes names)
+fetched_stop told names i name all few h is are =
+    let same = length-map names string_bytes in
+    (omega (arith, few), map string_bytes (take i names), string_bytes name, map string_bytes (drop (i + 1) names), names_at names i name h is, map bytes_in all, are)
 
 -- nothing is fetched yet
 pub none_fetched : (told : Option Files) → AreFilesOf told [] []

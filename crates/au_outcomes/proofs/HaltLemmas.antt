@@ -205,9 +205,7 @@ halt_found : (file : ℕ) (bytes : List ℕ) (x : Outcome) → Halts file bytes 
 halt_found file bytes (outcome.Passes limit) h = refl
 halt_found file bytes (outcome.Refused (Byte at)) h = refl
 halt_found file bytes (outcome.Refused (Syntax at)) h = refl
-halt_found file bytes outcome.NoJob h = absurd h
-halt_found file bytes (outcome.Missing name) h = absurd h
-halt_found file bytes (outcome.Prints first) h = refl
+halt_found file bytes other h = absurd h
 
 pub first_found : (file : ℕ) (all : List (List ℕ)) (x : Outcome) → FirstHalts file all x → is_of_files x ≡ true
 first_found file [] x h = absurd h

@@ -3,7 +3,7 @@ use Rattle.std.proofs.Common.{◌≡◌, ℕ, true, ◌<◌, ◌≤◌, List, []
 use Rattle.au_base.specs.Limits.{most_file_bytes}
 use Rattle.au_base.specs.Outside.{Files}
 use Rattle.au_outcomes.specs.Halts.{IsUnhad}
-use Rattle.au_outcomes.specs.Outcomes.{AreFiles, BytesCome, Comes, FewCome, IsFile, IsFirst, file_limit, is_outcome}
+use Rattle.au_outcomes.specs.Outcomes.{AreFiles, BytesCome, Comes, FewCome, IsFile, IsFirst, file_limit, is_outcome, most_files}
 use Rattle.au_outcomes.specs.declared.outcomes.Outcome.{Outcome}
 use Rattle.au_outcomes.specs.declared.outcomes.Outcome.TheVariants as outcome
 use Rattle.au_outcomes.proofs.FetchLemmas.{few_had}
@@ -88,15 +88,19 @@ few_same files names x y a b = elim (few_had files names x a) [
   ]
 ]
 
+-- files are not both too many and few enough
+pub many_or_few : (count : ℕ) → most_files < count → count ≤ most_files → ⊥
+many_or_few count many few = omega arith
+
 -- the files of names come to one thing
 pub comes_same : (files : Files) (names : List (List ℕ)) (x y : Outcome) → Comes files names x → Comes files names y → x ≡ y
 comes_same files names x y a b = elim a [
   | inl p ↦ elim b [
     | inl q ↦ p.1 ∙ sym q.1
-    | inr q ↦ absurd (omega arith)
+    | inr q ↦ absurd (many_or_few (length names) p.0 q.0)
   ]
   | inr p ↦ elim b [
-    | inl q ↦ absurd (omega arith)
+    | inl q ↦ absurd (many_or_few (length names) q.0 p.0)
     | inr q ↦ few_same files names x y p.1 q.1
   ]
 ]

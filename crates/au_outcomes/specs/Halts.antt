@@ -1,10 +1,10 @@
 -- Why a program prints nothing.
-use Rattle.std.specs.Prelude.{◌≡◌, ℕ, Bool, true, false, List, Option, Some, None, IfSome, Result, Ok, Err, Vec}
+use Rattle.std.specs.Prelude.{◌≡◌, ℕ, ◌≤◌, Bool, true, false, List, ◌∷◌, ◌++◌, length, Option, Some, None, IfSome, Result, Ok, Err, Vec}
 use Rattle.std.specs.Global.{Global}
 use Rattle.au_base.specs.Outside.{Files}
 use Rattle.au_lexer.specs.declared.lexing.LexFault.{LexFault}
 use Rattle.au_lexer.specs.declared.lexing.LexFault.TheVariants as lexing
-use Rattle.au_outcomes.specs.Outcomes.{AreFiles, Comes, FewCome, IsTooLarge, file_limit}
+use Rattle.au_outcomes.specs.Outcomes.{AreFiles, Comes, FewCome, IsTooLarge, file_limit, most_files}
 use Rattle.au_outcomes.specs.declared.halts.CheckFault.{CheckFault}
 use Rattle.au_outcomes.specs.declared.halts.CheckFault.TheVariants as fault
 use Rattle.au_outcomes.specs.declared.halts.Halt.{Halt}
@@ -45,6 +45,13 @@ FewComeTo told names arisen = (files : Files) × AreTold told files × FewCome f
 -- The files of these names, of those that are told, have these bytes.
 abbrev pub AreFilesOf : Option Files → List (List ℕ) → List (List ℕ) → Type 0
 AreFilesOf told names all = (files : Files) × AreTold told files × AreFiles files names all
+
+-- The files are as few as they may be, and those before one of them can be had, of those that are told.
+abbrev pub StopsIn : Option Files → List (List ℕ) → Type 0
+StopsIn told names =
+    (length names ≤ most_files)
+    × (before : List (List ℕ)) × (name : List ℕ) × (after : List (List ℕ)) × (names ≡ before ++ name ∷ after)
+    × (all : List (List ℕ)) × AreFilesOf told before all
 
 -- What a step says: of the value that it gave, or of what the program comes to where that is known.
 abbrev pub Says : {T : Type 0} → Result T Halt → (T → Type 0) → (Outcome → Type 0) → Type 0

@@ -1,10 +1,10 @@
 //! What a program of files comes to, in the order of refusals.
 
-ghost use Rattle.std.specs.Prelude.{◌≡◌, ◌≤◌, ◌<◌, All, false, map, length, IfOk};
+ghost use Rattle.std.specs.Prelude.{◌≡◌, ◌≤◌, ◌<◌, All, false, map, length, IfOk, IsTrue};
 ghost use Rattle.std.specs.String.{string_bytes};
 ghost use Rattle.au_base.specs.Limits.{most_file_bytes};
 ghost use Rattle.au_base.specs.Outside.{Counts};
-ghost use Rattle.au_outcomes.specs.Halts.{ComesTo, Says, bytes_in, is_missing, is_read_fault, is_read_halt};
+ghost use Rattle.au_outcomes.specs.Halts.{ComesTo, Says, StopsIn, bytes_in, is_missing, is_read_fault, is_read_halt};
 ghost use Rattle.au_outcomes.specs.Outcomes.{BytesCome, files_limit, most_files};
 ghost use Rattle.au_outcomes.specs.declared.outcomes.Outcome.TheVariants as outcome;
 
@@ -28,6 +28,11 @@ pub fn check<S: Shelf>(
 ) -> Result<Outcome, CheckFault>
     requires { 0 < length names.now }
     ensures comes { IfOk result (ComesTo (S.files shelf.old) (map string_bytes names.now)) }
+    // Where the shelf failed, it failed behind files that can be had.
+    ensures stops { IsTrue (is_read_fault result) → StopsIn (S.files shelf.old) (map string_bytes names.now) }
+    // Where the files are too many, none is fetched.
+    ensures crowded { most_files < length names.now
+        → (S.faults shelf.new ≡ S.faults shelf.old) × (S.misses shelf.new ≡ S.misses shelf.old) }
     ensures faults { Counts (is_read_fault result) (S.faults shelf.old) (S.faults shelf.new) }
     ensures misses { IfOk result (λ outcome. Counts (is_missing outcome) (S.misses shelf.old) (S.misses shelf.new)) }
     ensures misses_stay { S.misses shelf.old ≤ S.misses shelf.new }
@@ -46,6 +51,9 @@ fn program<S: Shelf>(alloc: Global, shelf: &mut S, names: &[String]) -> Result<F
     requires { 0 < length names.now }
     ensures comes { Says result (λ first. ComesTo (S.files shelf.old) (map string_bytes names.now) (outcome.Prints first))
         (ComesTo (S.files shelf.old) (map string_bytes names.now)) }
+    ensures stops { IsTrue (is_read_halt result) → StopsIn (S.files shelf.old) (map string_bytes names.now) }
+    ensures crowded { most_files < length names.now
+        → (S.faults shelf.new ≡ S.faults shelf.old) × (S.misses shelf.new ≡ S.misses shelf.old) }
     ensures faults { Counts (is_read_halt result) (S.faults shelf.old) (S.faults shelf.new) }
     ensures misses { Says result (λ _. S.misses shelf.new ≡ S.misses shelf.old)
         (λ arisen. Counts (is_missing arisen) (S.misses shelf.old) (S.misses shelf.new)) }

@@ -6,10 +6,11 @@ use Rattle.std.specs.String.{string_bytes}
 use Rattle.std.proofs.lemmas.List.{length-map}
 use Rattle.std.proofs.lemmas.Result.{err_from_is_err_and}
 use Rattle.au_base.specs.Limits.{most_file_bytes}
+use Rattle.au_printing.specs.declared.files.First.{First}
 use Rattle.au_outcomes.specs.Halts.{bytes_in}
 use Rattle.au_outcomes.specs.Outcomes.{BytesCome, most_files}
 use Rattle.au_outcomes.specs.declared.outcomes.Outcome.TheVariants as outcome
-use Rattle.au_outcomes.proofs.ComesLemmas.{bytes_come, halts_with, many_come, no_miss, says_map}
+use Rattle.au_outcomes.proofs.ComesLemmas.{bytes_come, halts_with, many_come, no_miss, read_with, says_map}
 use Rattle.au_outcomes.proofs.FetchLemmas.{are_small, fetched_length}
 use Rattle.au_outcomes.proofs.checking.program.Goals as goal
 
@@ -21,6 +22,12 @@ returns-in_err-few_enough-clause-comes g c =
     (halts_with c.in_err-few_enough.field-0.0 _ _ _ _
     (λ x h. many_come (g.S.Shelf.files c.args.shelf.now) (map string_bytes names) (length names) x (sym (length-map names string_bytes)) h.0 h.1)
     c.in_err-few_enough.ensures.comes)
+
+pub returns-in_err-all-clause-stops : goal.returns-in_err-all-clause-stops
+returns-in_err-all-clause-stops g c =
+    let p = err_from_is_err_and c.from_residual-in_err-all.result c.from_residual-in_err-all.ensures.1 in
+    rw (p.1, p.2)
+    (λ h. c.in_err-all.ensures.stops (read_with First (Vec (Vec ℕ Global) Global) c.in_err-all.field-0.0 h))
 
 pub first_of-requires-clause-some : goal.first_of-requires-clause-some
 first_of-requires-clause-some g c =

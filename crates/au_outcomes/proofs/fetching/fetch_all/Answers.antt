@@ -4,7 +4,7 @@ use Rattle.std.specs.Global.{Global}
 use Rattle.std.proofs.lemmas.Result.{err_from_is_err_and}
 use Rattle.au_outcomes.specs.Halts.{AreFilesOf, bytes_in}
 use Rattle.au_outcomes.proofs.ComesLemmas.{halts_with}
-use Rattle.au_outcomes.proofs.FetchLemmas.{fetched_end, fetched_length, fetched_more, none_fetched}
+use Rattle.au_outcomes.proofs.FetchLemmas.{fetched_end, fetched_length, fetched_more, fetched_stop, none_fetched}
 use Rattle.au_outcomes.proofs.fetching.fetch_all.Goals as goal
 
 pub loop-index-init : goal.loop-index-init
@@ -29,6 +29,10 @@ returns-in_err-bytes-clause-comes g c =
     (λ x next. fetched_end told (g.S.Shelf.files c.loop-index.shelf) names (take i names) i name c.as_str.result.now c.loop-index.all.items c.as_slice.result.now x
     c.loop-index.invariant.1 c.loop-index-test.true c.index-names-index.is refl c.as_slice.ensures.value c.as_str.ensures.value c.loop-index.invariant.0 next)
     c.in_err-bytes.ensures.comes)
+
+pub returns-in_err-bytes-clause-stops : goal.returns-in_err-bytes-clause-stops
+returns-in_err-bytes-clause-stops g c = λ _.
+    fetched_stop (g.S.Shelf.files c.args.shelf.now) c.args.names.now c.loop-index.index c.index-names-index.result c.loop-index.all.items c.requires c.loop-index-test.true c.index-names-index.is c.loop-index.invariant.0
 
 pub loop-index-preserved : goal.loop-index-preserved
 loop-index-preserved g c =
