@@ -8,15 +8,16 @@ use Rattle.au_outcomes.specs.Halts.{AreTold}
 use Rattle.au_words.specs.Jobs.{Task, IsJob, IsNoJob}
 use Rattle.au_words.proofs.JobLemmas.{one_job}
 use Rattle.au_top.specs.Jobs.{unbuilt_of}
-use Rattle.au_outcomes.specs.Outcomes.{AreFiles, BytesCome, Comes, FewCome, most_files}
+use Rattle.au_outcomes.specs.Outcomes.{AreFiles, BytesCome, Comes, FewCome, is_outcome, most_files}
 use Rattle.au_top.specs.Dues.{Arises, Asks, Due, IsUnread, Owes, due_of}
 use Rattle.au_outcomes.specs.Trees.{HasNoTree, HasTokens, IsRead}
 use Rattle.au_refusals.specs.declared.refusals.Unbuilt.{Unbuilt}
 use Rattle.au_outcomes.specs.declared.outcomes.Outcome.{Outcome}
 use Rattle.au_outcomes.specs.declared.outcomes.Outcome.TheVariants as outcome
+use Rattle.au_top.proofs.ArisesLemmas.{arises_outcome}
 use Rattle.au_outcomes.proofs.FetchLemmas.{few_had}
-use Rattle.au_outcomes.proofs.HaltLemmas.{first_status, read_at, treeless}
-use Rattle.au_outcomes.proofs.NameLemmas.{comes_same, files_same, first_or_files}
+use Rattle.au_outcomes.proofs.HaltLemmas.{IsHalt, first_halt, read_at, treeless}
+use Rattle.au_outcomes.proofs.NameLemmas.{comes_same, files_same, first_or_files, many_or_few}
 
 -- a job of words, with what it comes to
 JobComes : List (List ℕ) → Files → List (List ℕ) → Outcome → Type 0
@@ -101,14 +102,14 @@ pub came_refused : (words : List (List ℕ)) (told : Option Files) (faults fault
     → CameTo words told (IsRefusedSo err err')
 came_refused words told faults faults' ends out out' err err' paid is =
     let h = came words told faults faults' ends out out' err err' paid (ap is_decided is) in
-    (h.0, h.1, h.2, h.3, h.4, so h.2 h.3 err err' (sym is ∙ h.5.status) h.5.err_bytes)
+    (h.0, h.1, h.2, h.3, h.4, so h.2 h.3 err err' (arises_outcome words h.0 h.2 h.3 h.4) (sym is ∙ h.5.status) h.5.err_bytes)
   where
-    so : (names : List (List ℕ)) (arisen : Outcome) (err err' : Option (List ℕ)) → status.Refused ≡ (due_of names arisen).status → Adds err err' (due_of names arisen).err → IsRefusedSo err err' names arisen
-    so names outcome.NoJob err err' e adds = absurd cc
-    so names (outcome.Missing name) err err' e adds = absurd cc
-    so names (outcome.Passes limit) err err' e adds = absurd cc
-    so names (outcome.Refused refusal) err err' e adds = (refusal, refl, adds)
-    so names (outcome.Prints first) err err' e adds = absurd (no_refusal first.success e)
+    so : (names : List (List ℕ)) (arisen : Outcome) (err err' : Option (List ℕ)) → is_outcome arisen ≡ true → status.Refused ≡ (due_of names arisen).status → Adds err err' (due_of names arisen).err → IsRefusedSo err err' names arisen
+    so names outcome.NoJob err err' good e adds = absurd cc
+    so names (outcome.Missing name) err err' good e adds = absurd cc
+    so names (outcome.Passes limit) err err' good e adds = absurd cc
+    so names (outcome.Refused refusal) err err' good e adds = (refusal, good, refl, adds)
+    so names (outcome.Prints first) err err' good e adds = absurd (no_refusal first.success e)
 
 -- a status of an exit code
 abbrev is_exit : Status → Bool
@@ -190,15 +191,24 @@ came_no_job words told faults faults' ends out out' err err' paid none decided =
       | inr p ↦ absurd (none p.0 p.1)
     ]
 
+-- a refusal ends so, and a limit so
+halt_due : (names : List (List ℕ)) (x : Outcome) → IsHalt x → ((due_of names x).status ≡ status.Refused) ⊎ ((due_of names x).status ≡ status.Limit)
+halt_due names x h = elim h [
+  | inl p ↦ inl (ap (λ o. (due_of names o).status) p.1)
+  | inr p ↦ inr (ap (λ o. (due_of names o).status) p.1)
+]
+
+from_zero : (file : ℕ) → 0 + file ≡ file
+from_zero file = omega arith
+
 -- a file among those whose bytes come to something that has no tree
 unread_bytes : (names all : List (List ℕ)) (file : ℕ) (bytes : List ℕ) (x : Outcome) → slice_get all file ≡ Some bytes → HasTokens file bytes HasNoTree → BytesCome all x
     → ((due_of names x).status ≡ status.Refused) ⊎ ((due_of names x).status ≡ status.Limit)
 unread_bytes names all file bytes x is none h = elim h [
-  | inl p ↦ first_status names 0 all x p
+  | inl p ↦ halt_due names x (first_halt 0 all x p)
   | inr p ↦
       let one = read_at 0 all p.0 file bytes p.1 is in
-      let number : 0 + file ≡ file = omega arith in
-      absurd (treeless file bytes one.0 none (subst (λ f. IsRead f bytes one.0) number one.1))
+      absurd (treeless file bytes one.0 none (subst (λ f. IsRead f bytes one.0) (from_zero file) one.1))
 ]
 
 unread_few : (files : Files) (names all : List (List ℕ)) (file : ℕ) (bytes : List ℕ) (x : Outcome) → AreFiles files names all → slice_get all file ≡ Some bytes → HasTokens file bytes HasNoTree → FewCome files names x
@@ -211,7 +221,7 @@ unread_few files names all file bytes x are is none h = elim (few_had files name
 unread_comes : (files : Files) (names all : List (List ℕ)) (file : ℕ) (bytes : List ℕ) (x : Outcome) → length names ≤ most_files → AreFiles files names all → slice_get all file ≡ Some bytes → HasTokens file bytes HasNoTree → Comes files names x
     → ((due_of names x).status ≡ status.Refused) ⊎ ((due_of names x).status ≡ status.Limit)
 unread_comes files names all file bytes x few are is none h = elim h [
-  | inl p ↦ absurd (omega arith)
+  | inl p ↦ absurd (many_or_few (length names) p.0 few)
   | inr p ↦ unread_few files names all file bytes x are is none p.1
 ]
 

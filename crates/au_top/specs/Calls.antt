@@ -1,18 +1,20 @@
 -- How a call ends, and what it leaves on the sinks.
-use Rattle.std.specs.Prelude.{◌≡◌, ◌⊎◌, ℕ, Bool, true, false, List, Option, IfSome, Result, Ok, Err}
+use Rattle.std.specs.Prelude.{◌≡◌, ◌⊎◌, ℕ, Bool, true, false, IsTrue, List, Option, None}
 use Rattle.au_base.specs.declared.limits.Limit.{Limit}
 use Rattle.au_base.specs.declared.statuses.Status.{Status}
 use Rattle.au_base.specs.declared.statuses.Status.TheVariants as status
 use Rattle.au_base.specs.Outside.{Files, Adds, AddsFront, HasRisen}
+use Rattle.au_words.specs.Jobs.{Task, IsJob}
+use Rattle.au_outcomes.specs.Halts.{AreTold, StopsIn}
+use Rattle.au_top.specs.Jobs.{unbuilt_of}
 use Rattle.au_top.specs.Dues.{Due, Owes, Arises, due_line, printed}
+use Rattle.au_refusals.specs.Refusals.{is_refusal}
 use Rattle.au_refusals.specs.Lines.{refusal_line, limit_line, missing_line, read_fault_line}
 use Rattle.std.specs.List.{flat_map}
 use Rattle.au_printing.specs.declared.files.First.{First}
 use Rattle.au_refusals.specs.declared.refusals.Refusal.{Refusal}
 use Rattle.au_top.specs.declared.answering.AnswerFault.{AnswerFault}
 use Rattle.au_top.specs.declared.answering.AnswerFault.TheVariants as answer
-use Rattle.au_outcomes.specs.declared.halts.CheckFault.{CheckFault}
-use Rattle.au_outcomes.specs.declared.halts.CheckFault.TheVariants as fault
 use Rattle.au_outcomes.specs.declared.outcomes.Outcome.{Outcome}
 use Rattle.au_outcomes.specs.declared.outcomes.Outcome.TheVariants as outcome
 
@@ -72,10 +74,16 @@ CameTo words told P =
     (files : Files) × AreTold told files × (names : List (List ℕ)) × (arisen : Outcome)
     × Arises words files names arisen × P names arisen
 
+-- The words are a job that asks for nothing that isn't built, its files are as few as they may be, and those before
+-- one of them can be had, of those that are told.
+abbrev pub FailsBehind : List (List ℕ) → Option Files → Type 0
+FailsBehind words told = (task : Task) × IsJob words task × (unbuilt_of task ≡ None) × StopsIn told task.files
+
 -- What the words ask for is refused, and its line stands on `err`.
 abbrev pub IsRefusedSo : Option (List ℕ) → Option (List ℕ) → List (List ℕ) → Outcome → Type 0
 IsRefusedSo err err' names arisen =
-    (refusal : Refusal) × (arisen ≡ outcome.Refused refusal) × Adds err err' (refusal_line names refusal)
+    (refusal : Refusal) × IsTrue (is_refusal refusal) × (arisen ≡ outcome.Refused refusal)
+    × Adds err err' (refusal_line names refusal)
 
 -- A limit is passed, and its line stands on `err`.
 abbrev pub HasPassed : Option (List ℕ) → Option (List ℕ) → List (List ℕ) → Outcome → Type 0

@@ -1,5 +1,5 @@
 -- What words and files come to, and what is due for it.
-use Rattle.std.specs.Prelude.{◌≡◌, ℕ, ◌≤◌, ◌⊎◌, List, [], ◌∷◌, ◌++◌, length, slice_get, Option, Some, None, if◌then◌else◌}
+use Rattle.std.specs.Prelude.{◌≡◌, ℕ, ◌<◌, ◌≤◌, ◌⊎◌, List, [], ◌∷◌, ◌++◌, length, slice_get, Option, Some, None, if◌then◌else◌}
 use Rattle.std.specs.List.{flat_map}
 use Rattle.au_base.specs.declared.statuses.Status.{Status}
 use Rattle.au_base.specs.declared.statuses.Status.TheVariants as status
@@ -29,6 +29,10 @@ Arises words files names other = (task : Task) × IsJob words task × (names ≡
 -- The words ask for no file: they are no job, or a job that asks for something that isn't built.
 abbrev pub AsksForNoFile : List (List ℕ) → Type 0
 AsksForNoFile words = IsNoJob words ⊎ ((task : Task) × (what : Unbuilt) × IsJob words task × (unbuilt_of task ≡ Some what))
+
+-- The words ask for more files than a program may have.
+abbrev pub AsksForTooMany : List (List ℕ) → Type 0
+AsksForTooMany words = (task : Task) × IsJob words task × (most_files < length task.files)
 
 -- what a print writes
 abbrev pub printed : Print → List ℕ

@@ -4,9 +4,9 @@ ghost use Rattle.std.specs.Prelude.{◌≡◌, ◌≢◌, ◌⊎◌, ◌≤◌, 
 ghost use Rattle.std.specs.String.{string_bytes};
 ghost use Rattle.au_base.specs.Outside.{Files, HasRisen, Counts};
 ghost use Rattle.au_words.specs.Jobs.{IsNoJob};
-ghost use Rattle.au_top.specs.Calls.{CameTo, HasPassed, HasRun, IsCut, IsMissingSo, IsPaid, IsRefusedSo, IsUntouched, MayOwe, Pays, is_decided};
+ghost use Rattle.au_top.specs.Calls.{CameTo, FailsBehind, HasPassed, HasRun, IsCut, IsMissingSo, IsPaid, IsRefusedSo, IsUntouched, MayOwe, Pays, is_decided};
 ghost use Rattle.au_outcomes.specs.Halts.{AreTold, is_read_fault, is_missing};
-ghost use Rattle.au_top.specs.Dues.{Arises, AsksForNoFile, Due, IsUnread, Owes};
+ghost use Rattle.au_top.specs.Dues.{Arises, AsksForNoFile, AsksForTooMany, Due, IsUnread, Owes};
 
 use crate::answering::{AnswerFault, answer};
 use crate::unbuilt::unbuilt_of;
@@ -65,7 +65,9 @@ pub fn austral<S: Shelf, I: Source, O: Sink, E: Sink>(
     ensures memory { result ≡ Status.Memory
         → IsUntouched (O.written out.old) (O.written out.new) (E.written err.old) (E.written err.new)
         (O.faults out.old) (O.faults out.new) (E.faults err.old) (E.faults err.new) }
-    ensures read_fault { result ≡ Status.ReadFault → HasRisen (S.faults shelf.old) (S.faults shelf.new)
+    // Where the shelf failed, it failed behind files that can be had.
+    ensures read_fault { result ≡ Status.ReadFault → FailsBehind (map string_bytes words.now) (S.files shelf.old)
+        × HasRisen (S.faults shelf.old) (S.faults shelf.new)
         × (O.faults out.new ≡ O.faults out.old) × (E.faults err.new ≡ E.faults err.old) }
     ensures missing { result ≡ Status.Missing → HasRisen (S.misses shelf.old) (S.misses shelf.new) }
     // A status that the words and the files decide says that no count of faults rose.
@@ -73,8 +75,11 @@ pub fn austral<S: Shelf, I: Source, O: Sink, E: Sink>(
         × (O.faults out.new ≡ O.faults out.old) × (E.faults err.new ≡ E.faults err.old) }
     ensures no_miss { IsTrue (is_decided result) → result ≢ Status.Missing
         → S.misses shelf.new ≡ S.misses shelf.old }
-    // Where the words ask for no file, the shelf neither fails nor misses one.
-    ensures idle { AsksForNoFile (map string_bytes words.now) → (S.faults shelf.new ≡ S.faults shelf.old) × (S.misses shelf.new ≡ S.misses shelf.old) }
+    // Where the words ask for no file, or for too many, the shelf neither fails nor misses one.
+    ensures idle { AsksForNoFile (map string_bytes words.now)
+        → (S.faults shelf.new ≡ S.faults shelf.old) × (S.misses shelf.new ≡ S.misses shelf.old) }
+    ensures crowded { AsksForTooMany (map string_bytes words.now)
+        → (S.faults shelf.new ≡ S.faults shelf.old) × (S.misses shelf.new ≡ S.misses shelf.old) }
     ensures input { (I.left input.new ≡ I.left input.old) × (I.faults input.new ≡ I.faults input.old) }
     ensures files { S.files shelf.new ≡ S.files shelf.old }
 {
@@ -104,7 +109,11 @@ fn outcome_of<S: Shelf>(
         × Arises (map string_bytes words.now) files (map string_bytes found.0.items) found.1) }
     ensures faults { Counts (is_read_fault result) (S.faults shelf.old) (S.faults shelf.new) }
     ensures misses { IfOk result (λ found. Counts (is_missing found.1) (S.misses shelf.old) (S.misses shelf.new)) }
-    ensures idle { AsksForNoFile (map string_bytes words.now) → (S.faults shelf.new ≡ S.faults shelf.old) × (S.misses shelf.new ≡ S.misses shelf.old) }
+    ensures stops { IsTrue (is_read_fault result) → FailsBehind (map string_bytes words.now) (S.files shelf.old) }
+    ensures idle { AsksForNoFile (map string_bytes words.now)
+        → (S.faults shelf.new ≡ S.faults shelf.old) × (S.misses shelf.new ≡ S.misses shelf.old) }
+    ensures crowded { AsksForTooMany (map string_bytes words.now)
+        → (S.faults shelf.new ≡ S.faults shelf.old) × (S.misses shelf.new ≡ S.misses shelf.old) }
     ensures files { S.files shelf.new ≡ S.files shelf.old }
 {
     let job = match read_words(alloc, words) {

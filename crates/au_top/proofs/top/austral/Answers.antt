@@ -5,9 +5,14 @@ use Rattle.au_base.proofs.OutsideLemmas.{adds_none}
 use Rattle.au_base.specs.declared.statuses.Status.TheVariants.{ReadFault}
 use Rattle.au_refusals.specs.Lines.{read_fault_line}
 use Rattle.au_top.specs.Dues.{due_line}
-use Rattle.au_top.proofs.ArisesLemmas.{read_risen}
+use Rattle.au_top.proofs.ArisesLemmas.{arises_outcome, read_risen}
 use Rattle.au_top.proofs.DueLemmas.{paid_so, pays_owed, came_words, came_no_job, came_refused, came_unread, came_limit, came_success, came_failure}
 use Rattle.au_top.proofs.top.austral.Goals as goal
+
+pub answer-requires : goal.answer-requires
+answer-requires g c =
+    let arisen = c.in-Ok.ensures.arises in
+    arises_outcome (map string_bytes c.args.words.now) arisen.0 (map string_bytes c.in-Ok.names.items) c.in-Ok.outcome arisen.2
 
 pub returns-in-Ok-put_all-clause-due : goal.returns-in-Ok-put_all-clause-due
 returns-in-Ok-put_all-clause-due g c = λ _ _.
