@@ -1,12 +1,1 @@
-pub mod SinkLemmas
-pub mod ReadLemmas
-pub mod FetchLemmas
-pub mod TreeLemmas
-pub mod HaltLemmas
-pub mod PrintLemmas
-pub mod NameLemmas
-pub mod DueLemmas
-pub mod KeptLemmas
-pub mod JudgeLemmas
-pub mod ComesLemmas
-pub mod ArisesLemmas
+mod ReadLemmas

@@ -1,47 +1,32 @@
-//! The program: words and files in, output and a status out.
+//! The program: the words of the command line and the outside of the system, handed to the call.
 #![tactic(auto)]
 
 mod adapters;
-mod answering;
-mod checking;
-mod fetching;
-mod halts;
-mod jobs;
-mod judging;
-mod outcomes;
-mod reading;
-mod refusals;
-mod top;
+#[cfg(test)]
+mod tests;
 
-use adapters::{DiskShelf, StdinSource, StreamSink};
+use adapters::{DiskShelf, StderrSink, StdinSource, StdoutSink};
 use au_base::Status;
-use std::io::ErrorKind;
+use au_top::austral;
 use std::process::ExitCode;
 use std::{env, io};
-use top::austral;
 
 fn main(rt: HostRuntime) -> ExitCode {
-    let words = match words_of(&rt) {
-        Ok(words) => words,
-        Err(error) if error.kind() == ErrorKind::OutOfMemory => {
-            return ExitCode::from(Status::Memory.number());
-        }
-        // Words that aren't UTF-8 are no job, as no words are.
-        Err(_) => Vec::new(rt.alloc()),
-    };
+    match words_of(&rt) {
+        Ok(words) => status_of(rt, words.as_slice()),
+        // Words that can't be read ask for nothing, and nothing is written.
+        Err(_) => ExitCode::from(Status::Words.number()),
+    }
+}
+
+/// How the call with these words ends, over the outside of the system.
+fn status_of(rt: HostRuntime, words: &[String]) -> ExitCode {
     let mut input = StdinSource::new(rt.stdin());
-    let mut out = StreamSink::new(rt.stdout());
-    let mut err = StreamSink::new(rt.stderr());
+    let mut out = StdoutSink::new(rt.stdout());
+    let mut err = StderrSink::new(rt.stderr());
     let alloc = rt.alloc();
     let mut shelf = DiskShelf::new(rt);
-    let status = austral(
-        alloc,
-        words.as_slice(),
-        &mut shelf,
-        &mut input,
-        &mut out,
-        &mut err,
-    );
+    let status = austral(alloc, words, &mut shelf, &mut input, &mut out, &mut err);
     ExitCode::from(status.number())
 }
 
@@ -53,8 +38,3 @@ fn words_of(rt: &HostRuntime) -> io::Result<Vec<String>> {
     }
     Ok(words)
 }
-
-#[cfg(test)]
-mod file_tests;
-#[cfg(test)]
-mod tests;

@@ -1,0 +1,5 @@
+pub mod Trees
+pub mod Programs
+pub mod Outcomes
+pub mod Halts
+pub mod Reading

@@ -1,0 +1,75 @@
+-- What files come to, by their names and bytes.
+use Rattle.std.specs.Prelude.{◌≡◌, ℕ, ◌<◌, ◌≤◌, ◌⊎◌, Bool, true, List, [], ◌∷◌, length, Some, None}
+use Rattle.au_base.specs.declared.limits.Limit.{Limit}
+use Rattle.au_base.specs.declared.limits.LimitKind.TheVariants as kind
+use Rattle.au_base.specs.Limits.{most_file_bytes}
+use Rattle.au_base.specs.Outside.{Files}
+use Rattle.au_refusals.specs.Refusals.{is_refusal}
+use Rattle.au_outcomes.specs.Programs.{ReadsCome}
+use Rattle.au_outcomes.specs.Trees.{AreRead, FirstHalts, ReadFile}
+use Rattle.au_outcomes.specs.declared.outcomes.Outcome.{Outcome}
+use Rattle.au_outcomes.specs.declared.outcomes.Outcome.TheVariants as outcome
+
+-- whether an outcome is one that words and files come to: what it refuses, it refuses for a refusal
+abbrev pub is_outcome : Outcome → Bool
+is_outcome outcome.NoJob = true
+is_outcome (outcome.Missing name) = true
+is_outcome (outcome.Passes limit) = true
+is_outcome (outcome.Refused refusal) = is_refusal refusal
+is_outcome (outcome.Prints first) = true
+
+-- the limit of a file's bytes, with the one count that passes it
+abbrev pub file_limit : Limit
+file_limit = record { kind = kind.FileBytes; count = 1048577; most = 1048576 }
+
+-- The file of this name has these bytes, and isn't too large.
+abbrev pub IsFile : Files → List ℕ → List ℕ → Type 0
+IsFile files name bytes = (files name ≡ Some bytes) × (length bytes ≤ most_file_bytes)
+
+-- The file of this name is too large.
+abbrev pub IsTooLarge : Files → List ℕ → Type 0
+IsTooLarge files name = (bytes : List ℕ) × (files name ≡ Some bytes) × (most_file_bytes < length bytes)
+
+-- The files of these names have these bytes, and none is too large.
+abbrev pub AreFiles : Files → List (List ℕ) → List (List ℕ) → Type 0
+AreFiles files [] [] = Unit {0}
+AreFiles files (name ∷ names) (bytes ∷ others) = IsFile files name bytes × AreFiles files names others
+AreFiles files [] (bytes ∷ others) = ⊥
+AreFiles files (name ∷ names) [] = ⊥
+
+-- The first of the files that can't be had has this property: those before it can be had.
+abbrev pub IsFirst : (List ℕ → Type 0) → Files → List (List ℕ) → Type 0
+IsFirst P files [] = ⊥
+IsFirst P files (name ∷ names) = P name ⊎ (((bytes : List ℕ) × IsFile files name bytes) × IsFirst P files names)
+
+-- how many files a program may have
+abbrev pub most_files : ℕ
+most_files = 128
+
+-- the limit of the number of files, with the whole count that passes it
+abbrev pub files_limit : ℕ → Limit
+files_limit count = record { kind = kind.Files; count = count; most = most_files }
+
+-- What a program comes to, by the bytes of its files: the first file that can't be read counts, and where each
+-- is read, what is read.
+abbrev pub BytesCome : List (List ℕ) → Outcome → Type 0
+BytesCome all arisen = FirstHalts 0 all arisen ⊎ ((reads : List ReadFile) × AreRead 0 all reads × ReadsCome reads arisen)
+
+-- The files of these names can be had, and come to this.
+abbrev pub FilesCome : Files → List (List ℕ) → Outcome → Type 0
+FilesCome files names arisen = (all : List (List ℕ)) × AreFiles files names all × BytesCome all arisen
+
+-- What a program of so few files as it may have comes to, by their names: they are fetched in order, and then
+-- they are read.
+abbrev pub FewCome : Files → List (List ℕ) → Outcome → Type 0
+FewCome files names outcome.NoJob = ⊥
+FewCome files names (outcome.Missing name) = IsFirst (λ one. (one ≡ name) × (files one ≡ None)) files names
+FewCome files names (outcome.Passes limit) = ((limit ≡ file_limit) × IsFirst (IsTooLarge files) files names) ⊎ FilesCome files names (outcome.Passes limit)
+FewCome files names (outcome.Refused refusal) = FilesCome files names (outcome.Refused refusal)
+FewCome files names (outcome.Prints first) = FilesCome files names (outcome.Prints first)
+
+-- What a program comes to, by the names of its files.
+abbrev pub Comes : Files → List (List ℕ) → Outcome → Type 0
+Comes files names arisen =
+    ((most_files < length names) × (arisen ≡ outcome.Passes (files_limit (length names))))
+    ⊎ ((length names ≤ most_files) × FewCome files names arisen)

@@ -1,0 +1,74 @@
+-- What the files of a program come to once they are read: they are gathered into modules behind the shipped
+-- ones, the names and promises of the modules are judged, and then each file in order is one that prints.
+use Rattle.std.specs.Prelude.{◌≡◌, ◌⊎◌, ◌+◌, ℕ, List, [], ◌∷◌, ◌++◌, map, Option, None, Some}
+use Rattle.std.specs.Option.{option_or}
+use Rattle.au_printing.specs.declared.files.First.{First}
+use Rattle.au_printing.specs.Files.{Reads}
+use Rattle.au_modules.specs.declared.faults.ModuleFault.{ModuleFault}
+use Rattle.au_modules.specs.declared.faults.ModuleFault.TheVariants as modules
+use Rattle.au_modules.specs.Programs as programs
+use Rattle.au_modules.specs.Programs.{Entry, modules_of}
+use Rattle.au_syntax.specs.Plain.{PlainModule}
+use Rattle.au_shipped.specs.Shipped.{shipped_files}
+use Rattle.au_imports.specs.declared.faults.ImportFault.{ImportFault}
+use Rattle.au_imports.specs.declared.faults.ImportFault.TheVariants as imports
+use Rattle.au_imports.specs.Importing as importing
+use Rattle.au_outcomes.specs.Trees.{ReadFile, IsNoPrinting}
+use Rattle.au_outcomes.specs.declared.outcomes.Outcome.{Outcome}
+use Rattle.au_outcomes.specs.declared.outcomes.Outcome.TheVariants as outcome
+use Rattle.au_refusals.specs.declared.refusals.Refusal.TheVariants as refusal
+
+-- files that were read, the first of this number, as those that modules are gathered of
+unfoldable pub entries : ℕ → List ReadFile → List Entry
+entries file [] = []
+entries file (one ∷ rest) = record { file = file; tree = one.tree } ∷ entries (file + 1) rest
+
+-- the files that are shipped
+unfoldable pub shipped_entries : List Entry
+shipped_entries = map (λ (f : ℕ × PlainModule). record { file = f.0; tree = f.1 }) shipped_files
+
+-- what a program comes to whose files aren't those of modules: want of memory is no cause of the files
+abbrev pub module_outcome : ModuleFault → Option Outcome
+module_outcome (modules.Limit limit) = Some (outcome.Passes limit)
+module_outcome modules.Memory = None
+module_outcome fault = Some (outcome.Refused (refusal.Pair fault))
+
+-- what a program comes to of which a name or a promise isn't good
+abbrev pub import_outcome : ImportFault → Option Outcome
+import_outcome imports.Memory = None
+import_outcome fault = Some (outcome.Refused (refusal.Import fault))
+
+-- what is judged of the files of a program, the shipped ones first
+abbrev pub judged_by : {F : Type 0} → (F → Option Outcome) → Option F → Option Outcome
+judged_by outcome_of None = None
+judged_by outcome_of (Some fault) = outcome_of fault
+
+-- the files are those of modules, and then names and promises are good, or the program comes to this
+unfoldable pub program_outcome : List Entry → Option Outcome
+program_outcome files =
+    option_or (judged_by module_outcome (programs.refusal_of files))
+    (judged_by import_outcome (importing.refusal_of (modules_of files)))
+
+-- A file that was read isn't one that prints.
+abbrev pub IsUnprinting : ReadFile → Outcome → Type 0
+IsUnprinting one (outcome.Refused (refusal.NotYet at)) = IsNoPrinting one.tokens one.end at
+IsUnprinting one other = ⊥
+
+-- A file that was read prints this.
+abbrev pub PrintsSo : ReadFile → Outcome → Type 0
+PrintsSo one (outcome.Prints first) = Reads first one.tokens
+PrintsSo one other = ⊥
+
+-- Files that were read: the first that doesn't print is refused, and where each prints, the program prints what
+-- the last one does.
+abbrev pub PrintingComes : List ReadFile → Outcome → Type 0
+PrintingComes [] arisen = ⊥
+PrintingComes (one ∷ []) arisen = IsUnprinting one arisen ⊎ PrintsSo one arisen
+PrintingComes (one ∷ next ∷ rest) arisen =
+    IsUnprinting one arisen ⊎ (((first : First) × Reads first one.tokens) × PrintingComes (next ∷ rest) arisen)
+
+-- What a program comes to whose files were read.
+abbrev pub ReadsCome : List ReadFile → Outcome → Type 0
+ReadsCome reads arisen =
+    (program_outcome (shipped_entries ++ entries 0 reads) ≡ Some arisen)
+    ⊎ ((program_outcome (shipped_entries ++ entries 0 reads) ≡ None) × PrintingComes reads arisen)

@@ -1,0 +1,88 @@
+-- Which tokens have a tree, and what tokens come to.
+use Rattle.std.specs.Prelude.{◌≡◌, ◌⊎◌, ℕ, ◌+◌, ◌-◌, List, [], ◌∷◌, Err, IsTrue, length, unwrap_or, slice_get}
+use Rattle.std.specs.Option.{option_map}
+use Rattle.au_base.specs.declared.limits.Limit.{Limit}
+use Rattle.au_base.specs.declared.places.Pos.{Pos}
+use Rattle.au_base.specs.declared.tokens.Token.{Token}
+use Rattle.au_base.specs.Places.{place_after}
+use Rattle.au_lexer.specs.Cut.{Cut, IsStray, PassesLimit}
+use Rattle.au_lexer.specs.Passing.{IsWithinLimits}
+use Rattle.au_printing.specs.Files.{IsUnfinished, IsStrangePlace}
+use Rattle.au_read_modules.specs.ModuleReading.{file_at}
+use Rattle.au_reading.specs.Bounds.{ModulePasses, usual}
+use Rattle.au_reading.specs.declared.faults.Fault.TheVariants as reading
+use Rattle.au_syntax.specs.Forms.{formed_module}
+use Rattle.au_syntax.specs.Plain.{PlainModule}
+use Rattle.au_syntax.specs.Sizes.{fits}
+use Rattle.au_syntax.specs.Words.{Spells}
+use Rattle.au_outcomes.specs.declared.outcomes.Outcome.{Outcome}
+use Rattle.au_outcomes.specs.declared.outcomes.Outcome.TheVariants as outcome
+use Rattle.au_refusals.specs.declared.refusals.Refusal.TheVariants.{Byte, Syntax}
+
+-- The tokens are the words of a tree within the limits.
+abbrev pub HasTree : List Token → Type 0
+HasTree tokens = (m : PlainModule) × IsTrue (formed_module m) × Spells m tokens × IsTrue (fits m)
+
+-- The tokens are the words of no tree, however large.
+abbrev pub HasNoTree : List Token → Type 0
+HasNoTree tokens = (m : PlainModule) → IsTrue (formed_module m) → Spells m tokens → ⊥
+
+-- Whatever tree has these words passes this limit, and it's the first that reading meets.
+abbrev pub TreesPass : List Token → Limit → Type 0
+TreesPass tokens limit =
+    ((m : PlainModule) → IsTrue (formed_module m) → Spells m tokens → ModulePasses usual m limit)
+    × ((left : ℕ) × (file_at usual tokens ≡ Err (reading.Passed limit left)))
+
+-- the place of a token, or the end of the file behind the last one
+abbrev pub place_or : Pos → List Token → ℕ → Pos
+place_or end tokens index = unwrap_or (option_map (λ (token : Token). token.at) (slice_get tokens index)) end
+
+-- The place of the token at which reading stops, or the end where it stops behind the last one.
+abbrev pub IsPlaceIn : List Token → Pos → Pos → Type 0
+IsPlaceIn tokens end at =
+    (left : ℕ) × (file_at usual tokens ≡ Err (reading.Syntax left)) × (at ≡ place_or end tokens (length tokens - left))
+
+-- The tokens don't print: one of them stands where no file that prints has it, or they are too few.
+abbrev pub IsNoPrinting : List Token → Pos → Pos → Type 0
+IsNoPrinting tokens end at = IsStrangePlace tokens at ⊎ (IsUnfinished tokens × (at ≡ end))
+
+-- a file that was read: its tokens, the place of its end, and its tree
+pub record ReadFile : Type 0 where
+  pub tokens : List Token
+  pub end : Pos
+  pub tree : PlainModule
+
+-- The bytes of the file of a number are cut into tokens that pass no limit, and P holds of them.
+abbrev pub HasTokens : ℕ → List ℕ → (List Token → Type 0) → Type 0
+HasTokens file bytes P = (tokens : List Token) × Cut file bytes tokens × IsWithinLimits tokens × P tokens
+
+-- A file of these bytes was read so: it is cut into these tokens, which are the words of this tree, and no
+-- limit is passed.
+pub record IsRead (file : ℕ) (bytes : List ℕ) (one : ReadFile) : Type 0 where
+  pub cut : Cut file bytes one.tokens
+  pub within : IsWithinLimits one.tokens
+  pub end : one.end ≡ place_after file bytes
+  pub formed : IsTrue (formed_module one.tree)
+  pub spelled : Spells one.tree one.tokens
+  pub fits : IsTrue (fits one.tree)
+
+-- What a file of these bytes comes to that can't be read: the first cause that the cut into tokens has counts, a
+-- limit or a byte that begins no token; or its tokens have no tree, or their tree passes a limit.
+abbrev pub Halts : ℕ → List ℕ → Outcome → Type 0
+Halts file bytes (outcome.Refused (Byte at)) = IsStray file bytes at
+Halts file bytes (outcome.Passes limit) = PassesLimit file bytes limit ⊎ HasTokens file bytes (λ tokens. TreesPass tokens limit)
+Halts file bytes (outcome.Refused (Syntax at)) =
+    HasTokens file bytes (λ tokens. HasNoTree tokens × IsPlaceIn tokens (place_after file bytes) at)
+Halts file bytes other = ⊥
+
+-- Files in order, the first of this number, were read so.
+abbrev pub AreRead : ℕ → List (List ℕ) → List ReadFile → Type 0
+AreRead file [] [] = Unit {0}
+AreRead file (bytes ∷ others) (one ∷ rest) = IsRead file bytes one × AreRead (file + 1) others rest
+AreRead file bytes reads = ⊥
+
+-- The first of files in order that can't be read comes to this.
+abbrev pub FirstHalts : ℕ → List (List ℕ) → Outcome → Type 0
+FirstHalts file [] arisen = ⊥
+FirstHalts file (bytes ∷ others) arisen =
+    Halts file bytes arisen ⊎ (((one : ReadFile) × IsRead file bytes one) × FirstHalts (file + 1) others arisen)

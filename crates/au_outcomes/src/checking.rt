@@ -1,0 +1,96 @@
+//! What a program of files comes to, in the order of refusals.
+
+ghost use Rattle.std.specs.Prelude.{◌≡◌, ◌≤◌, ◌<◌, All, false, map, length, IfOk, IsTrue};
+ghost use Rattle.std.specs.String.{string_bytes};
+ghost use Rattle.au_base.specs.Limits.{most_file_bytes};
+ghost use Rattle.au_base.specs.Outside.{Counts};
+ghost use Rattle.au_outcomes.specs.Halts.{ComesTo, Says, StopsIn, bytes_in, is_missing, is_read_fault, is_read_halt};
+ghost use Rattle.au_outcomes.specs.Outcomes.{BytesCome, files_limit, most_files};
+ghost use Rattle.au_outcomes.specs.declared.outcomes.Outcome.TheVariants as outcome;
+
+use crate::fetching::fetch_all;
+use crate::halts::{CheckFault, Halt};
+use crate::judging::{judge, printed};
+use crate::outcomes::Outcome;
+use crate::reading::{Sources, read_all};
+use au_base::{Limit, LimitKind, Shelf};
+use au_printing::First;
+use std::alloc::Global;
+
+/// The most files of a program.
+pub const MOST_FILES: usize = 128;
+
+/// What the program of files of these names comes to.
+pub fn check<S: Shelf>(
+    alloc: Global,
+    shelf: &mut S,
+    names: &[String],
+) -> Result<Outcome, CheckFault>
+    requires { 0 < length names.now }
+    ensures comes { IfOk result (ComesTo (S.files shelf.old) (map string_bytes names.now)) }
+    // Where the shelf failed, it failed behind files that can be had.
+    ensures stops { IsTrue (is_read_fault result) → StopsIn (S.files shelf.old) (map string_bytes names.now) }
+    // Where the files are too many, none is fetched.
+    ensures crowded { most_files < length names.now
+        → (S.faults shelf.new ≡ S.faults shelf.old) × (S.misses shelf.new ≡ S.misses shelf.old) }
+    ensures faults { Counts (is_read_fault result) (S.faults shelf.old) (S.faults shelf.new) }
+    ensures misses { IfOk result (λ outcome. Counts (is_missing outcome) (S.misses shelf.old) (S.misses shelf.new)) }
+    ensures misses_stay { S.misses shelf.old ≤ S.misses shelf.new }
+    ensures files { S.files shelf.new ≡ S.files shelf.old }
+{
+    match program(alloc, shelf, names) {
+        Ok(first) => Ok(Outcome::Prints(first)),
+        Err(Halt::Known(outcome)) => Ok(outcome),
+        Err(Halt::Unknown(fault)) => Err(fault),
+    }
+}
+
+/// What the program prints. The order of refusals is that of these steps: the files are counted, all are
+/// fetched, and then they are read and judged.
+fn program<S: Shelf>(alloc: Global, shelf: &mut S, names: &[String]) -> Result<First, Halt>
+    requires { 0 < length names.now }
+    ensures comes { Says result (λ first. ComesTo (S.files shelf.old) (map string_bytes names.now) (outcome.Prints first))
+        (ComesTo (S.files shelf.old) (map string_bytes names.now)) }
+    ensures stops { IsTrue (is_read_halt result) → StopsIn (S.files shelf.old) (map string_bytes names.now) }
+    ensures crowded { most_files < length names.now
+        → (S.faults shelf.new ≡ S.faults shelf.old) × (S.misses shelf.new ≡ S.misses shelf.old) }
+    ensures faults { Counts (is_read_halt result) (S.faults shelf.old) (S.faults shelf.new) }
+    ensures misses { Says result (λ _. S.misses shelf.new ≡ S.misses shelf.old)
+        (λ arisen. Counts (is_missing arisen) (S.misses shelf.old) (S.misses shelf.new)) }
+    ensures misses_stay { S.misses shelf.old ≤ S.misses shelf.new }
+    ensures files { S.files shelf.new ≡ S.files shelf.old }
+{
+    few_enough(names.len())?;
+    let all = fetch_all(alloc, shelf, names)?;
+    first_of(alloc, all.as_slice())
+}
+
+/// The files are as few as a program may have.
+fn few_enough(count: usize) -> Result<(), Halt>
+    ensures comes { Says result (λ _. count ≤ most_files)
+        (λ arisen. (most_files < count) × (arisen ≡ outcome.Passes (files_limit count))) }
+    ensures is_read { is_read_halt result ≡ false }
+{
+    if count > MOST_FILES {
+        return Err(Halt::Known(Outcome::Passes(Limit {
+            kind: LimitKind::Files,
+            count: count as u64,
+            most: MOST_FILES as u64,
+        })));
+    }
+    Ok(())
+}
+
+/// What the program of files of these bytes prints: all are read, then their modules are judged, and then
+/// it is seen whether they print.
+fn first_of(alloc: Global, all: &[Vec<u8>]) -> Result<First, Halt>
+    requires some { 0 < length all.now }
+    requires few { length all.now ≤ most_files }
+    requires small { All (λ bytes. length bytes.items ≤ most_file_bytes) all.now }
+    ensures comes { Says result (λ first. BytesCome (map bytes_in all.now) (outcome.Prints first)) (BytesCome (map bytes_in all.now)) }
+    ensures is_read { is_read_halt result ≡ false }
+{
+    let Sources { trees, printings } = read_all(alloc, all)?;
+    judge(alloc, trees)?;
+    printed(printings)
+}

@@ -1,0 +1,75 @@
+//! From the trees of files to what the program comes to.
+
+ghost use Rattle.std.specs.Prelude.{◌≡◌, ◌<◌, ◌++◌, List, Some, None, IfOk, false, map, length};
+ghost use Rattle.au_modules.specs.Programs.{entry};
+ghost use Rattle.au_outcomes.specs.Halts.{Says, is_read_halt};
+ghost use Rattle.au_outcomes.specs.Programs.{PrintingComes, program_outcome, shipped_entries};
+ghost use Rattle.au_outcomes.specs.Reading.{AllPrintSo, first_stop};
+ghost use Rattle.au_outcomes.specs.Trees.{ReadFile};
+ghost use Rattle.au_outcomes.specs.declared.outcomes.Outcome.TheVariants as outcome;
+
+use crate::halts::Halt;
+use crate::outcomes::Outcome;
+use crate::reading::Printing;
+use au_base::{Memory, Pos};
+use au_imports::resolve;
+use au_modules::gather;
+use au_printing::First;
+use au_refusals::Refusal;
+use au_shipped::shipped;
+use au_syntax::FileTree;
+use std::alloc::Global;
+
+/// Judges the modules of a program: their files, and then their names and promises.
+pub fn judge(alloc: Global, own: Vec<FileTree>) -> Result<(), Halt>
+    ensures comes { Says result
+        (λ _. program_outcome (shipped_entries ++ map entry own.items) ≡ None)
+        (λ arisen. program_outcome (shipped_entries ++ map entry own.items) ≡ Some arisen) }
+    ensures is_read { is_read_halt result ≡ false }
+{
+    let files = with_shipped(alloc, own)?;
+    let modules = gather(alloc, files)?;
+    resolve(alloc, modules)?;
+    Ok(())
+}
+
+/// The shipped files, and these behind them.
+fn with_shipped(alloc: Global, own: Vec<FileTree>) -> Result<Vec<FileTree>, Memory>
+    ensures { IfOk result (λ files. map entry files.items ≡ shipped_entries ++ map entry own.items) }
+{
+    let mut files = shipped(alloc)?;
+    let mut left = own;
+    files.append(&mut left)?;
+    Ok(files)
+}
+
+/// What the program prints, whose files print so: the first that doesn't print ends it, and the last one
+/// says what is printed.
+pub fn printed(printings: Vec<Printing>) -> Result<First, Halt>
+    requires { 0 < length printings.items }
+    ensures comes { (reads : List ReadFile) → AllPrintSo printings.items reads
+        → Says result (λ first. PrintingComes reads (outcome.Prints first)) (PrintingComes reads) }
+    ensures is_read { is_read_halt result ≡ false }
+{
+    if let Some(at) = first_stop_of(printings.as_slice()) {
+        return Err(Halt::Known(Outcome::Refused(Refusal::NotYet(at))));
+    }
+    let mut left = printings;
+    match left.pop() {
+        Some(Printing::Prints(first)) => Ok(first),
+        Some(Printing::Stops(_)) => unreachable!(),
+        None => unreachable!(),
+    }
+}
+
+/// The place at which the first file that doesn't print stops.
+fn first_stop_of(printings: &[Printing]) -> Option<Pos>
+    ensures { result ≡ first_stop printings.now }
+{
+    for printing in printings {
+        if let Printing::Stops(at) = printing {
+            return Some(*at);
+        }
+    }
+    None
+}

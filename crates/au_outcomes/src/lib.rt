@@ -1,0 +1,16 @@
+//! From the names of files to what their program comes to: they are fetched, read and judged, in the order of
+//! refusals.
+//!
+//! `specs/Outcomes.antt` says what a program comes to, and `check` finds it.
+#![tactic(auto)]
+
+mod checking;
+mod fetching;
+mod halts;
+mod judging;
+mod outcomes;
+mod reading;
+
+pub use checking::{MOST_FILES, check};
+pub use halts::CheckFault;
+pub use outcomes::Outcome;

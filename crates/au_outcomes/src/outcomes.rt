@@ -1,0 +1,20 @@
+//! What a program comes to before it runs, and why it is not run.
+
+use au_base::{Limit, Text};
+use au_printing::First;
+use au_refusals::Refusal;
+
+/// What words and files come to, where nothing fails and memory is there.
+#[derive(Drop)]
+pub enum Outcome {
+    /// The words are no job.
+    NoJob,
+    /// No file has this name.
+    Missing(Text),
+    /// A quantity passes its limit.
+    Passes(Limit),
+    /// What the words ask for is not built yet, or the program is refused.
+    Refused(Refusal),
+    /// The program prints, and returns an exit code.
+    Prints(First),
+}

@@ -1,0 +1,99 @@
+-- The lines on `err`.
+use Rattle.std.specs.Prelude.{ℕ, List, [], ◌∷◌, ◌++◌, unwrap_or, slice_get, codes, decimal}
+use Rattle.au_base.specs.declared.limits.Limit.{Limit}
+use Rattle.au_base.specs.declared.limits.LimitKind.{LimitKind}
+use Rattle.au_base.specs.declared.limits.LimitKind.TheVariants as kind
+use Rattle.au_base.specs.declared.places.Pos.{Pos}
+use Rattle.au_imports.specs.declared.faults.ImportFault.{ImportFault}
+use Rattle.au_imports.specs.declared.faults.ImportFault.TheVariants as imports
+use Rattle.au_modules.specs.declared.faults.ModuleFault.{ModuleFault}
+use Rattle.au_modules.specs.declared.faults.ModuleFault.TheVariants as modules
+use Rattle.au_refusals.specs.declared.refusals.Unbuilt.{Unbuilt}
+use Rattle.au_refusals.specs.declared.refusals.Unbuilt.TheVariants as unbuilt
+use Rattle.au_refusals.specs.declared.refusals.Refusal.{Refusal}
+use Rattle.au_refusals.specs.declared.refusals.Refusal.TheVariants.{Byte, Syntax, NotYet, WordNotYet, Pair, Import}
+
+-- each line ends with a newline
+abbrev pub line : List ℕ → List ℕ
+line text = text ++ 10 ∷ []
+
+-- the line where the words are no job
+abbrev pub words_line : List ℕ
+words_line = line (codes "words: run [--entry=M:f] [--steps=N] [--life] PART.. | compile [--entry=M:f] PART.. | explain PART.. | check PART..")
+
+-- the line where no file has the name
+abbrev pub missing_line : List ℕ → List ℕ
+missing_line name = line (codes "missing: " ++ name)
+
+-- the line where the shelf failed
+abbrev pub read_fault_line : List ℕ
+read_fault_line = line (codes "read fault")
+
+-- what a limit counts, as its line says it
+abbrev pub limit_word : LimitKind → List ℕ
+limit_word kind.FileBytes = codes "file bytes"
+limit_word kind.Files = codes "files"
+limit_word kind.Tokens = codes "tokens"
+limit_word kind.NameBytes = codes "name bytes"
+limit_word kind.LiteralDigits = codes "literal digits"
+limit_word kind.TextBytes = codes "text bytes"
+limit_word kind.Nesting = codes "nesting"
+limit_word kind.TypeDepth = codes "type depth"
+limit_word kind.TypeNodes = codes "type nodes"
+limit_word kind.Parameters = codes "parameters"
+limit_word kind.Fields = codes "fields"
+limit_word kind.Cases = codes "cases"
+limit_word kind.TypeParameters = codes "type parameters"
+limit_word kind.Instances = codes "instances"
+limit_word kind.Code = codes "code"
+
+-- the line where a limit is passed
+abbrev pub limit_line : Limit → List ℕ
+limit_line limit =
+    line (codes "limit: " ++ limit_word limit.kind ++ codes " " ++ decimal limit.count ++ codes " above " ++ decimal limit.most)
+
+-- a place, with the name of its file
+abbrev pub place_text : List (List ℕ) → Pos → List ℕ
+place_text names at =
+    unwrap_or (slice_get names at.file) [] ++ codes ":" ++ decimal at.line ++ codes ":" ++ decimal at.column
+
+-- the word for what isn't built yet, as its line says it
+abbrev pub unbuilt_word : Unbuilt → List ℕ
+unbuilt_word unbuilt.Check = codes "check"
+unbuilt_word unbuilt.Explain = codes "explain"
+unbuilt_word unbuilt.Compile = codes "compile"
+unbuilt_word unbuilt.Entry = codes "entry"
+unbuilt_word unbuilt.Steps = codes "steps"
+unbuilt_word unbuilt.Life = codes "life"
+
+-- why files are not those of modules; a fault that is no refusal has no text
+abbrev pub pair_text : List (List ℕ) → ModuleFault → List ℕ
+pair_text names (modules.TwiceGiven name) = codes "module " ++ name ++ codes ": given twice"
+pair_text names (modules.NoBody name) = codes "module " ++ name ++ codes ": no body"
+pair_text names (modules.Unsafe at) = place_text names at ++ codes ": unsafe module"
+pair_text names (modules.Limit limit) = []
+pair_text names modules.Memory = []
+
+-- which name or promise of the modules isn't good
+abbrev pub import_text : List (List ℕ) → ImportFault → List ℕ
+import_text names (imports.NoModule at name) = place_text names at ++ codes ": no module " ++ name
+import_text names (imports.Late at name) = place_text names at ++ codes ": module " ++ name ++ codes " stands later"
+import_text names (imports.NotVisible at name) = place_text names at ++ codes ": name not visible: " ++ name
+import_text names (imports.NameTwice at name) = place_text names at ++ codes ": name twice: " ++ name
+import_text names (imports.NotDefined at name) = place_text names at ++ codes ": not defined: " ++ name
+import_text names (imports.Differs at other name) =
+    place_text names at ++ codes ": differs from " ++ place_text names other ++ codes ": " ++ name
+import_text names imports.Memory = []
+
+-- the line of a refusal, without its end
+abbrev pub refusal_text : List (List ℕ) → Refusal → List ℕ
+refusal_text names (Byte at) = place_text names at ++ codes ": byte"
+refusal_text names (Syntax at) = place_text names at ++ codes ": syntax"
+refusal_text names (NotYet at) = place_text names at ++ codes ": not yet"
+refusal_text names (WordNotYet what) = codes "not yet: " ++ unbuilt_word what
+refusal_text names (Pair fault) = pair_text names fault
+refusal_text names (Import fault) = import_text names fault
+
+-- the line of a refusal
+abbrev pub refusal_line : List (List ℕ) → Refusal → List ℕ
+refusal_line names refusal = line (refusal_text names refusal)

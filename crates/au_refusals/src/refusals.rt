@@ -1,0 +1,39 @@
+//! Refusals.
+
+use au_base::Pos;
+use au_imports::ImportFault;
+use au_modules::ModuleFault;
+
+/// Why what the words ask for is refused.
+#[derive(Debug, Drop)]
+pub enum Refusal {
+    /// The byte at this place begins no token.
+    Byte(Pos),
+    /// The token at this place stands where no file has it, or the file ends too early.
+    Syntax(Pos),
+    /// The program needs something that is not built yet.
+    NotYet(Pos),
+    /// The words ask for something that is not built yet.
+    WordNotYet(Unbuilt),
+    /// The files are not those of modules.
+    Pair(ModuleFault),
+    /// A name or a promise of the modules is not good.
+    Import(ImportFault),
+}
+
+/// What words ask for that is not built yet.
+#[derive(Clone, Copy, Debug, PartialEq, Eq)]
+pub enum Unbuilt {
+    /// The command `check`.
+    Check,
+    /// The command `explain`.
+    Explain,
+    /// The command `compile`.
+    Compile,
+    /// A run from an entry that is named.
+    Entry,
+    /// A run of other steps than the usual ones.
+    Steps,
+    /// A run that tells the lives of values.
+    Life,
+}

@@ -1,0 +1,20 @@
+-- The line for words that are no job.
+use Rattle.std.proofs.Common.{IfOk, IfErr, sym, ap, subst, map}
+use Rattle.std.specs.String.{string_bytes}
+use Rattle.au_base.specs.declared.statuses.Status.TheVariants.{Words}
+use Rattle.au_top.specs.Calls.{Pays, Fails}
+use Rattle.au_refusals.specs.Lines.{words_line}
+use Rattle.au_top.specs.Dues.{due_of, Due}
+use Rattle.au_top.proofs.SinkLemmas.{said_pays, said_fails}
+use Rattle.au_top.proofs.answering.answer.Goals as goal
+
+pub returns-in-NoJob-clause-pays : goal.returns-in-NoJob-clause-pays
+returns-in-NoJob-clause-pays g c =
+    let said = said_pays c.say.result Words words_line (g.O.Sink.written c.args.out.now) (g.E.Sink.written c.args.err.now) (g.E.Sink.written c.say.new.err) c.say.ensures.ok c.say.ensures.written in
+    subst (λ (due : Due). IfOk c.say.result (λ s. Pays due s (g.O.Sink.written c.args.out.now) (g.O.Sink.written c.args.out.now) (g.E.Sink.written c.args.err.now) (g.E.Sink.written c.say.new.err))) (sym (ap (due_of (map string_bytes c.args.names.now)) c.in-NoJob.is)) said
+
+pub returns-in-NoJob-clause-fails : goal.returns-in-NoJob-clause-fails
+returns-in-NoJob-clause-fails g c =
+    let faults = g.O.Sink.faults c.args.out.now in
+    let failed = said_fails c.say.result Words words_line (g.O.Sink.written c.args.out.now) (g.E.Sink.written c.args.err.now) (g.E.Sink.written c.say.new.err) faults (g.E.Sink.faults c.args.err.now) (g.E.Sink.faults c.say.new.err) c.say.ensures.write c.say.ensures.front c.say.ensures.risen in
+    subst (λ (due : Due). IfErr c.say.result (λ e. Fails e due (g.O.Sink.written c.args.out.now) (g.O.Sink.written c.args.out.now) (g.E.Sink.written c.args.err.now) (g.E.Sink.written c.say.new.err) faults faults (g.E.Sink.faults c.args.err.now) (g.E.Sink.faults c.say.new.err))) (sym (ap (due_of (map string_bytes c.args.names.now)) c.in-NoJob.is)) failed

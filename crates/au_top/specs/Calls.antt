@@ -1,0 +1,102 @@
+-- How a call ends, and what it leaves on the sinks.
+use Rattle.std.specs.Prelude.{◌≡◌, ◌⊎◌, ℕ, Bool, true, false, IsTrue, List, Option, None}
+use Rattle.au_base.specs.declared.limits.Limit.{Limit}
+use Rattle.au_base.specs.declared.statuses.Status.{Status}
+use Rattle.au_base.specs.declared.statuses.Status.TheVariants as status
+use Rattle.au_base.specs.Outside.{Files, Adds, AddsFront, HasRisen}
+use Rattle.au_words.specs.Jobs.{Task, IsJob}
+use Rattle.au_outcomes.specs.Halts.{AreTold, StopsIn}
+use Rattle.au_top.specs.Jobs.{unbuilt_of}
+use Rattle.au_top.specs.Dues.{Due, Owes, Arises, due_line, printed}
+use Rattle.au_refusals.specs.Refusals.{is_refusal}
+use Rattle.au_refusals.specs.Lines.{refusal_line, limit_line, missing_line, read_fault_line}
+use Rattle.std.specs.List.{flat_map}
+use Rattle.au_printing.specs.declared.files.First.{First}
+use Rattle.au_refusals.specs.declared.refusals.Refusal.{Refusal}
+use Rattle.au_top.specs.declared.answering.AnswerFault.{AnswerFault}
+use Rattle.au_top.specs.declared.answering.AnswerFault.TheVariants as answer
+use Rattle.au_outcomes.specs.declared.outcomes.Outcome.{Outcome}
+use Rattle.au_outcomes.specs.declared.outcomes.Outcome.TheVariants as outcome
+
+-- a status that the words and the files decide: nothing failed, and memory was there
+abbrev pub is_decided : Status → Bool
+is_decided status.ReadFault = false
+is_decided status.WriteFault = false
+is_decided status.Memory = false
+is_decided status.Success = true
+is_decided status.Failure = true
+is_decided status.Refused = true
+is_decided status.Abort = true
+is_decided status.Steps = true
+is_decided status.Limit = true
+is_decided status.Missing = true
+is_decided status.Words = true
+
+-- The call ended so, with all that is due on both sinks.
+pub record Pays (due : Due) (ends : Status) (out out' err err' : Option (List ℕ)) : Type 0 where
+  pub status : ends ≡ due.status
+  pub out_bytes : Adds out out' due.out
+  pub err_bytes : Adds err err' due.err
+
+-- One sink failed: a front of what is due stands on each, and where `out` failed `err` is as it was.
+pub record IsCut (due : Due) (out out' err err' : Option (List ℕ)) (faults faults' errors errors' : ℕ) : Type 0 where
+  pub out_bytes : AddsFront out out' due.out
+  pub err_bytes : AddsFront err err' due.err
+  pub risen : (HasRisen faults faults' × (err' ≡ err) × (errors' ≡ errors)) ⊎ ((faults' ≡ faults) × HasRisen errors errors')
+
+-- Nothing was written, and no sink failed.
+pub record IsUntouched (out out' err err' : Option (List ℕ)) (faults faults' errors errors' : ℕ) : Type 0 where
+  pub out_bytes : out' ≡ out
+  pub err_bytes : err' ≡ err
+  pub out_quiet : faults' ≡ faults
+  pub err_quiet : errors' ≡ errors
+
+-- what a fault of an answer says of both sinks
+abbrev pub Fails : AnswerFault → Due → (out out' err err' : Option (List ℕ)) → (faults faults' errors errors' : ℕ) → Type 0
+Fails answer.Write due out out' err err' faults faults' errors errors' = IsCut due out out' err err' faults faults' errors errors'
+Fails answer.Memory due out out' err err' faults faults' errors errors' = IsUntouched out out' err err' faults faults' errors errors'
+
+-- What a call with these words may owe: what the words and the files that are told owe, or, where the
+-- count of the shelf's faults rose, the line that says so.
+abbrev pub MayOwe : List (List ℕ) → Option Files → ℕ → ℕ → Due → Type 0
+MayOwe words told faults faults' due =
+    ((files : Files) × AreTold told files × Owes words files due)
+    ⊎ (HasRisen faults faults' × (due ≡ due_line status.ReadFault read_fault_line))
+
+-- The call has paid all that it owed.
+abbrev pub IsPaid : List (List ℕ) → Option Files → ℕ → ℕ → Status → (out out' err err' : Option (List ℕ)) → Type 0
+IsPaid words told faults faults' ends out out' err err' =
+    (due : Due) × MayOwe words told faults faults' due × Pays due ends out out' err err'
+
+-- Words and files, of those that are told, have come to an outcome of which P holds, by the names of the files.
+abbrev pub CameTo : List (List ℕ) → Option Files → (List (List ℕ) → Outcome → Type 0) → Type 0
+CameTo words told P =
+    (files : Files) × AreTold told files × (names : List (List ℕ)) × (arisen : Outcome)
+    × Arises words files names arisen × P names arisen
+
+-- The words are a job that asks for nothing that isn't built, its files are as few as they may be, and those before
+-- one of them can be had, of those that are told.
+abbrev pub FailsBehind : List (List ℕ) → Option Files → Type 0
+FailsBehind words told = (task : Task) × IsJob words task × (unbuilt_of task ≡ None) × StopsIn told task.files
+
+-- What the words ask for is refused, and its line stands on `err`.
+abbrev pub IsRefusedSo : Option (List ℕ) → Option (List ℕ) → List (List ℕ) → Outcome → Type 0
+IsRefusedSo err err' names arisen =
+    (refusal : Refusal) × IsTrue (is_refusal refusal) × (arisen ≡ outcome.Refused refusal)
+    × Adds err err' (refusal_line names refusal)
+
+-- A limit is passed, and its line stands on `err`.
+abbrev pub HasPassed : Option (List ℕ) → Option (List ℕ) → List (List ℕ) → Outcome → Type 0
+HasPassed err err' names arisen =
+    (limit : Limit) × (arisen ≡ outcome.Passes limit) × Adds err err' (limit_line limit)
+
+-- A file is missing, and the line that says so stands on `err`.
+abbrev pub IsMissingSo : Option (List ℕ) → Option (List ℕ) → List (List ℕ) → Outcome → Type 0
+IsMissingSo err err' names arisen =
+    (name : List ℕ) × (arisen ≡ outcome.Missing name) × Adds err err' (missing_line name)
+
+-- The program ran and returned this exit code, and what it printed stands on `out`.
+abbrev pub HasRun : Bool → Option (List ℕ) → Option (List ℕ) → List (List ℕ) → Outcome → Type 0
+HasRun success out out' names arisen =
+    (first : First) × (arisen ≡ outcome.Prints first) × (first.success ≡ success)
+    × Adds out out' (flat_map printed first.prints)

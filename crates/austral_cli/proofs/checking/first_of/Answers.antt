@@ -1,9 +1,0 @@
--- As many files are kept as there are.
-use Rattle.std.proofs.Common.{arith}
-use Rattle.austral_cli.proofs.KeptLemmas.{kept_length}
-use Rattle.austral_cli.proofs.checking.first_of.Goals as goal
-
-pub printed-requires : goal.printed-requires
-printed-requires c =
-    let same = kept_length 0 c.args.all.now c.in_ok-trees.field-0.trees.items c.in_ok-trees.field-0.printings.items c.in_ok-trees.ensures.comes in
-    omega (arith, c.requires.some)
