@@ -1,15 +1,15 @@
 -- The cases come in the order of the list, so the tally counts the cases so far, and in the end all.
-use Rattle.std.proofs.Common.{◌≡◌, ◌<◌, ◌∙◌, ap, arith, length, subst, All}
+use Rattle.std.proofs.Common.{arith}
 use Rattle.std.proofs.lemmas.Iterator.Adapters.{YieldsList-from_vec}
 use Rattle.std.proofs.lemmas.Iterator.Consumers.{YieldsList-turn, YieldsList-end}
 use Rattle.austral_cases.specs.Endings.{Holds}
-use Rattle.austral_cases.proofs.RunLemmas.{one_passed, one_failed}
+use Rattle.austral_cases.proofs.RunLemmas.{all_so_far, one_failed, one_passed}
 use Rattle.austral_cases.proofs.running.run_cases.Goals as goal
 
 pub overflow_add-tally : goal.overflow_add-tally
 overflow_add-tally g c =
     let gives = c.into_iter-case-iterator.ensures.into_iter_gives in
-    let turn = YieldsList-turn (YieldsList-from_vec c.args.cases.items gives.0 gives.1) c.loop-case.yielded _ c.loop-case.yielded_by _ _ c.in-Some.case c.in-Some.is c.next.ensures.steps in
+    let turn = YieldsList-turn (YieldsList-from_vec {s = c.into_iter-case-iterator.result} c.args.cases.items gives.0 (omega (arith, gives.1, c.args.cases.ok))) c.loop-case.yielded c.loop-case.case-iterator c.loop-case.yielded_by c.next.result c.next.new.self c.in-Some.case c.in-Some.is c.next.ensures.steps in
     omega (arith, turn.0, c.loop-case.invariant.2, gives.1, gives.2)
 
 pub loop-case-preserved-then-branch : goal.loop-case-preserved-then-branch
@@ -25,5 +25,5 @@ loop-case-preserved g c =
 pub returns-clause-held : goal.returns-clause-held
 returns-clause-held g c = λ none.
     let gives = c.into_iter-case-iterator.ensures.into_iter_gives in
-    let ends = YieldsList-end (YieldsList-from_vec c.args.cases.items gives.0 gives.1) c.loop-case.yielded _ c.loop-case.yielded_by _ _ c.in-None.is c.next.ensures.steps in
-    ?
+    let ends = YieldsList-end (YieldsList-from_vec {s = c.into_iter-case-iterator.result} c.args.cases.items gives.0 (omega (arith, gives.1, c.args.cases.ok))) c.loop-case.yielded c.loop-case.case-iterator c.loop-case.yielded_by c.next.result c.next.new.self c.in-None.is c.next.ensures.steps in
+    all_so_far Holds c.loop-case.yielded c.args.cases.items ends.0 (c.loop-case.invariant.3 none)
