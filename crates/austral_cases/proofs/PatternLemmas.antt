@@ -10,6 +10,6 @@ pub tells_itself : (pattern left bytes : List ℕ) (byte : ℕ)
 tells_itself pattern left bytes byte plain same left_is =
     let behind : Bool = is_told false (drop 1 pattern) bytes in
     ap (λ star. if star then (if nat_eq byte 91 then is_told true (drop 3 pattern) bytes else false)
-        else (if bytes_eq (take 1 pattern) (byte ∷ []) then behind else false)) plain
+    else (if bytes_eq (take 1 pattern) (byte ∷ []) then behind else false)) plain
     ∙ ap (λ told. if told then behind else false) same
     ∙ ap (λ rest. is_told false rest bytes) (sym left_is)

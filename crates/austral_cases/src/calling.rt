@@ -23,8 +23,8 @@ pub struct Ending {
 
 /// Calls the compiler.
 pub fn ending_of(alloc: Global, call: Call) -> Result<Ending, Memory>
-    ensures { IfOk result (λ ending. CanEnd (map string_bytes call.words.items) (map file_of call.files.items)
-        ending.out.written ending.err.written ending.status) }
+    ensures { IfOk result (λ ending. CanEnd (map string_bytes call.words.items)
+        (map file_of call.files.items) ending.out.written ending.err.written ending.status) }
 {
     let mut out = MemorySink::new(alloc, call.out_room, Vec::new(alloc))?;
     let mut err = MemorySink::new(alloc, call.err_room, Vec::new(alloc))?;

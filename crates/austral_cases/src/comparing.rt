@@ -11,7 +11,8 @@ use crate::cases::Wanted;
 /// Whether a call ended as wanted: the same bytes stand on `out`, what is told on `err`, and the status
 /// is the same.
 pub fn is_wanted(wanted: &Wanted, ending: &Ending) -> bool
-    ensures { IsTrue result ↔ IsWanted wanted.now ending.now.out.written ending.now.err.written ending.now.status }
+    ensures { IsTrue result
+        ↔ IsWanted wanted.now ending.now.out.written ending.now.err.written ending.now.status }
 {
     ending.out.written() == wanted.out.as_slice()
         && is_told(wanted.err.as_slice(), ending.err.written())
@@ -50,7 +51,11 @@ fn place_behind(inside: bool, pattern: &[u8], byte: u8) -> Option<(bool, &[u8])>
             None
         }
     } else if let Some(left) = pattern.strip_prefix(b"[*]") {
-        if byte == b'[' { Some((true, left)) } else { None }
+        if byte == b'[' {
+            Some((true, left))
+        } else {
+            None
+        }
     } else {
         match pattern.strip_prefix(&[byte]) {
             Some(left) => Some((false, left)),

@@ -9,9 +9,9 @@ use Rattle.austral_cases.proofs.calling.ending_of.Goals as goal
 pub returns : goal.returns
 returns c =
     can_end _ (map (string_bytes {Z = Global}) c.as_slice-words.result.now) (map file_of c.args.call.files.items)
-        (Some (file_in c.new-shelf.result.files)) (Some c.in_ok-out.out.written) (Some c.in_ok-err.err.written) _ _ _
-        (ap (map (string_bytes {Z = Global})) c.as_slice-words.ensures.value)
-        (ap (λ (s : MemoryShelfContents). Some (file_in s.files)) c.new-shelf.ensures)
-        (ap (λ (s : SinkContents). Some s.written) c.in_ok-out.ensures)
-        (ap (λ (s : SinkContents). Some s.written) c.in_ok-err.ensures)
-        c.austral-status.ensures.only
+    (Some (file_in c.new-shelf.result.files)) (Some c.in_ok-out.out.written) (Some c.in_ok-err.err.written) _ _ _
+    (ap (map (string_bytes {Z = Global})) c.as_slice-words.ensures.value)
+    (ap (λ (s : MemoryShelfContents). Some (file_in s.files)) c.new-shelf.ensures)
+    (ap (λ (s : SinkContents). Some s.written) c.in_ok-out.ensures)
+    (ap (λ (s : SinkContents). Some s.written) c.in_ok-err.ensures)
+    c.austral-status.ensures.only
