@@ -61,7 +61,10 @@ pub fn chosen_cases(rt: &HostRuntime, choice: &Choice) -> Result<Vec<Case>> {
 
 /// The cases of a file.
 fn cases_in(rt: &HostRuntime, name: &str) -> Result<Vec<Case>> {
-    let bytes = fs::read(rt, name)?;
+    let bytes = match fs::read(rt, name) {
+        Ok(bytes) => bytes,
+        Err(error) => bail!("{name}: {error}"),
+    };
     match read_cases(rt.alloc(), bytes.as_slice()) {
         Ok(cases) => Ok(cases),
         Err(at) => bail!("{name}:{}: {}", at.line, at.fault.words()),
