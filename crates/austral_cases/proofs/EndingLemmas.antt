@@ -1,0 +1,19 @@
+-- How a call over objects in memory can end.
+use Rattle.std.proofs.Common.{◌≡◌, ℕ, List, [], Option, Some, IsTrue, subst, sym}
+use Rattle.au_base.specs.declared.statuses.Status.{Status}
+use Rattle.au_base.specs.Outside.{Files}
+use Rattle.au_base.specs.Stored.{NamedFile, file_in}
+use Rattle.au_top.specs.Calls.{Pays, is_decided}
+use Rattle.au_top.specs.Dues.{Due, Owes}
+use Rattle.austral_cases.specs.Endings.{CanEnd}
+
+-- A call over a shelf of these files, and over sinks that are empty at first, can end as it did.
+pub can_end : (words named : List (List ℕ)) (files : List NamedFile) (told : Option Files) (out err : Option (List ℕ)) (out' err' : List ℕ) (ends : Status)
+    → named ≡ words → told ≡ Some (file_in files) → out ≡ Some [] → err ≡ Some []
+    → ((known : Files) (due : Due) → told ≡ Some known → Owes named known due → IsTrue (is_decided ends) → Pays due ends out (Some out') err (Some err'))
+    → CanEnd words files out' err' ends
+can_end words named files told out err out' err' ends named_is told_is out_is err_is only = λ due owes decided.
+    let asked = subst (λ w. Owes w (file_in files) due) (sym named_is) owes in
+    let paid = only (file_in files) due told_is asked decided in
+    let from_no_err = subst (λ e. Pays due ends out (Some out') e (Some err')) err_is paid in
+    subst (λ o. Pays due ends o (Some out') (Some []) (Some err')) out_is from_no_err
