@@ -53,7 +53,6 @@ fn type_head(
 }
 
 /// The head of a declaration of a module, if it is that of a type.
-#[tactic(auto, using(au_syntax::proofs::DeclarationLemmas::declaration_steps, std::proofs::lemmas::Grind::common_steps))]
 fn head_in(alloc: Global, owner: &Name, decl: &Decl<Parsed>) -> Result<Option<Head>, Memory>
     ensures { IfOk result (λ head. head ≡ spec.head_in owner.now (written decl.now)) }
 {

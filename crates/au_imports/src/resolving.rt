@@ -5,11 +5,25 @@ ghost use Rattle.au_imports.specs.Importing.{refusal_of};
 ghost use Rattle.au_modules.specs.Slots.{modules};
 
 use crate::faults::ImportFault;
+use au_base::Memory;
 use au_modules::Modules;
 use au_name_faults::name_fault;
 use au_promises::promise_fault;
 use au_resolved::Resolved;
 use std::alloc::Global;
+
+/// What a program is refused for, if it is refused: for a name, or else for a promise.
+fn refusal(alloc: Global, resolved: &Resolved) -> Result<Option<ImportFault>, Memory>
+    ensures { IfOk result (λ found. found ≡ refusal_of (modules resolved.now)) }
+{
+    if let Some(found) = name_fault(alloc, resolved)? {
+        return Ok(Some(ImportFault::from(found)));
+    }
+    match promise_fault(alloc, resolved)? {
+        Some(found) => Ok(Some(ImportFault::from(found))),
+        None => Ok(None),
+    }
+}
 
 /// The program of these modules, where every name means one thing and every promise of an interface is kept.
 ///
@@ -30,11 +44,8 @@ pub fn resolve(alloc: Global, program: Modules) -> Result<Resolved, ImportFault>
         → (e ≡ ImportFault.Memory) ⊎ (refusal_of (modules program) ≡ Some e) }
 {
     let resolved = Resolved::of(alloc, program)?;
-    if let Some(found) = name_fault(alloc, &resolved)? {
-        return Err(ImportFault::from(found));
+    match refusal(alloc, &resolved)? {
+        Some(fault) => Err(fault),
+        None => Ok(resolved),
     }
-    if let Some(found) = promise_fault(alloc, &resolved)? {
-        return Err(ImportFault::from(found));
-    }
-    Ok(resolved)
 }

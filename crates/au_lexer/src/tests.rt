@@ -2,8 +2,8 @@
 
 ghost use Rattle.std.specs.Prelude.{◌+◌, ◌^◌, ◌<◌, length};
 
-use crate::{LexFault, Token, What, laws, lex};
-use au_base::{Limit, LimitKind, Pos, Text};
+use crate::{LexFault, Token, What, lex};
+use au_base::Text;
 use std::alloc::{AllocError, Global};
 use std::test::Fail;
 
@@ -143,46 +143,6 @@ const CUT: [(&[u8], &[u8]); 33] = [
     ),
 ];
 
-/// Files that are refused, each with its fault.
-const REFUSED: [(&[u8], &[u8]); 27] = [
-    (b"\xC3\xA9", b"byte 1:1"),
-    (b"a \x80", b"byte 1:3"),
-    (b"a\x00", b"byte 1:2"),
-    (b" \x0B", b"byte 1:2"),
-    (b"\x7F", b"byte 1:1"),
-    (b"#", b"byte 1:1"),
-    (b"a\n\t#", b"byte 2:2"),
-    (b"_a", b"byte 1:1"),
-    (b"&~ ~", b"byte 1:4"),
-    // texts
-    (b"x\n \"abc", b"byte 2:2"),
-    (b"\"", b"byte 1:1"),
-    (b"\"a\\\"", b"byte 1:1"),
-    (b"\"a\\", b"byte 1:1"),
-    (b"\"\\q\"", b"byte 1:1"),
-    (b"; \"a\nb\"", b"byte 1:3"),
-    (b"\"a\tb\"", b"byte 1:1"),
-    (b"\"\\\n\"", b"byte 1:1"),
-    (b"\"\" \" #", b"byte 1:4"),
-    // docstrings
-    (b"\"\"\"", b"byte 1:1"),
-    (b"\"\"\"a\"\"", b"byte 1:1"),
-    (b"a\n \"\"\"\"", b"byte 2:2"),
-    (b"\"\"\"\"\"\"\"", b"byte 1:7"),
-    (b"\"\"\"a\"\"\"\"", b"byte 1:8"),
-    // the first place decides
-    (b"1 #", b"byte 1:3"),
-    (b"# 1", b"byte 1:1"),
-    (
-        b"x abcdefghijklmnopqrstuvwxyz0123456789_ABCDEFGHIJKLMNOPQRSTUVWXYZab #",
-        b"NameBytes 65 above 64",
-    ),
-    (
-        b"# abcdefghijklmnopqrstuvwxyz0123456789_ABCDEFGHIJKLMNOPQRSTUVWXYZab",
-        b"byte 1:1",
-    ),
-];
-
 /// Long files: a front, a byte so often, and a back. Each with its count of tokens, or its fault.
 const LONG: [(&[u8], u8, usize, &[u8], &[u8]); 26] = [
     // each limit at its number and above it
@@ -250,15 +210,6 @@ fn cuts(rt: HostRuntime) -> Result<(), Fail> {
     Ok(())
 }
 
-#[test]
-fn refuses(rt: HostRuntime) -> Result<(), Fail> {
-    for (bytes, want) in REFUSED {
-        assert!(rt; bytes.len() < 100);
-        assert_eq!(rt; show(rt.alloc(), bytes)?.as_bytes(), want, "{bytes:?}");
-    }
-    Ok(())
-}
-
 /// What a file comes to: its count of tokens, or its fault.
 fn count(alloc: Global, bytes: &[u8]) -> Result<String, AllocError>
     requires { length bytes.now + 1 < 2 ^ 32 }
@@ -278,26 +229,6 @@ fn counts(rt: HostRuntime) -> Result<(), Fail> {
         file.append(back)?;
         assert!(rt; file.len() <= 1_048_576);
         assert_eq!(rt; count(rt.alloc(), file.as_bytes())?.as_bytes(), want);
-    }
-    Ok(())
-}
-
-#[test]
-fn faults(rt: HostRuntime) -> Result<(), Fail> {
-    laws::one_cut();
-    laws::one_outcome();
-    let limit = Limit {
-        kind: LimitKind::NameBytes,
-        count: 65,
-        most: 64,
-    };
-    let cases: [(LexFault, &str); 3] = [
-        (LexFault::Byte(Pos::start(0)), "a byte begins no token"),
-        (LexFault::Limit(limit), "a limit is passed"),
-        (LexFault::Memory, "out of memory"),
-    ];
-    for (fault, want) in cases {
-        assert_eq!(rt; format!(in rt.alloc(); "{fault}")?.as_str(), want);
     }
     Ok(())
 }

@@ -115,7 +115,6 @@ fn push_instance_body(
 }
 
 /// Puts the names of a declaration.
-#[tactic(auto, using(au_syntax::proofs::DeclarationLemmas::declaration_steps, std::proofs::lemmas::Grind::common_steps))]
 fn push_mentions(alloc: Global, list: &mut Vec<Mention>, decl: &Decl<Parsed>) -> Result<(), Memory>
     ensures { OnOk result (list.new.items ≡ list.old.items ++ mentions (plain_declaration parsed.name_bytes (declaration parsed decl.now))) }
 {

@@ -58,7 +58,6 @@ fn alone(alloc: Global, one: &TypeParameter<Parsed>) -> Result<Params, Memory>
 /// # Errors
 ///
 /// Only for want of memory.
-#[tactic(auto, using(au_syntax::proofs::DeclarationLemmas::declaration_steps, std::proofs::lemmas::Grind::common_steps))]
 pub fn type_parameters(alloc: Global, decl: &Decl<Parsed>) -> Result<Params, Memory>
     ensures { IfOk result (λ params. params ≡ spec.type_parameters (plain_declaration parsed.name_bytes (declaration parsed decl.now))) }
 {

@@ -8,8 +8,6 @@ pub mod limits;
 pub mod modules;
 pub mod parts;
 pub mod rounds;
-#[cfg(test)]
-mod tests;
 
 pub use faults::ModuleFault;
 pub use gathering::gather;

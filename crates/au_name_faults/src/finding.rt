@@ -90,6 +90,36 @@ fn part_fault(
     }
 }
 
+/// What the two parts of the module at a place are refused for.
+fn parts_fault(
+    alloc: Global,
+    resolved: &Resolved,
+    offers: &Offers,
+    interface: &Brought,
+    body: &Brought,
+    place: usize,
+) -> Result<Option<NameFault>, Memory>
+    requires within { place < length (slots.modules resolved.now) }
+    requires offers { AreOffers (slots.modules resolved.now) offers.now }
+    requires interface { (m : ModuleParts) → slice_get (slots.modules resolved.now) place ≡ Some m → AreBrought (slots.modules resolved.now) place m parts.Interface interface.now }
+    requires body { (m : ModuleParts) → slice_get (slots.modules resolved.now) place ≡ Some m → AreBrought (slots.modules resolved.now) place m parts.Body body.now }
+    ensures { (m : ModuleParts) → slice_get (slots.modules resolved.now) place ≡ Some m → IfOk result (λ found. found ≡ spec.module_fault (slots.modules resolved.now) place m) }
+{
+    let first = part_fault(
+        alloc,
+        resolved,
+        offers,
+        interface,
+        body,
+        place,
+        Part::Interface,
+    )?;
+    match first {
+        Some(fault) => Ok(Some(fault)),
+        None => part_fault(alloc, resolved, offers, interface, body, place, Part::Body),
+    }
+}
+
 /// What the module at a place is refused for.
 fn module_fault(
     alloc: Global,
@@ -104,27 +134,7 @@ fn module_fault(
     let modules = resolved.modules();
     let interface = brought_to(alloc, modules, &offers.exports, place, Part::Interface)?;
     let body = brought_to(alloc, modules, &offers.exports, place, Part::Body)?;
-    let first = part_fault(
-        alloc,
-        resolved,
-        offers,
-        &interface,
-        &body,
-        place,
-        Part::Interface,
-    )?;
-    match first {
-        Some(fault) => Ok(Some(fault)),
-        None => part_fault(
-            alloc,
-            resolved,
-            offers,
-            &interface,
-            &body,
-            place,
-            Part::Body,
-        ),
-    }
+    parts_fault(alloc, resolved, offers, &interface, &body, place)
 }
 
 /// What the names of a program are refused for, the first in the order of the text: modules by their

@@ -1,8 +1,6 @@
 //! What imports are refused for.
 
 ghost use Rattle.std.specs.Prelude.{◌≡◌, ◌<◌, IfOk, Some, length, map, slice_get};
-ghost use Rattle.std.specs.List.{flat_map};
-ghost use Rattle.au_modules.specs.Names.{dotted};
 ghost use Rattle.au_modules.specs.Programs.{ModuleParts};
 ghost use Rattle.au_modules.specs.Slots as slots;
 ghost use Rattle.au_name_faults.specs.Choices.{first_of};
@@ -20,25 +18,13 @@ use crate::clashes::{Importer, first_offered, import_clashes, last_offered};
 use crate::faults::NameFault;
 use crate::members::along_fault;
 use crate::offers::Offers;
-use au_base::{MOST_NAME_BYTES, Memory, Name, Pos, Text};
+use au_base::{MOST_NAME_BYTES, Memory, Name, Pos};
 use au_modules::Modules;
-use au_names::imports::place_named;
+use au_names::imports::{dotted_text, place_named};
 use au_syntax::{Ident, Import, Parsed, Part, Renamed};
 use au_tables::Space;
 use au_types::DeclAt;
 use std::alloc::Global;
-
-/// The parts of a name, a dot before each of them.
-fn dotted_text(alloc: Global, names: &Vec<Ident<Parsed>>) -> Result<Text, Memory>
-    ensures { IfOk result (λ text. text ≡ flat_map dotted names.now.items) }
-{
-    let mut text = Text::new(alloc);
-    for one in names {
-        text.push(b'.')?;
-        text.append(one.name.as_bytes())?;
-    }
-    Ok(text)
-}
 
 /// The name of a module, given by its parts. Bytes that are no name stand in no tree: they are answered by
 /// `Memory`.

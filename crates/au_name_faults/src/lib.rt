@@ -5,7 +5,6 @@
 pub mod brought;
 pub mod built_in;
 mod clashes;
-mod declared_names;
 pub mod declaring;
 pub mod faults;
 pub mod finding;

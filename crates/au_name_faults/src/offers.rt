@@ -9,11 +9,11 @@ ghost use Rattle.au_syntax.specs.Views.{declaration};
 ghost use Rattle.au_syntax.specs.contracts.parsed.ParsedPhase.TheImpl.{ghosts as parsed};
 ghost use Rattle.au_tables.specs.DeclaredNames.{numbered, table_of};
 
-use crate::declared_names::put_declared;
 use au_base::Memory;
 use au_modules::Modules;
 use au_names::{Exports, exports_of};
 use au_syntax::{Decl, Parsed};
+use au_tables::declared_names::put_declared;
 use au_tables::{NameTables, Space, Table};
 use std::alloc::Global;
 

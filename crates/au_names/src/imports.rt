@@ -28,7 +28,11 @@ use au_types::DeclAt;
 use std::alloc::Global;
 
 /// The parts of a name, a dot before each of them.
-fn dotted_text(alloc: Global, names: &Vec<Ident<Parsed>>) -> Result<Text, Memory>
+///
+/// # Errors
+///
+/// Only for want of memory.
+pub fn dotted_text(alloc: Global, names: &Vec<Ident<Parsed>>) -> Result<Text, Memory>
     ensures { IfOk result (λ text. text ≡ flat_map dotted names.now.items) }
 {
     let mut text = Text::new(alloc);

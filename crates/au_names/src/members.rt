@@ -51,7 +51,6 @@ fn put_methods<P: Phase>(
 }
 
 /// Puts the cases or methods of a declaration.
-#[tactic(auto, using(au_syntax::proofs::DeclarationLemmas::declaration_steps, au_tables::proofs::TableLemmas::put_steps, std::proofs::lemmas::Grind::common_steps))]
 fn put_members<P: Phase>(
     alloc: Global,
     table: &mut Table<Target>,

@@ -19,6 +19,7 @@ use au_base::Memory;
 use au_modules::Modules;
 use au_syntax::{Parsed, Part, Whole};
 use au_tables::{NameTables, Space, Table};
+use au_types::DeclAt;
 use std::alloc::Global;
 
 /// How many declarations the interface of the module at a place has.
@@ -110,6 +111,51 @@ fn table_seen(
     Ok(table)
 }
 
+/// The declarations in a space that a part of the module at a place sees, given what its body brings in.
+fn declared_seen(
+    alloc: Global,
+    modules: &Modules,
+    exports: &Exports,
+    body: &NameTables,
+    space: Space,
+    place: usize,
+    part: Part,
+) -> Result<Table<DeclAt>, Memory>
+    requires within { place < length (slots.modules modules.now) }
+    requires made { AreExports exports.now (slots.modules modules.now) }
+    requires body { option_map body_names (slice_get (slots.modules modules.now) place) ≡ Some body.now }
+    ensures { (m : ModuleParts) → slice_get (slots.modules modules.now) place ≡ Some m → IfOk result (λ places. places ≡ declared_by (seen space (slots.modules modules.now) place m part)) }
+{
+    let table = table_seen(alloc, modules, exports, body, space, place, part)?;
+    declarations(alloc, &table)
+}
+
+/// What names mean in a part of the module at a place, given what its body brings in.
+fn names_beside(
+    alloc: Global,
+    modules: &Modules,
+    exports: &Exports,
+    body: &NameTables,
+    place: usize,
+    part: Part,
+) -> Result<PartNames, Memory>
+    requires within { place < length (slots.modules modules.now) }
+    requires made { AreExports exports.now (slots.modules modules.now) }
+    requires body { option_map body_names (slice_get (slots.modules modules.now) place) ≡ Some body.now }
+    ensures values { (m : ModuleParts) → slice_get (slots.modules modules.now) place ≡ Some m → IfOk result (λ names. names.values ≡ declared_by (seen Space.Values (slots.modules modules.now) place m part)) }
+    ensures callables { (m : ModuleParts) → slice_get (slots.modules modules.now) place ≡ Some m → IfOk result (λ names. names.callables ≡ seen Space.Callables (slots.modules modules.now) place m part) }
+    ensures types { (m : ModuleParts) → slice_get (slots.modules modules.now) place ≡ Some m → IfOk result (λ names. names.types ≡ declared_by (seen Space.Types (slots.modules modules.now) place m part)) }
+{
+    let values = declared_seen(alloc, modules, exports, body, Space::Values, place, part)?;
+    let callables = table_seen(alloc, modules, exports, body, Space::Callables, place, part)?;
+    let types = declared_seen(alloc, modules, exports, body, Space::Types, place, part)?;
+    Ok(PartNames {
+        values,
+        callables,
+        types,
+    })
+}
+
 /// What names mean in a part of the module at a place, the first that each name means: what the module
 /// declares, then what the imports of that part bring, then what is pervasive.
 ///
@@ -130,22 +176,5 @@ pub fn names_seen(
     ensures types { (m : ModuleParts) → slice_get (slots.modules modules.now) place ≡ Some m → IfOk result (λ names. names.types ≡ declared_by (seen Space.Types (slots.modules modules.now) place m part)) }
 {
     let body = named_in_body(alloc, modules, place)?;
-    let seen_values = table_seen(alloc, modules, exports, &body, Space::Values, place, part)?;
-    let callables = table_seen(
-        alloc,
-        modules,
-        exports,
-        &body,
-        Space::Callables,
-        place,
-        part,
-    )?;
-    let seen_types = table_seen(alloc, modules, exports, &body, Space::Types, place, part)?;
-    let values = declarations(alloc, &seen_values)?;
-    let types = declarations(alloc, &seen_types)?;
-    Ok(PartNames {
-        values,
-        callables,
-        types,
-    })
+    names_beside(alloc, modules, exports, &body, place, part)
 }

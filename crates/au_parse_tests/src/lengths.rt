@@ -1,132 +1,302 @@
-//! Long lists, which are read without recursion. Each entry says what stands so often, and what stands
-//! behind it.
+//! Files too long to be cases: lists, which are read without recursion, and types with many nodes.
 
-use crate::sources::{
-    BLOCK_BACK, BLOCK_FRONT, BODY_BACK, BODY_FRONT, INTERFACE_BACK, INTERFACE_FRONT, VALUE_BACK,
-    VALUE_FRONT, decided,
-};
+use crate::sources::{Long, come_to};
 use std::test::Fail;
 
-/// Declarations of an interface.
-const INTERFACE: [(&[u8], u32, &[u8], &[u8], &[u8]); 2] = [
-    (b"constant c: T; ", 5_000, b"", b"", b"accepted"),
-    (b"constant c: T; ", 1_000, b"constant c: T", b"", b"3:1"),
-];
-
-/// Declarations of a body.
-const BODY: [(&[u8], u32, &[u8], &[u8], &[u8]); 1] = [(
-    b"function f(): T is end; ",
-    2_000,
-    b"",
-    b"",
-    b"accepted",
-)];
-
-/// Statements of a block.
-const BLOCK: [(&[u8], u32, &[u8], &[u8], &[u8]); 2] = [
-    (b"skip; ", 20_000, b"", b"", b"accepted"),
-    (b"skip; ", 1_000, b"skip", b"", b"4:1"),
-];
-
-/// Branches of an `if`.
-const BRANCHES: [(&[u8], u32, &[u8], &[u8], &[u8]); 2] = [
-    (b"else if a then ", 5_000, b"", b"", b"accepted"),
+/// Long lists, and nesting without an end.
+const LISTS: [Long; 19] = [
     (
+        b"module body M is\nfunction f(): T is\n",
+        b"skip; ",
+        20_000,
+        b"\nend;\nend module body.",
+        b"accepted",
+    ),
+    (
+        b"module body M is\nfunction f(): T is\n",
+        b"skip; ",
+        1_000,
+        b"skip\nend;\nend module body.",
+        b"4:1",
+    ),
+    (
+        b"module body M is\nfunction f(): T is if a then\n",
+        b"else if a then ",
+        5_000,
+        b"\nend if; end;\nend module body.",
+        b"accepted",
+    ),
+    (
+        b"module body M is\nfunction f(): T is if a then\n",
         b"else if a then skip; ",
         1_000,
-        b"else skip; ",
-        b"",
+        b"else skip; \nend if; end;\nend module body.",
         b"accepted",
+    ),
+    (
+        b"module body M is\nfunction f(): T is case a of\n",
+        b"when A(b: T) do skip; ",
+        2_000,
+        b"\nend case; end;\nend module body.",
+        b"accepted",
+    ),
+    (
+        b"module M is\n",
+        b"constant c: T; ",
+        5_000,
+        b"\nend module.",
+        b"accepted",
+    ),
+    (
+        b"module M is\n",
+        b"constant c: T; ",
+        1_000,
+        b"constant c: T\nend module.",
+        b"3:1",
+    ),
+    (
+        b"module body M is\n",
+        b"function f(): T is end; ",
+        2_000,
+        b"\nend module body.",
+        b"accepted",
+    ),
+    (
+        b"module body M is\nunion U: Free is\n",
+        b"case A; ",
+        10_000,
+        b"case B is a: T;\nend;\nend module body.",
+        b"accepted",
+    ),
+    (
+        b"module body M is\nconstant c: T :=\n",
+        b"a.",
+        20_000,
+        b"a\n;\nend module body.",
+        b"accepted",
+    ),
+    (
+        b"module body M is\nconstant c: T :=\n",
+        b"a.",
+        1_000,
+        b"\n;\nend module body.",
+        b"4:1",
+    ),
+    (
+        b"module body M is\nconstant c: T := f(\n",
+        b"a, ",
+        19_999,
+        b"a\n);\nend module body.",
+        b"accepted",
+    ),
+    (
+        b"module body M is\nconstant c: T := f(\n",
+        b"a => b, ",
+        4_999,
+        b"a => b\n);\nend module body.",
+        b"accepted",
+    ),
+    (
+        b"module body M is\nconstant c: T := f(\n",
+        b"a, ",
+        1_000,
+        b"\n);\nend module body.",
+        b"4:1",
+    ),
+    (
+        b"",
+        b"import A (x); ",
+        2_000,
+        b"module M is end module.",
+        b"accepted",
+    ),
+    (
+        b"import A (\n",
+        b"x as y, ",
+        5_000,
+        b"x\n); module M is end module.",
+        b"accepted",
+    ),
+    (
+        b"module body M is\nconstant c: T :=\n",
+        b"(",
+        20_000,
+        b"\n;\nend module body.",
+        b"Nesting 101 above 100",
+    ),
+    (
+        b"module body M is\nfunction f(): T is\n",
+        b"let x: A[B, B, B, B] := a; ",
+        2_000,
+        b"\nend;\nend module body.",
+        b"accepted",
+    ),
+    (
+        b"module\n",
+        b"a.",
+        5_000,
+        b"b\nis end module.",
+        b"NameBytes 65 above 64",
     ),
 ];
 
-/// Arms of a `case`.
-const ARMS: [(&[u8], u32, &[u8], &[u8], &[u8]); 1] = [(
-    b"when A(b: T) do skip; ",
-    2_000,
-    b"",
-    b"",
-    b"accepted",
-)];
-
-/// Cases of a union.
-const CASES: [(&[u8], u32, &[u8], &[u8], &[u8]); 1] = [(
-    b"case A; ",
-    10_000,
-    b"case B is a: T;",
-    b"",
-    b"accepted",
-)];
-
-/// Names with points between.
-const PATHS: [(&[u8], u32, &[u8], &[u8], &[u8]); 2] = [
-    (b"a.", 20_000, b"a", b"", b"accepted"),
-    (b"a.", 1_000, b"", b"", b"4:1"),
-];
-
-/// Arguments of a call.
-const ARGUMENTS: [(&[u8], u32, &[u8], &[u8], &[u8]); 3] = [
-    (b"a, ", 19_999, b"a", b"", b"accepted"),
-    (b"a => b, ", 4_999, b"a => b", b"", b"accepted"),
-    (b"a, ", 1_000, b"", b"", b"4:1"),
-];
-
-/// Imports.
-const IMPORTS: [(&[u8], u32, &[u8], &[u8], &[u8]); 1] = [(
-    b"import A (x); ",
-    2_000,
-    b"",
-    b"",
-    b"accepted",
-)];
-
-/// Names that are imported.
-const ITEMS: [(&[u8], u32, &[u8], &[u8], &[u8]); 1] = [(
-    b"x as y, ",
-    5_000,
-    b"x",
-    b"",
-    b"accepted",
-)];
-
-const BRANCHES_FRONT: &[u8] = b"module body M is\nfunction f(): T is if a then\n";
-
-const BRANCHES_BACK: &[u8] = b"\nend if; end;\nend module body.";
-
-const ARMS_FRONT: &[u8] = b"module body M is\nfunction f(): T is case a of\n";
-
-const ARMS_BACK: &[u8] = b"\nend case; end;\nend module body.";
-
-const CASES_FRONT: &[u8] = b"module body M is\nunion U: Free is\n";
-
-const CASES_BACK: &[u8] = b"\nend;\nend module body.";
-
-const CALL_FRONT: &[u8] = b"module body M is\nconstant c: T := f(\n";
-
-const CALL_BACK: &[u8] = b"\n);\nend module body.";
-
-const ITEMS_FRONT: &[u8] = b"import A (\n";
-
-const ITEMS_BACK: &[u8] = b"\n); module M is end module.";
-
 #[test]
-fn lists_of_statements_may_be_long(rt: HostRuntime) -> Result<(), Fail> {
-    let alloc = rt.alloc();
-    decided(&rt, alloc, BLOCK_FRONT, &BLOCK, BLOCK_BACK)?;
-    decided(&rt, alloc, BRANCHES_FRONT, &BRANCHES, BRANCHES_BACK)?;
-    decided(&rt, alloc, ARMS_FRONT, &ARMS, ARMS_BACK)?;
-    Ok(())
+fn long_lists_are_read(rt: HostRuntime) -> Result<(), Fail> {
+    come_to(&rt, rt.alloc(), &LISTS)
 }
 
+/// Types, which may have 4096 nodes.
+const TYPES: [Long; 21] = [
+    (
+        b"module M is\nconstant c: A[\n",
+        b"B, ",
+        4_094,
+        b"B\n];\nend module.",
+        b"accepted",
+    ),
+    (
+        b"module M is\nconstant c: A[\n",
+        b"B, ",
+        4_095,
+        b"B\n];\nend module.",
+        b"TypeNodes 4097 above 4096",
+    ),
+    (
+        b"module M is\nconstant c: A[\n",
+        b"B, ",
+        4_999,
+        b"B\n];\nend module.",
+        b"TypeNodes 5001 above 4096",
+    ),
+    (
+        b"module M is\nconstant c: A[\n",
+        b"B, ",
+        10_000,
+        b"B\n];\nend module.",
+        b"TypeNodes 10002 above 4096",
+    ),
+    (
+        b"module M is\nconstant c: A[\n",
+        b"B[C], ",
+        2_047,
+        b"B\n];\nend module.",
+        b"accepted",
+    ),
+    (
+        b"module M is\nconstant c: A[\n",
+        b"B[C], ",
+        2_047,
+        b"B[C]\n];\nend module.",
+        b"TypeNodes 4097 above 4096",
+    ),
+    (
+        b"module M is\nconstant c: A[\n",
+        b"&[B, R], ",
+        1_364,
+        b"&[B, R]\n];\nend module.",
+        b"accepted",
+    ),
+    (
+        b"module M is\nconstant c: A[\n",
+        b"&![B, R], ",
+        1_365,
+        b"B\n];\nend module.",
+        b"TypeNodes 4097 above 4096",
+    ),
+    (
+        b"module M is\nconstant c: A[\n",
+        b"&[B, R], ",
+        2_000,
+        b"B\n];\nend module.",
+        b"TypeNodes 6002 above 4096",
+    ),
+    (
+        b"module M is\nconstant c: A[\n",
+        b"B, ",
+        4_095,
+        b"\n];\nend module.",
+        b"4:1",
+    ),
+    (
+        b"module M is\nconstant c: A[\n",
+        b"B, ",
+        4_096,
+        b"\n];\nend module.",
+        b"TypeNodes 4097 above 4096",
+    ),
+    (
+        b"module M is\nconstant c: A[\n",
+        b"B, ",
+        4_200,
+        b"\n];\nend module.",
+        b"TypeNodes 4201 above 4096",
+    ),
+    (
+        b"module M is\nconstant c: A[\n",
+        b"B, ",
+        4_094,
+        b"B C\n];\nend module.",
+        b"3:12285",
+    ),
+    (
+        b"module M is\nconstant c: A[\n",
+        b"B, ",
+        4_095,
+        b"B C\n];\nend module.",
+        b"TypeNodes 4097 above 4096",
+    ),
+    (
+        b"module M is\nconstant c: A[\n",
+        b"B, ",
+        4_200,
+        b"&[B, \n];\nend module.",
+        b"TypeNodes 4203 above 4096",
+    ),
+    (
+        b"module M is\nconstant c: A[\n",
+        b"B, ",
+        4_071,
+        b"C[C[C[C[C[C[C[C[C[C[C[C[C[C[C[C[C[C[C[C[C[C[C[D]]]]]]]]]]]]]]]]]]]]]]]\n];\nend module.",
+        b"TypeDepth 25 above 24",
+    ),
+    (
+        b"module M is\nconstant c: A[\n",
+        b"B, ",
+        4_072,
+        b"C[C[C[C[C[C[C[C[C[C[C[C[C[C[C[C[C[C[C[C[C[C[C[D]]]]]]]]]]]]]]]]]]]]]]]\n];\nend module.",
+        b"TypeDepth 25 above 24",
+    ),
+    (
+        b"module M is\nconstant c: A[\n",
+        b"B, ",
+        4_073,
+        b"C[C[C[C[C[C[C[C[C[C[C[C[C[C[C[C[C[C[C[C[C[C[C[D]]]]]]]]]]]]]]]]]]]]]]]\n];\nend module.",
+        b"TypeNodes 4098 above 4096",
+    ),
+    (
+        b"module M is\nconstant c: A[\n",
+        b"B, ",
+        4_200,
+        b"C[C[C[C[C[C[C[C[C[C[C[C[C[C[C[C[C[C[C[C[C[C[C[D]]]]]]]]]]]]]]]]]]]]]]]\n];\nend module.",
+        b"TypeNodes 4225 above 4096",
+    ),
+    (
+        b"module M is\nconstant c: A[\n",
+        b"C[C[C[C[C[C[C[C[C[C[C[C[C[C[C[C[C[C[C[C[C[C[C[D]]]]]]]]]]]]]]]]]]]]]]], ",
+        200,
+        b"B\n];\nend module.",
+        b"TypeDepth 25 above 24",
+    ),
+    (
+        b"module M is\nconstant c:\n",
+        b"A[",
+        5_000,
+        b"\n;\nend module.",
+        b"TypeDepth 25 above 24",
+    ),
+];
+
 #[test]
-fn other_lists_may_be_long(rt: HostRuntime) -> Result<(), Fail> {
-    let alloc = rt.alloc();
-    decided(&rt, alloc, INTERFACE_FRONT, &INTERFACE, INTERFACE_BACK)?;
-    decided(&rt, alloc, BODY_FRONT, &BODY, BODY_BACK)?;
-    decided(&rt, alloc, CASES_FRONT, &CASES, CASES_BACK)?;
-    decided(&rt, alloc, VALUE_FRONT, &PATHS, VALUE_BACK)?;
-    decided(&rt, alloc, CALL_FRONT, &ARGUMENTS, CALL_BACK)?;
-    decided(&rt, alloc, b"", &IMPORTS, b"module M is end module.")?;
-    decided(&rt, alloc, ITEMS_FRONT, &ITEMS, ITEMS_BACK)?;
-    Ok(())
+fn types_have_at_most_4096_nodes(rt: HostRuntime) -> Result<(), Fail> {
+    come_to(&rt, rt.alloc(), &TYPES)
 }

@@ -1,15 +1,9 @@
-//! Tests of the parser from the bytes of files on, in a crate of their own: a crate with tests is
-//! proved twice.
+//! Tests of the parser that no file and its answer can be: a tree and its places, and files too long to be
+//! written down. They stand in a crate of their own: a crate with tests is proved twice.
 #![tactic(auto)]
 
 #[cfg(test)]
-mod faults;
-#[cfg(test)]
 mod lengths;
-#[cfg(test)]
-mod limits;
-#[cfg(test)]
-mod rows;
 #[cfg(test)]
 mod sources;
 #[cfg(test)]

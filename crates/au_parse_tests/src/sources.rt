@@ -9,25 +9,15 @@ use std::alloc::{AllocError, Global};
 use std::process::Abort;
 use std::test::Fail;
 
-/// What stands before and behind declarations of an interface.
-pub(crate) const INTERFACE_FRONT: &[u8] = b"module M is\n";
-
-pub(crate) const INTERFACE_BACK: &[u8] = b"\nend module.";
-
-/// What stands before and behind declarations of a body.
-pub(crate) const BODY_FRONT: &[u8] = b"module body M is\n";
-
-pub(crate) const BODY_BACK: &[u8] = b"\nend module body.";
-
-/// What stands before and behind a block.
-pub(crate) const BLOCK_FRONT: &[u8] = b"module body M is\nfunction f(): T is\n";
-
-pub(crate) const BLOCK_BACK: &[u8] = b"\nend;\nend module body.";
-
-/// What stands before and behind an expression.
-pub(crate) const VALUE_FRONT: &[u8] = b"module body M is\nconstant c: T :=\n";
-
-pub(crate) const VALUE_BACK: &[u8] = b"\n;\nend module body.";
+/// A file, and what it comes to: what stands first, what stands behind it so often, how often, what stands
+/// behind that, and what is due.
+pub(crate) type Long = (
+    &'static [u8],
+    &'static [u8],
+    u32,
+    &'static [u8],
+    &'static [u8],
+);
 
 /// A place as `LINE:COLUMN`.
 fn shown_place(alloc: Global, at: Pos) -> Result<String, AllocError> {
@@ -50,7 +40,7 @@ fn place_of(tokens: &[Token], index: u32, bytes: &[u8]) -> Pos
 }
 
 /// What a file comes to: `accepted`, the place at which it is refused, or the limit that it passes.
-pub(crate) fn said(rt: &impl Abort, alloc: Global, bytes: &[u8]) -> Result<Text, Fail> {
+fn said(rt: &impl Abort, alloc: Global, bytes: &[u8]) -> Result<Text, Fail> {
     assert!(rt; bytes.len() < 10_000_000);
     let tokens = lex(alloc, 0, bytes)?;
     assert!(rt; tokens.len() < 1_000_000);
@@ -63,14 +53,6 @@ pub(crate) fn said(rt: &impl Abort, alloc: Global, bytes: &[u8]) -> Result<Text,
         Err(ParseFault::Memory) => return Ok(Text::copy_of(alloc, b"memory")?),
     };
     Ok(Text::copy_of(alloc, shown.as_bytes())?)
-}
-
-/// The bytes of three pieces, one behind another.
-fn joined(alloc: Global, front: &[u8], middle: &[u8], back: &[u8]) -> Result<Text, Memory> {
-    let mut text = Text::copy_of(alloc, front)?;
-    text.append(middle)?;
-    text.append(back)?;
-    Ok(text)
 }
 
 /// Puts a source at the end with what is said of it, where that isn't what is due.
@@ -86,68 +68,24 @@ fn tell(wrong: &mut Text, source: &[u8], said: &[u8], due: &[u8]) -> Result<(), 
     Ok(())
 }
 
-/// Asserts that each of these sources is accepted between what stands before and behind.
-pub(crate) fn accepted(
-    rt: &impl Abort,
-    alloc: Global,
-    front: &[u8],
-    sources: &[&[u8]],
-    back: &[u8],
-) -> Result<(), Fail> {
-    let mut wrong = Text::new(alloc);
-    for source in sources {
-        let text = joined(alloc, front, source, back)?;
-        let said = said(rt, alloc, text.as_bytes())?;
-        tell(&mut wrong, source, said.as_bytes(), b"accepted")?;
-    }
-    assert_eq!(rt; wrong.as_bytes(), b"".as_slice());
-    Ok(())
-}
-
-/// Asserts that each of these sources is refused at its place between what stands before and behind.
-pub(crate) fn refused(
-    rt: &impl Abort,
-    alloc: Global,
-    front: &[u8],
-    sources: &[(&[u8], &[u8])],
-    back: &[u8],
-) -> Result<(), Fail> {
-    let mut wrong = Text::new(alloc);
-    for (source, due) in sources {
-        let text = joined(alloc, front, source, back)?;
-        let said = said(rt, alloc, text.as_bytes())?;
-        tell(&mut wrong, source, said.as_bytes(), due)?;
-    }
-    assert_eq!(rt; wrong.as_bytes(), b"".as_slice());
-    Ok(())
-}
-
-/// A piece, so many times.
-fn repeat(text: &mut Text, piece: &[u8], times: u32) -> Result<(), Memory> {
+/// The bytes of a file.
+fn bytes_of(alloc: Global, file: &Long) -> Result<Text, Memory> {
+    let (front, piece, times, behind, _) = *file;
+    let mut text = Text::copy_of(alloc, front)?;
     for _ in 0..times {
         text.append(piece)?;
     }
-    Ok(())
+    text.append(behind)?;
+    Ok(text)
 }
 
-/// Asserts what files come to that are made of these pieces between what stands before and behind:
-/// what opens, how often, what stands inside, what closes as often, and what is due.
-pub(crate) fn decided(
-    rt: &impl Abort,
-    alloc: Global,
-    front: &[u8],
-    pieces: &[(&[u8], u32, &[u8], &[u8], &[u8])],
-    back: &[u8],
-) -> Result<(), Fail> {
+/// Asserts that each of these files comes to what is due.
+pub(crate) fn come_to(rt: &impl Abort, alloc: Global, files: &[Long]) -> Result<(), Fail> {
     let mut wrong = Text::new(alloc);
-    for (open, times, middle, close, due) in pieces {
-        let mut text = Text::copy_of(alloc, front)?;
-        repeat(&mut text, open, *times)?;
-        text.append(middle)?;
-        repeat(&mut text, close, *times)?;
-        text.append(back)?;
+    for file in files {
+        let text = bytes_of(alloc, file)?;
         let said = said(rt, alloc, text.as_bytes())?;
-        tell(&mut wrong, middle, said.as_bytes(), due)?;
+        tell(&mut wrong, file.3, said.as_bytes(), file.4)?;
     }
     assert_eq!(rt; wrong.as_bytes(), b"".as_slice());
     Ok(())

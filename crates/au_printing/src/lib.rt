@@ -12,6 +12,3 @@ mod stops;
 pub use faults::ParseFault;
 pub use files::{First, Print};
 pub use parsing::parse;
-
-#[cfg(test)]
-mod tests;

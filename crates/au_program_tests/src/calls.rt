@@ -1,14 +1,13 @@
 //! The shipped calls by name.
 
 use au_base::{IntKind, Name};
-use au_ints::WrapOp;
 use au_shipped::{Prim, prim_of};
 use std::alloc::Global;
 use std::test::Fail;
 
-/// Calls by the names of their modules and their own, with the kind of integers that they are for, and the shipped
-/// calls that they are.
-const CALLS: [(&[u8], &[u8], Option<IntKind>, Option<Prim>); 11] = [
+/// Calls by the names of their modules and their own, with the kind of integers that they are for, and
+/// the shipped calls that they are.
+const CALLS: [(&[u8], &[u8], Option<IntKind>, Option<Prim>); 5] = [
     (
         b"Austral.Pervasive",
         b"print",
@@ -16,30 +15,14 @@ const CALLS: [(&[u8], &[u8], Option<IntKind>, Option<Prim>); 11] = [
         Some(Prim::PrintInt),
     ),
     (b"Austral.Pervasive", b"print", None, Some(Prim::PrintText)),
-    (b"Austral.Pervasive", b"abort", None, Some(Prim::Abort)),
-    (
-        b"Austral.Pervasive",
-        b"modularSubtract",
-        Some(IntKind::Int64),
-        Some(Prim::Wrap(WrapOp::Subtract, IntKind::Int64)),
-    ),
     (
         b"Austral.Pervasive",
         b"toIndex",
         Some(IntKind::Nat8),
         Some(Prim::Convert(IntKind::Index)),
     ),
-    (b"Standard.Box", b"boxGetMut", None, Some(Prim::BoxGetMut)),
     (b"Standard.Buffer", b"nth", None, Some(Prim::Nth)),
-    (
-        b"Standard.IO.Terminal",
-        b"readByte",
-        None,
-        Some(Prim::ReadByte),
-    ),
     (b"Standard.Box", b"nth", None, None),
-    (b"Standard", b"unbox", None, None),
-    (b"Austral.Pervasive", b"Some", None, None),
 ];
 
 /// What the call of these names is.

@@ -8,7 +8,7 @@ use au_syntax::{
 };
 
 /// A universe's word.
-pub(crate) fn word_of(universe: Universe) -> &'static [u8] {
+fn word_of(universe: Universe) -> &'static [u8] {
     match universe {
         Universe::Free => b"Free",
         Universe::Linear => b"Linear",
@@ -198,26 +198,12 @@ fn put_class(
     text.append(b"    end;")
 }
 
-/// A declaration of an interface. Of a declaration that stands in bodies alone it is said that it is
-/// one.
+/// A declaration. Of one of a kind that no shipped interface has it is said what it is.
 fn put_declaration(text: &mut Text, decl: &Decl<Parsed>) -> Result<(), Memory> {
     match decl {
-        Decl::Constant(_, name, of) => {
-            text.append(b"constant ")?;
-            text.append(name.name.as_bytes())?;
-            text.append(b": ")?;
-            put_type(text, of)?;
-            text.push(b';')
-        }
         Decl::Opaque(_, name, parameters, universe) => {
             put_heading(text, b"type ", name, parameters, *universe)?;
             text.push(b';')
-        }
-        Decl::Record(_, name, parameters, universe, fields) => {
-            put_heading(text, b"record ", name, parameters, *universe)?;
-            text.append(b" is")?;
-            put_fields(text, fields)?;
-            text.append(b" end;")
         }
         Decl::Union(_, name, parameters, universe, cases) => {
             put_heading(text, b"union ", name, parameters, *universe)?;
@@ -239,6 +225,8 @@ fn put_declaration(text: &mut Text, decl: &Decl<Parsed>) -> Result<(), Memory> {
             put_type(text, of)?;
             text.append(b");")
         }
+        Decl::Constant(_, _, _) => text.append(b"a constant"),
+        Decl::Record(_, _, _, _, _) => text.append(b"a record"),
         Decl::ConstantBody(_, _, _, _) => text.append(b"a constant of a body"),
         Decl::FunctionBody(_, _, _, _, _) => text.append(b"a function of a body"),
         Decl::InstanceBody(_, _, _, _, _) => text.append(b"an instance of a body"),

@@ -1,32 +1,20 @@
-//! Tests of programs as modules, from the bytes of files on, in a crate of their own: a crate with
-//! tests is proved twice.
+//! Tests of calls that no program runs yet, and of the time that large programs take, in a crate of their
+//! own: a crate with tests is proved twice.
 #![tactic(auto)]
 
 #[cfg(test)]
 mod calls;
 #[cfg(test)]
-mod declared;
-#[cfg(test)]
-mod gathered;
+mod copies;
 #[cfg(test)]
 mod interfaces;
-#[cfg(test)]
-mod large;
-#[cfg(test)]
-mod limits;
-#[cfg(test)]
-mod meanings;
 #[cfg(test)]
 mod programs;
 #[cfg(test)]
 mod resolved;
 #[cfg(test)]
-mod rows;
-#[cfg(test)]
-mod seen;
-#[cfg(test)]
 mod shipped;
 #[cfg(test)]
 mod texts;
 #[cfg(test)]
-mod written;
+mod times;

@@ -38,7 +38,6 @@ pub struct Definitions {
 }
 
 /// The name of the constant that a declaration defines, if it defines one.
-#[tactic(auto, using(au_syntax::proofs::DeclarationLemmas::declaration_steps, std::proofs::lemmas::Grind::common_steps))]
 fn constant_defined(decl: &Decl<Parsed>) -> Option<&Name>
     ensures { option_copied result ≡ spec.constant_defined (declared_of decl.now) }
 {
@@ -57,7 +56,6 @@ fn constant_defined(decl: &Decl<Parsed>) -> Option<&Name>
 }
 
 /// The name of the type that a declaration defines, if it defines one.
-#[tactic(auto, using(au_syntax::proofs::DeclarationLemmas::declaration_steps, std::proofs::lemmas::Grind::common_steps))]
 fn type_defined(decl: &Decl<Parsed>) -> Option<&Name>
     ensures { option_copied result ≡ spec.type_defined (declared_of decl.now) }
 {
@@ -76,7 +74,6 @@ fn type_defined(decl: &Decl<Parsed>) -> Option<&Name>
 }
 
 /// The name of the function that a declaration defines, if it defines one.
-#[tactic(auto, using(au_syntax::proofs::DeclarationLemmas::declaration_steps, std::proofs::lemmas::Grind::common_steps))]
 fn function_defined(decl: &Decl<Parsed>) -> Option<&Name>
     ensures { option_copied result ≡ spec.function_defined (declared_of decl.now) }
 {
@@ -95,7 +92,6 @@ fn function_defined(decl: &Decl<Parsed>) -> Option<&Name>
 }
 
 /// Whether a declaration defines an instance.
-#[tactic(auto, using(au_syntax::proofs::DeclarationLemmas::declaration_steps, std::proofs::lemmas::Grind::common_steps))]
 fn is_instance(decl: &Decl<Parsed>) -> bool
     ensures { result ≡ defining.is_instance (declared_of decl.now) }
 {

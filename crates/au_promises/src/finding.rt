@@ -24,7 +24,6 @@ use au_types::Params;
 use std::alloc::Global;
 
 /// The place of a declaration's first token.
-#[tactic(auto, using(au_syntax::proofs::DeclarationLemmas::declaration_steps, std::proofs::lemmas::Grind::common_steps))]
 fn declaration_place(decl: &Decl<Parsed>) -> Pos
     ensures { result ≡ spec.declaration_place (declared_of decl.now) }
 {
@@ -43,7 +42,6 @@ fn declaration_place(decl: &Decl<Parsed>) -> Pos
 }
 
 /// What is promised, if a declaration of an interface promises anything.
-#[tactic(auto, using(au_syntax::proofs::DeclarationLemmas::declaration_steps, std::proofs::lemmas::Grind::common_steps))]
 fn promised(decl: &Decl<Parsed>) -> Option<&Name>
     ensures { option_copied result ≡ spec.promised (declared_of decl.now) }
 {

@@ -39,7 +39,6 @@ fn same_heading(
 }
 
 /// Whether a declaration defines a constant of a type.
-#[tactic(auto, using(au_syntax::proofs::DeclarationLemmas::declaration_steps, std::proofs::lemmas::Grind::common_steps))]
 fn keeps_constant(
     alloc: Global,
     sight: &Sight,
@@ -63,7 +62,6 @@ fn keeps_constant(
 }
 
 /// Whether a declaration defines a type of these type parameters and this universe.
-#[tactic(auto, using(au_syntax::proofs::DeclarationLemmas::declaration_steps, std::proofs::lemmas::Grind::common_steps))]
 fn keeps_type(list: &Vec<TypeParameter<Parsed>>, universe: Universe, decl: &Decl<Parsed>) -> bool
     ensures { result ≡ spec.keeps_type (parameters_of list.now.items) universe (declared_of decl.now) }
 {
@@ -82,7 +80,6 @@ fn keeps_type(list: &Vec<TypeParameter<Parsed>>, universe: Universe, decl: &Decl
 }
 
 /// Whether a declaration defines a function of these type parameters, parameters and result.
-#[tactic(auto, using(au_syntax::proofs::DeclarationLemmas::declaration_steps, std::proofs::lemmas::Grind::common_steps))]
 fn keeps_function(
     alloc: Global,
     sight: &Sight,
@@ -109,7 +106,6 @@ fn keeps_function(
 }
 
 /// Whether a declaration defines an instance of these type parameters.
-#[tactic(auto, using(au_syntax::proofs::DeclarationLemmas::declaration_steps, std::proofs::lemmas::Grind::common_steps))]
 fn keeps_instance(sight: &Sight, list: &Vec<Generic<Parsed>>, decl: &Decl<Parsed>) -> bool
     ensures { result ≡ spec.keeps_instance (sight_in sight.now) (generics_of list.now.items) (declared_of decl.now) }
 {
@@ -132,7 +128,6 @@ fn keeps_instance(sight: &Sight, list: &Vec<Generic<Parsed>>, decl: &Decl<Parsed
 /// # Errors
 ///
 /// Only for want of memory.
-#[tactic(auto, using(au_syntax::proofs::DeclarationLemmas::declaration_steps, std::proofs::lemmas::Grind::common_steps))]
 pub fn keeps(
     alloc: Global,
     sight: &Sight,

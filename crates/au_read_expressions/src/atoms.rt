@@ -32,7 +32,6 @@ pub(crate) fn boxed(alloc: Global, expr: Expr<Parsed>) -> Result<Box<Expr<Parsed
 }
 
 /// Reads a number.
-#[tactic(auto, using(au_syntax::proofs::ExpressionLemmas::expression_steps, std::proofs::lemmas::Grind::common_steps))]
 pub(crate) fn number_atom(
     alloc: Global,
     tokens: &[Token],
@@ -45,7 +44,6 @@ pub(crate) fn number_atom(
 }
 
 /// Reads a number behind `-`.
-#[tactic(auto, using(au_syntax::proofs::ExpressionLemmas::expression_steps, std::proofs::lemmas::Grind::common_steps))]
 pub(crate) fn negative_atom(
     alloc: Global,
     tokens: &[Token],
@@ -59,7 +57,6 @@ pub(crate) fn negative_atom(
 }
 
 /// Reads a text.
-#[tactic(auto, using(au_syntax::proofs::ExpressionLemmas::expression_steps, std::proofs::lemmas::Grind::common_steps))]
 pub(crate) fn text_atom(
     alloc: Global,
     tokens: &[Token],
@@ -72,7 +69,6 @@ pub(crate) fn text_atom(
 }
 
 /// Reads `true`.
-#[tactic(auto, using(au_syntax::proofs::ExpressionLemmas::expression_steps, std::proofs::lemmas::Grind::common_steps))]
 pub(crate) fn true_atom(
     alloc: Global,
     tokens: &[Token],
@@ -85,7 +81,6 @@ pub(crate) fn true_atom(
 }
 
 /// Reads `false`.
-#[tactic(auto, using(au_syntax::proofs::ExpressionLemmas::expression_steps, std::proofs::lemmas::Grind::common_steps))]
 pub(crate) fn false_atom(
     alloc: Global,
     tokens: &[Token],
@@ -98,7 +93,6 @@ pub(crate) fn false_atom(
 }
 
 /// Reads `nil`.
-#[tactic(auto, using(au_syntax::proofs::ExpressionLemmas::expression_steps, std::proofs::lemmas::Grind::common_steps))]
 pub(crate) fn nil_atom(
     alloc: Global,
     tokens: &[Token],
@@ -111,7 +105,6 @@ pub(crate) fn nil_atom(
 }
 
 /// Reads a name and the fields behind it.
-#[tactic(auto, using(au_syntax::proofs::ExpressionLemmas::expression_steps, std::proofs::lemmas::Grind::common_steps))]
 pub(crate) fn path_atom(
     alloc: Global,
     tokens: &[Token],
@@ -138,7 +131,6 @@ fn arrow_parts(
 }
 
 /// Reads a part behind a reference.
-#[tactic(auto, using(au_syntax::proofs::ExpressionLemmas::expression_steps, std::proofs::lemmas::Grind::common_steps))]
 pub(crate) fn arrow_atom(
     alloc: Global,
     tokens: &[Token],
@@ -151,7 +143,6 @@ pub(crate) fn arrow_atom(
 }
 
 /// Reads a borrow of a variable, by the sign that stands first.
-#[tactic(auto, using(au_syntax::proofs::ExpressionLemmas::expression_steps, std::proofs::lemmas::Grind::common_steps))]
 pub(crate) fn borrow_atom(
     alloc: Global,
     first: Sign,
@@ -167,7 +158,6 @@ pub(crate) fn borrow_atom(
 }
 
 /// Reads a reference to a part.
-#[tactic(auto, using(au_syntax::proofs::ExpressionLemmas::expression_steps, std::proofs::lemmas::Grind::common_steps))]
 pub(crate) fn borrow_part_atom(
     alloc: Global,
     tokens: &[Token],

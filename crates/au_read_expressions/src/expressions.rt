@@ -137,7 +137,6 @@ fn operation(
 }
 
 /// Reads `not` and its operand.
-#[tactic(auto, using(au_syntax::proofs::ExpressionLemmas::expression_steps, std::proofs::lemmas::Grind::common_steps))]
 #[cycle(expressions)]
 fn negation(
     alloc: Global,
@@ -154,7 +153,7 @@ fn negation(
 }
 
 /// Reads `if .. then .. else ..`.
-#[tactic(auto, unfolding(crate::specs::ExpressionReading::choice_with), using(au_syntax::proofs::ExpressionLemmas::expression_steps, std::proofs::lemmas::Grind::common_steps))]
+#[tactic(auto, unfolding(crate::specs::ExpressionReading::choice_with))]
 #[cycle(expressions)]
 fn choice(
     alloc: Global,
@@ -200,7 +199,6 @@ fn continued(
 }
 
 /// Reads an operator and the second operand.
-#[tactic(auto, using(au_syntax::proofs::ExpressionLemmas::expression_steps, std::proofs::lemmas::Grind::common_steps))]
 #[cycle(expressions)]
 fn binary(
     alloc: Global,
@@ -222,7 +220,6 @@ fn binary(
 }
 
 /// Reads `:` and a type.
-#[tactic(auto, using(au_syntax::proofs::ExpressionLemmas::expression_steps, std::proofs::lemmas::Grind::common_steps))]
 fn typed(
     alloc: Global,
     levels: u32,
@@ -277,7 +274,6 @@ fn atom_within(
 }
 
 /// Reads an expression in parentheses.
-#[tactic(auto, using(au_syntax::proofs::ExpressionLemmas::expression_steps, std::proofs::lemmas::Grind::common_steps))]
 #[cycle(expressions)]
 fn parenthesized(
     alloc: Global,
@@ -295,7 +291,6 @@ fn parenthesized(
 }
 
 /// Reads `!` and an atom.
-#[tactic(auto, using(au_syntax::proofs::ExpressionLemmas::expression_steps, std::proofs::lemmas::Grind::common_steps))]
 #[cycle(expressions)]
 fn dereference(
     alloc: Global,
@@ -390,7 +385,7 @@ fn given(
 }
 
 /// Reads the arguments of a call by the names of parameters, and the parenthesis behind them.
-#[tactic(auto, unfolding(crate::specs::Arguments::called_by_name), using(crate::proofs::CodeLemmas::named_says, std::proofs::lemmas::Grind::common_steps))]
+#[tactic(auto, unfolding(crate::specs::Arguments::called_by_name))]
 #[cycle(expressions)]
 fn given_by_name(
     alloc: Global,
@@ -408,7 +403,7 @@ fn given_by_name(
 }
 
 /// Reads the arguments of a call in order, and the parenthesis behind them.
-#[tactic(auto, unfolding(crate::specs::Arguments::called_in_order), using(crate::proofs::CodeLemmas::ordered_says, std::proofs::lemmas::Grind::common_steps))]
+#[tactic(auto, unfolding(crate::specs::Arguments::called_in_order))]
 #[cycle(expressions)]
 fn given_in_order(
     alloc: Global,

@@ -1,6 +1,10 @@
 //! Constants, and declarations by their first tokens.
 
-ghost use Rattle.std.specs.Prelude.{◌≡◌, map};
+ghost use Rattle.std.specs.Prelude.{◌≡◌, ◌∷◌, [], map};
+ghost use Rattle.au_base.specs.declared.tokens.Sign.TheVariants as sign;
+ghost use Rattle.au_base.specs.declared.tokens.What.TheVariants as what;
+ghost use Rattle.au_read_expressions.specs.ExpressionReading.{expression_at};
+ghost use Rattle.au_read_types.specs.TypeReading.{type_at};
 ghost use Rattle.au_reading.specs.Reading.{Gives, front};
 ghost use Rattle.au_reading.specs.Reading as steps;
 ghost use Rattle.au_reading.specs.Bounds.{usual};
@@ -15,24 +19,59 @@ use au_base::{Keyword, MOST_NESTING, Sign, Token, What};
 use au_read_expressions::expression;
 use au_read_types::written_type;
 use au_reading::{Entry, Expected, Stop, expect, name, place, repeated, stop_before};
-use au_syntax::{Decl, Parsed, Part, Phase};
+use au_syntax::{Decl, Expr, Parsed, Part, Phase, TypeText};
 use std::alloc::Global;
+
+/// Reads `:`, a type and `;`.
+fn last_type(alloc: Global, tokens: &[Token]) -> Result<(TypeText, &[Token]), Stop>
+    ensures { Gives (λ x. (views.written x.0, x.1.now)) result
+        (steps.behind (what.Sign sign.Colon ∷ []) (steps.closed (what.Sign sign.Semicolon ∷ []) (type_at usual)) tokens.now) }
+{
+    let rest = expect(&[Expected::Sign(Sign::Colon)], tokens)?;
+    let (of, rest) = written_type(alloc, rest)?;
+    let rest = expect(&[Expected::Sign(Sign::Semicolon)], rest)?;
+    Ok((of, rest))
+}
+
+/// Reads `:=`, an expression and `;`.
+fn last_value(alloc: Global, tokens: &[Token]) -> Result<(Box<Expr<Parsed>>, &[Token]), Stop>
+    ensures { Gives (λ x. (views.expression ⟦<Parsed as Phase>⟧ x.0.value, x.1.now)) result
+        (steps.behind (what.Sign sign.Assign ∷ []) (steps.closed (what.Sign sign.Semicolon ∷ []) (expression_at usual usual.nesting)) tokens.now) }
+{
+    let rest = expect(&[Expected::Sign(Sign::Assign)], tokens)?;
+    let (value, rest) = expression(alloc, MOST_NESTING, rest)?;
+    let rest = expect(&[Expected::Sign(Sign::Semicolon)], rest)?;
+    Ok((Box::new(alloc, value)?, rest))
+}
+
+/// Reads `:`, a type and a value behind it.
+fn type_and_value(
+    alloc: Global,
+    tokens: &[Token],
+) -> Result<(TypeText, Box<Expr<Parsed>>, &[Token]), Stop>
+    ensures { Gives (λ x. ((views.written x.0, views.expression ⟦<Parsed as Phase>⟧ x.1.value), x.2.now)) result
+        (steps.behind (what.Sign sign.Colon ∷ []) (steps.pair (type_at usual)
+        (steps.behind (what.Sign sign.Assign ∷ []) (steps.closed (what.Sign sign.Semicolon ∷ []) (expression_at usual usual.nesting)))) tokens.now) }
+{
+    let rest = expect(&[Expected::Sign(Sign::Colon)], tokens)?;
+    let (of, rest) = written_type(alloc, rest)?;
+    let (value, rest) = last_value(alloc, rest)?;
+    Ok((of, value, rest))
+}
 
 /// Reads a constant of an interface.
 ///
 /// # Errors
 ///
 /// `Fault::Syntax` where a token is missing, and `Fault::Passed` where its type passes a limit.
-#[tactic(auto, using(au_syntax::proofs::DeclarationLemmas::declaration_steps, std::proofs::lemmas::Grind::common_steps), unfolding(crate::specs::DeclarationReading::constant_at))]
+#[tactic(auto, unfolding(crate::specs::DeclarationReading::constant_at))]
 pub fn constant(alloc: Global, tokens: &[Token]) -> Result<(Decl<Parsed>, &[Token]), Stop>
     ensures { Gives (λ x. (views.declaration ⟦<Parsed as Phase>⟧ x.0, x.1.now)) result (constant_at usual tokens.now) }
 {
     let at = place(tokens);
     let rest = expect(&[Expected::Word(Keyword::KwConstant)], tokens)?;
     let (name, rest) = name(alloc, rest)?;
-    let rest = expect(&[Expected::Sign(Sign::Colon)], rest)?;
-    let (of, rest) = written_type(alloc, rest)?;
-    let rest = expect(&[Expected::Sign(Sign::Semicolon)], rest)?;
+    let (of, rest) = last_type(alloc, rest)?;
     Ok((Decl::Constant(at, name, of), rest))
 }
 
@@ -41,19 +80,14 @@ pub fn constant(alloc: Global, tokens: &[Token]) -> Result<(Decl<Parsed>, &[Toke
 /// # Errors
 ///
 /// `Fault::Syntax` where a token is missing, and `Fault::Passed` where a limit is passed.
-#[tactic(auto, using(au_syntax::proofs::DeclarationLemmas::declaration_steps, std::proofs::lemmas::Grind::common_steps), unfolding(crate::specs::DeclarationReading::constant_body_at))]
+#[tactic(auto, unfolding(crate::specs::DeclarationReading::constant_body_at))]
 pub fn constant_body(alloc: Global, tokens: &[Token]) -> Result<(Decl<Parsed>, &[Token]), Stop>
     ensures { Gives (λ x. (views.declaration ⟦<Parsed as Phase>⟧ x.0, x.1.now)) result (constant_body_at usual tokens.now) }
 {
     let at = place(tokens);
     let rest = expect(&[Expected::Word(Keyword::KwConstant)], tokens)?;
     let (name, rest) = name(alloc, rest)?;
-    let rest = expect(&[Expected::Sign(Sign::Colon)], rest)?;
-    let (of, rest) = written_type(alloc, rest)?;
-    let rest = expect(&[Expected::Sign(Sign::Assign)], rest)?;
-    let (value, rest) = expression(alloc, MOST_NESTING, rest)?;
-    let rest = expect(&[Expected::Sign(Sign::Semicolon)], rest)?;
-    let value = Box::new(alloc, value)?;
+    let (of, value, rest) = type_and_value(alloc, rest)?;
     Ok((Decl::ConstantBody(at, name, of, value), rest))
 }
 

@@ -1,22 +1,25 @@
 //! Functions, instances and classes.
 
-ghost use Rattle.std.specs.Prelude.{List, ℕ, map, Some};
+ghost use Rattle.std.specs.Prelude.{◌∷◌, [], List, ℕ, map, Some};
 ghost use Rattle.au_reading.specs.Reading.{Gives};
 ghost use Rattle.au_reading.specs.Reading as steps;
 ghost use Rattle.au_reading.specs.Bounds.{usual};
 ghost use Rattle.au_base.specs.declared.tokens.Keyword.TheVariants as word;
+ghost use Rattle.au_base.specs.declared.tokens.Sign.TheVariants as sign;
 ghost use Rattle.au_base.specs.declared.tokens.What.TheVariants as what;
-ghost use Rattle.au_read_modules.specs.DeclarationReading.{class_at, class_method_at, general_at, generalized_at, generalized_in, generalized_of, method_at};
+ghost use Rattle.au_read_modules.specs.DeclarationReading.{class_at, class_method_at, general_at, generalized_at, generalized_in, generalized_of, in_universe_at, method_at};
+ghost use Rattle.au_read_statements.specs.StatementReading.{block_at};
+ghost use Rattle.au_read_statements.specs.StatementReading as statements;
 ghost use Rattle.au_syntax.specs.Modules.{Header};
 ghost use Rattle.au_syntax.specs.Plain.{PlainMethod};
 ghost use Rattle.au_syntax.specs.Views as views;
 ghost use Rattle.au_syntax.specs.declared.modules.Part.TheVariants as file_part;
 
-use crate::parts::{generics, instance_head, signature, type_parameter};
+use crate::parts::{entries, generics, inner_entries, instance_head, signature, type_parameter};
 use au_base::{Keyword, MOST_NESTING, Pos, Sign, Token, What};
 use au_read_statements::{block, end_place};
-use au_reading::{Entry, Expected, Stop, expect, is_word, name, place, repeated, stop_before};
-use au_syntax::{Decl, Generic, Method, Parsed, Part, Phase, Signature};
+use au_reading::{Entry, Expected, Stop, expect, is_word, name, place, stop_before};
+use au_syntax::{Block, Decl, Generic, Method, Parsed, Part, Phase, Signature, TypeParameter};
 use std::alloc::Global;
 
 /// A method of a class.
@@ -46,6 +49,18 @@ impl Entry for ClassMethodEntry {
     }
 }
 
+/// Reads `is` and a block up to its `end;`, and returns the place of the `end`.
+fn function_block(alloc: Global, tokens: &[Token]) -> Result<(Block<Parsed>, Pos, &[Token]), Stop>
+    ensures { Gives (λ x. ((views.block ⟦<Parsed as Phase>⟧ x.0, x.1), x.2.now)) result
+        (steps.behind (what.Word word.KwIs ∷ []) (steps.pair (block_at usual usual.nesting) (steps.closed (what.Sign sign.Semicolon ∷ []) statements.end_place)) tokens.now) }
+{
+    let rest = expect(&[Expected::Word(Keyword::KwIs)], tokens)?;
+    let (body, rest) = block(alloc, MOST_NESTING, rest)?;
+    let (end, rest) = end_place(rest)?;
+    let rest = expect(&[Expected::Sign(Sign::Semicolon)], rest)?;
+    Ok((body, end, rest))
+}
+
 /// A method of an instance.
 pub struct MethodEntry;
 
@@ -68,10 +83,7 @@ impl Entry for MethodEntry {
     fn read(alloc: Global, tokens: &[Token]) -> Result<(Method<Parsed>, &[Token]), Stop> {
         let rest = expect(&[Expected::Word(Keyword::KwMethod)], tokens)?;
         let (signature, rest) = signature(alloc, rest)?;
-        let rest = expect(&[Expected::Word(Keyword::KwIs)], rest)?;
-        let (body, rest) = block(alloc, MOST_NESTING, rest)?;
-        let (end, rest) = end_place(rest)?;
-        let rest = expect(&[Expected::Sign(Sign::Semicolon)], rest)?;
+        let (body, end, rest) = function_block(alloc, rest)?;
         Ok((
             Method {
                 signature,
@@ -83,36 +95,44 @@ impl Entry for MethodEntry {
     }
 }
 
-/// Reads a class.
-///
-/// # Errors
-///
-/// `Fault::Syntax` where a token is missing, and `Fault::Passed` where a type passes a limit.
-#[tactic(auto, using(au_syntax::proofs::DeclarationLemmas::declaration_steps, std::proofs::lemmas::Grind::common_steps), unfolding(crate::specs::DeclarationReading::class_at))]
-pub fn class(alloc: Global, tokens: &[Token]) -> Result<(Decl<Parsed>, &[Token]), Stop>
-    ensures { Gives (λ x. (views.declaration ⟦<Parsed as Phase>⟧ x.0, x.1.now)) result (class_at usual tokens.now) }
+/// Reads the parameter of a class in its parentheses, and its methods.
+fn class_parts(
+    alloc: Global,
+    tokens: &[Token],
+) -> Result<(TypeParameter<Parsed>, Vec<Signature<Parsed>>, &[Token]), Stop>
+    ensures { Gives (λ x. ((views.in_universe ⟦<Parsed as Phase>⟧ x.0, map (views.header ⟦<Parsed as Phase>⟧) x.1.items), x.2.now)) result
+        (steps.behind (what.Sign sign.LeftParenthesis ∷ []) (steps.pair in_universe_at
+        (steps.behind (what.Sign sign.RightParenthesis ∷ what.Word word.KwIs ∷ [])
+        (steps.closed (what.Word word.KwEnd ∷ what.Sign sign.Semicolon ∷ []) (steps.repeated (steps.is_front (what.Word word.KwMethod)) (class_method_at usual))))) tokens.now) }
 {
-    let at = place(tokens);
-    let rest = expect(&[Expected::Word(Keyword::KwTypeclass)], tokens)?;
-    let (name, rest) = name(alloc, rest)?;
-    let rest = expect(&[Expected::Sign(Sign::LeftParenthesis)], rest)?;
+    let rest = expect(&[Expected::Sign(Sign::LeftParenthesis)], tokens)?;
     let (parameter, rest) = type_parameter(alloc, rest)?;
     let middle = [
         Expected::Sign(Sign::RightParenthesis),
         Expected::Word(Keyword::KwIs),
     ];
     let rest = expect(&middle, rest)?;
-    let (methods, rest) = repeated::<ClassMethodEntry>(alloc, rest)?;
-    let closing = [
-        Expected::Word(Keyword::KwEnd),
-        Expected::Sign(Sign::Semicolon),
-    ];
-    let rest = expect(&closing, rest)?;
+    let (methods, rest) = entries::<ClassMethodEntry>(alloc, rest)?;
+    Ok((parameter, methods, rest))
+}
+
+/// Reads a class.
+///
+/// # Errors
+///
+/// `Fault::Syntax` where a token is missing, and `Fault::Passed` where a type passes a limit.
+#[tactic(auto, unfolding(crate::specs::DeclarationReading::class_at))]
+pub fn class(alloc: Global, tokens: &[Token]) -> Result<(Decl<Parsed>, &[Token]), Stop>
+    ensures { Gives (λ x. (views.declaration ⟦<Parsed as Phase>⟧ x.0, x.1.now)) result (class_at usual tokens.now) }
+{
+    let at = place(tokens);
+    let rest = expect(&[Expected::Word(Keyword::KwTypeclass)], tokens)?;
+    let (name, rest) = name(alloc, rest)?;
+    let (parameter, methods, rest) = class_parts(alloc, rest)?;
     Ok((Decl::Class(at, name, parameter, methods), rest))
 }
 
 /// Reads a function of an interface behind its type parameters.
-#[tactic(auto, using(au_syntax::proofs::DeclarationLemmas::declaration_steps, std::proofs::lemmas::Grind::common_steps))]
 fn function(
     alloc: Global,
     at: Pos,
@@ -128,7 +148,6 @@ fn function(
 }
 
 /// Reads an instance of an interface behind its type parameters.
-#[tactic(auto, using(au_syntax::proofs::DeclarationLemmas::declaration_steps, std::proofs::lemmas::Grind::common_steps))]
 fn instance(
     alloc: Global,
     at: Pos,
@@ -143,7 +162,6 @@ fn instance(
 }
 
 /// Reads a function of a body behind its type parameters.
-#[tactic(auto, using(au_syntax::proofs::DeclarationLemmas::declaration_steps, std::proofs::lemmas::Grind::common_steps))]
 fn function_body(
     alloc: Global,
     at: Pos,
@@ -154,15 +172,11 @@ fn function_body(
 {
     let rest = expect(&[Expected::Word(Keyword::KwFunction)], tokens)?;
     let (signature, rest) = signature(alloc, rest)?;
-    let rest = expect(&[Expected::Word(Keyword::KwIs)], rest)?;
-    let (body, rest) = block(alloc, MOST_NESTING, rest)?;
-    let (end, rest) = end_place(rest)?;
-    let rest = expect(&[Expected::Sign(Sign::Semicolon)], rest)?;
+    let (body, end, rest) = function_block(alloc, rest)?;
     Ok((Decl::FunctionBody(at, generics, signature, body, end), rest))
 }
 
 /// Reads an instance of a body behind its type parameters.
-#[tactic(auto, using(au_syntax::proofs::DeclarationLemmas::declaration_steps, std::proofs::lemmas::Grind::common_steps))]
 fn instance_body(
     alloc: Global,
     at: Pos,
@@ -172,13 +186,7 @@ fn instance_body(
     ensures { Gives (λ x. (views.declaration ⟦<Parsed as Phase>⟧ x.0, x.1.now)) result (steps.shaped (generalized_of at) (λ ts. steps.joined_at (generalized_in usual file_part.Body (Some (what.Word word.KwInstance))) (map (views.constrained ⟦<Parsed as Phase>⟧) generics.items, ts)) tokens.now) }
 {
     let (head, rest) = instance_head(alloc, tokens)?;
-    let rest = expect(&[Expected::Word(Keyword::KwIs)], rest)?;
-    let (methods, rest) = repeated::<MethodEntry>(alloc, rest)?;
-    let closing = [
-        Expected::Word(Keyword::KwEnd),
-        Expected::Sign(Sign::Semicolon),
-    ];
-    let rest = expect(&closing, rest)?;
+    let (methods, rest) = inner_entries::<MethodEntry>(alloc, rest)?;
     Ok((
         Decl::InstanceBody(at, generics, head.class, head.of, methods),
         rest,

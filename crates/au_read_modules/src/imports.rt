@@ -1,13 +1,15 @@
 //! Names of modules, and imports.
 
-ghost use Rattle.std.specs.Prelude.{◌≡◌, ◌<◌, List, ℕ, length, map};
+ghost use Rattle.std.specs.Prelude.{◌≡◌, ◌<◌, ◌∷◌, [], List, ℕ, length, map};
 ghost use Rattle.au_reading.specs.Reading.{Gives};
 ghost use Rattle.au_reading.specs.Reading as steps;
 ghost use Rattle.au_reading.specs.Bounds.{usual, bytes_limit};
 ghost use Rattle.au_reading.specs.declared.faults.Fault.TheVariants as fault;
 ghost use Rattle.au_reading.specs.declared.faults.Stop.TheVariants as stop;
 ghost use Rattle.au_base.specs.declared.tokens.Keyword.TheVariants as word;
+ghost use Rattle.au_base.specs.declared.tokens.Sign.TheVariants as sign;
 ghost use Rattle.au_base.specs.declared.tokens.What.TheVariants as what;
+ghost use Rattle.au_read_statements.specs.StatementReading.{renaming_at};
 ghost use Rattle.au_read_modules.specs.ModuleReading.{import_at, imports_at, module_name_at};
 ghost use Rattle.au_syntax.specs.Modules.{Importing};
 ghost use Rattle.au_syntax.specs.Views as views;
@@ -18,7 +20,7 @@ use au_reading::{
     Entry, Expected, Fault, Stop, after, expect, is_sign, is_word, listed, name, place, repeated,
     stop_before,
 };
-use au_syntax::{Ident, Import, Parsed, Phase};
+use au_syntax::{Ident, Import, Parsed, Phase, Renamed};
 use std::alloc::Global;
 
 /// The name of a module passes its limit before these tokens.
@@ -61,6 +63,22 @@ pub fn module_name(alloc: Global, tokens: &[Token]) -> Result<(Vec<Ident<Parsed>
     Err(stop_before(rest))
 }
 
+/// Reads the names of an import in their parentheses, and `;`.
+fn imported(alloc: Global, tokens: &[Token]) -> Result<(Vec<Renamed<Parsed>>, &[Token]), Stop>
+    ensures { Gives (λ x. (map (views.renaming ⟦<Parsed as Phase>⟧) x.0.items, x.1.now)) result
+        (steps.behind (what.Sign sign.LeftParenthesis ∷ [])
+        (steps.closed (what.Sign sign.RightParenthesis ∷ what.Sign sign.Semicolon ∷ []) (steps.listed renaming_at)) tokens.now) }
+{
+    let rest = expect(&[Expected::Sign(Sign::LeftParenthesis)], tokens)?;
+    let (items, rest) = listed::<RenamingPart>(alloc, rest)?;
+    let closing = [
+        Expected::Sign(Sign::RightParenthesis),
+        Expected::Sign(Sign::Semicolon),
+    ];
+    let rest = expect(&closing, rest)?;
+    Ok((items, rest))
+}
+
 /// An import.
 pub struct ImportEntry;
 
@@ -84,13 +102,7 @@ impl Entry for ImportEntry {
         let at = place(tokens);
         let rest = expect(&[Expected::Word(Keyword::KwImport)], tokens)?;
         let (module, rest) = module_name(alloc, rest)?;
-        let rest = expect(&[Expected::Sign(Sign::LeftParenthesis)], rest)?;
-        let (items, rest) = listed::<RenamingPart>(alloc, rest)?;
-        let closing = [
-            Expected::Sign(Sign::RightParenthesis),
-            Expected::Sign(Sign::Semicolon),
-        ];
-        let rest = expect(&closing, rest)?;
+        let (items, rest) = imported(alloc, rest)?;
         Ok((Import { at, module, items }, rest))
     }
 }

@@ -6,8 +6,6 @@ pub mod functions;
 pub mod imports;
 pub mod modules;
 pub mod parts;
-#[cfg(test)]
-mod tests;
 pub mod types;
 
 pub use modules::file;

@@ -1,7 +1,8 @@
 //! The module of a file.
 
-ghost use Rattle.std.specs.Prelude.{◌≡◌, [], drop, map};
-ghost use Rattle.au_reading.specs.Reading.{Gives, begins_with, tokens_at};
+ghost use Rattle.std.specs.Prelude.{◌≡◌, ◌∷◌, [], drop, map};
+ghost use Rattle.au_reading.specs.Reading.{Gives, begins_with, behind, closed, pair, repeated, tokens_at};
+ghost use Rattle.au_read_modules.specs.DeclarationReading.{begins_declaration, declaration_at};
 ghost use Rattle.au_reading.specs.Bounds.{usual};
 ghost use Rattle.au_base.specs.declared.tokens.Keyword.TheVariants as word;
 ghost use Rattle.au_base.specs.declared.tokens.What.TheVariants as what;
@@ -84,6 +85,23 @@ fn closing(part: Part, tokens: &[Token]) -> Result<&[Token], Stop>
     }
 }
 
+/// Reads `is`, a pragma and the declarations up to the end of a module of this part.
+fn contents(
+    alloc: Global,
+    part: Part,
+    tokens: &[Token],
+) -> Result<(Option<Pos>, Vec<Decl<Parsed>>, &[Token]), Stop>
+    ensures { Gives (λ x. ((x.0, map (views.declaration ⟦<Parsed as Phase>⟧) x.1.items), x.2.now)) result
+        (behind (what.Word word.KwIs ∷ []) (pair pragma_at
+        (closed (end_whats part) (repeated (begins_declaration part) (declaration_at usual part)))) tokens.now) }
+{
+    let rest = expect(&[Expected::Word(Keyword::KwIs)], tokens)?;
+    let (pragma, rest) = pragma(rest)?;
+    let (declarations, rest) = declarations(alloc, part, rest)?;
+    let rest = closing(part, rest)?;
+    Ok((pragma, declarations, rest))
+}
+
 /// A module without its imports.
 #[derive(Drop)]
 struct Inner {
@@ -101,10 +119,7 @@ fn inside(alloc: Global, part: Part, tokens: &[Token]) -> Result<(Inner, &[Token
     let at = place(tokens);
     let rest = opening(part, tokens)?;
     let (name, rest) = module_name(alloc, rest)?;
-    let rest = expect(&[Expected::Word(Keyword::KwIs)], rest)?;
-    let (pragma, rest) = pragma(rest)?;
-    let (declarations, rest) = declarations(alloc, part, rest)?;
-    let rest = closing(part, rest)?;
+    let (pragma, declarations, rest) = contents(alloc, part, rest)?;
     Ok((
         Inner {
             at,

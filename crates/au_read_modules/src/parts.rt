@@ -1,8 +1,11 @@
 //! Universes, type parameters, and the heads of types, functions and instances.
 
-ghost use Rattle.std.specs.Prelude.{List, ℕ, map};
+ghost use Rattle.std.specs.Prelude.{◌∷◌, [], List, ℕ, map};
+ghost use Rattle.au_base.specs.declared.tokens.Keyword.TheVariants as word;
 ghost use Rattle.au_base.specs.declared.tokens.Sign.TheVariants as sign;
 ghost use Rattle.au_base.specs.declared.tokens.What.TheVariants as what;
+ghost use Rattle.au_read_types.specs.TypeReading.{type_at};
+ghost use Rattle.au_reading.specs.Reading as steps;
 ghost use Rattle.au_reading.specs.Reading.{Gives};
 ghost use Rattle.au_reading.specs.Bounds.{usual};
 ghost use Rattle.au_read_modules.specs.DeclarationReading as reading;
@@ -14,7 +17,8 @@ ghost use Rattle.au_syntax.specs.Views as views;
 use au_base::{Keyword, Sign, Token, What};
 use au_read_types::written_type;
 use au_reading::{
-    Expected, NamePart, Part, Stop, bracketed, expect, is_sign, is_word, listed, name, stop_before,
+    Entry, Expected, NamePart, Part, Stop, bracketed, expect, is_sign, is_word, listed, name,
+    repeated, stop_before,
 };
 use au_syntax::{
     Field, Generic, Ident, Parsed, Phase, Signature, TypeParameter, TypeText, Universe,
@@ -199,6 +203,26 @@ fn parameters(alloc: Global, tokens: &[Token]) -> Result<(Vec<Field<Parsed>>, &[
     listed::<LabelledPart>(alloc, tokens)
 }
 
+/// Reads the parameters of a function in their parentheses, and its result.
+fn parameters_and_result(
+    alloc: Global,
+    tokens: &[Token],
+) -> Result<(Vec<Field<Parsed>>, TypeText, &[Token]), Stop>
+    ensures { Gives (λ x. ((map (views.labelled ⟦<Parsed as Phase>⟧) x.0.items, views.written x.1), x.2.now)) result
+        (steps.behind (what.Sign sign.LeftParenthesis ∷ []) (steps.pair (reading.maybe_listed (what.Sign sign.RightParenthesis) (labelled_at usual))
+        (steps.behind (what.Sign sign.RightParenthesis ∷ what.Sign sign.Colon ∷ []) (type_at usual))) tokens.now) }
+{
+    let rest = expect(&[Expected::Sign(Sign::LeftParenthesis)], tokens)?;
+    let (parameters, rest) = parameters(alloc, rest)?;
+    let closing = [
+        Expected::Sign(Sign::RightParenthesis),
+        Expected::Sign(Sign::Colon),
+    ];
+    let rest = expect(&closing, rest)?;
+    let (result, rest) = written_type(alloc, rest)?;
+    Ok((parameters, result, rest))
+}
+
 /// Reads a function's name, parameters and result.
 ///
 /// # Errors
@@ -209,14 +233,7 @@ pub fn signature(alloc: Global, tokens: &[Token]) -> Result<(Signature<Parsed>, 
     ensures { Gives (λ x. (views.header ⟦<Parsed as Phase>⟧ x.0, x.1.now)) result (header_at usual tokens.now) }
 {
     let (name, rest) = name(alloc, tokens)?;
-    let rest = expect(&[Expected::Sign(Sign::LeftParenthesis)], rest)?;
-    let (parameters, rest) = parameters(alloc, rest)?;
-    let closing = [
-        Expected::Sign(Sign::RightParenthesis),
-        Expected::Sign(Sign::Colon),
-    ];
-    let rest = expect(&closing, rest)?;
-    let (result, rest) = written_type(alloc, rest)?;
+    let (parameters, result, rest) = parameters_and_result(alloc, rest)?;
     Ok((
         Signature {
             name,
@@ -236,6 +253,17 @@ pub struct InstanceHead {
     pub of: TypeText,
 }
 
+/// Reads a type in parentheses.
+fn parenthesized_type(alloc: Global, tokens: &[Token]) -> Result<(TypeText, &[Token]), Stop>
+    ensures { Gives (λ x. (views.written x.0, x.1.now)) result
+        (steps.behind (what.Sign sign.LeftParenthesis ∷ []) (steps.closed (what.Sign sign.RightParenthesis ∷ []) (type_at usual)) tokens.now) }
+{
+    let rest = expect(&[Expected::Sign(Sign::LeftParenthesis)], tokens)?;
+    let (of, rest) = written_type(alloc, rest)?;
+    let rest = expect(&[Expected::Sign(Sign::RightParenthesis)], rest)?;
+    Ok((of, rest))
+}
+
 /// Reads the class and the type of an instance.
 ///
 /// # Errors
@@ -247,8 +275,40 @@ pub fn instance_head(alloc: Global, tokens: &[Token]) -> Result<(InstanceHead, &
 {
     let rest = expect(&[Expected::Word(Keyword::KwInstance)], tokens)?;
     let (class, rest) = name(alloc, rest)?;
-    let rest = expect(&[Expected::Sign(Sign::LeftParenthesis)], rest)?;
-    let (of, rest) = written_type(alloc, rest)?;
-    let rest = expect(&[Expected::Sign(Sign::RightParenthesis)], rest)?;
+    let (of, rest) = parenthesized_type(alloc, rest)?;
     Ok((InstanceHead { class, of }, rest))
+}
+
+/// Reads entries up to `end;`.
+///
+/// # Errors
+///
+/// The fault of the first entry that isn't read, or `Fault::Syntax` where a token is missing.
+pub fn entries<E: Entry>(alloc: Global, tokens: &[Token]) -> Result<(Vec<E::Item>, &[Token]), Stop>
+    ensures { Gives (λ x. (map E.see x.0.items, x.1.now)) result
+        (steps.closed (what.Word word.KwEnd ∷ what.Sign sign.Semicolon ∷ []) (steps.repeated E.begins_by E.read_at) tokens.now) }
+{
+    let (entries, rest) = repeated::<E>(alloc, tokens)?;
+    let closing = [
+        Expected::Word(Keyword::KwEnd),
+        Expected::Sign(Sign::Semicolon),
+    ];
+    let rest = expect(&closing, rest)?;
+    Ok((entries, rest))
+}
+
+/// Reads entries behind `is`, up to `end;`.
+///
+/// # Errors
+///
+/// As those of `entries`.
+pub fn inner_entries<E: Entry>(
+    alloc: Global,
+    tokens: &[Token],
+) -> Result<(Vec<E::Item>, &[Token]), Stop>
+    ensures { Gives (λ x. (map E.see x.0.items, x.1.now)) result
+        (steps.behind (what.Word word.KwIs ∷ []) (steps.closed (what.Word word.KwEnd ∷ what.Sign sign.Semicolon ∷ []) (steps.repeated E.begins_by E.read_at)) tokens.now) }
+{
+    let rest = expect(&[Expected::Word(Keyword::KwIs)], tokens)?;
+    entries::<E>(alloc, rest)
 }

@@ -6,12 +6,12 @@ ghost use Rattle.au_reading.specs.Bounds.{usual};
 ghost use Rattle.au_reading.specs.Reading as steps;
 ghost use Rattle.au_base.specs.declared.tokens.Keyword.TheVariants as word;
 ghost use Rattle.au_base.specs.declared.tokens.What.TheVariants as what;
-ghost use Rattle.au_read_modules.specs.DeclarationReading.{is_name, field_at, members_at, case_fields_at, variant_at, opaque_at, record_at, union_at};
+ghost use Rattle.au_read_modules.specs.DeclarationReading.{is_name, field_at, first_and_rest, members_at, case_fields_at, variant_at, opaque_at, record_at, union_at};
 ghost use Rattle.au_syntax.specs.Modules.{Variant};
 ghost use Rattle.au_syntax.specs.Types.{Labelled};
 ghost use Rattle.au_syntax.specs.Views as views;
 
-use crate::parts::{labelled, type_head};
+use crate::parts::{inner_entries, labelled, type_head};
 use au_base::{Keyword, Sign, Token, What};
 use au_reading::{Entry, Expected, Stop, after, expect, is_sign, is_word, name, place, repeated};
 use au_syntax::{Decl, Field, Parsed, Phase, UnionCase};
@@ -70,6 +70,18 @@ pub fn members(alloc: Global, tokens: &[Token]) -> Result<(Vec<Field<Parsed>>, &
     repeated::<FieldEntry>(alloc, tokens)
 }
 
+/// Reads fields that stand one after another, one at least.
+fn some_members(alloc: Global, tokens: &[Token]) -> Result<(Vec<Field<Parsed>>, &[Token]), Stop>
+    ensures { Gives (λ x. (map (views.labelled ⟦<Parsed as Phase>⟧) x.0.items, x.1.now)) result
+        (steps.shaped first_and_rest (steps.pair (field_at usual) (members_at usual)) tokens.now) }
+{
+    let (first, rest) = field(alloc, tokens)?;
+    let (others, rest) = members(alloc, rest)?;
+    let mut fields = others;
+    fields.insert(0, first)?;
+    Ok((fields, rest))
+}
+
 /// Reads the rest of a case behind its name: a semicolon, or its fields.
 fn case_fields(alloc: Global, tokens: &[Token]) -> Result<(Vec<Field<Parsed>>, &[Token]), Stop>
     ensures { Gives (λ x. (map (views.labelled ⟦<Parsed as Phase>⟧) x.0.items, x.1.now)) result (case_fields_at usual tokens.now) }
@@ -79,11 +91,7 @@ fn case_fields(alloc: Global, tokens: &[Token]) -> Result<(Vec<Field<Parsed>>, &
         return Ok((Vec::new(alloc), rest));
     }
     let rest = expect(&[Expected::Word(Keyword::KwIs)], tokens)?;
-    let (first, rest) = field(alloc, rest)?;
-    let (others, rest) = members(alloc, rest)?;
-    let mut fields = others;
-    fields.insert(0, first)?;
-    Ok((fields, rest))
+    some_members(alloc, rest)
 }
 
 /// A case of a union.
@@ -118,7 +126,7 @@ impl Entry for CaseEntry {
 /// # Errors
 ///
 /// `Fault::Syntax` where a token is missing.
-#[tactic(auto, using(au_syntax::proofs::DeclarationLemmas::declaration_steps, std::proofs::lemmas::Grind::common_steps), unfolding(crate::specs::DeclarationReading::opaque_at))]
+#[tactic(auto, unfolding(crate::specs::DeclarationReading::opaque_at))]
 pub fn opaque(alloc: Global, tokens: &[Token]) -> Result<(Decl<Parsed>, &[Token]), Stop>
     ensures { Gives (λ x. (views.declaration ⟦<Parsed as Phase>⟧ x.0, x.1.now)) result (opaque_at usual tokens.now) }
 {
@@ -137,20 +145,14 @@ pub fn opaque(alloc: Global, tokens: &[Token]) -> Result<(Decl<Parsed>, &[Token]
 /// # Errors
 ///
 /// `Fault::Syntax` where a token is missing, and `Fault::Passed` where a field's type passes a limit.
-#[tactic(auto, using(au_syntax::proofs::DeclarationLemmas::declaration_steps, std::proofs::lemmas::Grind::common_steps), unfolding(crate::specs::DeclarationReading::record_at))]
+#[tactic(auto, unfolding(crate::specs::DeclarationReading::record_at))]
 pub fn record(alloc: Global, tokens: &[Token]) -> Result<(Decl<Parsed>, &[Token]), Stop>
     ensures { Gives (λ x. (views.declaration ⟦<Parsed as Phase>⟧ x.0, x.1.now)) result (record_at usual tokens.now) }
 {
     let at = place(tokens);
     let rest = expect(&[Expected::Word(Keyword::KwRecord)], tokens)?;
     let (head, rest) = type_head(alloc, rest)?;
-    let rest = expect(&[Expected::Word(Keyword::KwIs)], rest)?;
-    let (fields, rest) = members(alloc, rest)?;
-    let closing = [
-        Expected::Word(Keyword::KwEnd),
-        Expected::Sign(Sign::Semicolon),
-    ];
-    let rest = expect(&closing, rest)?;
+    let (fields, rest) = inner_entries::<FieldEntry>(alloc, rest)?;
     Ok((
         Decl::Record(at, head.name, head.parameters, head.universe, fields),
         rest,
@@ -162,20 +164,14 @@ pub fn record(alloc: Global, tokens: &[Token]) -> Result<(Decl<Parsed>, &[Token]
 /// # Errors
 ///
 /// `Fault::Syntax` where a token is missing, and `Fault::Passed` where a field's type passes a limit.
-#[tactic(auto, using(au_syntax::proofs::DeclarationLemmas::declaration_steps, std::proofs::lemmas::Grind::common_steps), unfolding(crate::specs::DeclarationReading::union_at))]
+#[tactic(auto, unfolding(crate::specs::DeclarationReading::union_at))]
 pub fn union(alloc: Global, tokens: &[Token]) -> Result<(Decl<Parsed>, &[Token]), Stop>
     ensures { Gives (λ x. (views.declaration ⟦<Parsed as Phase>⟧ x.0, x.1.now)) result (union_at usual tokens.now) }
 {
     let at = place(tokens);
     let rest = expect(&[Expected::Word(Keyword::KwUnion)], tokens)?;
     let (head, rest) = type_head(alloc, rest)?;
-    let rest = expect(&[Expected::Word(Keyword::KwIs)], rest)?;
-    let (cases, rest) = repeated::<CaseEntry>(alloc, rest)?;
-    let closing = [
-        Expected::Word(Keyword::KwEnd),
-        Expected::Sign(Sign::Semicolon),
-    ];
-    let rest = expect(&closing, rest)?;
+    let (cases, rest) = inner_entries::<CaseEntry>(alloc, rest)?;
     Ok((
         Decl::Union(at, head.name, head.parameters, head.universe, cases),
         rest,

@@ -5,8 +5,6 @@ mod first;
 pub mod parts;
 mod simple;
 pub mod statements;
-#[cfg(test)]
-mod tests;
 
 pub use parts::{RenamingPart, end_place, renaming};
 pub use statements::block;

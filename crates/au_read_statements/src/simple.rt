@@ -7,7 +7,8 @@ ghost use Rattle.au_base.specs.declared.tokens.What.TheVariants as what;
 ghost use Rattle.au_read_expressions.specs.ExpressionReading as spelled;
 ghost use Rattle.au_read_statements.specs.StatementReading as spec;
 ghost use Rattle.au_reading.specs.Bounds.{usual};
-ghost use Rattle.au_reading.specs.Reading.{Gives, built, closed, exactly, front};
+ghost use Rattle.au_read_types.specs.TypeReading.{type_at};
+ghost use Rattle.au_reading.specs.Reading.{Gives, behind, built, closed, exactly, front, pair};
 ghost use Rattle.au_syntax.specs.Views as views;
 
 use crate::parts::BoundPart;
@@ -15,7 +16,7 @@ use au_base::{Keyword, Sign, Token, What};
 use au_read_expressions::{call, expression};
 use au_read_types::written_type;
 use au_reading::{Expected, Stop, after, dotted, expect, fields, listed, name, place};
-use au_syntax::{Binding, Expr, Ident, Parsed, Phase, Stmt};
+use au_syntax::{Binding, Expr, Ident, Parsed, Phase, Stmt, TypeText};
 use std::alloc::Global;
 
 /// Reads an expression.
@@ -44,8 +45,36 @@ fn ended(
     Ok((value, rest))
 }
 
+/// Reads `:=`, an expression and `;`.
+fn assigned(
+    alloc: Global,
+    levels: u32,
+    tokens: &[Token],
+) -> Result<(Box<Expr<Parsed>>, &[Token]), Stop>
+    ensures { Gives (λ x. (views.expression ⟦<Parsed as Phase>⟧ x.0.value, x.1.now)) result
+        (behind (what.Sign sign.Assign ∷ []) (closed (what.Sign sign.Semicolon ∷ []) (spelled.expression_at usual levels)) tokens.now) }
+{
+    let rest = expect(&[Expected::Sign(Sign::Assign)], tokens)?;
+    ended(alloc, levels, rest)
+}
+
+/// Reads `:`, a type and what is assigned.
+fn typed_value(
+    alloc: Global,
+    levels: u32,
+    tokens: &[Token],
+) -> Result<(TypeText, Box<Expr<Parsed>>, &[Token]), Stop>
+    ensures { Gives (λ x. ((views.written x.0, views.expression ⟦<Parsed as Phase>⟧ x.1.value), x.2.now)) result
+        (behind (what.Sign sign.Colon ∷ []) (pair (type_at usual)
+        (behind (what.Sign sign.Assign ∷ []) (closed (what.Sign sign.Semicolon ∷ []) (spelled.expression_at usual levels)))) tokens.now) }
+{
+    let rest = expect(&[Expected::Sign(Sign::Colon)], tokens)?;
+    let (of, rest) = written_type(alloc, rest)?;
+    let (value, rest) = assigned(alloc, levels, rest)?;
+    Ok((of, value, rest))
+}
+
 /// Reads `skip;`.
-#[tactic(auto, using(au_syntax::proofs::StatementLemmas::statement_steps, std::proofs::lemmas::Grind::common_steps))]
 pub(crate) fn skip(tokens: &[Token]) -> Result<(Stmt<Parsed>, &[Token]), Stop>
     ensures { Gives (λ x. (views.statement ⟦<Parsed as Phase>⟧ x.0, x.1.now)) result
         (built spec.skip_of (exactly (what.Word keyword.KwSkip ∷ what.Sign sign.Semicolon ∷ [])) tokens.now) }
@@ -59,7 +88,7 @@ pub(crate) fn skip(tokens: &[Token]) -> Result<(Stmt<Parsed>, &[Token]), Stop>
 }
 
 /// Reads a declaration of a variable.
-#[tactic(auto, unfolding(crate::specs::StatementReading::declare_with), using(au_syntax::proofs::StatementLemmas::statement_steps, std::proofs::lemmas::Grind::common_steps))]
+#[tactic(auto, unfolding(crate::specs::StatementReading::declare_with))]
 pub(crate) fn declare(
     alloc: Global,
     levels: u32,
@@ -72,15 +101,12 @@ pub(crate) fn declare(
 {
     let rest = expect(&[Expected::Word(word)], tokens)?;
     let (variable, rest) = name(alloc, rest)?;
-    let rest = expect(&[Expected::Sign(Sign::Colon)], rest)?;
-    let (of, rest) = written_type(alloc, rest)?;
-    let rest = expect(&[Expected::Sign(Sign::Assign)], rest)?;
-    let (value, rest) = ended(alloc, levels, rest)?;
+    let (of, value, rest) = typed_value(alloc, levels, rest)?;
     Ok((Stmt::Let(place(tokens), binding, variable, of, value), rest))
 }
 
 /// Reads a declaration of a variable for each field.
-#[tactic(auto, unfolding(crate::specs::StatementReading::destructure_with), using(au_syntax::proofs::StatementLemmas::statement_steps, std::proofs::lemmas::Grind::common_steps))]
+#[tactic(auto, unfolding(crate::specs::StatementReading::destructure_with))]
 fn destructure(
     alloc: Global,
     levels: u32,
@@ -123,20 +149,19 @@ pub(crate) fn let_statement(
 }
 
 /// Reads an assignment to a variable or to a part of it.
-#[tactic(auto, unfolding(crate::specs::StatementReading::assign_with), using(au_syntax::proofs::StatementLemmas::statement_steps, std::proofs::lemmas::Grind::common_steps))]
+#[tactic(auto, unfolding(crate::specs::StatementReading::assign_with))]
 fn assign(alloc: Global, levels: u32, tokens: &[Token]) -> Result<(Stmt<Parsed>, &[Token]), Stop>
     ensures { Gives (λ x. (views.statement ⟦<Parsed as Phase>⟧ x.0, x.1.now)) result
         (spec.assign_with usual (spelled.expression_at usual levels) (spelled.call_at usual levels) (spec.block_at usual levels) tokens.now) }
 {
     let (variable, rest) = name(alloc, tokens)?;
     let (parts, rest) = fields(alloc, rest)?;
-    let rest = expect(&[Expected::Sign(Sign::Assign)], rest)?;
-    let (value, rest) = ended(alloc, levels, rest)?;
+    let (value, rest) = assigned(alloc, levels, rest)?;
     Ok((Stmt::Assign(place(tokens), variable, parts, value), rest))
 }
 
 /// Reads an assignment to a part behind a reference.
-#[tactic(auto, unfolding(crate::specs::StatementReading::assign_through_with), using(au_syntax::proofs::StatementLemmas::statement_steps, std::proofs::lemmas::Grind::common_steps))]
+#[tactic(auto, unfolding(crate::specs::StatementReading::assign_through_with))]
 fn assign_through(
     alloc: Global,
     levels: u32,
@@ -148,23 +173,34 @@ fn assign_through(
     let (variable, rest) = name(alloc, tokens)?;
     let rest = expect(&[Expected::Sign(Sign::Arrow)], rest)?;
     let (parts, rest) = dotted(alloc, rest)?;
-    let rest = expect(&[Expected::Sign(Sign::Assign)], rest)?;
-    let (value, rest) = ended(alloc, levels, rest)?;
+    let (value, rest) = assigned(alloc, levels, rest)?;
     Ok((
         Stmt::AssignThrough(place(tokens), variable, parts, value),
         rest,
     ))
 }
 
+/// Reads a call.
+fn boxed_call(
+    alloc: Global,
+    levels: u32,
+    tokens: &[Token],
+) -> Result<(Box<Expr<Parsed>>, &[Token]), Stop>
+    ensures { Gives (λ x. (views.expression ⟦<Parsed as Phase>⟧ x.0.value, x.1.now)) result (spelled.call_at usual levels tokens.now) }
+{
+    let (value, rest) = call(alloc, levels, tokens)?;
+    let value = Box::new(alloc, value)?;
+    Ok((value, rest))
+}
+
 /// Reads a call whose result is discarded.
-#[tactic(auto, unfolding(crate::specs::StatementReading::discard_with), using(au_syntax::proofs::StatementLemmas::statement_steps, std::proofs::lemmas::Grind::common_steps))]
+#[tactic(auto, unfolding(crate::specs::StatementReading::discard_with))]
 fn discard(alloc: Global, levels: u32, tokens: &[Token]) -> Result<(Stmt<Parsed>, &[Token]), Stop>
     ensures { Gives (λ x. (views.statement ⟦<Parsed as Phase>⟧ x.0, x.1.now)) result
         (spec.discard_with usual (spelled.expression_at usual levels) (spelled.call_at usual levels) (spec.block_at usual levels) tokens.now) }
 {
-    let (value, rest) = call(alloc, levels, tokens)?;
+    let (value, rest) = boxed_call(alloc, levels, tokens)?;
     let rest = expect(&[Expected::Sign(Sign::Semicolon)], rest)?;
-    let value = Box::new(alloc, value)?;
     Ok((Stmt::Call(place(tokens), value), rest))
 }
 
@@ -188,7 +224,7 @@ pub(crate) fn named_statement(
 }
 
 /// Reads `return` and its expression.
-#[tactic(auto, unfolding(crate::specs::StatementReading::return_with), using(au_syntax::proofs::StatementLemmas::statement_steps, std::proofs::lemmas::Grind::common_steps))]
+#[tactic(auto, unfolding(crate::specs::StatementReading::return_with))]
 pub(crate) fn return_statement(
     alloc: Global,
     levels: u32,

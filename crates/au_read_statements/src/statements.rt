@@ -112,7 +112,7 @@ fn statement_with(
 }
 
 /// Reads a conditional.
-#[tactic(auto, unfolding(crate::specs::StatementReading::conditional_with), using(au_syntax::proofs::StatementLemmas::statement_steps, crate::proofs::CodeLists::list_steps, std::proofs::lemmas::Grind::common_steps))]
+#[tactic(auto, unfolding(crate::specs::StatementReading::conditional_with))]
 #[cycle(statements)]
 fn conditional(
     alloc: Global,
@@ -171,7 +171,7 @@ fn branch(alloc: Global, levels: u32, tokens: &[Token]) -> Result<(Branch<Parsed
 }
 
 /// Reads a case and its arms.
-#[tactic(auto, unfolding(crate::specs::StatementReading::case_with), using(au_syntax::proofs::StatementLemmas::statement_steps, crate::proofs::CodeLists::list_steps, std::proofs::lemmas::Grind::common_steps))]
+#[tactic(auto, unfolding(crate::specs::StatementReading::case_with))]
 #[cycle(statements)]
 fn case(alloc: Global, levels: u32, tokens: &[Token]) -> Result<(Stmt<Parsed>, &[Token]), Stop>
     ensures { Gives (λ x. (views.statement ⟦<Parsed as Phase>⟧ x.0, x.1.now)) result
@@ -235,7 +235,7 @@ fn arm(alloc: Global, levels: u32, tokens: &[Token]) -> Result<(Arm<Parsed>, &[T
 }
 
 /// Reads a loop with a test.
-#[tactic(auto, unfolding(crate::specs::StatementReading::while_with), using(au_syntax::proofs::StatementLemmas::statement_steps, std::proofs::lemmas::Grind::common_steps))]
+#[tactic(auto, unfolding(crate::specs::StatementReading::while_with))]
 #[cycle(statements)]
 fn while_loop(
     alloc: Global,
@@ -254,7 +254,7 @@ fn while_loop(
 }
 
 /// Reads a loop over numbers.
-#[tactic(auto, unfolding(crate::specs::StatementReading::for_with), using(au_syntax::proofs::StatementLemmas::statement_steps, std::proofs::lemmas::Grind::common_steps))]
+#[tactic(auto, unfolding(crate::specs::StatementReading::for_with))]
 #[cycle(statements)]
 fn for_loop(alloc: Global, levels: u32, tokens: &[Token]) -> Result<(Stmt<Parsed>, &[Token]), Stop>
     ensures { Gives (λ x. (views.statement ⟦<Parsed as Phase>⟧ x.0, x.1.now)) result
@@ -297,7 +297,7 @@ fn borrow_statement(
 }
 
 /// Reads a borrow in a region.
-#[tactic(auto, unfolding(crate::specs::StatementReading::borrow_in_with), using(au_syntax::proofs::StatementLemmas::statement_steps, std::proofs::lemmas::Grind::common_steps))]
+#[tactic(auto, unfolding(crate::specs::StatementReading::borrow_in_with))]
 #[cycle(statements)]
 fn borrow_in(
     alloc: Global,
@@ -323,7 +323,7 @@ fn borrow_in(
 }
 
 /// Reads a borrow with the type of its reference.
-#[tactic(auto, unfolding(crate::specs::StatementReading::borrow_typed_with), using(au_syntax::proofs::StatementLemmas::statement_steps, std::proofs::lemmas::Grind::common_steps))]
+#[tactic(auto, unfolding(crate::specs::StatementReading::borrow_typed_with))]
 #[cycle(statements)]
 fn borrow_typed(
     alloc: Global,

@@ -5,6 +5,3 @@ mod nodes;
 pub mod types;
 
 pub use types::written_type;
-
-#[cfg(test)]
-mod tests;

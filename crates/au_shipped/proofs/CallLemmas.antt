@@ -1,5 +1,5 @@
 -- What is found in tables.
-use Rattle.std.proofs.Common.{◌≡◌, List, [], ◌∷◌, map, Bool, true, false, ◌||◌, if◌then◌else◌, Option, Some, None, is_some, refl}
+use Rattle.std.proofs.Common.{◌≡◌, List, [], ◌∷◌, map, Bool, true, false, ◌||◌, if◌then◌else◌, Option, Some, is_some, refl}
 use Rattle.std.specs.Str.{bytes_eq}
 use Rattle.au_syntax.specs.Plain.{Bytes}
 use Rattle.au_shipped.specs.declared.prims.Prim.{Prim}

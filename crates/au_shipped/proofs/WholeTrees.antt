@@ -10,11 +10,11 @@ use Rattle.au_syntax.specs.Notes.{notes_of_module}
 use Rattle.au_syntax.specs.Plain.{Bytes, PlainModule, plain_module}
 use Rattle.au_syntax.specs.Sizes.{fits}
 use Rattle.au_syntax.specs.Views.{module_tree}
-use Rattle.au_interfaces.specs.Building.{place}
-use Rattle.au_interfaces.specs.PervasiveInterface.{pervasive}
-use Rattle.au_interfaces.specs.BoxInterface.{boxes}
-use Rattle.au_interfaces.specs.BufferInterface.{buffers}
-use Rattle.au_interfaces.specs.TerminalInterface.{terminal}
+use Rattle.au_shipped.specs.Building.{place}
+use Rattle.au_shipped.specs.PervasiveInterface.{pervasive}
+use Rattle.au_shipped.specs.BoxInterface.{boxes}
+use Rattle.au_shipped.specs.BufferInterface.{buffers}
+use Rattle.au_shipped.specs.TerminalInterface.{terminal}
 
 -- a tree as it is read
 abbrev pub ParsedModule : Type 0

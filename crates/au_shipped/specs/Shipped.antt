@@ -7,11 +7,11 @@ use Rattle.au_syntax.specs.Files.{says}
 use Rattle.au_syntax.specs.Modules.{Header, function, class}
 use Rattle.au_syntax.specs.Plain.{Bytes, PlainDeclaration, PlainModule}
 use Rattle.au_syntax.specs.Sizes.{joined}
-use Rattle.au_interfaces.specs.Building.{place}
-use Rattle.au_interfaces.specs.PervasiveInterface.{pervasive}
-use Rattle.au_interfaces.specs.BoxInterface.{boxes}
-use Rattle.au_interfaces.specs.BufferInterface.{buffers}
-use Rattle.au_interfaces.specs.TerminalInterface.{terminal}
+use Rattle.au_shipped.specs.Building.{place}
+use Rattle.au_shipped.specs.PervasiveInterface.{pervasive}
+use Rattle.au_shipped.specs.BoxInterface.{boxes}
+use Rattle.au_shipped.specs.BufferInterface.{buffers}
+use Rattle.au_shipped.specs.TerminalInterface.{terminal}
 use Rattle.au_shipped.specs.Calls.{found}
 
 -- the number of a file of the code, and what it says

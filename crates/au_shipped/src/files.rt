@@ -2,19 +2,19 @@
 
 ghost use Rattle.std.specs.Prelude.{◌≡◌, IfOk, IsTrue, map};
 ghost use Rattle.au_syntax.specs.Files.{says, is_formed, is_within, is_allowed};
-ghost use Rattle.au_interfaces.specs.Building.{place as place_in};
-ghost use Rattle.au_interfaces.specs.PervasiveInterface as pervasive_interface;
-ghost use Rattle.au_interfaces.specs.BoxInterface as box_interface;
-ghost use Rattle.au_interfaces.specs.BufferInterface as buffer_interface;
-ghost use Rattle.au_interfaces.specs.TerminalInterface as terminal_interface;
+ghost use Rattle.au_shipped.specs.Building.{place as place_in};
+ghost use Rattle.au_shipped.specs.PervasiveInterface as pervasive_interface;
+ghost use Rattle.au_shipped.specs.BoxInterface as box_interface;
+ghost use Rattle.au_shipped.specs.BufferInterface as buffer_interface;
+ghost use Rattle.au_shipped.specs.TerminalInterface as terminal_interface;
 ghost use Rattle.au_shipped.specs.Shipped.{shipped_files, file_says};
 
+use crate::boxes::boxes;
+use crate::buffers::buffers;
+use crate::building::place;
+use crate::pervasive::pervasive;
+use crate::terminal::terminal;
 use au_base::Memory;
-use au_interfaces::boxes::boxes;
-use au_interfaces::buffers::buffers;
-use au_interfaces::pervasive::pervasive;
-use au_interfaces::place;
-use au_interfaces::terminal::terminal;
 use au_syntax::{FileTree, Module, Parsed, Phase, Whole};
 use std::alloc::Global;
 

@@ -48,7 +48,6 @@ fn put_methods<P: Phase>(
 }
 
 /// Puts the values that a declaration brings in.
-#[tactic(auto, using(au_syntax::proofs::DeclarationLemmas::declaration_steps, crate::proofs::TableLemmas::put_steps, std::proofs::lemmas::Grind::common_steps))]
 fn put_values<P: Phase>(table: &mut Table<u32>, decl: &Decl<P>, number: u32) -> Result<(), Memory>
     ensures { OnOk result (table.new ≡ with_all table.old (given number (value_names (plain_declaration P.name_bytes (declaration P.Phase decl.now))))) }
 {
@@ -67,7 +66,6 @@ fn put_values<P: Phase>(table: &mut Table<u32>, decl: &Decl<P>, number: u32) -> 
 }
 
 /// Puts the callables that a declaration brings in.
-#[tactic(auto, using(au_syntax::proofs::DeclarationLemmas::declaration_steps, crate::proofs::TableLemmas::put_steps, std::proofs::lemmas::Grind::common_steps))]
 fn put_callables<P: Phase>(
     table: &mut Table<u32>,
     decl: &Decl<P>,
@@ -90,7 +88,6 @@ fn put_callables<P: Phase>(
 }
 
 /// Puts the types that a declaration brings in.
-#[tactic(auto, using(au_syntax::proofs::DeclarationLemmas::declaration_steps, crate::proofs::TableLemmas::put_steps, std::proofs::lemmas::Grind::common_steps))]
 fn put_types<P: Phase>(table: &mut Table<u32>, decl: &Decl<P>, number: u32) -> Result<(), Memory>
     ensures { OnOk result (table.new ≡ with_all table.old (given number (type_names (plain_declaration P.name_bytes (declaration P.Phase decl.now))))) }
 {

@@ -5,8 +5,6 @@ pub mod comparing;
 pub mod copying;
 pub mod headings;
 pub mod parameters;
-#[cfg(test)]
-mod tests;
 pub mod types;
 
 pub use comparing::{is_same, is_same_region};

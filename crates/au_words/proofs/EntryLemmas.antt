@@ -84,7 +84,7 @@ entry_found bytes entry h =
       | inl w ↦ absurd (let e = w.1 in cc)
       | inr w ↦ elim (chosen (is_home (home_at bytes) && is_function (function_at bytes)) _ _ (Some entry) w.1) [
         | inl v ↦
-            let found : Entry = record { module = home_at bytes; function = function_at bytes } in
+            let found : Entry = record { «module» = home_at bytes; function = function_at bytes } in
             let same : found ≡ entry = (let e = v.1 in cc) in
             let parts = and_parts (is_home (home_at bytes)) (is_function (function_at bytes)) v.0 in
             let home = home_found (home_at bytes) parts.0 in
@@ -105,12 +105,12 @@ drop_whole [] y ys = refl
 drop_whole (x ∷ xs) y ys = drop_whole xs y ys
 
 abbrev entry_of : List ℕ → List ℕ → Entry
-entry_of home function = record { module = home; function = function }
+entry_of home function = record { «module» = home; function = function }
 
 pub entry_again : (entry : Entry) → IsEntry entry → entry_at (entry_spelling entry) ≡ Some entry
 unfolding entry_at
 entry_again entry is =
-    let home : List ℕ = entry.module in
+    let home : List ℕ = entry.«module» in
     let function : List ℕ = entry.function in
     let bytes : List ℕ = home ++ 58 ∷ function in
     let free : list_all (is_other 58) home ≡ true = ap (list_all (is_other 58)) is.0.3 ∙ joined_without is.0.0 is.0.2 in

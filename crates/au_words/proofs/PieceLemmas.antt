@@ -91,7 +91,7 @@ abbrev names_of : List ℕ → List (List ℕ)
 names_of word = unwrap_or (part_at word) []
 
 abbrev entry_of : List ℕ → Entry
-entry_of value = unwrap_or (entry_at value) (record { module = []; function = [] })
+entry_of value = unwrap_or (entry_at value) (record { «module» = []; function = [] })
 
 abbrev count_of : List ℕ → ℕ
 count_of value = unwrap_or (steps_at value) 0
@@ -116,7 +116,7 @@ is_part : (word : List ℕ) → is_some (part_at word) ≡ true → IsPart (name
 is_part word h = part_found word (names_of word) (some_is (part_at word) [] h)
 
 is_entry : (value : List ℕ) → is_some (entry_at value) ≡ true → IsEntry (entry_of value) × (entry_spelling (entry_of value) ≡ value)
-is_entry value h = entry_found value (entry_of value) (some_is (entry_at value) (record { module = []; function = [] }) h)
+is_entry value h = entry_found value (entry_of value) (some_is (entry_at value) (record { «module» = []; function = [] }) h)
 
 are_steps : (value : List ℕ) → is_some (steps_at value) ≡ true → AreSteps (count_of value) × (decimal (count_of value) ≡ value)
 are_steps value h = steps_found value (count_of value) (some_is (steps_at value) 0 h)
@@ -243,7 +243,7 @@ given_said command words what said are h =
     let read = said_parts what said h in
     let uses : List Use = are.uses in
     let files = files_read what.parts said.files read.0 in
-    let entries = optional_read entry_at (record { module = []; function = [] }) what.entry said.entry read.1 in
+    let entries = optional_read entry_at (record { «module» = []; function = [] }) what.entry said.entry read.1 in
     let counts = optional_read steps_at 0 what.steps said.steps read.2 in
     let each : list_all is_read uses ≡ true =
     all_read uses (sym (ap (list_all (λ word. is_some (part_at word))) are.parts) ∙ files.0)

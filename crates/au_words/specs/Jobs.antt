@@ -111,12 +111,12 @@ IsModuleName bytes = (names : List (List ℕ)) × (names ≢ []) × IsTrue (list
 -- There can be such an entry.
 abbrev pub IsEntry : Entry → Type 0
 IsEntry entry =
-    IsModuleName entry.module × (length entry.module ≤ most_name_bytes)
+    IsModuleName entry.«module» × (length entry.«module» ≤ most_name_bytes)
     × IsTrue (is_name entry.function) × (length entry.function ≤ most_name_bytes)
 
 -- how an entry is spelled: the module's name, a colon, and the function's
 abbrev pub entry_spelling : Entry → List ℕ
-entry_spelling entry = entry.module ++ 58 ∷ entry.function
+entry_spelling entry = entry.«module» ++ 58 ∷ entry.function
 
 -- There can be so many steps.
 abbrev pub AreSteps : ℕ → Type 0

@@ -71,7 +71,7 @@ is_function bytes = nat_le (length bytes) most_name_bytes && is_name bytes
 unfoldable pub entry_at : List ℕ → Option Entry
 entry_at bytes =
     if home_size bytes == length bytes then None
-    else (if is_home (home_at bytes) && is_function (function_at bytes) then Some (record { module = home_at bytes; function = function_at bytes })
+    else (if is_home (home_at bytes) && is_function (function_at bytes) then Some (record { «module» = home_at bytes; function = function_at bytes })
     else None)
 
 -- whether bytes are one to thirteen digits, the first of them no zero

@@ -1,6 +1,6 @@
 //! Word lists and the jobs that they ask for, written by hand from the rule.
 
-use crate::{Job, WordsFault, laws, read_words};
+use crate::{Job, laws, read_words};
 use au_base::Text;
 use std::alloc::Global;
 use std::test::Fail;
@@ -212,18 +212,6 @@ fn no_jobs(rt: HostRuntime) -> Result<(), Fail> {
             b"the words are no job".as_slice(),
             "{text}"
         );
-    }
-    Ok(())
-}
-
-#[test]
-fn faults(rt: HostRuntime) -> Result<(), Fail> {
-    let cases: [(WordsFault, &str); 2] = [
-        (WordsFault::NoJob, "the words are no job"),
-        (WordsFault::Memory, "out of memory"),
-    ];
-    for (fault, want) in cases {
-        assert_eq!(rt; format!(in rt.alloc(); "{fault}")?.as_str(), want);
     }
     Ok(())
 }

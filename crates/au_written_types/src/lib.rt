@@ -6,8 +6,6 @@ pub mod meaning;
 pub mod parts;
 pub mod scopes;
 pub mod senses;
-#[cfg(test)]
-mod tests;
 
 pub use meaning::{region_meant, type_meant};
 pub use scopes::Scope;

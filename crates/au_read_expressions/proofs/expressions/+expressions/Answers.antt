@@ -1,4 +1,5 @@
 use Rattle.std.proofs.Common.{◌-◌, ◌+◌, length, drop, map, ap, sym, subst, ◌∙◌, arith}
+use Rattle.std.proofs.lemmas.Grind.{common_steps}
 use Rattle.std.proofs.lemmas.Result.{err_from_is_err_and}
 use Rattle.au_base.specs.declared.tokens.Sign.TheVariants.{Comma}
 use Rattle.au_base.specs.declared.tokens.What.TheVariants as what
@@ -6,11 +7,12 @@ use Rattle.au_reading.specs.Bounds.{usual}
 use Rattle.au_reading.specs.Reading as reading
 use Rattle.au_reading.proofs.Steps.{passes_on}
 use Rattle.au_reading.proofs.Loops.{with_front, map_pushed, separated_on, separated_fails, separated_ends, separated_over}
+use Rattle.au_syntax.proofs.ExpressionLemmas.{not_says, if_says, binary_says, parenthesized_says, dereference_says}
 use Rattle.au_syntax.specs.Views.{placed, expression}
 use Rattle.au_syntax.specs.contracts.parsed.ParsedPhase.TheImpl.{ghosts as parsed}
-use Rattle.au_read_expressions.specs.Arguments.{argument}
-use Rattle.au_read_expressions.specs.ExpressionReading.{labelled, expression_at, atom_at}
-use Rattle.au_read_expressions.proofs.CodeLemmas.{call_called}
+use Rattle.au_read_expressions.specs.Arguments.{argument, called_by_name, called_in_order}
+use Rattle.au_read_expressions.specs.ExpressionReading.{labelled, expression_at, atom_at, choice_with}
+use Rattle.au_read_expressions.proofs.CodeLemmas.{call_called, ordered_says, named_says}
 use Rattle.au_read_expressions.proofs.expressions.+expressions.Goals as goal
 
 pub expression_list-returns-in_err-one : goal.expression_list-returns-in_err-one
@@ -70,3 +72,27 @@ call_within-returns t c =
     subst (λ r. reading.Gives (λ x. (expression parsed x.0.value, x.1.now)) c.given.result r)
     (sym (call_called (expression_at usual c.args.levels) (atom_at usual c.args.levels) c.site-at.result.at (placed parsed c.in_ok-of.of) c.args.tokens.now c.in_ok-of.rest.now c.in_ok-rest.rest.now c.site-at.ensures.place c.in_ok-of.ensures c.in_ok-rest.ensures))
     c.given.ensures
+
+pub negation-returns : goal.negation-returns
+negation-returns t c = grind (arith, common_steps, not_says)
+
+pub choice-returns : goal.choice-returns
+unfolding choice_with
+choice-returns t c = grind (arith, common_steps, if_says)
+
+pub binary-returns : goal.binary-returns
+binary-returns t c = grind (arith, common_steps, binary_says)
+
+pub parenthesized-returns : goal.parenthesized-returns
+parenthesized-returns t c = grind (arith, common_steps, parenthesized_says)
+
+pub dereference-returns : goal.dereference-returns
+dereference-returns t c = grind (arith, common_steps, dereference_says)
+
+pub given_by_name-returns : goal.given_by_name-returns
+unfolding called_by_name
+given_by_name-returns t c = grind (arith, common_steps, named_says)
+
+pub given_in_order-returns : goal.given_in_order-returns
+unfolding called_in_order
+given_in_order-returns t c = grind (arith, common_steps, ordered_says)

@@ -1,17 +1,19 @@
 use Rattle.std.proofs.Common.{◌-◌, ◌+◌, length, drop, map, ap, sym, subst, ◌∙◌, arith}
+use Rattle.std.proofs.lemmas.Grind.{common_steps}
 use Rattle.std.proofs.lemmas.Result.{err_from_is_err_and}
 use Rattle.au_base.specs.declared.tokens.Keyword.TheVariants as keyword
 use Rattle.au_base.specs.declared.tokens.What.TheVariants as what
 use Rattle.au_read_expressions.specs.ExpressionReading.{call_at, expression_at}
 use Rattle.au_read_statements.specs.Seen.{arm_seen, branch_seen}
 use Rattle.au_read_statements.specs.StatementReading as spec
-use Rattle.au_read_statements.specs.StatementReading.{block_at}
+use Rattle.au_read_statements.specs.StatementReading.{block_at, conditional_with, case_with, while_with, for_with, borrow_in_with, borrow_typed_with}
 use Rattle.au_read_statements.proofs.CodeBorrows.{borrow_said, front_is, word_is}
-use Rattle.au_read_statements.proofs.CodeLists.{branches_on, branches_end, branches_fail}
+use Rattle.au_read_statements.proofs.CodeLists.{branches_are, arms_are, branches_on, branches_end, branches_fail}
 use Rattle.au_reading.specs.Bounds.{usual}
 use Rattle.au_reading.specs.Reading.{Gives, is_front, read_of, repeated_at}
 use Rattle.au_reading.proofs.Steps.{passes_on}
 use Rattle.au_reading.proofs.Loops.{with_front, map_pushed, repeated_on, repeated_fails, repeated_ends}
+use Rattle.au_syntax.proofs.StatementLemmas.{if_says, if_else_says, case_says, while_says, for_says, borrow_says, borrow_typed_says}
 use Rattle.au_syntax.specs.contracts.parsed.ParsedPhase.TheImpl.{ghosts as parsed}
 use Rattle.au_syntax.specs.Views.{statement}
 use Rattle.au_read_statements.proofs.statements.+statements.Goals as goal
@@ -74,3 +76,31 @@ statement_with-returns-in-Word-KwBorrow t c =
     let word = word_is c.first-item.result.what c.in-Word-KwBorrow.field-0 _ c.in-Word-KwBorrow.is c.in-Word-KwBorrow.field-0-is in
     let first = front_is c.args.tokens.now c.first-item.result (what.Word keyword.KwBorrow) (omega (arith, c.in-len1-up.len_at_least)) c.first-item.is (c.in-Word-KwBorrow.is ∙ ap what.Word word) in
     subst (λ read. Gives (λ x. (statement parsed x.0, x.1.now)) c.borrow_statement.result read) (sym (borrow_said usual (expression_at usual c.args.levels) (call_at usual c.args.levels) (block_at usual c.args.levels) c.args.tokens.now first)) c.borrow_statement.ensures
+
+pub conditional-returns-then-is_word : goal.conditional-returns-then-is_word
+unfolding conditional_with
+conditional-returns-then-is_word t c = grind (arith, common_steps, if_else_says, branches_are)
+
+pub conditional-returns : goal.conditional-returns
+unfolding conditional_with
+conditional-returns t c = grind (arith, common_steps, if_says, branches_are)
+
+pub case-returns : goal.case-returns
+unfolding case_with
+case-returns t c = grind (arith, common_steps, case_says, arms_are)
+
+pub while_loop-returns : goal.while_loop-returns
+unfolding while_with
+while_loop-returns t c = grind (arith, common_steps, while_says)
+
+pub for_loop-returns : goal.for_loop-returns
+unfolding for_with
+for_loop-returns t c = grind (arith, common_steps, for_says)
+
+pub borrow_in-returns : goal.borrow_in-returns
+unfolding borrow_in_with
+borrow_in-returns t c = grind (arith, common_steps, borrow_says)
+
+pub borrow_typed-returns : goal.borrow_typed-returns
+unfolding borrow_typed_with
+borrow_typed-returns t c = grind (arith, common_steps, borrow_typed_says)

@@ -1,6 +1,6 @@
 use Rattle.std.proofs.Common.{ap, ◌∙◌}
-use Rattle.au_interfaces.specs.Building.{place}
-use Rattle.au_interfaces.specs.BufferInterface.{buffers}
+use Rattle.au_shipped.specs.Building.{place}
+use Rattle.au_shipped.specs.BufferInterface.{buffers}
 use Rattle.au_shipped.proofs.WholeTrees.{buffers_whole, says_written, written_formed, written_within, written_allowed}
 use Rattle.au_shipped.proofs.files.buffer_file.Goals as goal
 

@@ -1,6 +1,6 @@
 use Rattle.std.proofs.Common.{ap, ◌∙◌}
-use Rattle.au_interfaces.specs.Building.{place}
-use Rattle.au_interfaces.specs.TerminalInterface.{terminal}
+use Rattle.au_shipped.specs.Building.{place}
+use Rattle.au_shipped.specs.TerminalInterface.{terminal}
 use Rattle.au_shipped.proofs.WholeTrees.{terminal_whole, says_written, written_formed, written_within, written_allowed}
 use Rattle.au_shipped.proofs.files.terminal_file.Goals as goal
 

@@ -1,0 +1,7 @@
+use Rattle.std.proofs.Common.{arith}
+use Rattle.std.proofs.lemmas.Grind.{common_steps}
+use Rattle.au_syntax.proofs.ExpressionLemmas.{path_says}
+use Rattle.au_read_expressions.proofs.atoms.path_atom.Goals as goal
+
+pub returns : goal.returns
+returns c = grind (arith, common_steps, path_says)

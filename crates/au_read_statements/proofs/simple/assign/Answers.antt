@@ -1,0 +1,9 @@
+use Rattle.std.proofs.Common.{arith}
+use Rattle.std.proofs.lemmas.Grind.{common_steps}
+use Rattle.au_syntax.proofs.StatementLemmas.{assign_says}
+use Rattle.au_read_statements.specs.StatementReading.{assign_with}
+use Rattle.au_read_statements.proofs.simple.assign.Goals as goal
+
+pub returns : goal.returns
+unfolding assign_with
+returns c = grind (arith, common_steps, assign_says)

@@ -1,0 +1,9 @@
+use Rattle.std.proofs.Common.{arith}
+use Rattle.std.proofs.lemmas.Grind.{common_steps}
+use Rattle.au_syntax.proofs.StatementLemmas.{destructure_says}
+use Rattle.au_read_statements.specs.StatementReading.{destructure_with}
+use Rattle.au_read_statements.proofs.simple.destructure.Goals as goal
+
+pub returns : goal.returns
+unfolding destructure_with
+returns c = grind (arith, common_steps, destructure_says)
