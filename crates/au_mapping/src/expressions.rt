@@ -159,8 +159,9 @@ fn map_call<P: Phase, Q: Phase, F: Turn<P, Q>>(
     ensures notes { IfOk result (λ new.
         IsTrue (notes_of_expression Q.allows_type Q.allows_call (expression Q.Phase new))) }
 {
-    let (site, name, note) = map_callee(alloc, site, name, note, turn)?;
+    let (site, name) = map_callee(alloc, site, name, turn)?;
     let arguments = map_exprs(alloc, arguments, turn)?;
+    let note = turn.call_note(alloc, note)?;
     Ok(Expr::Call(site, name, arguments, note))
 }
 
@@ -179,8 +180,9 @@ fn map_named_call<P: Phase, Q: Phase, F: Turn<P, Q>>(
     ensures notes { IfOk result (λ new.
         IsTrue (notes_of_expression Q.allows_type Q.allows_call (expression Q.Phase new))) }
 {
-    let (site, name, note) = map_callee(alloc, site, name, note, turn)?;
+    let (site, name) = map_callee(alloc, site, name, turn)?;
     let arguments = map_arguments(alloc, arguments, turn)?;
+    let note = turn.call_note(alloc, note)?;
     Ok(Expr::NamedCall(site, name, arguments, note))
 }
 
@@ -247,20 +249,17 @@ fn map_callee<P: Phase, Q: Phase, F: Turn<P, Q>>(
     alloc: Global,
     site: Site<P>,
     name: Ident<P>,
-    note: P::CallNote,
     turn: &mut F,
-) -> Result<(Site<Q>, Ident<Q>, Q::CallNote), Memory>
+) -> Result<(Site<Q>, Ident<Q>), Memory>
     ensures place { IfOk result (λ new. plain_node (node Q.Phase new.0) ≡ plain_node (node P.Phase site)) }
     ensures note { IfOk result (λ new. IsTrue (Q.allows_type (Q.see_type new.0.note))) }
     ensures name { IfOk result (λ new.
         plain_name Q.name_bytes (placed Q.Phase new.1)
         ≡ plain_name P.name_bytes (placed P.Phase name)) }
-    ensures call { IfOk result (λ new. IsTrue (Q.allows_call (Q.see_call new.2))) }
 {
     let site = map_site(alloc, site, turn)?;
     let name = map_ident(alloc, name, turn)?;
-    let note = turn.call_note(alloc, note)?;
-    Ok((site, name, note))
+    Ok((site, name))
 }
 
 fn map_path<P: Phase, Q: Phase, F: Turn<P, Q>>(

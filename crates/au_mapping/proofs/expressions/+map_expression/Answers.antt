@@ -9,23 +9,23 @@ use Rattle.au_mapping.proofs.expressions.+map_expression.Goals as goal
 
 pub map_call-returns-clause-same : goal.map_call-returns-clause-same
 map_call-returns-clause-same g t c =
-    call_same g.Q.Phase g.P.Phase g.Q.Phase.name_bytes g.P.Phase.name_bytes c.in_ok-site.site c.in_ok-site.name c.in_ok-arguments.arguments c.in_ok-site.note c.args.site c.args.name c.args.arguments c.args.note
+    call_same g.Q.Phase g.P.Phase g.Q.Phase.name_bytes g.P.Phase.name_bytes c.in_ok-site.site c.in_ok-site.name c.in_ok-arguments.arguments c.in_ok-note.note c.args.site c.args.name c.args.arguments c.args.note
     c.in_ok-site.ensures.place c.in_ok-site.ensures.name c.in_ok-arguments.ensures.same
 
 pub map_call-returns-clause-notes : goal.map_call-returns-clause-notes
 map_call-returns-clause-notes g t c =
-    call_notes g.Q.Phase g.Q.Phase.allows_type g.Q.Phase.allows_call c.in_ok-site.site c.in_ok-site.name c.in_ok-arguments.arguments c.in_ok-site.note
-    c.in_ok-site.ensures.note c.in_ok-site.ensures.call c.in_ok-arguments.ensures.notes
+    call_notes g.Q.Phase g.Q.Phase.allows_type g.Q.Phase.allows_call c.in_ok-site.site c.in_ok-site.name c.in_ok-arguments.arguments c.in_ok-note.note
+    c.in_ok-site.ensures.note c.in_ok-note.ensures c.in_ok-arguments.ensures.notes
 
 pub map_named_call-returns-clause-same : goal.map_named_call-returns-clause-same
 map_named_call-returns-clause-same g t c =
-    named_call_same g.Q.Phase g.P.Phase g.Q.Phase.name_bytes g.P.Phase.name_bytes c.in_ok-site.site c.in_ok-site.name c.in_ok-arguments.arguments c.in_ok-site.note c.args.site c.args.name c.args.arguments c.args.note
+    named_call_same g.Q.Phase g.P.Phase g.Q.Phase.name_bytes g.P.Phase.name_bytes c.in_ok-site.site c.in_ok-site.name c.in_ok-arguments.arguments c.in_ok-note.note c.args.site c.args.name c.args.arguments c.args.note
     c.in_ok-site.ensures.place c.in_ok-site.ensures.name c.in_ok-arguments.ensures.same
 
 pub map_named_call-returns-clause-notes : goal.map_named_call-returns-clause-notes
 map_named_call-returns-clause-notes g t c =
-    named_call_notes g.Q.Phase g.Q.Phase.allows_type g.Q.Phase.allows_call c.in_ok-site.site c.in_ok-site.name c.in_ok-arguments.arguments c.in_ok-site.note
-    c.in_ok-site.ensures.note c.in_ok-site.ensures.call c.in_ok-arguments.ensures.notes
+    named_call_notes g.Q.Phase g.Q.Phase.allows_type g.Q.Phase.allows_call c.in_ok-site.site c.in_ok-site.name c.in_ok-arguments.arguments c.in_ok-note.note
+    c.in_ok-site.ensures.note c.in_ok-note.ensures c.in_ok-arguments.ensures.notes
 
 pub map_expr-returns-in-Call-clause-same : goal.map_expr-returns-in-Call-clause-same
 map_expr-returns-in-Call-clause-same g t c = rw c.in-Call.is c.map_call.ensures.same
@@ -111,26 +111,26 @@ map_expr-returns-in_ok-map_site-in-Nil-clause-same g t c = grind (arith, nil_say
 pub map_expr-returns-in_ok-map_site-in-Nil-clause-notes : goal.map_expr-returns-in_ok-map_site-in-Nil-clause-notes
 map_expr-returns-in_ok-map_site-in-Nil-clause-notes g t c = grind (arith, nil_says)
 
-pub map_expr-returns-in_ok-site-in-Parenthesized-clause-same : goal.map_expr-returns-in_ok-map_operand-in-Parenthesized-clause-same
+pub map_expr-returns-in_ok-site-in-Parenthesized-clause-same : goal.map_expr-returns-in_ok-site-in-Parenthesized-clause-same
 map_expr-returns-in_ok-site-in-Parenthesized-clause-same g t c = grind (arith, parenthesized_says)
 
-pub map_expr-returns-in_ok-site-in-Parenthesized-clause-notes : goal.map_expr-returns-in_ok-map_operand-in-Parenthesized-clause-notes
+pub map_expr-returns-in_ok-site-in-Parenthesized-clause-notes : goal.map_expr-returns-in_ok-site-in-Parenthesized-clause-notes
 map_expr-returns-in_ok-site-in-Parenthesized-clause-notes g t c = grind (arith, parenthesized_says)
 
-pub map_expr-returns-in_ok-site-in-Dereference-clause-same : goal.map_expr-returns-in_ok-map_operand-in-Dereference-clause-same
+pub map_expr-returns-in_ok-site-in-Dereference-clause-same : goal.map_expr-returns-in_ok-site-in-Dereference-clause-same
 map_expr-returns-in_ok-site-in-Dereference-clause-same g t c = grind (arith, dereference_says)
 
-pub map_expr-returns-in_ok-site-in-Dereference-clause-notes : goal.map_expr-returns-in_ok-map_operand-in-Dereference-clause-notes
+pub map_expr-returns-in_ok-site-in-Dereference-clause-notes : goal.map_expr-returns-in_ok-site-in-Dereference-clause-notes
 map_expr-returns-in_ok-site-in-Dereference-clause-notes g t c = grind (arith, dereference_says)
 
-pub map_expr-returns-in_ok-site-in-Not-clause-same : goal.map_expr-returns-in_ok-map_operand-in-Not-clause-same
+pub map_expr-returns-in_ok-site-in-Not-clause-same : goal.map_expr-returns-in_ok-site-in-Not-clause-same
 map_expr-returns-in_ok-site-in-Not-clause-same g t c = grind (arith, not_says)
 
-pub map_expr-returns-in_ok-site-in-Not-clause-notes : goal.map_expr-returns-in_ok-map_operand-in-Not-clause-notes
+pub map_expr-returns-in_ok-site-in-Not-clause-notes : goal.map_expr-returns-in_ok-site-in-Not-clause-notes
 map_expr-returns-in_ok-site-in-Not-clause-notes g t c = grind (arith, not_says)
 
-pub map_expr-returns-in_ok-site-in-Typed-clause-same : goal.map_expr-returns-in_ok-map_operand-in-Typed-clause-same
+pub map_expr-returns-in_ok-site-in-Typed-clause-same : goal.map_expr-returns-in_ok-site-in-Typed-clause-same
 map_expr-returns-in_ok-site-in-Typed-clause-same g t c = grind (arith, typed_says)
 
-pub map_expr-returns-in_ok-site-in-Typed-clause-notes : goal.map_expr-returns-in_ok-map_operand-in-Typed-clause-notes
+pub map_expr-returns-in_ok-site-in-Typed-clause-notes : goal.map_expr-returns-in_ok-site-in-Typed-clause-notes
 map_expr-returns-in_ok-site-in-Typed-clause-notes g t c = grind (arith, typed_says)
