@@ -1,7 +1,10 @@
-//! Tests of trees and of their mapping, in a crate of their own: a crate with tests is proved twice.
+//! Tests of trees: of their copies, their depth and their mapping, in a crate of their own, since a crate with
+//! tests is proved twice.
 #![tactic(auto)]
 
 #[cfg(test)]
-mod mapping_tests;
+mod counted;
 #[cfg(test)]
 mod tree_tests;
+#[cfg(test)]
+mod whole_tests;
