@@ -16,17 +16,15 @@ use std::alloc::Global;
 /// # Errors
 ///
 /// Only for want of memory.
+#[tactic(auto, using(au_syntax::proofs::ExpressionLemmas::expression_steps, std::proofs::lemmas::Grind::common_steps))]
 #[cycle(map_expression)]
 pub fn map_expr<P: Phase, Q: Phase, F: Turn<P, Q>>(
     alloc: Global,
     expr: Expr<P>,
     turn: &mut F,
 ) -> Result<Expr<Q>, Memory>
-    ensures same { IfOk result (λ new.
-        plain_expression Q.name_bytes (expression Q.Phase new)
-        ≡ plain_expression P.name_bytes (expression P.Phase expr)) }
-    ensures notes { IfOk result (λ new.
-        IsTrue (notes_of_expression Q.allows_type Q.allows_call (expression Q.Phase new))) }
+    ensures same { IfOk result (λ new. plain_expression Q.name_bytes (expression Q.Phase new) ≡ plain_expression P.name_bytes (expression P.Phase expr)) }
+    ensures notes { IfOk result (λ new. IsTrue (notes_of_expression Q.allows_type Q.allows_call (expression Q.Phase new))) }
 {
     match expr {
         Expr::Number(site, number) => Ok(Expr::Number(map_site(alloc, site, turn)?, number)),
@@ -73,11 +71,8 @@ pub(crate) fn map_boxed<P: Phase, Q: Phase, F: Turn<P, Q>>(
     expr: Box<Expr<P>>,
     turn: &mut F,
 ) -> Result<Box<Expr<Q>>, Memory>
-    ensures same { IfOk result (λ new.
-        plain_expression Q.name_bytes (expression Q.Phase new.value)
-        ≡ plain_expression P.name_bytes (expression P.Phase expr.value)) }
-    ensures notes { IfOk result (λ new.
-        IsTrue (notes_of_expression Q.allows_type Q.allows_call (expression Q.Phase new.value))) }
+    ensures same { IfOk result (λ new. plain_expression Q.name_bytes (expression Q.Phase new.value) ≡ plain_expression P.name_bytes (expression P.Phase expr.value)) }
+    ensures notes { IfOk result (λ new. IsTrue (notes_of_expression Q.allows_type Q.allows_call (expression Q.Phase new.value))) }
 {
     let made = map_expr(alloc, Box::into_inner(expr), turn)?;
     Ok(Box::new(alloc, made)?)
@@ -92,17 +87,15 @@ fn map_operand<P: Phase, Q: Phase, F: Turn<P, Q>>(
 ) -> Result<(Site<Q>, Box<Expr<Q>>), Memory>
     ensures place { IfOk result (λ new. plain_node (node Q.Phase new.0) ≡ plain_node (node P.Phase site)) }
     ensures note { IfOk result (λ new. IsTrue (Q.allows_type (Q.see_type new.0.note))) }
-    ensures same { IfOk result (λ new.
-        plain_expression Q.name_bytes (expression Q.Phase new.1.value)
-        ≡ plain_expression P.name_bytes (expression P.Phase of.value)) }
-    ensures notes { IfOk result (λ new.
-        IsTrue (notes_of_expression Q.allows_type Q.allows_call (expression Q.Phase new.1.value))) }
+    ensures same { IfOk result (λ new. plain_expression Q.name_bytes (expression Q.Phase new.1.value) ≡ plain_expression P.name_bytes (expression P.Phase of.value)) }
+    ensures notes { IfOk result (λ new. IsTrue (notes_of_expression Q.allows_type Q.allows_call (expression Q.Phase new.1.value))) }
 {
     let site = map_site(alloc, site, turn)?;
     let of = map_boxed(alloc, of, turn)?;
     Ok((site, of))
 }
 
+#[tactic(auto, using(au_syntax::proofs::ExpressionLemmas::expression_steps, std::proofs::lemmas::Grind::common_steps))]
 #[cycle(map_expression)]
 fn map_binary<P: Phase, Q: Phase, F: Turn<P, Q>>(
     alloc: Global,
@@ -112,17 +105,15 @@ fn map_binary<P: Phase, Q: Phase, F: Turn<P, Q>>(
     right: Box<Expr<P>>,
     turn: &mut F,
 ) -> Result<Expr<Q>, Memory>
-    ensures same { IfOk result (λ new.
-        plain_expression Q.name_bytes (expression Q.Phase new)
-        ≡ plain_expression P.name_bytes (expression P.Phase (Expr.Binary site operator left right))) }
-    ensures notes { IfOk result (λ new.
-        IsTrue (notes_of_expression Q.allows_type Q.allows_call (expression Q.Phase new))) }
+    ensures same { IfOk result (λ new. plain_expression Q.name_bytes (expression Q.Phase new) ≡ plain_expression P.name_bytes (expression P.Phase (Expr.Binary site operator left right))) }
+    ensures notes { IfOk result (λ new. IsTrue (notes_of_expression Q.allows_type Q.allows_call (expression Q.Phase new))) }
 {
     let (site, left) = map_operand(alloc, site, left, turn)?;
     let right = map_boxed(alloc, right, turn)?;
     Ok(Expr::Binary(site, operator, left, right))
 }
 
+#[tactic(auto, using(au_syntax::proofs::ExpressionLemmas::expression_steps, std::proofs::lemmas::Grind::common_steps))]
 #[cycle(map_expression)]
 fn map_choice<P: Phase, Q: Phase, F: Turn<P, Q>>(
     alloc: Global,
@@ -132,11 +123,8 @@ fn map_choice<P: Phase, Q: Phase, F: Turn<P, Q>>(
     no: Box<Expr<P>>,
     turn: &mut F,
 ) -> Result<Expr<Q>, Memory>
-    ensures same { IfOk result (λ new.
-        plain_expression Q.name_bytes (expression Q.Phase new)
-        ≡ plain_expression P.name_bytes (expression P.Phase (Expr.If site test yes no))) }
-    ensures notes { IfOk result (λ new.
-        IsTrue (notes_of_expression Q.allows_type Q.allows_call (expression Q.Phase new))) }
+    ensures same { IfOk result (λ new. plain_expression Q.name_bytes (expression Q.Phase new) ≡ plain_expression P.name_bytes (expression P.Phase (Expr.If site test yes no))) }
+    ensures notes { IfOk result (λ new. IsTrue (notes_of_expression Q.allows_type Q.allows_call (expression Q.Phase new))) }
 {
     let (site, test) = map_operand(alloc, site, test, turn)?;
     let yes = map_boxed(alloc, yes, turn)?;
@@ -153,13 +141,11 @@ fn map_call<P: Phase, Q: Phase, F: Turn<P, Q>>(
     note: P::CallNote,
     turn: &mut F,
 ) -> Result<Expr<Q>, Memory>
-    ensures same { IfOk result (λ new.
-        plain_expression Q.name_bytes (expression Q.Phase new)
-        ≡ plain_expression P.name_bytes (expression P.Phase (Expr.Call site name arguments note))) }
-    ensures notes { IfOk result (λ new.
-        IsTrue (notes_of_expression Q.allows_type Q.allows_call (expression Q.Phase new))) }
+    ensures same { IfOk result (λ new. plain_expression Q.name_bytes (expression Q.Phase new) ≡ plain_expression P.name_bytes (expression P.Phase (Expr.Call site name arguments note))) }
+    ensures notes { IfOk result (λ new. IsTrue (notes_of_expression Q.allows_type Q.allows_call (expression Q.Phase new))) }
 {
-    let (site, name) = map_callee(alloc, site, name, turn)?;
+    let site = map_site(alloc, site, turn)?;
+    let name = map_ident(alloc, name, turn)?;
     let arguments = map_exprs(alloc, arguments, turn)?;
     let note = turn.call_note(alloc, note)?;
     Ok(Expr::Call(site, name, arguments, note))
@@ -174,13 +160,11 @@ fn map_named_call<P: Phase, Q: Phase, F: Turn<P, Q>>(
     note: P::CallNote,
     turn: &mut F,
 ) -> Result<Expr<Q>, Memory>
-    ensures same { IfOk result (λ new.
-        plain_expression Q.name_bytes (expression Q.Phase new)
-        ≡ plain_expression P.name_bytes (expression P.Phase (Expr.NamedCall site name arguments note))) }
-    ensures notes { IfOk result (λ new.
-        IsTrue (notes_of_expression Q.allows_type Q.allows_call (expression Q.Phase new))) }
+    ensures same { IfOk result (λ new. plain_expression Q.name_bytes (expression Q.Phase new) ≡ plain_expression P.name_bytes (expression P.Phase (Expr.NamedCall site name arguments note))) }
+    ensures notes { IfOk result (λ new. IsTrue (notes_of_expression Q.allows_type Q.allows_call (expression Q.Phase new))) }
 {
-    let (site, name) = map_callee(alloc, site, name, turn)?;
+    let site = map_site(alloc, site, turn)?;
+    let name = map_ident(alloc, name, turn)?;
     let arguments = map_arguments(alloc, arguments, turn)?;
     let note = turn.call_note(alloc, note)?;
     Ok(Expr::NamedCall(site, name, arguments, note))
@@ -192,12 +176,8 @@ fn map_exprs<P: Phase, Q: Phase, F: Turn<P, Q>>(
     exprs: Vec<Expr<P>>,
     turn: &mut F,
 ) -> Result<Vec<Expr<Q>>, Memory>
-    ensures same { IfOk result (λ new.
-        map (plain_expression Q.name_bytes) (map (expression Q.Phase) new.items)
-        ≡ map (plain_expression P.name_bytes) (map (expression P.Phase) exprs.items)) }
-    ensures notes { IfOk result (λ new.
-        IsTrue (list_all (notes_of_expression Q.allows_type Q.allows_call) (map
-        (expression Q.Phase) new.items))) }
+    ensures same { IfOk result (λ new. map (plain_expression Q.name_bytes) (map (expression Q.Phase) new.items) ≡ map (plain_expression P.name_bytes) (map (expression P.Phase) exprs.items)) }
+    ensures notes { IfOk result (λ new. IsTrue (list_all (notes_of_expression Q.allows_type Q.allows_call) (map (expression Q.Phase) new.items))) }
 {
     let mut made = Vec::new(alloc);
     for expr in exprs {
@@ -213,11 +193,8 @@ fn map_argument<P: Phase, Q: Phase, F: Turn<P, Q>>(
     argument: Argument<P>,
     turn: &mut F,
 ) -> Result<Argument<Q>, Memory>
-    ensures same { IfOk result (λ new.
-        plain_arguments Q.name_bytes (argument_all Q.Phase (new ∷ []))
-        ≡ plain_arguments P.name_bytes (argument_all P.Phase (argument ∷ []))) }
-    ensures notes { IfOk result (λ new.
-        IsTrue (notes_of_expression Q.allows_type Q.allows_call (expression Q.Phase new.value))) }
+    ensures same { IfOk result (λ new. plain_arguments Q.name_bytes (argument_all Q.Phase (new ∷ [])) ≡ plain_arguments P.name_bytes (argument_all P.Phase (argument ∷ []))) }
+    ensures notes { IfOk result (λ new. IsTrue (notes_of_expression Q.allows_type Q.allows_call (expression Q.Phase new.value))) }
 {
     let label = map_ident(alloc, argument.label, turn)?;
     let value = map_expr(alloc, argument.value, turn)?;
@@ -230,12 +207,8 @@ fn map_arguments<P: Phase, Q: Phase, F: Turn<P, Q>>(
     arguments: Vec<Argument<P>>,
     turn: &mut F,
 ) -> Result<Vec<Argument<Q>>, Memory>
-    ensures same { IfOk result (λ new.
-        map (λ a. plain_arguments Q.name_bytes (argument_all Q.Phase (a ∷ []))) new.items
-        ≡ map (λ a. plain_arguments P.name_bytes (argument_all P.Phase (a ∷ []))) arguments.items) }
-    ensures notes { IfOk result (λ new.
-        IsTrue (list_all (λ a. notes_of_expression Q.allows_type Q.allows_call
-        (expression Q.Phase a.value)) new.items)) }
+    ensures same { IfOk result (λ new. map (λ a. plain_arguments Q.name_bytes (argument_all Q.Phase (a ∷ []))) new.items ≡ map (λ a. plain_arguments P.name_bytes (argument_all P.Phase (a ∷ []))) arguments.items) }
+    ensures notes { IfOk result (λ new. IsTrue (list_all (λ a. notes_of_expression Q.allows_type Q.allows_call (expression Q.Phase a.value)) new.items)) }
 {
     let mut made = Vec::new(alloc);
     for argument in arguments {
@@ -245,23 +218,7 @@ fn map_arguments<P: Phase, Q: Phase, F: Turn<P, Q>>(
     Ok(made)
 }
 
-fn map_callee<P: Phase, Q: Phase, F: Turn<P, Q>>(
-    alloc: Global,
-    site: Site<P>,
-    name: Ident<P>,
-    turn: &mut F,
-) -> Result<(Site<Q>, Ident<Q>), Memory>
-    ensures place { IfOk result (λ new. plain_node (node Q.Phase new.0) ≡ plain_node (node P.Phase site)) }
-    ensures note { IfOk result (λ new. IsTrue (Q.allows_type (Q.see_type new.0.note))) }
-    ensures name { IfOk result (λ new.
-        plain_name Q.name_bytes (placed Q.Phase new.1)
-        ≡ plain_name P.name_bytes (placed P.Phase name)) }
-{
-    let site = map_site(alloc, site, turn)?;
-    let name = map_ident(alloc, name, turn)?;
-    Ok((site, name))
-}
-
+#[tactic(auto, using(au_syntax::proofs::ExpressionLemmas::expression_steps, std::proofs::lemmas::Grind::common_steps))]
 fn map_path<P: Phase, Q: Phase, F: Turn<P, Q>>(
     alloc: Global,
     site: Site<P>,
@@ -269,11 +226,8 @@ fn map_path<P: Phase, Q: Phase, F: Turn<P, Q>>(
     fields: Vec<Ident<P>>,
     turn: &mut F,
 ) -> Result<Expr<Q>, Memory>
-    ensures same { IfOk result (λ new.
-        plain_expression Q.name_bytes (expression Q.Phase new)
-        ≡ plain_expression P.name_bytes (expression P.Phase (Expr.Path site name fields))) }
-    ensures notes { IfOk result (λ new.
-        IsTrue (notes_of_expression Q.allows_type Q.allows_call (expression Q.Phase new))) }
+    ensures same { IfOk result (λ new. plain_expression Q.name_bytes (expression Q.Phase new) ≡ plain_expression P.name_bytes (expression P.Phase (Expr.Path site name fields))) }
+    ensures notes { IfOk result (λ new. IsTrue (notes_of_expression Q.allows_type Q.allows_call (expression Q.Phase new))) }
 {
     let site = map_site(alloc, site, turn)?;
     let name = map_ident(alloc, name, turn)?;
@@ -281,6 +235,7 @@ fn map_path<P: Phase, Q: Phase, F: Turn<P, Q>>(
     Ok(Expr::Path(site, name, fields))
 }
 
+#[tactic(auto, using(au_syntax::proofs::ExpressionLemmas::expression_steps, std::proofs::lemmas::Grind::common_steps))]
 fn map_arrow<P: Phase, Q: Phase, F: Turn<P, Q>>(
     alloc: Global,
     site: Site<P>,
@@ -288,11 +243,8 @@ fn map_arrow<P: Phase, Q: Phase, F: Turn<P, Q>>(
     fields: Vec<Ident<P>>,
     turn: &mut F,
 ) -> Result<Expr<Q>, Memory>
-    ensures same { IfOk result (λ new.
-        plain_expression Q.name_bytes (expression Q.Phase new)
-        ≡ plain_expression P.name_bytes (expression P.Phase (Expr.Arrow site name fields))) }
-    ensures notes { IfOk result (λ new.
-        IsTrue (notes_of_expression Q.allows_type Q.allows_call (expression Q.Phase new))) }
+    ensures same { IfOk result (λ new. plain_expression Q.name_bytes (expression Q.Phase new) ≡ plain_expression P.name_bytes (expression P.Phase (Expr.Arrow site name fields))) }
+    ensures notes { IfOk result (λ new. IsTrue (notes_of_expression Q.allows_type Q.allows_call (expression Q.Phase new))) }
 {
     let site = map_site(alloc, site, turn)?;
     let name = map_ident(alloc, name, turn)?;
@@ -300,6 +252,7 @@ fn map_arrow<P: Phase, Q: Phase, F: Turn<P, Q>>(
     Ok(Expr::Arrow(site, name, fields))
 }
 
+#[tactic(auto, using(au_syntax::proofs::ExpressionLemmas::expression_steps, std::proofs::lemmas::Grind::common_steps))]
 fn map_borrow_part<P: Phase, Q: Phase, F: Turn<P, Q>>(
     alloc: Global,
     site: Site<P>,
@@ -307,11 +260,8 @@ fn map_borrow_part<P: Phase, Q: Phase, F: Turn<P, Q>>(
     fields: Vec<Ident<P>>,
     turn: &mut F,
 ) -> Result<Expr<Q>, Memory>
-    ensures same { IfOk result (λ new.
-        plain_expression Q.name_bytes (expression Q.Phase new)
-        ≡ plain_expression P.name_bytes (expression P.Phase (Expr.BorrowPart site name fields))) }
-    ensures notes { IfOk result (λ new.
-        IsTrue (notes_of_expression Q.allows_type Q.allows_call (expression Q.Phase new))) }
+    ensures same { IfOk result (λ new. plain_expression Q.name_bytes (expression Q.Phase new) ≡ plain_expression P.name_bytes (expression P.Phase (Expr.BorrowPart site name fields))) }
+    ensures notes { IfOk result (λ new. IsTrue (notes_of_expression Q.allows_type Q.allows_call (expression Q.Phase new))) }
 {
     let site = map_site(alloc, site, turn)?;
     let name = map_ident(alloc, name, turn)?;
@@ -319,6 +269,7 @@ fn map_borrow_part<P: Phase, Q: Phase, F: Turn<P, Q>>(
     Ok(Expr::BorrowPart(site, name, fields))
 }
 
+#[tactic(auto, using(au_syntax::proofs::ExpressionLemmas::expression_steps, std::proofs::lemmas::Grind::common_steps))]
 fn map_borrow<P: Phase, Q: Phase, F: Turn<P, Q>>(
     alloc: Global,
     site: Site<P>,
@@ -326,11 +277,8 @@ fn map_borrow<P: Phase, Q: Phase, F: Turn<P, Q>>(
     name: Ident<P>,
     turn: &mut F,
 ) -> Result<Expr<Q>, Memory>
-    ensures same { IfOk result (λ new.
-        plain_expression Q.name_bytes (expression Q.Phase new)
-        ≡ plain_expression P.name_bytes (expression P.Phase (Expr.Borrow site mode name))) }
-    ensures notes { IfOk result (λ new.
-        IsTrue (notes_of_expression Q.allows_type Q.allows_call (expression Q.Phase new))) }
+    ensures same { IfOk result (λ new. plain_expression Q.name_bytes (expression Q.Phase new) ≡ plain_expression P.name_bytes (expression P.Phase (Expr.Borrow site mode name))) }
+    ensures notes { IfOk result (λ new. IsTrue (notes_of_expression Q.allows_type Q.allows_call (expression Q.Phase new))) }
 {
     let site = map_site(alloc, site, turn)?;
     let name = map_ident(alloc, name, turn)?;

@@ -2,8 +2,8 @@
 
 ghost use Rattle.std.specs.Prelude.{◌≡◌, List, IfOk, IsTrue, map};
 ghost use Rattle.std.specs.List.{list_all};
-ghost use Rattle.au_syntax.specs.Views.{placed, constrained, header, declaration, method_body, module_tree};
-ghost use Rattle.au_syntax.specs.Plain.{plain_name, plain_constrained, plain_header, plain_declaration, plain_method, plain_module};
+ghost use Rattle.au_syntax.specs.Views.{declaration, method_body, module_tree};
+ghost use Rattle.au_syntax.specs.Plain.{plain_declaration, plain_method, plain_module};
 ghost use Rattle.au_syntax.specs.Notes.{notes_of_declaration, notes_of_method, notes_of_module};
 
 use crate::expressions::map_boxed;
@@ -30,11 +30,8 @@ pub fn map_module<P: Phase, Q: Phase, F: Turn<P, Q>>(
     module: Module<P>,
     turn: &mut F,
 ) -> Result<Module<Q>, Memory>
-    ensures same { IfOk result (λ new.
-        plain_module Q.name_bytes (module_tree Q.Phase new)
-        ≡ plain_module P.name_bytes (module_tree P.Phase «module»)) }
-    ensures notes { IfOk result (λ new.
-        IsTrue (notes_of_module Q.allows_type Q.allows_call (module_tree Q.Phase new))) }
+    ensures same { IfOk result (λ new. plain_module Q.name_bytes (module_tree Q.Phase new) ≡ plain_module P.name_bytes (module_tree P.Phase «module»)) }
+    ensures notes { IfOk result (λ new. IsTrue (notes_of_module Q.allows_type Q.allows_call (module_tree Q.Phase new))) }
 {
     let imports = map_imports(alloc, module.imports, turn)?;
     let name = map_idents(alloc, module.name, turn)?;
@@ -54,12 +51,8 @@ fn map_decls<P: Phase, Q: Phase, F: Turn<P, Q>>(
     decls: Vec<Decl<P>>,
     turn: &mut F,
 ) -> Result<Vec<Decl<Q>>, Memory>
-    ensures same { IfOk result (λ new.
-        map (plain_declaration Q.name_bytes) (map (declaration Q.Phase) new.items)
-        ≡ map (plain_declaration P.name_bytes) (map (declaration P.Phase) decls.items)) }
-    ensures notes { IfOk result (λ new.
-        IsTrue (list_all (notes_of_declaration Q.allows_type Q.allows_call) (map
-        (declaration Q.Phase) new.items))) }
+    ensures same { IfOk result (λ new. map (plain_declaration Q.name_bytes) (map (declaration Q.Phase) new.items) ≡ map (plain_declaration P.name_bytes) (map (declaration P.Phase) decls.items)) }
+    ensures notes { IfOk result (λ new. IsTrue (list_all (notes_of_declaration Q.allows_type Q.allows_call) (map (declaration Q.Phase) new.items))) }
 {
     let mut made = Vec::new(alloc);
     for decl in decls {
@@ -79,11 +72,8 @@ pub fn map_decl<P: Phase, Q: Phase, F: Turn<P, Q>>(
     decl: Decl<P>,
     turn: &mut F,
 ) -> Result<Decl<Q>, Memory>
-    ensures same { IfOk result (λ new.
-        plain_declaration Q.name_bytes (declaration Q.Phase new)
-        ≡ plain_declaration P.name_bytes (declaration P.Phase decl)) }
-    ensures notes { IfOk result (λ new.
-        IsTrue (notes_of_declaration Q.allows_type Q.allows_call (declaration Q.Phase new))) }
+    ensures same { IfOk result (λ new. plain_declaration Q.name_bytes (declaration Q.Phase new) ≡ plain_declaration P.name_bytes (declaration P.Phase decl)) }
+    ensures notes { IfOk result (λ new. IsTrue (notes_of_declaration Q.allows_type Q.allows_call (declaration Q.Phase new))) }
 {
     match decl {
         Decl::Constant(at, name, of) => map_constant(alloc, at, name, of, turn),
@@ -123,11 +113,8 @@ fn map_constant<P: Phase, Q: Phase, F: Turn<P, Q>>(
     of: TypeText,
     turn: &mut F,
 ) -> Result<Decl<Q>, Memory>
-    ensures same { IfOk result (λ new.
-        plain_declaration Q.name_bytes (declaration Q.Phase new)
-        ≡ plain_declaration P.name_bytes (declaration P.Phase (Decl.Constant at name of))) }
-    ensures notes { IfOk result (λ new.
-        IsTrue (notes_of_declaration Q.allows_type Q.allows_call (declaration Q.Phase new))) }
+    ensures same { IfOk result (λ new. plain_declaration Q.name_bytes (declaration Q.Phase new) ≡ plain_declaration P.name_bytes (declaration P.Phase (Decl.Constant at name of))) }
+    ensures notes { IfOk result (λ new. IsTrue (notes_of_declaration Q.allows_type Q.allows_call (declaration Q.Phase new))) }
 {
     let name = map_ident(alloc, name, turn)?;
     Ok(Decl::Constant(at, name, of))
@@ -142,11 +129,8 @@ fn map_opaque<P: Phase, Q: Phase, F: Turn<P, Q>>(
     universe: Universe,
     turn: &mut F,
 ) -> Result<Decl<Q>, Memory>
-    ensures same { IfOk result (λ new.
-        plain_declaration Q.name_bytes (declaration Q.Phase new)
-        ≡ plain_declaration P.name_bytes (declaration P.Phase (Decl.Opaque at name parameters universe))) }
-    ensures notes { IfOk result (λ new.
-        IsTrue (notes_of_declaration Q.allows_type Q.allows_call (declaration Q.Phase new))) }
+    ensures same { IfOk result (λ new. plain_declaration Q.name_bytes (declaration Q.Phase new) ≡ plain_declaration P.name_bytes (declaration P.Phase (Decl.Opaque at name parameters universe))) }
+    ensures notes { IfOk result (λ new. IsTrue (notes_of_declaration Q.allows_type Q.allows_call (declaration Q.Phase new))) }
 {
     let name = map_ident(alloc, name, turn)?;
     let parameters = map_type_parameters(alloc, parameters, turn)?;
@@ -163,12 +147,8 @@ fn map_record<P: Phase, Q: Phase, F: Turn<P, Q>>(
     fields: Vec<Field<P>>,
     turn: &mut F,
 ) -> Result<Decl<Q>, Memory>
-    ensures same { IfOk result (λ new.
-        plain_declaration Q.name_bytes (declaration Q.Phase new)
-        ≡ plain_declaration P.name_bytes (declaration P.Phase
-        (Decl.Record at name parameters universe fields))) }
-    ensures notes { IfOk result (λ new.
-        IsTrue (notes_of_declaration Q.allows_type Q.allows_call (declaration Q.Phase new))) }
+    ensures same { IfOk result (λ new. plain_declaration Q.name_bytes (declaration Q.Phase new) ≡ plain_declaration P.name_bytes (declaration P.Phase (Decl.Record at name parameters universe fields))) }
+    ensures notes { IfOk result (λ new. IsTrue (notes_of_declaration Q.allows_type Q.allows_call (declaration Q.Phase new))) }
 {
     let name = map_ident(alloc, name, turn)?;
     let parameters = map_type_parameters(alloc, parameters, turn)?;
@@ -186,12 +166,8 @@ fn map_union<P: Phase, Q: Phase, F: Turn<P, Q>>(
     cases: Vec<UnionCase<P>>,
     turn: &mut F,
 ) -> Result<Decl<Q>, Memory>
-    ensures same { IfOk result (λ new.
-        plain_declaration Q.name_bytes (declaration Q.Phase new)
-        ≡ plain_declaration P.name_bytes (declaration P.Phase
-        (Decl.Union at name parameters universe cases))) }
-    ensures notes { IfOk result (λ new.
-        IsTrue (notes_of_declaration Q.allows_type Q.allows_call (declaration Q.Phase new))) }
+    ensures same { IfOk result (λ new. plain_declaration Q.name_bytes (declaration Q.Phase new) ≡ plain_declaration P.name_bytes (declaration P.Phase (Decl.Union at name parameters universe cases))) }
+    ensures notes { IfOk result (λ new. IsTrue (notes_of_declaration Q.allows_type Q.allows_call (declaration Q.Phase new))) }
 {
     let name = map_ident(alloc, name, turn)?;
     let parameters = map_type_parameters(alloc, parameters, turn)?;
@@ -207,13 +183,11 @@ fn map_function<P: Phase, Q: Phase, F: Turn<P, Q>>(
     signature: Signature<P>,
     turn: &mut F,
 ) -> Result<Decl<Q>, Memory>
-    ensures same { IfOk result (λ new.
-        plain_declaration Q.name_bytes (declaration Q.Phase new)
-        ≡ plain_declaration P.name_bytes (declaration P.Phase (Decl.Function at generics signature))) }
-    ensures notes { IfOk result (λ new.
-        IsTrue (notes_of_declaration Q.allows_type Q.allows_call (declaration Q.Phase new))) }
+    ensures same { IfOk result (λ new. plain_declaration Q.name_bytes (declaration Q.Phase new) ≡ plain_declaration P.name_bytes (declaration P.Phase (Decl.Function at generics signature))) }
+    ensures notes { IfOk result (λ new. IsTrue (notes_of_declaration Q.allows_type Q.allows_call (declaration Q.Phase new))) }
 {
-    let (generics, signature) = map_function_head(alloc, generics, signature, turn)?;
+    let generics = map_generics(alloc, generics, turn)?;
+    let signature = map_signature(alloc, signature, turn)?;
     Ok(Decl::Function(at, generics, signature))
 }
 
@@ -226,11 +200,8 @@ fn map_class<P: Phase, Q: Phase, F: Turn<P, Q>>(
     methods: Vec<Signature<P>>,
     turn: &mut F,
 ) -> Result<Decl<Q>, Memory>
-    ensures same { IfOk result (λ new.
-        plain_declaration Q.name_bytes (declaration Q.Phase new)
-        ≡ plain_declaration P.name_bytes (declaration P.Phase (Decl.Class at name parameter methods))) }
-    ensures notes { IfOk result (λ new.
-        IsTrue (notes_of_declaration Q.allows_type Q.allows_call (declaration Q.Phase new))) }
+    ensures same { IfOk result (λ new. plain_declaration Q.name_bytes (declaration Q.Phase new) ≡ plain_declaration P.name_bytes (declaration P.Phase (Decl.Class at name parameter methods))) }
+    ensures notes { IfOk result (λ new. IsTrue (notes_of_declaration Q.allows_type Q.allows_call (declaration Q.Phase new))) }
 {
     let name = map_ident(alloc, name, turn)?;
     let parameter = map_type_parameter(alloc, parameter, turn)?;
@@ -247,13 +218,11 @@ fn map_instance<P: Phase, Q: Phase, F: Turn<P, Q>>(
     of: TypeText,
     turn: &mut F,
 ) -> Result<Decl<Q>, Memory>
-    ensures same { IfOk result (λ new.
-        plain_declaration Q.name_bytes (declaration Q.Phase new)
-        ≡ plain_declaration P.name_bytes (declaration P.Phase (Decl.Instance at generics name of))) }
-    ensures notes { IfOk result (λ new.
-        IsTrue (notes_of_declaration Q.allows_type Q.allows_call (declaration Q.Phase new))) }
+    ensures same { IfOk result (λ new. plain_declaration Q.name_bytes (declaration Q.Phase new) ≡ plain_declaration P.name_bytes (declaration P.Phase (Decl.Instance at generics name of))) }
+    ensures notes { IfOk result (λ new. IsTrue (notes_of_declaration Q.allows_type Q.allows_call (declaration Q.Phase new))) }
 {
-    let (generics, name) = map_instance_head(alloc, generics, name, turn)?;
+    let generics = map_generics(alloc, generics, turn)?;
+    let name = map_ident(alloc, name, turn)?;
     Ok(Decl::Instance(at, generics, name, of))
 }
 
@@ -266,11 +235,8 @@ fn map_constant_body<P: Phase, Q: Phase, F: Turn<P, Q>>(
     value: Box<Expr<P>>,
     turn: &mut F,
 ) -> Result<Decl<Q>, Memory>
-    ensures same { IfOk result (λ new.
-        plain_declaration Q.name_bytes (declaration Q.Phase new)
-        ≡ plain_declaration P.name_bytes (declaration P.Phase (Decl.ConstantBody at name of value))) }
-    ensures notes { IfOk result (λ new.
-        IsTrue (notes_of_declaration Q.allows_type Q.allows_call (declaration Q.Phase new))) }
+    ensures same { IfOk result (λ new. plain_declaration Q.name_bytes (declaration Q.Phase new) ≡ plain_declaration P.name_bytes (declaration P.Phase (Decl.ConstantBody at name of value))) }
+    ensures notes { IfOk result (λ new. IsTrue (notes_of_declaration Q.allows_type Q.allows_call (declaration Q.Phase new))) }
 {
     let name = map_ident(alloc, name, turn)?;
     let value = map_boxed(alloc, value, turn)?;
@@ -287,14 +253,11 @@ fn map_function_body<P: Phase, Q: Phase, F: Turn<P, Q>>(
     end: Pos,
     turn: &mut F,
 ) -> Result<Decl<Q>, Memory>
-    ensures same { IfOk result (λ new.
-        plain_declaration Q.name_bytes (declaration Q.Phase new)
-        ≡ plain_declaration P.name_bytes (declaration P.Phase
-        (Decl.FunctionBody at generics signature body end))) }
-    ensures notes { IfOk result (λ new.
-        IsTrue (notes_of_declaration Q.allows_type Q.allows_call (declaration Q.Phase new))) }
+    ensures same { IfOk result (λ new. plain_declaration Q.name_bytes (declaration Q.Phase new) ≡ plain_declaration P.name_bytes (declaration P.Phase (Decl.FunctionBody at generics signature body end))) }
+    ensures notes { IfOk result (λ new. IsTrue (notes_of_declaration Q.allows_type Q.allows_call (declaration Q.Phase new))) }
 {
-    let (generics, signature) = map_function_head(alloc, generics, signature, turn)?;
+    let generics = map_generics(alloc, generics, turn)?;
+    let signature = map_signature(alloc, signature, turn)?;
     let body = map_block(alloc, body, turn)?;
     Ok(Decl::FunctionBody(at, generics, signature, body, end))
 }
@@ -309,52 +272,13 @@ fn map_instance_body<P: Phase, Q: Phase, F: Turn<P, Q>>(
     methods: Vec<Method<P>>,
     turn: &mut F,
 ) -> Result<Decl<Q>, Memory>
-    ensures same { IfOk result (λ new.
-        plain_declaration Q.name_bytes (declaration Q.Phase new)
-        ≡ plain_declaration P.name_bytes (declaration P.Phase
-        (Decl.InstanceBody at generics name of methods))) }
-    ensures notes { IfOk result (λ new.
-        IsTrue (notes_of_declaration Q.allows_type Q.allows_call (declaration Q.Phase new))) }
-{
-    let (generics, name) = map_instance_head(alloc, generics, name, turn)?;
-    let methods = map_methods(alloc, methods, turn)?;
-    Ok(Decl::InstanceBody(at, generics, name, of, methods))
-}
-
-fn map_function_head<P: Phase, Q: Phase, F: Turn<P, Q>>(
-    alloc: Global,
-    generics: Vec<Generic<P>>,
-    signature: Signature<P>,
-    turn: &mut F,
-) -> Result<(Vec<Generic<Q>>, Signature<Q>), Memory>
-    ensures generics { IfOk result (λ new.
-        map (plain_constrained Q.name_bytes) (map (constrained Q.Phase) new.0.items)
-        ≡ map (plain_constrained P.name_bytes) (map (constrained P.Phase) generics.items)) }
-    ensures signature { IfOk result (λ new.
-        plain_header Q.name_bytes (header Q.Phase new.1)
-        ≡ plain_header P.name_bytes (header P.Phase signature)) }
-{
-    let generics = map_generics(alloc, generics, turn)?;
-    let signature = map_signature(alloc, signature, turn)?;
-    Ok((generics, signature))
-}
-
-fn map_instance_head<P: Phase, Q: Phase, F: Turn<P, Q>>(
-    alloc: Global,
-    generics: Vec<Generic<P>>,
-    name: Ident<P>,
-    turn: &mut F,
-) -> Result<(Vec<Generic<Q>>, Ident<Q>), Memory>
-    ensures generics { IfOk result (λ new.
-        map (plain_constrained Q.name_bytes) (map (constrained Q.Phase) new.0.items)
-        ≡ map (plain_constrained P.name_bytes) (map (constrained P.Phase) generics.items)) }
-    ensures name { IfOk result (λ new.
-        plain_name Q.name_bytes (placed Q.Phase new.1)
-        ≡ plain_name P.name_bytes (placed P.Phase name)) }
+    ensures same { IfOk result (λ new. plain_declaration Q.name_bytes (declaration Q.Phase new) ≡ plain_declaration P.name_bytes (declaration P.Phase (Decl.InstanceBody at generics name of methods))) }
+    ensures notes { IfOk result (λ new. IsTrue (notes_of_declaration Q.allows_type Q.allows_call (declaration Q.Phase new))) }
 {
     let generics = map_generics(alloc, generics, turn)?;
     let name = map_ident(alloc, name, turn)?;
-    Ok((generics, name))
+    let methods = map_methods(alloc, methods, turn)?;
+    Ok(Decl::InstanceBody(at, generics, name, of, methods))
 }
 
 fn map_method<P: Phase, Q: Phase, F: Turn<P, Q>>(
@@ -362,11 +286,8 @@ fn map_method<P: Phase, Q: Phase, F: Turn<P, Q>>(
     method: Method<P>,
     turn: &mut F,
 ) -> Result<Method<Q>, Memory>
-    ensures same { IfOk result (λ new.
-        plain_method Q.name_bytes (method_body Q.Phase new)
-        ≡ plain_method P.name_bytes (method_body P.Phase method)) }
-    ensures notes { IfOk result (λ new.
-        IsTrue (notes_of_method Q.allows_type Q.allows_call (method_body Q.Phase new))) }
+    ensures same { IfOk result (λ new. plain_method Q.name_bytes (method_body Q.Phase new) ≡ plain_method P.name_bytes (method_body P.Phase method)) }
+    ensures notes { IfOk result (λ new. IsTrue (notes_of_method Q.allows_type Q.allows_call (method_body Q.Phase new))) }
 {
     let signature = map_signature(alloc, method.signature, turn)?;
     let body = map_block(alloc, method.body, turn)?;
@@ -382,12 +303,8 @@ fn map_methods<P: Phase, Q: Phase, F: Turn<P, Q>>(
     methods: Vec<Method<P>>,
     turn: &mut F,
 ) -> Result<Vec<Method<Q>>, Memory>
-    ensures same { IfOk result (λ new.
-        map (plain_method Q.name_bytes) (map (method_body Q.Phase) new.items)
-        ≡ map (plain_method P.name_bytes) (map (method_body P.Phase) methods.items)) }
-    ensures notes { IfOk result (λ new.
-        IsTrue (list_all (notes_of_method Q.allows_type Q.allows_call) (map
-        (method_body Q.Phase) new.items))) }
+    ensures same { IfOk result (λ new. map (plain_method Q.name_bytes) (map (method_body Q.Phase) new.items) ≡ map (plain_method P.name_bytes) (map (method_body P.Phase) methods.items)) }
+    ensures notes { IfOk result (λ new. IsTrue (list_all (notes_of_method Q.allows_type Q.allows_call) (map (method_body Q.Phase) new.items))) }
 {
     let mut made = Vec::new(alloc);
     for method in methods {

@@ -20,9 +20,7 @@ fn map_alias<P: Phase, Q: Phase, F: Turn<P, Q>>(
     alias: Option<Ident<P>>,
     turn: &mut F,
 ) -> Result<Option<Ident<Q>>, Memory>
-    ensures { IfOk result (λ new.
-        option_map (plain_name Q.name_bytes) (option_map (placed Q.Phase) new)
-        ≡ option_map (plain_name P.name_bytes) (option_map (placed P.Phase) alias)) }
+    ensures { IfOk result (λ new. option_map (plain_name Q.name_bytes) (option_map (placed Q.Phase) new) ≡ option_map (plain_name P.name_bytes) (option_map (placed P.Phase) alias)) }
 {
     match alias {
         Some(name) => Ok(Some(map_ident(alloc, name, turn)?)),
@@ -59,9 +57,7 @@ pub(crate) fn map_renaming<P: Phase, Q: Phase, F: Turn<P, Q>>(
     name: Renamed<P>,
     turn: &mut F,
 ) -> Result<Renamed<Q>, Memory>
-    ensures { IfOk result (λ new.
-        plain_renaming Q.name_bytes (renaming Q.Phase new)
-        ≡ plain_renaming P.name_bytes (renaming P.Phase name)) }
+    ensures { IfOk result (λ new. plain_renaming Q.name_bytes (renaming Q.Phase new) ≡ plain_renaming P.name_bytes (renaming P.Phase name)) }
 {
     Renamed::turned(alloc, name, turn)
 }
@@ -71,9 +67,7 @@ pub(crate) fn map_renamings<P: Phase, Q: Phase, F: Turn<P, Q>>(
     names: Vec<Renamed<P>>,
     turn: &mut F,
 ) -> Result<Vec<Renamed<Q>>, Memory>
-    ensures { IfOk result (λ new.
-        map (plain_renaming Q.name_bytes) (map (renaming Q.Phase) new.items)
-        ≡ map (plain_renaming P.name_bytes) (map (renaming P.Phase) names.items)) }
+    ensures { IfOk result (λ new. map (plain_renaming Q.name_bytes) (map (renaming Q.Phase) new.items) ≡ map (plain_renaming P.name_bytes) (map (renaming P.Phase) names.items)) }
 {
     map_parts(alloc, names, turn)
 }
@@ -106,9 +100,7 @@ pub(crate) fn map_fields<P: Phase, Q: Phase, F: Turn<P, Q>>(
     fields: Vec<Field<P>>,
     turn: &mut F,
 ) -> Result<Vec<Field<Q>>, Memory>
-    ensures { IfOk result (λ new.
-        map (plain_labelled Q.name_bytes) (map (labelled Q.Phase) new.items)
-        ≡ map (plain_labelled P.name_bytes) (map (labelled P.Phase) fields.items)) }
+    ensures { IfOk result (λ new. map (plain_labelled Q.name_bytes) (map (labelled Q.Phase) new.items) ≡ map (plain_labelled P.name_bytes) (map (labelled P.Phase) fields.items)) }
 {
     map_parts(alloc, fields, turn)
 }
@@ -141,9 +133,7 @@ pub(crate) fn map_binds<P: Phase, Q: Phase, F: Turn<P, Q>>(
     binds: Vec<Bind<P>>,
     turn: &mut F,
 ) -> Result<Vec<Bind<Q>>, Memory>
-    ensures { IfOk result (λ new.
-        map (plain_bound Q.name_bytes) (map (bound Q.Phase) new.items)
-        ≡ map (plain_bound P.name_bytes) (map (bound P.Phase) binds.items)) }
+    ensures { IfOk result (λ new. map (plain_bound Q.name_bytes) (map (bound Q.Phase) new.items) ≡ map (plain_bound P.name_bytes) (map (bound P.Phase) binds.items)) }
 {
     map_parts(alloc, binds, turn)
 }
@@ -183,9 +173,7 @@ pub(crate) fn map_type_parameter<P: Phase, Q: Phase, F: Turn<P, Q>>(
     parameter: TypeParameter<P>,
     turn: &mut F,
 ) -> Result<TypeParameter<Q>, Memory>
-    ensures { IfOk result (λ new.
-        plain_in_universe Q.name_bytes (in_universe Q.Phase new)
-        ≡ plain_in_universe P.name_bytes (in_universe P.Phase parameter)) }
+    ensures { IfOk result (λ new. plain_in_universe Q.name_bytes (in_universe Q.Phase new) ≡ plain_in_universe P.name_bytes (in_universe P.Phase parameter)) }
 {
     TypeParameter::turned(alloc, parameter, turn)
 }
@@ -195,9 +183,7 @@ pub(crate) fn map_type_parameters<P: Phase, Q: Phase, F: Turn<P, Q>>(
     parameters: Vec<TypeParameter<P>>,
     turn: &mut F,
 ) -> Result<Vec<TypeParameter<Q>>, Memory>
-    ensures { IfOk result (λ new.
-        map (plain_in_universe Q.name_bytes) (map (in_universe Q.Phase) new.items)
-        ≡ map (plain_in_universe P.name_bytes) (map (in_universe P.Phase) parameters.items)) }
+    ensures { IfOk result (λ new. map (plain_in_universe Q.name_bytes) (map (in_universe Q.Phase) new.items) ≡ map (plain_in_universe P.name_bytes) (map (in_universe P.Phase) parameters.items)) }
 {
     map_parts(alloc, parameters, turn)
 }
@@ -231,9 +217,7 @@ pub(crate) fn map_generics<P: Phase, Q: Phase, F: Turn<P, Q>>(
     generics: Vec<Generic<P>>,
     turn: &mut F,
 ) -> Result<Vec<Generic<Q>>, Memory>
-    ensures { IfOk result (λ new.
-        map (plain_constrained Q.name_bytes) (map (constrained Q.Phase) new.items)
-        ≡ map (plain_constrained P.name_bytes) (map (constrained P.Phase) generics.items)) }
+    ensures { IfOk result (λ new. map (plain_constrained Q.name_bytes) (map (constrained Q.Phase) new.items) ≡ map (plain_constrained P.name_bytes) (map (constrained P.Phase) generics.items)) }
 {
     map_parts(alloc, generics, turn)
 }
@@ -271,9 +255,7 @@ pub(crate) fn map_signature<P: Phase, Q: Phase, F: Turn<P, Q>>(
     signature: Signature<P>,
     turn: &mut F,
 ) -> Result<Signature<Q>, Memory>
-    ensures { IfOk result (λ new.
-        plain_header Q.name_bytes (header Q.Phase new)
-        ≡ plain_header P.name_bytes (header P.Phase signature)) }
+    ensures { IfOk result (λ new. plain_header Q.name_bytes (header Q.Phase new) ≡ plain_header P.name_bytes (header P.Phase signature)) }
 {
     Signature::turned(alloc, signature, turn)
 }
@@ -283,9 +265,7 @@ pub(crate) fn map_signatures<P: Phase, Q: Phase, F: Turn<P, Q>>(
     signatures: Vec<Signature<P>>,
     turn: &mut F,
 ) -> Result<Vec<Signature<Q>>, Memory>
-    ensures { IfOk result (λ new.
-        map (plain_header Q.name_bytes) (map (header Q.Phase) new.items)
-        ≡ map (plain_header P.name_bytes) (map (header P.Phase) signatures.items)) }
+    ensures { IfOk result (λ new. map (plain_header Q.name_bytes) (map (header Q.Phase) new.items) ≡ map (plain_header P.name_bytes) (map (header P.Phase) signatures.items)) }
 {
     map_parts(alloc, signatures, turn)
 }
@@ -319,9 +299,7 @@ pub(crate) fn map_cases<P: Phase, Q: Phase, F: Turn<P, Q>>(
     cases: Vec<UnionCase<P>>,
     turn: &mut F,
 ) -> Result<Vec<UnionCase<Q>>, Memory>
-    ensures { IfOk result (λ new.
-        map (plain_variant Q.name_bytes) (map (variant Q.Phase) new.items)
-        ≡ map (plain_variant P.name_bytes) (map (variant P.Phase) cases.items)) }
+    ensures { IfOk result (λ new. map (plain_variant Q.name_bytes) (map (variant Q.Phase) new.items) ≡ map (plain_variant P.name_bytes) (map (variant P.Phase) cases.items)) }
 {
     map_parts(alloc, cases, turn)
 }
@@ -359,9 +337,7 @@ pub(crate) fn map_imports<P: Phase, Q: Phase, F: Turn<P, Q>>(
     imports: Vec<Import<P>>,
     turn: &mut F,
 ) -> Result<Vec<Import<Q>>, Memory>
-    ensures { IfOk result (λ new.
-        map (plain_importing Q.name_bytes) (map (importing Q.Phase) new.items)
-        ≡ map (plain_importing P.name_bytes) (map (importing P.Phase) imports.items)) }
+    ensures { IfOk result (λ new. map (plain_importing Q.name_bytes) (map (importing Q.Phase) new.items) ≡ map (plain_importing P.name_bytes) (map (importing P.Phase) imports.items)) }
 {
     map_parts(alloc, imports, turn)
 }

@@ -2,8 +2,8 @@
 
 ghost use Rattle.std.specs.Prelude.{◌≡◌, List, [], ◌∷◌, IfOk, IsTrue, map, ◌&&◌};
 ghost use Rattle.std.specs.List.{list_all};
-ghost use Rattle.au_syntax.specs.Views.{placed, bound, expression, statement, block, branch_all, arm_all};
-ghost use Rattle.au_syntax.specs.Plain.{plain_name, plain_bound, plain_expression, plain_statement, plain_statements, plain_branches, plain_arms};
+ghost use Rattle.au_syntax.specs.Views.{expression, statement, block, branch_all, arm_all};
+ghost use Rattle.au_syntax.specs.Plain.{plain_statement, plain_statements, plain_branches, plain_arms};
 ghost use Rattle.au_syntax.specs.Notes.{notes_of_expression, notes_of_statement, notes_of_statements};
 
 use crate::expressions::map_boxed;
@@ -26,11 +26,8 @@ pub fn map_block<P: Phase, Q: Phase, F: Turn<P, Q>>(
     body: Block<P>,
     turn: &mut F,
 ) -> Result<Block<Q>, Memory>
-    ensures same { IfOk result (λ new.
-        plain_statements Q.name_bytes (block Q.Phase new)
-        ≡ plain_statements P.name_bytes (block P.Phase body)) }
-    ensures notes { IfOk result (λ new.
-        IsTrue (notes_of_statements Q.allows_type Q.allows_call (block Q.Phase new))) }
+    ensures same { IfOk result (λ new. plain_statements Q.name_bytes (block Q.Phase new) ≡ plain_statements P.name_bytes (block P.Phase body)) }
+    ensures notes { IfOk result (λ new. IsTrue (notes_of_statements Q.allows_type Q.allows_call (block Q.Phase new))) }
 {
     let mut made = Vec::new(alloc);
     for stmt in body.statements {
@@ -45,17 +42,15 @@ pub fn map_block<P: Phase, Q: Phase, F: Turn<P, Q>>(
 /// # Errors
 ///
 /// Only for want of memory.
+#[tactic(auto, using(au_syntax::proofs::StatementLemmas::statement_steps, std::proofs::lemmas::Grind::common_steps))]
 #[cycle(map_statement)]
 pub fn map_stmt<P: Phase, Q: Phase, F: Turn<P, Q>>(
     alloc: Global,
     stmt: Stmt<P>,
     turn: &mut F,
 ) -> Result<Stmt<Q>, Memory>
-    ensures same { IfOk result (λ new.
-        plain_statement Q.name_bytes (statement Q.Phase new)
-        ≡ plain_statement P.name_bytes (statement P.Phase stmt)) }
-    ensures notes { IfOk result (λ new.
-        IsTrue (notes_of_statement Q.allows_type Q.allows_call (statement Q.Phase new))) }
+    ensures same { IfOk result (λ new. plain_statement Q.name_bytes (statement Q.Phase new) ≡ plain_statement P.name_bytes (statement P.Phase stmt)) }
+    ensures notes { IfOk result (λ new. IsTrue (notes_of_statement Q.allows_type Q.allows_call (statement Q.Phase new))) }
 {
     match stmt {
         Stmt::Skip(at) => Ok(Stmt::Skip(at)),
@@ -89,12 +84,8 @@ fn map_branch<P: Phase, Q: Phase, F: Turn<P, Q>>(
     branch: Branch<P>,
     turn: &mut F,
 ) -> Result<Branch<Q>, Memory>
-    ensures same { IfOk result (λ new.
-        plain_branches Q.name_bytes (branch_all Q.Phase (new ∷ []))
-        ≡ plain_branches P.name_bytes (branch_all P.Phase (branch ∷ []))) }
-    ensures notes { IfOk result (λ new.
-        IsTrue (notes_of_expression Q.allows_type Q.allows_call (expression Q.Phase new.test.value)
-        && notes_of_statements Q.allows_type Q.allows_call (block Q.Phase new.block))) }
+    ensures same { IfOk result (λ new. plain_branches Q.name_bytes (branch_all Q.Phase (new ∷ [])) ≡ plain_branches P.name_bytes (branch_all P.Phase (branch ∷ []))) }
+    ensures notes { IfOk result (λ new. IsTrue (notes_of_expression Q.allows_type Q.allows_call (expression Q.Phase new.test.value) && notes_of_statements Q.allows_type Q.allows_call (block Q.Phase new.block))) }
 {
     let test = map_boxed(alloc, branch.test, turn)?;
     let block = map_block(alloc, branch.block, turn)?;
@@ -107,13 +98,8 @@ fn map_branches<P: Phase, Q: Phase, F: Turn<P, Q>>(
     branches: Vec<Branch<P>>,
     turn: &mut F,
 ) -> Result<Vec<Branch<Q>>, Memory>
-    ensures same { IfOk result (λ new.
-        map (λ b. plain_branches Q.name_bytes (branch_all Q.Phase (b ∷ []))) new.items
-        ≡ map (λ b. plain_branches P.name_bytes (branch_all P.Phase (b ∷ []))) branches.items) }
-    ensures notes { IfOk result (λ new.
-        IsTrue (list_all (λ b. notes_of_expression Q.allows_type Q.allows_call
-        (expression Q.Phase b.test.value)
-        && notes_of_statements Q.allows_type Q.allows_call (block Q.Phase b.block)) new.items)) }
+    ensures same { IfOk result (λ new. map (λ b. plain_branches Q.name_bytes (branch_all Q.Phase (b ∷ []))) new.items ≡ map (λ b. plain_branches P.name_bytes (branch_all P.Phase (b ∷ []))) branches.items) }
+    ensures notes { IfOk result (λ new. IsTrue (list_all (λ b. notes_of_expression Q.allows_type Q.allows_call (expression Q.Phase b.test.value) && notes_of_statements Q.allows_type Q.allows_call (block Q.Phase b.block)) new.items)) }
 {
     let mut made = Vec::new(alloc);
     for branch in branches {
@@ -129,13 +115,11 @@ fn map_arm<P: Phase, Q: Phase, F: Turn<P, Q>>(
     arm: Arm<P>,
     turn: &mut F,
 ) -> Result<Arm<Q>, Memory>
-    ensures same { IfOk result (λ new.
-        plain_arms Q.name_bytes (arm_all Q.Phase (new ∷ []))
-        ≡ plain_arms P.name_bytes (arm_all P.Phase (arm ∷ []))) }
-    ensures notes { IfOk result (λ new.
-        IsTrue (notes_of_statements Q.allows_type Q.allows_call (block Q.Phase new.block))) }
+    ensures same { IfOk result (λ new. plain_arms Q.name_bytes (arm_all Q.Phase (new ∷ [])) ≡ plain_arms P.name_bytes (arm_all P.Phase (arm ∷ []))) }
+    ensures notes { IfOk result (λ new. IsTrue (notes_of_statements Q.allows_type Q.allows_call (block Q.Phase new.block))) }
 {
-    let (case, binds) = map_case_head(alloc, arm.case, arm.binds, turn)?;
+    let case = map_ident(alloc, arm.case, turn)?;
+    let binds = map_binds(alloc, arm.binds, turn)?;
     let block = map_block(alloc, arm.block, turn)?;
     Ok(Arm {
         at: arm.at,
@@ -151,12 +135,8 @@ fn map_arms<P: Phase, Q: Phase, F: Turn<P, Q>>(
     arms: Vec<Arm<P>>,
     turn: &mut F,
 ) -> Result<Vec<Arm<Q>>, Memory>
-    ensures same { IfOk result (λ new.
-        map (λ a. plain_arms Q.name_bytes (arm_all Q.Phase (a ∷ []))) new.items
-        ≡ map (λ a. plain_arms P.name_bytes (arm_all P.Phase (a ∷ []))) arms.items) }
-    ensures notes { IfOk result (λ new.
-        IsTrue (list_all (λ a. notes_of_statements Q.allows_type Q.allows_call
-        (block Q.Phase a.block)) new.items)) }
+    ensures same { IfOk result (λ new. map (λ a. plain_arms Q.name_bytes (arm_all Q.Phase (a ∷ []))) new.items ≡ map (λ a. plain_arms P.name_bytes (arm_all P.Phase (a ∷ []))) arms.items) }
+    ensures notes { IfOk result (λ new. IsTrue (list_all (λ a. notes_of_statements Q.allows_type Q.allows_call (block Q.Phase a.block)) new.items)) }
 {
     let mut made = Vec::new(alloc);
     for arm in arms {
@@ -166,92 +146,7 @@ fn map_arms<P: Phase, Q: Phase, F: Turn<P, Q>>(
     Ok(made)
 }
 
-fn map_range<P: Phase, Q: Phase, F: Turn<P, Q>>(
-    alloc: Global,
-    name: Ident<P>,
-    first: Box<Expr<P>>,
-    last: Box<Expr<P>>,
-    turn: &mut F,
-) -> Result<(Ident<Q>, Box<Expr<Q>>, Box<Expr<Q>>), Memory>
-    ensures name { IfOk result (λ new.
-        plain_name Q.name_bytes (placed Q.Phase new.0)
-        ≡ plain_name P.name_bytes (placed P.Phase name)) }
-    ensures first { IfOk result (λ new.
-        plain_expression Q.name_bytes (expression Q.Phase new.1.value)
-        ≡ plain_expression P.name_bytes (expression P.Phase first.value)) }
-    ensures first_notes { IfOk result (λ new.
-        IsTrue (notes_of_expression Q.allows_type Q.allows_call (expression Q.Phase new.1.value))) }
-    ensures last { IfOk result (λ new.
-        plain_expression Q.name_bytes (expression Q.Phase new.2.value)
-        ≡ plain_expression P.name_bytes (expression P.Phase last.value)) }
-    ensures last_notes { IfOk result (λ new.
-        IsTrue (notes_of_expression Q.allows_type Q.allows_call (expression Q.Phase new.2.value))) }
-{
-    let name = map_ident(alloc, name, turn)?;
-    let first = map_boxed(alloc, first, turn)?;
-    let last = map_boxed(alloc, last, turn)?;
-    Ok((name, first, last))
-}
-
-fn map_names<P: Phase, Q: Phase, F: Turn<P, Q>>(
-    alloc: Global,
-    variable: Ident<P>,
-    name: Ident<P>,
-    region: Ident<P>,
-    turn: &mut F,
-) -> Result<(Ident<Q>, Ident<Q>, Ident<Q>), Memory>
-    ensures variable { IfOk result (λ new.
-        plain_name Q.name_bytes (placed Q.Phase new.0)
-        ≡ plain_name P.name_bytes (placed P.Phase variable)) }
-    ensures name { IfOk result (λ new.
-        plain_name Q.name_bytes (placed Q.Phase new.1)
-        ≡ plain_name P.name_bytes (placed P.Phase name)) }
-    ensures region { IfOk result (λ new.
-        plain_name Q.name_bytes (placed Q.Phase new.2)
-        ≡ plain_name P.name_bytes (placed P.Phase region)) }
-{
-    let variable = map_ident(alloc, variable, turn)?;
-    let name = map_ident(alloc, name, turn)?;
-    let region = map_ident(alloc, region, turn)?;
-    Ok((variable, name, region))
-}
-
-fn map_two_names<P: Phase, Q: Phase, F: Turn<P, Q>>(
-    alloc: Global,
-    name: Ident<P>,
-    variable: Ident<P>,
-    turn: &mut F,
-) -> Result<(Ident<Q>, Ident<Q>), Memory>
-    ensures name { IfOk result (λ new.
-        plain_name Q.name_bytes (placed Q.Phase new.0)
-        ≡ plain_name P.name_bytes (placed P.Phase name)) }
-    ensures variable { IfOk result (λ new.
-        plain_name Q.name_bytes (placed Q.Phase new.1)
-        ≡ plain_name P.name_bytes (placed P.Phase variable)) }
-{
-    let name = map_ident(alloc, name, turn)?;
-    let variable = map_ident(alloc, variable, turn)?;
-    Ok((name, variable))
-}
-
-fn map_case_head<P: Phase, Q: Phase, F: Turn<P, Q>>(
-    alloc: Global,
-    case: Ident<P>,
-    binds: Vec<Bind<P>>,
-    turn: &mut F,
-) -> Result<(Ident<Q>, Vec<Bind<Q>>), Memory>
-    ensures case { IfOk result (λ new.
-        plain_name Q.name_bytes (placed Q.Phase new.0)
-        ≡ plain_name P.name_bytes (placed P.Phase case)) }
-    ensures binds { IfOk result (λ new.
-        map (plain_bound Q.name_bytes) (map (bound Q.Phase) new.1.items)
-        ≡ map (plain_bound P.name_bytes) (map (bound P.Phase) binds.items)) }
-{
-    let case = map_ident(alloc, case, turn)?;
-    let binds = map_binds(alloc, binds, turn)?;
-    Ok((case, binds))
-}
-
+#[tactic(auto, using(au_syntax::proofs::StatementLemmas::statement_steps, std::proofs::lemmas::Grind::common_steps))]
 fn map_let<P: Phase, Q: Phase, F: Turn<P, Q>>(
     alloc: Global,
     at: Pos,
@@ -261,17 +156,15 @@ fn map_let<P: Phase, Q: Phase, F: Turn<P, Q>>(
     value: Box<Expr<P>>,
     turn: &mut F,
 ) -> Result<Stmt<Q>, Memory>
-    ensures same { IfOk result (λ new.
-        plain_statement Q.name_bytes (statement Q.Phase new)
-        ≡ plain_statement P.name_bytes (statement P.Phase (Stmt.Let at binding name of value))) }
-    ensures notes { IfOk result (λ new.
-        IsTrue (notes_of_statement Q.allows_type Q.allows_call (statement Q.Phase new))) }
+    ensures same { IfOk result (λ new. plain_statement Q.name_bytes (statement Q.Phase new) ≡ plain_statement P.name_bytes (statement P.Phase (Stmt.Let at binding name of value))) }
+    ensures notes { IfOk result (λ new. IsTrue (notes_of_statement Q.allows_type Q.allows_call (statement Q.Phase new))) }
 {
     let name = map_ident(alloc, name, turn)?;
     let value = map_boxed(alloc, value, turn)?;
     Ok(Stmt::Let(at, binding, name, of, value))
 }
 
+#[tactic(auto, using(au_syntax::proofs::StatementLemmas::statement_steps, std::proofs::lemmas::Grind::common_steps))]
 fn map_destructure<P: Phase, Q: Phase, F: Turn<P, Q>>(
     alloc: Global,
     at: Pos,
@@ -279,17 +172,15 @@ fn map_destructure<P: Phase, Q: Phase, F: Turn<P, Q>>(
     value: Box<Expr<P>>,
     turn: &mut F,
 ) -> Result<Stmt<Q>, Memory>
-    ensures same { IfOk result (λ new.
-        plain_statement Q.name_bytes (statement Q.Phase new)
-        ≡ plain_statement P.name_bytes (statement P.Phase (Stmt.Destructure at binds value))) }
-    ensures notes { IfOk result (λ new.
-        IsTrue (notes_of_statement Q.allows_type Q.allows_call (statement Q.Phase new))) }
+    ensures same { IfOk result (λ new. plain_statement Q.name_bytes (statement Q.Phase new) ≡ plain_statement P.name_bytes (statement P.Phase (Stmt.Destructure at binds value))) }
+    ensures notes { IfOk result (λ new. IsTrue (notes_of_statement Q.allows_type Q.allows_call (statement Q.Phase new))) }
 {
     let binds = map_binds(alloc, binds, turn)?;
     let value = map_boxed(alloc, value, turn)?;
     Ok(Stmt::Destructure(at, binds, value))
 }
 
+#[tactic(auto, using(au_syntax::proofs::StatementLemmas::statement_steps, std::proofs::lemmas::Grind::common_steps))]
 fn map_assign<P: Phase, Q: Phase, F: Turn<P, Q>>(
     alloc: Global,
     at: Pos,
@@ -298,11 +189,8 @@ fn map_assign<P: Phase, Q: Phase, F: Turn<P, Q>>(
     value: Box<Expr<P>>,
     turn: &mut F,
 ) -> Result<Stmt<Q>, Memory>
-    ensures same { IfOk result (λ new.
-        plain_statement Q.name_bytes (statement Q.Phase new)
-        ≡ plain_statement P.name_bytes (statement P.Phase (Stmt.Assign at name fields value))) }
-    ensures notes { IfOk result (λ new.
-        IsTrue (notes_of_statement Q.allows_type Q.allows_call (statement Q.Phase new))) }
+    ensures same { IfOk result (λ new. plain_statement Q.name_bytes (statement Q.Phase new) ≡ plain_statement P.name_bytes (statement P.Phase (Stmt.Assign at name fields value))) }
+    ensures notes { IfOk result (λ new. IsTrue (notes_of_statement Q.allows_type Q.allows_call (statement Q.Phase new))) }
 {
     let name = map_ident(alloc, name, turn)?;
     let fields = map_idents(alloc, fields, turn)?;
@@ -310,6 +198,7 @@ fn map_assign<P: Phase, Q: Phase, F: Turn<P, Q>>(
     Ok(Stmt::Assign(at, name, fields, value))
 }
 
+#[tactic(auto, using(au_syntax::proofs::StatementLemmas::statement_steps, std::proofs::lemmas::Grind::common_steps))]
 fn map_assign_through<P: Phase, Q: Phase, F: Turn<P, Q>>(
     alloc: Global,
     at: Pos,
@@ -318,11 +207,8 @@ fn map_assign_through<P: Phase, Q: Phase, F: Turn<P, Q>>(
     value: Box<Expr<P>>,
     turn: &mut F,
 ) -> Result<Stmt<Q>, Memory>
-    ensures same { IfOk result (λ new.
-        plain_statement Q.name_bytes (statement Q.Phase new)
-        ≡ plain_statement P.name_bytes (statement P.Phase (Stmt.AssignThrough at name fields value))) }
-    ensures notes { IfOk result (λ new.
-        IsTrue (notes_of_statement Q.allows_type Q.allows_call (statement Q.Phase new))) }
+    ensures same { IfOk result (λ new. plain_statement Q.name_bytes (statement Q.Phase new) ≡ plain_statement P.name_bytes (statement P.Phase (Stmt.AssignThrough at name fields value))) }
+    ensures notes { IfOk result (λ new. IsTrue (notes_of_statement Q.allows_type Q.allows_call (statement Q.Phase new))) }
 {
     let name = map_ident(alloc, name, turn)?;
     let fields = map_idents(alloc, fields, turn)?;
@@ -337,11 +223,8 @@ fn map_if<P: Phase, Q: Phase, F: Turn<P, Q>>(
     branches: Vec<Branch<P>>,
     turn: &mut F,
 ) -> Result<Stmt<Q>, Memory>
-    ensures same { IfOk result (λ new.
-        plain_statement Q.name_bytes (statement Q.Phase new)
-        ≡ plain_statement P.name_bytes (statement P.Phase (Stmt.If at branches))) }
-    ensures notes { IfOk result (λ new.
-        IsTrue (notes_of_statement Q.allows_type Q.allows_call (statement Q.Phase new))) }
+    ensures same { IfOk result (λ new. plain_statement Q.name_bytes (statement Q.Phase new) ≡ plain_statement P.name_bytes (statement P.Phase (Stmt.If at branches))) }
+    ensures notes { IfOk result (λ new. IsTrue (notes_of_statement Q.allows_type Q.allows_call (statement Q.Phase new))) }
 {
     let branches = map_branches(alloc, branches, turn)?;
     Ok(Stmt::If(at, branches))
@@ -355,11 +238,8 @@ fn map_if_else<P: Phase, Q: Phase, F: Turn<P, Q>>(
     last: Block<P>,
     turn: &mut F,
 ) -> Result<Stmt<Q>, Memory>
-    ensures same { IfOk result (λ new.
-        plain_statement Q.name_bytes (statement Q.Phase new)
-        ≡ plain_statement P.name_bytes (statement P.Phase (Stmt.IfElse at branches last))) }
-    ensures notes { IfOk result (λ new.
-        IsTrue (notes_of_statement Q.allows_type Q.allows_call (statement Q.Phase new))) }
+    ensures same { IfOk result (λ new. plain_statement Q.name_bytes (statement Q.Phase new) ≡ plain_statement P.name_bytes (statement P.Phase (Stmt.IfElse at branches last))) }
+    ensures notes { IfOk result (λ new. IsTrue (notes_of_statement Q.allows_type Q.allows_call (statement Q.Phase new))) }
 {
     let branches = map_branches(alloc, branches, turn)?;
     let last = map_block(alloc, last, turn)?;
@@ -374,11 +254,8 @@ fn map_case<P: Phase, Q: Phase, F: Turn<P, Q>>(
     arms: Vec<Arm<P>>,
     turn: &mut F,
 ) -> Result<Stmt<Q>, Memory>
-    ensures same { IfOk result (λ new.
-        plain_statement Q.name_bytes (statement Q.Phase new)
-        ≡ plain_statement P.name_bytes (statement P.Phase (Stmt.Case at value arms))) }
-    ensures notes { IfOk result (λ new.
-        IsTrue (notes_of_statement Q.allows_type Q.allows_call (statement Q.Phase new))) }
+    ensures same { IfOk result (λ new. plain_statement Q.name_bytes (statement Q.Phase new) ≡ plain_statement P.name_bytes (statement P.Phase (Stmt.Case at value arms))) }
+    ensures notes { IfOk result (λ new. IsTrue (notes_of_statement Q.allows_type Q.allows_call (statement Q.Phase new))) }
 {
     let value = map_boxed(alloc, value, turn)?;
     let arms = map_arms(alloc, arms, turn)?;
@@ -393,11 +270,8 @@ fn map_while<P: Phase, Q: Phase, F: Turn<P, Q>>(
     body: Block<P>,
     turn: &mut F,
 ) -> Result<Stmt<Q>, Memory>
-    ensures same { IfOk result (λ new.
-        plain_statement Q.name_bytes (statement Q.Phase new)
-        ≡ plain_statement P.name_bytes (statement P.Phase (Stmt.While at test body))) }
-    ensures notes { IfOk result (λ new.
-        IsTrue (notes_of_statement Q.allows_type Q.allows_call (statement Q.Phase new))) }
+    ensures same { IfOk result (λ new. plain_statement Q.name_bytes (statement Q.Phase new) ≡ plain_statement P.name_bytes (statement P.Phase (Stmt.While at test body))) }
+    ensures notes { IfOk result (λ new. IsTrue (notes_of_statement Q.allows_type Q.allows_call (statement Q.Phase new))) }
 {
     let test = map_boxed(alloc, test, turn)?;
     let body = map_block(alloc, body, turn)?;
@@ -414,13 +288,12 @@ fn map_for<P: Phase, Q: Phase, F: Turn<P, Q>>(
     body: Block<P>,
     turn: &mut F,
 ) -> Result<Stmt<Q>, Memory>
-    ensures same { IfOk result (λ new.
-        plain_statement Q.name_bytes (statement Q.Phase new)
-        ≡ plain_statement P.name_bytes (statement P.Phase (Stmt.For at name first last body))) }
-    ensures notes { IfOk result (λ new.
-        IsTrue (notes_of_statement Q.allows_type Q.allows_call (statement Q.Phase new))) }
+    ensures same { IfOk result (λ new. plain_statement Q.name_bytes (statement Q.Phase new) ≡ plain_statement P.name_bytes (statement P.Phase (Stmt.For at name first last body))) }
+    ensures notes { IfOk result (λ new. IsTrue (notes_of_statement Q.allows_type Q.allows_call (statement Q.Phase new))) }
 {
-    let (name, first, last) = map_range(alloc, name, first, last, turn)?;
+    let name = map_ident(alloc, name, turn)?;
+    let first = map_boxed(alloc, first, turn)?;
+    let last = map_boxed(alloc, last, turn)?;
     let body = map_block(alloc, body, turn)?;
     Ok(Stmt::For(at, name, first, last, body))
 }
@@ -437,14 +310,12 @@ fn map_borrow<P: Phase, Q: Phase, F: Turn<P, Q>>(
     end: Pos,
     turn: &mut F,
 ) -> Result<Stmt<Q>, Memory>
-    ensures same { IfOk result (λ new.
-        plain_statement Q.name_bytes (statement Q.Phase new)
-        ≡ plain_statement P.name_bytes (statement P.Phase
-        (Stmt.Borrow at access variable name region body end))) }
-    ensures notes { IfOk result (λ new.
-        IsTrue (notes_of_statement Q.allows_type Q.allows_call (statement Q.Phase new))) }
+    ensures same { IfOk result (λ new. plain_statement Q.name_bytes (statement Q.Phase new) ≡ plain_statement P.name_bytes (statement P.Phase (Stmt.Borrow at access variable name region body end))) }
+    ensures notes { IfOk result (λ new. IsTrue (notes_of_statement Q.allows_type Q.allows_call (statement Q.Phase new))) }
 {
-    let (variable, name, region) = map_names(alloc, variable, name, region, turn)?;
+    let variable = map_ident(alloc, variable, turn)?;
+    let name = map_ident(alloc, name, turn)?;
+    let region = map_ident(alloc, region, turn)?;
     let body = map_block(alloc, body, turn)?;
     Ok(Stmt::Borrow(at, access, variable, name, region, body, end))
 }
@@ -461,14 +332,11 @@ fn map_borrow_typed<P: Phase, Q: Phase, F: Turn<P, Q>>(
     end: Pos,
     turn: &mut F,
 ) -> Result<Stmt<Q>, Memory>
-    ensures same { IfOk result (λ new.
-        plain_statement Q.name_bytes (statement Q.Phase new)
-        ≡ plain_statement P.name_bytes (statement P.Phase
-        (Stmt.BorrowTyped at name of mode variable body end))) }
-    ensures notes { IfOk result (λ new.
-        IsTrue (notes_of_statement Q.allows_type Q.allows_call (statement Q.Phase new))) }
+    ensures same { IfOk result (λ new. plain_statement Q.name_bytes (statement Q.Phase new) ≡ plain_statement P.name_bytes (statement P.Phase (Stmt.BorrowTyped at name of mode variable body end))) }
+    ensures notes { IfOk result (λ new. IsTrue (notes_of_statement Q.allows_type Q.allows_call (statement Q.Phase new))) }
 {
-    let (name, variable) = map_two_names(alloc, name, variable, turn)?;
+    let name = map_ident(alloc, name, turn)?;
+    let variable = map_ident(alloc, variable, turn)?;
     let body = map_block(alloc, body, turn)?;
     Ok(Stmt::BorrowTyped(at, name, of, mode, variable, body, end))
 }

@@ -52,9 +52,7 @@ pub(crate) fn map_parts<Q: Phase, F, I: Part<Q, F>>(
     parts: Vec<I>,
     turn: &mut F,
 ) -> Result<Vec<I::New>, Memory>
-    ensures { IfOk result (λ made.
-        map I.plain_new (map I.see_new made.items)
-        ≡ map I.plain_old (map I.see_old parts.items)) }
+    ensures { IfOk result (λ made. map I.plain_new (map I.see_new made.items) ≡ map I.plain_old (map I.see_old parts.items)) }
 {
     let mut made = Vec::new(alloc);
     for part in parts {
@@ -92,9 +90,7 @@ pub(crate) fn map_ident<P: Phase, Q: Phase, F: Turn<P, Q>>(
     ident: Ident<P>,
     turn: &mut F,
 ) -> Result<Ident<Q>, Memory>
-    ensures { IfOk result (λ new.
-        plain_name Q.name_bytes (placed Q.Phase new)
-        ≡ plain_name P.name_bytes (placed P.Phase ident)) }
+    ensures { IfOk result (λ new. plain_name Q.name_bytes (placed Q.Phase new) ≡ plain_name P.name_bytes (placed P.Phase ident)) }
 {
     Ident::turned(alloc, ident, turn)
 }
@@ -104,9 +100,7 @@ pub(crate) fn map_idents<P: Phase, Q: Phase, F: Turn<P, Q>>(
     idents: Vec<Ident<P>>,
     turn: &mut F,
 ) -> Result<Vec<Ident<Q>>, Memory>
-    ensures { IfOk result (λ new.
-        map (plain_name Q.name_bytes) (map (placed Q.Phase) new.items)
-        ≡ map (plain_name P.name_bytes) (map (placed P.Phase) idents.items)) }
+    ensures { IfOk result (λ new. map (plain_name Q.name_bytes) (map (placed Q.Phase) new.items) ≡ map (plain_name P.name_bytes) (map (placed P.Phase) idents.items)) }
 {
     map_parts(alloc, idents, turn)
 }

@@ -3,29 +3,28 @@ use Rattle.std.specs.Vec.Iter.{into_iter_items}
 use Rattle.au_syntax.specs.Views.{expression, argument_all}
 use Rattle.au_syntax.specs.Plain.{plain_expression, plain_arguments}
 use Rattle.au_syntax.specs.Notes.{notes_of_expression}
-use Rattle.au_syntax.proofs.ExpressionLemmas.{binary_says, if_says, number_says, negative_says, text_says, bool_says, nil_says, parenthesized_says, dereference_says, not_says, typed_says}
 use Rattle.au_mapping.proofs.TreeLemmas.{call_same, named_call_same, call_notes, named_call_notes, size_call, size_named_call, size, sizes, argument_sizes, mapped_once, mapped_more, all_once, all_mapped, noted_once, noted_more, less_left}
 use Rattle.au_mapping.proofs.expressions.+map_expression.Goals as goal
 
 pub map_call-returns-clause-same : goal.map_call-returns-clause-same
 map_call-returns-clause-same g t c =
-    call_same g.Q.Phase g.P.Phase g.Q.Phase.name_bytes g.P.Phase.name_bytes c.in_ok-site.site c.in_ok-site.name c.in_ok-arguments.arguments c.in_ok-note.note c.args.site c.args.name c.args.arguments c.args.note
-    c.in_ok-site.ensures.place c.in_ok-site.ensures.name c.in_ok-arguments.ensures.same
+    call_same g.Q.Phase g.P.Phase g.Q.Phase.name_bytes g.P.Phase.name_bytes c.in_ok-site.site c.in_ok-name.name c.in_ok-arguments.arguments c.in_ok-note.note c.args.site c.args.name c.args.arguments c.args.note
+    c.in_ok-site.ensures.same c.in_ok-name.ensures c.in_ok-arguments.ensures.same
 
 pub map_call-returns-clause-notes : goal.map_call-returns-clause-notes
 map_call-returns-clause-notes g t c =
-    call_notes g.Q.Phase g.Q.Phase.allows_type g.Q.Phase.allows_call c.in_ok-site.site c.in_ok-site.name c.in_ok-arguments.arguments c.in_ok-note.note
-    c.in_ok-site.ensures.note c.in_ok-note.ensures c.in_ok-arguments.ensures.notes
+    call_notes g.Q.Phase g.Q.Phase.allows_type g.Q.Phase.allows_call c.in_ok-site.site c.in_ok-name.name c.in_ok-arguments.arguments c.in_ok-note.note
+    c.in_ok-site.ensures.notes c.in_ok-note.ensures c.in_ok-arguments.ensures.notes
 
 pub map_named_call-returns-clause-same : goal.map_named_call-returns-clause-same
 map_named_call-returns-clause-same g t c =
-    named_call_same g.Q.Phase g.P.Phase g.Q.Phase.name_bytes g.P.Phase.name_bytes c.in_ok-site.site c.in_ok-site.name c.in_ok-arguments.arguments c.in_ok-note.note c.args.site c.args.name c.args.arguments c.args.note
-    c.in_ok-site.ensures.place c.in_ok-site.ensures.name c.in_ok-arguments.ensures.same
+    named_call_same g.Q.Phase g.P.Phase g.Q.Phase.name_bytes g.P.Phase.name_bytes c.in_ok-site.site c.in_ok-name.name c.in_ok-arguments.arguments c.in_ok-note.note c.args.site c.args.name c.args.arguments c.args.note
+    c.in_ok-site.ensures.same c.in_ok-name.ensures c.in_ok-arguments.ensures.same
 
 pub map_named_call-returns-clause-notes : goal.map_named_call-returns-clause-notes
 map_named_call-returns-clause-notes g t c =
-    named_call_notes g.Q.Phase g.Q.Phase.allows_type g.Q.Phase.allows_call c.in_ok-site.site c.in_ok-site.name c.in_ok-arguments.arguments c.in_ok-note.note
-    c.in_ok-site.ensures.note c.in_ok-note.ensures c.in_ok-arguments.ensures.notes
+    named_call_notes g.Q.Phase g.Q.Phase.allows_type g.Q.Phase.allows_call c.in_ok-site.site c.in_ok-name.name c.in_ok-arguments.arguments c.in_ok-note.note
+    c.in_ok-site.ensures.notes c.in_ok-note.ensures c.in_ok-arguments.ensures.notes
 
 pub map_expr-returns-in-Call-clause-same : goal.map_expr-returns-in-Call-clause-same
 map_expr-returns-in-Call-clause-same g t c = rw c.in-Call.is c.map_call.ensures.same
@@ -68,69 +67,3 @@ map_arguments-loop-argument-preserved g t c =
 pub map_arguments-returns-clause-same : goal.map_arguments-returns-clause-same
 map_arguments-returns-clause-same g t c =
     all_once (λ a. plain_arguments g.P.Phase.name_bytes (argument_all g.P.Phase (a ∷ []))) (map (λ a. plain_arguments g.Q.Phase.name_bytes (argument_all g.Q.Phase (a ∷ []))) c.loop-argument.made.items) (into_iter_items c.loop-argument.argument-iterator) (map (λ a. plain_arguments g.P.Phase.name_bytes (argument_all g.P.Phase (a ∷ []))) c.args.arguments.items) (sym c.loop-argument.argument-iterator.rest.ok.0 ∙ c.in-None.ensures.steps.0) c.loop-argument.invariant.same
-
-pub map_binary-returns-clause-same : goal.map_binary-returns-clause-same
-map_binary-returns-clause-same g t c = grind (arith, binary_says)
-
-pub map_binary-returns-clause-notes : goal.map_binary-returns-clause-notes
-map_binary-returns-clause-notes g t c = grind (arith, binary_says)
-
-pub map_choice-returns-clause-same : goal.map_choice-returns-clause-same
-map_choice-returns-clause-same g t c = grind (arith, if_says)
-
-pub map_choice-returns-clause-notes : goal.map_choice-returns-clause-notes
-map_choice-returns-clause-notes g t c = grind (arith, if_says)
-
-pub map_expr-returns-in_ok-map_site-in-Number-clause-same : goal.map_expr-returns-in_ok-map_site-in-Number-clause-same
-map_expr-returns-in_ok-map_site-in-Number-clause-same g t c = grind (arith, number_says)
-
-pub map_expr-returns-in_ok-map_site-in-Number-clause-notes : goal.map_expr-returns-in_ok-map_site-in-Number-clause-notes
-map_expr-returns-in_ok-map_site-in-Number-clause-notes g t c = grind (arith, number_says)
-
-pub map_expr-returns-in_ok-map_site-in-Negative-clause-same : goal.map_expr-returns-in_ok-map_site-in-Negative-clause-same
-map_expr-returns-in_ok-map_site-in-Negative-clause-same g t c = grind (arith, negative_says)
-
-pub map_expr-returns-in_ok-map_site-in-Negative-clause-notes : goal.map_expr-returns-in_ok-map_site-in-Negative-clause-notes
-map_expr-returns-in_ok-map_site-in-Negative-clause-notes g t c = grind (arith, negative_says)
-
-pub map_expr-returns-in_ok-map_site-in-Text-clause-same : goal.map_expr-returns-in_ok-map_site-in-Text-clause-same
-map_expr-returns-in_ok-map_site-in-Text-clause-same g t c = grind (arith, text_says)
-
-pub map_expr-returns-in_ok-map_site-in-Text-clause-notes : goal.map_expr-returns-in_ok-map_site-in-Text-clause-notes
-map_expr-returns-in_ok-map_site-in-Text-clause-notes g t c = grind (arith, text_says)
-
-pub map_expr-returns-in_ok-map_site-in-Bool-clause-same : goal.map_expr-returns-in_ok-map_site-in-Bool-clause-same
-map_expr-returns-in_ok-map_site-in-Bool-clause-same g t c = grind (arith, bool_says)
-
-pub map_expr-returns-in_ok-map_site-in-Bool-clause-notes : goal.map_expr-returns-in_ok-map_site-in-Bool-clause-notes
-map_expr-returns-in_ok-map_site-in-Bool-clause-notes g t c = grind (arith, bool_says)
-
-pub map_expr-returns-in_ok-map_site-in-Nil-clause-same : goal.map_expr-returns-in_ok-map_site-in-Nil-clause-same
-map_expr-returns-in_ok-map_site-in-Nil-clause-same g t c = grind (arith, nil_says)
-
-pub map_expr-returns-in_ok-map_site-in-Nil-clause-notes : goal.map_expr-returns-in_ok-map_site-in-Nil-clause-notes
-map_expr-returns-in_ok-map_site-in-Nil-clause-notes g t c = grind (arith, nil_says)
-
-pub map_expr-returns-in_ok-site-in-Parenthesized-clause-same : goal.map_expr-returns-in_ok-site-in-Parenthesized-clause-same
-map_expr-returns-in_ok-site-in-Parenthesized-clause-same g t c = grind (arith, parenthesized_says)
-
-pub map_expr-returns-in_ok-site-in-Parenthesized-clause-notes : goal.map_expr-returns-in_ok-site-in-Parenthesized-clause-notes
-map_expr-returns-in_ok-site-in-Parenthesized-clause-notes g t c = grind (arith, parenthesized_says)
-
-pub map_expr-returns-in_ok-site-in-Dereference-clause-same : goal.map_expr-returns-in_ok-site-in-Dereference-clause-same
-map_expr-returns-in_ok-site-in-Dereference-clause-same g t c = grind (arith, dereference_says)
-
-pub map_expr-returns-in_ok-site-in-Dereference-clause-notes : goal.map_expr-returns-in_ok-site-in-Dereference-clause-notes
-map_expr-returns-in_ok-site-in-Dereference-clause-notes g t c = grind (arith, dereference_says)
-
-pub map_expr-returns-in_ok-site-in-Not-clause-same : goal.map_expr-returns-in_ok-site-in-Not-clause-same
-map_expr-returns-in_ok-site-in-Not-clause-same g t c = grind (arith, not_says)
-
-pub map_expr-returns-in_ok-site-in-Not-clause-notes : goal.map_expr-returns-in_ok-site-in-Not-clause-notes
-map_expr-returns-in_ok-site-in-Not-clause-notes g t c = grind (arith, not_says)
-
-pub map_expr-returns-in_ok-site-in-Typed-clause-same : goal.map_expr-returns-in_ok-site-in-Typed-clause-same
-map_expr-returns-in_ok-site-in-Typed-clause-same g t c = grind (arith, typed_says)
-
-pub map_expr-returns-in_ok-site-in-Typed-clause-notes : goal.map_expr-returns-in_ok-site-in-Typed-clause-notes
-map_expr-returns-in_ok-site-in-Typed-clause-notes g t c = grind (arith, typed_says)

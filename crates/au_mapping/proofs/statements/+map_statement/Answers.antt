@@ -4,7 +4,6 @@ use Rattle.std.proofs.lemmas.Bool.{and_from}
 use Rattle.au_syntax.specs.Views.{expression, statement, block, branch_all, arm_all}
 use Rattle.au_syntax.specs.Plain.{plain_statement, plain_branches, plain_arms}
 use Rattle.au_syntax.specs.Notes.{notes_of_expression, notes_of_statement, notes_of_statements}
-use Rattle.au_syntax.proofs.StatementLemmas.{skip_says, call_says, return_says}
 use Rattle.au_mapping.proofs.TreeLemmas.{mapped_once, mapped_more, all_once, all_mapped, noted_once, noted_more, less_left}
 use Rattle.au_mapping.proofs.StatementLemmas.{size, sizes, branch_sizes, arm_sizes, block_same, notes_in_order, if_same, if_notes, size_if, if_else_same, if_else_notes, size_if_else, case_same, case_notes, size_case, while_same, while_notes, size_while, for_same, for_notes, size_for, borrow_same, borrow_notes, size_borrow, borrow_typed_same, borrow_typed_notes, size_borrow_typed}
 use Rattle.au_mapping.proofs.statements.+map_statement.Goals as goal
@@ -79,13 +78,13 @@ map_stmt-map_while-requires g t c κs within =
 
 pub map_for-returns-clause-same : goal.map_for-returns-clause-same
 map_for-returns-clause-same g t c =
-    for_same g.Q.Phase g.P.Phase g.Q.Phase.name_bytes g.P.Phase.name_bytes c.args.at c.in_ok-name.name c.in_ok-name.first c.in_ok-name.last c.in_ok-body.body c.args.name c.args.first c.args.last c.args.body
-    c.in_ok-name.ensures.name c.in_ok-name.ensures.first c.in_ok-name.ensures.last c.in_ok-body.ensures.same
+    for_same g.Q.Phase g.P.Phase g.Q.Phase.name_bytes g.P.Phase.name_bytes c.args.at c.in_ok-name.name c.in_ok-first.first c.in_ok-last.last c.in_ok-body.body c.args.name c.args.first c.args.last c.args.body
+    c.in_ok-name.ensures c.in_ok-first.ensures.same c.in_ok-last.ensures.same c.in_ok-body.ensures.same
 
 pub map_for-returns-clause-notes : goal.map_for-returns-clause-notes
 map_for-returns-clause-notes g t c =
-    for_notes g.Q.Phase g.Q.Phase.allows_type g.Q.Phase.allows_call c.args.at c.in_ok-name.name c.in_ok-name.first c.in_ok-name.last c.in_ok-body.body
-    c.in_ok-name.ensures.first_notes c.in_ok-name.ensures.last_notes c.in_ok-body.ensures.notes
+    for_notes g.Q.Phase g.Q.Phase.allows_type g.Q.Phase.allows_call c.args.at c.in_ok-name.name c.in_ok-first.first c.in_ok-last.last c.in_ok-body.body
+    c.in_ok-first.ensures.notes c.in_ok-last.ensures.notes c.in_ok-body.ensures.notes
 
 pub map_stmt-returns-in-For-clause-same : goal.map_stmt-returns-in-For-clause-same
 map_stmt-returns-in-For-clause-same g t c = rw c.in-For.is c.map_for.ensures.same
@@ -96,12 +95,12 @@ map_stmt-map_for-requires g t c κs within =
 
 pub map_borrow-returns-clause-same : goal.map_borrow-returns-clause-same
 map_borrow-returns-clause-same g t c =
-    borrow_same g.Q.Phase g.P.Phase g.Q.Phase.name_bytes g.P.Phase.name_bytes c.args.at c.args.access c.in_ok-variable.variable c.in_ok-variable.name c.in_ok-variable.region c.in_ok-body.body c.args.end c.args.variable c.args.name c.args.region c.args.body
-    c.in_ok-variable.ensures.variable c.in_ok-variable.ensures.name c.in_ok-variable.ensures.region c.in_ok-body.ensures.same
+    borrow_same g.Q.Phase g.P.Phase g.Q.Phase.name_bytes g.P.Phase.name_bytes c.args.at c.args.access c.in_ok-variable.variable c.in_ok-name.name c.in_ok-region.region c.in_ok-body.body c.args.end c.args.variable c.args.name c.args.region c.args.body
+    c.in_ok-variable.ensures c.in_ok-name.ensures c.in_ok-region.ensures c.in_ok-body.ensures.same
 
 pub map_borrow-returns-clause-notes : goal.map_borrow-returns-clause-notes
 map_borrow-returns-clause-notes g t c =
-    borrow_notes g.Q.Phase g.Q.Phase.allows_type g.Q.Phase.allows_call c.args.at c.args.access c.in_ok-variable.variable c.in_ok-variable.name c.in_ok-variable.region c.in_ok-body.body c.args.end
+    borrow_notes g.Q.Phase g.Q.Phase.allows_type g.Q.Phase.allows_call c.args.at c.args.access c.in_ok-variable.variable c.in_ok-name.name c.in_ok-region.region c.in_ok-body.body c.args.end
     c.in_ok-body.ensures.notes
 
 pub map_stmt-returns-in-Borrow-clause-same : goal.map_stmt-returns-in-Borrow-clause-same
@@ -113,12 +112,12 @@ map_stmt-map_borrow-requires g t c κs within =
 
 pub map_borrow_typed-returns-clause-same : goal.map_borrow_typed-returns-clause-same
 map_borrow_typed-returns-clause-same g t c =
-    borrow_typed_same g.Q.Phase g.P.Phase g.Q.Phase.name_bytes g.P.Phase.name_bytes c.args.at c.in_ok-name.name c.args.of c.args.mode c.in_ok-name.variable c.in_ok-body.body c.args.end c.args.name c.args.variable c.args.body
-    c.in_ok-name.ensures.name c.in_ok-name.ensures.variable c.in_ok-body.ensures.same
+    borrow_typed_same g.Q.Phase g.P.Phase g.Q.Phase.name_bytes g.P.Phase.name_bytes c.args.at c.in_ok-name.name c.args.of c.args.mode c.in_ok-variable.variable c.in_ok-body.body c.args.end c.args.name c.args.variable c.args.body
+    c.in_ok-name.ensures c.in_ok-variable.ensures c.in_ok-body.ensures.same
 
 pub map_borrow_typed-returns-clause-notes : goal.map_borrow_typed-returns-clause-notes
 map_borrow_typed-returns-clause-notes g t c =
-    borrow_typed_notes g.Q.Phase g.Q.Phase.allows_type g.Q.Phase.allows_call c.args.at c.in_ok-name.name c.args.of c.args.mode c.in_ok-name.variable c.in_ok-body.body c.args.end
+    borrow_typed_notes g.Q.Phase g.Q.Phase.allows_type g.Q.Phase.allows_call c.args.at c.in_ok-name.name c.args.of c.args.mode c.in_ok-variable.variable c.in_ok-body.body c.args.end
     c.in_ok-body.ensures.notes
 
 pub map_stmt-returns-in-BorrowTyped-clause-same : goal.map_stmt-returns-in-BorrowTyped-clause-same
@@ -176,21 +175,3 @@ map_arms-loop-arm-preserved g t c =
 pub map_arms-returns-clause-same : goal.map_arms-returns-clause-same
 map_arms-returns-clause-same g t c =
     all_once (λ a. plain_arms g.P.Phase.name_bytes (arm_all g.P.Phase (a ∷ []))) (map (λ a. plain_arms g.Q.Phase.name_bytes (arm_all g.Q.Phase (a ∷ []))) c.loop-arm.made.items) (into_iter_items c.loop-arm.arm-iterator) (map (λ a. plain_arms g.P.Phase.name_bytes (arm_all g.P.Phase (a ∷ []))) c.args.arms.items) (sym c.loop-arm.arm-iterator.rest.ok.0 ∙ c.in-None.ensures.steps.0) c.loop-arm.invariant.same
-
-pub map_stmt-returns-in-Skip-clause-same : goal.map_stmt-returns-in-Skip-clause-same
-map_stmt-returns-in-Skip-clause-same g t c = grind (arith, skip_says)
-
-pub map_stmt-returns-in_ok-map_boxed-in-Call-clause-same : goal.map_stmt-returns-in_ok-map_boxed-in-Call-clause-same
-map_stmt-returns-in_ok-map_boxed-in-Call-clause-same g t c = grind (arith, call_says)
-
-pub map_stmt-returns-in_ok-map_boxed-in-Return-clause-same : goal.map_stmt-returns-in_ok-map_boxed-in-Return-clause-same
-map_stmt-returns-in_ok-map_boxed-in-Return-clause-same g t c = grind (arith, return_says)
-
-pub map_stmt-returns-in-Skip-clause-notes : goal.map_stmt-returns-in-Skip-clause-notes
-map_stmt-returns-in-Skip-clause-notes g t c = grind (arith, skip_says)
-
-pub map_stmt-returns-in_ok-map_boxed-in-Call-clause-notes : goal.map_stmt-returns-in_ok-map_boxed-in-Call-clause-notes
-map_stmt-returns-in_ok-map_boxed-in-Call-clause-notes g t c = grind (arith, call_says)
-
-pub map_stmt-returns-in_ok-map_boxed-in-Return-clause-notes : goal.map_stmt-returns-in_ok-map_boxed-in-Return-clause-notes
-map_stmt-returns-in_ok-map_boxed-in-Return-clause-notes g t c = grind (arith, return_says)

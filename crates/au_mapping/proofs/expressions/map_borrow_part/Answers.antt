@@ -1,9 +1,0 @@
-use Rattle.std.proofs.Common.{arith}
-use Rattle.au_syntax.proofs.ExpressionLemmas.{borrow_part_says}
-use Rattle.au_mapping.proofs.expressions.map_borrow_part.Goals as goal
-
-pub returns-clause-same : goal.returns-clause-same
-returns-clause-same g c = grind (arith, borrow_part_says)
-
-pub returns-clause-notes : goal.returns-clause-notes
-returns-clause-notes g c = grind (arith, borrow_part_says)
