@@ -1,11 +1,13 @@
 -- How a call over objects in memory can end.
-use Rattle.std.proofs.Common.{◌≡◌, ℕ, List, [], Option, Some, IsTrue, subst, sym}
+use Rattle.std.proofs.Common.{◌≡◌, ℕ, List, [], Option, Some, IsTrue, map, subst, sym}
+use Rattle.std.specs.String.{string_bytes}
 use Rattle.au_base.specs.declared.statuses.Status.{Status}
 use Rattle.au_base.specs.Outside.{Files}
-use Rattle.au_base.specs.Stored.{NamedFile, file_in}
+use Rattle.au_base.specs.Stored.{NamedFile, file_in, file_of}
 use Rattle.au_top.specs.Calls.{Pays, is_decided}
 use Rattle.au_top.specs.Dues.{Due, Owes}
-use Rattle.austral_cases.specs.Endings.{CanEnd}
+use Rattle.austral_cases.specs.Endings.{CanEnd, Holds, IsWanted}
+use Rattle.austral_cases.specs.declared.cases.Case.{Case}
 
 -- A call over a shelf of these files, and over sinks that are empty at first, can end as it did.
 pub can_end : (words named : List (List ℕ)) (files : List NamedFile) (told : Option Files) (out err : Option (List ℕ)) (out' err' : List ℕ) (ends : Status)
@@ -17,3 +19,9 @@ can_end words named files told out err out' err' ends named_is told_is out_is er
     let paid = only (file_in files) due told_is asked decided in
     let from_no_err = subst (λ e. Pays due ends out (Some out') e (Some err')) err_is paid in
     subst (λ o. Pays due ends o (Some out') (Some []) (Some err')) out_is from_no_err
+
+-- A case holds whose call can end so, and ended as wanted.
+pub holds_so : (one : Case) (out err : List ℕ) (ends : Status)
+    → CanEnd (map string_bytes one.call.words.items) (map file_of one.call.files.items) out err ends
+    → IsWanted one.wanted out err ends → Holds one
+holds_so one out err ends can wanted = (out, err, ends, can, wanted)
