@@ -1,27 +1,32 @@
 //! The shipped calls by name.
 
 use au_base::{IntKind, Name};
-use au_shipped::{Prim, prim_of};
+use au_shipped::{ShippedCall, prim_of};
 use std::alloc::Global;
 use std::test::Fail;
 
 /// Calls by the names of their modules and their own, with the kind of integers that they are for, and
 /// the shipped calls that they are.
-const CALLS: [(&[u8], &[u8], Option<IntKind>, Option<Prim>); 5] = [
+const CALLS: [(&[u8], &[u8], Option<IntKind>, Option<ShippedCall>); 5] = [
     (
         b"Austral.Pervasive",
         b"print",
         Some(IntKind::Nat8),
-        Some(Prim::PrintInt),
+        Some(ShippedCall::PrintInt),
     ),
-    (b"Austral.Pervasive", b"print", None, Some(Prim::PrintText)),
+    (
+        b"Austral.Pervasive",
+        b"print",
+        None,
+        Some(ShippedCall::PrintText),
+    ),
     (
         b"Austral.Pervasive",
         b"toIndex",
         Some(IntKind::Nat8),
-        Some(Prim::Convert(IntKind::Index)),
+        Some(ShippedCall::Convert(IntKind::Index)),
     ),
-    (b"Standard.Buffer", b"nth", None, Some(Prim::Nth)),
+    (b"Standard.Buffer", b"nth", None, Some(ShippedCall::Nth)),
     (b"Standard.Box", b"nth", None, None),
 ];
 
@@ -31,7 +36,7 @@ fn call_of(
     home: &[u8],
     call: &[u8],
     of: Option<IntKind>,
-) -> Result<Option<Prim>, Fail> {
+) -> Result<Option<ShippedCall>, Fail> {
     if home.is_empty() || home.len() > 64 || call.is_empty() || call.len() > 64 {
         return Err(Fail::new("no name"));
     }

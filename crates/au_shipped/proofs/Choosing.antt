@@ -3,11 +3,11 @@ use Rattle.std.proofs.Common.{◌≡◌, List, [], ◌∷◌, codes, Bool, true,
 use Rattle.std.specs.Str.{bytes_eq}
 use Rattle.au_base.specs.declared.kinds.IntKind.{IntKind}
 use Rattle.au_syntax.specs.Plain.{Bytes}
-use Rattle.au_shipped.specs.declared.prims.Prim.{Prim}
+use Rattle.au_shipped.specs.declared.prims.ShippedCall.{ShippedCall}
 use Rattle.au_shipped.specs.Calls.{found, call_in, prim_of, pervasive_calls, box_calls, buffer_calls, terminal_calls}
 
 abbrev Tables : Type 0
-Tables = List (Bytes × List (Bytes × Prim))
+Tables = List (Bytes × List (Bytes × ShippedCall))
 
 abbrev behind_buffers : Tables
 behind_buffers = (codes "Standard.IO.Terminal", terminal_calls) ∷ []
@@ -19,7 +19,7 @@ abbrev behind_pervasive : Tables
 behind_pervasive = (codes "Standard.Box", box_calls) ∷ behind_boxes
 
 -- the first table, or another
-abbrev either_table : List (Bytes × Prim) → Tables → Bytes → Bytes → Bool → Option Prim
+abbrev either_table : List (Bytes × ShippedCall) → Tables → Bytes → Bytes → Bool → Option ShippedCall
 either_table table tables home call here = call_in (if here then Some table else found tables home) call
 
 pub of_pervasive : (home call : Bytes) (of : Option IntKind) → bytes_eq (codes "Austral.Pervasive") home ≡ true → found (pervasive_calls of) call ≡ prim_of home call of

@@ -6,8 +6,8 @@ use Rattle.au_base.specs.declared.kinds.IntKind.{IntKind}
 use Rattle.au_base.specs.declared.kinds.IntKind.TheVariants as kind
 use Rattle.au_ints.specs.declared.operations.WrapOp.TheVariants as operation
 use Rattle.au_syntax.specs.Plain.{Bytes}
-use Rattle.au_shipped.specs.declared.prims.Prim.{Prim}
-use Rattle.au_shipped.specs.declared.prims.Prim.TheVariants as prim
+use Rattle.au_shipped.specs.declared.prims.ShippedCall.{ShippedCall}
+use Rattle.au_shipped.specs.declared.prims.ShippedCall.TheVariants as prim
 
 -- what stands in a table under a name
 abbrev pub found : {A : Type 0} → List (Bytes × A) → Bytes → Option A
@@ -15,11 +15,11 @@ found [] name = None
 found (row ∷ table) name = if bytes_eq row.0 name then Some row.1 else found table name
 
 -- `print` is of an integer where a kind is given, and else of a text
-abbrev pub print_of : Option IntKind → Prim
+abbrev pub print_of : Option IntKind → ShippedCall
 print_of (Some one) = prim.PrintInt
 print_of None = prim.PrintText
 
-abbrev pub print_ln_of : Option IntKind → Prim
+abbrev pub print_ln_of : Option IntKind → ShippedCall
 print_ln_of (Some one) = prim.PrintLnInt
 print_ln_of None = prim.PrintLnText
 
@@ -29,7 +29,7 @@ kind_of (Some one) = one
 kind_of None = kind.Int32
 
 -- the functions of Austral.Pervasive, and the methods of Printable
-abbrev pub own_calls : Option IntKind → List (Bytes × Prim)
+abbrev pub own_calls : Option IntKind → List (Bytes × ShippedCall)
 own_calls of =
     (codes "surrenderRoot", prim.SurrenderRoot)
     ∷ (codes "abort", prim.Abort)
@@ -40,7 +40,7 @@ own_calls of =
     ∷ []
 
 -- the methods of ModularArithmetic
-abbrev pub modular_calls : Option IntKind → List (Bytes × Prim)
+abbrev pub modular_calls : Option IntKind → List (Bytes × ShippedCall)
 modular_calls of =
     (codes "modularAdd", prim.Wrap operation.Add (kind_of of))
     ∷ (codes "modularSubtract", prim.Wrap operation.Subtract (kind_of of))
@@ -48,7 +48,7 @@ modular_calls of =
     ∷ []
 
 -- the methods of Conversion
-abbrev pub conversion_calls : List (Bytes × Prim)
+abbrev pub conversion_calls : List (Bytes × ShippedCall)
 conversion_calls =
     (codes "toNat8", prim.Convert kind.Nat8)
     ∷ (codes "toNat16", prim.Convert kind.Nat16)
@@ -61,10 +61,10 @@ conversion_calls =
     ∷ (codes "toIndex", prim.Convert kind.Index)
     ∷ []
 
-abbrev pub pervasive_calls : Option IntKind → List (Bytes × Prim)
+abbrev pub pervasive_calls : Option IntKind → List (Bytes × ShippedCall)
 pervasive_calls of = own_calls of ++ (modular_calls of ++ conversion_calls)
 
-abbrev pub box_calls : List (Bytes × Prim)
+abbrev pub box_calls : List (Bytes × ShippedCall)
 box_calls =
     (codes "makeBox", prim.MakeBox)
     ∷ (codes "unbox", prim.Unbox)
@@ -72,7 +72,7 @@ box_calls =
     ∷ (codes "boxGetMut", prim.BoxGetMut)
     ∷ []
 
-abbrev pub buffer_calls : List (Bytes × Prim)
+abbrev pub buffer_calls : List (Bytes × ShippedCall)
 buffer_calls =
     (codes "makeEmpty", prim.MakeEmpty)
     ∷ (codes "destroyEmpty", prim.DestroyEmpty)
@@ -83,7 +83,7 @@ buffer_calls =
     ∷ (codes "replaceNth", prim.ReplaceNth)
     ∷ []
 
-abbrev pub terminal_calls : List (Bytes × Prim)
+abbrev pub terminal_calls : List (Bytes × ShippedCall)
 terminal_calls =
     (codes "acquireTerminal", prim.AcquireTerminal)
     ∷ (codes "readByte", prim.ReadByte)
@@ -92,7 +92,7 @@ terminal_calls =
     ∷ []
 
 -- the calls of each shipped module
-abbrev pub calls : Option IntKind → List (Bytes × List (Bytes × Prim))
+abbrev pub calls : Option IntKind → List (Bytes × List (Bytes × ShippedCall))
 calls of =
     (codes "Austral.Pervasive", pervasive_calls of)
     ∷ (codes "Standard.Box", box_calls)
@@ -101,14 +101,14 @@ calls of =
     ∷ []
 
 -- the call of a name in the table of a module, if there is such a module
-abbrev pub call_in : Option (List (Bytes × Prim)) → Bytes → Option Prim
+abbrev pub call_in : Option (List (Bytes × ShippedCall)) → Bytes → Option ShippedCall
 call_in None call = None
 call_in (Some table) call = found table call
 
 -- the shipped call of a name in a module
-abbrev pub prim_of : Bytes → Bytes → Option IntKind → Option Prim
+abbrev pub prim_of : Bytes → Bytes → Option IntKind → Option ShippedCall
 prim_of home call of = call_in (found (calls of) home) call
 
 -- the name of a module and the names in its table
-abbrev pub names_in : Bytes × List (Bytes × Prim) → Bytes × List Bytes
-names_in row = (row.0, map (λ (one : Bytes × Prim). one.0) row.1)
+abbrev pub names_in : Bytes × List (Bytes × ShippedCall) → Bytes × List Bytes
+names_in row = (row.0, map (λ (one : Bytes × ShippedCall). one.0) row.1)

@@ -16,4 +16,4 @@ pub mod terminal;
 
 pub use building::place;
 pub use files::shipped;
-pub use prims::{AbortKind, Prim, prim_of};
+pub use prims::{AbortKind, ShippedCall, prim_of};

@@ -10,7 +10,7 @@ use au_ints::WrapOp;
 /// A shipped call. Each method of a class has one for each sort of types that has instances of the
 /// class and its own effect.
 #[derive(Clone, Copy, Debug, PartialEq, Eq)]
-pub enum Prim {
+pub enum ShippedCall {
     /// `print` of a text.
     PrintText,
     /// `print` of an integer.
@@ -88,17 +88,17 @@ fn is_name(bytes: &[u8], name: &[u8]) -> bool
     name == bytes
 }
 
-fn pervasive_call(call: &[u8], of: Option<IntKind>) -> Option<Prim>
+fn pervasive_call(call: &[u8], of: Option<IntKind>) -> Option<ShippedCall>
     ensures { result ≡ calls.found (calls.pervasive_calls of) call.now }
 {
     if is_name(call, b"surrenderRoot") {
-        Some(Prim::SurrenderRoot)
+        Some(ShippedCall::SurrenderRoot)
     } else if is_name(call, b"abort") {
-        Some(Prim::Abort)
+        Some(ShippedCall::Abort)
     } else if is_name(call, b"spanLength") {
-        Some(Prim::SpanLength)
+        Some(ShippedCall::SpanLength)
     } else if is_name(call, b"swap") {
-        Some(Prim::Swap)
+        Some(ShippedCall::Swap)
     } else if is_name(call, b"print") {
         Some(print_of(of))
     } else if is_name(call, b"printLn") {
@@ -108,21 +108,21 @@ fn pervasive_call(call: &[u8], of: Option<IntKind>) -> Option<Prim>
     }
 }
 
-fn print_of(of: Option<IntKind>) -> Prim
+fn print_of(of: Option<IntKind>) -> ShippedCall
     ensures { result ≡ calls.print_of of }
 {
     match of {
-        Some(_) => Prim::PrintInt,
-        None => Prim::PrintText,
+        Some(_) => ShippedCall::PrintInt,
+        None => ShippedCall::PrintText,
     }
 }
 
-fn print_ln_of(of: Option<IntKind>) -> Prim
+fn print_ln_of(of: Option<IntKind>) -> ShippedCall
     ensures { result ≡ calls.print_ln_of of }
 {
     match of {
-        Some(_) => Prim::PrintLnInt,
-        None => Prim::PrintLnText,
+        Some(_) => ShippedCall::PrintLnInt,
+        None => ShippedCall::PrintLnText,
     }
 }
 
@@ -135,95 +135,95 @@ fn kind_of(of: Option<IntKind>) -> IntKind
     }
 }
 
-fn modular_call(call: &[u8], of: Option<IntKind>) -> Option<Prim>
+fn modular_call(call: &[u8], of: Option<IntKind>) -> Option<ShippedCall>
     ensures { result ≡ calls.found (calls.modular_calls of ++ calls.conversion_calls) call.now }
 {
     if is_name(call, b"modularAdd") {
-        Some(Prim::Wrap(WrapOp::Add, kind_of(of)))
+        Some(ShippedCall::Wrap(WrapOp::Add, kind_of(of)))
     } else if is_name(call, b"modularSubtract") {
-        Some(Prim::Wrap(WrapOp::Subtract, kind_of(of)))
+        Some(ShippedCall::Wrap(WrapOp::Subtract, kind_of(of)))
     } else if is_name(call, b"modularMultiply") {
-        Some(Prim::Wrap(WrapOp::Multiply, kind_of(of)))
+        Some(ShippedCall::Wrap(WrapOp::Multiply, kind_of(of)))
     } else {
         conversion_call(call)
     }
 }
 
-fn conversion_call(call: &[u8]) -> Option<Prim>
+fn conversion_call(call: &[u8]) -> Option<ShippedCall>
     ensures { result ≡ calls.found calls.conversion_calls call.now }
 {
     if is_name(call, b"toNat8") {
-        Some(Prim::Convert(IntKind::Nat8))
+        Some(ShippedCall::Convert(IntKind::Nat8))
     } else if is_name(call, b"toNat16") {
-        Some(Prim::Convert(IntKind::Nat16))
+        Some(ShippedCall::Convert(IntKind::Nat16))
     } else if is_name(call, b"toNat32") {
-        Some(Prim::Convert(IntKind::Nat32))
+        Some(ShippedCall::Convert(IntKind::Nat32))
     } else if is_name(call, b"toNat64") {
-        Some(Prim::Convert(IntKind::Nat64))
+        Some(ShippedCall::Convert(IntKind::Nat64))
     } else if is_name(call, b"toInt8") {
-        Some(Prim::Convert(IntKind::Int8))
+        Some(ShippedCall::Convert(IntKind::Int8))
     } else if is_name(call, b"toInt16") {
-        Some(Prim::Convert(IntKind::Int16))
+        Some(ShippedCall::Convert(IntKind::Int16))
     } else if is_name(call, b"toInt32") {
-        Some(Prim::Convert(IntKind::Int32))
+        Some(ShippedCall::Convert(IntKind::Int32))
     } else if is_name(call, b"toInt64") {
-        Some(Prim::Convert(IntKind::Int64))
+        Some(ShippedCall::Convert(IntKind::Int64))
     } else if is_name(call, b"toIndex") {
-        Some(Prim::Convert(IntKind::Index))
+        Some(ShippedCall::Convert(IntKind::Index))
     } else {
         None
     }
 }
 
-fn box_call(call: &[u8]) -> Option<Prim>
+fn box_call(call: &[u8]) -> Option<ShippedCall>
     ensures { result ≡ calls.found calls.box_calls call.now }
 {
     if is_name(call, b"makeBox") {
-        Some(Prim::MakeBox)
+        Some(ShippedCall::MakeBox)
     } else if is_name(call, b"unbox") {
-        Some(Prim::Unbox)
+        Some(ShippedCall::Unbox)
     } else if is_name(call, b"boxGet") {
-        Some(Prim::BoxGet)
+        Some(ShippedCall::BoxGet)
     } else if is_name(call, b"boxGetMut") {
-        Some(Prim::BoxGetMut)
+        Some(ShippedCall::BoxGetMut)
     } else {
         None
     }
 }
 
-fn buffer_call(call: &[u8]) -> Option<Prim>
+fn buffer_call(call: &[u8]) -> Option<ShippedCall>
     ensures { result ≡ calls.found calls.buffer_calls call.now }
 {
     if is_name(call, b"makeEmpty") {
-        Some(Prim::MakeEmpty)
+        Some(ShippedCall::MakeEmpty)
     } else if is_name(call, b"destroyEmpty") {
-        Some(Prim::DestroyEmpty)
+        Some(ShippedCall::DestroyEmpty)
     } else if is_name(call, b"length") {
-        Some(Prim::Length)
+        Some(ShippedCall::Length)
     } else if is_name(call, b"insertBack") {
-        Some(Prim::InsertBack)
+        Some(ShippedCall::InsertBack)
     } else if is_name(call, b"removeBack") {
-        Some(Prim::RemoveBack)
+        Some(ShippedCall::RemoveBack)
     } else if is_name(call, b"nth") {
-        Some(Prim::Nth)
+        Some(ShippedCall::Nth)
     } else if is_name(call, b"replaceNth") {
-        Some(Prim::ReplaceNth)
+        Some(ShippedCall::ReplaceNth)
     } else {
         None
     }
 }
 
-fn terminal_call(call: &[u8]) -> Option<Prim>
+fn terminal_call(call: &[u8]) -> Option<ShippedCall>
     ensures { result ≡ calls.found calls.terminal_calls call.now }
 {
     if is_name(call, b"acquireTerminal") {
-        Some(Prim::AcquireTerminal)
+        Some(ShippedCall::AcquireTerminal)
     } else if is_name(call, b"readByte") {
-        Some(Prim::ReadByte)
+        Some(ShippedCall::ReadByte)
     } else if is_name(call, b"writeByte") {
-        Some(Prim::WriteByte)
+        Some(ShippedCall::WriteByte)
     } else if is_name(call, b"releaseTerminal") {
-        Some(Prim::ReleaseTerminal)
+        Some(ShippedCall::ReleaseTerminal)
     } else {
         None
     }
@@ -232,7 +232,7 @@ fn terminal_call(call: &[u8]) -> Option<Prim>
 /// The shipped call of this name in this module, for integers of this kind. `None` exactly where no
 /// shipped call has the name. Without a kind, `print` and `printLn` are those of a text, and modular
 /// calls those of `Int32`, the kind of a literal of which nothing else is known.
-pub fn prim_of(home: &Name, call: &Name, of: Option<IntKind>) -> Option<Prim>
+pub fn prim_of(home: &Name, call: &Name, of: Option<IntKind>) -> Option<ShippedCall>
     ensures { result ≡ calls.prim_of home.now call.now of }
 {
     let home = home.as_bytes();
