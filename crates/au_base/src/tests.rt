@@ -4,6 +4,7 @@
 use crate::*;
 use std::test::Fail;
 
+/// A text has the bytes that were put to it, and copies of texts and names have the same bytes.
 #[test]
 fn texts_and_names(rt: HostRuntime) -> Result<(), Fail> {
     let mut text = Text::new(rt.alloc());
@@ -21,6 +22,7 @@ fn texts_and_names(rt: HostRuntime) -> Result<(), Fail> {
     Ok(())
 }
 
+/// A sequence has its items in the order in which they were put.
 #[test]
 fn sequences(rt: HostRuntime) -> Result<(), Fail> {
     let mut items: Sequence<u32> = Sequence::new(rt.alloc());
@@ -35,6 +37,7 @@ fn sequences(rt: HostRuntime) -> Result<(), Fail> {
     Ok(())
 }
 
+/// A newline alone begins a line; every other byte is a column, tabs and parts of a letter among them.
 #[test]
 fn places(rt: HostRuntime) {
     let cases: [(&[u8], u32, u32); 7] = [
@@ -57,6 +60,7 @@ fn places(rt: HostRuntime) {
     }
 }
 
+/// The number of each status.
 #[test]
 fn statuses(rt: HostRuntime) {
     let cases = [
@@ -77,6 +81,7 @@ fn statuses(rt: HostRuntime) {
     }
 }
 
+/// How each keyword and each sign is spelled, in the order of the lists of all.
 #[test]
 fn spellings(rt: HostRuntime) -> Result<(), Fail> {
     let words = b"module body is end import as pragma constant type record union case when of do \
@@ -100,6 +105,7 @@ fn spellings(rt: HostRuntime) -> Result<(), Fail> {
     Ok(())
 }
 
+/// The first file of a name is given whole up to 1,048,576 bytes; of a larger one comes one byte more.
 #[test]
 fn shelf(rt: HostRuntime) -> Result<(), Fail> {
     let mut files = Vec::new(rt.alloc());
@@ -130,6 +136,7 @@ fn shelf(rt: HostRuntime) -> Result<(), Fail> {
     Ok(())
 }
 
+/// A source gives its bytes in order, and behind the last its end, each time that it is asked.
 #[test]
 fn source(rt: HostRuntime) -> Result<(), Fail> {
     let mut source = SureSource::new(b"ab".to_vec(rt.alloc())?);
@@ -141,6 +148,7 @@ fn source(rt: HostRuntime) -> Result<(), Fail> {
     Ok(())
 }
 
+/// A sink takes what it has room for, and nothing in the call that fails.
 #[test]
 fn sink(rt: HostRuntime) -> Result<(), Fail> {
     let mut sink = MemorySink::new(rt.alloc(), 5, [2].to_vec(rt.alloc())?)?;
@@ -160,6 +168,7 @@ fn sink(rt: HostRuntime) -> Result<(), Fail> {
     Ok(())
 }
 
+/// What faults print.
 #[test]
 fn faults(rt: HostRuntime) -> Result<(), Fail> {
     let shown = format!(in rt.alloc(); "{Memory}, {WriteFault}")?;
@@ -167,6 +176,7 @@ fn faults(rt: HostRuntime) -> Result<(), Fail> {
     Ok(())
 }
 
+/// The calls of a shelf and a source that are listed fail, and leave what was there.
 #[test]
 fn failing_calls(rt: HostRuntime) -> Result<(), Fail> {
     let mut files = Vec::new(rt.alloc());

@@ -567,6 +567,7 @@ const COMPARED: [(i128, i128, [bool; 6]); 10] = [
     ),
 ];
 
+/// The operations are for any number of bits, not for the widths of the language alone.
 #[test]
 fn takes_any_width(rt: HostRuntime) {
     let ends = [
@@ -610,11 +611,13 @@ fn first_wrong(pairs: &[Row]) -> Option<Row> {
     None
 }
 
+/// What the operations that trap and those that wrap give for pairs near the ends of each kind.
 #[test]
 fn operates_on_pairs(rt: HostRuntime) {
     assert_eq!(rt; first_wrong(&PAIRS), None);
 }
 
+/// The ends of each kind are converted, and the numbers beside them are not.
 #[test]
 fn converts_within_the_ends(rt: HostRuntime) {
     for (kind, below, least, greatest, above) in RANGES {
@@ -632,6 +635,7 @@ fn converts_within_the_ends(rt: HostRuntime) {
     }
 }
 
+/// What the six orders say of equal, neighbouring and farthest numbers.
 #[test]
 fn compares_pairs(rt: HostRuntime) {
     for (a, b, compared) in COMPARED {
@@ -647,6 +651,7 @@ fn compares_pairs(rt: HostRuntime) {
     }
 }
 
+/// Each law can be called, so nothing that it asks for is out of reach.
 #[test]
 fn laws_are_called() {
     laws::bounds_are_numerals();

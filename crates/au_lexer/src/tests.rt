@@ -201,6 +201,7 @@ const LONG: [(&[u8], u8, usize, &[u8], &[u8]); 26] = [
     ),
 ];
 
+/// Small files, each with the tokens that it is cut into or the first byte or limit that refuses it.
 #[test]
 fn cuts(rt: HostRuntime) -> Result<(), Fail> {
     for (bytes, want) in CUT {
@@ -220,6 +221,7 @@ fn count(alloc: Global, bytes: &[u8]) -> Result<String, AllocError>
     }
 }
 
+/// Long files at each limit of the lexer and one above it.
 #[test]
 fn counts(rt: HostRuntime) -> Result<(), Fail> {
     for (front, byte, times, back, want) in LONG {

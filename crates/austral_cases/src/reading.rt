@@ -107,7 +107,7 @@ fn read_head(alloc: Global, cases: &mut Vec<Case>, line: &str) -> Result<Part, L
 /// What the bytes below a head are added to.
 fn part_of(head: &str) -> Part {
     match head {
-        "file" => Part::File,
+        "file" | "blanks" => Part::File,
         "in:" => Part::Input,
         "out:" => Part::Out,
         "err:" => Part::Err,
@@ -121,6 +121,7 @@ fn read_value(alloc: Global, case: &mut Case, head: &str, value: &str) -> Result
         "words:" | "in:" | "out:" | "err:" => Ok(()),
         "words" => read_words(alloc, &mut case.call.words, value),
         "file" => open_file(alloc, &mut case.call.files, value),
+        "blanks" => add_blanks(&mut case.call.files, value),
         "shelf fails" => read_numbers(&mut case.call.fetch_fails, value),
         "in fails" => read_numbers(&mut case.call.input_fails, value),
         "out room" => read_number(&mut case.call.out_room, value),
@@ -145,6 +146,24 @@ fn open_file(
     name: &str,
 ) -> Result<(), LineFault> {
     files.push((String::from_str(alloc, name)?, Vec::new(alloc)))?;
+    Ok(())
+}
+
+/// Adds so many blanks to the last file.
+fn add_blanks(files: &mut Vec<(String, Vec<u8>)>, value: &str) -> Result<(), LineFault> {
+    let mut count = 0_u32;
+    read_number(&mut count, value)?;
+    match files.last_mut() {
+        None => Err(LineFault::NoRoom),
+        Some(file) => append_blanks(&mut file.1, count),
+    }
+}
+
+/// Adds so many blanks to a room.
+fn append_blanks(room: &mut Vec<u8>, count: u32) -> Result<(), LineFault> {
+    for _ in 0..count {
+        room.push(b' ')?;
+    }
     Ok(())
 }
 
