@@ -15,8 +15,6 @@ mod numbers;
 mod pieces;
 mod spellings;
 mod strings;
-#[cfg(test)]
-mod tests;
 
 pub use au_base::{Keyword, Sign, Token, What};
 pub use lexing::{LexFault, lex};

@@ -1,4 +1,4 @@
-//! Tests of calls that no program runs yet, and of the time that large programs take, in a crate of their
+//! Tests of calls that no program shows yet, and of the time that large programs take, in a crate of their
 //! own: a crate with tests is proved twice.
 #![tactic(auto)]
 
@@ -8,6 +8,8 @@ mod calls;
 mod copies;
 #[cfg(test)]
 mod interfaces;
+#[cfg(test)]
+mod jobs;
 #[cfg(test)]
 mod programs;
 #[cfg(test)]

@@ -9,8 +9,6 @@ mod jobs;
 pub mod laws;
 mod names;
 mod program;
-#[cfg(test)]
-mod tests;
 mod values;
 mod words;
 

@@ -2,8 +2,8 @@
 
 ghost use Rattle.std.specs.Prelude.{◌+◌, ◌^◌, ◌<◌, length};
 
-use crate::{LexFault, Token, What, lex};
 use au_base::Text;
+use au_lexer::{LexFault, Token, What, lex};
 use std::alloc::{AllocError, Global};
 use std::test::Fail;
 

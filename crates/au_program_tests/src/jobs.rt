@@ -1,7 +1,7 @@
 //! Word lists and the jobs that they ask for, written by hand from the rule.
 
-use crate::{Command, Job, laws, read_words};
 use au_base::Entry;
+use au_words::{Command, Job, laws, read_words};
 use std::alloc::Global;
 use std::test::Fail;
 
@@ -262,6 +262,7 @@ fn is_job(job: &Job, row: &Row) -> bool {
         && is_entered(&job.entry, row.entry)
 }
 
+/// Words of each command and option, and the job that each list of them asks for.
 #[test]
 fn words_ask_for_their_job(rt: HostRuntime) -> Result<(), Fail> {
     laws::one_job();
