@@ -1,0 +1,4 @@
+pub mod UniverseLemmas
+pub mod FormedLemmas
+pub mod LawLemmas
+pub mod ReplacedLemmas
