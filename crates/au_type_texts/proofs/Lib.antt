@@ -1,0 +1,4 @@
+pub mod SizeLemmas
+pub mod TextLemmas
+pub mod TellLemmas
+pub mod ExampleLemmas

@@ -1,0 +1,4 @@
+pub mod Texts
+pub mod Sizes
+pub mod Told
+pub mod Examples
