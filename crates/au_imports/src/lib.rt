@@ -3,7 +3,10 @@
 #![tactic(auto)]
 
 pub mod faults;
+pub mod laws;
+pub mod programs;
 pub mod resolving;
 
 pub use faults::ImportFault;
+pub use programs::Resolved;
 pub use resolving::resolve;

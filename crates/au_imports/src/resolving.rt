@@ -5,15 +5,16 @@ ghost use Rattle.au_imports.specs.Importing.{refusal_of};
 ghost use Rattle.au_modules.specs.Slots.{modules};
 
 use crate::faults::ImportFault;
+use crate::programs::Resolved;
 use au_base::Memory;
 use au_modules::Modules;
 use au_name_faults::name_fault;
 use au_promises::promise_fault;
-use au_resolved::Resolved;
+use au_resolved::Resolved as NamedModules;
 use std::alloc::Global;
 
 /// What a program is refused for, if it is refused: for a name, or else for a promise.
-fn refusal(alloc: Global, resolved: &Resolved) -> Result<Option<ImportFault>, Memory>
+fn refusal(alloc: Global, resolved: &NamedModules) -> Result<Option<ImportFault>, Memory>
     ensures { IfOk result (λ found. found ≡ refusal_of (modules resolved.now)) }
 {
     if let Some(found) = name_fault(alloc, resolved)? {
@@ -25,7 +26,8 @@ fn refusal(alloc: Global, resolved: &Resolved) -> Result<Option<ImportFault>, Me
     }
 }
 
-/// The program of these modules, where every name means one thing and every promise of an interface is kept.
+/// The program of these modules, where every name means one thing and every promise of an interface is kept:
+/// of each that is given this is known.
 ///
 /// # Errors
 ///
@@ -43,9 +45,9 @@ pub fn resolve(alloc: Global, program: Modules) -> Result<Resolved, ImportFault>
     ensures refused { (e : ImportFault) → result ≡ Err e
         → (e ≡ ImportFault.Memory) ⊎ (refusal_of (modules program) ≡ Some e) }
 {
-    let resolved = Resolved::of(alloc, program)?;
-    match refusal(alloc, &resolved)? {
+    let named = NamedModules::of(alloc, program)?;
+    match refusal(alloc, &named)? {
         Some(fault) => Err(fault),
-        None => Ok(resolved),
+        None => Ok(Resolved::accepted(named)),
     }
 }

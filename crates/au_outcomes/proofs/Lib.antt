@@ -6,3 +6,4 @@ pub mod NameLemmas
 pub mod KeptLemmas
 pub mod JudgeLemmas
 pub mod ComesLemmas
+pub mod AcceptedLemmas

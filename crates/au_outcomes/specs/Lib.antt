@@ -3,3 +3,4 @@ pub mod Programs
 pub mod Outcomes
 pub mod Halts
 pub mod Reading
+pub mod Accepted

@@ -1,10 +1,9 @@
 //! Programs made of texts.
 
-use au_imports::resolve;
+use au_imports::{Resolved, resolve};
 use au_lexer::lex;
 use au_modules::gather;
 use au_parser::parse;
-use au_resolved::Resolved;
 use au_syntax::FileTree;
 use std::alloc::Global;
 use std::process::Abort;

@@ -2,7 +2,7 @@
 
 use crate::programs::{program_of, put_file};
 use au_base::IntKind;
-use au_resolved::Resolved;
+use au_imports::Resolved;
 use au_shipped::shipped;
 use au_syntax::{Decl, TypeText};
 use au_types::{Params, Ty};

@@ -1,2 +1,4 @@
 pub mod NameLemmas
 pub mod RowLemmas
+pub mod StandingLemmas
+pub mod DefinitionLemmas

@@ -1,20 +1,22 @@
 -- Words and files owe one thing.
-use Rattle.std.proofs.Common.{◌≡◌, ℕ, ◌+◌, ◌≤◌, Bool, true, false, cond, List, length, Option, Some, None, ap, ◌∙◌, sym, refl, subst, arith, ◌⊎◌, inl, inr, slice_get}
+use Rattle.std.proofs.Common.{◌≡◌, ℕ, ◌+◌, ◌≤◌, Bool, true, false, cond, List, length, Option, Some, None, ap, ◌∙◌, sym, refl, subst, arith, ◌⊎◌, ◌↔◌, inl, inr, slice_get}
 use Rattle.au_base.specs.declared.statuses.Status.{Status}
 use Rattle.au_base.specs.declared.statuses.Status.TheVariants as status
 use Rattle.au_base.specs.Outside.{Files, Adds}
-use Rattle.au_top.specs.Calls.{IsPaid, CameTo, HasPassed, HasRun, IsRefusedSo, Pays, is_decided}
+use Rattle.au_top.specs.Calls.{IsPaid, CameTo, HasComeBehind, HasPassed, HasRun, IsRefusedSo, Pays, is_decided}
+use Rattle.au_outcomes.specs.Accepted.{Accepted, is_behind}
 use Rattle.au_outcomes.specs.Halts.{AreTold}
 use Rattle.au_words.specs.Jobs.{Task, IsJob, IsNoJob}
 use Rattle.au_words.proofs.JobLemmas.{one_job}
 use Rattle.au_top.specs.Jobs.{unbuilt_of}
 use Rattle.au_outcomes.specs.Outcomes.{AreFiles, BytesCome, Comes, FewCome, is_outcome, most_files}
-use Rattle.au_top.specs.Dues.{Arises, Asks, Due, IsUnread, Owes, due_of}
+use Rattle.au_top.specs.Dues.{Arises, Asks, Due, IsAcceptedJob, IsUnread, Owes, due_of}
 use Rattle.au_outcomes.specs.Trees.{HasNoTree, HasTokens, IsRead}
 use Rattle.au_refusals.specs.declared.refusals.Unbuilt.{Unbuilt}
 use Rattle.au_outcomes.specs.declared.outcomes.Outcome.{Outcome}
 use Rattle.au_outcomes.specs.declared.outcomes.Outcome.TheVariants as outcome
 use Rattle.au_top.proofs.ArisesLemmas.{arises_outcome}
+use Rattle.au_outcomes.proofs.AcceptedLemmas.{accepted_behind, behind_accepted, not_both}
 use Rattle.au_outcomes.proofs.FetchLemmas.{few_had}
 use Rattle.au_outcomes.proofs.HaltLemmas.{IsHalt, first_halt, read_at, treeless}
 use Rattle.au_outcomes.proofs.NameLemmas.{comes_same, files_same, first_or_files, many_or_few}
@@ -245,6 +247,54 @@ came_unread words told faults faults' ends out out' err err' files paid decided 
             | inl e ↦ inl (h.5.status ∙ e)
             | inr e ↦ inr (h.5.status ∙ e)
           ]
+    ]
+
+-- ---- accepted files
+
+-- what is asked for and comes to something behind is built
+behind_built : (what : Option Unbuilt) (files : Files) (names : List (List ℕ)) (arisen : Outcome) → Asks what files names arisen → is_behind arisen ≡ true → (what ≡ None) × Comes files names arisen
+behind_built (Some what) files names arisen asks behind = not_both (is_behind arisen) behind (ap is_behind asks)
+behind_built None files names arisen asks behind = (refl, asks)
+
+-- an accepted job comes to something behind
+behind_job : (words : List (List ℕ)) (files : Files) (names : List (List ℕ)) (arisen : Outcome) → IsAcceptedJob words files → JobComes words files names arisen → is_behind arisen ≡ true
+unfolding JobComes
+behind_job words files names arisen good h =
+    let task : h.0 ≡ good.0 = one_job words h.0 good.0 h.1 good.1 in
+    let same : good.0.files ≡ names = ap (λ (t : Task). t.files) (sym task) ∙ sym h.2 in
+    let comes : Comes files names arisen = subst (λ what. Asks what files names arisen) (ap unbuilt_of task ∙ good.2) h.3 in
+    accepted_behind files names arisen comes (subst (Accepted files) same good.3)
+
+-- a job that comes to something behind is accepted
+job_accepted : (words : List (List ℕ)) (files : Files) (names : List (List ℕ)) (arisen : Outcome) → JobComes words files names arisen → is_behind arisen ≡ true → IsAcceptedJob words files
+unfolding JobComes
+job_accepted words files names arisen h behind =
+    let built = behind_built (unbuilt_of h.0) files names arisen h.3 behind in
+    (h.0, h.1, built.0, subst (Accepted files) h.2 (behind_accepted files names arisen built.1 behind))
+
+-- Nothing is refused by the steps that judge whether files are accepted exactly where they are.
+pub came_accepted : (words : List (List ℕ)) (told : Option Files) (faults faults' : ℕ) (ends : Status) (out out' err err' : Option (List ℕ)) (files : Files) →
+    IsPaid words told faults faults' ends out out' err err' → is_decided ends ≡ true → told ≡ Some files → IsAcceptedJob words files ↔ CameTo words told (HasComeBehind ends out out' err err')
+came_accepted words told faults faults' ends out out' err err' files paid decided is = (
+  λ good.
+      let h = came words told faults faults' ends out out' err err' paid decided in
+      let same : files ≡ h.0 = sym (subst (λ t. AreTold t h.0) is h.1) in
+      (h.0, h.1, h.2, h.3, h.4, (behind words h.0 h.2 h.3 (subst (IsAcceptedJob words) same good) h.4, h.5)),
+  λ h.
+      let same : h.0 ≡ files = subst (λ t. AreTold t h.0) is h.1 in
+      subst (IsAcceptedJob words) same (accepted words h.0 h.2 h.3 h.4 h.5.0),
+)
+  where
+    behind : (words : List (List ℕ)) (files : Files) (names : List (List ℕ)) (arisen : Outcome) → IsAcceptedJob words files → Arises words files names arisen → is_behind arisen ≡ true
+    behind words files names arisen good arises = elim (is_arisen words files names arisen arises) [
+      | inl p ↦ absurd (p.0 good.0 good.1)
+      | inr p ↦ behind_job words files names arisen good p
+    ]
+
+    accepted : (words : List (List ℕ)) (files : Files) (names : List (List ℕ)) (arisen : Outcome) → Arises words files names arisen → is_behind arisen ≡ true → IsAcceptedJob words files
+    accepted words files names arisen arises past = elim (is_arisen words files names arisen arises) [
+      | inl p ↦ not_both (is_behind arisen) past (ap is_behind p.1)
+      | inr p ↦ job_accepted words files names arisen p past
     ]
 
 -- what was answered for an outcome was paid for it

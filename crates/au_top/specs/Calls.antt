@@ -5,9 +5,10 @@ use Rattle.au_base.specs.declared.statuses.Status.{Status}
 use Rattle.au_base.specs.declared.statuses.Status.TheVariants as status
 use Rattle.au_base.specs.Outside.{Files, Adds, AddsFront, HasRisen}
 use Rattle.au_words.specs.Jobs.{Task, IsJob}
+use Rattle.au_outcomes.specs.Accepted.{is_behind}
 use Rattle.au_outcomes.specs.Halts.{AreTold, StopsIn}
 use Rattle.au_top.specs.Jobs.{unbuilt_of}
-use Rattle.au_top.specs.Dues.{Due, Owes, Arises, due_line, printed}
+use Rattle.au_top.specs.Dues.{Due, Owes, Arises, due_line, due_of, printed}
 use Rattle.au_refusals.specs.Refusals.{is_refusal}
 use Rattle.au_refusals.specs.Lines.{refusal_line, limit_line, missing_line, read_fault_line}
 use Rattle.std.specs.List.{flat_map}
@@ -100,3 +101,8 @@ abbrev pub HasRun : Bool → Option (List ℕ) → Option (List ℕ) → List (L
 HasRun success out out' names arisen =
     (first : First) × (arisen ≡ outcome.Prints first) × (first.success ≡ success)
     × Adds out out' (flat_map printed first.prints)
+
+-- The steps that judge whether files are accepted have refused nothing, and what came behind them was paid: the program
+-- prints, or a file doesn't print.
+abbrev pub HasComeBehind : Status → (out out' err err' : Option (List ℕ)) → List (List ℕ) → Outcome → Type 0
+HasComeBehind ends out out' err err' names arisen = IsTrue (is_behind arisen) × Pays (due_of names arisen) ends out out' err err'

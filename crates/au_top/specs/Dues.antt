@@ -9,6 +9,7 @@ use Rattle.au_words.specs.Jobs.{Task, IsJob, IsNoJob}
 use Rattle.au_refusals.specs.Lines.{words_line, missing_line, limit_line, refusal_line}
 use Rattle.au_refusals.specs.declared.refusals.Unbuilt.{Unbuilt}
 use Rattle.au_refusals.specs.declared.refusals.Refusal.TheVariants.{WordNotYet}
+use Rattle.au_outcomes.specs.Accepted.{Accepted}
 use Rattle.au_outcomes.specs.Outcomes.{AreFiles, Comes, most_files}
 use Rattle.au_outcomes.specs.Trees.{HasNoTree, HasTokens}
 use Rattle.au_outcomes.specs.declared.outcomes.Outcome.{Outcome}
@@ -72,3 +73,7 @@ IsUnread words files =
     (task : Task) × IsJob words task × (unbuilt_of task ≡ None) × (length task.files ≤ most_files)
     × (all : List (List ℕ)) × AreFiles files task.files all
     × (file : ℕ) × (bytes : List ℕ) × (slice_get all file ≡ Some bytes) × HasTokens file bytes HasNoTree
+
+-- The words are a job that asks for nothing that isn't built, and its files are accepted.
+abbrev pub IsAcceptedJob : List (List ℕ) → Files → Type 0
+IsAcceptedJob words files = (task : Task) × IsJob words task × (unbuilt_of task ≡ None) × Accepted files task.files

@@ -1,12 +1,12 @@
 //! The call that the program is.
 
-ghost use Rattle.std.specs.Prelude.{◌≡◌, ◌≢◌, ◌⊎◌, ◌≤◌, Some, true, false, IfOk, IsTrue, map, vec_len};
+ghost use Rattle.std.specs.Prelude.{◌≡◌, ◌≢◌, ◌↔◌, ◌⊎◌, ◌≤◌, Some, true, false, IfOk, IsTrue, map, vec_len};
 ghost use Rattle.std.specs.String.{string_bytes};
 ghost use Rattle.au_base.specs.Outside.{Files, HasRisen, Counts};
 ghost use Rattle.au_words.specs.Jobs.{IsNoJob};
-ghost use Rattle.au_top.specs.Calls.{CameTo, FailsBehind, HasPassed, HasRun, IsCut, IsMissingSo, IsPaid, IsRefusedSo, IsUntouched, MayOwe, Pays, is_decided};
+ghost use Rattle.au_top.specs.Calls.{CameTo, FailsBehind, HasComeBehind, HasPassed, HasRun, IsCut, IsMissingSo, IsPaid, IsRefusedSo, IsUntouched, MayOwe, Pays, is_decided};
 ghost use Rattle.au_outcomes.specs.Halts.{AreTold, is_read_fault, is_missing};
-ghost use Rattle.au_top.specs.Dues.{Arises, AsksForNoFile, AsksForTooMany, Due, IsUnread, Owes};
+ghost use Rattle.au_top.specs.Dues.{Arises, AsksForNoFile, AsksForTooMany, Due, IsAcceptedJob, IsUnread, Owes};
 
 use crate::answering::{AnswerFault, answer};
 use crate::unbuilt::unbuilt_of;
@@ -40,6 +40,11 @@ pub fn austral<S: Shelf, I: Source, O: Sink, E: Sink>(
         → Pays due result (O.written out.old) (O.written out.new) (E.written err.old) (E.written err.new) }
     ensures unread { (files : Files) → S.files shelf.old ≡ Some files → IsUnread (map string_bytes words.now) files
         → IsTrue (is_decided result) → (result ≡ Status.Refused) ⊎ (result ≡ Status.Limit) }
+    // Where files are told, a job isn't refused by the steps that judge whether its files are accepted exactly
+    // where they are: then the call ends as their program prints, or for a file that doesn't print.
+    ensures accepted { (files : Files) → S.files shelf.old ≡ Some files → IsTrue (is_decided result)
+        → IsAcceptedJob (map string_bytes words.now) files ↔ CameTo (map string_bytes words.now) (S.files shelf.old)
+        (HasComeBehind result (O.written out.old) (O.written out.new) (E.written err.old) (E.written err.new)) }
     // 64 comes exactly where the words are no job.
     ensures words { result ≡ Status.Words → IsNoJob (map string_bytes words.now) }
     ensures no_job { IsNoJob (map string_bytes words.now) → IsTrue (is_decided result) → result ≡ Status.Words }

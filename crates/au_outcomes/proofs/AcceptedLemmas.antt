@@ -1,0 +1,289 @@
+-- Files come to something behind the steps that judge whether they are accepted exactly where they are.
+use Rattle.std.proofs.Common.{◌≡◌, ℕ, ◌+◌, Bool, true, false, List, [], ◌∷◌, ◌++◌, length, map, Option, Some, None, ap, ◌∙◌, sym, refl, subst, ◌⊎◌, inl, inr}
+use Rattle.std.specs.Prelude.{if◌then◌else◌}
+use Rattle.std.specs.Option.{option_map, option_or}
+use Rattle.au_base.specs.declared.limits.Limit.{Limit as Passed}
+use Rattle.au_base.specs.declared.places.Pos.{Pos}
+use Rattle.au_base.specs.Outside.{Files}
+use Rattle.au_imports.specs.declared.faults.ImportFault.{ImportFault}
+use Rattle.au_imports.specs.declared.faults.ImportFault.TheVariants as imports
+use Rattle.au_imports.specs.Good.{IsGood}
+use Rattle.au_imports.specs.Importing as importing
+use Rattle.au_imports.specs.Importing.{of_names, of_promises}
+use Rattle.au_imports.proofs.GoodLemmas.{good_accepted, good_from}
+use Rattle.au_modules.specs.Accepted.{IsProgram}
+use Rattle.au_modules.specs.declared.faults.ModuleFault.{ModuleFault}
+use Rattle.au_modules.specs.declared.faults.ModuleFault.TheVariants as modules
+use Rattle.au_modules.specs.declared.parts.Given.{Given}
+use Rattle.au_modules.specs.Programs as programs
+use Rattle.au_modules.specs.Programs.{Entry, body_fault, fault_in, first_again, first_bodiless, first_fault, given, is_again, is_shipped, lacks_body, modules_of, pragma_fault}
+use Rattle.au_modules.proofs.ProgramLemmas.{program_accepted, program_from}
+use Rattle.au_name_faults.specs.declared.faults.NameFault.{NameFault}
+use Rattle.au_name_faults.specs.declared.faults.NameFault.TheVariants as names
+use Rattle.au_name_faults.specs.NameFaults.{name_fault}
+use Rattle.au_promises.specs.declared.faults.PromiseFault.{PromiseFault}
+use Rattle.au_promises.specs.declared.faults.PromiseFault.TheVariants as promises
+use Rattle.au_promises.specs.Promises.{promise_fault}
+use Rattle.au_outcomes.specs.Accepted.{Accepted, AreAcceptedAs, is_behind, program_files, program_modules}
+use Rattle.au_outcomes.specs.Halts.{IsUnhad}
+use Rattle.au_outcomes.specs.Outcomes.{AreFiles, BytesCome, Comes, IsFirst}
+use Rattle.au_outcomes.specs.Programs.{IsUnprinting, PrintingComes, PrintsSo, ReadsCome, import_outcome, judged_by, module_outcome, program_outcome}
+use Rattle.au_outcomes.specs.Trees.{AreRead, FirstHalts, Halts, ReadFile}
+use Rattle.au_outcomes.specs.declared.outcomes.Outcome.{Outcome}
+use Rattle.au_outcomes.specs.declared.outcomes.Outcome.TheVariants as outcome
+use Rattle.au_refusals.specs.declared.refusals.Refusal.TheVariants as refusal
+use Rattle.au_syntax.specs.Plain.{Bytes}
+use Rattle.au_outcomes.proofs.FetchLemmas.{few_had, files_few}
+use Rattle.au_outcomes.proofs.HaltLemmas.{are_read_same, first_halts_or_read}
+use Rattle.au_outcomes.proofs.JudgeLemmas.{judged_so}
+use Rattle.au_outcomes.proofs.NameLemmas.{files_same, first_or_files, many_or_few}
+use Rattle.au_outcomes.proofs.PrintLemmas.{bytes_found}
+
+-- ---- one of two, or neither
+
+or_some : {A : Type 0} (o p : Option A) (x : A) → option_or o p ≡ Some x → (o ≡ Some x) ⊎ (p ≡ Some x)
+or_some None p x h = inr h
+or_some (Some y) p x h = inl h
+
+or_first : {A : Type 0} (o p : Option A) → option_or o p ≡ None → o ≡ None
+or_first None p h = refl
+or_first (Some x) p h = cc
+
+or_second : {A : Type 0} (o p : Option A) → option_or o p ≡ None → p ≡ None
+or_second None p h = h
+or_second (Some x) p h = cc
+
+-- ---- files and modules are never refused for want of memory
+
+alone_unwanted : (shipped : Bool) (pragma : Option Pos) (limit : Option Passed) → option_or (pragma_fault shipped pragma) (option_map modules.Limit limit) ≡ Some modules.Memory → ⊥
+alone_unwanted true pragma None h = cc
+alone_unwanted true pragma (Some limit) h = cc
+alone_unwanted false None None h = cc
+alone_unwanted false None (Some limit) h = cc
+alone_unwanted false (Some at) limit h = cc
+
+first_unwanted : (files : List Entry) → first_fault files ≡ Some modules.Memory → ⊥
+first_unwanted [] h = cc
+first_unwanted (e ∷ files) h = elim (or_some (fault_in e) (first_fault files) modules.Memory h) [
+  | inl p ↦ alone_unwanted (is_shipped e) e.tree.pragma _ p
+  | inr p ↦ first_unwanted files p
+]
+
+given_twice : (b : Bool) (name : Bytes) (o : Option ModuleFault) → (if b then Some (modules.TwiceGiven name) else o) ≡ Some modules.Memory → o ≡ Some modules.Memory
+given_twice true name o h = cc
+given_twice false name o h = h
+
+again_unwanted : (before rest : List Given) → first_again before rest ≡ Some modules.Memory → ⊥
+again_unwanted before [] h = cc
+again_unwanted before (g ∷ rest) h = again_unwanted (before ++ g ∷ []) rest (given_twice (is_again before g) g.name (first_again (before ++ g ∷ []) rest) h)
+
+bodiless_unwanted : (found : Option Given) → option_map body_fault found ≡ Some modules.Memory → ⊥
+bodiless_unwanted None h = cc
+bodiless_unwanted (Some g) h = cc
+
+modules_unwanted : (files : List Entry) → programs.refusal_of files ≡ Some modules.Memory → ⊥
+modules_unwanted files h = elim (or_some (first_fault files) _ modules.Memory h) [
+  | inl p ↦ first_unwanted files p
+  | inr p ↦ elim (or_some (first_again [] (map given files)) _ modules.Memory p) [
+    | inl q ↦ again_unwanted [] (map given files) q
+    | inr q ↦ bodiless_unwanted _ q
+  ]
+]
+
+names_unwanted : (n : Option NameFault) (p : Option PromiseFault) → option_or (option_map of_names n) (option_map of_promises p) ≡ Some imports.Memory → ⊥
+names_unwanted None None h = cc
+names_unwanted None (Some (promises.NotDefined at name)) h = cc
+names_unwanted None (Some (promises.Differs at other name)) h = cc
+names_unwanted (Some (names.NoModule at name)) p h = cc
+names_unwanted (Some (names.Late at name)) p h = cc
+names_unwanted (Some (names.NotVisible at name)) p h = cc
+names_unwanted (Some (names.NameTwice at name)) p h = cc
+
+-- ---- a program that comes to nothing before it is seen what it prints
+
+modules_none : (m : Option ModuleFault) → (m ≡ Some modules.Memory → ⊥) → judged_by module_outcome m ≡ None → m ≡ None
+modules_none None unwanted h = refl
+modules_none (Some (modules.TwiceGiven name)) unwanted h = cc
+modules_none (Some (modules.NoBody name)) unwanted h = cc
+modules_none (Some (modules.Unsafe at)) unwanted h = cc
+modules_none (Some (modules.Limit limit)) unwanted h = cc
+modules_none (Some modules.Memory) unwanted h = absurd (unwanted refl)
+
+imports_none : (i : Option ImportFault) → (i ≡ Some imports.Memory → ⊥) → judged_by import_outcome i ≡ None → i ≡ None
+imports_none None unwanted h = refl
+imports_none (Some (imports.NoModule at name)) unwanted h = cc
+imports_none (Some (imports.Late at name)) unwanted h = cc
+imports_none (Some (imports.NotVisible at name)) unwanted h = cc
+imports_none (Some (imports.NameTwice at name)) unwanted h = cc
+imports_none (Some (imports.NotDefined at name)) unwanted h = cc
+imports_none (Some (imports.Differs at other name)) unwanted h = cc
+imports_none (Some imports.Memory) unwanted h = absurd (unwanted refl)
+
+good_judged : (files : List Entry) → program_outcome files ≡ None → IsProgram files × IsGood (modules_of files)
+unfolding program_outcome
+good_judged files h =
+    let m = programs.refusal_of files in
+    let i = importing.refusal_of (modules_of files) in
+    let first : judged_by module_outcome m ≡ None = or_first (judged_by module_outcome m) (judged_by import_outcome i) h in
+    let second : judged_by import_outcome i ≡ None = or_second (judged_by module_outcome m) (judged_by import_outcome i) h in (
+      program_from files (modules_none m (modules_unwanted files) first),
+      good_from (modules_of files) (imports_none i (names_unwanted (name_fault (modules_of files)) (promise_fault (modules_of files))) second),
+    )
+
+judged_accepted : (files : List Entry) → IsProgram files → IsGood (modules_of files) → program_outcome files ≡ None
+judged_accepted files program good = judged_so files files (modules_of files) refl refl (program_accepted files program) (good_accepted (modules_of files) good)
+
+-- ---- what comes before, and what comes behind
+
+pub not_both : {T : Type 0} (b : Bool) → b ≡ true → b ≡ false → T
+not_both true h k = cc
+not_both false h k = cc
+
+halts_before : (file : ℕ) (bytes : List ℕ) (x : Outcome) → Halts file bytes x → is_behind x ≡ false
+halts_before file bytes (outcome.Passes limit) h = refl
+halts_before file bytes (outcome.Refused (refusal.Byte at)) h = refl
+halts_before file bytes (outcome.Refused (refusal.Syntax at)) h = refl
+halts_before file bytes other h = absurd h
+
+first_halts_before : (file : ℕ) (all : List (List ℕ)) (x : Outcome) → FirstHalts file all x → is_behind x ≡ false
+first_halts_before file [] x h = absurd h
+first_halts_before file (bytes ∷ all) x h = elim h [
+  | inl p ↦ halts_before file bytes x p
+  | inr p ↦ first_halts_before (file + 1) all x p.1
+]
+
+unhad_before : (files : Files) (name : List ℕ) (x : Outcome) → IsUnhad files name x → is_behind x ≡ false
+unhad_before files name (outcome.Missing other) h = refl
+unhad_before files name (outcome.Passes limit) h = refl
+unhad_before files name other h = absurd h
+
+first_unhad_before : (files : Files) (names : List (List ℕ)) (x : Outcome) → IsFirst (λ one. IsUnhad files one x) files names → is_behind x ≡ false
+first_unhad_before files [] x h = absurd h
+first_unhad_before files (name ∷ names) x h = elim h [
+  | inl p ↦ unhad_before files name x p
+  | inr p ↦ first_unhad_before files names x p.1
+]
+
+found_before : (o x : Outcome) → is_behind o ≡ false → Some o ≡ Some x → is_behind x ≡ false
+found_before o x h e = let same : o ≡ x = cc in subst (λ z. is_behind z ≡ false) same h
+
+imports_before : (i : Option ImportFault) (x : Outcome) → judged_by import_outcome i ≡ Some x → is_behind x ≡ false
+imports_before (Some (imports.NoModule at name)) x e = found_before _ x refl e
+imports_before (Some (imports.Late at name)) x e = found_before _ x refl e
+imports_before (Some (imports.NotVisible at name)) x e = found_before _ x refl e
+imports_before (Some (imports.NameTwice at name)) x e = found_before _ x refl e
+imports_before (Some (imports.NotDefined at name)) x e = found_before _ x refl e
+imports_before (Some (imports.Differs at other name)) x e = found_before _ x refl e
+imports_before (Some imports.Memory) x e = cc
+imports_before None x e = cc
+
+modules_before : (m : Option ModuleFault) (x : Outcome) → judged_by module_outcome m ≡ Some x → is_behind x ≡ false
+modules_before (Some (modules.TwiceGiven name)) x e = found_before _ x refl e
+modules_before (Some (modules.NoBody name)) x e = found_before _ x refl e
+modules_before (Some (modules.Unsafe at)) x e = found_before _ x refl e
+modules_before (Some (modules.Limit limit)) x e = found_before _ x refl e
+modules_before (Some modules.Memory) x e = cc
+modules_before None x e = cc
+
+judged_before : (files : List Entry) (x : Outcome) → program_outcome files ≡ Some x → is_behind x ≡ false
+unfolding program_outcome
+judged_before files x h = elim (or_some (judged_by module_outcome (programs.refusal_of files)) (judged_by import_outcome (importing.refusal_of (modules_of files))) x h) [
+  | inl p ↦ modules_before (programs.refusal_of files) x p
+  | inr p ↦ imports_before (importing.refusal_of (modules_of files)) x p
+]
+
+unprinting_behind : (one : ReadFile) (x : Outcome) → IsUnprinting one x → is_behind x ≡ true
+unprinting_behind one (outcome.Refused (refusal.NotYet at)) h = refl
+unprinting_behind one other h = absurd h
+
+prints_behind : (one : ReadFile) (x : Outcome) → PrintsSo one x → is_behind x ≡ true
+prints_behind one (outcome.Prints first) h = refl
+prints_behind one other h = absurd h
+
+printing_behind : (reads : List ReadFile) (x : Outcome) → PrintingComes reads x → is_behind x ≡ true
+printing_behind [] x h = absurd h
+printing_behind (one ∷ []) x h = elim h [
+  | inl p ↦ unprinting_behind one x p
+  | inr p ↦ prints_behind one x p
+]
+printing_behind (one ∷ next ∷ rest) x h = elim h [
+  | inl p ↦ unprinting_behind one x p
+  | inr p ↦ printing_behind (next ∷ rest) x p.1
+]
+
+-- ---- accepted files
+
+-- nothing is refused of them before it is seen what they print
+judged_none : (files : Files) (names all : List (List ℕ)) (reads : List ReadFile) → AreAcceptedAs files names all reads → program_outcome (program_files reads) ≡ None
+judged_none files names all reads good =
+    judged_accepted (program_files reads) good.program (record { names = good.named; promises = good.kept })
+
+-- they come to what they print
+pub printing_comes : (files : Files) (names all : List (List ℕ)) (reads : List ReadFile) (x : Outcome) → AreAcceptedAs files names all reads → PrintingComes reads x → Comes files names x
+printing_comes files names all reads x good h =
+    let bytes : BytesCome all x = inr (reads, good.read, inr (judged_none files names all reads good, h)) in
+    inr (good.few, files_few files names all x good.had bytes (bytes_found all x bytes))
+
+none_or_some : (o : Option Outcome) (x : Outcome) → o ≡ None → o ≡ Some x → ⊥
+none_or_some o x a b = let e : None ≡ Some x = sym a ∙ b in cc
+
+read_printing : (reads : List ReadFile) (x : Outcome) → program_outcome (program_files reads) ≡ None → ReadsCome reads x → PrintingComes reads x
+read_printing reads x none h = elim h [
+  | inl p ↦ absurd (none_or_some (program_outcome (program_files reads)) x none p)
+  | inr p ↦ p.1
+]
+
+bytes_printing : (all : List (List ℕ)) (reads : List ReadFile) (x : Outcome) → AreRead 0 all reads → program_outcome (program_files reads) ≡ None → BytesCome all x → PrintingComes reads x
+bytes_printing all reads x read none h = elim h [
+  | inl p ↦ absurd (first_halts_or_read 0 all x reads p read)
+  | inr p ↦ read_printing reads x none (subst (λ rs. ReadsCome rs x) (are_read_same 0 all p.0 reads p.1 read) p.2)
+]
+
+pub comes_printing : (files : Files) (names all : List (List ℕ)) (reads : List ReadFile) (x : Outcome) → AreAcceptedAs files names all reads → Comes files names x → PrintingComes reads x
+comes_printing files names all reads x good h = elim h [
+  | inl p ↦ absurd (many_or_few (length names) p.0 good.few)
+  | inr p ↦ elim (few_had files names x p.1) [
+    | inl q ↦ absurd (first_or_files files names all x q good.had)
+    | inr q ↦
+        bytes_printing all reads x good.read (judged_none files names all reads good)
+        (subst (λ l. BytesCome l x) (files_same files names q.0 all q.1 good.had) q.2)
+  ]
+]
+
+-- ---- files that come to something behind
+
+read_behind : (reads : List ReadFile) (x : Outcome) → ReadsCome reads x → is_behind x ≡ true → program_outcome (program_files reads) ≡ None
+read_behind reads x h behind = elim h [
+  | inl p ↦ not_both (is_behind x) behind (judged_before (program_files reads) x p)
+  | inr p ↦ p.0
+]
+
+-- what of such files was read
+IsReadSo : List (List ℕ) → List ReadFile → Type 0
+IsReadSo all reads = AreRead 0 all reads × (program_outcome (program_files reads) ≡ None)
+
+bytes_behind : (all : List (List ℕ)) (x : Outcome) → BytesCome all x → is_behind x ≡ true → (reads : List ReadFile) × IsReadSo all reads
+unfolding IsReadSo
+bytes_behind all x h behind = elim h [
+  | inl p ↦ not_both (is_behind x) behind (first_halts_before 0 all x p)
+  | inr p ↦ (p.0, (p.1, read_behind p.0 x p.2 behind))
+]
+
+pub behind_accepted : (files : Files) (names : List (List ℕ)) (x : Outcome) → Comes files names x → is_behind x ≡ true → Accepted files names
+unfolding IsReadSo
+behind_accepted files names x h behind = elim h [
+  | inl p ↦ not_both (is_behind x) behind (ap is_behind p.1)
+  | inr p ↦ elim (few_had files names x p.1) [
+    | inl q ↦ not_both (is_behind x) behind (first_unhad_before files names x q)
+    | inr q ↦
+        let r = bytes_behind q.0 x q.2 behind in
+        let good = good_judged (program_files r.0) r.1.1 in (
+          q.0,
+          r.0,
+          record { few = p.0; had = q.1; read = r.1.0; program = good.0; named = good.1.names; kept = good.1.promises },
+        )
+  ]
+]
+
+pub accepted_behind : (files : Files) (names : List (List ℕ)) (x : Outcome) → Comes files names x → Accepted files names → is_behind x ≡ true
+accepted_behind files names x h good = printing_behind good.1 x (comes_printing files names good.0 good.1 x good.2 h)

@@ -1,0 +1,56 @@
+-- Which files are accepted, as far as they are judged: those of a program that the written rules derive.
+use Rattle.std.specs.Prelude.{ℕ, ◌≤◌, ◌++◌, Bool, true, false, List, length}
+use Rattle.au_base.specs.Outside.{Files}
+use Rattle.au_modules.specs.Accepted.{IsProgram}
+use Rattle.au_modules.specs.Programs.{Entry, ModuleParts, modules_of}
+use Rattle.au_name_faults.specs.Good.{AllNamesAreGood}
+use Rattle.au_promises.specs.Fulfilled.{AllFulfil}
+use Rattle.au_refusals.specs.declared.refusals.Refusal.{Refusal}
+use Rattle.au_refusals.specs.declared.refusals.Refusal.TheVariants.{Byte, Syntax, NotYet, WordNotYet, Pair, Import}
+use Rattle.au_outcomes.specs.Outcomes.{AreFiles, most_files}
+use Rattle.au_outcomes.specs.Programs.{entries, shipped_entries}
+use Rattle.au_outcomes.specs.Trees.{AreRead, ReadFile}
+use Rattle.au_outcomes.specs.declared.outcomes.Outcome.{Outcome}
+use Rattle.au_outcomes.specs.declared.outcomes.Outcome.TheVariants as outcome
+
+-- the files of a program: the shipped ones, and then those that were read
+abbrev pub program_files : List ReadFile → List Entry
+program_files reads = shipped_entries ++ entries 0 reads
+
+-- its modules
+abbrev pub program_modules : List ReadFile → List ModuleParts
+program_modules reads = modules_of (program_files reads)
+
+-- Files of these names are accepted, with these bytes and as these trees: they are as few as they may be. They have
+-- these bytes, and none is too large. Each is cut into tokens that are the words of its tree, within the limits. With
+-- the shipped ones they are the files of a program. In its modules all names are good, and every body fulfils its
+-- interface.
+pub record AreAcceptedAs (files : Files) (names all : List (List ℕ)) (reads : List ReadFile) : Type 0 where
+  pub few : length names ≤ most_files
+  pub had : AreFiles files names all
+  pub read : AreRead 0 all reads
+  pub program : IsProgram (program_files reads)
+  pub named : AllNamesAreGood (program_modules reads)
+  pub kept : AllFulfil (program_modules reads)
+
+-- The files of these names are accepted.
+abbrev pub Accepted : Files → List (List ℕ) → Type 0
+Accepted files names = (all : List (List ℕ)) × (reads : List ReadFile) × AreAcceptedAs files names all reads
+
+-- whether a program is refused for what isn't built yet
+abbrev pub is_unbuilt : Refusal → Bool
+is_unbuilt (Byte at) = false
+is_unbuilt (Syntax at) = false
+is_unbuilt (NotYet at) = true
+is_unbuilt (WordNotYet what) = false
+is_unbuilt (Pair fault) = false
+is_unbuilt (Import fault) = false
+
+-- whether files come to this behind the steps that judge whether they are accepted: the program prints, or a file is
+-- none that prints, which is refused as what isn't built yet
+abbrev pub is_behind : Outcome → Bool
+is_behind outcome.NoJob = false
+is_behind (outcome.Missing name) = false
+is_behind (outcome.Passes limit) = false
+is_behind (outcome.Refused refusal) = is_unbuilt refusal
+is_behind (outcome.Prints first) = true
