@@ -1,1 +1,2 @@
 pub mod MentionLemmas
+pub mod ValueLemmas

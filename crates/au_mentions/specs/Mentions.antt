@@ -1,12 +1,13 @@
 -- The names that a declaration declares and those that it writes for types, classes and regions, in the
--- order of the text, outside the bodies of functions and methods. Type parameters aren't among them, nor
--- are labels of fields and parameters, nor the names of an instance's methods, which are those of its class.
--- What is written in a constant's value is judged with expressions.
+-- order of the text, outside the bodies of functions and methods. Those in the types that are written in a
+-- constant's value are among them. Type parameters aren't, nor are labels of fields and parameters, nor the
+-- names of an instance's methods, which are those of its class.
 use Rattle.std.specs.Prelude.{List, [], ◌∷◌, ◌++◌, map}
 use Rattle.std.specs.List.{flat_map}
 use Rattle.au_syntax.specs.Modules.{Constrained, Header, Variant, constant, opaque_type, record_type, union_type, function, class, instance, constant_body, function_body, instance_body}
 use Rattle.au_syntax.specs.Names.{Placed}
-use Rattle.au_syntax.specs.Plain.{Bytes, PlainDeclaration, PlainMethod}
+use Rattle.au_syntax.specs.Plain.{Bytes, PlainArguments, PlainDeclaration, PlainExpression, PlainExpressions, PlainMethod}
+use Rattle.au_syntax.specs.Sizes.{expression_types, expressions_types, arguments_types}
 use Rattle.au_syntax.specs.Types.{WrittenType, WrittenTypes, Labelled, named, reference, no_types, types}
 use Rattle.au_tables.specs.declared.spaces.Space.TheVariants.{Values, Callables, Types}
 use Rattle.au_types.specs.declared.parameters.Parameter.{Parameter}
@@ -28,6 +29,17 @@ unfoldable mutual
   pub argument_mentions : WrittenTypes → List Mention
   argument_mentions no_types = []
   argument_mentions (types t rest) = type_mentions t ++ argument_mentions rest
+
+-- the names in the types that are written in a constant's value, or in a part of it
+unfoldable pub value_mentions : PlainExpression → List Mention
+value_mentions e = flat_map type_mentions (expression_types e)
+
+-- the same of the arguments of a call, and of named ones
+unfoldable pub values_mentions : PlainExpressions → List Mention
+values_mentions es = flat_map type_mentions (expressions_types es)
+
+unfoldable pub named_values_mentions : PlainArguments → List Mention
+named_values_mentions args = flat_map type_mentions (arguments_types args)
 
 -- a field or a parameter
 abbrev pub labelled_mentions : Labelled Bytes → List Mention
@@ -67,7 +79,7 @@ mentions (union_type at name parameters universe cases) = Declares Types name.na
 mentions (function at generics header) = flat_map constraint_mentions generics ++ function_mentions header
 mentions (class at name parameter methods) = Declares Types name.name name.at ∷ flat_map function_mentions methods
 mentions (instance at generics name t) = instance_mentions generics name t
-mentions (constant_body at name t value) = Declares Values name.name name.at ∷ type_mentions t
+mentions (constant_body at name t value) = Declares Values name.name name.at ∷ (type_mentions t ++ value_mentions value)
 mentions (function_body at generics header body stop) = flat_map constraint_mentions generics ++ function_mentions header
 mentions (instance_body at generics name t methods) = instance_mentions generics name t ++ flat_map method_mentions methods
 

@@ -1,7 +1,9 @@
--- What the lists in a declaration of the code say.
+-- What the lists and expressions in a declaration of the code say.
 use Rattle.std.specs.Prelude.{ℕ, List, map}
 use Rattle.au_syntax.specs.contracts.parsed.ParsedPhase.TheImpl.{ghosts as parsed}
 use Rattle.au_syntax.specs.declared.parsed.Parsed.{Parsed}
+use Rattle.au_syntax.specs.declared.expressions.Argument.{Argument}
+use Rattle.au_syntax.specs.declared.expressions.Expr.{Expr}
 use Rattle.au_syntax.specs.declared.names.Field.{Field}
 use Rattle.au_syntax.specs.declared.names.Ident.{Ident}
 use Rattle.au_syntax.specs.declared.declarations.Generic.{Generic}
@@ -11,9 +13,9 @@ use Rattle.au_syntax.specs.declared.declarations.TypeParameter.{TypeParameter}
 use Rattle.au_syntax.specs.declared.declarations.UnionCase.{UnionCase}
 use Rattle.au_syntax.specs.Modules.{Constrained, Header, InUniverse, Variant}
 use Rattle.au_syntax.specs.Names.{Placed}
-use Rattle.au_syntax.specs.Plain.{Bytes, PlainMethod, plain_name, plain_labelled, plain_in_universe, plain_constrained, plain_header, plain_variant, plain_method}
+use Rattle.au_syntax.specs.Plain.{Bytes, PlainArguments, PlainExpression, PlainExpressions, PlainMethod, plain_name, plain_labelled, plain_in_universe, plain_constrained, plain_header, plain_variant, plain_method, plain_expression, plain_expressions, plain_arguments}
 use Rattle.au_syntax.specs.Types.{Labelled}
-use Rattle.au_syntax.specs.Views.{placed, labelled, in_universe, constrained, header, variant, method_body}
+use Rattle.au_syntax.specs.Views.{placed, labelled, in_universe, constrained, header, variant, method_body, expression, expression_all, argument_all}
 
 -- names
 abbrev pub names_said : List (Ident Parsed (List ℕ) (Unit {0}) (Unit {0})) → List (Placed Bytes)
@@ -51,3 +53,13 @@ cases_said cases = map (plain_variant parsed.name_bytes) (map (variant parsed) c
 -- methods of an instance
 abbrev pub methods_said : List (Method Parsed (List ℕ) (Unit {0}) (Unit {0})) → List PlainMethod
 methods_said methods = map (plain_method parsed.name_bytes) (map (method_body parsed) methods)
+
+-- an expression, several of them, and named arguments
+abbrev pub expression_said : Expr Parsed (List ℕ) (Unit {0}) (Unit {0}) → PlainExpression
+expression_said e = plain_expression parsed.name_bytes (expression parsed e)
+
+abbrev pub expressions_said : List (Expr Parsed (List ℕ) (Unit {0}) (Unit {0})) → PlainExpressions
+expressions_said es = plain_expressions parsed.name_bytes (expression_all parsed es)
+
+abbrev pub arguments_said : List (Argument Parsed (List ℕ) (Unit {0}) (Unit {0})) → PlainArguments
+arguments_said args = plain_arguments parsed.name_bytes (argument_all parsed args)

@@ -5,6 +5,7 @@ pub mod listing;
 pub mod mentions;
 mod pushing;
 pub mod scopes;
+mod values;
 
 pub use listing::mentions_of;
 pub use mentions::Mention;

@@ -2,8 +2,8 @@
 
 ghost use Rattle.std.specs.Prelude.{◌≡◌, ◌++◌, ◌∷◌, [], IfOk, OnOk};
 ghost use Rattle.std.specs.List.{flat_map};
-ghost use Rattle.au_mentions.specs.Mentions.{case_mentions, constraint_mentions, function_mentions, instance_mentions, labelled_mentions, mentions, method_mentions, type_mentions};
-ghost use Rattle.au_mentions.specs.Said.{cases_said, fields_said, generics_said, header_said, headers_said, methods_said};
+ghost use Rattle.au_mentions.specs.Mentions.{case_mentions, constraint_mentions, function_mentions, instance_mentions, labelled_mentions, mentions, method_mentions, type_mentions, value_mentions};
+ghost use Rattle.au_mentions.specs.Said.{cases_said, expression_said, fields_said, generics_said, header_said, headers_said, methods_said};
 ghost use Rattle.au_syntax.specs.Plain.{plain_declaration, plain_name};
 ghost use Rattle.au_syntax.specs.Views.{declaration, placed, written};
 ghost use Rattle.au_syntax.specs.contracts.parsed.ParsedPhase.TheImpl.{ghosts as parsed};
@@ -13,8 +13,11 @@ use crate::pushing::{
     push_cases, push_declared, push_fields, push_generics, push_methods, push_signature,
     push_signatures, push_type, push_written,
 };
+use crate::values::push_value;
 use au_base::Memory;
-use au_syntax::{Decl, Field, Generic, Ident, Method, Parsed, Signature, TypeText, UnionCase};
+use au_syntax::{
+    Decl, Expr, Field, Generic, Ident, Method, Parsed, Signature, TypeText, UnionCase,
+};
 use au_tables::Space;
 use std::alloc::Global;
 
@@ -29,6 +32,20 @@ fn push_constant(
 {
     push_declared(alloc, list, Space::Values, name)?;
     push_type(alloc, list, of)
+}
+
+/// Puts the names of a constant with its value.
+fn push_constant_body(
+    alloc: Global,
+    list: &mut Vec<Mention>,
+    name: &Ident<Parsed>,
+    of: &TypeText,
+    value: &Expr<Parsed>,
+) -> Result<(), Memory>
+    ensures { OnOk result (list.new.items ≡ list.old.items ++ Mention.Declares Space.Values name.now.name name.now.at ∷ (type_mentions (written of.now) ++ value_mentions (expression_said value.now))) }
+{
+    push_constant(alloc, list, name, of)?;
+    push_value(alloc, list, value)
 }
 
 /// Puts the names of a record. Its constructor has the record's name.
@@ -126,7 +143,7 @@ fn push_mentions(alloc: Global, list: &mut Vec<Mention>, decl: &Decl<Parsed>) ->
         Decl::Function(_, generics, signature) => push_function(alloc, list, generics, signature),
         Decl::Class(_, name, _, methods) => push_class(alloc, list, name, methods),
         Decl::Instance(_, generics, name, of) => push_instance(alloc, list, generics, name, of),
-        Decl::ConstantBody(_, name, of, _) => push_constant(alloc, list, name, of),
+        Decl::ConstantBody(_, name, of, value) => push_constant_body(alloc, list, name, of, value),
         Decl::FunctionBody(_, generics, signature, _, _) => {
             push_function(alloc, list, generics, signature)
         }
@@ -137,7 +154,8 @@ fn push_mentions(alloc: Global, list: &mut Vec<Mention>, decl: &Decl<Parsed>) ->
 }
 
 /// The names that a declaration declares and those that it writes for types, classes and regions, in the
-/// order of the text, outside the bodies of functions and methods.
+/// order of the text, outside the bodies of functions and methods. Those in the types that are written in a
+/// constant's value are among them.
 ///
 /// # Errors
 ///

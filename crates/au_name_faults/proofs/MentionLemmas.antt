@@ -4,14 +4,15 @@ use Rattle.std.specs.List.{flat_map}
 use Rattle.au_base.specs.declared.places.Pos.{Pos}
 use Rattle.au_syntax.specs.Modules.{Constrained, Header, Variant, constant, opaque_type, record_type, union_type, function, class, instance, constant_body, function_body, instance_body}
 use Rattle.au_syntax.specs.Names.{Placed}
-use Rattle.au_syntax.specs.Plain.{Bytes, PlainDeclaration}
+use Rattle.au_syntax.specs.Plain.{Bytes, PlainDeclaration, PlainExpression}
+use Rattle.au_syntax.specs.Sizes.{expression_types}
 use Rattle.au_syntax.specs.Types.{WrittenType, WrittenTypes, Labelled, named, reference, no_types, types}
 use Rattle.au_tables.specs.declared.spaces.Space.{Space}
 use Rattle.au_tables.specs.declared.spaces.Space.TheVariants.{Values, Callables, Types}
 use Rattle.au_tables.specs.DeclaredNames.{value_names, callable_names, type_names, declared_names}
 use Rattle.au_mentions.specs.declared.mentions.Mention.{Mention}
 use Rattle.au_mentions.specs.declared.mentions.Mention.TheVariants.{Declares, Writes}
-use Rattle.au_mentions.specs.Mentions.{writes, type_mentions, argument_mentions, labelled_mentions, constraint_mentions, header_mentions, function_mentions, case_mentions, method_mentions, instance_mentions, mentions}
+use Rattle.au_mentions.specs.Mentions.{writes, type_mentions, argument_mentions, value_mentions, labelled_mentions, constraint_mentions, header_mentions, function_mentions, case_mentions, method_mentions, instance_mentions, mentions}
 use Rattle.au_name_faults.proofs.ChoiceLemmas.{Among, among-append, among-append_right, among-flat_map, among-flat_map_from}
 
 -- ---- parts of lists
@@ -64,6 +65,10 @@ mutual
   arguments_written : (ts : WrittenTypes) (x : Mention) → Among x (argument_mentions ts) → IsWritten x
   arguments_written no_types x m = absurd m
   arguments_written (types t rest) x m = both IsWritten (type_mentions t) (argument_mentions rest) x (type_written t x) (arguments_written rest x) m
+
+value_written : (value : PlainExpression) (x : Mention) → Among x (value_mentions value) → IsWritten x
+unfolding value_mentions
+value_written value x m = each IsWritten type_mentions (expression_types value) x (λ t one n. type_written t x n) m
 
 fields_written : (fields : List (Labelled Bytes)) (x : Mention) → Among x (flat_map labelled_mentions fields) → IsWritten x
 fields_written fields x m = each IsWritten labelled_mentions fields x (λ field one n. type_written field.of x n) m
@@ -128,7 +133,8 @@ mention_fits (class at name parameter methods) x m =
 mention_fits (instance at generics name t) x m = written_fits (instance at generics name t) x (instance_written generics name t x m)
 mention_fits (constant_body at name t value) x m =
     let d : PlainDeclaration = constant_body at name t value in
-    head_or (Fits d) (Declares Values name.name name.at) (type_mentions t) x (inl refl) (λ n. written_fits d x (type_written t x n)) m
+    head_or (Fits d) (Declares Values name.name name.at) (type_mentions t ++ value_mentions value) x (inl refl)
+    (λ n. written_fits d x (both IsWritten (type_mentions t) (value_mentions value) x (type_written t x) (value_written value x) n)) m
 mention_fits (function_body at generics header body stop) x m = generic_fits (function_body at generics header body stop) generics header x (inl refl) m
 mention_fits (instance_body at generics name t methods) x m =
     written_fits (instance_body at generics name t methods) x
