@@ -5,8 +5,8 @@ use Rattle.std.specs.Str.{bytes_eq}
 use Rattle.au_types.specs.declared.types.Region.{Region}
 use Rattle.au_types.specs.declared.types.Region.TheVariants.{Static, Named, Anonymous}
 use Rattle.au_types.specs.Types.{Meaning, Argument, Arguments, unit, truth, integer, text, parameter, named, reads, writes, of_type, in_region, no_arguments, arguments}
-use Rattle.au_matching.specs.Bindings.{Bindings, value_of, IsInOrder, with_pair, GivesType, GivesRegion}
-use Rattle.au_matching.specs.Substituted.{type_for, region_for, region_substituted, substituted, argument_substituted, all_substituted, OfRegion, EachName, EachNameOf, EachNameOfAll, Suits}
+use Rattle.au_matching.specs.Bindings.{Bindings, value_of, IsInOrder, GivesType, GivesRegion}
+use Rattle.au_matching.specs.Substituted.{type_for, region_for, region_substituted, substituted, argument_substituted, all_substituted, OfRegion, EachNameOf, EachNameOfAll, Suits}
 use Rattle.au_matching.specs.Composed.{composed}
 use Rattle.au_matching.proofs.BindingLemmas.{value_of-with, in_order-with}
 

@@ -7,9 +7,9 @@ use Rattle.au_types.specs.declared.types.Region.TheVariants.{Static, Named, Anon
 use Rattle.au_types.specs.Same.{same, same_argument, same_region}
 use Rattle.au_types.specs.Rows.{same_place}
 use Rattle.au_types.specs.Types.{Meaning, Argument, Arguments, unit, truth, integer, text, parameter, named, reads, writes, of_type, in_region, no_arguments, arguments}
-use Rattle.au_types.proofs.SameLemmas.{same_is, argument_is, place_is, place_self, region_is, region_self, same_self, argument_self}
+use Rattle.au_types.proofs.SameLemmas.{same_is, argument_is, place_is, place_self, region_is, same_self, argument_self}
 use Rattle.au_matching.specs.Bindings.{Bindings, value_of, with_pair, Extends, GivesType, GivesRegion}
-use Rattle.au_matching.specs.Substituted.{type_for, region_for, region_substituted, substituted, argument_substituted, all_substituted, OfRegion, EachName, EachNameOf, EachNameOfAll, Fixes}
+use Rattle.au_matching.specs.Substituted.{type_for, region_for, region_substituted, substituted, argument_substituted, all_substituted, OfRegion, EachNameOf, EachNameOfAll, Fixes}
 use Rattle.au_matching.specs.Matched.{Makes, only_if, bound, region_matched, and_then, matched, argument_matched, all_matched}
 use Rattle.au_matching.proofs.BindingLemmas.{value_of-with_same, extends_self, extends_on, extends_with, with_extends}
 use Rattle.au_matching.proofs.SubstitutedLemmas.{fixes_on, fixed_stays, fixes_on_of, fixed_stays_of}

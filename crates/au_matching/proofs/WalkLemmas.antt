@@ -1,9 +1,8 @@
 -- The walk over a pattern and a target, step by step.
-use Rattle.std.proofs.Common.{◌≡◌, ℕ, suc, ◌+◌, ◌<◌, Bool, true, false, List, [], ◌∷◌, length, drop, get_or, refl, sym, ap, ◌∙◌, Vec}
+use Rattle.std.proofs.Common.{◌≡◌, suc, List, [], ◌∷◌, length, refl, sym, ap, Vec}
 use Rattle.std.specs.Prelude.{Option, Some, None}
 use Rattle.std.specs.Global.{Global}
 use Rattle.std.specs.declared.boxed.Box.{Box}
-use Rattle.std.proofs.lemmas.List.{drop_more}
 use Rattle.au_types.specs.declared.types.DeclAt.{DeclAt}
 use Rattle.au_types.specs.declared.types.Region.{Region}
 use Rattle.au_types.specs.declared.types.Arg.{Arg}
@@ -12,7 +11,7 @@ use Rattle.au_types.specs.declared.types.Ty.{Ty, Named as Named-of, Named', Read
 use Rattle.au_types.specs.Types.{Meaning, Arguments, named, reads, writes}
 use Rattle.au_types.specs.Views.{meaning, argument, argument_all}
 use Rattle.au_matching.specs.Bindings.{Bindings}
-use Rattle.au_matching.specs.Matched.{only_if, and_then, matched, argument_matched, all_matched}
+use Rattle.au_matching.specs.Matched.{and_then, matched, argument_matched, all_matched}
 
 -- ---- a target that isn't of the pattern's form
 

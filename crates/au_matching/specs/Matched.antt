@@ -1,5 +1,5 @@
 -- Which substitution makes a pattern equal to a target.
-use Rattle.std.specs.Prelude.{◌≡◌, ℕ, List, Bool, Option, Some, None, ◌&&◌, if◌then◌else◌}
+use Rattle.std.specs.Prelude.{◌≡◌, ℕ, List, Bool, Option, Some, None, if◌then◌else◌}
 use Rattle.au_types.specs.declared.types.Region.{Region}
 use Rattle.au_types.specs.declared.types.Region.TheVariants.{Static, Named, Anonymous}
 use Rattle.au_types.specs.Rows.{same_place}

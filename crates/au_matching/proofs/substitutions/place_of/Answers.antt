@@ -1,4 +1,4 @@
-use Rattle.std.proofs.Common.{◌≡◌, ◌<◌, length, get_or, sym, ap, subst, ◌∙◌}
+use Rattle.std.proofs.Common.{◌<◌, length, get_or, sym, ap, subst, ◌∙◌}
 use Rattle.au_matching.proofs.ListedLemmas.{behind_here, behind_more}
 use Rattle.au_matching.proofs.substitutions.place_of.Goals as goal
 

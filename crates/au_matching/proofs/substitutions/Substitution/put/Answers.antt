@@ -11,9 +11,9 @@ invariant_of-self-2 c =
     let before = c.self.inside.bindings.items in
     let value = argument c.args.value in
     let listed : pairs c.insert.new.self.items ≡ with_pair c.args.name value (pairs before) =
-        ap pairs c.in_ok-insert.ensures.items
-        ∙ pairs_insert before c.place_of-place.result (record { name = c.args.name; value = c.args.value })
-        ∙ sym (c.place_of-place.ensures.place value)
+    ap pairs c.in_ok-insert.ensures.items
+    ∙ pairs_insert before c.place_of-place.result (record { name = c.args.name; value = c.args.value })
+    ∙ sym (c.place_of-place.ensures.place value)
     in
     subst IsInOrder (sym listed) (in_order-with c.args.name value (pairs before) c.self.invariant)
 
