@@ -1,0 +1,6 @@
+pub mod BindingLemmas
+pub mod ListedLemmas
+pub mod SubstitutedLemmas
+pub mod ComposedLemmas
+pub mod MatchedLemmas
+pub mod WalkLemmas

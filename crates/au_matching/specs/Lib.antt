@@ -1,0 +1,7 @@
+pub mod Codes
+pub mod Bindings
+pub mod Listed
+pub mod Substituted
+pub mod Composed
+pub mod Matched
+pub mod Answers

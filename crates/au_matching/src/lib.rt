@@ -1,0 +1,14 @@
+//! Substitutions, which give type parameters types and named regions regions, and matching, which finds
+//! the substitution that makes a pattern equal to a type.
+#![tactic(auto)]
+
+pub mod laws;
+pub mod matching;
+pub mod substituting;
+pub mod substitutions;
+#[cfg(test)]
+mod tests;
+
+pub use matching::{Match, match_types};
+pub use substituting::substitute;
+pub use substitutions::Substitution;
