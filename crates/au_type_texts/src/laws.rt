@@ -1,19 +1,12 @@
 //! Laws of the texts of types, of their depth and of their nodes.
 
-ghost use Rattle.std.specs.Prelude.{◌≡◌, List, Some};
+ghost use Rattle.std.specs.Prelude.{◌≡◌};
 ghost use Rattle.au_syntax.specs.Parts.{Each};
-ghost use Rattle.au_syntax.specs.Plain.{Bytes};
-ghost use Rattle.au_syntax.specs.Sizes.{type_depth, type_nodes};
-ghost use Rattle.au_syntax.specs.Types.{WrittenType};
-ghost use Rattle.au_types.specs.declared.headings.Head.{Head};
-ghost use Rattle.au_types.specs.declared.parameters.Parameter.{Parameter};
-ghost use Rattle.au_types.specs.declared.types.DeclAt.{DeclAt};
-ghost use Rattle.au_types.specs.Types.{Meaning};
-ghost use Rattle.au_written_types.specs.Meant.{meant};
 ghost use Rattle.au_type_texts.specs.Examples.{cases, examples, rows};
 ghost use Rattle.au_type_texts.specs.Sizes.{depth_limit, depth_of, nodes_limit, nodes_of};
 ghost use Rattle.au_type_texts.specs.Texts.{text_of};
 ghost use Rattle.au_type_texts.specs.Told.{AreTold, Stands, TextsTell};
+ghost use Rattle.au_type_texts.specs.Written.{SizesAreWritten};
 
 /// Two types with one text are one type, where both stand over rows of which the texts tell declarations
 /// apart.
@@ -22,9 +15,8 @@ pub fn texts_tell()
 {}
 
 /// The type that a written type means is as deep as the written one, and has as many nodes.
-pub fn sizes_are_those_written()
-    ensures { (opened : List Bytes) (params : List Parameter) (visible : List (Bytes × DeclAt)) (heads : List (DeclAt × Head)) (written : WrittenType) (t : Meaning)
-        → meant opened params visible heads written ≡ Some t → (depth_of t ≡ type_depth written) × (nodes_of t ≡ type_nodes written) }
+pub fn sizes_are_written()
+    ensures { SizesAreWritten }
 {}
 
 /// Types of each form have the texts, the depths and the nodes that are written for them by hand, and types
