@@ -1,13 +1,11 @@
 -- The rows of the examples tell declarations apart, and the types of the examples stand over them.
 use Rattle.std.proofs.Common.{◌≡◌, Bool, true, false, cond, Some, None, refl, ap, ◌∙◌, sym, subst}
 use Rattle.std.specs.Prelude.{Option, codes}
-use Rattle.au_syntax.specs.declared.declarations.Universe.TheVariants as universes
 use Rattle.au_syntax.specs.Parts.{Each}
 use Rattle.au_types.proofs.SameLemmas.{place_is}
 use Rattle.au_types.specs.declared.headings.Head.{Head}
-use Rattle.au_types.specs.declared.parameters.Parameter.{Parameter}
 use Rattle.au_types.specs.declared.types.DeclAt.{DeclAt}
-use Rattle.au_types.specs.Rows.{head_of, same_place}
+use Rattle.au_types.specs.Rows.{same_place}
 use Rattle.au_types.specs.declared.types.Region.TheVariants as regions
 use Rattle.au_types.specs.Types.{Meaning, Argument, unit, truth, reads, in_region}
 use Rattle.au_type_texts.specs.Examples.{exit_code, exit_code_head, holder, holder_head, rows, region_parameter, held, examples, Example}

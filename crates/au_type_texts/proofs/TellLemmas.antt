@@ -1,13 +1,12 @@
 -- Two types with one text are one type: a text begins with a word, which tells the form of the type, and
 -- what stands behind a type never continues that word.
-use Rattle.std.proofs.Common.{◌≡◌, ◌≢◌, ℕ, suc, Bool, true, false, not, cond, ◌==◌, ◌&&◌, ◌||◌, List, [], ◌∷◌, ◌++◌, Option, None, Some, refl, ap, ◌∙◌, sym, subst, append_assoc, map, arith}
+use Rattle.std.proofs.Common.{◌≡◌, ℕ, Bool, true, false, not, cond, ◌==◌, ◌||◌, List, [], ◌∷◌, ◌++◌, Option, None, Some, refl, ap, ◌∙◌, sym, subst, append_assoc, map}
 use Rattle.std.specs.Prelude.{codes, is_some, unwrap_or}
 use Rattle.std.specs.List.{list_all, list_any}
 use Rattle.std.specs.Map.{lookup}
 use Rattle.std.specs.Str.{bytes_eq}
-use Rattle.std.proofs.lemmas.Bool.{false≢true, and_parts, and_from, or_parts, or_from, or_left, or_right, eqb-true, not-true, both_ways, cond-true, cond-false, false_from_ne_true}
-use Rattle.std.proofs.lemmas.List.{append_cancel_left, append-nil}
-use Rattle.std.proofs.lemmas.Slice.Eq.{bytes_eq-Decides}
+use Rattle.std.proofs.lemmas.Bool.{false≢true, and_parts, and_from, or_parts, or_from, or_left, eqb-true, not-true, both_ways, cond-true, cond-false, false_from_ne_true}
+use Rattle.std.proofs.lemmas.List.{append_cancel_left}
 use Rattle.au_base.specs.declared.kinds.IntKind.{IntKind}
 use Rattle.au_base.specs.declared.kinds.IntKind.TheVariants as kinds
 use Rattle.au_types.specs.declared.headings.Head.{Head}

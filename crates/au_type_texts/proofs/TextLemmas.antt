@@ -1,20 +1,13 @@
 -- What a loop over arguments has still to add to their text.
-use Rattle.std.proofs.Common.{◌≡◌, ℕ, suc, zero, ◌+◌, ◌<◌, ◌≤◌, true, ◌&&◌, List, [], ◌∷◌, ◌++◌, length, drop, get_or, refl, ap, ◌∙◌, sym, subst, append_assoc, arith}
+use Rattle.std.proofs.Common.{◌≡◌, ℕ, suc, ◌+◌, ◌<◌, ◌≤◌, List, [], ◌∷◌, ◌++◌, length, drop, get_or, refl, ap, ◌∙◌, sym, append_assoc, arith}
 use Rattle.std.proofs.Math.Seq.{drop-cons}
 use Rattle.std.proofs.lemmas.List.{drop_all}
-use Rattle.std.proofs.lemmas.Bool.{and_parts}
-use Rattle.std.specs.Global.{Global}
-use Rattle.std.specs.Prelude.{Vec, codes, is_some}
-use Rattle.au_types.proofs.TypeLemmas.{named_means, reads_means, writes_means, type_argument_means}
+use Rattle.std.specs.Prelude.{codes}
 use Rattle.au_types.specs.declared.headings.Head.{Head}
-use Rattle.std.specs.declared.boxed.Box.{Box}
-use Rattle.au_types.specs.declared.types.Arg.{Arg, Of}
-use Rattle.au_types.specs.declared.types.Region.{Region}
-use Rattle.au_types.specs.declared.types.Ty.{Ty, Named, Read, Write}
-use Rattle.au_types.specs.Rows.{head_of}
+use Rattle.au_types.specs.declared.types.Arg.{Arg}
 use Rattle.au_types.specs.declared.types.DeclAt.{DeclAt}
 use Rattle.au_types.specs.Types.{Arguments, no_arguments, arguments}
-use Rattle.au_types.specs.Views.{argument, argument_all, meaning}
+use Rattle.au_types.specs.Views.{argument, argument_all}
 use Rattle.au_type_texts.specs.Texts.{argument_text, arguments_text, others_text}
 
 module _ (rows : List (DeclAt × Head)) where

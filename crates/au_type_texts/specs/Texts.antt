@@ -27,6 +27,10 @@ region_text regions.Static = codes "Static"
 region_text (regions.Named name) = name
 region_text regions.Anonymous = codes "~"
 
+-- a reference: what it begins with, the text of the type behind it, and its region
+abbrev pub reference_text : List ℕ → List ℕ → Region → List ℕ
+reference_text begin to region = begin ++ to ++ codes ", " ++ region_text region ++ codes "]"
+
 -- a declaration without arguments: the text of its row, and no byte where it has none
 abbrev pub head_text : Option Head → List ℕ
 head_text None = []
@@ -42,8 +46,8 @@ module _ (rows : List (DeclAt × Head)) where
     text_of text = codes "Span[Nat8, Static]"
     text_of (parameter name) = name
     text_of (named at args) = head_text (head_of rows at) ++ arguments_text args
-    text_of (reads to region) = codes "&[" ++ text_of to ++ codes ", " ++ region_text region ++ codes "]"
-    text_of (writes to region) = codes "&![" ++ text_of to ++ codes ", " ++ region_text region ++ codes "]"
+    text_of (reads to region) = reference_text (codes "&[") (text_of to) region
+    text_of (writes to region) = reference_text (codes "&![") (text_of to) region
 
     -- an argument
     pub argument_text : Argument → List ℕ

@@ -6,11 +6,17 @@ ghost use Rattle.au_type_texts.specs.Examples.{cases, examples, rows};
 ghost use Rattle.au_type_texts.specs.Sizes.{depth_limit, depth_of, nodes_limit, nodes_of};
 ghost use Rattle.au_type_texts.specs.Texts.{text_of};
 ghost use Rattle.au_type_texts.specs.Told.{AreTold, Stands, TextsTell};
+ghost use Rattle.au_type_texts.specs.Written.{SizesAreWritten};
 
 /// Two types with one text are one type, where both stand over rows of which the texts tell declarations
 /// apart.
 pub fn texts_tell()
     ensures { TextsTell }
+{}
+
+/// The type that a written type means is as deep as the written one, and has as many nodes.
+pub fn sizes_are_written()
+    ensures { SizesAreWritten }
 {}
 
 /// Types of each form have the texts, the depths and the nodes that are written for them by hand, and types

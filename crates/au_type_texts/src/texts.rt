@@ -1,10 +1,10 @@
 //! The texts of types.
 
-ghost use Rattle.std.specs.Prelude.{◌≡◌, ◌++◌, IfOk, OnOk, codes};
+ghost use Rattle.std.specs.Prelude.{◌≡◌, ◌++◌, IfOk, OnOk};
 ghost use Rattle.au_types.specs.Rows.{head_of};
 ghost use Rattle.au_types.specs.Views.{argument, argument_all, meaning};
 ghost use Rattle.au_type_texts.specs.Texts as texts;
-ghost use Rattle.au_type_texts.specs.Texts.{head_text, text_of};
+ghost use Rattle.au_type_texts.specs.Texts.{argument_text, arguments_text, head_text, reference_text, region_text, text_of};
 
 use au_base::{IntKind, Memory, Text};
 use au_types::{Arg, DeclAt, Heads, Region, Ty};
@@ -56,7 +56,7 @@ fn head_text(heads: &Heads, at: DeclAt) -> &[u8]
 
 /// Adds the text of a region.
 fn add_region(text: &mut Text, region: &Region) -> Result<(), Memory>
-    ensures { OnOk result (text.new ≡ text.old ++ texts.region_text region.now) }
+    ensures { OnOk result (text.new ≡ text.old ++ region_text region.now) }
 {
     match region {
         Region::Static => text.append(b"Static"),
@@ -96,7 +96,7 @@ fn add_reference(
     region: &Region,
 ) -> Result<(), Memory>
     ensures { OnOk result (text.new ≡ text.old
-        ++ (begin.now ++ text_of heads.now (meaning to.now) ++ codes ", " ++ texts.region_text region.now ++ codes "]")) }
+        ++ reference_text begin.now (text_of heads.now (meaning to.now)) region.now) }
 {
     text.append(begin)?;
     add_type(text, heads, to)?;
@@ -109,7 +109,7 @@ fn add_reference(
 #[tactic(auto, using(au_types::proofs::TypeLemmas::type_steps))]
 #[cycle(add_type)]
 fn add_argument(text: &mut Text, heads: &Heads, one: &Arg) -> Result<(), Memory>
-    ensures { OnOk result (text.new ≡ text.old ++ texts.argument_text heads.now (argument one.now)) }
+    ensures { OnOk result (text.new ≡ text.old ++ argument_text heads.now (argument one.now)) }
 {
     match one {
         Arg::Of(of) => add_type(text, heads, of),
@@ -120,7 +120,7 @@ fn add_argument(text: &mut Text, heads: &Heads, one: &Arg) -> Result<(), Memory>
 /// Adds arguments in brackets, and nothing where there is none.
 #[cycle(add_type)]
 fn add_arguments(text: &mut Text, heads: &Heads, args: &Vec<Arg>) -> Result<(), Memory>
-    ensures { OnOk result (text.new ≡ text.old ++ texts.arguments_text heads.now (argument_all args.now.items)) }
+    ensures { OnOk result (text.new ≡ text.old ++ arguments_text heads.now (argument_all args.now.items)) }
 {
     if args.is_empty() {
         return Ok(());

@@ -1,9 +1,8 @@
-use Rattle.std.proofs.Common.{◌≡◌, ◌++◌, length, drop, ap, ◌∙◌, sym, arith, rules}
+use Rattle.std.proofs.Common.{◌++◌, length, ap, ◌∙◌, sym}
 use Rattle.std.proofs.lemmas.Bool.{eqb-false}
 use Rattle.std.proofs.lemmas.Result.{on_ok_weaker}
-use Rattle.std.specs.Prelude.{codes}
 use Rattle.au_types.proofs.TypeLemmas.{text_means}
-use Rattle.au_types.specs.Views.{argument, argument_all, meaning}
+use Rattle.au_types.specs.Views.{argument_all, meaning}
 use Rattle.au_type_texts.specs.Texts as texts
 use Rattle.au_type_texts.proofs.TextLemmas as lemmas
 use Rattle.au_type_texts.proofs.texts.+add_type.Goals as goal
