@@ -1,4 +1,2 @@
 pub mod NameLemmas
 pub mod RowLemmas
-pub mod StandingLemmas
-pub mod DefinitionLemmas

@@ -15,7 +15,7 @@ use Rattle.au_resolved.specs.Known.{seen_by, names_of, in_part, AreNames}
 
 -- ---- lists with one more item
 
-pub got_before : {X : Type 0} (xs ys : List X) (k : ℕ) → k < length xs → slice_get (xs ++ ys) k ≡ slice_get xs k
+got_before : {X : Type 0} (xs ys : List X) (k : ℕ) → k < length xs → slice_get (xs ++ ys) k ≡ slice_get xs k
 got_before [] ys k h = absurd (omega arith)
 got_before (x ∷ xs) ys zero h = refl
 got_before (x ∷ xs) ys (suc k) h = got_before xs ys k (omega arith)

@@ -1,12 +1,9 @@
-//! The modules of a program with what names mean in each part of them and the rows of its declared types, and
-//! where its declarations stand.
+//! The modules of a program with what names mean in each part of them and the rows of its declared types.
 #![tactic(auto)]
 
-pub mod declarations;
 pub mod laws;
 pub mod module_names;
 pub mod programs;
 
-pub use declarations::{Declared, declaration, definition};
 pub use module_names::ModuleNames;
 pub use programs::Resolved;
