@@ -156,7 +156,7 @@ matched_makes p t s q h =
     let g = sound p t s q h in
     record { extends = g.0; fixes = g.1; equal = g.2 }
 
-makes_found : (p t : Meaning) (s r : Bindings) → Makes s p t r → (q : Bindings) × (matched p t s ≡ Some q) × Extends q r
+pub makes_found : (p t : Meaning) (s r : Bindings) → Makes s p t r → (q : Bindings) × (matched p t s ≡ Some q) × Extends q r
 makes_found p t s r m = subst (λ u. (q : Bindings) × (matched p u s ≡ Some q) × Extends q r) m.equal (found p s r m.extends m.fixes)
 
 pub matched_least : (p t : Meaning) (s q r : Bindings) → matched p t s ≡ Some q → Makes s p t r → Extends q r

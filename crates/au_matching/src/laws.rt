@@ -1,9 +1,10 @@
 //! Laws of substitutions.
 
-ghost use Rattle.std.specs.Prelude.{◌≡◌, ℕ, List, []};
+ghost use Rattle.std.specs.Prelude.{◌≡◌, ℕ, List, [], Some};
 ghost use Rattle.au_types.specs.Types.{Meaning};
 ghost use Rattle.au_matching.specs.Bindings.{Bindings, Extends, IsInOrder, value_of};
 ghost use Rattle.au_matching.specs.Composed.{composed};
+ghost use Rattle.au_matching.specs.Matched.{Makes, matched};
 ghost use Rattle.au_matching.specs.Substituted.{Fixes, SaysNothingOf, Suits, substituted};
 
 /// Substituting twice is substituting once by the composed substitution, which is in order as the second
@@ -30,4 +31,11 @@ pub fn what_is_fixed_stays()
 pub fn answers_decide_lists()
     ensures alike { (s r : Bindings) → IsInOrder s → IsInOrder r → ((name : List ℕ) → value_of name s ≡ value_of name r) → s ≡ r }
     ensures both { (s r : Bindings) → IsInOrder s → IsInOrder r → Extends s r → Extends r s → s ≡ r }
+{}
+
+/// What the walk over a pattern and a target gathers is the least list that makes them equal, and the walk
+/// gathers one where there is any.
+pub fn the_walk_finds_the_least()
+    ensures sound { (p t : Meaning) (s q : Bindings) → matched p t s ≡ Some q → Makes s p t q }
+    ensures found { (p t : Meaning) (s r : Bindings) → Makes s p t r → (q : Bindings) × (matched p t s ≡ Some q) × Extends q r }
 {}

@@ -2,6 +2,7 @@
 //! the substitution that makes a pattern equal to a type.
 #![tactic(auto)]
 
+pub mod fixing;
 pub mod laws;
 pub mod matching;
 pub mod substituting;
@@ -9,6 +10,7 @@ pub mod substitutions;
 #[cfg(test)]
 mod tests;
 
+pub use fixing::fixes;
 pub use matching::{Match, match_types};
 pub use substituting::substitute;
 pub use substitutions::Substitution;

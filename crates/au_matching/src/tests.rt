@@ -1,6 +1,6 @@
 //! What is easily got wrong about names that stand in patterns and in targets.
 
-use crate::{Match, Substitution, match_types, substitute};
+use crate::{Match, Substitution, fixes, match_types, substitute};
 use au_base::{Memory, Name};
 use au_types::{Arg, DeclAt, Region, Ty, is_same};
 use std::alloc::Global;
@@ -111,5 +111,6 @@ fn names_are_looked_up(rt: HostRuntime) -> Result<(), Fail> {
     assert_eq!(rt; copy.len(), 2);
     assert!(rt; copy.value_of(&Name::copy_of(rt.alloc(), b"T")?).is_some());
     assert!(rt; copy.value_of(&Name::copy_of(rt.alloc(), b"S")?).is_none());
+    assert!(rt; fixes(&copy, &parameter(rt.alloc())?));
     Ok(())
 }
