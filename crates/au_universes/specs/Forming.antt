@@ -1,6 +1,6 @@
 -- Which types can be written over the rows of declared types and the type parameters in scope, and in which
 -- of them every argument has the universe that is wanted.
-use Rattle.std.specs.Prelude.{List, [], ◌∷◌, ◌&&◌, Bool, true, false, not, Option, None, Some, IsTrue, is_some}
+use Rattle.std.specs.Prelude.{List, [], ◌∷◌, ◌&&◌, Bool, true, false, not, Option, None, Some, IsTrue, is_some, ⊤}
 use Rattle.au_syntax.specs.declared.declarations.Universe.{Universe}
 use Rattle.au_syntax.specs.declared.declarations.Universe.TheVariants as universes
 use Rattle.au_types.specs.declared.headings.Head.{Head}
@@ -75,9 +75,10 @@ module _ (rows : List (DeclAt × Head)) (params : List Parameter) where
   abbrev pub StandsOver : Meaning → Type 0
   StandsOver t = IsTrue (is_formed fits_in_kind rows params t)
 
-  -- the same of an argument
+  -- the same of an argument that is a type
   abbrev pub ArgumentStandsOver : Argument → Type 0
-  ArgumentStandsOver one = IsTrue (argument_formed fits_in_kind rows params one)
+  ArgumentStandsOver (of_type t) = StandsOver t
+  ArgumentStandsOver (in_region region) = ⊤
 
   -- a type is well formed: its arguments also fit in universe
   abbrev pub IsWellFormed : Meaning → Type 0
