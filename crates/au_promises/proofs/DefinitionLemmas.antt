@@ -22,12 +22,12 @@ use Rattle.au_types.specs.declared.parameters.Parameter.{Parameter}
 use Rattle.au_tables.specs.Tables as tables
 use Rattle.au_tables.specs.Tables.{has_name, with_pair}
 use Rattle.au_tables.proofs.TableLemmas.{with_pair-old, with_pair-new}
-use Rattle.au_promises.specs.declared.definitions.Definitions.{Definitions}
+use Rattle.au_promises.specs.declared.definitions.ByName.{ByName}
 use Rattle.au_promises.specs.declared.definitions.Sort.{Sort}
 use Rattle.au_promises.specs.declared.definitions.Sort.TheVariants.{Constants, Types, Functions}
 use Rattle.au_promises.specs.Agreeing.{Sight}
 use Rattle.au_promises.specs.Promises.{instance_defined, is_name}
-use Rattle.au_promises.specs.Defining.{name_defined, is_defined, with_name, with_index, table_of, AreDefinitions, AreFirst, is_instance, listed, picked}
+use Rattle.au_promises.specs.Defining.{name_defined, has_key, with_name, with_index, table_of, AreNamed, AreFirst, is_instance, listed, picked}
 use Rattle.au_promises.specs.Written.{declared_seen}
 
 -- ---- options
@@ -141,56 +141,62 @@ module _ {V : Type 0} where
 -- ---- what is found by a name
 
 -- one more declaration is visited
-module _ (sort : Sort) (all some : List PlainDeclaration) (before : List (Bytes × ℕ)) (i : ℕ) (one : PlainDeclaration) (here : slice_get all i ≡ Some one) (old : AreFirst sort all some before) where
+module _ (key_of : PlainDeclaration → Option Bytes) (all some : List PlainDeclaration) (before : List (Bytes × ℕ)) (i : ℕ) (one : PlainDeclaration) (here : slice_get all i ≡ Some one) (old : AreFirst key_of all some before) where
   put_named : (found : Option Bytes) (name : Bytes)
-      → option_map (slice_get all) (tables.find name (with_name before found i)) ≡ option_or (option_map Some (find (is_defined sort name) some)) (option_map Some (cond (is_name name found) (Some one) None))
-  put_named None name = old name ∙ sym (or_none (option_map Some (find (is_defined sort name) some)))
+      → option_map (slice_get all) (tables.find name (with_name before found i)) ≡ option_or (option_map Some (find (has_key key_of name) some)) (option_map Some (cond (is_name name found) (Some one) None))
+  put_named None name = old name ∙ sym (or_none (option_map Some (find (has_key key_of name) some)))
   put_named (Some other) name =
       ap (option_map (slice_get all)) (find_put name before other i)
       ∙ map_or (slice_get all) (tables.find name before) (cond (bytes_eq name other) (Some i) None)
       ∙ ap (λ r. option_or r (option_map (slice_get all) (cond (bytes_eq name other) (Some i) None))) (old name)
-      ∙ ap (option_or (option_map Some (find (is_defined sort name) some)))
+      ∙ ap (option_or (option_map Some (find (has_key key_of name) some)))
       (map_cond (slice_get all) (bytes_eq name other) i
       ∙ ap (λ o. cond (bytes_eq name other) (Some o) None) here
       ∙ sym (map_cond Some (bytes_eq name other) one))
 
-  first_more : AreFirst sort all (some ++ one ∷ []) (with_name before (name_defined sort one) i)
+  first_more : AreFirst key_of all (some ++ one ∷ []) (with_name before (key_of one) i)
   first_more name =
-      put_named (name_defined sort one) name
+      put_named (key_of one) name
       ∙ sym
-      (ap (option_map Some) (find-append (is_defined sort name) some (one ∷ []))
-      ∙ map_or Some (find (is_defined sort name) some) (cond (is_defined sort name one) (Some one) None))
+      (ap (option_map Some) (find-append (has_key key_of name) some (one ∷ []))
+      ∙ map_or Some (find (has_key key_of name) some) (cond (has_key key_of name one) (Some one) None))
 
 -- no declaration is visited
-pub first_none : (sort : Sort) (all : List PlainDeclaration) (table : List (Bytes × ℕ)) → table ≡ [] → AreFirst sort all [] table
-first_none sort all table none name = ap (λ t. option_map (slice_get all) (tables.find name t)) none
+pub first_none : (key_of : PlainDeclaration → Option Bytes) (all : List PlainDeclaration) (table : List (Bytes × ℕ)) → table ≡ [] → AreFirst key_of all [] table
+first_none key_of all table none name = ap (λ t. option_map (slice_get all) (tables.find name t)) none
 
 -- the declaration at an index is visited, as it is seen through two views
-pub first_next : {A B : Type 0} (p : B → PlainDeclaration) (v : A → B) (sort : Sort) (before after : List (Bytes × ℕ)) (xs : List A) (i : ℕ) (x : A) → i < length xs → x ≡ get_or xs i x
-    → AreFirst sort (map p (map v xs)) (map p (map v (take i xs))) before → after ≡ with_name before (name_defined sort (p (v x))) i
-    → AreFirst sort (map p (map v xs)) (map p (map v (take (i + 1) xs))) after
-first_next p v sort before after xs i x h here old new name =
+pub first_next : {A B : Type 0} (p : B → PlainDeclaration) (v : A → B) (key_of : PlainDeclaration → Option Bytes) (before after : List (Bytes × ℕ)) (xs : List A) (i : ℕ) (x : A) → i < length xs → x ≡ get_or xs i x
+    → AreFirst key_of (map p (map v xs)) (map p (map v (take i xs))) before → after ≡ with_name before (key_of (p (v x))) i
+    → AreFirst key_of (map p (map v xs)) (map p (map v (take (i + 1) xs))) after
+first_next p v key_of before after xs i x h here old new name =
     let all = map p (map v xs) in
     ap (λ t. option_map (slice_get all) (tables.find name t)) new
-    ∙ first_more sort all (map p (map v (take i xs))) before i (p (v x)) (seen_at p v xs i x h here) old name
-    ∙ ap (λ r. option_map Some (find (is_defined sort name) r)) (sym (seen_more p v xs i x h here))
+    ∙ first_more key_of all (map p (map v (take i xs))) before i (p (v x)) (seen_at p v xs i x h here) old name
+    ∙ ap (λ r. option_map Some (find (has_key key_of name) r)) (sym (seen_more p v xs i x h here))
 
 -- all are visited
-pub first_all : {A B : Type 0} (p : B → PlainDeclaration) (v : A → B) (sort : Sort) (table : List (Bytes × ℕ)) (xs : List A) (i : ℕ) → length xs ≤ i
-    → AreFirst sort (map p (map v xs)) (map p (map v (take i xs))) table → AreFirst sort (map p (map v xs)) (map p (map v xs)) table
-first_all p v sort table xs i past old name = old name ∙ ap (λ r. option_map Some (find (is_defined sort name) (map p (map v r)))) (take_all i xs past)
+pub first_all : {A B : Type 0} (p : B → PlainDeclaration) (v : A → B) (key_of : PlainDeclaration → Option Bytes) (table : List (Bytes × ℕ)) (xs : List A) (i : ℕ) → length xs ≤ i
+    → AreFirst key_of (map p (map v xs)) (map p (map v (take i xs))) table → AreFirst key_of (map p (map v xs)) (map p (map v xs)) table
+first_all p v key_of table xs i past old name = old name ∙ ap (λ r. option_map Some (find (has_key key_of name) (map p (map v r)))) (take_all i xs past)
 
 -- the table of a sort finds the first of this sort
-pub first_of : (sort : Sort) (all : List PlainDeclaration) (definitions : Definitions) → AreDefinitions all definitions → AreFirst sort all all (table_of sort definitions)
-first_of Constants all definitions are = are.constants
-first_of Types all definitions are = are.types
-first_of Functions all definitions are = are.functions
+pub first_of : (sort : Sort) (all : List PlainDeclaration) (names : ByName) → AreNamed all names → AreFirst (name_defined sort) all all (table_of sort names)
+first_of Constants all names are = are.constants
+first_of Types all names are = are.types
+first_of Functions all names are = are.functions
 
 -- the declaration at this index has it
 pub first_there : (all : List PlainDeclaration) (index : Option ℕ) (i : ℕ) (found : Option PlainDeclaration) → option_map (slice_get all) index ≡ option_map Some found → index ≡ Some i → slice_get all i ≡ found
 first_there all None i found e h = absurd (none-some i h)
 first_there all (Some j) i None e h = absurd (none-some (slice_get all j) (sym e))
 first_there all (Some j) i (Some d) e h = ap (slice_get all) (sym (same_Some j i h)) ∙ same_Some (slice_get all j) (Some d) e
+
+-- nothing has it where no index is found
+pub first_missing : (all : List PlainDeclaration) (index : Option ℕ) (found : Option PlainDeclaration) → option_map (slice_get all) index ≡ option_map Some found → index ≡ None → found ≡ None
+first_missing all index None e none = refl
+first_missing all None (Some d) e none = absurd (none-some (Some d) e)
+first_missing all (Some i) (Some d) e none = absurd (none-some i (sym none))
 
 -- ---- instances
 
@@ -244,3 +250,38 @@ among_next p all indices k d h =
 -- no index is left
 pub among_end : (p : PlainDeclaration → Bool) (all : List PlainDeclaration) (indices : List ℕ) (k : ℕ) → length indices ≤ k → find p (picked all (drop k indices)) ≡ None
 among_end p all indices k past = ap (λ r. find p (picked all r)) (drop_all k indices past)
+
+-- ---- the instance that is looked at first
+
+-- nothing passes a test where nothing passes a weaker one
+pub none_weaker : {A : Type 0} (p q : A → Bool) → ((x : A) → q x ≡ false → p x ≡ false) → (xs : List A) → find q xs ≡ None → find p xs ≡ None
+none_weaker p q weaker [] none = refl
+none_weaker p q weaker (x ∷ xs) none = by (q x) refl (λ rest. none_weaker p q weaker xs rest)
+  where
+    by : (b : Bool) → q x ≡ b → (find q xs ≡ None → find p xs ≡ None) → find p (x ∷ xs) ≡ None
+    by true e others = absurd (none-some x (sym (sym (ap (λ c. cond c (Some x) (find q xs)) e) ∙ none)))
+    by false e others =
+        ap (λ c. cond c (Some x) (find p xs)) (weaker x e)
+        ∙ others (sym (ap (λ c. cond c (Some x) (find q xs)) e) ∙ none)
+
+-- the first that passes a weaker test may be looked at first
+pub first_weaker : (p q : PlainDeclaration → Bool) → ((d : PlainDeclaration) → q d ≡ false → p d ≡ false) → (all : List PlainDeclaration)
+    → option_or (find p (listed (find q all))) (find p all) ≡ find p all
+first_weaker p q weaker [] = refl
+first_weaker p q weaker (d ∷ ds) = by (q d) (p d) refl refl (first_weaker p q weaker ds)
+  where
+    by : (b c : Bool) → q d ≡ b → p d ≡ c → option_or (find p (listed (find q ds))) (find p ds) ≡ find p ds
+        → option_or (find p (listed (find q (d ∷ ds)))) (find p (d ∷ ds)) ≡ find p (d ∷ ds)
+    by true true e k rest =
+        ap (λ b. option_or (find p (listed (cond b (Some d) (find q ds)))) (find p (d ∷ ds))) e
+        ∙ ap (λ c. option_or (cond c (Some d) None) (cond c (Some d) (find p ds))) k
+        ∙ sym (ap (λ c. cond c (Some d) (find p ds)) k)
+    by true false e k rest =
+        ap (λ b. option_or (find p (listed (cond b (Some d) (find q ds)))) (find p (d ∷ ds))) e
+        ∙ ap (λ c. option_or (cond c (Some d) None) (cond c (Some d) (find p ds))) k
+        ∙ sym (ap (λ c. cond c (Some d) (find p ds)) k)
+    by false c e k rest =
+        ap (λ b. option_or (find p (listed (cond b (Some d) (find q ds)))) (find p (d ∷ ds))) e
+        ∙ ap (λ b. option_or (find p (listed (find q ds))) (cond b (Some d) (find p ds))) (weaker d e)
+        ∙ rest
+        ∙ sym (ap (λ b. cond b (Some d) (find p ds)) (weaker d e))

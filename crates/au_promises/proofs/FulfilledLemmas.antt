@@ -1,6 +1,7 @@
 -- Promises are refused for nothing exactly where every body fulfils its interface.
-use Rattle.std.proofs.Common.{◌≡◌, ℕ, zero, suc, ◌+◌, ◌<◌, ◌⊎◌, inl, inr, Bool, true, false, List, [], ◌∷◌, length, get_or, Option, Some, None, refl, ap, sym, ◌∙◌, subst, find, Contains, IsTrue, slice_get, arith, zero-add}
+use Rattle.std.proofs.Common.{◌≡◌, ℕ, zero, suc, ◌+◌, ◌<◌, ◌⊎◌, inl, inr, Bool, true, false, cond, List, [], ◌∷◌, ◌++◌, length, get_or, Option, Some, None, refl, true≢false, ap, sym, ◌∙◌, subst, find, Contains, IsTrue, slice_get, arith, zero-add}
 use Rattle.std.specs.Prelude.{if◌then◌else◌}
+use Rattle.std.specs.Bool.{Decides}
 use Rattle.std.specs.Option.{option_map, option_or}
 use Rattle.std.proofs.lemmas.Option.{none-some, same_Some}
 use Rattle.au_syntax.specs.Modules.{constant, opaque_type, function, instance}
@@ -10,7 +11,8 @@ use Rattle.au_promises.specs.declared.faults.PromiseFault.TheVariants.{Differs}
 use Rattle.au_modules.specs.Seen.{body_tree, interface_tree}
 use Rattle.au_promises.specs.Agreeing.{Sight, sight_of}
 use Rattle.au_promises.specs.Promises.{declaration_place, promised, defines, keeps, kept_by, promise_fault_of, unkept, parts_fault, module_fault, faults_from, promise_fault}
-use Rattle.au_promises.specs.Fulfilled.{IsKept, Fulfils, AllFulfil}
+use Rattle.au_promises.specs.Fulfilled.{Defines, IsFirst, IsKept, Fulfils, AllFulfil}
+use Rattle.au_promises.proofs.DecidingLemmas.{defines_decides, keeps_decides}
 
 -- ---- neither of two
 
@@ -47,6 +49,65 @@ contains (y ∷ ys) x (inr later) =
     let there : Contains ys x = contains ys x later in
     (suc there.0, omega (arith, there.1), there.2)
 
+-- ---- the first definition
+
+-- a test fails where what it decides doesn't hold
+fails : {P : Type 0} (b : Bool) → Decides b P → (P → ⊥) → b ≡ false
+fails true decides never = absurd (never (decides.0 refl))
+fails false decides never = refl
+
+module _ (sight : Sight) (promise : PlainDeclaration) where
+  -- what is found is the first
+  first_from : (body : List PlainDeclaration) (d : PlainDeclaration) → find (defines sight promise) body ≡ Some d → IsFirst sight promise body d
+  first_from [] d h = absurd (none-some d h)
+  first_from (x ∷ xs) d h = by (defines sight promise x) refl (λ found. first_from xs d found)
+    where
+      by : (b : Bool) → defines sight promise x ≡ b → (find (defines sight promise) xs ≡ Some d → IsFirst sight promise xs d) → IsFirst sight promise (x ∷ xs) d
+      by true e later =
+          let here : x ≡ d = same_Some x d (sym (ap (λ b. cond b (Some x) (find (defines sight promise) xs)) e) ∙ h) in
+          record {
+            before = [];
+            after = xs;
+            stands = ap (λ y. y ∷ xs) here;
+            defines = subst (λ y. Defines sight promise y) here ((defines_decides sight promise x).0 e);
+            none = λ y c. absurd (among [] y c);
+          }
+      by false e later =
+          let rest : IsFirst sight promise xs d = later (sym (ap (λ b. cond b (Some x) (find (defines sight promise) xs)) e) ∙ h) in
+          let not_x : Defines sight promise x → ⊥ = λ p. true≢false (sym ((defines_decides sight promise x).1 p) ∙ e) in
+          let earlier : (y : PlainDeclaration) → Among y (x ∷ rest.before) → Defines sight promise y → ⊥ =
+          λ y one. elim one as (λ s. Defines sight promise y → ⊥) [ inl here ↦ λ p. not_x (subst (λ z. Defines sight promise z) (sym here) p) | inr behind ↦ rest.none y (contains rest.before y behind) ] in
+          record {
+            before = x ∷ rest.before;
+            after = rest.after;
+            stands = ap (λ ys. x ∷ ys) rest.stands;
+            defines = rest.defines;
+            none = λ y c. earlier y (among (x ∷ rest.before) y c);
+          }
+
+  -- the first is found
+  found_at : (before after : List PlainDeclaration) (d : PlainDeclaration) → Defines sight promise d → ((y : PlainDeclaration) → Among y before → Defines sight promise y → ⊥)
+      → find (defines sight promise) (before ++ d ∷ after) ≡ Some d
+  found_at [] after d holds none = ap (λ b. cond b (Some d) (find (defines sight promise) after)) ((defines_decides sight promise d).1 holds)
+  found_at (x ∷ xs) after d holds none =
+      ap (λ b. cond b (Some x) (find (defines sight promise) (xs ++ d ∷ after))) (fails (defines sight promise x) (defines_decides sight promise x) (none x (inl refl)))
+      ∙ found_at xs after d holds (λ y later. none y (inr later))
+
+  first_to : (body : List PlainDeclaration) (d : PlainDeclaration) → IsFirst sight promise body d → find (defines sight promise) body ≡ Some d
+  first_to body d first =
+      ap (find (defines sight promise)) first.stands
+      ∙ found_at first.before first.after d first.defines (λ y one. first.none y (contains first.before y one))
+
+  -- the tests say that a promise is kept
+  abbrev Passes : List PlainDeclaration → Type 0
+  Passes body = (d : PlainDeclaration) × (find (defines sight promise) body ≡ Some d) × IsTrue (keeps sight promise d)
+
+  kept_from : (body : List PlainDeclaration) → Passes body → IsKept sight body promise
+  kept_from body passes = (passes.0, first_from body passes.0 passes.1, (keeps_decides sight promise passes.0).0 passes.2)
+
+  kept_passes : (body : List PlainDeclaration) → IsKept sight body promise → Passes body
+  kept_passes body kept = (kept.0, first_to body kept.0 kept.1, (keeps_decides sight promise kept.0).1 kept.2)
+
 -- ---- one promise
 
 agrees : {A : Type 0} (b : Bool) (x : A) → (if b then None else Some x) ≡ None → b ≡ true
@@ -66,7 +127,7 @@ module _ (sight : Sight) where
       ∙ ap (λ b. if b then None else Some (Differs (declaration_place promise) (declaration_place d) name)) agreed
 
   fault_from : (body : List PlainDeclaration) (promise : PlainDeclaration) (name : Bytes) → promised promise ≡ Some name
-      → promise_fault_of sight body promise ≡ None → IsKept sight body promise
+      → promise_fault_of sight body promise ≡ None → Passes sight promise body
   fault_from body (constant at own t) name says h =
       kept_is own.name (constant at own t) (find (defines sight (constant at own t)) body) h
   fault_from body (opaque_type at own parameters universe) name says h =
@@ -77,19 +138,19 @@ module _ (sight : Sight) where
       kept_is own.name (instance at generics own t) (find (defines sight (instance at generics own t)) body) h
   fault_from body other name says h = absurd (none-some name says)
 
-  fault_to : (body : List PlainDeclaration) (promise : PlainDeclaration) → ((name : Bytes) → promised promise ≡ Some name → IsKept sight body promise)
+  fault_to : (body : List PlainDeclaration) (promise : PlainDeclaration) → ((name : Bytes) → promised promise ≡ Some name → Passes sight promise body)
       → promise_fault_of sight body promise ≡ None
   fault_to body (constant at own t) h =
-      let kept : IsKept sight body (constant at own t) = h own.name refl in
+      let kept : Passes sight (constant at own t) body = h own.name refl in
       kept_to own.name (constant at own t) (find (defines sight (constant at own t)) body) kept.0 kept.1 kept.2
   fault_to body (opaque_type at own parameters universe) h =
-      let kept : IsKept sight body (opaque_type at own parameters universe) = h own.name refl in
+      let kept : Passes sight (opaque_type at own parameters universe) body = h own.name refl in
       kept_to own.name (opaque_type at own parameters universe) (find (defines sight (opaque_type at own parameters universe)) body) kept.0 kept.1 kept.2
   fault_to body (function at generics header) h =
-      let kept : IsKept sight body (function at generics header) = h header.name.name refl in
+      let kept : Passes sight (function at generics header) body = h header.name.name refl in
       kept_to header.name.name (function at generics header) (find (defines sight (function at generics header)) body) kept.0 kept.1 kept.2
   fault_to body (instance at generics own t) h =
-      let kept : IsKept sight body (instance at generics own t) = h own.name refl in
+      let kept : Passes sight (instance at generics own t) body = h own.name refl in
       kept_to own.name (instance at generics own t) (find (defines sight (instance at generics own t)) body) kept.0 kept.1 kept.2
   fault_to body other h = refl
 
@@ -101,7 +162,7 @@ module _ (sight : Sight) where
   unkept_from body [] h promise name none says = absurd none
   unkept_from body (p ∷ ps) h promise name (inl here) says =
       subst (λ one. IsKept sight body one) here
-      (fault_from body p name (ap promised here ∙ says) (or_first (promise_fault_of sight body p) (unkept sight body ps) h))
+      (kept_from sight p body (fault_from body p name (ap promised here ∙ says) (or_first (promise_fault_of sight body p) (unkept sight body ps) h)))
   unkept_from body (p ∷ ps) h promise name (inr later) says =
       unkept_from body ps (or_second (promise_fault_of sight body p) (unkept sight body ps) h) promise name later says
 
@@ -112,7 +173,7 @@ module _ (sight : Sight) where
   unkept_to body [] h = refl
   unkept_to body (p ∷ ps) h =
       or_neither (promise_fault_of sight body p) (unkept sight body ps)
-      (fault_to body p (λ name says. h p name (inl refl) says))
+      (fault_to body p (λ name says. kept_passes sight p body (h p name (inl refl) says)))
       (unkept_to body ps (λ promise name later says. h promise name (inr later) says))
 
   -- ---- the parts of a module

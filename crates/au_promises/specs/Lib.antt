@@ -2,4 +2,5 @@ pub mod Agreeing
 pub mod Defining
 pub mod Promises
 pub mod Fulfilled
+pub mod Wording
 pub mod Written

@@ -15,6 +15,7 @@ use Rattle.au_types.specs.declared.parameters.Parameter.{Parameter}
 use Rattle.au_promises.specs.declared.faults.PromiseFault.{PromiseFault}
 use Rattle.au_promises.specs.declared.faults.PromiseFault.TheVariants.{NotDefined, Differs}
 use Rattle.au_promises.specs.Agreeing.{all_agree, same_class, same_function, same_generic, same_parameter, same_type, same_universe, scope_of, Sight, sight_of}
+use Rattle.au_promises.specs.Wording.{same_written}
 
 -- the place of a declaration's first token
 abbrev pub declaration_place : PlainDeclaration → Pos
@@ -70,14 +71,17 @@ keeps_type parameters universe (union_type at name others other cases) = same_he
 keeps_type parameters universe d = false
 
 module _ (sight : Sight) where
-  -- a declaration of the body defines an instance of this class for this type
+  -- an instance of the interface and one of the body are of one class and the same written type
+  abbrev pub same_instance : List Parameter → Placed Bytes → WrittenType → List (Constrained Bytes) → Placed Bytes → WrittenType → Bool
+  same_instance scope name t generics other u = same_class sight name other && same_written sight scope (scope_of generics) t u
+
+  -- a declaration of the body defines an instance of this class for this written type
   abbrev pub instance_defined : List Parameter → Placed Bytes → WrittenType → PlainDeclaration → Bool
-  instance_defined scope name t (instance_body at generics other u methods) =
-      same_class sight name other && same_type sight scope t (scope_of generics) u
+  instance_defined scope name t (instance_body at generics other u methods) = same_instance scope name t generics other u
   instance_defined scope name t d = false
 
   -- a declaration of the body defines what is promised: one of its sort and name, and for an
-  -- instance one of its class and type
+  -- instance one of its class and written type
   abbrev pub defines : PlainDeclaration → PlainDeclaration → Bool
   defines (constant at name t) d = is_name name.name (constant_defined d)
   defines (opaque_type at name parameters universe) d = is_name name.name (type_defined d)

@@ -9,7 +9,7 @@ ghost use Rattle.au_types.specs.Views.{meaning};
 ghost use Rattle.au_written_types.specs.Meant.{meant};
 
 use crate::sights::Sight;
-use au_base::Memory;
+use au_base::{Memory, Name};
 use au_syntax::{Field, Generic, Ident, Parsed, Signature, TypeParameter, TypeText, Universe};
 use au_tables::Table;
 use au_types::{DeclAt, Heads, Parameter, Params, Ty, is_same};
@@ -57,17 +57,12 @@ pub fn same_parameters(
 
 /// Whether two declarations that names mean, if they mean any, are one, and else whether the names are
 /// written alike.
-fn same_declaration(
-    name: &Ident<Parsed>,
-    other: &Ident<Parsed>,
-    one: Option<DeclAt>,
-    its: Option<DeclAt>,
-) -> bool
-    ensures { result ≡ spec.same_declaration (name_of name.now).name (name_of other.now).name one its }
+pub fn same_declaration(name: &Name, other: &Name, one: Option<DeclAt>, its: Option<DeclAt>) -> bool
+    ensures { result ≡ spec.same_declaration name.now other.now one its }
 {
     match one {
         None => match its {
-            None => same_name(name, other),
+            None => name.as_bytes() == other.as_bytes(),
             Some(_) => false,
         },
         Some(at) => match its {
@@ -83,7 +78,7 @@ pub fn same_class(sight: &Sight, one: &Ident<Parsed>, other: &Ident<Parsed>) -> 
 {
     let at = sight.interface.get(one.name.as_bytes()).copied();
     let by = sight.body.get(other.name.as_bytes()).copied();
-    same_declaration(one, other, at, by)
+    same_declaration(&one.name, &other.name, at, by)
 }
 
 /// Whether names of classes of the interface and of the body are of the same classes, each with that in
@@ -146,7 +141,11 @@ fn same_meaning(one: &Option<Ty>, other: &Option<Ty>) -> bool
 }
 
 /// The type that a written type means among these type parameters, names and rows, if it means one.
-fn meant_with(
+///
+/// # Errors
+///
+/// Only for want of memory.
+pub fn meant_with(
     alloc: Global,
     params: &Params,
     names: &Table<DeclAt>,

@@ -4,10 +4,12 @@
 ghost use Rattle.std.specs.Prelude.{◌≡◌, IfOk, OnOk, filter, find, slice_get};
 ghost use Rattle.std.specs.Option.{option_copied};
 ghost use Rattle.au_promises.specs.Defining as defining;
-ghost use Rattle.au_promises.specs.Defining.{AreDefinitions, AreFirst};
+ghost use Rattle.au_promises.specs.Defining.{AreDefinitions, AreFirst, AreNamed};
 ghost use Rattle.au_promises.specs.Promises as spec;
-ghost use Rattle.au_promises.specs.Written.{declarations_of, declared_of, declared_seen};
+ghost use Rattle.au_promises.specs.Written.{declarations_of, declared_of, declared_seen, sight_in};
 
+use crate::keys::first_keyed;
+use crate::sights::Sight;
 use au_base::{Memory, Name};
 use au_syntax::{Decl, Parsed};
 use au_tables::Table;
@@ -24,17 +26,26 @@ pub enum Sort {
     Functions,
 }
 
-/// Where the definitions of a body stand, by their indices among its declarations.
+/// Where the first definitions of a body stand by their names, by their indices among its declarations.
 #[derive(Drop)]
-pub struct Definitions {
+pub struct ByName {
     /// The first constant of each name.
     pub constants: Table<usize>,
     /// The first type of each name.
     pub types: Table<usize>,
     /// The first function of each name.
     pub functions: Table<usize>,
+}
+
+/// Where the definitions of a body stand, by their indices among its declarations.
+#[derive(Drop)]
+pub struct Definitions {
+    /// The first of each name.
+    pub names: ByName,
     /// The instances, in order.
     pub instances: Vec<usize>,
+    /// The first instance of each key.
+    pub keyed: Table<usize>,
 }
 
 /// The name of the constant that a declaration defines, if it defines one.
@@ -139,7 +150,7 @@ fn first_defined(
     sort: Sort,
     decls: &Vec<Decl<Parsed>>,
 ) -> Result<Table<usize>, Memory>
-    ensures { IfOk result (λ table. AreFirst sort (declarations_of decls.now.items) (declarations_of decls.now.items) table) }
+    ensures { IfOk result (λ table. AreFirst (defining.name_defined sort) (declarations_of decls.now.items) (declarations_of decls.now.items) table) }
 {
     let mut table = Table::new(alloc);
     for (index, one) in decls.iter().enumerate() {
@@ -169,24 +180,18 @@ fn instances_defined(alloc: Global, decls: &Vec<Decl<Parsed>>) -> Result<Vec<usi
     Ok(indices)
 }
 
-impl Definitions {
-    /// The definitions of a body.
-    ///
-    /// # Errors
-    ///
-    /// Only for want of memory.
-    pub fn of(alloc: Global, decls: &Vec<Decl<Parsed>>) -> Result<Definitions, Memory>
-        ensures { IfOk result (λ definitions. AreDefinitions (declarations_of decls.now.items) definitions) }
+impl ByName {
+    /// The first definitions of a body by their names.
+    fn of(alloc: Global, decls: &Vec<Decl<Parsed>>) -> Result<ByName, Memory>
+        ensures { IfOk result (λ names. AreNamed (declarations_of decls.now.items) names) }
     {
         let constants = first_defined(alloc, Sort::Constants, decls)?;
         let types = first_defined(alloc, Sort::Types, decls)?;
         let functions = first_defined(alloc, Sort::Functions, decls)?;
-        let instances = instances_defined(alloc, decls)?;
-        Ok(Definitions {
+        Ok(ByName {
             constants,
             types,
             functions,
-            instances,
         })
     }
 
@@ -202,6 +207,30 @@ impl Definitions {
     }
 }
 
+impl Definitions {
+    /// The definitions of a body.
+    ///
+    /// # Errors
+    ///
+    /// Only for want of memory.
+    pub fn of(
+        alloc: Global,
+        sight: &Sight,
+        decls: &Vec<Decl<Parsed>>,
+    ) -> Result<Definitions, Memory>
+        ensures { IfOk result (λ definitions. AreDefinitions (sight_in sight.now) (declarations_of decls.now.items) definitions) }
+    {
+        let names = ByName::of(alloc, decls)?;
+        let instances = instances_defined(alloc, decls)?;
+        let keyed = first_keyed(alloc, sight, decls)?;
+        Ok(Definitions {
+            names,
+            instances,
+            keyed,
+        })
+    }
+}
+
 /// The declaration of an index, if there is one.
 pub fn declared_at(decls: &Vec<Decl<Parsed>>, index: usize) -> Option<&Decl<Parsed>>
     ensures { declared_seen result ≡ slice_get (declarations_of decls.now.items) index }
@@ -209,17 +238,17 @@ pub fn declared_at(decls: &Vec<Decl<Parsed>>, index: usize) -> Option<&Decl<Pars
     decls.get(index)
 }
 
-/// The first definition of a name of a sort, if there is one, given the definitions of the body.
+/// The first definition of a name of a sort, if there is one, given those of the body by their names.
 pub fn found_by<'a>(
     decls: &'a Vec<Decl<Parsed>>,
-    definitions: &Definitions,
+    names: &ByName,
     sort: Sort,
     name: &Name,
 ) -> Option<&'a Decl<Parsed>>
-    requires { AreDefinitions (declarations_of decls.now.items) definitions.now }
+    requires { AreNamed (declarations_of decls.now.items) names.now }
     ensures { declared_seen result ≡ find (defining.is_defined sort name.now) (declarations_of decls.now.items) }
 {
-    match definitions.table(sort).get(name.as_bytes()) {
+    match names.table(sort).get(name.as_bytes()) {
         None => None,
         Some(index) => declared_at(decls, *index),
     }

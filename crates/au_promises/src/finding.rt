@@ -1,6 +1,6 @@
 //! The first promise of a program that isn't kept.
 
-ghost use Rattle.std.specs.Prelude.{◌≡◌, ◌<◌, IfOk, Some, find, length, slice_get};
+ghost use Rattle.std.specs.Prelude.{◌≡◌, ◌<◌, [], false, IfOk, Some, find, is_none, length, slice_get};
 ghost use Rattle.std.specs.Option.{option_copied};
 ghost use Rattle.au_modules.specs.Programs.{ModuleParts};
 ghost use Rattle.au_modules.specs.Seen.{tree_seen};
@@ -11,12 +11,16 @@ ghost use Rattle.au_promises.specs.Defining.{AreDefinitions};
 ghost use Rattle.au_promises.specs.Promises as spec;
 ghost use Rattle.au_promises.specs.Written.{declarations_of, declared_of, declared_seen, generics_of, name_of, sight_in};
 ghost use Rattle.au_syntax.specs.Views.{written};
+ghost use Rattle.au_tables.specs.Tables as tables;
+ghost use Rattle.au_written_types.specs.Meant.{meant};
 
-use crate::agreeing::{same_class, same_type, scope_of};
+use crate::agreeing::{same_class, scope_of};
 use crate::definitions::{Definitions, Sort, declared_at, found_by};
 use crate::faults::PromiseFault;
 use crate::keeping::keeps;
+use crate::keys::instance_key;
 use crate::sights::Sight;
+use crate::wording::{means_nothing, same_written};
 use au_base::{Memory, Name, Pos};
 use au_resolved::Resolved;
 use au_syntax::{Decl, Generic, Ident, Parsed, Part, TypeText, Whole};
@@ -59,7 +63,28 @@ fn promised(decl: &Decl<Parsed>) -> Option<&Name>
     }
 }
 
-/// Whether a declaration defines an instance of this class for this type.
+/// Whether an instance of the interface and one of the body are of one class and the same written type.
+fn same_instance(
+    alloc: Global,
+    sight: &Sight,
+    scope: &Params,
+    name: &Ident<Parsed>,
+    of: &TypeText,
+    list: &Vec<Generic<Parsed>>,
+    other: &Ident<Parsed>,
+    its: &TypeText,
+) -> Result<bool, Memory>
+    ensures { IfOk result (λ same. same ≡ spec.same_instance (sight_in sight.now) scope.now (name_of name.now) (written of.now) (generics_of list.now.items) (name_of other.now) (written its.now)) }
+{
+    if same_class(sight, name, other) {
+        let outer = scope_of(alloc, list)?;
+        same_written(alloc, sight, scope, of, &outer, its)
+    } else {
+        Ok(false)
+    }
+}
+
+/// Whether a declaration defines an instance of this class for this written type.
 #[tactic(auto, using(au_syntax::proofs::DeclarationLemmas::declaration_steps, std::proofs::lemmas::Grind::common_steps))]
 fn is_instance_of(
     alloc: Global,
@@ -81,14 +106,9 @@ fn is_instance_of(
         Decl::Instance(_, _, _, _) => Ok(false),
         Decl::ConstantBody(_, _, _, _) => Ok(false),
         Decl::FunctionBody(_, _, _, _, _) => Ok(false),
-        Decl::InstanceBody(_, others, other, its, _) => {
-            if same_class(sight, name, other) {
-                let outer = scope_of(alloc, others)?;
-                same_type(alloc, sight, scope, of, &outer, its)
-            } else {
-                Ok(false)
-            }
-        },
+        Decl::InstanceBody(_, list, other, its, _) => same_instance(
+            alloc, sight, scope, name, of, list, other, its,
+        ),
     }
 }
 
@@ -136,6 +156,92 @@ fn instance_among<'a>(
     Ok(None)
 }
 
+/// The first declaration of a body that defines an instance of this class for this type, if there is one,
+/// where this one is looked at before the others.
+fn instance_from<'a>(
+    alloc: Global,
+    sight: &Sight,
+    scope: &Params,
+    name: &Ident<Parsed>,
+    of: &TypeText,
+    decls: &'a Vec<Decl<Parsed>>,
+    definitions: &Definitions,
+    first: Option<&'a Decl<Parsed>>,
+) -> Result<Option<&'a Decl<Parsed>>, Memory>
+    requires { AreDefinitions (sight_in sight.now) (declarations_of decls.now.items) definitions.now }
+    ensures { IfOk result (λ found. declared_seen found ≡ defining.found_from (spec.instance_defined (sight_in sight.now) scope.now (name_of name.now) (written of.now)) (declarations_of decls.now.items) (declared_seen first.entry)) }
+{
+    let found = instance_if(alloc, sight, scope, name, of, first)?;
+    if found.is_some() {
+        return Ok(found);
+    }
+    instance_among(alloc, sight, scope, name, of, decls, &definitions.instances)
+}
+
+/// The index of the first instance of a body with the key of an instance of this class for this type, if
+/// there is one.
+fn first_of_key(
+    alloc: Global,
+    sight: &Sight,
+    scope: &Params,
+    name: &Ident<Parsed>,
+    of: &TypeText,
+    definitions: &Definitions,
+) -> Result<Option<usize>, Memory>
+    ensures { IfOk result (λ index. index ≡ tables.find (defining.instance_key scope.now (sight_in sight.now).interface (sight_in sight.now).rows (name_of name.now) (written of.now)) definitions.now.keyed) }
+{
+    let key = instance_key(alloc, scope, sight.interface, sight.heads, name, of)?;
+    Ok(definitions.keyed.get(key.as_slice()).copied())
+}
+
+/// The first declaration of a body that defines an instance of this class for this type, which means
+/// something, if there is one. It has the key of the two. So only where the first instance with this key
+/// isn't the one, and then another of its class has a type that begins with the same name, all instances
+/// are looked at.
+fn instance_by_key<'a>(
+    alloc: Global,
+    sight: &Sight,
+    scope: &Params,
+    name: &Ident<Parsed>,
+    of: &TypeText,
+    decls: &'a Vec<Decl<Parsed>>,
+    definitions: &Definitions,
+) -> Result<Option<&'a Decl<Parsed>>, Memory>
+    requires defined { AreDefinitions (sight_in sight.now) (declarations_of decls.now.items) definitions.now }
+    requires meant { is_none (meant [] scope.now (sight_in sight.now).interface (sight_in sight.now).rows (written of.now)) ≡ false }
+    ensures { IfOk result (λ found. declared_seen found ≡ find (spec.instance_defined (sight_in sight.now) scope.now (name_of name.now) (written of.now)) (declarations_of decls.now.items)) }
+{
+    let index = first_of_key(alloc, sight, scope, name, of, definitions)?;
+    match index {
+        None => Ok(None),
+        Some(at) => {
+            let first = declared_at(decls, at);
+            instance_from(alloc, sight, scope, name, of, decls, definitions, first)
+        }
+    }
+}
+
+/// The first declaration of a body that defines an instance of this class for this type, if there is one,
+/// given its type parameters. For a type that means nothing all instances are looked at.
+fn instance_with<'a>(
+    alloc: Global,
+    sight: &Sight,
+    scope: &Params,
+    name: &Ident<Parsed>,
+    of: &TypeText,
+    decls: &'a Vec<Decl<Parsed>>,
+    definitions: &Definitions,
+) -> Result<Option<&'a Decl<Parsed>>, Memory>
+    requires { AreDefinitions (sight_in sight.now) (declarations_of decls.now.items) definitions.now }
+    ensures { IfOk result (λ found. declared_seen found ≡ find (spec.instance_defined (sight_in sight.now) scope.now (name_of name.now) (written of.now)) (declarations_of decls.now.items)) }
+{
+    if means_nothing(alloc, sight, scope, of)? {
+        instance_among(alloc, sight, scope, name, of, decls, &definitions.instances)
+    } else {
+        instance_by_key(alloc, sight, scope, name, of, decls, definitions)
+    }
+}
+
 /// The first declaration of a body that defines an instance of this class for this type, if there is one.
 fn instance_found<'a>(
     alloc: Global,
@@ -146,19 +252,11 @@ fn instance_found<'a>(
     decls: &'a Vec<Decl<Parsed>>,
     definitions: &Definitions,
 ) -> Result<Option<&'a Decl<Parsed>>, Memory>
-    requires { AreDefinitions (declarations_of decls.now.items) definitions.now }
+    requires { AreDefinitions (sight_in sight.now) (declarations_of decls.now.items) definitions.now }
     ensures { IfOk result (λ found. declared_seen found ≡ find (spec.instance_defined (sight_in sight.now) (agreeing.scope_of (generics_of list.now.items)) (name_of name.now) (written of.now)) (declarations_of decls.now.items)) }
 {
     let scope = scope_of(alloc, list)?;
-    instance_among(
-        alloc,
-        sight,
-        &scope,
-        name,
-        of,
-        decls,
-        &definitions.instances,
-    )
+    instance_with(alloc, sight, &scope, name, of, decls, definitions)
 }
 
 /// The first declaration of a body that defines a promise, if there is one.
@@ -170,19 +268,24 @@ fn definition_of<'a>(
     definitions: &Definitions,
     promise: &Decl<Parsed>,
 ) -> Result<Option<&'a Decl<Parsed>>, Memory>
-    requires { AreDefinitions (declarations_of decls.now.items) definitions.now }
+    requires { AreDefinitions (sight_in sight.now) (declarations_of decls.now.items) definitions.now }
     ensures { IfOk result (λ found. declared_seen found ≡ find (spec.defines (sight_in sight.now) (declared_of promise.now)) (declarations_of decls.now.items)) }
 {
     match promise {
         Decl::Constant(_, name, _) => {
-            Ok(found_by(decls, definitions, Sort::Constants, &name.name))
+            Ok(found_by(decls, &definitions.names, Sort::Constants, &name.name))
         }
-        Decl::Opaque(_, name, _, _) => Ok(found_by(decls, definitions, Sort::Types, &name.name)),
+        Decl::Opaque(_, name, _, _) => Ok(found_by(
+            decls,
+            &definitions.names,
+            Sort::Types,
+            &name.name,
+        )),
         Decl::Record(_, _, _, _, _) => Ok(None),
         Decl::Union(_, _, _, _, _) => Ok(None),
         Decl::Function(_, _, signature) => {
             let name = &signature.name.name;
-            Ok(found_by(decls, definitions, Sort::Functions, name))
+            Ok(found_by(decls, &definitions.names, Sort::Functions, name))
         }
         Decl::Class(_, _, _, _) => Ok(None),
         Decl::Instance(_, list, name, of) => {
@@ -226,7 +329,7 @@ fn fault_of(
     definitions: &Definitions,
     promise: &Decl<Parsed>,
 ) -> Result<Option<PromiseFault>, Memory>
-    requires { AreDefinitions (declarations_of decls.now.items) definitions.now }
+    requires { AreDefinitions (sight_in sight.now) (declarations_of decls.now.items) definitions.now }
     ensures { IfOk result (λ fault. fault ≡ spec.promise_fault_of (sight_in sight.now) (declarations_of decls.now.items) (declared_of promise.now)) }
 {
     match promised(promise) {
@@ -246,7 +349,7 @@ fn unkept(
     definitions: &Definitions,
     promises: &Vec<Decl<Parsed>>,
 ) -> Result<Option<PromiseFault>, Memory>
-    requires { AreDefinitions (declarations_of decls.now.items) definitions.now }
+    requires { AreDefinitions (sight_in sight.now) (declarations_of decls.now.items) definitions.now }
     ensures { IfOk result (λ fault. fault ≡ spec.unkept (sight_in sight.now) (declarations_of decls.now.items) (declarations_of promises.now.items)) }
 {
     for promise in promises {
@@ -267,7 +370,7 @@ fn body_fault(
 ) -> Result<Option<PromiseFault>, Memory>
     ensures { IfOk result (λ fault. fault ≡ spec.unkept (sight_in sight.now) (declarations_of decls.now.items) (declarations_of promises.now.items)) }
 {
-    let definitions = Definitions::of(alloc, decls)?;
+    let definitions = Definitions::of(alloc, sight, decls)?;
     unkept(alloc, sight, decls, &definitions, promises)
 }
 

@@ -1,8 +1,8 @@
 use Rattle.std.proofs.Common.{take}
-use Rattle.au_promises.specs.Defining.{AreFirst}
+use Rattle.au_promises.specs.Defining.{AreFirst, name_defined}
 use Rattle.au_promises.specs.Written.{declarations_of}
 use Rattle.au_promises.proofs.definitions.first_defined.Given as goal
 
 -- the table finds the first of the declarations that are visited
 abbrev pub invariant-loop-index : goal.invariant-loop-index
-invariant-loop-index l = AreFirst l.sort (declarations_of l.one-items) (declarations_of (take l.index l.one-items)) l.table
+invariant-loop-index l = AreFirst (name_defined l.sort) (declarations_of l.one-items) (declarations_of (take l.index l.one-items)) l.table

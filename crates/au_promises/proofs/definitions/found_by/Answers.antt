@@ -10,6 +10,6 @@ returns-in-Some c =
     let all = declarations_of c.args.decls.now.items in
     let name = c.args.name.now in
     c.declared_at.ensures
-    ∙ first_there all (tables.find name (table_of c.args.sort c.args.definitions.now)) c.in-Some.index.now (find (is_defined c.args.sort name) all)
-    (first_of c.args.sort all c.args.definitions.now c.requires name)
+    ∙ first_there all (tables.find name (table_of c.args.sort c.args.names.now)) c.in-Some.index.now (find (is_defined c.args.sort name) all)
+    (first_of c.args.sort all c.args.names.now c.requires name)
     (sym (c.in-Some.ensures ∙ ap (λ n. tables.find n c.table.result.now) c.as_bytes.ensures.bytes ∙ ap (tables.find name) c.table.ensures))

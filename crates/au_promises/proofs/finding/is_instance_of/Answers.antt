@@ -1,5 +1,8 @@
-use Rattle.std.proofs.Common.{arith}
+use Rattle.std.proofs.Common.{◌≡◌, IfOk, arith, sym, subst}
 use Rattle.au_syntax.proofs.DeclarationLemmas.{constant_says, opaque_says, record_says, union_says, function_says, class_says, instance_says, constant_body_says, function_body_says}
+use Rattle.au_syntax.specs.Views.{declaration, written}
+use Rattle.au_promises.specs.Promises.{instance_defined}
+use Rattle.au_promises.specs.Written.{declared_of, name_of, sight_in}
 use Rattle.au_promises.proofs.finding.is_instance_of.Goals as goal
 
 pub returns-in-Constant : goal.returns-in-Constant
@@ -28,3 +31,9 @@ returns-in-ConstantBody c = grind (arith, constant_body_says)
 
 pub returns-in-FunctionBody : goal.returns-in-FunctionBody
 returns-in-FunctionBody c = grind (arith, function_body_says)
+
+pub returns-in-InstanceBody : goal.returns-in-InstanceBody
+unfolding declaration
+returns-in-InstanceBody c =
+    let defined = instance_defined (sight_in c.args.sight.now) c.args.scope.now (name_of c.args.name.now) (written c.args.of.now) in
+    subst (λ d. IfOk c.same_instance.result (λ is. is ≡ defined (declared_of d))) (sym c.in-InstanceBody.is) c.same_instance.ensures
