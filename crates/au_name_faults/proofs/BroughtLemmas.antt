@@ -1,11 +1,25 @@
 -- What the imports of a part bring.
-use Rattle.std.proofs.Common.{◌≡◌, Option, None, Some, refl}
-use Rattle.au_modules.specs.Programs.{Entry}
+use Rattle.std.proofs.Common.{◌≡◌, ℕ, List, Option, None, Some, refl}
+use Rattle.au_syntax.specs.declared.modules.Part.{Part}
+use Rattle.au_tables.specs.declared.spaces.Space.{Space}
+use Rattle.au_tables.specs.declared.spaces.Space.TheVariants.{Values, Callables, Types}
+use Rattle.au_tables.specs.Tables.{firsts}
+use Rattle.au_modules.specs.Programs.{Entry, ModuleParts}
 use Rattle.au_names.specs.Exporting.{imports_seen}
 use Rattle.au_names.specs.Meanings.{imports_in}
+use Rattle.au_name_faults.specs.declared.brought.Brought.{Brought}
+use Rattle.au_name_faults.specs.Clashing.{brought_to}
+use Rattle.au_name_faults.specs.Gathered.{AreBrought, brought_in}
 use Rattle.au_name_faults.specs.Parts.{tree_of}
 
 -- the imports of a part are those that are seen of it
 pub imports_of : (o : Option Entry) → imports_seen (tree_of o) ≡ imports_in o
 imports_of None = refl
 imports_of (Some e) = refl
+
+-- the table of a space holds what they bring into it
+pub table_of : (program : List ModuleParts) (place : ℕ) (m : ModuleParts) (part : Part) (brought : Brought) → AreBrought program place m part brought → (space : Space)
+    → brought_in space brought ≡ firsts (brought_to program place m part space)
+table_of program place m part brought made Values = made.values
+table_of program place m part brought made Callables = made.callables
+table_of program place m part brought made Types = made.types

@@ -28,9 +28,10 @@ use Rattle.au_name_faults.specs.declared.declaring.Site.{Site}
 use Rattle.au_name_faults.specs.declared.faults.NameFault.TheVariants.{NotVisible, NameTwice}
 use Rattle.au_name_faults.specs.Choices.{first_of, where_so}
 use Rattle.au_name_faults.specs.Clashing.{brought_to, declaration_clashes, is_built_in, is_brought_before, is_pervasive}
-use Rattle.au_name_faults.specs.Declaring.{brought_in, clashes_at, declaration_fault_at, is_brought_by, means_nothing_at, mention_fault_at}
-use Rattle.au_name_faults.specs.Gathered.{AreBrought}
+use Rattle.au_name_faults.specs.Declaring.{clashes_at, declaration_fault_at, is_brought_by, means_nothing_at, mention_fault_at}
+use Rattle.au_name_faults.specs.Gathered.{AreBrought, brought_in}
 use Rattle.au_name_faults.specs.NameFaults.{declaration_fault, means_nothing, mention_fault}
+use Rattle.au_name_faults.proofs.BroughtLemmas.{table_of}
 
 -- ---- the first
 
@@ -89,9 +90,8 @@ first_offers (m ∷ ms) all names place made within is = ap Some (sym (is ∙ ap
 -- what imports bring, by their tables
 brought_same : (program : List ModuleParts) (place : ℕ) (m : ModuleParts) (part : Part) (brought : Brought) → AreBrought program place m part brought → (space : Space) (name : Bytes) →
     has_name name (brought_in space brought) ≡ has_name name (brought_to program place m part space)
-brought_same program place m part brought made Values name = ap (has_name name) made.values ∙ ap is_some (find-firsts name (brought_to program place m part Values))
-brought_same program place m part brought made Callables name = ap (has_name name) made.callables ∙ ap is_some (find-firsts name (brought_to program place m part Callables))
-brought_same program place m part brought made Types name = ap (has_name name) made.types ∙ ap is_some (find-firsts name (brought_to program place m part Types))
+brought_same program place m part brought made space name =
+    ap (has_name name) (table_of program place m part brought made space) ∙ ap is_some (find-firsts name (brought_to program place m part space))
 
 before_same : (program : List ModuleParts) (place : ℕ) (m : ModuleParts) (interface body : Brought) → AreBrought program place m Interface interface → AreBrought program place m Body body → (part : Part) (space : Space) (name : Bytes) →
     is_brought_by part space interface body name ≡ is_brought_before program place m part space name

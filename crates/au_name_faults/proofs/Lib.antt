@@ -8,6 +8,7 @@ pub mod GoodLemmas
 pub mod ImportingLemmas
 pub mod ItemLemmas
 pub mod MentionLemmas
+pub mod NamingLemmas
 pub mod NumberLemmas
 pub mod OfferLemmas
 pub mod RuleLemmas

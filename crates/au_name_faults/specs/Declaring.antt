@@ -4,10 +4,8 @@ use Rattle.au_syntax.specs.declared.modules.Part.{Part}
 use Rattle.au_syntax.specs.declared.modules.Part.TheVariants.{Interface, Body}
 use Rattle.au_syntax.specs.Plain.{Bytes, PlainDeclaration}
 use Rattle.au_tables.specs.declared.spaces.Space.{Space}
-use Rattle.au_tables.specs.declared.spaces.Space.TheVariants.{Values, Callables, Types}
 use Rattle.au_tables.specs.Tables.{has_name}
 use Rattle.au_types.specs.declared.parameters.Parameter.{Parameter}
-use Rattle.au_names.specs.declared.targets.Target.{Target}
 use Rattle.au_names.specs.Exporting.{in_space}
 use Rattle.au_written_types.specs.Senses.{sense_of}
 use Rattle.au_mentions.specs.declared.mentions.Mention.{Mention}
@@ -19,12 +17,7 @@ use Rattle.au_name_faults.specs.declared.faults.NameFault.{NameFault}
 use Rattle.au_name_faults.specs.declared.faults.NameFault.TheVariants.{NotVisible, NameTwice}
 use Rattle.au_name_faults.specs.Choices.{first_of, where_so}
 use Rattle.au_name_faults.specs.Clashing.{is_built_in}
-
--- the table of a space
-abbrev pub brought_in : Space → Brought → List (Bytes × Target)
-brought_in Values brought = brought.values
-brought_in Callables brought = brought.callables
-brought_in Types brought = brought.types
+use Rattle.au_name_faults.specs.Gathered.{brought_in}
 
 -- the imports of a part and of those before it bring a name, by their tables
 abbrev pub is_brought_by : Part → Space → Brought → Brought → Bytes → Bool

@@ -1,12 +1,14 @@
 -- What is made before the names of a program are looked at, so that each is found by a table.
 use Rattle.std.specs.Prelude.{◌≡◌, ℕ, List, map, reverse}
 use Rattle.au_syntax.specs.declared.modules.Part.{Part}
-use Rattle.au_syntax.specs.Plain.{PlainDeclaration}
+use Rattle.au_syntax.specs.Plain.{Bytes, PlainDeclaration}
 use Rattle.au_tables.specs.declared.name_tables.NameTables.{NameTables}
+use Rattle.au_tables.specs.declared.spaces.Space.{Space}
 use Rattle.au_tables.specs.declared.spaces.Space.TheVariants.{Values, Callables, Types}
 use Rattle.au_tables.specs.DeclaredNames.{numbered, table_of}
 use Rattle.au_tables.specs.Tables.{firsts}
 use Rattle.au_modules.specs.Programs.{ModuleParts}
+use Rattle.au_names.specs.declared.targets.Target.{Target}
 use Rattle.au_names.specs.Exporting.{AreExports}
 use Rattle.au_names.specs.Owned.{declarations_in}
 use Rattle.au_name_faults.specs.declared.brought.Brought.{Brought}
@@ -29,6 +31,12 @@ last_offers m = last_tables (declarations_in m.interface)
 pub record AreOffers (program : List ModuleParts) (offers : Offers) : Type 0 where
   pub exports : AreExports offers.exports program
   pub lasts : offers.lasts.items ≡ map last_offers program
+
+-- the table of a space of what imports bring
+abbrev pub brought_in : Space → Brought → List (Bytes × Target)
+brought_in Values brought = brought.values
+brought_in Callables brought = brought.callables
+brought_in Types brought = brought.types
 
 -- These are the tables of what the imports of a part of the module at a place bring, the first that
 -- each name is given.

@@ -1,8 +1,12 @@
 -- A part of a module whose imports are looked at, with what is known of its program.
-use Rattle.std.specs.Prelude.{◌≡◌, ◌<◌, ℕ, ◌||◌, Bool, List, Option, Some, length, slice_get}
+use Rattle.std.specs.Prelude.{◌≡◌, ◌<◌, ℕ, ◌&&◌, ◌||◌, Bool, List, Option, Some, length, slice_get}
+use Rattle.std.specs.List.{list_all}
 use Rattle.au_base.specs.declared.places.Pos.{Pos}
-use Rattle.au_syntax.specs.Names.{Renaming}
+use Rattle.au_syntax.specs.Forms.{some}
+use Rattle.au_syntax.specs.Modules.{Importing}
+use Rattle.au_syntax.specs.Names.{Placed, Renaming}
 use Rattle.au_syntax.specs.Plain.{Bytes}
+use Rattle.au_syntax.specs.Sizes.{fits_name}
 use Rattle.au_tables.specs.declared.spaces.Space.{Space}
 use Rattle.au_tables.specs.declared.spaces.Space.TheVariants.{Values, Callables, Types}
 use Rattle.au_modules.specs.Programs.{ModuleParts}
@@ -13,6 +17,14 @@ use Rattle.au_name_faults.specs.declared.faults.NameFault.{NameFault}
 use Rattle.au_name_faults.specs.Clashing.{import_clashes}
 use Rattle.au_name_faults.specs.Gathered.{AreBrought, AreOffers}
 use Rattle.au_name_faults.specs.NameFaults.{item_clashes, member_fault}
+
+-- These names, with dots between, name a module: there is one at least, and they are within the limit of a name.
+abbrev pub is_module_name : List (Placed Bytes) → Bool
+is_module_name names = some names && fits_name names
+
+-- Each import names a module so. The imports of a whole file do.
+abbrev pub name_modules : List (Importing Bytes) → Bool
+name_modules imports = list_all (λ (i : Importing Bytes). is_module_name i.from) imports
 
 -- the modules of the program
 abbrev pub program_of : Importer → List ModuleParts

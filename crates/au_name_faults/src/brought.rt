@@ -1,16 +1,14 @@
 //! What the imports of a part bring, by name.
 
-ghost use Rattle.std.specs.Prelude.{◌≡◌, ◌<◌, ℕ, List, IfOk, Some, length, slice_get};
+ghost use Rattle.std.specs.Prelude.{◌≡◌, ◌<◌, IfOk, Some, length, slice_get};
 ghost use Rattle.au_modules.specs.Programs.{ModuleParts};
 ghost use Rattle.au_modules.specs.Seen.{tree_seen};
 ghost use Rattle.au_modules.specs.Slots as slots;
-ghost use Rattle.au_name_faults.specs.Clashing as clashing;
-ghost use Rattle.au_name_faults.specs.Gathered.{AreBrought};
+ghost use Rattle.au_name_faults.specs.Gathered.{AreBrought, brought_in};
 ghost use Rattle.au_names.specs.Exporting.{AreExports, imports_seen};
 ghost use Rattle.au_names.specs.Importing.{imported};
 ghost use Rattle.au_names.specs.Meanings.{part_of};
 ghost use Rattle.au_name_faults.specs.Parts.{tree_of};
-ghost use Rattle.au_syntax.specs.declared.modules.Part.{Part as ThePart};
 ghost use Rattle.au_tables.specs.Tables.{firsts};
 
 use au_base::Memory;
@@ -88,9 +86,9 @@ pub fn brought_to(
     })
 }
 
-/// The table of a space.
-pub fn in_space(brought: &Brought, space: Space) -> &Table<Target>
-    ensures { (program : List ModuleParts) (place : ℕ) (m : ModuleParts) (part : ThePart) → AreBrought program place m part brought.now → result.now ≡ firsts (clashing.brought_to program place m part space) }
+/// The table of a space of what imports bring.
+pub(crate) fn brought_in(brought: &Brought, space: Space) -> &Table<Target>
+    ensures { result.now ≡ brought_in space brought.now }
 {
     match space {
         Space::Values => &brought.values,

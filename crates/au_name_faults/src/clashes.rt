@@ -5,18 +5,17 @@ ghost use Rattle.std.specs.Option.{option_copied};
 ghost use Rattle.au_modules.specs.Programs.{ModuleParts};
 ghost use Rattle.au_name_faults.specs.Clashing as spec;
 ghost use Rattle.au_name_faults.specs.Importers.{IsOf, IsReady, clashes_in, program_of};
-ghost use Rattle.au_names.specs.Exporting as exporting;
 ghost use Rattle.au_names.specs.Owned.{target};
 ghost use Rattle.au_tables.specs.Tables.{find};
 
-use crate::brought::{Brought, in_space};
+use crate::brought::{Brought, brought_in};
 use crate::built_in::is_built_in;
-use crate::offers::Offers;
+use crate::offers::{Offers, offered_in};
 use au_modules::Modules;
 use au_names::Target;
 use au_names::exports::offered_names;
 use au_syntax::Part;
-use au_tables::{NameTables, Space, Table};
+use au_tables::Space;
 use au_types::DeclAt;
 
 /// A part of a module whose imports are looked at, with what is known of its program.
@@ -44,17 +43,6 @@ pub fn first_offered(importer: &Importer, place: usize, space: Space, name: &[u8
     names.get(name).copied()
 }
 
-/// The table of a space.
-fn table_in(names: &NameTables, space: Space) -> &Table<u32>
-    ensures { result.now ≡ exporting.in_space space names.now }
-{
-    match space {
-        Space::Values => &names.values,
-        Space::Callables => &names.callables,
-        Space::Types => &names.types,
-    }
-}
-
 /// The number of the last declaration that brings in a name, in the interface of the module at a place.
 pub fn last_offered(importer: &Importer, place: usize, space: Space, name: &[u8]) -> Option<u32>
     requires ready { IsReady importer.now }
@@ -62,7 +50,7 @@ pub fn last_offered(importer: &Importer, place: usize, space: Space, name: &[u8]
     ensures { (m : ModuleParts) → slice_get (program_of importer.now) place ≡ Some m → result ≡ spec.last_offered space m name.now }
 {
     let tables = &importer.offers.lasts[place];
-    let names = table_in(tables, space);
+    let names = offered_in(tables, space);
     names.get(name).copied()
 }
 
@@ -110,7 +98,7 @@ fn is_other_brought(
     requires { IsReady importer.now }
     ensures { (m : ModuleParts) → IsOf importer.now m → result ≡ spec.is_other (find local.now (spec.brought_to (program_of importer.now) importer.now.place m importer.now.part space)) (target at.«module» name.now at.decl) }
 {
-    let table = in_space(importer.brought, space);
+    let table = brought_in(importer.brought, space);
     is_other(table.get(local), at, name)
 }
 

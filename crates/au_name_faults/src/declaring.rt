@@ -4,8 +4,8 @@ ghost use Rattle.std.specs.Prelude.{◌≡◌, ◌<◌, ◌==◌, IfOk, Some, le
 ghost use Rattle.au_modules.specs.Programs.{ModuleParts};
 ghost use Rattle.au_modules.specs.Slots as slots;
 ghost use Rattle.au_name_faults.specs.Choices.{first_of, where_so};
-ghost use Rattle.au_name_faults.specs.Declaring.{brought_in, clashes_at, declaration_fault_at, is_brought_by, means_nothing_at, mention_fault_at};
-ghost use Rattle.au_name_faults.specs.Gathered.{AreBrought, AreOffers};
+ghost use Rattle.au_name_faults.specs.Declaring.{clashes_at, declaration_fault_at, is_brought_by, means_nothing_at, mention_fault_at};
+ghost use Rattle.au_name_faults.specs.Gathered.{AreBrought, AreOffers, brought_in};
 ghost use Rattle.au_name_faults.specs.NameFaults.{declaration_fault};
 ghost use Rattle.au_names.specs.Exporting as exporting;
 ghost use Rattle.au_syntax.specs.Plain.{plain_declaration};
@@ -13,13 +13,12 @@ ghost use Rattle.au_syntax.specs.Views.{declaration};
 ghost use Rattle.au_syntax.specs.contracts.parsed.ParsedPhase.TheImpl.{ghosts as parsed};
 ghost use Rattle.au_tables.specs.Tables.{has_name};
 
-use crate::brought::Brought;
+use crate::brought::{Brought, brought_in};
 use crate::built_in::is_built_in;
 use crate::faults::NameFault;
-use crate::offers::Offers;
+use crate::offers::{Offers, offered_in};
 use au_base::{Memory, Name, Pos};
 use au_mentions::{Mention, mentions_of, type_parameters};
-use au_names::Target;
 use au_resolved::Resolved;
 use au_syntax::{Decl, Parsed, Part};
 use au_tables::{NameTables, Space, Table};
@@ -44,28 +43,6 @@ pub struct Site<'a> {
     pub names: &'a Table<DeclAt>,
     /// The declared types of the program.
     pub heads: &'a Heads,
-}
-
-/// The table of a space of what an interface offers.
-fn offered_in(names: &NameTables, space: Space) -> &Table<u32>
-    ensures { result.now ≡ exporting.in_space space names.now }
-{
-    match space {
-        Space::Values => &names.values,
-        Space::Callables => &names.callables,
-        Space::Types => &names.types,
-    }
-}
-
-/// The table of a space of what imports bring.
-fn brought_in(brought: &Brought, space: Space) -> &Table<Target>
-    ensures { result.now ≡ brought_in space brought.now }
-{
-    match space {
-        Space::Values => &brought.values,
-        Space::Callables => &brought.callables,
-        Space::Types => &brought.types,
-    }
 }
 
 /// Whether a name is pervasive.

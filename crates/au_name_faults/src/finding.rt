@@ -1,13 +1,13 @@
 //! The first fault of the names of a program.
 
-ghost use Rattle.std.specs.Prelude.{◌≡◌, ◌<◌, ℕ, List, IfOk, Some, length, slice_get};
+ghost use Rattle.std.specs.Prelude.{◌≡◌, ◌<◌, ℕ, List, IfOk, IsTrue, Some, length, slice_get};
 ghost use Rattle.std.specs.Option.{option_or};
 ghost use Rattle.au_modules.specs.Programs.{ModuleParts};
 ghost use Rattle.au_modules.specs.Slots as slots;
 ghost use Rattle.au_name_faults.specs.Choices.{first_of};
 ghost use Rattle.au_name_faults.specs.Gathered.{AreBrought, AreOffers};
 ghost use Rattle.au_name_faults.specs.NameFaults as spec;
-ghost use Rattle.au_syntax.specs.Files.{says};
+ghost use Rattle.au_syntax.specs.Files.{is_formed, is_within, says};
 ghost use Rattle.au_syntax.specs.contracts.parsed.ParsedPhase.TheImpl.{ghosts as parsed};
 ghost use Rattle.au_syntax.specs.declared.modules.Part.TheVariants as parts;
 
@@ -42,6 +42,8 @@ fn tree_fault(
     part: Part,
     tree: &Module<Parsed>,
 ) -> Result<Option<NameFault>, Memory>
+    requires formed { IsTrue (is_formed parsed tree.now) }
+    requires sized { IsTrue (is_within parsed tree.now) }
     requires within { place < length (slots.modules resolved.now) }
     requires offers { AreOffers (slots.modules resolved.now) offers.now }
     requires interface { (m : ModuleParts) → slice_get (slots.modules resolved.now) place ≡ Some m → AreBrought (slots.modules resolved.now) place m parts.Interface interface.now }

@@ -1,12 +1,12 @@
 //! What imports are refused for.
 
-ghost use Rattle.std.specs.Prelude.{◌≡◌, ◌<◌, IfOk, Some, length, map, slice_get};
+ghost use Rattle.std.specs.Prelude.{◌≡◌, ◌<◌, IfOk, IsTrue, Some, length, map, slice_get};
 ghost use Rattle.au_modules.specs.Programs.{ModuleParts};
 ghost use Rattle.au_modules.specs.Slots as slots;
 ghost use Rattle.au_name_faults.specs.Choices.{first_of};
 ghost use Rattle.au_name_faults.specs.Gathered.{AreBrought, AreOffers};
 ghost use Rattle.au_name_faults.specs.Importers as importers;
-ghost use Rattle.au_name_faults.specs.Importers.{IsOf, IsReady, program_of};
+ghost use Rattle.au_name_faults.specs.Importers.{IsOf, IsReady, is_module_name, name_modules, program_of};
 ghost use Rattle.au_name_faults.specs.NameFaults as spec;
 ghost use Rattle.au_syntax.specs.Plain.{plain_importing, plain_name, plain_renaming};
 ghost use Rattle.au_syntax.specs.Sizes.{joined};
@@ -18,7 +18,7 @@ use crate::clashes::{Importer, first_offered, import_clashes, last_offered};
 use crate::faults::NameFault;
 use crate::members::along_fault;
 use crate::offers::Offers;
-use au_base::{MOST_NAME_BYTES, Memory, Name, Pos};
+use au_base::{Memory, Name, Pos};
 use au_modules::Modules;
 use au_names::imports::{dotted_text, place_named};
 use au_syntax::{Ident, Import, Parsed, Part, Renamed};
@@ -26,17 +26,15 @@ use au_tables::Space;
 use au_types::DeclAt;
 use std::alloc::Global;
 
-/// The name of a module, given by its parts. Bytes that are no name stand in no tree: they are answered by
-/// `Memory`.
+/// The name of a module, given by its parts.
 fn joined_name(alloc: Global, names: &Vec<Ident<Parsed>>) -> Result<Name, Memory>
+    requires { IsTrue (is_module_name (map (plain_name parsed.name_bytes) (map (placed parsed) names.now.items))) }
     ensures { IfOk result (λ name. name ≡ joined (map (plain_name parsed.name_bytes) (map (placed parsed) names.now.items))) }
 {
+    let first = names[0].name.as_bytes();
+    prove!(!first.is_empty());
     let text = dotted_text(alloc, names)?;
-    let bytes = text.as_bytes();
-    if bytes.len() < 2 || MOST_NAME_BYTES < bytes.len() - 1 {
-        return Err(Memory);
-    }
-    Name::copy_of(alloc, &bytes[1..])
+    Name::copy_of(alloc, &text.as_bytes()[1..])
 }
 
 /// The place of the first of names, or else this place.
@@ -182,7 +180,8 @@ fn import_fault(
     importer: &Importer,
     import: &Import<Parsed>,
 ) -> Result<Option<NameFault>, Memory>
-    requires { IsReady importer.now }
+    requires ready { IsReady importer.now }
+    requires named { IsTrue (is_module_name (plain_importing parsed.name_bytes (importing parsed import.now)).from) }
     ensures { (m : ModuleParts) → IsOf importer.now m → IfOk result (λ found. found ≡ spec.import_fault (program_of importer.now) importer.now.place m importer.now.part (plain_importing parsed.name_bytes (importing parsed import.now))) }
 {
     match place_named(alloc, &importer.offers.exports, &import.module)? {
@@ -208,7 +207,8 @@ fn all_imports_fault(
     importer: &Importer,
     imports: &Vec<Import<Parsed>>,
 ) -> Result<Option<NameFault>, Memory>
-    requires { IsReady importer.now }
+    requires ready { IsReady importer.now }
+    requires named { IsTrue (name_modules (map (plain_importing parsed.name_bytes) (map (importing parsed) imports.now.items))) }
     ensures { (m : ModuleParts) → IsOf importer.now m → IfOk result (λ found. found ≡ first_of (spec.import_fault (program_of importer.now) importer.now.place m importer.now.part) (map (plain_importing parsed.name_bytes) (map (importing parsed) imports.now.items))) }
 {
     for import in imports {
@@ -236,6 +236,7 @@ pub fn imports_fault(
     requires within { place < length (slots.modules modules.now) }
     requires offers { AreOffers (slots.modules modules.now) offers.now }
     requires brought { (m : ModuleParts) → slice_get (slots.modules modules.now) place ≡ Some m → AreBrought (slots.modules modules.now) place m part brought.now }
+    requires named { IsTrue (name_modules (map (plain_importing parsed.name_bytes) (map (importing parsed) imports.now.items))) }
     ensures { (m : ModuleParts) → slice_get (slots.modules modules.now) place ≡ Some m → IfOk result (λ found. found ≡ first_of (spec.import_fault (slots.modules modules.now) place m part) (map (plain_importing parsed.name_bytes) (map (importing parsed) imports.now.items))) }
 {
     let importer = Importer {

@@ -4,6 +4,7 @@ ghost use Rattle.std.specs.Prelude.{◌≡◌, ◌<◌, [], IfOk, Some, length, 
 ghost use Rattle.std.specs.Option.{option_map};
 ghost use Rattle.au_modules.specs.Slots as slots;
 ghost use Rattle.au_name_faults.specs.Gathered.{AreOffers, last_offers, last_tables};
+ghost use Rattle.au_names.specs.Exporting.{in_space};
 ghost use Rattle.au_syntax.specs.Plain.{plain_declaration};
 ghost use Rattle.au_syntax.specs.Views.{declaration};
 ghost use Rattle.au_syntax.specs.contracts.parsed.ParsedPhase.TheImpl.{ghosts as parsed};
@@ -28,6 +29,17 @@ pub struct Offers {
     pub exports: Exports,
     /// The names that each interface offers, with the number of the last declaration of each.
     pub lasts: Vec<NameTables>,
+}
+
+/// The table of a space of what an interface offers.
+pub(crate) fn offered_in(names: &NameTables, space: Space) -> &Table<u32>
+    ensures { result.now ≡ in_space space names.now }
+{
+    match space {
+        Space::Values => &names.values,
+        Space::Callables => &names.callables,
+        Space::Types => &names.types,
+    }
 }
 
 /// The table of a space of declarations that are numbered from 0, from the last to the first. Numbers that

@@ -7,6 +7,7 @@ use Rattle.au_name_faults.specs.Choices.{first_of}
 use Rattle.au_name_faults.specs.Importers.{program_of}
 use Rattle.au_name_faults.specs.NameFaults.{import_fault}
 use Rattle.au_name_faults.proofs.ImportingLemmas.{first_step, first_found, first_end}
+use Rattle.au_name_faults.proofs.NamingLemmas.{import_named}
 use Rattle.au_name_faults.proofs.importing.all_imports_fault.Goals as goal
 
 pub returns-in-Some : goal.returns-in-Some
@@ -30,3 +31,8 @@ returns c = λ m this.
     (first_of (import_fault (program_of c.args.importer.now) c.args.importer.now.place m c.args.importer.now.part) (map (plain_importing parsed.name_bytes) (map (importing parsed) c.deref-import-items.result.now)))
     c.deref-import-items.result.now c.loop-import.import-index c.loop-import-test.false (c.loop-import.invariant m this)
     ∙ ap (λ xs. first_of (import_fault (program_of c.args.importer.now) c.args.importer.now.place m c.args.importer.now.part) (map (plain_importing parsed.name_bytes) (map (importing parsed) xs))) c.deref-import-items.ensures.value
+
+pub import_fault-requires-clause-named : goal.import_fault-requires-clause-named
+import_fault-requires-clause-named c =
+    import_named c.args.imports.now.items c.deref-import-items.result.now c.loop-import.import-index c.import-item.result
+    c.deref-import-items.ensures.value c.loop-import-test.true c.import-item.is c.requires.named
