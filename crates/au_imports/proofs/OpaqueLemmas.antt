@@ -1,5 +1,5 @@
 -- Opaque types of a good program are defined.
-use Rattle.std.proofs.Common.{◌≡◌, ℕ, Bool, true, List, find, Option, Some, None, refl, ap, sym, ◌∙◌, subst}
+use Rattle.std.proofs.Common.{◌≡◌, ℕ, true, List, find, Some, refl, ap, sym, ◌∙◌}
 use Rattle.std.specs.Prelude.{Contains, slice_get}
 use Rattle.std.proofs.lemmas.Option.{get_or_from_slice_get, none-some, slice_get_within}
 use Rattle.au_syntax.specs.declared.modules.Part.TheVariants.{Interface, Body}
@@ -8,7 +8,7 @@ use Rattle.au_syntax.specs.Plain.{Bytes, PlainDeclaration}
 use Rattle.au_types.specs.declared.types.DeclAt.{DeclAt}
 use Rattle.au_modules.specs.Programs.{Entry, ModuleParts}
 use Rattle.au_names.specs.Owned.{declarations_in}
-use Rattle.au_declarations.specs.Standing.{Standing, body_at, body_standing, defined_by, definition_for, definition_of, is_named, is_whole, opaque_name, standing_at, standing_from, standing_in, whole_name}
+use Rattle.au_declarations.specs.Standing.{Standing, body_at, defined_by, definition_for, definition_of, is_named, is_whole, opaque_name, standing_at, standing_from, standing_in, whole_name}
 use Rattle.au_declarations.proofs.DefinitionLemmas.{interface_listed, module_place, standing_found}
 use Rattle.au_promises.specs.Agreeing.{Sight, sight_of}
 use Rattle.au_promises.specs.Promises.{defines, is_name, keeps, promised, type_defined}
