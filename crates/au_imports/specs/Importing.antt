@@ -1,6 +1,6 @@
 -- What the modules of a program are refused for before their types are looked at: what a name is refused for,
 -- and then, where every name is good, the first promise that isn't kept.
-use Rattle.std.specs.Prelude.{List, Option, None, Some}
+use Rattle.std.specs.Prelude.{List, Option}
 use Rattle.std.specs.Option.{option_map, option_or}
 use Rattle.au_modules.specs.Programs.{ModuleParts}
 use Rattle.au_name_faults.specs.declared.faults.NameFault.{NameFault}

@@ -8,17 +8,19 @@ ghost use Rattle.au_modules.specs.Programs.{ModuleParts};
 ghost use Rattle.au_modules.specs.Slots as slots;
 ghost use Rattle.au_names.specs.Meanings.{declared_by, seen};
 ghost use Rattle.au_resolved.specs.Known as known;
+ghost use Rattle.au_declarations.specs.Standing.{definition_of, standing_at, standing_seen};
 ghost use Rattle.au_syntax.specs.Views.{written};
 ghost use Rattle.au_tables.specs.declared.spaces.Space.TheVariants as spaces;
 ghost use Rattle.au_types.specs.Views.{meaning};
 ghost use Rattle.au_written_types.specs.Meant.{meant};
 
 use au_base::{Memory, Name};
+use au_declarations::{Declared, declaration, definition};
 use au_modules::Modules;
 use au_names::PartNames;
 use au_resolved::Resolved as NamedModules;
 use au_syntax::{Part, TypeText};
-use au_types::{Heads, Params, Ty};
+use au_types::{DeclAt, Heads, Params, Ty};
 use std::alloc::Global;
 use std::marker::Model;
 
@@ -60,6 +62,23 @@ impl Resolved {
         ensures good { IsGood (slots.modules self.now) }
     {
         self.named.modules()
+    }
+
+    /// The declaration with this module and number, if it is there: those of an interface are counted from 0,
+    /// and those of the body of its module behind them.
+    pub fn declaration(&self, at: DeclAt) -> Option<Declared<'_>>
+        ensures { standing_seen result ≡ standing_at (slots.modules self.now) at }
+    {
+        declaration(self.named.modules(), at)
+    }
+
+    /// The definition of the declaration with this module and number, if both are there: an opaque type is
+    /// defined by the first record or union of its name in the body of its module, and all else is its own
+    /// definition.
+    pub fn definition(&self, at: DeclAt) -> Option<Declared<'_>>
+        ensures { standing_seen result ≡ definition_of (slots.modules self.now) at }
+    {
+        definition(self.named.modules(), at)
     }
 
     /// What names mean in a part of the module at a place.

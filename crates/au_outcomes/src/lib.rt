@@ -1,8 +1,8 @@
 //! From the names of files to what their program comes to: they are fetched, read and judged, in the order of
 //! refusals.
 //!
-//! `specs/Outcomes.antt` says what a program comes to, and `check` finds it. `specs/Accepted.antt` says which files
-//! are accepted.
+//! `specs/Outcomes.antt` says what a program comes to, and `check` finds it. `specs/Accepted.antt` says which
+//! files are accepted.
 #![tactic(auto)]
 
 mod checking;

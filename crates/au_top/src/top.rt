@@ -43,8 +43,9 @@ pub fn austral<S: Shelf, I: Source, O: Sink, E: Sink>(
     // Where files are told, a job isn't refused by the steps that judge whether its files are accepted exactly
     // where they are: then the call ends as their program prints, or for a file that doesn't print.
     ensures accepted { (files : Files) → S.files shelf.old ≡ Some files → IsTrue (is_decided result)
-        → IsAcceptedJob (map string_bytes words.now) files ↔ CameTo (map string_bytes words.now) (S.files shelf.old)
-        (HasComeBehind result (O.written out.old) (O.written out.new) (E.written err.old) (E.written err.new)) }
+        → IsAcceptedJob (map string_bytes words.now) files
+        ↔ CameTo (map string_bytes words.now) (S.files shelf.old) (HasComeBehind result
+        (O.written out.old) (O.written out.new) (E.written err.old) (E.written err.new)) }
     // 64 comes exactly where the words are no job.
     ensures words { result ≡ Status.Words → IsNoJob (map string_bytes words.now) }
     ensures no_job { IsNoJob (map string_bytes words.now) → IsTrue (is_decided result) → result ≡ Status.Words }
