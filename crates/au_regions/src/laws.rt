@@ -12,5 +12,6 @@ pub fn leaving_undoes_entering()
 /// beside what was known before.
 pub fn what_is_entered_is_known()
     ensures first { (name : List ℕ) → Knows [] name ↔ (name ≡ codes "Static") }
-    ensures entered { (scope : List (List ℕ)) (name other : List ℕ) → Knows (entered scope name) other ↔ (Knows scope other ⊎ (name ≡ other)) }
+    ensures entered { (scope : List (List ℕ)) (name other : List ℕ)
+        → Knows (entered scope name) other ↔ (Knows scope other ⊎ (name ≡ other)) }
 {}

@@ -1,5 +1,5 @@
 -- The universes of types, case by case. The definition is opaque; these equations stand for it, and
--- `universe_steps` names them.
+-- `steps` names them.
 use Rattle.std.proofs.Common.{◌≡◌, ℕ, ◌+◌, ◌<◌, List, [], ◌∷◌, ◌++◌, length, take, get_or, Bool, true, false, refl, sym, ap, ◌∙◌, append_assoc}
 use Rattle.std.specs.Prelude.{if◌then◌else◌, unwrap_or}
 use Rattle.std.specs.List.{list_all, list_any}
@@ -125,6 +125,6 @@ module _ (rows : List (DeclAt × Head)) (params : List Parameter) where
       ∙ ap judged (universes_push (take i xs) (get_or xs i d))
       ∙ judged_both (argument_universes rows params (argument_all (take i xs))) (argument_universe rows params (argument (get_or xs i d)))
 
-pub ruleset universe_steps = (unit_universe, truth_universe, integer_universe, text_universe, parameter_universe, named_universe, reads_universe, writes_universe, type_comes, region_comes)
+pub ruleset steps = (unit_universe, truth_universe, integer_universe, text_universe, parameter_universe, named_universe, reads_universe, writes_universe, type_comes, region_comes)
 
 pub ruleset judged_steps = (none_come, more_come)

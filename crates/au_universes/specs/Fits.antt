@@ -36,6 +36,16 @@ module _ (test : Universe → Argument → Bool) (rows : List (DeclAt × Head)) 
   formed_arguments expected args =
       if all_fit test expected args && all_formed test rows params args then Some (judged (argument_universes rows params args)) else None
 
+-- the same for the arguments that are asked for: of a type, of an argument and of arguments
+abbrev pub type_found : Fit → List (DeclAt × Head) → List Parameter → Meaning → Option TypeUniverse
+type_found fit rows params t = formed_universe (asked fit rows params) rows params t
+
+abbrev pub argument_found : Fit → List (DeclAt × Head) → List Parameter → Universe → Argument → Option TypeUniverse
+argument_found fit rows params wanted one = formed_argument (asked fit rows params) rows params wanted one
+
+abbrev pub arguments_found : Fit → List (DeclAt × Head) → List Parameter → List Parameter → Arguments → Option TypeUniverse
+arguments_found fit rows params expected args = formed_arguments (asked fit rows params) rows params expected args
+
 -- the universe of a type that was found, where a parameter takes it
 abbrev pub taken_by : Fit → Universe → Option TypeUniverse → Option TypeUniverse
 taken_by fit wanted None = None

@@ -66,3 +66,7 @@ module _ (rows : List (DeclAt × Head)) (params : List Parameter) where
     pub argument_universes : Arguments → List TypeUniverse
     argument_universes no_arguments = []
     argument_universes (arguments first rest) = argument_universe first ++ argument_universes rest
+
+  -- what arguments come to
+  abbrev pub arguments_come : Arguments → TypeUniverse
+  arguments_come args = judged (argument_universes args)

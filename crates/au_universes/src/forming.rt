@@ -5,9 +5,11 @@ ghost use Rattle.std.specs.Prelude.{◌≡◌, ◌↔◌, IsTrue, Option, None, 
 ghost use Rattle.std.specs.Option.{option_map};
 ghost use Rattle.au_types.specs.Types.{named, of_type};
 ghost use Rattle.au_types.specs.Views.{argument, argument_all, meaning};
-ghost use Rattle.au_universes.specs.Fits.{asked, formed_argument, formed_arguments, formed_universe, taken_by, takes_by};
+ghost use Rattle.au_universes.specs.Fits.{argument_found, arguments_found, type_found};
+ghost use Rattle.au_universes.specs.Fits.{asked, taken_by, takes_by};
 ghost use Rattle.au_universes.specs.Forming as forming;
-ghost use Rattle.au_universes.specs.Forming.{ArgumentStandsOver, IsWellFormed, StandsOver, fits_in_kind, is_formed};
+ghost use Rattle.au_universes.specs.Forming.{ArgumentStandsOver, IsWellFormed, StandsOver};
+ghost use Rattle.au_universes.specs.Forming.{fits, fits_in_kind, is_formed};
 
 use crate::judging::{parameter_universe, type_universe};
 use crate::universes::{TypeUniverse, joined, of_declaration, takes};
@@ -31,7 +33,7 @@ pub fn stands_over(heads: &Heads, scope: &Params, of: &Ty) -> bool
 ///
 /// It takes no memory and looks at each part of the type once: the universes are found on the way up.
 pub fn is_well_formed(heads: &Heads, scope: &Params, of: &Ty) -> bool
-    ensures test { result ≡ is_formed (forming.fits heads.now scope.now) heads.now scope.now (meaning of.now) }
+    ensures test { result ≡ is_formed (fits heads.now scope.now) heads.now scope.now (meaning of.now) }
     ensures exact { IsTrue result ↔ IsWellFormed heads.now scope.now (meaning of.now) }
 {
     is_formed(heads, scope, Fit::InUniverse, of)
@@ -43,7 +45,7 @@ pub fn is_well_formed(heads: &Heads, scope: &Params, of: &Ty) -> bool
 /// It takes no memory.
 pub fn fits(heads: &Heads, scope: &Params, wanted: Universe, one: &Arg) -> bool
     requires { ArgumentStandsOver heads.now scope.now (argument one.now) }
-    ensures { result ≡ forming.fits heads.now scope.now wanted (argument one.now) }
+    ensures { result ≡ fits heads.now scope.now wanted (argument one.now) }
 {
     match one {
         Arg::Of(of) => takes(wanted, type_universe(heads, scope, of)),
@@ -71,7 +73,7 @@ fn is_formed(heads: &Heads, scope: &Params, fit: Fit, of: &Ty) -> bool
 #[tactic(auto, using(au_types::proofs::TypeLemmas::type_steps, crate::proofs::FormedLemmas::formed_steps))]
 #[cycle(judge)]
 fn judge(heads: &Heads, scope: &Params, fit: Fit, of: &Ty) -> Option<TypeUniverse>
-    ensures { result ≡ formed_universe (asked fit heads.now scope.now) heads.now scope.now (meaning of.now) }
+    ensures { result ≡ type_found fit heads.now scope.now (meaning of.now) }
 {
     match of {
         Ty::Unit => Some(TypeUniverse::Free),
@@ -105,7 +107,7 @@ fn judge_declared(
     at: DeclAt,
     args: &Vec<Arg>,
 ) -> Option<TypeUniverse>
-    ensures { result ≡ formed_universe (asked fit heads.now scope.now) heads.now scope.now (named at (argument_all args.now.items)) }
+    ensures { result ≡ type_found fit heads.now scope.now (named at (argument_all args.now.items)) }
 {
     let Some(head) = heads.row(at) else {
         return None;
@@ -125,7 +127,7 @@ fn judge_arguments(
     expected: &Params,
     args: &Vec<Arg>,
 ) -> Option<TypeUniverse>
-    ensures { result ≡ formed_arguments (asked fit heads.now scope.now) heads.now scope.now expected.now (argument_all args.now.items) }
+    ensures { result ≡ arguments_found fit heads.now scope.now expected.now (argument_all args.now.items) }
 {
     if args.len() != expected.len() {
         return None;
@@ -152,7 +154,7 @@ fn judge_argument(
     wanted: Universe,
     one: &Arg,
 ) -> Option<TypeUniverse>
-    ensures { result ≡ formed_argument (asked fit heads.now scope.now) heads.now scope.now wanted (argument one.now) }
+    ensures { result ≡ argument_found fit heads.now scope.now wanted (argument one.now) }
 {
     match one {
         Arg::Of(of) => taken(fit, wanted, judge(heads, scope, fit, of)),

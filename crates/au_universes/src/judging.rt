@@ -6,6 +6,7 @@ ghost use Rattle.au_types.specs.Universes.{universe_in};
 ghost use Rattle.au_types.specs.Views.{argument, argument_all, meaning};
 ghost use Rattle.au_universes.specs.Forming.{StandsOver};
 ghost use Rattle.au_universes.specs.Universes as universes;
+ghost use Rattle.au_universes.specs.Universes.{arguments_come};
 
 use crate::universes::{TypeUniverse, joined};
 use au_base::Name;
@@ -25,7 +26,7 @@ pub fn universe_of(heads: &Heads, scope: &Params, of: &Ty) -> TypeUniverse
 }
 
 /// The universe of any type. One that stands over nothing is `Type`.
-#[tactic(auto, using(au_types::proofs::TypeLemmas::type_steps, crate::proofs::UniverseLemmas::universe_steps))]
+#[tactic(auto, using(au_types::proofs::TypeLemmas::type_steps, crate::proofs::UniverseLemmas::steps))]
 #[cycle(type_universe)]
 pub(crate) fn type_universe(heads: &Heads, scope: &Params, of: &Ty) -> TypeUniverse
     ensures { result ≡ universes.universe_of heads.now scope.now (meaning of.now) }
@@ -58,7 +59,9 @@ pub(crate) fn parameter_universe(scope: &Params, name: &Name) -> Option<TypeUniv
 /// The universe of a declared type with these arguments, which count only where it's declared `Type`.
 #[cycle(type_universe)]
 fn declared_universe(heads: &Heads, scope: &Params, at: DeclAt, args: &Vec<Arg>) -> TypeUniverse
-    ensures { result ≡ universes.of_row (head_of heads.now at) (universes.judged (universes.argument_universes heads.now scope.now (argument_all args.now.items))) }
+    ensures { result
+        ≡ universes.of_row (head_of heads.now at)
+        (arguments_come heads.now scope.now (argument_all args.now.items)) }
 {
     let Some(head) = heads.row(at) else {
         return TypeUniverse::AnyUniverse;
@@ -76,7 +79,7 @@ fn declared_universe(heads: &Heads, scope: &Params, at: DeclAt, args: &Vec<Arg>)
 #[tactic(auto, using(crate::proofs::UniverseLemmas::judged_steps))]
 #[cycle(type_universe)]
 fn judged(heads: &Heads, scope: &Params, args: &Vec<Arg>) -> TypeUniverse
-    ensures { result ≡ universes.judged (universes.argument_universes heads.now scope.now (argument_all args.now.items)) }
+    ensures { result ≡ arguments_come heads.now scope.now (argument_all args.now.items) }
 {
     let mut so_far = TypeUniverse::Free;
     for one in args {
@@ -86,7 +89,7 @@ fn judged(heads: &Heads, scope: &Params, args: &Vec<Arg>) -> TypeUniverse
 }
 
 /// What one argument comes to. A region comes to Free, which changes nothing.
-#[tactic(auto, using(au_types::proofs::TypeLemmas::type_steps, crate::proofs::UniverseLemmas::universe_steps))]
+#[tactic(auto, using(au_types::proofs::TypeLemmas::type_steps, crate::proofs::UniverseLemmas::steps))]
 #[cycle(type_universe)]
 fn argument_universe(heads: &Heads, scope: &Params, one: &Arg) -> TypeUniverse
     ensures { result ≡ universes.judged (universes.argument_universe heads.now scope.now (argument one.now)) }
