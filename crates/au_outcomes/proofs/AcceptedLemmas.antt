@@ -24,9 +24,9 @@ use Rattle.au_name_faults.specs.NameFaults.{name_fault}
 use Rattle.au_promises.specs.declared.faults.PromiseFault.{PromiseFault}
 use Rattle.au_promises.specs.declared.faults.PromiseFault.TheVariants as promises
 use Rattle.au_promises.specs.Promises.{promise_fault}
-use Rattle.au_outcomes.specs.Accepted.{Accepted, AreAcceptedAs, is_behind, program_files, program_modules}
+use Rattle.au_outcomes.specs.Accepted.{Accepted, AreAcceptedAs, is_behind, program_files}
 use Rattle.au_outcomes.specs.Halts.{IsUnhad}
-use Rattle.au_outcomes.specs.Outcomes.{AreFiles, BytesCome, Comes, IsFirst}
+use Rattle.au_outcomes.specs.Outcomes.{BytesCome, Comes, IsFirst}
 use Rattle.au_outcomes.specs.Programs.{IsUnprinting, PrintingComes, PrintsSo, ReadsCome, import_outcome, judged_by, module_outcome, program_outcome}
 use Rattle.au_outcomes.specs.Trees.{AreRead, FirstHalts, Halts, ReadFile}
 use Rattle.au_outcomes.specs.declared.outcomes.Outcome.{Outcome}
