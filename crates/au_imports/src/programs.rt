@@ -64,6 +64,14 @@ impl Resolved {
         self.named.modules()
     }
 
+    /// The modules, by value. Their names are good and their promises are kept.
+    pub fn into_modules(self) -> Modules
+        ensures kept { result ≡ self }
+        ensures good { IsGood (slots.modules self) }
+    {
+        self.named.into_modules()
+    }
+
     /// The declaration with this module and number, if it is there: those of an interface are counted from 0,
     /// and those of the body of its module behind them.
     pub fn declaration(&self, at: DeclAt) -> Option<Declared<'_>>

@@ -73,6 +73,13 @@ impl Resolved {
         &self.modules
     }
 
+    /// The modules, by value.
+    pub fn into_modules(self) -> Modules
+        ensures { result ≡ self }
+    {
+        self.modules
+    }
+
     /// What names mean in a part of the module at a place.
     pub fn names(&self, place: usize, part: Part) -> &PartNames
         requires { place < length (slots.modules self.now) }
