@@ -5,3 +5,4 @@ pub mod Examples
 pub mod Shown
 pub mod ShownCalls
 pub mod ShownStuck
+pub mod Kept

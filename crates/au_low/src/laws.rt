@@ -1,6 +1,7 @@
 //! Laws of the definitions, each as the contract of a call that does nothing: programs of a few
 //! instructions, and what they do.
 
+ghost use Rattle.au_low.specs.Kept.{KeepingChangesEventsAlone};
 ghost use Rattle.au_low.specs.Shown.{OperandsAreShown, SlotsAreShown, CallsAreShown, BorrowsAreShown};
 ghost use Rattle.au_low.specs.ShownCalls.{PrintsAreShown, BoxesAreShown, BuffersAreShown, TerminalsAreShown};
 ghost use Rattle.au_low.specs.ShownStuck.{MissingIsStuck, OtherIsStuck, BeginningIsShown};
@@ -58,4 +59,9 @@ pub fn other_is_stuck()
 /// Where a run begins, and where it can't.
 pub fn beginning_is_shown()
     ensures { BeginningIsShown }
+{}
+
+/// A run whose events aren't kept is the run whose events are, but for the events.
+pub fn keeping_changes_events_alone()
+    ensures { KeepingChangesEventsAlone }
 {}

@@ -1,0 +1,4 @@
+pub mod CellLemmas
+pub mod FormLemmas
+pub mod NumberLemmas
+pub mod PartLemmas

@@ -1,0 +1,6 @@
+use Rattle.std.proofs.Common.{sym}
+use Rattle.au_cells.proofs.FormLemmas.{not_truth}
+use Rattle.au_cells.proofs.forms.truth_in.Goals as goal
+
+pub returns-in_default : goal.returns-in_default
+returns-in_default c = sym (not_truth c.args.cell.now c.in_default.not-Truth)

@@ -1,0 +1,4 @@
+pub mod MutedWorlds
+pub mod MutedCalls
+pub mod MutedActs
+pub mod MutedRuns

@@ -1,0 +1,118 @@
+//! Piles of items.
+
+ghost use Rattle.std.specs.Prelude.{◌≡◌, ◌<◌, ◌++◌, ◌∷◌, [], List, length, slice_get, slice_set, OnOk, OnErr, MatchOption, Some};
+ghost use Rattle.au_piles.specs.Piles.{next_top};
+
+use au_base::Memory;
+use std::alloc::Global;
+use std::marker::Model;
+use std::mem;
+
+/// Piles of items, one upon another. Contracts see the items of the pile at the top, and the piles below
+/// it, the next one first. There is always one pile.
+#[derive(Drop)]
+pub struct Piles<T> {
+    items: Vec<T>,
+    base: usize,
+    bases: Vec<usize>,
+}
+
+impl<T> Model for Piles<T> {
+    ghost use Rattle.std.specs.Prelude.{List, ◌∷◌, reverse, vec_len};
+    ghost use Rattle.au_piles.specs.Piles.{piles_in, IsRising};
+
+    ghost Value = { List T × List (List T) };
+
+    ghost view = { λ p. piles_in p.items.items p.base (reverse p.bases.items) };
+
+    ghost invariant = { λ p. IsRising (p.base ∷ reverse p.bases.items) (vec_len p.items) };
+}
+
+impl<T> Piles<T> {
+    /// One empty pile.
+    pub fn new(alloc: Global) -> Piles<T>
+        ensures { result ≡ ([], []) }
+    {
+        Piles {
+            items: Vec::new(alloc),
+            base: 0,
+            bases: Vec::new(alloc),
+        }
+    }
+
+    /// How many piles are below the top.
+    pub fn depth(&self) -> usize
+        ensures { result ≡ length self.now.1 }
+    {
+        self.bases.len()
+    }
+
+    /// The items of the pile at the top.
+    pub fn top(&self) -> &[T]
+        ensures { result.now ≡ self.now.0 }
+    {
+        &self.items[self.base..]
+    }
+
+    /// Puts an item on the pile at the top.
+    ///
+    /// # Errors
+    ///
+    /// `Memory` when memory runs out; nothing changes then.
+    pub fn push(&mut self, item: T) -> Result<(), Memory>
+    where
+        T: Drop,
+        ensures ok { OnOk result (self.new ≡ (self.old.0 ++ item ∷ [], self.old.1)) }
+        ensures err { OnErr result (self.new ≡ self.old) }
+    {
+        self.items.push(item)?;
+        Ok(())
+    }
+
+    /// Takes the last item of the pile at the top.
+    pub fn pop(&mut self) -> Option<T>
+        ensures { MatchOption result
+            ((self.old.0 ≡ []) × (self.new ≡ self.old))
+            (λ x. (self.old.0 ≡ self.new.0 ++ x ∷ []) × (self.new.1 ≡ self.old.1)) }
+    {
+        if self.items.len() <= self.base {
+            return None;
+        }
+        self.items.pop()
+    }
+
+    /// Puts an item in the place of one of the pile at the top, and gives that one.
+    pub fn put(&mut self, index: usize, item: T) -> T
+        requires { index < length self.old.0 }
+        ensures new { self.new ≡ (slice_set self.old.0 index item, self.old.1) }
+        ensures old { slice_get self.old.0 index ≡ Some result }
+    {
+        mem::replace(&mut self.items[self.base + index], item)
+    }
+
+    /// Begins an empty pile upon the top.
+    ///
+    /// # Errors
+    ///
+    /// `Memory` when memory runs out; nothing changes then.
+    pub fn begin(&mut self) -> Result<(), Memory>
+        ensures ok { OnOk result (self.new ≡ ([], self.old.0 ∷ self.old.1)) }
+        ensures err { OnErr result (self.new ≡ self.old) }
+    {
+        self.bases.push(self.base)?;
+        self.base = self.items.len();
+        Ok(())
+    }
+
+    /// Drops the pile at the top; where it is the only one, an empty one is left.
+    pub fn end(&mut self)
+    where
+        T: Drop,
+        ensures { self.new ≡ next_top self.old.1 }
+    {
+        self.items.truncate(self.base);
+        if let Some(base) = self.bases.pop() {
+            self.base = base;
+        }
+    }
+}
