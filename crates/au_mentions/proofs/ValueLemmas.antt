@@ -18,12 +18,10 @@ use Rattle.au_syntax.specs.declared.expressions.Argument.{Argument}
 use Rattle.au_syntax.specs.declared.expressions.Expr.{Expr}
 use Rattle.au_syntax.specs.declared.expressions.Expr as code
 use Rattle.au_syntax.specs.Expressions.{Expression}
-use Rattle.au_syntax.specs.Plain.{Bytes, PlainExpression, plain_expression}
+use Rattle.au_syntax.specs.Plain.{Bytes, plain_expression}
 use Rattle.au_syntax.specs.Sizes.{expression_types, expressions_types, arguments_types}
-use Rattle.au_syntax.specs.Types.{WrittenType}
 use Rattle.au_syntax.specs.Views.{expression, written}
 use Rattle.au_syntax.proofs.ExpressionLemmas.{number_says, negative_says, text_says, bool_says, nil_says, path_says, arrow_says, call_says, named_call_says, parenthesized_says, dereference_says, borrow_says, borrow_part_says, binary_says, not_says, typed_says, if_says}
-use Rattle.au_mentions.specs.declared.mentions.Mention.{Mention}
 use Rattle.au_mentions.specs.Mentions.{type_mentions, value_mentions, values_mentions, named_values_mentions}
 use Rattle.au_mentions.specs.Said.{arguments_said, expression_said, expressions_said}
 

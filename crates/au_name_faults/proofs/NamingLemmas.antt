@@ -1,48 +1,29 @@
 -- The imports of a whole file name modules, each by a name within the limit.
-use Rattle.std.proofs.Common.{◌≡◌, ℕ, zero, suc, ◌+◌, ◌<◌, ◌≤◌, ◌&&◌, Bool, true, List, [], ◌∷◌, ◌++◌, length, map, get_or, refl, sym, ap, ◌∙◌, subst, arith, length-append}
+use Rattle.std.proofs.Common.{◌≡◌, ℕ, zero, suc, ◌<◌, ◌≤◌, ◌&&◌, Bool, true, List, [], ◌∷◌, length, map, get_or, refl, ap, ◌∙◌, arith}
 use Rattle.std.specs.Prelude.{IsTrue}
-use Rattle.std.specs.List.{flat_map, list_all}
+use Rattle.std.specs.List.{list_all}
 use Rattle.std.proofs.lemmas.Bool.{and_parts, leb-true}
 use Rattle.au_base.specs.Limits.{most_name_bytes}
 use Rattle.au_syntax.specs.contracts.parsed.ParsedPhase.TheImpl.{ghosts as parsed}
 use Rattle.au_syntax.specs.declared.modules.Import.{Import}
-use Rattle.au_syntax.specs.declared.names.Ident.{Ident}
 use Rattle.au_syntax.specs.declared.parsed.Parsed.{Parsed}
 use Rattle.au_syntax.specs.Forms.{formed_import, formed_module, some}
 use Rattle.au_syntax.specs.Modules.{Importing}
 use Rattle.au_syntax.specs.Names.{Placed}
-use Rattle.au_syntax.specs.Plain.{Bytes, PlainModule, plain_importing, plain_name}
+use Rattle.au_syntax.specs.Plain.{Bytes, PlainModule, plain_importing}
 use Rattle.au_syntax.specs.Sizes.{fits, fits_name, joined, names_fit}
-use Rattle.au_syntax.specs.Views.{importing, placed}
-use Rattle.au_modules.specs.Names.{dotted}
+use Rattle.au_syntax.specs.Views.{importing}
 use Rattle.au_name_faults.specs.Importers.{is_module_name, name_modules}
-
-abbrev TheIdent : Type 0
-TheIdent = Ident Parsed (List ℕ) (Unit {0}) (Unit {0})
 
 abbrev TheImport : Type 0
 TheImport = Import Parsed (List ℕ) (Unit {0}) (Unit {0})
 
-abbrev seen : List TheIdent → List (Placed Bytes)
-seen names = map (plain_name parsed.name_bytes) (map (placed parsed) names)
-
 -- ---- one name
-
-pub some_names : (names : List TheIdent) → IsTrue (is_module_name (seen names)) → 0 < length names
-some_names [] h = absurd (cc)
-some_names (x ∷ xs) h = omega arith
 
 pub within_limit : (names : List (Placed Bytes)) → IsTrue (is_module_name names) → length (joined names) ≤ most_name_bytes
 within_limit names h =
     let fit : fits_name names ≡ true = (and_parts _ _ h).1 in
     leb-true (length (joined names)) most_name_bytes fit
-
--- with a dot before each part, and a byte in the first
-pub dotted_long : (names : List TheIdent) (first : TheIdent) → 0 < length names → first ≡ get_or names 0 first → 0 < length first.name → 1 < length (flat_map dotted names)
-dotted_long [] first h is byte = absurd (omega arith)
-dotted_long (x ∷ xs) first h is byte =
-    let own : 0 < length x.name = subst (λ (y : TheIdent). 0 < length y.name) is byte in
-    omega (arith, own, length-append x.name (flat_map dotted xs))
 
 -- ---- those of imports
 
