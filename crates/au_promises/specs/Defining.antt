@@ -101,8 +101,8 @@ pub record AreNamed (all : List PlainDeclaration) (names : ByName) : Type 0 wher
   pub types : AreFirst (name_defined Types) all all names.types
   pub functions : AreFirst (name_defined Functions) all all names.functions
 
--- These are the definitions of a body: the first by its name, the instances in order, and the first instance by
--- its key.
+-- These are the definitions of a body: the first by its name, the instances in order, and the first
+-- instance by its key.
 pub record AreDefinitions (sight : Sight) (all : List PlainDeclaration) (definitions : Definitions) : Type 0 where
   pub names : AreNamed all definitions.names
   pub instances : picked all definitions.instances.items ≡ filter is_instance all

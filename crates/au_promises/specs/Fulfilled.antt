@@ -1,6 +1,6 @@
--- The rule on interfaces and bodies as it reads: each constant, opaque type, function and instance of an interface has
--- a definition in the body, which for an instance is one of the same class and written type, and the first such
--- definition has the same type parameters, parameters, types and universe.
+-- The rule on interfaces and bodies as it reads: each constant, opaque type, function and instance of an
+-- interface has a definition in the body, which for an instance is one of the same class and written type,
+-- and the first such definition has the same type parameters, parameters, types and universe.
 use Rattle.std.specs.Prelude.{◌≡◌, ◌⊎◌, ℕ, List, [], ◌∷◌, ◌++◌, Option, None, Some, Contains, slice_get}
 use Rattle.au_syntax.specs.declared.declarations.Universe.{Universe}
 use Rattle.au_syntax.specs.Modules.{InUniverse, Constrained, Header, constant, opaque_type, record_type, union_type, function, instance, constant_body, function_body, instance_body}
@@ -23,8 +23,8 @@ Each R [] [] = Unit {0}
 Each R (x ∷ xs) (y ∷ ys) = R x y × Each R xs ys
 Each R xs ys = ⊥
 
--- Two names say the same, given the declarations that they mean, if they mean any: these are one, or there are none and
--- the names are written alike.
+-- Two names say the same, given the declarations that they mean, if they mean any: these are one, or there
+-- are none and the names are written alike.
 abbrev pub SayTheSame : Bytes → Bytes → Option DeclAt → Option DeclAt → Type 0
 SayTheSame name other one its = (one ≡ its) × (one ≡ None → name ≡ other)
 
@@ -90,8 +90,8 @@ module _ (sight : Sight) where
   DefinesInstance scope name t (instance_body at generics other u methods) = SameClass name other × SameWritten scope (scope_of generics) t u
   DefinesInstance scope name t d = ⊥
 
-  -- A declaration of the body defines a promise: it is a definition of the sort and the name, and for an instance one of
-  -- the same class and written type.
+  -- A declaration of the body defines a promise: it is a definition of the sort and the name, and for an
+  -- instance one of the same class and written type.
   abbrev pub Defines : PlainDeclaration → PlainDeclaration → Type 0
   Defines (constant at name t) d = constant_defined d ≡ Some name.name
   Defines (opaque_type at name parameters universe) d = type_defined d ≡ Some name.name

@@ -195,9 +195,9 @@ fn first_of_key(
 }
 
 /// The first declaration of a body that defines an instance of this class for this type, which means
-/// something, if there is one. It has the key of the two. So only where the first instance with this key
-/// isn't the one, and then another of its class has a type that begins with the same name, all instances
-/// are looked at.
+/// something, if there is one. It has the key of the two, so where no instance has the key none is the one,
+/// and mostly the first with the key is. Only where that isn't the one are all instances looked at: then
+/// none is, or types of several instances of one class begin with one name, which is refused later.
 fn instance_by_key<'a>(
     alloc: Global,
     sight: &Sight,
