@@ -26,7 +26,8 @@ with_pair name value pairs = put (slice_cmp nat_cmp) name value pairs
 
 -- the second list gives every name what the first one gives it, and may give more names something
 abbrev pub Extends : Bindings → Bindings → Type 0
-Extends first second = (name : List ℕ) (value : Argument) → value_of name first ≡ Some value → value_of name second ≡ Some value
+Extends first second =
+    (name : List ℕ) (value : Argument) → value_of name first ≡ Some value → value_of name second ≡ Some value
 
 -- a name stands for a type
 abbrev pub GivesType : Bindings → List ℕ → Type 0

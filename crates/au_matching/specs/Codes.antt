@@ -51,11 +51,14 @@ mutual
   type_known (integer a) (integer b) e = ap integer (kinds.coded.inj a b (ap second e))
   type_known (parameter a) (parameter b) e = ap parameter ((coded_list coded_ℕ).inj a b (ap second e))
   type_known (named a args) (named b others) e =
-      λ i. named (declarations.coded.inj a b (ap (λ g. first (second g)) e) i) (arguments_known args others (ap (λ g. second (second g)) e) i)
+      λ i. named (declarations.coded.inj a b (ap (λ g. first (second g)) e) i)
+      (arguments_known args others (ap (λ g. second (second g)) e) i)
   type_known (reads a r) (reads b s) e =
-      λ i. reads (type_known a b (ap (λ g. first (second g)) e) i) (regions.coded.inj r s (ap (λ g. second (second g)) e) i)
+      λ i. reads (type_known a b (ap (λ g. first (second g)) e) i)
+      (regions.coded.inj r s (ap (λ g. second (second g)) e) i)
   type_known (writes a r) (writes b s) e =
-      λ i. writes (type_known a b (ap (λ g. first (second g)) e) i) (regions.coded.inj r s (ap (λ g. second (second g)) e) i)
+      λ i. writes (type_known a b (ap (λ g. first (second g)) e) i)
+      (regions.coded.inj r s (ap (λ g. second (second g)) e) i)
   type_known a b e = absurd cc
 
   -- arguments with one tree are one argument

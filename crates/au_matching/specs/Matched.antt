@@ -58,5 +58,6 @@ abbrev mutual
   -- the same of two lists of arguments, each with that in its place
   pub all_matched : Arguments → Arguments → Bindings → Option Bindings
   all_matched no_arguments no_arguments s = Some s
-  all_matched (arguments p args) (arguments t others) s = and_then (argument_matched p t s) (all_matched args others)
+  all_matched (arguments p args) (arguments t others) s =
+      and_then (argument_matched p t s) (all_matched args others)
   all_matched p t s = None

@@ -36,10 +36,13 @@ pub fn match_types(
     target: &Ty,
     so_far: Substitution,
 ) -> Result<Match, Memory>
-    ensures exact { IfOk result (λ m. answered m ≡ matched (meaning pattern.now) (meaning target.now) so_far) }
+    ensures exact { IfOk result (λ m.
+        answered m ≡ matched (meaning pattern.now) (meaning target.now) so_far) }
     ensures sound { IfOk result (λ m. IfYes m (Makes so_far (meaning pattern.now) (meaning target.now))) }
-    ensures least { (r : Bindings) → Makes so_far (meaning pattern.now) (meaning target.now) r → IfOk result (λ m. IfYes m (λ s. Extends s r)) }
-    ensures refused { IfOk result (λ m. IfNo m ((r : Bindings) → ¬ (Makes so_far (meaning pattern.now) (meaning target.now) r))) }
+    ensures least { (r : Bindings) → Makes so_far (meaning pattern.now) (meaning target.now) r →
+        IfOk result (λ m. IfYes m (λ s. Extends s r)) }
+    ensures refused { IfOk result (λ m. IfNo m (
+        (r : Bindings) → ¬ (Makes so_far (meaning pattern.now) (meaning target.now) r))) }
     ensures ordered { IfOk result (λ m. IfYes m IsInOrder) }
 {
     let mut s = so_far;
@@ -75,7 +78,8 @@ fn is_region(known: &Arg, region: &Region) -> bool
 /// Lets a name that isn't listed stand for a value.
 fn put_copied(alloc: Global, name: &Name, value: Arg, s: &mut Substitution) -> Result<bool, Memory>
     requires { value_of name.now s.old ≡ None }
-    ensures { IfOk result (λ done. only_if done s.new ≡ bound name.now (argument value) (value_of name.now s.old) s.old) }
+    ensures { IfOk result (λ done. only_if done s.new ≡
+        bound name.now (argument value) (value_of name.now s.old) s.old) }
 {
     let name = name.copy(alloc)?;
     s.put(name, value)?;
@@ -84,7 +88,8 @@ fn put_copied(alloc: Global, name: &Name, value: Arg, s: &mut Substitution) -> R
 
 #[tactic(auto, using(au_types::proofs::TypeLemmas::type_steps))]
 fn type_bound(alloc: Global, name: &Name, t: &Ty, s: &mut Substitution) -> Result<bool, Memory>
-    ensures { IfOk result (λ fits. only_if fits s.new ≡ bound name.now (of_type (meaning t.now)) (value_of name.now s.old) s.old) }
+    ensures { IfOk result (λ fits. only_if fits s.new ≡
+        bound name.now (of_type (meaning t.now)) (value_of name.now s.old) s.old) }
 {
     if let Some(known) = s.value_of(name) {
         return Ok(is_type(known, t));
@@ -100,7 +105,8 @@ fn region_bound(
     region: &Region,
     s: &mut Substitution,
 ) -> Result<bool, Memory>
-    ensures { IfOk result (λ fits. only_if fits s.new ≡ bound name.now (in_region region.now) (value_of name.now s.old) s.old) }
+    ensures { IfOk result (λ fits. only_if fits s.new ≡
+        bound name.now (in_region region.now) (value_of name.now s.old) s.old) }
 {
     if let Some(known) = s.value_of(name) {
         return Ok(is_region(known, region));
@@ -132,7 +138,8 @@ fn type_matched(
     target: &Ty,
     s: &mut Substitution,
 ) -> Result<bool, Memory>
-    ensures { IfOk result (λ fits. only_if fits s.new ≡ matched (meaning pattern.now) (meaning target.now) s.old) }
+    ensures { IfOk result (λ fits. only_if fits s.new ≡
+        matched (meaning pattern.now) (meaning target.now) s.old) }
 {
     match pattern {
         Ty::Unit => Ok(is_same(pattern, target)),
@@ -155,7 +162,8 @@ fn named_matched(
     target: &Ty,
     s: &mut Substitution,
 ) -> Result<bool, Memory>
-    ensures { IfOk result (λ fits. only_if fits s.new ≡ matched (named of (argument_all args.now.items)) (meaning target.now) s.old) }
+    ensures { IfOk result (λ fits. only_if fits s.new ≡
+        matched (named of (argument_all args.now.items)) (meaning target.now) s.old) }
 {
     match target {
         Ty::Named {
@@ -181,7 +189,8 @@ fn read_matched(
     target: &Ty,
     s: &mut Substitution,
 ) -> Result<bool, Memory>
-    ensures { IfOk result (λ fits. only_if fits s.new ≡ matched (reads (meaning to.now) region.now) (meaning target.now) s.old) }
+    ensures { IfOk result (λ fits. only_if fits s.new ≡
+        matched (reads (meaning to.now) region.now) (meaning target.now) s.old) }
 {
     match target {
         Ty::Read {
@@ -201,7 +210,8 @@ fn write_matched(
     target: &Ty,
     s: &mut Substitution,
 ) -> Result<bool, Memory>
-    ensures { IfOk result (λ fits. only_if fits s.new ≡ matched (writes (meaning to.now) region.now) (meaning target.now) s.old) }
+    ensures { IfOk result (λ fits. only_if fits s.new ≡
+        matched (writes (meaning to.now) region.now) (meaning target.now) s.old) }
 {
     match target {
         Ty::Write {
@@ -222,7 +232,8 @@ fn reference_matched(
     its: &Region,
     s: &mut Substitution,
 ) -> Result<bool, Memory>
-    ensures { IfOk result (λ fits. only_if fits s.new ≡ and_then (matched (meaning to.now) (meaning other.now) s.old) (region_matched region.now its.now)) }
+    ensures { IfOk result (λ fits. only_if fits s.new ≡
+        and_then (matched (meaning to.now) (meaning other.now) s.old) (region_matched region.now its.now)) }
 {
     if !type_matched(alloc, to, other, s)? {
         return Ok(false);
@@ -238,7 +249,8 @@ fn argument_matched(
     target: &Arg,
     s: &mut Substitution,
 ) -> Result<bool, Memory>
-    ensures { IfOk result (λ fits. only_if fits s.new ≡ argument_matched (argument pattern.now) (argument target.now) s.old) }
+    ensures { IfOk result (λ fits. only_if fits s.new ≡
+        argument_matched (argument pattern.now) (argument target.now) s.old) }
 {
     match pattern {
         Arg::Of(of) => type_argument_matched(alloc, of, target, s),
@@ -254,7 +266,8 @@ fn type_argument_matched(
     target: &Arg,
     s: &mut Substitution,
 ) -> Result<bool, Memory>
-    ensures { IfOk result (λ fits. only_if fits s.new ≡ argument_matched (of_type (meaning of.now)) (argument target.now) s.old) }
+    ensures { IfOk result (λ fits. only_if fits s.new ≡
+        argument_matched (of_type (meaning of.now)) (argument target.now) s.old) }
 {
     match target {
         Arg::Of(other) => type_matched(alloc, of, other, s),
@@ -269,7 +282,8 @@ fn region_argument_matched(
     target: &Arg,
     s: &mut Substitution,
 ) -> Result<bool, Memory>
-    ensures { IfOk result (λ fits. only_if fits s.new ≡ argument_matched (in_region region.now) (argument target.now) s.old) }
+    ensures { IfOk result (λ fits. only_if fits s.new ≡
+        argument_matched (in_region region.now) (argument target.now) s.old) }
 {
     match target {
         Arg::Of(_) => Ok(false),
@@ -284,7 +298,8 @@ fn arguments_matched(
     others: &Vec<Arg>,
     s: &mut Substitution,
 ) -> Result<bool, Memory>
-    ensures { IfOk result (λ fits. only_if fits s.new ≡ all_matched (argument_all args.now.items) (argument_all others.now.items) s.old) }
+    ensures { IfOk result (λ fits. only_if fits s.new ≡
+        all_matched (argument_all args.now.items) (argument_all others.now.items) s.old) }
 {
     if args.len() != others.len() {
         return Ok(false);

@@ -135,7 +135,8 @@ fn arguments_substituted(
     args: &Vec<Arg>,
     s: &Substitution,
 ) -> Result<Vec<Arg>, Memory>
-    ensures { IfOk result (λ outcome. argument_all outcome.items ≡ all_substituted s.now (argument_all args.now.items)) }
+    ensures { IfOk result (λ outcome. argument_all outcome.items ≡
+        all_substituted s.now (argument_all args.now.items)) }
 {
     let mut outcome = Vec::new(alloc);
     for one in args {

@@ -66,7 +66,8 @@ impl Substitution {
 
     /// What a name stands for, and `None` where it isn't listed.
     pub fn value_of(&self, name: &Name) -> Option<&Arg>
-        ensures { MatchOption result (value_of name.now self.now ≡ None) (λ value. value_of name.now self.now ≡ Some (argument value.now)) }
+        ensures { MatchOption result (value_of name.now self.now ≡ None)
+            (λ value. value_of name.now self.now ≡ Some (argument value.now)) }
     {
         find(&self.bindings, name)
     }
@@ -101,7 +102,9 @@ impl Substitution {
 
 /// What the first binding of a name has.
 fn find<'a>(bindings: &'a Vec<Binding>, name: &Name) -> Option<&'a Arg>
-    ensures { let listed = pairs bindings.now.items in MatchOption result (value_of name.now listed ≡ None) (λ value. value_of name.now listed ≡ Some (argument value.now)) }
+    ensures { let listed = pairs bindings.now.items in
+        MatchOption result (value_of name.now listed ≡ None)
+        (λ value. value_of name.now listed ≡ Some (argument value.now)) }
 {
     for one in bindings {
         if name.as_bytes() == one.name.as_bytes() {
@@ -122,7 +125,8 @@ fn is_before(one: &Name, other: &Name) -> bool
 fn place_of(bindings: &Vec<Binding>, name: &Name) -> usize
     requires { value_of name.now (pairs bindings.now.items) ≡ None }
     ensures within { result ≤ vec_len bindings.now }
-    ensures place { (value : Argument) → let listed = pairs bindings.now.items in with_pair name.now value listed ≡ insert listed result (name.now, value) }
+    ensures place { (value : Argument) → let listed = pairs bindings.now.items in
+        with_pair name.now value listed ≡ insert listed result (name.now, value) }
 {
     for (index, one) in bindings.iter().enumerate() {
         if is_before(name, &one.name) {
