@@ -12,6 +12,7 @@ use Rattle.au_types.specs.Universes.{universe_in}
 use Rattle.au_universes.specs.declared.universes.TypeUniverse.{TypeUniverse}
 use Rattle.au_universes.specs.Universes.{is_free, is_linear, of_parameter, universe_of}
 
+-- a parameter of this universe takes a region, and no type
 abbrev pub wants_region : Universe → Bool
 wants_region universes.Region = true
 wants_region universe = false

@@ -12,10 +12,12 @@ use Rattle.au_types.specs.Universes.{universe_in}
 use Rattle.au_universes.specs.declared.universes.TypeUniverse.{TypeUniverse}
 use Rattle.au_universes.specs.declared.universes.TypeUniverse.TheVariants.{Free, Linear, AnyUniverse}
 
+-- a type of this universe may be copied and dropped
 abbrev pub is_free : TypeUniverse → Bool
 is_free Free = true
 is_free universe = false
 
+-- a type of this universe must be used exactly once
 abbrev pub is_linear : TypeUniverse → Bool
 is_linear Linear = true
 is_linear universe = false
@@ -46,7 +48,8 @@ of_parameter universe = None
 module _ (rows : List (DeclAt × Head)) (params : List Parameter) where
   unfoldable mutual
     -- The universe of a type. What is built in and what reads is Free, what writes is Linear, and a type
-    -- parameter and a declared type have the universe that they are declared in.
+    -- parameter and a declared type have the universe that they are declared in; a declared type of universe
+    -- `Type` is judged by its arguments that aren't regions.
     pub universe_of : Meaning → TypeUniverse
     universe_of unit = Free
     universe_of truth = Free

@@ -17,7 +17,8 @@ use au_types::{Arg, DeclAt, Heads, Params, Ty, universe_in};
 /// built in and what reads is Free, what writes is Linear, and a type parameter and a declared type have the
 /// universe that they are declared in; one that is declared `Type` is judged by its arguments.
 ///
-/// It takes no memory and looks at each part of the type at most once.
+/// It takes no memory and looks at each part of the type at most once. Asked of every part of a type, it looks
+/// at a part once for each level above it, of which a written type has at most 24.
 pub fn universe_of(heads: &Heads, scope: &Params, of: &Ty) -> TypeUniverse
     requires { StandsOver heads.now scope.now (meaning of.now) }
     ensures { result ≡ universes.universe_of heads.now scope.now (meaning of.now) }
@@ -25,7 +26,7 @@ pub fn universe_of(heads: &Heads, scope: &Params, of: &Ty) -> TypeUniverse
     type_universe(heads, scope, of)
 }
 
-/// The universe of any type. One that stands over nothing is `Type`.
+/// The universe of any type. A name that isn't in scope and a declared type without a row count as `Type`.
 #[tactic(auto, using(au_types::proofs::TypeLemmas::type_steps, crate::proofs::UniverseLemmas::steps))]
 #[cycle(type_universe)]
 pub(crate) fn type_universe(heads: &Heads, scope: &Params, of: &Ty) -> TypeUniverse
