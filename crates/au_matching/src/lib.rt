@@ -7,8 +7,6 @@ pub mod laws;
 pub mod matching;
 pub mod substituting;
 pub mod substitutions;
-#[cfg(test)]
-mod tests;
 
 pub use fixing::fixes;
 pub use matching::{Match, match_types};

@@ -3,6 +3,8 @@
 #![tactic(auto)]
 
 #[cfg(test)]
+mod matching;
+#[cfg(test)]
 mod regions;
 #[cfg(test)]
 mod universes;

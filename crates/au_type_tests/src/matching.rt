@@ -1,7 +1,7 @@
 //! What is easily got wrong about names that stand in patterns and in targets.
 
-use crate::{Match, Substitution, fixes, match_types, substitute};
 use au_base::{Memory, Name};
+use au_matching::{Match, Substitution, fixes, match_types, substitute};
 use au_types::{Arg, DeclAt, Region, Ty, is_same};
 use std::alloc::Global;
 use std::test::Fail;

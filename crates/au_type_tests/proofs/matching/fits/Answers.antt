@@ -1,7 +1,7 @@
 use Rattle.au_types.specs.Views.{meaning}
 use Rattle.au_matching.specs.Matched.{Makes}
 use Rattle.au_matching.proofs.SubstitutedLemmas.{fixes_suits}
-use Rattle.au_matching.proofs.tests.fits.Goals as goal
+use Rattle.au_type_tests.proofs.matching.fits.Goals as goal
 
 -- a substitution that fixes all names of the pattern suits it
 pub substitute-requires : goal.substitute-requires
