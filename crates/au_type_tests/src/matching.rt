@@ -2,7 +2,7 @@
 
 use au_base::{Memory, Name};
 use au_matching::{Match, Substitution, fixes, match_types, substitute};
-use au_types::{Arg, DeclAt, Region, Ty, is_same};
+use au_types::{Arg, DeclAt, Ty, is_same};
 use std::alloc::Global;
 use std::test::Fail;
 
@@ -26,18 +26,6 @@ fn of_parameter(alloc: Global, second: Ty) -> Result<Ty, Memory> {
     pair(alloc, Arg::Of(first), Arg::Of(second))
 }
 
-/// The region of a name of one letter.
-fn region(alloc: Global, letter: u8) -> Result<Arg, Memory> {
-    Ok(Arg::In(Region::Named(Name::copy_of(alloc, &[letter])?)))
-}
-
-/// The declared type of two regions.
-fn of_regions(alloc: Global, first: u8, second: u8) -> Result<Ty, Memory> {
-    let first = region(alloc, first)?;
-    let second = region(alloc, second)?;
-    pair(alloc, first, second)
-}
-
 /// Whether a pattern matches a target, and the substitution that was found makes it equal to the target.
 fn fits(alloc: Global, pattern: &Ty, target: &Ty, so_far: Substitution) -> Result<bool, Memory> {
     match match_types(alloc, pattern, target, so_far)? {
@@ -46,34 +34,35 @@ fn fits(alloc: Global, pattern: &Ty, target: &Ty, so_far: Substitution) -> Resul
     }
 }
 
+/// A pattern and a target that is it with a type for T in which another T stands.
+fn both_with_one_name(alloc: Global) -> Result<(Ty, Ty), Memory> {
+    let pattern = of_parameter(alloc, Ty::Bool)?;
+    let inner = of_parameter(alloc, Ty::Bool)?;
+    let target = pair(alloc, Arg::Of(inner), Arg::Of(Ty::Bool))?;
+    Ok((pattern, target))
+}
+
 /// The T of the pattern stands for a type in which another T stands, and nothing is put into that one.
 #[test]
 fn one_name_in_both(rt: HostRuntime) -> Result<(), Fail> {
-    let pattern = of_parameter(rt.alloc(), Ty::Bool)?;
-    let inner = of_parameter(rt.alloc(), Ty::Bool)?;
-    let target = pair(rt.alloc(), Arg::Of(inner), Arg::Of(Ty::Bool))?;
+    let (pattern, target) = both_with_one_name(rt.alloc())?;
     assert!(rt; fits(rt.alloc(), &pattern, &target, Substitution::new(rt.alloc()))?);
     Ok(())
+}
+
+/// A pattern with T twice and a target with two types in its places.
+fn two_for_one(alloc: Global) -> Result<(Ty, Ty), Memory> {
+    let second = parameter(alloc)?;
+    let pattern = of_parameter(alloc, second)?;
+    let target = pair(alloc, Arg::Of(Ty::Bool), Arg::Of(Ty::Text))?;
+    Ok((pattern, target))
 }
 
 /// What the first argument fixes doesn't fit at the second one.
 #[test]
 fn a_match_fails_late(rt: HostRuntime) -> Result<(), Fail> {
-    let second = parameter(rt.alloc())?;
-    let pattern = of_parameter(rt.alloc(), second)?;
-    let target = pair(rt.alloc(), Arg::Of(Ty::Bool), Arg::Of(Ty::Text))?;
+    let (pattern, target) = two_for_one(rt.alloc())?;
     assert!(rt; !fits(rt.alloc(), &pattern, &target, Substitution::new(rt.alloc()))?);
-    Ok(())
-}
-
-/// A region may be fixed twice by one region, and not by two.
-#[test]
-fn a_region_is_fixed_twice(rt: HostRuntime) -> Result<(), Fail> {
-    let pattern = of_regions(rt.alloc(), b'R', b'R')?;
-    let alike = of_regions(rt.alloc(), b'A', b'A')?;
-    let other = of_regions(rt.alloc(), b'A', b'B')?;
-    assert!(rt; fits(rt.alloc(), &pattern, &alike, Substitution::new(rt.alloc()))?);
-    assert!(rt; !fits(rt.alloc(), &pattern, &other, Substitution::new(rt.alloc()))?);
     Ok(())
 }
 
@@ -84,33 +73,14 @@ fn known(alloc: Global) -> Result<Substitution, Memory> {
     Ok(s)
 }
 
-/// Lets a name stand for a value, unless it is listed.
-fn give(s: &mut Substitution, name: Name, value: Arg) -> Result<(), Memory> {
-    if s.value_of(&name).is_none() {
-        s.put(name, value)?;
-    }
-    Ok(())
-}
-
-/// A name of the pattern that was given something before stands for that.
+/// What a substitution lists is found, and it fixes the type in which nothing else stands.
 #[test]
-fn a_name_is_known_before(rt: HostRuntime) -> Result<(), Fail> {
-    let pattern = parameter(rt.alloc())?;
-    assert!(rt; fits(rt.alloc(), &pattern, &Ty::Bool, known(rt.alloc())?)?);
-    assert!(rt; !fits(rt.alloc(), &pattern, &Ty::Text, known(rt.alloc())?)?);
-    Ok(())
-}
-
-/// A substitution of two names, of which the second comes first in order, is copied.
-#[test]
-fn names_are_looked_up(rt: HostRuntime) -> Result<(), Fail> {
-    let mut s = known(rt.alloc())?;
-    let name = Name::copy_of(rt.alloc(), b"R")?;
-    give(&mut s, name, Arg::In(Region::Static))?;
+fn a_listed_name_is_found(rt: HostRuntime) -> Result<(), Fail> {
+    let s = known(rt.alloc())?;
     let copy = s.copy(rt.alloc())?;
-    assert_eq!(rt; copy.len(), 2);
-    assert!(rt; copy.value_of(&Name::copy_of(rt.alloc(), b"T")?).is_some());
-    assert!(rt; copy.value_of(&Name::copy_of(rt.alloc(), b"S")?).is_none());
-    assert!(rt; fixes(&copy, &parameter(rt.alloc())?));
+    assert_eq!(rt; copy.len(), 1);
+    let name = Name::copy_of(rt.alloc(), b"T")?;
+    assert!(rt; copy.value_of(&name).is_some());
+    assert!(rt; fixes(&copy, &Ty::Param(name)));
     Ok(())
 }
