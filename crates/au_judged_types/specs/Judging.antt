@@ -51,19 +51,23 @@ argument_judged universe one = kept mean.of_type one.as_type
 
 -- as many arguments as there are type parameters, each in its place
 abbrev pub arguments_judged : List Parameter → List Given → Outcome Arguments
-arguments_judged (one ∷ others) (first ∷ rest) = in_order mean.arguments (argument_judged one.universe first) (arguments_judged others rest)
+arguments_judged (one ∷ others) (first ∷ rest) =
+    in_order mean.arguments (argument_judged one.universe first) (arguments_judged others rest)
 arguments_judged expected args = means mean.no_arguments
 
 module _ (heads : List (DeclAt × Head)) (params : List Parameter) where
   -- why an argument doesn't fit a parameter in universe, if it doesn't
   abbrev pub unfit : Universe → Argument → Option Reason
-  unfit universes.Free (mean.of_type t) = if is_free (universe_of heads params t) then None else Some (not_free t)
-  unfit universes.Linear (mean.of_type t) = if is_linear (universe_of heads params t) then None else Some linear_wanted
+  unfit universes.Free (mean.of_type t) =
+      if is_free (universe_of heads params t) then None else Some (not_free t)
+  unfit universes.Linear (mean.of_type t) =
+      if is_linear (universe_of heads params t) then None else Some linear_wanted
   unfit universe one = None
 
   -- why the first of the arguments that don't fit doesn't
   abbrev pub first_unfit : List Parameter → Arguments → Option Reason
-  first_unfit (one ∷ others) (mean.arguments first rest) = option_or (unfit one.universe first) (first_unfit others rest)
+  first_unfit (one ∷ others) (mean.arguments first rest) =
+      option_or (unfit one.universe first) (first_unfit others rest)
   first_unfit expected args = None
 
   -- a declared type with arguments that mean something
@@ -74,7 +78,9 @@ module _ (heads : List (DeclAt × Head)) (params : List Parameter) where
   -- a declared type with arguments
   abbrev pub declared_judged : DeclAt → List Parameter → List Given → Outcome Meaning
   declared_judged at expected args =
-      if length args == length expected then fitted at expected (arguments_judged expected args) else fails (number_wanted (length expected))
+      if length args == length expected
+      then fitted at expected (arguments_judged expected args)
+      else fails (number_wanted (length expected))
 
 -- ---- where a type is wanted
 
@@ -85,7 +91,10 @@ alone t args = fails (number_wanted 0)
 
 -- `Span` with two arguments, which are those of the type of texts
 abbrev pub span_of : Outcome Meaning → Outcome Region → Outcome Meaning
-span_of (means t) (means region) = if same t (mean.integer kinds.Nat8) && same_region region regions.Static then means mean.text else fails (number_wanted 2)
+span_of (means t) (means region) =
+    if same t (mean.integer kinds.Nat8) && same_region region regions.Static
+    then means mean.text
+    else fails (number_wanted 2)
 span_of t region = fails (number_wanted 2)
 
 -- `Span` with these arguments
@@ -94,10 +103,12 @@ span_with (t ∷ region ∷ []) = span_of t.as_type region.as_region
 span_with args = fails (number_wanted 2)
 
 -- a name that has this sense, with these arguments
-abbrev pub applied : List (DeclAt × Head) → List Parameter → Bytes → Option Sense → List Given → Outcome Meaning
+abbrev pub applied : List (DeclAt × Head) → List Parameter → Bytes → Option Sense → List Given →
+    Outcome Meaning
 applied heads params name (Some (a_type t)) args = alone t args
 applied heads params name (Some a_span) args = span_with args
-applied heads params name (Some (declared at expected)) args = declared_judged heads params at expected args
+applied heads params name (Some (declared at expected)) args =
+    declared_judged heads params at expected args
 applied heads params name other args = fails (unknown name)
 
 -- a reference to a type in a region
@@ -108,17 +119,21 @@ refers access.Write t region = mean.writes t region
 module _ (opened : List Bytes) (params : List Parameter) (visible : List (Bytes × DeclAt)) (heads : List (DeclAt × Head)) where
   -- a written type where a region is wanted: it's a name alone
   abbrev pub region_judged : WrittenType → Outcome Region
-  region_judged (named name args) = region_with (region_named name.name (sense_of opened params visible heads name.name)) args
+  region_judged (named name args) =
+      region_with (region_named name.name (sense_of opened params visible heads name.name)) args
   region_judged other = fails region_wanted
 
   unfoldable mutual
     -- a written type where a type is wanted
     pub judged : WrittenType → Outcome Meaning
-    judged (named name args) = applied heads params name.name (sense_of opened params visible heads name.name) (all_given args)
+    judged (named name args) =
+        applied heads params name.name (sense_of opened params visible heads name.name) (all_given args)
     judged (reference at kind target region) =
-        in_order (refers kind) (judged target) (region_named region.name (sense_of opened params visible heads region.name))
+        in_order (refers kind) (judged target)
+        (region_named region.name (sense_of opened params visible heads region.name))
 
     -- arguments as they are given
     pub all_given : WrittenTypes → List Given
     all_given no_types = []
-    all_given (types t rest) = record { as_type = judged t; as_region = region_judged t } ∷ all_given rest
+    all_given (types t rest) =
+        record { as_type = judged t; as_region = region_judged t } ∷ all_given rest

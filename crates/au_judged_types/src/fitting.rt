@@ -1,14 +1,11 @@
 //! Whether arguments fit in universe.
 
-ghost use Rattle.std.specs.Prelude.{◌≡◌, IfOk, IsTrue};
+ghost use Rattle.std.specs.Prelude.{◌≡◌, IfOk};
 ghost use Rattle.std.specs.Option.{option_map};
 ghost use Rattle.au_syntax.specs.declared.declarations.Universe.TheVariants as universes;
 ghost use Rattle.au_types.specs.Types.{of_type};
 ghost use Rattle.au_types.specs.Views.{argument, argument_all, meaning};
-ghost use Rattle.au_universes.specs.Forming.{ArgumentStandsOver, StandsOver};
-ghost use Rattle.au_judged_types.specs.Judging.{first_unfit, unfit};
-ghost use Rattle.au_judged_types.specs.Standing.{StandFor};
-ghost use Rattle.au_judged_types.specs.Views.{reason};
+ghost use Rattle.au_judged_types.specs.Views.{ArgumentStandsIn, StandForIn, StandsIn, first_unfit_in, reason, unfit_in};
 
 use crate::reasons::Reason;
 use au_base::Memory;
@@ -25,8 +22,8 @@ pub(crate) fn first_unfit(
     expected: &Params,
     args: &Vec<Arg>,
 ) -> Result<Option<Reason>, Memory>
-    requires { StandFor scope.now.heads.now scope.now.params.now expected.now (argument_all args.now.items) }
-    ensures { IfOk result (λ why. option_map reason why ≡ first_unfit scope.now.heads.now scope.now.params.now expected.now (argument_all args.now.items)) }
+    requires { StandForIn scope.now expected.now (argument_all args.now.items) }
+    ensures { IfOk result (λ why. option_map reason why ≡ first_unfit_in scope.now expected.now (argument_all args.now.items)) }
 {
     for (index, one) in args.iter().enumerate() {
         let wanted = expected.at(index).universe;
@@ -45,8 +42,8 @@ fn unfit(
     wanted: Universe,
     one: &Arg,
 ) -> Result<Option<Reason>, Memory>
-    requires { ArgumentStandsOver scope.now.heads.now scope.now.params.now (argument one.now) }
-    ensures { IfOk result (λ why. option_map reason why ≡ unfit scope.now.heads.now scope.now.params.now wanted (argument one.now)) }
+    requires { ArgumentStandsIn scope.now (argument one.now) }
+    ensures { IfOk result (λ why. option_map reason why ≡ unfit_in scope.now wanted (argument one.now)) }
 {
     match one {
         Arg::Of(of) => unfit_type(alloc, scope, wanted, of),
@@ -61,8 +58,8 @@ fn unfit_type(
     wanted: Universe,
     of: &Ty,
 ) -> Result<Option<Reason>, Memory>
-    requires { StandsOver scope.now.heads.now scope.now.params.now (meaning of.now) }
-    ensures { IfOk result (λ why. option_map reason why ≡ unfit scope.now.heads.now scope.now.params.now wanted (of_type (meaning of.now))) }
+    requires { StandsIn scope.now (meaning of.now) }
+    ensures { IfOk result (λ why. option_map reason why ≡ unfit_in scope.now wanted (of_type (meaning of.now))) }
 {
     match wanted {
         Universe::Free => unfit_free(alloc, scope, of),
@@ -74,8 +71,8 @@ fn unfit_type(
 
 /// Why a type doesn't fit where `Free` is wanted, if it doesn't.
 fn unfit_free(alloc: Global, scope: &Scope, of: &Ty) -> Result<Option<Reason>, Memory>
-    requires { StandsOver scope.now.heads.now scope.now.params.now (meaning of.now) }
-    ensures { IfOk result (λ why. option_map reason why ≡ unfit scope.now.heads.now scope.now.params.now universes.Free (of_type (meaning of.now))) }
+    requires { StandsIn scope.now (meaning of.now) }
+    ensures { IfOk result (λ why. option_map reason why ≡ unfit_in scope.now universes.Free (of_type (meaning of.now))) }
 {
     if takes(Universe::Free, universe_of(scope.heads, scope.params, of)) {
         return Ok(None);
@@ -85,8 +82,8 @@ fn unfit_free(alloc: Global, scope: &Scope, of: &Ty) -> Result<Option<Reason>, M
 
 /// Why a type doesn't fit where `Linear` is wanted, if it doesn't.
 fn unfit_linear(scope: &Scope, of: &Ty) -> Option<Reason>
-    requires { StandsOver scope.now.heads.now scope.now.params.now (meaning of.now) }
-    ensures { option_map reason result ≡ unfit scope.now.heads.now scope.now.params.now universes.Linear (of_type (meaning of.now)) }
+    requires { StandsIn scope.now (meaning of.now) }
+    ensures { option_map reason result ≡ unfit_in scope.now universes.Linear (of_type (meaning of.now)) }
 {
     if takes(Universe::Linear, universe_of(scope.heads, scope.params, of)) {
         None

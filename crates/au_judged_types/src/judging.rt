@@ -9,7 +9,7 @@ ghost use Rattle.au_types.specs.Views.{argument, argument_all, meaning};
 ghost use Rattle.au_written_types.specs.Views.{said, sense_in};
 ghost use Rattle.au_judged_types.specs.Judging as judging;
 ghost use Rattle.au_judged_types.specs.Reasons.{kept, means};
-ghost use Rattle.au_judged_types.specs.Standing.{StandFor};
+ghost use Rattle.au_judged_types.specs.Views.{StandForIn, applied_in, arguments_in, declared_in, fitted_in};
 ghost use Rattle.au_judged_types.specs.Views.{given_in, judged_in, outcome, region, region_in, region_named_in};
 
 use crate::fitting::first_unfit;
@@ -67,7 +67,7 @@ fn judge_name(
     name: &Name,
     args: &Vec<TypeText>,
 ) -> Result<Judged<Ty>, Memory>
-    ensures { IfOk result (λ found. outcome meaning found ≡ judging.applied scope.now.heads.now scope.now.params.now name.now (sense_in scope.now name.now) (map (given_in scope.now) args.now.items)) }
+    ensures { IfOk result (λ found. outcome meaning found ≡ applied_in scope.now name.now (sense_in scope.now name.now) args.now.items) }
 {
     match sense_of(scope, name) {
         Some(sense) => judge_sense(alloc, scope, name, &sense, args),
@@ -85,7 +85,7 @@ fn judge_sense(
     sense: &Sense,
     args: &Vec<TypeText>,
 ) -> Result<Judged<Ty>, Memory>
-    ensures { IfOk result (λ found. outcome meaning found ≡ judging.applied scope.now.heads.now scope.now.params.now name.now (Some (said name.now sense.now)) (map (given_in scope.now) args.now.items)) }
+    ensures { IfOk result (λ found. outcome meaning found ≡ applied_in scope.now name.now (Some (said name.now sense.now)) args.now.items) }
 {
     match sense {
         Sense::Unit => Ok(alone(Ty::Unit, args)),
@@ -126,7 +126,7 @@ fn judge_declared(
     expected: &Params,
     args: &Vec<TypeText>,
 ) -> Result<Judged<Ty>, Memory>
-    ensures { IfOk result (λ found. outcome meaning found ≡ judging.declared_judged scope.now.heads.now scope.now.params.now at expected.now (map (given_in scope.now) args.now.items)) }
+    ensures { IfOk result (λ found. outcome meaning found ≡ declared_in scope.now at expected.now args.now.items) }
 {
     if args.len() != expected.len() {
         return Ok(Judged::Fails(Reason::Arguments(expected.len())));
@@ -146,7 +146,7 @@ fn judge_arguments(
     args: &Vec<TypeText>,
 ) -> Result<Judged<Vec<Arg>>, Memory>
     requires { length args.now.items ≡ length expected.now }
-    ensures { IfOk result (λ found. outcome (λ all. argument_all all.items) found ≡ judging.arguments_judged expected.now (map (given_in scope.now) args.now.items)) }
+    ensures { IfOk result (λ found. outcome (λ all. argument_all all.items) found ≡ arguments_in scope.now expected.now args.now.items) }
 {
     let mut found = Vec::new(alloc);
     for (index, one) in args.iter().enumerate() {
@@ -209,8 +209,8 @@ fn fitted(
     expected: &Params,
     args: Vec<Arg>,
 ) -> Result<Judged<Ty>, Memory>
-    requires { StandFor scope.now.heads.now scope.now.params.now expected.now (argument_all args.items) }
-    ensures { IfOk result (λ found. outcome meaning found ≡ judging.fitted scope.now.heads.now scope.now.params.now at expected.now (means (argument_all args.items))) }
+    requires { StandForIn scope.now expected.now (argument_all args.items) }
+    ensures { IfOk result (λ found. outcome meaning found ≡ fitted_in scope.now at expected.now (argument_all args.items)) }
 {
     match first_unfit(alloc, scope, expected, &args)? {
         Some(why) => Ok(Judged::Fails(why)),
