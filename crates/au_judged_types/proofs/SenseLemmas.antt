@@ -1,6 +1,6 @@
 -- What names mean is well formed: types that take no arguments are, and a declared type has the type
 -- parameters of its row.
-use Rattle.std.proofs.Common.{◌≡◌, ℕ, List, [], ◌∷◌, Bool, true, false, Option, None, Some, refl, ap}
+use Rattle.std.proofs.Common.{◌≡◌, List, [], ◌∷◌, Bool, true, false, Option, None, Some, refl, ap}
 use Rattle.std.specs.Prelude.{if◌then◌else◌, cond, is_some}
 use Rattle.std.specs.List.{list_any}
 use Rattle.std.specs.Map.{lookup}
@@ -20,7 +20,7 @@ use Rattle.au_types.specs.Types.{Arguments}
 use Rattle.au_types.specs.Universes.{universe_in}
 use Rattle.au_universes.specs.Forming.{all_fit, fit_row, fits, is_formed}
 use Rattle.au_universes.specs.Universes.{of_parameter}
-use Rattle.au_written_types.specs.Senses.{Sense, a_type, a_span, a_region, declared, a_class, built_in, declared_sense, open_region, outer_sense, parameter_sense, sense_of}
+use Rattle.au_written_types.specs.Senses.{Sense, a_type, a_region, declared, built_in, declared_sense, open_region, outer_sense, parameter_sense, sense_of}
 
 module _ (heads : List (DeclAt × Head)) (params : List Parameter) where
   -- what is good of a sense

@@ -1,4 +1,4 @@
-use Rattle.std.proofs.Common.{drop, ◌+◌, Some, ap, refl, sym, ◌∙◌}
+use Rattle.std.proofs.Common.{drop, ◌+◌, ap, refl, sym, ◌∙◌}
 use Rattle.std.specs.Option.{option_map, option_or}
 use Rattle.au_types.specs.Views.{argument_all}
 use Rattle.au_judged_types.specs.Judging.{first_unfit}
