@@ -1,0 +1,5 @@
+pub mod SenseLemmas
+pub mod UnfitLemmas
+pub mod AgreementLemmas
+pub mod JudgedLemmas
+pub mod FittingLemmas

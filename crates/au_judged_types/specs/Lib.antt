@@ -1,0 +1,5 @@
+pub mod Reasons
+pub mod Judging
+pub mod Standing
+pub mod Agreement
+pub mod Views
