@@ -1,11 +1,11 @@
 //! Laws of the definitions.
 
-ghost use Rattle.std.specs.Prelude.{◌≡◌, ◌↔◌, IsTrue, List, None, Some, slice_get};
+ghost use Rattle.std.specs.Prelude.{◌≡◌, ◌↔◌, List, None, Some, slice_get};
 ghost use Rattle.au_imports.specs.Good.{IsGood};
 ghost use Rattle.au_imports.specs.Importing.{refusal_of};
 ghost use Rattle.au_modules.specs.Programs.{Entry, ModuleParts};
 ghost use Rattle.au_promises.specs.Agreeing.{sight_of};
-ghost use Rattle.au_promises.specs.Promises.{keeps};
+ghost use Rattle.au_promises.specs.Fulfilled.{Agrees};
 ghost use Rattle.au_declarations.specs.Standing.{Standing, definition_of, opaque_name, standing_at};
 ghost use Rattle.au_syntax.specs.Plain.{Bytes};
 ghost use Rattle.au_syntax.specs.declared.modules.Part.TheVariants as parts;
@@ -19,5 +19,5 @@ pub fn good_programs_are_not_refused()
 /// In a good program each opaque type of a module that has a body is defined in it, and its definition agrees
 /// with it.
 pub fn opaque_types_are_defined()
-    ensures { (program : List ModuleParts) (at : DeclAt) (m : ModuleParts) (interface body : Entry) (s : Standing) (name : Bytes) → IsGood program → slice_get program at.«module» ≡ Some m → m.interface ≡ Some interface → m.body ≡ Some body → standing_at program at ≡ Some s → s.part ≡ parts.Interface → opaque_name s.says ≡ Some name → (d : Standing) × (definition_of program at ≡ Some d) × IsTrue (keeps (sight_of program at.«module» m) s.says d.says) }
+    ensures { (program : List ModuleParts) (at : DeclAt) (m : ModuleParts) (interface body : Entry) (s : Standing) (name : Bytes) → IsGood program → slice_get program at.«module» ≡ Some m → m.interface ≡ Some interface → m.body ≡ Some body → standing_at program at ≡ Some s → s.part ≡ parts.Interface → opaque_name s.says ≡ Some name → (d : Standing) × (definition_of program at ≡ Some d) × Agrees (sight_of program at.«module» m) s.says d.says }
 {}

@@ -99,13 +99,13 @@ module _ (sight : Sight) (promise : PlainDeclaration) where
       ∙ found_at first.before first.after d first.defines (λ y one. first.none y (contains first.before y one))
 
   -- the tests say that a promise is kept
-  abbrev Passes : List PlainDeclaration → Type 0
+  abbrev pub Passes : List PlainDeclaration → Type 0
   Passes body = (d : PlainDeclaration) × (find (defines sight promise) body ≡ Some d) × IsTrue (keeps sight promise d)
 
   kept_from : (body : List PlainDeclaration) → Passes body → IsKept sight body promise
   kept_from body passes = (passes.0, first_from body passes.0 passes.1, (keeps_decides sight promise passes.0).0 passes.2)
 
-  kept_passes : (body : List PlainDeclaration) → IsKept sight body promise → Passes body
+  pub kept_passes : (body : List PlainDeclaration) → IsKept sight body promise → Passes body
   kept_passes body kept = (kept.0, first_to body kept.0 kept.1, (keeps_decides sight promise kept.0).1 kept.2)
 
 -- ---- one promise
