@@ -1,20 +1,15 @@
 -- Piles by number.
-use Rattle.std.proofs.Common.{◌≡◌, ℕ, zero, suc, ◌+◌, ◌<◌, ◌≤◌, List, [], ◌∷◌, length, take, drop, get_or, Some, slice_get, slice_set, refl, sym, ap, subst, ◌∙◌, arith}
+use Rattle.std.proofs.Common.{◌≡◌, ℕ, zero, suc, ◌+◌, ◌-◌, ◌<◌, ◌≤◌, List, [], ◌∷◌, length, take, drop, get_or, Some, slice_get, slice_set, reverse, refl, sym, ap, subst, ◌∙◌, arith}
 use Rattle.std.proofs.Math.Seq.{take-length}
-use Rattle.std.proofs.lemmas.List.{length-take-le, drop-set-add, get_or-drop}
+use Rattle.std.proofs.lemmas.List.{length-take-le, drop-take, drop-set-add, get_or-drop, get_or-reverse}
 use Rattle.std.proofs.lemmas.Option.{slice_get_read}
-use Rattle.au_piles.specs.Piles.{peeled, IsRising, piles_in}
+use Rattle.au_piles.specs.Piles.{peeled, IsRising, piles_in, end_at, pile_at}
 
 -- no pile begins above the end
 pub begins_within : (bases : List ℕ) (size i : ℕ) → IsRising bases size → get_or bases i 0 ≤ size
 begins_within [] size i h = omega arith
 begins_within (base ∷ bases) size zero h = h.0
 begins_within (base ∷ bases) size (suc i) h = let more = begins_within bases base i h.1 in omega (arith, more, h.0)
-
--- where the pile of a number ends: where the one above it begins, or at the end of all
-abbrev pub ends_at : List ℕ → ℕ → ℕ → ℕ
-ends_at bases size zero = size
-ends_at bases size (suc i) = get_or bases i 0
 
 -- the front of a front
 take_less : {T : Type 0} (n m : ℕ) (xs : List T) → n ≤ m → take n (take m xs) ≡ take n xs
@@ -23,25 +18,25 @@ take_less (suc n) zero xs h = absurd (omega arith)
 take_less (suc n) (suc m) [] h = refl
 take_less (suc n) (suc m) (x ∷ xs) h = ap (λ (ys : List _). x ∷ ys) (take_less n m xs (omega arith))
 
-ends_next : (bases : List ℕ) (base i : ℕ) → ends_at bases base i ≡ get_or (base ∷ bases) i 0
-ends_next bases base zero = refl
-ends_next bases base (suc i) = refl
+end_next : (bases : List ℕ) (base i : ℕ) → end_at bases base i ≡ get_or (base ∷ bases) i 0
+end_next bases base zero = refl
+end_next bases base (suc i) = refl
 
-ends_within : (bases : List ℕ) (size i : ℕ) → IsRising bases size → ends_at bases size i ≤ size
+pub ends_within : (bases : List ℕ) (size i : ℕ) → IsRising bases size → end_at bases size i ≤ size
 ends_within bases size zero h = omega arith
 ends_within bases size (suc i) h = begins_within bases size i h
 
 -- the items of a pile
-pub peeled_at : {T : Type 0} (bases : List ℕ) (items : List T) (i : ℕ) → IsRising bases (length items) → i < length bases → slice_get (peeled bases items) i ≡ Some (drop (get_or bases i 0) (take (ends_at bases (length items) i) items))
+pub peeled_at : {T : Type 0} (bases : List ℕ) (items : List T) (i : ℕ) → IsRising bases (length items) → i < length bases → slice_get (peeled bases items) i ≡ Some (drop (get_or bases i 0) (take (end_at bases (length items) i) items))
 peeled_at [] items i h lt = absurd (omega arith)
 peeled_at {T} (base ∷ bases) items zero h lt = ap (λ (xs : List T). Some (drop base xs)) (sym (take-length items))
 peeled_at {T} (base ∷ bases) items (suc i) h lt =
     let size = length-take-le base items h.0 in
     let from = get_or bases i 0 in
     peeled_at bases (take base items) i (subst (IsRising bases) (sym size) h.1) (omega arith)
-    ∙ ap (λ n. Some (drop from (take (ends_at bases n i) (take base items)))) size
-    ∙ ap (λ (xs : List T). Some (drop from xs)) (take_less (ends_at bases base i) base items (ends_within bases base i h.1))
-    ∙ ap (λ n. Some (drop from (take n items))) (ends_next bases base i)
+    ∙ ap (λ n. Some (drop from (take (end_at bases n i) (take base items)))) size
+    ∙ ap (λ (xs : List T). Some (drop from xs)) (take_less (end_at bases base i) base items (ends_within bases base i h.1))
+    ∙ ap (λ n. Some (drop from (take n items))) (end_next bases base i)
 
 pub length_peeled : {T : Type 0} (bases : List ℕ) (items : List T) → length (peeled bases items) ≡ length bases
 length_peeled [] items = refl
@@ -74,3 +69,30 @@ pub put_old : {T : Type 0} (items : List T) (bases : List ℕ) (base i : ℕ) (o
 put_old {T} items bases base i old now is view within =
     let top = ap (λ (piles : List T × List (List T)). piles.0) view in
     slice_get_read now.0 (length now.0) i old refl within (is ∙ sym (get_or-drop base items i old) ∙ ap (λ (xs : List T). get_or xs i old) top)
+
+-- a pile ends where it begins or above
+pub start_below : (bases : List ℕ) (size i : ℕ) → IsRising bases size → i < length bases → get_or bases i 0 ≤ end_at bases size i
+start_below [] size i h lt = absurd (omega arith)
+start_below (base ∷ bases) size zero h lt = h.0
+start_below (base ∷ bases) size (suc i) h lt =
+    let more : get_or bases i 0 ≤ end_at bases base i = start_below bases base i h.1 (omega arith) in
+    subst (λ n. get_or bases i 0 ≤ n) (end_next bases base i) more
+
+-- a pile as a slice of all items
+pub pile_is : {T : Type 0} (bases : List ℕ) (base : ℕ) (items : List T) (i : ℕ) → base ≤ length items → IsRising bases base → i < length bases
+    → slice_get (peeled bases (take base items)) i ≡ Some (take (end_at bases base i - get_or bases i 0) (drop (get_or bases i 0) items))
+pile_is {T} bases base items i within h lt =
+    let from = get_or bases i 0 in
+    let to = end_at bases base i in
+    let size = length-take-le base items within in
+    let rise : from + (to - from) ≡ to = (let low = start_below bases base i h lt in omega arith) in
+    peeled_at bases (take base items) i (subst (IsRising bases) (sym size) h) lt
+    ∙ ap (λ n. Some (drop from (take (end_at bases n i) (take base items)))) size
+    ∙ ap (λ (xs : List T). Some (drop from xs)) (take_less to base items (ends_within bases base i h))
+    ∙ ap (λ n. Some (drop from (take n items))) (sym rise)
+    ∙ ap (λ (xs : List T). Some xs) (drop-take from (to - from) items)
+
+-- how many piles are below the top
+pub below_count : {T : Type 0} (items : List T) (base : ℕ) (bases : List ℕ) (now : List T × List (List T)) → piles_in items base bases ≡ now → length now.1 ≡ length bases
+below_count {T} items base bases now view =
+    ap (λ (piles : List T × List (List T)). length piles.1) (sym view) ∙ length_peeled bases (take base items)
