@@ -4,6 +4,7 @@
 #![tactic(auto)]
 
 pub mod births;
+pub mod places;
 pub mod slots;
 pub mod worlds;
 
