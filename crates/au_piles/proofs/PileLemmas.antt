@@ -1,9 +1,9 @@
 -- Piles by number.
 use Rattle.std.proofs.Common.{◌≡◌, ℕ, zero, suc, ◌+◌, ◌-◌, ◌<◌, ◌≤◌, List, [], ◌∷◌, length, take, drop, get_or, Some, slice_get, slice_set, reverse, refl, sym, ap, subst, ◌∙◌, arith}
 use Rattle.std.proofs.Math.Seq.{take-length}
-use Rattle.std.proofs.lemmas.List.{length-take-le, drop-take, drop-set-add, get_or-drop, get_or-reverse}
-use Rattle.std.proofs.lemmas.Option.{slice_get_read}
-use Rattle.au_piles.specs.Piles.{peeled, IsRising, piles_in, end_at, pile_at}
+use Rattle.std.proofs.lemmas.List.{length-take, length-take-le, drop-take, drop-set-add, drop-set-lt, get_or-take, get_or-drop, get_or-reverse}
+use Rattle.std.proofs.lemmas.Option.{slice_get_read, get_or_from_slice_get}
+use Rattle.au_piles.specs.Piles.{peeled, IsRising, piles_in, end_at, pile_at, with_below}
 
 -- no pile begins above the end
 pub begins_within : (bases : List ℕ) (size i : ℕ) → IsRising bases size → get_or bases i 0 ≤ size
@@ -96,3 +96,101 @@ pile_is {T} bases base items i within h lt =
 pub below_count : {T : Type 0} (items : List T) (base : ℕ) (bases : List ℕ) (now : List T × List (List T)) → piles_in items base bases ≡ now → length now.1 ≡ length bases
 below_count {T} items base bases now view =
     ap (λ (piles : List T × List (List T)). length piles.1) (sym view) ∙ length_peeled bases (take base items)
+
+-- a front in which an item is another
+take_within : {T : Type 0} (n : ℕ) (xs : List T) (i : ℕ) (x : T) → i < n → take n (slice_set xs i x) ≡ slice_set (take n xs) i x
+take_within zero xs i x h = absurd (omega arith)
+take_within (suc n) [] i x h = refl
+take_within (suc n) (y ∷ xs) zero x h = refl
+take_within {T} (suc n) (y ∷ xs) (suc i) x h = ap (λ (ys : List T). y ∷ ys) (take_within n xs i x (omega arith))
+
+-- piles in which an item of one of them is another
+peeled_put : {T : Type 0} (bases : List ℕ) (items : List T) (i j : ℕ) (item : T) → IsRising bases (length items) → i < length bases → get_or bases i 0 + j < end_at bases (length items) i
+    → peeled bases (slice_set items (get_or bases i 0 + j) item) ≡ slice_set (peeled bases items) i (slice_set (pile_at (peeled bases items) i) j item)
+peeled_put [] items i j item h lt within = absurd (omega arith)
+peeled_put {T} (base ∷ bases) items zero j item h lt within =
+    ap (λ (top : List T). top ∷ peeled bases (take base (slice_set items (base + j) item))) (drop-set-add base items j item)
+    ∙ ap (λ (rest : List T). slice_set (drop base items) j item ∷ peeled bases rest) (take_set items base j item)
+peeled_put {T} (base ∷ bases) items (suc i) j item h lt within =
+    let at = get_or bases i 0 + j in
+    let size = length-take-le base items h.0 in
+    let ends = end_next bases base i in
+    let high = ends_within bases base i h.1 in
+    let below : at < base = omega (arith, ends, high, within) in
+    let inner : at < end_at bases (length (take base items)) i = subst (λ n. at < end_at bases n i) (sym size) (omega (arith, ends, within)) in
+    ap (λ (top : List T). top ∷ peeled bases (take base (slice_set items at item))) (drop-set-lt base items at item below)
+    ∙ ap (λ (rest : List T). drop base items ∷ peeled bases rest) (take_within base items at item below)
+    ∙ ap (λ (more : List (List T)). drop base items ∷ more) (peeled_put bases (take base items) i j item (subst (IsRising bases) (sym size) h.1) (omega arith) inner)
+
+-- the items of a pile that is there
+pile_there : {T : Type 0} (bases : List ℕ) (base : ℕ) (items : List T) (i : ℕ) → base ≤ length items → IsRising bases base → i < length bases
+    → pile_at (peeled bases (take base items)) i ≡ take (end_at bases base i - get_or bases i 0) (drop (get_or bases i 0) items)
+pile_there bases base items i within h lt = get_or_from_slice_get (peeled bases (take base items)) i _ [] (pile_is bases base items i within h lt)
+
+-- an item of a pile lies before the end of the pile
+pub before_end : {T : Type 0} (bases : List ℕ) (base : ℕ) (items : List T) (i j : ℕ) → base ≤ length items → IsRising bases base → i < length bases
+    → j < length (pile_at (peeled bases (take base items)) i) → get_or bases i 0 + j < end_at bases base i
+before_end {T} bases base items i j within h lt inside =
+    let there = ap (λ (xs : List T). length xs) (pile_there bases base items i within h lt) in
+    let size = length-take (end_at bases base i - get_or bases i 0) (drop (get_or bases i 0) items) in
+    omega (arith, there, size, inside)
+
+pub put_below_view : {T : Type 0} (items : List T) (bases : List ℕ) (base i j : ℕ) (put item : T) (now : List T × List (List T)) → put ≡ item → piles_in items base bases ≡ now
+    → base ≤ length items → IsRising bases base → i < length bases → get_or bases i 0 + j < end_at bases base i
+    → piles_in (slice_set items (get_or bases i 0 + j) put) base bases ≡ with_below now i j item
+put_below_view {T} items bases base i j put item now same view within h lt inside =
+    let at = get_or bases i 0 + j in
+    let high = ends_within bases base i h in
+    let below : at < base = omega (arith, high, inside) in
+    let size = length-take-le base items within in
+    ap (λ (one : T). piles_in (slice_set items at one) base bases) same
+    ∙ ap (λ (top : List T). (top, peeled bases (take base (slice_set items at item)))) (drop-set-lt base items at item below)
+    ∙ ap (λ (rest : List T). (drop base items, peeled bases rest)) (take_within base items at item below)
+    ∙ ap (λ (more : List (List T)). (drop base items, more))
+      (peeled_put bases (take base items) i j item (subst (IsRising bases) (sym size) h) lt (subst (λ n. at < end_at bases n i) (sym size) inside))
+    ∙ ap (λ (piles : List T × List (List T)). with_below piles i j item) view
+
+pub put_below_old : {T : Type 0} (items : List T) (bases : List ℕ) (base i j : ℕ) (old : T) (now : List T × List (List T)) → old ≡ get_or items (get_or bases i 0 + j) old → piles_in items base bases ≡ now
+    → base ≤ length items → IsRising bases base → i < length bases → j < length (pile_at now.1 i) → slice_get (pile_at now.1 i) j ≡ Some old
+put_below_old {T} items bases base i j old now is view within h lt inside =
+    let from = get_or bases i 0 in
+    let seen = ap (λ (piles : List T × List (List T)). pile_at piles.1 i) (sym view) in
+    let pile = seen ∙ pile_there bases base items i within h lt in
+    let count = end_at bases base i - from in
+    let size = ap (λ (xs : List T). length xs) pile ∙ length-take count (drop from items) in
+    let short : j < count = omega (arith, size, inside) in
+    let read = get_or-take count (drop from items) j old short ∙ get_or-drop from items j old in
+    slice_get_read (pile_at now.1 i) (length (pile_at now.1 i)) j old refl inside
+      (is ∙ sym read ∙ ap (λ (xs : List T). get_or xs j old) (sym pile))
+
+-- an item of a pile below the top, by where the pile starts
+pub pile_number : {T : Type 0} (items : List T) (bases : List ℕ) (base i : ℕ) (now : List T × List (List T)) → piles_in items base bases ≡ now → i < length now.1 → i < length bases
+pile_number items bases base i now view h = let count = below_count items base bases now view in omega (arith, count, h)
+
+pub item_before : {T : Type 0} (items : List T) (bases : List ℕ) (base i j start : ℕ) (now : List T × List (List T)) → start ≡ get_or bases i 0 → piles_in items base bases ≡ now → base ≤ length items → IsRising bases base
+    → i < length now.1 → j < length (pile_at now.1 i) → start + j < end_at bases base i
+item_before {T} items bases base i j start now is view within h lt inside =
+    let seen = ap (λ (piles : List T × List (List T)). length (pile_at piles.1 i)) view in
+    let here : j < length (pile_at (peeled bases (take base items)) i) = omega (arith, seen, inside) in
+    let before = before_end bases base items i j within h (pile_number items bases base i now view lt) here in
+    omega (arith, is, before)
+
+pub item_within : {T : Type 0} (items : List T) (bases : List ℕ) (base i j start : ℕ) (now : List T × List (List T)) → start ≡ get_or bases i 0 → piles_in items base bases ≡ now → base ≤ length items → IsRising bases base
+    → i < length now.1 → j < length (pile_at now.1 i) → start + j < length items
+item_within items bases base i j start now is view within h lt inside =
+    let before = item_before items bases base i j start now is view within h lt inside in
+    let high = ends_within bases base i h in
+    omega (arith, before, high, within)
+
+pub item_put : {T : Type 0} (items : List T) (bases : List ℕ) (base i j start : ℕ) (put item : T) (now : List T × List (List T)) → start ≡ get_or bases i 0 → put ≡ item → piles_in items base bases ≡ now → base ≤ length items → IsRising bases base
+    → i < length now.1 → j < length (pile_at now.1 i) → piles_in (slice_set items (start + j) put) base bases ≡ with_below now i j item
+item_put {T} items bases base i j start put item now is same view within h lt inside =
+    let number = pile_number items bases base i now view lt in
+    let before = item_before items bases base i j (get_or bases i 0) now refl view within h lt inside in
+    ap (λ n. piles_in (slice_set items (n + j) put) base bases) is
+    ∙ put_below_view items bases base i j put item now same view within h number before
+
+pub item_old : {T : Type 0} (items : List T) (bases : List ℕ) (base i j start : ℕ) (old : T) (now : List T × List (List T)) → start ≡ get_or bases i 0 → old ≡ get_or items (start + j) old → piles_in items base bases ≡ now → base ≤ length items → IsRising bases base
+    → i < length now.1 → j < length (pile_at now.1 i) → slice_get (pile_at now.1 i) j ≡ Some old
+item_old items bases base i j start old now is read view within h lt inside =
+    put_below_old items bases base i j old now (read ∙ ap (λ n. get_or items (n + j) old) is) view within h (pile_number items bases base i now view lt) inside

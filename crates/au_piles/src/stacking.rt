@@ -2,7 +2,7 @@
 
 ghost use Rattle.std.specs.Prelude.{◌≡◌, ◌<◌, ◌++◌, ◌∷◌, [], List, length, take, drop, reverse, vec_len, ◌-◌, ◌≤◌, slice_index, slice_get, slice_set, OnOk, OnErr, MatchOption, Some};
 ghost use Rattle.std.specs.Option.{option_copied};
-ghost use Rattle.au_piles.specs.Piles.{next_top, end_at};
+ghost use Rattle.au_piles.specs.Piles.{next_top, end_at, pile_at, with_below};
 
 use au_base::Memory;
 use std::alloc::Global;
@@ -127,6 +127,17 @@ impl<T> Piles<T> {
         let start = start_of(&self.bases, index);
         let end = end_of(&self.bases, self.base, index);
         Some(part_of(&self.items, start, end))
+    }
+
+    /// Puts an item in the place of one of a pile below the top, and gives that one.
+    pub fn put_below(&mut self, pile: usize, index: usize, item: T) -> T
+        requires pile { pile < length self.old.1 }
+        requires index { index < length (pile_at self.old.1 pile) }
+        ensures new { self.new ≡ with_below self.old pile index item }
+        ensures old { slice_get (pile_at self.old.1 pile) index ≡ Some result }
+    {
+        let start = start_of(&self.bases, pile);
+        mem::replace(&mut self.items[start + index], item)
     }
 }
 
