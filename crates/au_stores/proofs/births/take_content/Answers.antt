@@ -21,10 +21,13 @@ pub returns-in_default : goal.returns-in_default
 returns-in_default c =
     let births = c.args.births.now in
     let held = c.replace-held.result in
-    let within : c.args.index < length births.items = omega (arith, births.ok.0, c.len.ensures, c.if-len-index.false) in
+    let within : c.args.index < length births.items = omega
+        (arith, births.ok.0, c.len.ensures, c.if-len-index.false) in
     let is : held ≡ get_or births.items c.args.index held =
-        c.replace-held.ensures.value ∙ c.index_mut.ensures.value ∙ ap (get_or births.items c.args.index) (sym c.replace-held.ensures.value) in
+        c.replace-held.ensures.value ∙ c.index_mut.ensures.value
+            ∙ ap (get_or births.items c.args.index) (sym c.replace-held.ensures.value) in
     record {
-      content = sym (ap (λ (found : Option (effect.Held _)). along found content_in) (held_there births.items c.args.index held within is) ∙ not_content held c.in_default.not-Content);
+      content = sym (ap (λ (found : Option (effect.Held _)). along found content_in)
+          (held_there births.items c.args.index held within is) ∙ not_content held c.in_default.not-Content);
       births = ap (map held_of) (put_back births.items c.args.index held c.replace-held.new.dest is);
     }

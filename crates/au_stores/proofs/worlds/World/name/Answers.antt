@@ -15,14 +15,20 @@ returns-then-depth-frame c =
 pub returns-in-Some : goal.returns-in-Some
 returns-in-Some c =
     let w = c.args.self.now in
-    let below : c.args.frame < top_frame w = omega (arith, c.depth-depth.ensures, c.if-depth-frame.false, c.if-frame-depth.false) in
-    let found = ap (λ n. slice_get w.slots.1 (n - 1 - c.args.frame)) (sym c.depth-depth.ensures) ∙ sym c.in-Some.ensures in
+    let below : c.args.frame < top_frame w = omega
+        (arith, c.depth-depth.ensures, c.if-depth-frame.false, c.if-frame-depth.false) in
+    let found = ap (λ n. slice_get w.slots.1 (n - 1 - c.args.frame)) (sym c.depth-depth.ensures)
+        ∙ sym c.in-Some.ensures in
     c.held.ensures
-    ∙ name_in w c.args.frame c.args.slot (Some (slots_of c.in-Some.slots.now)) (below_slots w c.args.frame below ∙ ap (option_map slots_of) found)
+    ∙ name_in w c.args.frame c.args.slot (Some (slots_of c.in-Some.slots.now))
+        (below_slots w c.args.frame below ∙ ap (option_map slots_of) found)
 
 pub returns-in-None : goal.returns-in-None
 returns-in-None c =
     let w = c.args.self.now in
-    let below : c.args.frame < top_frame w = omega (arith, c.depth-depth.ensures, c.if-depth-frame.false, c.if-frame-depth.false) in
-    let found = ap (λ n. slice_get w.slots.1 (n - 1 - c.args.frame)) (sym c.depth-depth.ensures) ∙ sym c.in-None.ensures in
-    name_in w c.args.frame c.args.slot None (below_slots w c.args.frame below ∙ ap (option_map slots_of) found)
+    let below : c.args.frame < top_frame w = omega
+        (arith, c.depth-depth.ensures, c.if-depth-frame.false, c.if-frame-depth.false) in
+    let found = ap (λ n. slice_get w.slots.1 (n - 1 - c.args.frame)) (sym c.depth-depth.ensures)
+        ∙ sym c.in-None.ensures in
+    name_in w c.args.frame c.args.slot None (below_slots w c.args.frame below
+        ∙ ap (option_map slots_of) found)
