@@ -55,8 +55,8 @@ fn take_content(births: &mut Vec<Held>, index: usize) -> Option<Cell>
         ≡ along (slice_get (map held_of births.old.items) index) content_in }
     ensures births { map held_of births.new.items
         ≡ (if is_some result
-            then slice_set (map held_of births.old.items) index effect.nothing
-            else map held_of births.old.items) }
+        then slice_set (map held_of births.old.items) index effect.nothing
+        else map held_of births.old.items) }
 {
     if births.len() <= index {
         return None;

@@ -12,10 +12,10 @@ pub returns-clause-world : goal.returns-clause-world
 returns-clause-world c =
     let w = c.args.self.now in
     ap (λ (piles : List (Option Cell) × List (List (Option Cell))). record
-        (world_of w) { frames = frames_of piles }) c.put.ensures.new
+    (world_of w) { frames = frames_of piles }) c.put.ensures.new
     ∙ sym (top_set w c.args.slot c.args.held)
 
 pub returns-clause-old : goal.returns-clause-old
 returns-clause-old c =
     sym (in_top c.args.self.now c.args.slot
-        ∙ ap (λ (found : Option (Option Cell)). along found (option_map low)) c.put.ensures.old)
+    ∙ ap (λ (found : Option (Option Cell)). along found (option_map low)) c.put.ensures.old)
