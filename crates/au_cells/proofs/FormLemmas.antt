@@ -43,7 +43,8 @@ unfolding low
 not_root (cell.Root x) differs = absurd (differs x refl)
 not_root c differs = refl
 
-pub not_reference : (c : Cell) → ((x : Box Borrowed Global) → c ≡ cell.Reference x → ⊥) → reference_in (low c) ≡ None
+pub not_reference : (c : Cell) → ((x : Box Borrowed Global) → c ≡ cell.Reference x → ⊥)
+    → reference_in (low c) ≡ None
 unfolding low
 not_reference (cell.Reference x) differs = absurd (differs x refl)
 not_reference c differs = refl
@@ -53,12 +54,16 @@ pub not_made : (c : Cell) → ((x : Box Parts Global) → c ≡ cell.Made x → 
 unfolding low
 not_made (cell.Made' p tag birth shape row) differs =
     absurd (differs
-    (record { ptr = p.ptr; alloc = p.alloc; value = record { tag = tag; birth = birth; fields = shown-the_row-Cell-0 shape row } })
+    (record { ptr = p.ptr; alloc = p.alloc; value = record { tag = tag; birth = birth;
+    fields = shown-the_row-Cell-0 shape row } })
     (sym (backs-Cell (cell.Made' p tag birth shape row))))
 not_made c differs = refl
 
 -- a value that is made of these parts
-pub made_apart : (parts : Box Parts Global) → taken_apart (low (cell.Made parts)) ≡ Some (apart_of parts.value)
+pub made_apart : (parts : Box Parts Global)
+    → taken_apart (low (cell.Made parts)) ≡ Some (apart_of parts.value)
 made_apart parts =
     ap taken_apart (made_is parts)
-    ∙ ap (λ (values : List Low). Some (record { tag = parts.value.tag; birth = parts.value.birth; fields = values })) (listed_fields (lows parts.value.fields.items))
+    ∙ ap (λ (values : List Low). Some
+        (record { tag = parts.value.tag; birth = parts.value.birth; fields = values })) (listed_fields
+            (lows parts.value.fields.items))

@@ -38,5 +38,6 @@ pub of_one_kind : (a b : IntKind) (z : ℤ) → kind_number a ≡ kind_number b 
 of_one_kind a b z e within = subst (λ kind. IsOfKind kind z) (one_kind a b e) within
 
 -- an operation on two numbers that are there
-pub both_there : {A : Type 0} (go : A → A → Result ℕ) (a b : Option A) (x y : A) → Some x ≡ a → Some y ≡ b → go x y ≡ on_both go a b
+pub both_there : {A : Type 0} (go : A → A → Result ℕ) (a b : Option A) (x y : A) → Some x ≡ a
+    → Some y ≡ b → go x y ≡ on_both go a b
 both_there go a b x y p q = ap (on_both go (Some x)) q ∙ ap (λ (o : Option _). on_both go o b) p

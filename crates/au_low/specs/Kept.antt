@@ -9,4 +9,5 @@ without_events outcome = record outcome { events = [] }
 
 -- a run whose events aren't kept is the run whose events are, but for the events
 abbrev pub KeepingChangesEventsAlone : Type 0
-KeepingChangesEventsAlone = (code : Code) (input : List ℕ) (limit : ℕ) → low_run false code input limit ≡ without_events (low_run true code input limit)
+KeepingChangesEventsAlone = (code : Code) (input : List ℕ) (limit : ℕ)
+    → low_run false code input limit ≡ without_events (low_run true code input limit)

@@ -1,7 +1,8 @@
 //! Piles of items.
 
-ghost use Rattle.std.specs.Prelude.{◌≡◌, ◌<◌, ◌++◌, ◌∷◌, [], List, length, slice_get, slice_set, OnOk, OnErr, MatchOption, Some};
-ghost use Rattle.au_piles.specs.Piles.{next_top};
+ghost use Rattle.std.specs.Prelude.{◌≡◌, ◌<◌, ◌++◌, ◌∷◌, [], List, length, take, drop, reverse, vec_len, ◌-◌, ◌≤◌, slice_index, slice_get, slice_set, OnOk, OnErr, MatchOption, Some};
+ghost use Rattle.std.specs.Option.{option_copied};
+ghost use Rattle.au_piles.specs.Piles.{next_top, end_at, pile_at, with_below};
 
 use au_base::Memory;
 use std::alloc::Global;
@@ -115,4 +116,55 @@ impl<T> Piles<T> {
             self.base = base;
         }
     }
+
+    /// The items of a pile below the top: 0 is the next one.
+    pub fn below(&self, index: usize) -> Option<&[T]>
+        ensures { option_copied result ≡ slice_get self.now.1 index }
+    {
+        if self.bases.len() <= index {
+            return None;
+        }
+        let start = start_of(&self.bases, index);
+        let end = end_of(&self.bases, self.base, index);
+        Some(part_of(&self.items, start, end))
+    }
+
+    /// Puts an item in the place of one of a pile below the top, and gives that one.
+    pub fn put_below(&mut self, pile: usize, index: usize, item: T) -> T
+        requires pile { pile < length self.old.1 }
+        requires index { index < length (pile_at self.old.1 pile) }
+        ensures new { self.new ≡ with_below self.old pile index item }
+        ensures old { slice_get (pile_at self.old.1 pile) index ≡ Some result }
+    {
+        let start = start_of(&self.bases, pile);
+        mem::replace(&mut self.items[start + index], item)
+    }
+}
+
+/// Where a pile below the top begins.
+fn start_of(bases: &Vec<usize>, index: usize) -> usize
+    requires { index < vec_len bases.now }
+    ensures { result ≡ slice_index (reverse bases.now.items) index }
+{
+    bases[bases.len() - 1 - index]
+}
+
+/// Where it ends.
+fn end_of(bases: &Vec<usize>, base: usize, index: usize) -> usize
+    requires { index < vec_len bases.now }
+    ensures { result ≡ end_at (reverse bases.now.items) base index }
+{
+    if index == 0 {
+        base
+    } else {
+        start_of(bases, index - 1)
+    }
+}
+
+fn part_of<T>(items: &Vec<T>, start: usize, end: usize) -> &[T]
+    requires order { start ≤ end }
+    requires within { end ≤ vec_len items.now }
+    ensures { result.now ≡ take (end - start) (drop start items.now.items) }
+{
+    &items[start..end]
 }

@@ -19,4 +19,5 @@ returns c =
     ∙ ap (λ t. answer.value (truth t)) c.compare.ensures.value
     ∙ ap (λ (x : ℤ). answer.value (truth (truth_of order x (to_z w128 (of_z w128 b))))) (to_z-of_z first)
     ∙ ap (λ (y : ℤ). answer.value (truth (truth_of order a y))) (to_z-of_z second)
-    ∙ both_there (λ x y. answer.value (truth (truth_of order x y))) _ _ a b c.in-Some.ensures.is c.in-Some-number_of.ensures.is
+    ∙ both_there (λ x y. answer.value (truth
+        (truth_of order x y))) _ _ a b c.in-Some.ensures.is c.in-Some-number_of.ensures.is

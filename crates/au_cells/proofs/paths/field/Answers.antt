@@ -14,4 +14,5 @@ returns-in-Made c =
     cc
 
 pub returns-in_default : goal.returns-in_default
-returns-in_default c = sym (no_field (low c.args.cell.now) c.args.index (not_made c.args.cell.now c.in_default.not-Made))
+returns-in_default c = sym (no_field (low c.args.cell.now) c.args.index
+    (not_made c.args.cell.now c.in_default.not-Made))

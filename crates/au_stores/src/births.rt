@@ -1,0 +1,72 @@
+//! What boxes and buffers hold.
+
+ghost use Rattle.std.specs.Prelude.{◌≡◌, map, is_some, slice_get, slice_set, if◌then◌else◌, IfOk};
+ghost use Rattle.std.specs.Option.{option_map, option_copied};
+ghost use Rattle.au_effects.specs.Parts.{along};
+ghost use Rattle.au_effects.specs.Worlds as effect;
+ghost use Rattle.au_effects.specs.Places.{content_in};
+ghost use Rattle.au_cells.specs.Cells.{low};
+ghost use Rattle.au_stores.specs.Stores.{world_of, held_of};
+
+use crate::worlds::{Held, World};
+use au_base::Memory;
+use au_cells::Cell;
+use au_low::Event;
+use std::mem;
+
+impl World {
+    /// The content of the box of a birth.
+    pub fn content(&self, id: u64) -> Option<&Cell>
+        ensures { option_map low (option_copied result)
+            ≡ along (slice_get (world_of self.now).births id) content_in }
+    {
+        match self.births.get(id as usize) {
+            Some(Held::Content(cell)) => Some(cell),
+            Some(Held::Elements(_)) => None,
+            Some(Held::Nothing) => None,
+            None => None,
+        }
+    }
+
+    /// Ends the box of a birth, and gives its content. Where it holds none, nothing changes.
+    ///
+    /// # Errors
+    ///
+    /// `Memory` when memory runs out.
+    pub fn unbox(&mut self, id: u64) -> Result<Option<Cell>, Memory>
+        ensures content { IfOk result (λ held. option_map low held
+            ≡ along (slice_get (world_of self.old).births id) content_in) }
+        ensures world { IfOk result (λ held. world_of self.new
+            ≡ (if is_some held then effect.ends id (world_of self.old) else world_of self.old)) }
+    {
+        match take_content(&mut self.births, id as usize) {
+            Some(content) => {
+                self.tell(Event::Consumed(id))?;
+                Ok(Some(content))
+            }
+            None => Ok(None),
+        }
+    }
+}
+
+/// Takes the content of a box, of which nothing is left then. Where there is none, nothing changes.
+fn take_content(births: &mut Vec<Held>, index: usize) -> Option<Cell>
+    ensures content { option_map low result
+        ≡ along (slice_get (map held_of births.old.items) index) content_in }
+    ensures births { map held_of births.new.items
+        ≡ (if is_some result
+        then slice_set (map held_of births.old.items) index effect.nothing
+        else map held_of births.old.items) }
+{
+    if births.len() <= index {
+        return None;
+    }
+    let held = mem::replace(&mut births[index], Held::Nothing);
+    match held {
+        Held::Content(content) => Some(content),
+        other => {
+            births[index] = other;
+            None
+        }
+    }
+}

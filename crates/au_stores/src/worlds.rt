@@ -1,0 +1,130 @@
+//! The world: what there is of frames and births, and what is told of it.
+
+ghost use Rattle.std.specs.Prelude.{◌≡◌, ◌<◌, ◌≤◌, ◌+◌, [], length, IfOk, OnOk};
+ghost use Rattle.au_base.specs.Limits.{most_name_bytes};
+ghost use Rattle.au_effects.specs.Worlds as effect;
+ghost use Rattle.au_low.specs.Runs.{first_world};
+ghost use Rattle.au_stores.specs.Stores.{world_of, held_of, deed_of};
+
+use au_base::{Memory, Name};
+use au_cells::Cell;
+use au_low::Event;
+use au_piles::Piles;
+use std::alloc::Global;
+
+/// What there is of a birth besides its value.
+#[derive(Drop)]
+pub enum Held {
+    /// Nothing.
+    Nothing,
+    /// The content of a box.
+    Content(Cell),
+    /// The elements of a buffer.
+    Elements(Vec<Cell>),
+}
+
+/// What the actions of a run change.
+#[derive(Drop)]
+pub struct World {
+    /// The slots of the frames, those of the running one at the top.
+    pub slots: Piles<Option<Cell>>,
+    /// What there is of each birth.
+    pub births: Vec<Held>,
+    /// The number of the next borrow.
+    pub borrows: u64,
+    /// Whether events are kept.
+    pub keeps: bool,
+    /// The events that were kept.
+    pub events: Vec<Event>,
+}
+
+impl World {
+    /// A world in which nothing has happened, with one frame that has no slot.
+    pub fn new(alloc: Global, keeps: bool) -> World
+        ensures { world_of result ≡ first_world keeps [] }
+    {
+        World {
+            slots: Piles::new(alloc),
+            births: Vec::new(alloc),
+            borrows: 0,
+            keeps,
+            events: Vec::new(alloc),
+        }
+    }
+
+    /// Tells an event.
+    ///
+    /// # Errors
+    ///
+    /// `Memory` when memory runs out.
+    pub fn tell(&mut self, event: Event) -> Result<(), Memory>
+        ensures { OnOk result (world_of self.new ≡ effect.tells (deed_of event) (world_of self.old)) }
+    {
+        if self.keeps {
+            self.events.push(event)?;
+        }
+        Ok(())
+    }
+
+    /// Tells that a value was consumed that may have a birth.
+    ///
+    /// # Errors
+    ///
+    /// `Memory` when memory runs out.
+    pub fn spend(&mut self, birth: Option<u64>) -> Result<(), Memory>
+        ensures { OnOk result (world_of self.new ≡ effect.spends birth (world_of self.old)) }
+    {
+        match birth {
+            None => Ok(()),
+            Some(id) => self.tell(Event::Consumed(id)),
+        }
+    }
+
+    /// Tells a use of a borrow.
+    ///
+    /// # Errors
+    ///
+    /// `Memory` when memory runs out.
+    pub fn tell_use(&mut self, borrow: u64) -> Result<(), Memory>
+        ensures { OnOk result (world_of self.new ≡ effect.tells (effect.used borrow) (world_of self.old)) }
+    {
+        self.tell(Event::Used(borrow))
+    }
+
+    /// Opens the next borrow, and gives its number.
+    ///
+    /// # Errors
+    ///
+    /// `Memory` when memory runs out, or the numbers of borrows do.
+    pub fn open(&mut self) -> Result<u64, Memory>
+        ensures borrow { IfOk result (λ borrow. borrow ≡ self.old.borrows) }
+        ensures world { OnOk result (world_of self.new ≡ effect.opens (world_of self.old)) }
+    {
+        let borrow = self.borrows;
+        self.borrows = borrow.checked_add(1).ok_or(Memory)?;
+        self.tell(Event::Opened(borrow))?;
+        Ok(borrow)
+    }
+
+    /// Adds a birth, with what there is of it, and gives its number. The home is the name of the module in
+    /// whose text it stands.
+    ///
+    /// # Errors
+    ///
+    /// `Memory` when memory runs out.
+    pub fn bear(&mut self, alloc: Global, of: u32, home: &[u8], held: Held) -> Result<u64, Memory>
+        requires some { 0 < length home.now }
+        requires most { length home.now ≤ most_name_bytes }
+        ensures id { IfOk result (λ id. id ≡ length self.old.births.items) }
+        ensures world { OnOk result
+            (world_of self.new ≡ effect.bears of home.now (held_of held) (world_of self.old)) }
+    {
+        let id = self.births.len() as u64;
+        if self.keeps {
+            let module = Name::copy_of(alloc, home)?;
+            self.events.push(Event::Born { id, of, module })?;
+        }
+        self.births.push(held)?;
+        Ok(id)
+    }
+}
