@@ -10,6 +10,7 @@ use Rattle.au_modules.specs.Programs.{Entry, ModuleParts}
 use Rattle.au_names.specs.Owned.{declarations_in}
 use Rattle.au_declarations.specs.Standing.{Standing, body_at, defined_by, definition_for, definition_of, is_named, is_whole, opaque_name, standing_at, standing_from, standing_in, whole_name}
 use Rattle.au_declarations.proofs.DefinitionLemmas.{interface_listed, module_place, standing_found}
+use Rattle.au_promises.proofs.DecidingLemmas.{keeps_decides}
 use Rattle.au_promises.proofs.FulfilledLemmas.{Passes, kept_passes}
 use Rattle.au_promises.specs.Agreeing.{Sight, sight_of}
 use Rattle.au_promises.specs.Fulfilled.{Agrees, IsKept}
@@ -49,10 +50,10 @@ opaque_defined program at m interface body s name good here first second stands 
     let sight = sight_of program place m in
     let kept : IsKept sight body.tree.declarations s.says = good.promises place m interface body here first second s.says name (listed interface.tree.declarations at.decl s.says declared) (opaque_promised s.says name opaque) in
     let passes : Passes sight s.says body.tree.declarations = kept_passes sight s.says body.tree.declarations kept in
-    let found = standing_found place 0 Body (defines sight s.says) (is_whole name) (λ t. opaque_test sight s.says t.says name opaque) body.tree.declarations kept.0 passes.1 in
+    let found = standing_found place 0 Body (defines sight s.says) (is_whole name) (λ t. opaque_test sight s.says t.says name opaque) body.tree.declarations passes.0 passes.1 in
     let own : body_at s.place (slice_get program s.place) ≡ standing_from place Body 0 body.tree.declarations =
     ap (λ p. body_at p (slice_get program p)) of ∙ ap (body_at place) here ∙ ap (λ o. standing_from place Body 0 (declarations_in o)) second in (
       found.0,
       ap (definition_for program) stands ∙ ap (defined_by (body_at s.place (slice_get program s.place)) s) opaque ∙ ap (find (is_whole name)) own ∙ found.1,
-      subst (λ y. Agrees sight s.says y) (sym found.2) kept.2,
+      subst (λ y. Agrees sight s.says y) (sym found.2) ((keeps_decides sight s.says passes.0).0 passes.2),
     )
