@@ -36,13 +36,19 @@ module _ (heads : List (DeclAt × Head)) (params : List Parameter) where
   unfolding all_formed
   formed_first one rest formed = and_parts (argument_formed fits_in_kind heads params (argument one)) (all_formed fits_in_kind heads params (argument_all rest)) formed
 
+  -- an argument that is formed stands over the rows
+  argument_stands : (one : Argument) → argument_formed fits_in_kind heads params one ≡ true → ArgumentStandsOver heads params one
+  unfolding argument_formed
+  argument_stands (mean.of_type t) formed = formed
+  argument_stands (mean.in_region region) formed = tt
+
   -- the first argument stands over the rows, and the others stand for the other type parameters
   stand_parts : (one : Parameter) (others : List Parameter) (first : Arg) (rest : List Arg) → StandFor heads params (one ∷ others) (argument_all (first ∷ rest)) → ArgumentStandsOver heads params (argument first) × StandFor heads params others (argument_all rest)
   stand_parts one others first rest stand =
       let both = and_parts (all_fit fits_in_kind (one ∷ others) (argument_all (first ∷ rest))) (all_formed fits_in_kind heads params (argument_all (first ∷ rest))) stand in
       let fit = and_parts (fits_in_kind one.universe (argument first)) (all_fit fits_in_kind others (argument_all rest)) both.0 in
       let formed = formed_first first rest both.1 in
-      (formed.0, and_from (all_fit fits_in_kind others (argument_all rest)) (all_formed fits_in_kind heads params (argument_all rest)) fit.1 formed.1)
+      (argument_stands (argument first) formed.0, and_from (all_fit fits_in_kind others (argument_all rest)) (all_formed fits_in_kind heads params (argument_all rest)) fit.1 formed.1)
 
   -- what is left begins with what stands at the index
   expected_left : (expected : List Parameter) (i : ℕ) (one : Parameter) → slice_get expected i ≡ Some one → drop i expected ≡ one ∷ drop (i + 1) expected
