@@ -54,8 +54,15 @@ pub not_made : (c : Cell) → ((x : Box Parts Global) → c ≡ cell.Made x → 
 unfolding low
 not_made (cell.Made' p tag birth shape row) differs =
     absurd (differs
-    (record { ptr = p.ptr; alloc = p.alloc; value = record { tag = tag; birth = birth;
-    fields = shown-the_row-Cell-0 shape row } })
+    (record {
+      ptr = p.ptr;
+      alloc = p.alloc;
+      value = record {
+        tag = tag;
+        birth = birth;
+        fields = shown-the_row-Cell-0 shape row;
+      };
+    })
     (sym (backs-Cell (cell.Made' p tag birth shape row))))
 not_made c differs = refl
 
@@ -65,5 +72,5 @@ pub made_apart : (parts : Box Parts Global)
 made_apart parts =
     ap taken_apart (made_is parts)
     ∙ ap (λ (values : List Low). Some
-        (record { tag = parts.value.tag; birth = parts.value.birth; fields = values })) (listed_fields
-            (lows parts.value.fields.items))
+    (record { tag = parts.value.tag; birth = parts.value.birth; fields = values })) (listed_fields
+    (lows parts.value.fields.items))

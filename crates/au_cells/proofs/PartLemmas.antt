@@ -74,7 +74,7 @@ pub past_old : (path : List ℕ) (cells : List Cell) (i : ℕ) → length cells 
     → None ≡ along (nth_field i (fields_of (lows cells))) (part path)
 past_old path cells i h =
     sym (ap (λ (found : Option Low). along found (part path)) (nth_low cells i
-        ∙ ap (option_map low) (slice_get_past cells i h)))
+    ∙ ap (option_map low) (slice_get_past cells i h)))
 
 -- an item that is set twice
 set_twice : {X : Type 0} (xs : List X) (i : ℕ) (x y : X)
@@ -104,7 +104,7 @@ pub found_old : (path : List ℕ) (cells : List Cell) (i : ℕ) (old : Cell) →
     → part path (low old) ≡ along (nth_field i (fields_of (lows cells))) (part path)
 found_old path cells i old h is =
     sym (ap (λ (found : Option Low). along found (part path)) (nth_is (lows cells) i
-        ∙ cell_there cells i old h is))
+    ∙ cell_there cells i old h is))
 
 -- a path that isn't empty
 pub path_begins : (path : List ℕ) → (length path == 0) ≡ false
@@ -131,5 +131,5 @@ pub made_old : (one : Cell) (old : Box Parts Global) (path rest : List ℕ) (ind
     → found ≡ part path (low one)
 made_old one old path rest index found is begins same =
     same ∙ ap (part (index ∷ rest)) (sym (made_is old))
-        ∙ ap (λ p. part p (low (cell.Made old))) (sym begins)
-        ∙ ap (λ (v : Cell). part path (low v)) (sym is)
+    ∙ ap (λ p. part p (low (cell.Made old))) (sym begins)
+    ∙ ap (λ (v : Cell). part path (low v)) (sym is)

@@ -68,7 +68,7 @@ pub muted_all : (count : ℕ) (m : Machine) (f : List Low → Machine → Next)
     → popping_all count (muted m) f ≡ muted_next (popping_all count m f)
 muted_all count m f h =
     muted_where (nat_lt count (length m.operands + 1)) _ _ (h (reverse (take count m.operands))
-        (record m { operands = drop count m.operands }))
+    (record m { operands = drop count m.operands }))
 
 muted_machines : (one : Option Machine) (f : Machine → Next) → ((k : Machine)
     → f (muted k) ≡ muted_next (f k)) → having (option_map muted one) f ≡ muted_next (having one f)
@@ -105,7 +105,7 @@ muted_puts : (place : Place) (value : Low) (m : Machine)
     → puts place value (muted m) ≡ muted_next (puts place value m)
 muted_puts place value m =
     ap (λ (found : Option (Low × LowWorld)). having found (λ pair. goes (onward (in_world pair.1 m))))
-        (hushed_exchanged place value m.world)
+    (hushed_exchanged place value m.world)
     ∙ muted_pairs (exchanged place value m.world) (λ pair. goes (onward (in_world pair.1 m))) (λ pair. refl)
 
 muted_at : (place : Place) (m : Machine) (f : Low → Next) (g : Low → Next) → ((x : Low)
@@ -113,7 +113,7 @@ muted_at : (place : Place) (m : Machine) (f : Low → Next) (g : Low → Next) �
     → having (at place (muted m).world) f ≡ muted_next (having (at place m.world) g)
 muted_at place m f g h =
     ap (λ (found : Option Low). having (along found (part place.path)) f)
-        (hushed_at place.base m.world) ∙ muted_having (at place m.world) f g h
+    (hushed_at place.base m.world) ∙ muted_having (at place m.world) f g h
 
 muted_reads : (borrow : ℕ) (place : Place) (m : Machine)
     → reads_at borrow place (muted m) ≡ muted_next (reads_at borrow place m)
@@ -180,7 +180,7 @@ muted_shipped : (code : Code) (call : ShippedCall) (of : Option ℕ) (values : L
     ≡ muted_next (answered (shipped (text_bytes code) call of m.world values) m)
 muted_shipped code call of values m =
     ap (λ (said : answer.Answer ℕ ℕ). answered said (muted m)) (still_shipped
-        (text_bytes code) call of m.world values)
+    (text_bytes code) call of m.world values)
     ∙ muted_answered (shipped (text_bytes code) call of m.world values) m
 
 muted_ended : (m : Machine) → frame_ended (muted m) ≡ hushed (frame_ended m)
@@ -215,7 +215,7 @@ muted_closes : (count : ℕ) (m : Machine) → closes_to count (muted m) ≡ mut
 muted_closes count m =
     let over = length m.open_borrows - count in
     ap (λ (w : LowWorld). in_world w (record m { open_borrows = drop over m.open_borrows }))
-        (hushed_closes (take over m.open_borrows) m.world)
+    (hushed_closes (take over m.open_borrows) m.world)
 
 -- what an instruction does
 pub muted_act : (code : Code) (instr : Instr) (m : Machine)
@@ -234,7 +234,7 @@ muted_act code Discard m = muted_popping m.operands m _ (λ value k. refl)
 muted_act code (Arith op kind) m = muted_two m.operands m _ (λ a b k. muted_comes (computed op kind a b) k)
 muted_act code (Wrap op kind order) m =
     muted_all 2 m _ (λ values k. muted_having (ordered_if order values) _ _ (λ values. muted_comes
-        (on_pair (wrapped_around op kind) values) k))
+    (on_pair (wrapped_around op kind) values) k))
 muted_act code (Compare order kind) m = muted_two m.operands m _ (λ a b k. muted_comes
     (compared order kind a b) k)
 muted_act code Not m = muted_popping m.operands m _ (λ a k. muted_comes (negated a) k)
@@ -246,27 +246,27 @@ muted_act code (ForTest counter last label) m = muted_numbers counter last m _ _
     (λ kind a b. muted_unless code label m (not (int_lt b a)))
 muted_act code (ForStep counter last label) m =
     muted_numbers counter last m _ _ (λ kind a b. muted_if (int_lt a b) _ _ _ _ (muted_jumps code label
-        (slot_set counter (Some (number kind (a +ℤ pos 1))) m)) refl)
+    (slot_set counter (Some (number kind (a +ℤ pos 1))) m)) refl)
 muted_act code (Make of tag order home) m =
     muted_all (length order) m _ (λ values k. muted_having (ordered order values) _ _
-        (λ values. muted_having (slice_get code.types of) _ _
-            (λ type. muted_makes of tag home values type k)))
+    (λ values. muted_having (slice_get code.types of) _ _
+    (λ type. muted_makes of tag home values type k)))
 muted_act code (Take slot) m = muted_popping m.operands m _ (λ value k. muted_apart value slot k _
     (λ tag k. muted_where (tag == 0) _ _ refl))
 muted_act code (Case slot labels) m =
     muted_popping m.operands m _ (λ value k. muted_apart value slot k _ (λ tag k. muted_having
-        (slice_get labels tag) _ _ (λ label. muted_jumps code label k)))
+    (slice_get labels tag) _ _ (λ label. muted_jumps code label k)))
 muted_act code (Call function order) m = muted_having (slice_get code.functions function) _ _
     (λ callee. muted_calls function order callee m)
 muted_act code (Shipped call of order) m =
     muted_where (is_type code of) _ _ (muted_all (arity call) m _ (λ values k. muted_having
-        (ordered_if order values) _ _ (λ values. muted_shipped code call of values k)))
+    (ordered_if order values) _ _ (λ values. muted_shipped code call of values k)))
 muted_act code Return m = muted_popping m.operands m _ (λ result k. muted_returns k.waiting result k)
 muted_act code (Read slot path) m = muted_having (reference_at slot m) _ _ (λ one. muted_reads one.0
     (behind one.1 path) m)
 muted_act code (Put slot path) m =
     muted_having (reference_at slot m) _ _ (λ one. muted_popping m.operands m _ (λ value k. muted_puts
-        (behind one.1 path) value (uses one.0 k)))
+    (behind one.1 path) value (uses one.0 k)))
 muted_act code Deref m = muted_popping m.operands m _ (λ value k. muted_having (reference_in value) _ _
     (λ one. muted_reads one.0 one.1 k))
 muted_act code (Open slot mode) m = muted_where (is_of_slot mode) _ _ (muted_borrow mode slot m _ _

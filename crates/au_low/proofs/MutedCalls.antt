@@ -65,7 +65,7 @@ still_use : {T B : Type 0} (value : Value T) (world : World T B) (f g : ℕ → 
 still_use value world f g h =
     still_given (reference_in value) _ _ (λ one.
     ap (λ (held : Option (Value _)). given (along held (part one.1.path)) (f one.0 one.1))
-        (hushed_at one.1.base world)
+    (hushed_at one.1.base world)
     ∙ still_given (at one.1 world) (f one.0 one.1) (g one.0 one.1) (h one.0 one.1))
 
 still_buffer : {T B : Type 0} (value : Value T) (world : World T B) (f : ℕ → List (Value T) → World T B
@@ -90,8 +90,8 @@ still_element (Some value) world = refl
 
 still_replaced : {T B : Type 0} (id : ℕ) (values : List (Value T)) (index : ℕ) (new : Value T)
     (old : Option (Value T)) (world : World T B)
-        → element_replaced id values index new old (hushed world)
-            ≡ still (element_replaced id values index new old world)
+    → element_replaced id values index new old (hushed world)
+    ≡ still (element_replaced id values index new old world)
 still_replaced id values index new None world = refl
 still_replaced id values index new (Some old) world = refl
 
@@ -111,7 +111,7 @@ still_swap : {T B : Type 0} (world : World T B) (a new : Value T)
 still_swap {T} {B} world a new =
     still_given (reference_in a) _ _ (λ one.
     ap (λ (found : Option (Value T × World T B)). given found (λ pair. gives pair.0 (tells
-        (used one.0) pair.1))) (hushed_exchanged one.1 new world)
+    (used one.0) pair.1))) (hushed_exchanged one.1 new world)
     ∙ still_pairs (exchanged one.1 new world) _ (λ pair. refl))
 
 module _ {T B : Type 0} (bytes_of : T → List ℕ) where
@@ -150,31 +150,31 @@ module _ {T B : Type 0} (bytes_of : T → List ℕ) where
   still_shipped prim.MakeEmpty of w args = still_none args _ _ (still_given of _ _ (λ t. refl))
   still_shipped prim.DestroyEmpty of w args =
       still_untyped of _ _ (still_one args _ _ (λ a. still_given (buffer_in a) _ _ (λ id. still_given
-          (along (slice_get w.births id) elements_in) _ _ (λ values. still_ended id values w))))
+      (along (slice_get w.births id) elements_in) _ _ (λ values. still_ended id values w))))
   still_shipped prim.Length of w args = still_untyped of _ _ (still_one args _ _ (λ a. still_buffer a w
       (λ id values told. gives (number Index (pos (length values))) told) (λ id values told. refl)))
   still_shipped prim.InsertBack of w args = still_untyped of _ _ (still_two args _ _
       (λ a new. still_buffer a w (λ id values told. gives unit (with_elements id
-          (values ++ new ∷ []) told)) (λ id values told. refl)))
+      (values ++ new ∷ []) told)) (λ id values told. refl)))
   still_shipped prim.RemoveBack of w args =
       still_untyped of _ _ (still_one args _ _ (λ a. still_buffer a w _
-          (λ id values told. still_last id values (slice_get values (length values - 1)) told)))
+      (λ id values told. still_last id values (slice_get values (length values - 1)) told)))
   still_shipped prim.Nth of w args =
       still_untyped of _ _ (still_two args _ _ (λ a i. still_given (index_in i) _ _
-          (λ index. still_buffer a w _ (λ id values told. still_element (slice_get values index) told))))
+      (λ index. still_buffer a w _ (λ id values told. still_element (slice_get values index) told))))
   still_shipped prim.ReplaceNth of w args =
       still_untyped of _ _ (still_three args _ _ (λ a i new. still_given (index_in i) _ _
-          (λ index. still_buffer a w _ (λ id values told. still_replaced id values index new
-              (slice_get values index) told))))
+      (λ index. still_buffer a w _ (λ id values told. still_replaced id values index new
+      (slice_get values index) told))))
   still_shipped prim.AcquireTerminal of w args =
       still_one args _ _ (λ a. still_use a w _ _ (λ borrow place held. still_given (root_in held) _ _
-          (λ id. still_given of _ _ (λ t. refl))))
+      (λ id. still_given of _ _ (λ t. refl))))
   still_shipped prim.ReadByte of w args = still_untyped of _ _ (still_one args _ _
       (λ a. still_use a w _ _ (λ borrow place held. still_given (terminal_in held) _ _ (λ id. refl))))
   still_shipped prim.WriteByte of w args =
       still_untyped of _ _ (still_two args _ _ (λ a b. still_use a w _ _
-          (λ borrow place held. still_given (terminal_in held) _ _ (λ id. still_given (natural_in
-              (number_of Nat8 b)) _ _ (λ byte. refl)))))
+      (λ borrow place held. still_given (terminal_in held) _ _ (λ id. still_given (natural_in
+      (number_of Nat8 b)) _ _ (λ byte. refl)))))
   still_shipped prim.ReleaseTerminal of w args = still_untyped of _ _ (still_one args _ _
       (λ a. still_given (terminal_in a) _ _ (λ id. refl)))
 

@@ -29,7 +29,7 @@ muted_heard : (code : Code) (byte : Option ℕ) (instr : Option Instr) (m : Mach
 muted_heard code byte (Some (Shipped call of order)) m =
     muted_all (arity call) m _ (λ values k. muted_having (ordered_if order values) _ _ (λ values.
     ap (λ (said : answer.Answer ℕ ℕ). answered said (muted k)) (still_one values _ _
-        (still_read byte k.world))
+    (still_read byte k.world))
     ∙ muted_answered (of_one (byte_read byte k.world) values) k))
 muted_heard code byte other m = refl
 
@@ -51,7 +51,7 @@ muted_on code (goes m) run go h = muted_after (goes m) run go h
 muted_on code (writes bytes m) run go h = muted_after (writes bytes m) run go h
 muted_on code waits run go h =
     ap (λ (n : Next). after n (muted_run (record run { left = rest_of run.left })) go) (muted_heard code
-        (byte_taken run.left) (fetched code run.machine) run.machine)
+    (byte_taken run.left) (fetched code run.machine) run.machine)
     ∙ muted_after (heard code (byte_taken run.left) run.machine) (record run { left = rest_of run.left }) go h
 muted_on code (exits success m) run go h = refl
 muted_on code (aborts fault m) run go h = refl
@@ -63,7 +63,7 @@ unfolding exec
 muted_exec code zero run = refl
 muted_exec code (suc limit) run =
     ap (λ (n : Next). on_next code n (muted_run run) (exec code limit)) (muted_if_any code
-        (fetched code run.machine) run.machine)
+    (fetched code run.machine) run.machine)
     ∙ muted_on code (next code run.machine) run (exec code limit) (muted_exec code limit)
 
 muted_along : {A : Type 0} (one : Option A) (f g : A → Option Machine) → ((x : A)
@@ -87,5 +87,5 @@ pub kept : (code : Code) (input : List ℕ) (limit : ℕ)
     → low_run false code input limit ≡ without_events (low_run true code input limit)
 kept code input limit =
     ap (λ (m : Option Machine). run_from code m input limit) (muted_along
-        (slice_get code.functions 0) _ _ (muted_entry code.root (length code.types)))
+    (slice_get code.functions 0) _ _ (muted_entry code.root (length code.types)))
     ∙ muted_from code (first true code) input limit

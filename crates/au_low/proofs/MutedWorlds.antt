@@ -30,17 +30,23 @@ hushed_base (name_of frame name) value world = refl
 hushed_base (content_of birth) value world = refl
 
 hushed_there : {T B : Type 0} (place : Place) (new base : Value T) (world : World T B) (old : Option
-    (Value T)) → along old (λ (o : Value T). Some (o, base_set place.base
-        (with_part place.path new base) (hushed world)))
-            ≡ option_map pair_hushed (along old (λ (o : Value T). Some (o, base_set place.base
-                (with_part place.path new base) world)))
+    (Value T)) → along old (λ (o : Value T). Some (
+      o,
+      base_set place.base
+          (with_part place.path new base) (hushed world),
+    ))
+    ≡ option_map pair_hushed (along old (λ (o : Value T). Some (
+      o,
+      base_set place.base
+          (with_part place.path new base) world,
+    )))
 hushed_there place new base world None = refl
 hushed_there {T} {B} place new base world (Some old) = ap (λ (w : World T B). Some (old, w))
     (hushed_base place.base (with_part place.path new base) world)
 
 hushed_over : {T B : Type 0} (place : Place) (new : Value T) (world : World T B) (base : Option
     (Value T)) → set_over place new (hushed world) base
-        ≡ option_map pair_hushed (set_over place new world base)
+    ≡ option_map pair_hushed (set_over place new world base)
 hushed_over place new world None = refl
 hushed_over place new world (Some base) = hushed_there place new base world (part place.path base)
 
@@ -54,4 +60,4 @@ pub hushed_exchanged : {T B : Type 0} (place : Place) (new : Value T) (world : W
     → exchanged place new (hushed world) ≡ option_map pair_hushed (exchanged place new world)
 hushed_exchanged place new world =
     ap (set_over place new (hushed world)) (hushed_at place.base world)
-        ∙ hushed_over place new world (base_at place.base world)
+    ∙ hushed_over place new world (base_at place.base world)

@@ -20,4 +20,4 @@ returns c =
     ∙ ap (λ (x : ℤ). answer.value (truth (truth_of order x (to_z w128 (of_z w128 b))))) (to_z-of_z first)
     ∙ ap (λ (y : ℤ). answer.value (truth (truth_of order a y))) (to_z-of_z second)
     ∙ both_there (λ x y. answer.value (truth
-        (truth_of order x y))) _ _ a b c.in-Some.ensures.is c.in-Some-number_of.ensures.is
+    (truth_of order x y))) _ _ a b c.in-Some.ensures.is c.in-Some-number_of.ensures.is

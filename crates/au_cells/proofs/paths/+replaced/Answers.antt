@@ -11,14 +11,14 @@ pub replace_field-returns-then-index-len-clause-whole : goal.replace_field-retur
 replace_field-returns-then-index-len-clause-whole t c =
     let fields = c.args.fields.now in
     let past : length fields.items ≤ c.args.index = omega
-        (arith, fields.ok.0, c.len.ensures, c.if-index-len.true) in
+    (arith, fields.ok.0, c.len.ensures, c.if-index-len.true) in
     past_whole (effect.with_part c.args.rest.now (low c.args.new)) fields.items c.args.index past
 
 pub replace_field-returns-then-index-len-clause-old : goal.replace_field-returns-then-index-len-clause-old
 replace_field-returns-then-index-len-clause-old t c =
     let fields = c.args.fields.now in
     let past : length fields.items ≤ c.args.index = omega
-        (arith, fields.ok.0, c.len.ensures, c.if-index-len.true) in
+    (arith, fields.ok.0, c.len.ensures, c.if-index-len.true) in
     past_old c.args.rest.now fields.items c.args.index past
 
 pub replace_field-returns-clause-whole : goal.replace_field-returns-clause-whole
@@ -26,23 +26,23 @@ replace_field-returns-clause-whole t c =
     let fields = c.args.fields.now in
     let held = c.replace-held.result in
     let within : c.args.index < length fields.items = omega
-        (arith, fields.ok.0, c.len.ensures, c.if-index-len.false) in
+    (arith, fields.ok.0, c.len.ensures, c.if-index-len.false) in
     let is : held ≡ get_or fields.items c.args.index held =
     c.replace-held.ensures.value ∙ c.index_mut.ensures.value
-        ∙ ap (get_or fields.items c.args.index) (sym c.replace-held.ensures.value) in
+    ∙ ap (get_or fields.items c.args.index) (sym c.replace-held.ensures.value) in
     found_whole (effect.with_part c.args.rest.now
-        (low c.args.new)) fields.items c.args.index held c.replace-held.new.dest
-        c.replaced-whole.result.whole within is c.replaced-whole.ensures.whole
+    (low c.args.new)) fields.items c.args.index held c.replace-held.new.dest
+    c.replaced-whole.result.whole within is c.replaced-whole.ensures.whole
 
 pub replace_field-returns-clause-old : goal.replace_field-returns-clause-old
 replace_field-returns-clause-old t c =
     let fields = c.args.fields.now in
     let held = c.replace-held.result in
     let within : c.args.index < length fields.items = omega
-        (arith, fields.ok.0, c.len.ensures, c.if-index-len.false) in
+    (arith, fields.ok.0, c.len.ensures, c.if-index-len.false) in
     let is : held ≡ get_or fields.items c.args.index held =
     c.replace-held.ensures.value ∙ c.index_mut.ensures.value
-        ∙ ap (get_or fields.items c.args.index) (sym c.replace-held.ensures.value) in
+    ∙ ap (get_or fields.items c.args.index) (sym c.replace-held.ensures.value) in
     c.replaced-whole.ensures.old ∙ found_old c.args.rest.now fields.items c.args.index held within is
 
 pub replaced-returns-in-Made-clause-whole : goal.replaced-returns-in-Made-clause-whole
@@ -55,8 +55,8 @@ replaced-returns-in-Made-clause-whole t c =
     made_whole c.args.cell c.in-Made.parts _ path rest index (low c.args.new) c.in-Made.is begins
     (ap (λ (parts : Parts). parts.tag) d) (ap (λ (parts : Parts). parts.birth) d)
     (c.replace_field-old.ensures.whole
-        ∙ ap (λ (parts : Parts). effect.with_nth index (effect.with_part rest (low c.args.new))
-            (fields_of (lows parts.fields.items))) d)
+    ∙ ap (λ (parts : Parts). effect.with_nth index (effect.with_part rest (low c.args.new))
+    (fields_of (lows parts.fields.items))) d)
 
 pub replaced-returns-in-Made-clause-old : goal.replaced-returns-in-Made-clause-old
 replaced-returns-in-Made-clause-old t c =
@@ -66,8 +66,8 @@ replaced-returns-in-Made-clause-old t c =
     let begins = path_begins path (sym c.is_empty.ensures ∙ c.if-is_empty.false) in
     made_old c.args.cell c.in-Made.parts path rest index _ c.in-Made.is begins
     (c.replace_field-old.ensures.old
-        ∙ ap (λ (parts : Parts). effect.along (effect.nth_field index (fields_of
-            (lows parts.fields.items))) (effect.part rest)) c.deref_mut.ensures.value)
+    ∙ ap (λ (parts : Parts). effect.along (effect.nth_field index (fields_of
+    (lows parts.fields.items))) (effect.part rest)) c.deref_mut.ensures.value)
 
 pub replaced-returns-in_default : goal.replaced-returns-in_default
 replaced-returns-in_default t c =
