@@ -17,5 +17,7 @@ pub mod copying;
 pub mod forms;
 pub mod numbers;
 pub mod paths;
+#[cfg(test)]
+mod tests;
 
 pub use cells::{Borrowed, Cell, Computed, Parts, Start};

@@ -1,32 +1,15 @@
 //! Places, and what they hold.
 
-ghost use Rattle.std.specs.Prelude.{◌≡◌, slice_get};
+ghost use Rattle.std.specs.Prelude.{◌≡◌};
 ghost use Rattle.std.specs.Option.{option_map, option_copied};
-ghost use Rattle.au_effects.specs.Parts.{along};
 ghost use Rattle.au_effects.specs.Places as effect;
 ghost use Rattle.au_cells.specs.Cells.{low, base_of, place_of};
-ghost use Rattle.au_stores.specs.Stores.{world_of, slots_of};
+ghost use Rattle.au_stores.specs.Stores.{world_of};
 
+use crate::slots::held;
 use crate::worlds::World;
 use au_cells::paths::part;
 use au_cells::{Borrowed, Cell, Start};
-
-fn item(slots: &[Option<Cell>], slot: usize) -> Option<&Option<Cell>>
-    ensures { option_copied result ≡ slice_get slots.now slot }
-{
-    slots.get(slot)
-}
-
-/// What a slot of a frame holds.
-fn held(slots: &[Option<Cell>], slot: u32) -> Option<&Cell>
-    ensures { option_map low (option_copied result)
-        ≡ along (slice_get (slots_of slots.now) slot) (λ value. value) }
-{
-    match item(slots, slot as usize) {
-        Some(held) => held.as_ref(),
-        None => None,
-    }
-}
 
 impl World {
     /// What a slot of the frame of a number holds.

@@ -2,9 +2,10 @@
 
 ghost use Rattle.std.specs.Prelude.{◌≡◌, ◌<◌, [], length, replicate, slice_get, IsTrue, ◌↔◌, OnOk, None};
 ghost use Rattle.std.specs.Option.{option_map, option_copied};
+ghost use Rattle.au_effects.specs.Parts.{along};
 ghost use Rattle.au_effects.specs.Places.{at, name_at, name_set};
 ghost use Rattle.au_cells.specs.Cells.{low};
-ghost use Rattle.au_stores.specs.Stores.{world_of, top_frame, slot_place, with_frame, without_frames};
+ghost use Rattle.au_stores.specs.Stores.{world_of, slots_of, top_frame, slot_place, with_frame, without_frames};
 
 use crate::worlds::World;
 use au_base::Memory;
@@ -12,10 +13,21 @@ use au_cells::Cell;
 use au_cells::paths::part;
 use au_piles::Piles;
 
-fn nth(slots: &[Option<Cell>], slot: usize) -> Option<&Option<Cell>>
+fn item(slots: &[Option<Cell>], slot: usize) -> Option<&Option<Cell>>
     ensures { option_copied result ≡ slice_get slots.now slot }
 {
     slots.get(slot)
+}
+
+/// What a slot of some frame's slots holds.
+pub(crate) fn held(slots: &[Option<Cell>], slot: u32) -> Option<&Cell>
+    ensures { option_map low (option_copied result)
+        ≡ along (slice_get (slots_of slots.now) slot) (λ value. value) }
+{
+    match item(slots, slot as usize) {
+        Some(held) => held.as_ref(),
+        None => None,
+    }
 }
 
 /// Puts empty slots upon an empty pile.
@@ -42,10 +54,7 @@ impl World {
         ensures { option_map low (option_copied result)
             ≡ name_at (top_frame self.now) slot (world_of self.now) }
     {
-        match nth(self.slots.top(), slot as usize) {
-            Some(held) => held.as_ref(),
-            None => None,
-        }
+        held(self.slots.top(), slot)
     }
 
     /// Puts a value into a slot of the running frame, or empties it.

@@ -1,6 +1,6 @@
 //! The world: what there is of frames and births, and what is told of it.
 
-ghost use Rattle.std.specs.Prelude.{◌≡◌, ◌<◌, ◌≤◌, ◌+◌, [], length, IfOk, OnOk};
+ghost use Rattle.std.specs.Prelude.{◌≡◌, ◌<◌, ◌≤◌, ◌∷◌, [], length, IfOk, OnOk};
 ghost use Rattle.au_base.specs.Limits.{most_name_bytes};
 ghost use Rattle.au_effects.specs.Worlds as effect;
 ghost use Rattle.au_low.specs.Runs.{first_world};
@@ -89,6 +89,17 @@ impl World {
         ensures { OnOk result (world_of self.new ≡ effect.tells (effect.used borrow) (world_of self.old)) }
     {
         self.tell(Event::Used(borrow))
+    }
+
+    /// Tells that a borrow was closed.
+    ///
+    /// # Errors
+    ///
+    /// `Memory` when memory runs out.
+    pub fn tell_close(&mut self, borrow: u64) -> Result<(), Memory>
+        ensures { OnOk result (world_of self.new ≡ effect.closes (borrow ∷ []) (world_of self.old)) }
+    {
+        self.tell(Event::Closed(borrow))
     }
 
     /// Opens the next borrow, and gives its number.

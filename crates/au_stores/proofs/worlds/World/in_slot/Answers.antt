@@ -1,21 +1,14 @@
 -- What a slot of the running frame holds, in the world that the stores are.
-use Rattle.std.proofs.Common.{List, Option, slice_get, ap, sym, ◌∙◌}
-use Rattle.std.specs.Option.{option_map}
+use Rattle.std.proofs.Common.{List, Option, Some, slice_get, ap, ◌∙◌}
 use Rattle.au_effects.specs.Parts.{along}
 use Rattle.au_cells.specs.declared.cells.Cell.{Cell}
-use Rattle.au_cells.specs.Cells.{low}
-use Rattle.au_stores.proofs.StoreLemmas.{in_top}
+use Rattle.au_stores.specs.Stores.{slots_of, top_frame}
+use Rattle.au_stores.proofs.StoreLemmas.{name_in, top_slots}
 use Rattle.au_stores.proofs.worlds.World.in_slot.Goals as goal
 
-pub returns-in-Some : goal.returns-in-Some
-returns-in-Some c =
-    ap (option_map low) c.as_ref.ensures.value
-    ∙ ap (λ (found : Option (Option Cell)). along found (option_map low)) c.in-Some.ensures
-    ∙ ap (λ (slots : List (Option Cell)). along (slice_get slots c.args.slot) (option_map low)) c.top.ensures
-    ∙ sym (in_top c.args.self.now c.args.slot)
-
-pub returns-in-None : goal.returns-in-None
-returns-in-None c =
-    ap (λ (found : Option (Option Cell)). along found (option_map low)) c.in-None.ensures
-    ∙ ap (λ (slots : List (Option Cell)). along (slice_get slots c.args.slot) (option_map low)) c.top.ensures
-    ∙ sym (in_top c.args.self.now c.args.slot)
+pub returns : goal.returns
+returns c =
+    let w = c.args.self.now in
+    c.held.ensures
+    ∙ ap (λ (slots : List (Option Cell)). along (slice_get (slots_of slots) c.args.slot) (λ value. value)) c.top.ensures
+    ∙ name_in w (top_frame w) c.args.slot (Some (slots_of w.slots.0)) (top_slots w)
