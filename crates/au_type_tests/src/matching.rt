@@ -2,7 +2,7 @@
 
 use au_base::{Memory, Name};
 use au_matching::{Match, Substitution, fixes, match_types, substitute};
-use au_types::{Arg, DeclAt, Ty, is_same};
+use au_types::{Arg, DeclAt, Region, Ty, is_same};
 use std::alloc::Global;
 use std::test::Fail;
 
@@ -66,6 +66,33 @@ fn a_match_fails_late(rt: HostRuntime) -> Result<(), Fail> {
     Ok(())
 }
 
+/// The region of a name of one letter.
+fn region(alloc: Global, letter: u8) -> Result<Arg, Memory> {
+    Ok(Arg::In(Region::Named(Name::copy_of(alloc, &[letter])?)))
+}
+
+/// The declared type of two regions.
+fn of_regions(alloc: Global, first: u8, second: u8) -> Result<Ty, Memory> {
+    let first = region(alloc, first)?;
+    let second = region(alloc, second)?;
+    pair(alloc, first, second)
+}
+
+/// Whether the pattern that has one region twice matches the declared type of two regions.
+fn takes_regions(alloc: Global, first: u8, second: u8) -> Result<bool, Memory> {
+    let pattern = of_regions(alloc, b'R', b'R')?;
+    let target = of_regions(alloc, first, second)?;
+    fits(alloc, &pattern, &target, Substitution::new(alloc))
+}
+
+/// A region may be fixed twice by one region, and not by two.
+#[test]
+fn a_region_is_fixed_twice(rt: HostRuntime) -> Result<(), Fail> {
+    assert!(rt; takes_regions(rt.alloc(), b'A', b'A')?);
+    assert!(rt; !takes_regions(rt.alloc(), b'A', b'B')?);
+    Ok(())
+}
+
 /// The substitution that gives T the truth values.
 fn known(alloc: Global) -> Result<Substitution, Memory> {
     let mut s = Substitution::new(alloc);
@@ -73,7 +100,7 @@ fn known(alloc: Global) -> Result<Substitution, Memory> {
     Ok(s)
 }
 
-/// What a substitution lists is found, and it fixes the type in which nothing else stands.
+/// What a substitution lists is found. It fixes a type in which no other name stands, and no type with one.
 #[test]
 fn a_listed_name_is_found(rt: HostRuntime) -> Result<(), Fail> {
     let s = known(rt.alloc())?;
@@ -82,5 +109,6 @@ fn a_listed_name_is_found(rt: HostRuntime) -> Result<(), Fail> {
     let name = Name::copy_of(rt.alloc(), b"T")?;
     assert!(rt; copy.value_of(&name).is_some());
     assert!(rt; fixes(&copy, &Ty::Param(name)));
+    assert!(rt; !fixes(&copy, &of_regions(rt.alloc(), b'R', b'S')?));
     Ok(())
 }
