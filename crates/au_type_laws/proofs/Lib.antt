@@ -1,0 +1,2 @@
+pub mod UniverseLemmas
+pub mod FormedLemmas

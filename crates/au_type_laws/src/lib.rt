@@ -1,0 +1,4 @@
+//! Laws that join substitutions and universes.
+#![tactic(auto)]
+
+pub mod laws;
