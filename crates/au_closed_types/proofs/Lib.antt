@@ -1,0 +1,6 @@
+pub mod ClosedLemmas
+pub mod ClosingLemmas
+pub mod SameLemmas
+pub mod TextLemmas
+pub mod TellLemmas
+pub mod SizeLemmas

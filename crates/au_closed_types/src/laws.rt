@@ -1,0 +1,28 @@
+//! Laws of closed types and of their texts.
+
+ghost use Rattle.std.specs.Prelude.{◌≡◌};
+ghost use Rattle.au_syntax.specs.Parts.{Each};
+ghost use Rattle.au_type_texts.specs.Examples.{rows};
+ghost use Rattle.au_closed_types.specs.Closing.{closed};
+ghost use Rattle.au_closed_types.specs.Examples.{cases, closings, examples};
+ghost use Rattle.au_closed_types.specs.Sizes.{depth_limit, depth_of, nodes_limit, nodes_of};
+ghost use Rattle.au_closed_types.specs.Texts.{text_of};
+ghost use Rattle.au_closed_types.specs.Told.{ClosedTextsTell, HasRows};
+
+/// Two closed types with one text are one type, where each declared type in them has a row, and the texts of
+/// the rows tell declarations apart.
+pub fn closed_texts_tell()
+    ensures { ClosedTextsTell }
+{}
+
+/// Types of each form close as it is written for them by hand, and closed types have the texts, the depths
+/// and the nodes that are written for them by hand. The rows of the examples are there.
+pub fn closed_examples_hold()
+    ensures closings { Each (λ one. closed one.of ≡ one.to) closings }
+    ensures stand { Each (λ one. HasRows rows one.of) examples }
+    ensures texts { Each (λ one. text_of rows one.of ≡ one.says) examples }
+    ensures depths { Each (λ one. depth_of one.of ≡ one.depth) examples }
+    ensures nodes { Each (λ one. nodes_of one.of ≡ one.nodes) examples }
+    ensures deep { Each (λ one. depth_limit one.of ≡ one.deep) cases }
+    ensures large { Each (λ one. nodes_limit one.of ≡ one.large) cases }
+{}
