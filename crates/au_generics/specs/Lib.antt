@@ -1,0 +1,4 @@
+pub mod Bounds
+pub mod Meanings
+pub mod Views
+pub mod Examples
