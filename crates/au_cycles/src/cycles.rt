@@ -1,6 +1,6 @@
 //! The first node of a graph that lies on a cycle.
 
-ghost use Rattle.std.specs.Prelude.{IfOk, MatchOption};
+ghost use Rattle.std.specs.Prelude.{◌≡◌, ◌↔◌, ℕ, IfOk, None, Some};
 ghost use Rattle.au_cycles.specs.Cycles.{HasNoCycle, IsFirstOnCycle};
 
 use crate::graphs::Graph;
@@ -19,10 +19,11 @@ use std::alloc::Global;
 ///
 /// `Memory` when memory runs out.
 pub fn first_on_cycle(alloc: Global, graph: &Graph) -> Result<Option<usize>, Memory>
-    ensures { IfOk result (λ first. MatchOption first (HasNoCycle graph.now) (IsFirstOnCycle graph.now)) }
+    ensures found { IfOk result (λ first. (k : ℕ) → (first ≡ Some k) ↔ IsFirstOnCycle graph.now k) }
+    ensures none { IfOk result (λ first. (first ≡ None) ↔ HasNoCycle graph.now) }
 {
     let done = peel(alloc, graph)?;
-    for node in 0..graph.len() {
+    for node in 0..graph.node_count() {
         if is_on_cycle(alloc, graph, &done, node)? {
             return Ok(Some(node));
         }

@@ -54,7 +54,7 @@ impl Graph {
     }
 
     /// How many nodes there are.
-    pub fn len(&self) -> usize
+    pub fn node_count(&self) -> usize
         ensures { result ≡ length self.now }
     {
         self.lists.len()

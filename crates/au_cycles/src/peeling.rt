@@ -102,9 +102,9 @@ fn peel_from(
 pub fn peel(alloc: Global, graph: &Graph) -> Result<Vec<bool>, Memory>
     ensures { IfOk result (λ done. IsPeeled graph.now done.items) }
 {
-    let mut seen = no_marks(alloc, graph.len())?;
-    let mut done = no_marks(alloc, graph.len())?;
-    for start in 0..graph.len() {
+    let mut seen = no_marks(alloc, graph.node_count())?;
+    let mut done = no_marks(alloc, graph.node_count())?;
+    for start in 0..graph.node_count() {
         peel_from(alloc, graph, start, &mut seen, &mut done)?;
     }
     Ok(done)
