@@ -28,23 +28,7 @@ pub one_more : (graph : List (List ℕ)) (a b c : ℕ) → Leads graph a b → N
 one_more graph a b c (directly x y names) last = onward x y c names (directly y c last)
 one_more graph a b c (onward x m y names rest) last = onward x m c names (one_more graph m y c rest last)
 
--- only one node is the first
-first_same : (graph : List (List ℕ)) (k j : ℕ) → IsFirstOnCycle graph k → IsFirstOnCycle graph j → k ≡ j
-first_same graph k j one other =
-    ⊎_elim
-    (λ same. same)
-    (λ apart. ⊎_elim (λ below. absurd (other.1 k below one.0)) (λ above. absurd (one.1 j above other.0)) apart)
-    (cases_order k j)
-
--- what is answered where the first was found
-pub found_some : (graph : List (List ℕ)) (k : ℕ) → IsFirstOnCycle graph k → (j : ℕ) → (Some k ≡ Some j) ↔ IsFirstOnCycle graph j
-found_some graph k first j =
-    (λ is. let same : k ≡ j = cc in subst (IsFirstOnCycle graph) same first, λ other. ap (λ (n : ℕ). Some n) (first_same graph k j first other))
-
-pub found_not_none : (graph : List (List ℕ)) (k : ℕ) → IsFirstOnCycle graph k → (◌≡◌ {A = Option ℕ} (Some k) None) ↔ HasNoCycle graph
-found_not_none graph k first = (λ is. absurd (cc), λ free. absurd (free k first.0))
-
--- and where none was
+-- what is answered where no node lies on a cycle
 pub none_not_some : (graph : List (List ℕ)) → HasNoCycle graph → (j : ℕ) → (◌≡◌ {A = Option ℕ} None (Some j)) ↔ IsFirstOnCycle graph j
 none_not_some graph free j = (λ is. absurd (cc), λ first. absurd (free j first.0))
 

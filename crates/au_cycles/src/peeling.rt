@@ -1,9 +1,9 @@
-//! Peeling a graph: nodes that lead to no cycle are taken off, one behind another.
+//! Peeling a graph: a node is taken off once all its successors are, so what is left leads to a cycle.
 
-ghost use Rattle.std.specs.Prelude.{◌≡◌, ◌≤◌, ◌<◌, ◌+◌, ◌*◌, IfOk, OnOk, length, take};
+ghost use Rattle.std.specs.Prelude.{◌≤◌, IfOk, OnOk, take};
 ghost use Rattle.std.specs.List.{All};
-ghost use Rattle.au_cycles.specs.Marks.{IsMarked, IsPeeled, unmarked};
-ghost use Rattle.au_cycles.specs.Peeling.{IsSizedAs, IsVisit};
+ghost use Rattle.au_cycles.specs.Marks.{IsMarked, IsPeeled};
+ghost use Rattle.au_cycles.specs.Peeling.{IsSizedAs, IsVisit, left_to_do};
 
 use crate::graphs::Graph;
 use crate::marks::{is_marked, no_marks};
@@ -12,10 +12,10 @@ use std::alloc::Global;
 
 /// A node of the path that is walked.
 #[derive(Clone, Copy)]
-pub struct Visit {
-    pub node: usize,
+struct Visit {
+    node: usize,
     /// How many of its successors are known to be done.
-    pub passed: usize,
+    passed: usize,
 }
 
 /// How many of these nodes are done up to the first that isn't, if so many of them are known to be.
@@ -48,7 +48,7 @@ fn go_on(
     ensures peeled { OnOk result (IsPeeled graph.now done.new.items) }
     ensures path { OnOk result (All (IsVisit graph.now done.new.items) path.new.items) }
     ensures less { OnOk result
-        (2 * unmarked seen.new.items + length path.new.items ≤ 2 * unmarked seen.old.items + length path.old.items) }
+        (left_to_do seen.new.items path.new.items ≤ left_to_do seen.old.items path.old.items) }
 {
     let nodes = graph.successors(visit.node);
     let passed = passed_on(nodes, done, visit.passed);
