@@ -1,9 +1,8 @@
 -- What leads where.
-use Rattle.std.proofs.Common.{◌≡◌, ℕ, ◌<◌, ◌≤◌, List, [], Some, None, length, get_or, refl, ap, subst, ⊎_elim, arith}
-use Rattle.std.proofs.lemmas.Bool.{cases_order}
+use Rattle.std.proofs.Common.{◌≡◌, ℕ, ◌<◌, ◌≤◌, List, [], Some, None, length, refl, subst, arith}
 use Rattle.std.proofs.lemmas.List.{get_or_past}
 use Rattle.std.specs.Prelude.{Bool, Option, ◌↔◌}
-use Rattle.au_cycles.specs.Cycles.{Names, Leads, directly, onward, IsOnCycle, IsFirstOnCycle, HasNoCycle}
+use Rattle.au_cycles.specs.Cycles.{Names, Leads, directly, onward, IsFirstOnCycle, HasNoCycle}
 use Rattle.au_cycles.specs.Marks.{IsMarked, IsClosed}
 
 -- a number that no node has names nothing

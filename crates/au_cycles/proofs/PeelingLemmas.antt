@@ -1,14 +1,10 @@
 -- The steps of a walk that peels a graph.
-use Rattle.std.proofs.Common.{◌≡◌, ℕ, ◌+◌, ◌*◌, ◌<◌, ◌≤◌, Bool, true, false, List, [], ◌∷◌, ◌++◌, length, take, get_or, set, refl, sym, ap, ◌∙◌, subst, arith}
+use Rattle.std.proofs.Common.{ℕ, ◌≤◌, Bool, List, length, take, subst}
 use Rattle.std.specs.List.{All}
 use Rattle.std.specs.Prelude.{Contains}
-use Rattle.std.proofs.lemmas.List.{take_all, take-take, length-set, length_push, get_or_read}
-use Rattle.std.proofs.lemmas.List.Elements.{All-contains, All-push, All-take, All-weaker, All-nil, All-cons}
-use Rattle.au_cycles.specs.Cycles.{successors, Names}
-use Rattle.au_cycles.specs.Marks.{IsMarked, IsPeeled, unmarked}
-use Rattle.au_cycles.specs.Peeling.{IsVisit, IsSizedAs}
-use Rattle.au_cycles.specs.declared.peeling.Visit.{Visit}
-use Rattle.au_cycles.proofs.MarkLemmas.{set_stays, set_left, peeled_more}
+use Rattle.std.proofs.lemmas.List.{take_all, take-take}
+use Rattle.std.proofs.lemmas.List.Elements.{All-contains, All-take}
+use Rattle.au_cycles.specs.Marks.{IsMarked}
 
 -- the front of a front
 pub less_passed : {X : Type 0} (P : X → Type 0) (n m : ℕ) (xs : List X) → n ≤ m → All P (take m xs) → All P (take n xs)

@@ -1,11 +1,11 @@
 -- The steps of a search.
-use Rattle.std.proofs.Common.{◌≡◌, ℕ, zero, suc, ◌+◌, ◌<◌, Bool, true, false, List, [], ◌∷◌, ◌++◌, length, get_or, set, refl, sym, ap, ◌∙◌, subst, inl, inr, ⊎_elim, arith}
+use Rattle.std.proofs.Common.{◌≡◌, ℕ, Bool, true, false, List, [], ◌∷◌, ◌++◌, get_or, set, refl, sym, ◌∙◌, subst, inl, inr, ⊎_elim, arith}
 use Rattle.std.specs.Prelude.{◌⊎◌, ◌↔◌, Contains}
 use Rattle.std.proofs.lemmas.Bool.{both_ways}
-use Rattle.std.proofs.lemmas.List.{length_push, length-append}
+use Rattle.std.proofs.lemmas.List.{length_push}
 use Rattle.std.proofs.lemmas.List.Elements.{Contains-append_left, Contains-append_right, Contains-append_cases, Contains-push, Contains-push_cases}
 use Rattle.au_cycles.specs.Cycles.{successors, Names, Leads, directly, onward, IsOnCycle}
-use Rattle.au_cycles.specs.Marks.{IsMarked, IsClosed, IsPeeled, Entered, unmarked}
+use Rattle.au_cycles.specs.Marks.{IsMarked, IsClosed, Entered}
 use Rattle.au_cycles.proofs.CycleLemmas.{one_more}
 use Rattle.au_cycles.proofs.MarkLemmas.{set_here, set_stays, set_only, set_left}
 

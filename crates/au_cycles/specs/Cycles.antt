@@ -1,5 +1,5 @@
 -- Directed graphs: the list of their nodes, and of each the list of its successors.
-use Rattle.std.specs.Prelude.{◌≡◌, ◌<◌, ℕ, List, [], ◌∷◌, ◌++◌, slice_index_or, slice_set, Contains}
+use Rattle.std.specs.Prelude.{◌<◌, ℕ, List, [], ◌∷◌, ◌++◌, slice_index_or, slice_set, Contains}
 
 -- the successors of a node; a number that no node has has none
 abbrev pub successors : List (List ℕ) → ℕ → List ℕ

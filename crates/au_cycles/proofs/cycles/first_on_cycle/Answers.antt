@@ -1,4 +1,4 @@
-use Rattle.std.proofs.Common.{ℕ, length, ⊎_elim, arith}
+use Rattle.std.proofs.Common.{length, ⊎_elim, arith}
 use Rattle.std.proofs.lemmas.Bool.{cases_lt}
 use Rattle.au_cycles.proofs.CycleLemmas.{past_leads, none_not_some, none_none}
 use Rattle.au_cycles.specs.Cycles.{HasNoCycle}
