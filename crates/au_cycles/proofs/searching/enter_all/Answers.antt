@@ -1,8 +1,11 @@
 use Rattle.std.proofs.Common.{ℕ, List, [], ◌∷◌, take, get_or, sym, subst, arith}
 use Rattle.std.proofs.lemmas.List.{take_more}
 use Rattle.au_cycles.specs.Marks.{Entered}
-use Rattle.au_cycles.proofs.SearchLemmas.{entered_both}
+use Rattle.au_cycles.proofs.SearchLemmas.{entered_both, entered_none}
 use Rattle.au_cycles.proofs.searching.enter_all.Goals as goal
+
+pub loop-node-init : goal.loop-node-init
+loop-node-init c = entered_none c.args.seen.now.items c.args.work.now.items
 
 pub loop-node-preserved : goal.loop-node-preserved
 loop-node-preserved c =

@@ -1,8 +1,17 @@
 use Rattle.std.proofs.Common.{ℕ, Bool, true, List, get_or, ap, sym, subst, ◌∙◌}
 use Rattle.std.proofs.lemmas.List.{nil_from_length}
 use Rattle.au_cycles.specs.Marks.{Entered}
-use Rattle.au_cycles.proofs.SearchLemmas.{Searched, searched_more, searched_end}
+use Rattle.au_cycles.proofs.SearchLemmas.{Searched, searched_start, searched_more, searched_end}
 use Rattle.au_cycles.proofs.searching.is_on_cycle.Goals as goal
+
+pub loop-next-init : goal.loop-next-init
+loop-next-init c =
+    let graph = c.args.graph.now in
+    let done = c.args.done.now.items in
+    let node = c.args.node in
+    let start = searched_start graph done node c.requires.closed in
+    subst (λ (seen : List Bool). Searched graph done node seen c.in_ok-work.work.items) (sym (c.in_ok-seen.ensures.items ∙ c.deref-2.ensures.value))
+    (subst (λ (work : List ℕ). Searched graph done node done work) (sym c.in_ok-work.ensures.items) start)
 
 pub loop-next-preserved : goal.loop-next-preserved
 loop-next-preserved c =
