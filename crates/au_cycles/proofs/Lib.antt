@@ -1,0 +1,5 @@
+pub mod CycleLemmas
+pub mod GraphLemmas
+pub mod MarkLemmas
+pub mod PeelingLemmas
+pub mod SearchLemmas

@@ -1,0 +1,4 @@
+pub mod Cycles
+pub mod Lists
+pub mod Marks
+pub mod Peeling
