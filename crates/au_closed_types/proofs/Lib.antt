@@ -1,5 +1,6 @@
 pub mod ClosedLemmas
 pub mod ClosingLemmas
+pub mod ParameterLemmas
 pub mod SameLemmas
 pub mod TextLemmas
 pub mod TellLemmas

@@ -1,6 +1,7 @@
 pub mod Types
 pub mod Views
 pub mod Closing
+pub mod Parameters
 pub mod Same
 pub mod Texts
 pub mod Told

@@ -1,13 +1,20 @@
 //! Laws of closed types and of their texts.
 
-ghost use Rattle.std.specs.Prelude.{◌≡◌};
+ghost use Rattle.std.specs.Prelude.{◌≡◌, is_some, not};
 ghost use Rattle.au_syntax.specs.Parts.{Each};
+ghost use Rattle.au_types.specs.Types.{Meaning};
 ghost use Rattle.au_type_texts.specs.Examples.{rows};
 ghost use Rattle.au_closed_types.specs.Closing.{closed};
 ghost use Rattle.au_closed_types.specs.Examples.{cases, closings, examples};
+ghost use Rattle.au_closed_types.specs.Parameters.{has_parameter};
 ghost use Rattle.au_closed_types.specs.Sizes.{depth_limit, depth_of, nodes_limit, nodes_of};
 ghost use Rattle.au_closed_types.specs.Texts.{text_of};
 ghost use Rattle.au_closed_types.specs.Told.{ClosedTextsTell, HasRows};
+
+/// A type closes exactly where no type parameter stands in it.
+pub fn what_closes()
+    ensures { (t : Meaning) → is_some (closed t) ≡ not (has_parameter t) }
+{}
 
 /// Two closed types with one text are one type, where each declared type in them has a row, and the texts of
 /// the rows tell declarations apart.
