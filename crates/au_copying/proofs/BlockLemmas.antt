@@ -6,6 +6,7 @@ use Rattle.au_base.specs.declared.places.Pos.{Pos}
 use Rattle.au_syntax.specs.declared.phases.Phase.{Ghosts}
 use Rattle.au_syntax.specs.declared.types.Access.{Access}
 use Rattle.au_syntax.specs.declared.types.TypeText.{TypeText}
+use Rattle.au_syntax.specs.declared.names.BorrowNames.{BorrowNames}
 use Rattle.au_syntax.specs.declared.names.Ident.{Ident}
 use Rattle.au_syntax.specs.declared.expressions.BorrowMode.{BorrowMode}
 use Rattle.au_syntax.specs.declared.expressions.Expr.{Expr}
@@ -35,16 +36,18 @@ module _ {X N T C : Type 0} (g : Ghosts X N T C) (old : Stmt X N T C) where
       ∙ ap (for_loop at (placed g n) (expression g a.value) (expression g z.value)) same
       ∙ sym (ap (statement g) is ∙ for_says g at n a z b)
 
-  pub borrow_copied : (at : Pos) (access : Access) (x x' r r' region region' : Ident X N T C) (b b' : Block X N T C) (stop : Pos) →
-      old ≡ code.Borrow at access x r region b stop → placed g x' ≡ placed g x → placed g r' ≡ placed g r → placed g region' ≡ placed g region → block g b' ≡ block g b →
-      statement g (code.Borrow at access x' r' region' b' stop) ≡ statement g old
-  borrow_copied at access x x' r r' region region' b b' stop is variable name within same =
-      borrow_says g at access x' r' region' b' stop
-      ∙ ap (λ m. borrow_in at access m (placed g r') (placed g region') (block g b') stop) variable
-      ∙ ap (λ m. borrow_in at access (placed g x) m (placed g region') (block g b') stop) name
-      ∙ ap (λ m. borrow_in at access (placed g x) (placed g r) m (block g b') stop) within
-      ∙ ap (λ ss. borrow_in at access (placed g x) (placed g r) (placed g region) ss stop) same
-      ∙ sym (ap (statement g) is ∙ borrow_says g at access x r region b stop)
+  pub borrow_copied : (at : Pos) (access : Access) (n n' : BorrowNames X N T C) (b b' : Block X N T C) (stop : Pos) →
+      old ≡ code.Borrow at access n b stop →
+      placed g n'.variable ≡ placed g n.variable → placed g n'.reference ≡ placed g n.reference →
+      placed g n'.region ≡ placed g n.region → block g b' ≡ block g b →
+      statement g (code.Borrow at access n' b' stop) ≡ statement g old
+  borrow_copied at access n n' b b' stop is variable reference region same =
+      borrow_says g at access n' b' stop
+      ∙ ap (λ m. borrow_in at access m (placed g n'.reference) (placed g n'.region) (block g b') stop) variable
+      ∙ ap (λ m. borrow_in at access (placed g n.variable) m (placed g n'.region) (block g b') stop) reference
+      ∙ ap (λ m. borrow_in at access (placed g n.variable) (placed g n.reference) m (block g b') stop) region
+      ∙ ap (λ ss. borrow_in at access (placed g n.variable) (placed g n.reference) (placed g n.region) ss stop) same
+      ∙ sym (ap (statement g) is ∙ borrow_says g at access n b stop)
 
   pub borrow_typed_copied : (at : Pos) (r r' : Ident X N T C) (t t' : TypeText) (mode : BorrowMode) (x x' : Ident X N T C) (b b' : Block X N T C) (stop : Pos) →
       old ≡ code.BorrowTyped at r t mode x b stop → placed g r' ≡ placed g r → written t' ≡ written t → placed g x' ≡ placed g x → block g b' ≡ block g b →

@@ -49,7 +49,7 @@ fn statement_depth<P: Phase>(stmt: &Stmt<P>) -> u32
             let inner = deeper(expression_depth(last), block_depth(block));
             one_more(deeper(expression_depth(first), inner))
         }
-        Stmt::Borrow(_, _, _, _, _, block, _) => one_more(block_depth(block)),
+        Stmt::Borrow(_, _, _, block, _) => one_more(block_depth(block)),
         Stmt::BorrowTyped(_, _, _, _, _, block, _) => one_more(block_depth(block)),
         Stmt::Call(_, expr) => one_more(expression_depth(expr)),
         Stmt::Return(_, expr) => one_more(expression_depth(expr)),

@@ -7,7 +7,7 @@ use crate::copied::{Copied, copy_all};
 use crate::expressions::copy_boxed;
 use crate::types::copy_type;
 use au_base::Memory;
-use au_syntax::{Arm, Bind, Block, Branch, Expr, Ident, Phase, Stmt, TypeText};
+use au_syntax::{Arm, Bind, Block, BorrowNames, Branch, Expr, Ident, Phase, Stmt, TypeText};
 use std::alloc::Global;
 
 /// The name, the type and the value of a declared variable.
@@ -64,20 +64,19 @@ fn copy_range<P: Phase>(
 }
 
 /// The three names of a borrowing block.
-fn copy_names<P: Phase>(
-    alloc: Global,
-    of: &Ident<P>,
-    name: &Ident<P>,
-    region: &Ident<P>,
-) -> Result<(Ident<P>, Ident<P>, Ident<P>), Memory>
-    ensures of { IfOk result (λ copy. placed P.Phase copy.0 ≡ placed P.Phase of.now) }
-    ensures name { IfOk result (λ copy. placed P.Phase copy.1 ≡ placed P.Phase name.now) }
-    ensures region { IfOk result (λ copy. placed P.Phase copy.2 ≡ placed P.Phase region.now) }
+fn copy_borrow_names<P: Phase>(alloc: Global, of: &BorrowNames<P>) -> Result<BorrowNames<P>, Memory>
+    ensures variable { IfOk result (λ copy. placed P.Phase copy.variable ≡ placed P.Phase of.now.variable) }
+    ensures reference { IfOk result (λ copy. placed P.Phase copy.reference ≡ placed P.Phase of.now.reference) }
+    ensures region { IfOk result (λ copy. placed P.Phase copy.region ≡ placed P.Phase of.now.region) }
 {
-    let of = of.copy(alloc)?;
-    let name = name.copy(alloc)?;
-    let region = region.copy(alloc)?;
-    Ok((of, name, region))
+    let variable = of.variable.copy(alloc)?;
+    let reference = of.reference.copy(alloc)?;
+    let region = of.region.copy(alloc)?;
+    Ok(BorrowNames {
+        variable,
+        reference,
+        region,
+    })
 }
 
 /// The names and the type of a borrowing block with a type.
@@ -137,10 +136,10 @@ fn copy_statement<P: Phase>(alloc: Global, of: &Stmt<P>) -> Result<Stmt<P>, Memo
             let (name, from, to) = copy_range(alloc, name, from, to)?;
             Ok(Stmt::For(*at, name, from, to, copy_block(alloc, body)?))
         }
-        Stmt::Borrow(at, access, variable, name, region, body, end) => {
-            let (variable, name, region) = copy_names(alloc, variable, name, region)?;
+        Stmt::Borrow(at, access, names, body, end) => {
+            let names = copy_borrow_names(alloc, names)?;
             let body = copy_block(alloc, body)?;
-            Ok(Stmt::Borrow(*at, *access, variable, name, region, body, *end))
+            Ok(Stmt::Borrow(*at, *access, names, body, *end))
         }
         Stmt::BorrowTyped(at, name, text, mode, variable, body, end) => {
             let (name, text, variable) = copy_typed(alloc, name, text, variable)?;

@@ -10,6 +10,7 @@ use Rattle.au_base.specs.declared.places.Pos.{Pos}
 use Rattle.au_syntax.specs.declared.phases.Phase.{Ghosts}
 use Rattle.au_syntax.specs.declared.types.TypeText.{TypeText}
 use Rattle.au_syntax.specs.declared.types.Access.{Access}
+use Rattle.au_syntax.specs.declared.names.BorrowNames.{BorrowNames}
 use Rattle.au_syntax.specs.declared.names.Ident.{Ident}
 use Rattle.au_syntax.specs.declared.expressions.BorrowMode.{BorrowMode}
 use Rattle.au_syntax.specs.declared.expressions.Expr.{Expr}
@@ -39,7 +40,7 @@ module _ {X N T C : Type 0} where
     size (code.Case' at e shape as') = 1 + row_arm_size as'
     size (code.While' at e shape ss) = 1 + row_size ss
     size (code.For' at n a b shape ss) = 1 + row_size ss
-    size (code.Borrow' at access x r region shape ss stop) = 1 + row_size ss
+    size (code.Borrow' at access ns shape ss stop) = 1 + row_size ss
     size (code.BorrowTyped' at r t mode x shape ss stop) = 1 + row_size ss
     size (code.Call at e) = 1
     size (code.Return at e) = 1
@@ -111,8 +112,10 @@ module _ {X N T C : Type 0} where
   pub size_for : (old : Stmt X N T C) (at : Pos) (n : Ident X N T C) (a : Box (Expr X N T C) Global) (z : Box (Expr X N T C) Global) (b : Block X N T C) → old ≡ code.For at n a z b → size old ≡ 1 + sizes b.statements.items
   size_for old at n a z b is = ap size is ∙ ap (λ k. 1 + k) (block_size_is b)
 
-  pub size_borrow : (old : Stmt X N T C) (at : Pos) (access : Access) (x : Ident X N T C) (r : Ident X N T C) (region : Ident X N T C) (b : Block X N T C) (stop : Pos) → old ≡ code.Borrow at access x r region b stop → size old ≡ 1 + sizes b.statements.items
-  size_borrow old at access x r region b stop is = ap size is ∙ ap (λ k. 1 + k) (block_size_is b)
+  pub size_borrow : (old : Stmt X N T C) (at : Pos) (access : Access) (ns : BorrowNames X N T C)
+      (b : Block X N T C) (stop : Pos) → old ≡ code.Borrow at access ns b stop →
+      size old ≡ 1 + sizes b.statements.items
+  size_borrow old at access ns b stop is = ap size is ∙ ap (λ k. 1 + k) (block_size_is b)
 
   pub size_borrow_typed : (old : Stmt X N T C) (at : Pos) (r : Ident X N T C) (t : TypeText) (mode : BorrowMode) (x : Ident X N T C) (b : Block X N T C) (stop : Pos) → old ≡ code.BorrowTyped at r t mode x b stop → size old ≡ 1 + sizes b.statements.items
   size_borrow_typed old at r t mode x b stop is = ap size is ∙ ap (λ k. 1 + k) (block_size_is b)
@@ -164,8 +167,11 @@ module _ {X N T C : Type 0} (g : Ghosts X N T C) (bytes : g.SeenName → Bytes) 
   plain_for : (at : Pos) (n : Ident X N T C) (a : Box (Expr X N T C) Global) (z : Box (Expr X N T C) Global) (b : Block X N T C) → plain_statement bytes (statement g (code.For at n a z b)) ≡ for_loop at (plain_name bytes (placed g n)) (plain_expression bytes (expression g a.value)) (plain_expression bytes (expression g z.value)) (plain_statements bytes (block g b))
   plain_for at n a z b = ap (plain_statement bytes) (for_says g at n a z b)
 
-  plain_borrow : (at : Pos) (access : Access) (x : Ident X N T C) (r : Ident X N T C) (region : Ident X N T C) (b : Block X N T C) (stop : Pos) → plain_statement bytes (statement g (code.Borrow at access x r region b stop)) ≡ borrow_in at access (plain_name bytes (placed g x)) (plain_name bytes (placed g r)) (plain_name bytes (placed g region)) (plain_statements bytes (block g b)) stop
-  plain_borrow at access x r region b stop = ap (plain_statement bytes) (borrow_says g at access x r region b stop)
+  plain_borrow : (at : Pos) (access : Access) (ns : BorrowNames X N T C) (b : Block X N T C) (stop : Pos) →
+      plain_statement bytes (statement g (code.Borrow at access ns b stop))
+      ≡ borrow_in at access (plain_name bytes (placed g ns.variable)) (plain_name bytes (placed g ns.reference))
+      (plain_name bytes (placed g ns.region)) (plain_statements bytes (block g b)) stop
+  plain_borrow at access ns b stop = ap (plain_statement bytes) (borrow_says g at access ns b stop)
 
   plain_borrow_typed : (at : Pos) (r : Ident X N T C) (t : TypeText) (mode : BorrowMode) (x : Ident X N T C) (b : Block X N T C) (stop : Pos) → plain_statement bytes (statement g (code.BorrowTyped at r t mode x b stop)) ≡ borrow_typed at (plain_name bytes (placed g r)) (written t) mode (plain_name bytes (placed g x)) (plain_statements bytes (block g b)) stop
   plain_borrow_typed at r t mode x b stop = ap (plain_statement bytes) (borrow_typed_says g at r t mode x b stop)
@@ -210,12 +216,21 @@ module _ {X N T C Y M U D : Type 0} (g : Ghosts X N T C) (h : Ghosts Y M U D) (b
       let same : for_loop at (plain_name bg (placed g n)) (plain_expression bg (expression g a.value)) (plain_expression bg (expression g z.value)) (plain_statements bg (block g b)) ≡ for_loop at (plain_name bh (placed h n')) (plain_expression bh (expression h a'.value)) (plain_expression bh (expression h z'.value)) (plain_statements bh (block h b')) = cc in
       plain_for g bg at n a z b ∙ same ∙ sym (plain_for h bh at n' a' z' b')
 
-  pub borrow_same : (at : Pos) (access : Access) (x : Ident X N T C) (r : Ident X N T C) (region : Ident X N T C) (b : Block X N T C) (stop : Pos) (x' : Ident Y M U D) (r' : Ident Y M U D) (region' : Ident Y M U D) (b' : Block Y M U D) →
-      plain_name bg (placed g x) ≡ plain_name bh (placed h x') → plain_name bg (placed g r) ≡ plain_name bh (placed h r') → plain_name bg (placed g region) ≡ plain_name bh (placed h region') → plain_statements bg (block g b) ≡ plain_statements bh (block h b') →
-      plain_statement bg (statement g (code.Borrow at access x r region b stop)) ≡ plain_statement bh (statement h (code.Borrow at access x' r' region' b' stop))
-  borrow_same at access x r region b stop x' r' region' b' h2 h3 h4 h5 =
-      let same : borrow_in at access (plain_name bg (placed g x)) (plain_name bg (placed g r)) (plain_name bg (placed g region)) (plain_statements bg (block g b)) stop ≡ borrow_in at access (plain_name bh (placed h x')) (plain_name bh (placed h r')) (plain_name bh (placed h region')) (plain_statements bh (block h b')) stop = cc in
-      plain_borrow g bg at access x r region b stop ∙ same ∙ sym (plain_borrow h bh at access x' r' region' b' stop)
+  pub borrow_same : (at : Pos) (access : Access) (ns : BorrowNames X N T C) (b : Block X N T C) (stop : Pos)
+      (ns' : BorrowNames Y M U D) (b' : Block Y M U D) →
+      plain_name bg (placed g ns.variable) ≡ plain_name bh (placed h ns'.variable) →
+      plain_name bg (placed g ns.reference) ≡ plain_name bh (placed h ns'.reference) →
+      plain_name bg (placed g ns.region) ≡ plain_name bh (placed h ns'.region) →
+      plain_statements bg (block g b) ≡ plain_statements bh (block h b') →
+      plain_statement bg (statement g (code.Borrow at access ns b stop))
+      ≡ plain_statement bh (statement h (code.Borrow at access ns' b' stop))
+  borrow_same at access ns b stop ns' b' h2 h3 h4 h5 =
+      let same :
+      borrow_in at access (plain_name bg (placed g ns.variable)) (plain_name bg (placed g ns.reference))
+      (plain_name bg (placed g ns.region)) (plain_statements bg (block g b)) stop
+      ≡ borrow_in at access (plain_name bh (placed h ns'.variable)) (plain_name bh (placed h ns'.reference))
+      (plain_name bh (placed h ns'.region)) (plain_statements bh (block h b')) stop = cc in
+      plain_borrow g bg at access ns b stop ∙ same ∙ sym (plain_borrow h bh at access ns' b' stop)
 
   pub borrow_typed_same : (at : Pos) (r : Ident X N T C) (t : TypeText) (mode : BorrowMode) (x : Ident X N T C) (b : Block X N T C) (stop : Pos) (r' : Ident Y M U D) (x' : Ident Y M U D) (b' : Block Y M U D) →
       plain_name bg (placed g r) ≡ plain_name bh (placed h r') → plain_name bg (placed g x) ≡ plain_name bh (placed h x') → plain_statements bg (block g b) ≡ plain_statements bh (block h b') →
@@ -252,8 +267,11 @@ module _ {X N T C : Type 0} (g : Ghosts X N T C) (of_type : g.SeenType → Bool)
   pub for_notes : (at : Pos) (n : Ident X N T C) (a : Box (Expr X N T C) Global) (z : Box (Expr X N T C) Global) (b : Block X N T C) → IsTrue (notes_of_expression of_type of_call (expression g a.value)) → IsTrue (notes_of_expression of_type of_call (expression g z.value)) → IsTrue (notes_of_statements of_type of_call (block g b)) → IsTrue (notes_of_statement of_type of_call (statement g (code.For at n a z b)))
   for_notes at n a z b h2 h3 h4 = ap (notes_of_statement of_type of_call) (for_says g at n a z b) ∙ (and_from _ _ (and_from _ _ h2 h3) h4)
 
-  pub borrow_notes : (at : Pos) (access : Access) (x : Ident X N T C) (r : Ident X N T C) (region : Ident X N T C) (b : Block X N T C) (stop : Pos) → IsTrue (notes_of_statements of_type of_call (block g b)) → IsTrue (notes_of_statement of_type of_call (statement g (code.Borrow at access x r region b stop)))
-  borrow_notes at access x r region b stop h5 = ap (notes_of_statement of_type of_call) (borrow_says g at access x r region b stop) ∙ h5
+  pub borrow_notes : (at : Pos) (access : Access) (ns : BorrowNames X N T C) (b : Block X N T C) (stop : Pos) →
+      IsTrue (notes_of_statements of_type of_call (block g b)) →
+      IsTrue (notes_of_statement of_type of_call (statement g (code.Borrow at access ns b stop)))
+  borrow_notes at access ns b stop h5 =
+      ap (notes_of_statement of_type of_call) (borrow_says g at access ns b stop) ∙ h5
 
   pub borrow_typed_notes : (at : Pos) (r : Ident X N T C) (t : TypeText) (mode : BorrowMode) (x : Ident X N T C) (b : Block X N T C) (stop : Pos) → IsTrue (notes_of_statements of_type of_call (block g b)) → IsTrue (notes_of_statement of_type of_call (statement g (code.BorrowTyped at r t mode x b stop)))
   borrow_typed_notes at r t mode x b stop h5 = ap (notes_of_statement of_type of_call) (borrow_typed_says g at r t mode x b stop) ∙ h5

@@ -2,8 +2,8 @@
 
 ghost use Rattle.std.specs.Prelude.{◌≡◌, List, [], ◌∷◌, IfOk, IsTrue, map, ◌&&◌};
 ghost use Rattle.std.specs.List.{list_all};
-ghost use Rattle.au_syntax.specs.Views.{expression, statement, block, branch_all, arm_all};
-ghost use Rattle.au_syntax.specs.Plain.{plain_statement, plain_statements, plain_branches, plain_arms};
+ghost use Rattle.au_syntax.specs.Views.{placed, expression, statement, block, branch_all, arm_all};
+ghost use Rattle.au_syntax.specs.Plain.{plain_name, plain_statement, plain_statements, plain_branches, plain_arms};
 ghost use Rattle.au_syntax.specs.Notes.{notes_of_expression, notes_of_statement, notes_of_statements};
 
 use crate::expressions::map_boxed;
@@ -11,7 +11,8 @@ use crate::parts::map_binds;
 use crate::turns::{Turn, map_ident, map_idents};
 use au_base::{Memory, Pos};
 use au_syntax::{
-    Access, Arm, Bind, Binding, Block, BorrowMode, Branch, Expr, Ident, Phase, Stmt, TypeText,
+    Access, Arm, Bind, Binding, Block, BorrowMode, BorrowNames, Branch, Expr, Ident, Phase, Stmt,
+    TypeText,
 };
 use std::alloc::Global;
 
@@ -67,9 +68,9 @@ pub fn map_stmt<P: Phase, Q: Phase, F: Turn<P, Q>>(
         Stmt::Case(at, value, arms) => map_case(alloc, at, value, arms, turn),
         Stmt::While(at, test, body) => map_while(alloc, at, test, body, turn),
         Stmt::For(at, name, first, last, body) => map_for(alloc, at, name, first, last, body, turn),
-        Stmt::Borrow(at, access, variable, name, region, body, end) => map_borrow(
-            alloc, at, access, variable, name, region, body, end, turn,
-        ),
+        Stmt::Borrow(at, access, names, body, end) => {
+            map_borrow(alloc, at, access, names, body, end, turn)
+        }
         Stmt::BorrowTyped(at, name, of, mode, variable, body, end) => map_borrow_typed(
             alloc, at, name, of, mode, variable, body, end, turn,
         ),
@@ -298,26 +299,41 @@ fn map_for<P: Phase, Q: Phase, F: Turn<P, Q>>(
     Ok(Stmt::For(at, name, first, last, body))
 }
 
+fn map_borrow_names<P: Phase, Q: Phase, F: Turn<P, Q>>(
+    alloc: Global,
+    names: BorrowNames<P>,
+    turn: &mut F,
+) -> Result<BorrowNames<Q>, Memory>
+    ensures variable { IfOk result (λ new. plain_name Q.name_bytes (placed Q.Phase new.variable) ≡ plain_name P.name_bytes (placed P.Phase names.variable)) }
+    ensures reference { IfOk result (λ new. plain_name Q.name_bytes (placed Q.Phase new.reference) ≡ plain_name P.name_bytes (placed P.Phase names.reference)) }
+    ensures region { IfOk result (λ new. plain_name Q.name_bytes (placed Q.Phase new.region) ≡ plain_name P.name_bytes (placed P.Phase names.region)) }
+{
+    let variable = map_ident(alloc, names.variable, turn)?;
+    let reference = map_ident(alloc, names.reference, turn)?;
+    let region = map_ident(alloc, names.region, turn)?;
+    Ok(BorrowNames {
+        variable,
+        reference,
+        region,
+    })
+}
+
 #[cycle(map_statement)]
 fn map_borrow<P: Phase, Q: Phase, F: Turn<P, Q>>(
     alloc: Global,
     at: Pos,
     access: Access,
-    variable: Ident<P>,
-    name: Ident<P>,
-    region: Ident<P>,
+    names: BorrowNames<P>,
     body: Block<P>,
     end: Pos,
     turn: &mut F,
 ) -> Result<Stmt<Q>, Memory>
-    ensures same { IfOk result (λ new. plain_statement Q.name_bytes (statement Q.Phase new) ≡ plain_statement P.name_bytes (statement P.Phase (Stmt.Borrow at access variable name region body end))) }
+    ensures same { IfOk result (λ new. plain_statement Q.name_bytes (statement Q.Phase new) ≡ plain_statement P.name_bytes (statement P.Phase (Stmt.Borrow at access names body end))) }
     ensures notes { IfOk result (λ new. IsTrue (notes_of_statement Q.allows_type Q.allows_call (statement Q.Phase new))) }
 {
-    let variable = map_ident(alloc, variable, turn)?;
-    let name = map_ident(alloc, name, turn)?;
-    let region = map_ident(alloc, region, turn)?;
+    let names = map_borrow_names(alloc, names, turn)?;
     let body = map_block(alloc, body, turn)?;
-    Ok(Stmt::Borrow(at, access, variable, name, region, body, end))
+    Ok(Stmt::Borrow(at, access, names, body, end))
 }
 
 #[cycle(map_statement)]

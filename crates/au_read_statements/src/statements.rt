@@ -20,7 +20,7 @@ use au_read_types::written_type;
 use au_reading::{
     Expected, Stop, after, bracketed, expect, is_sign, is_word, name, place, stop_before,
 };
-use au_syntax::{Access, Arm, Binding, Block, Branch, Parsed, Phase, Stmt};
+use au_syntax::{Access, Arm, Binding, Block, BorrowNames, Branch, Parsed, Phase, Stmt};
 use std::alloc::Global;
 
 /// Reads a block where so many levels of nesting are left for its statements.
@@ -316,10 +316,12 @@ fn borrow_in(
     let (region, rest) = name(alloc, rest)?;
     let (body, end, rest) = borrowed_block(alloc, levels, rest)?;
     let at = place(tokens);
-    Ok((
-        Stmt::Borrow(at, access, variable, reference, region, body, end),
-        rest,
-    ))
+    let names = BorrowNames {
+        variable,
+        reference,
+        region,
+    };
+    Ok((Stmt::Borrow(at, access, names, body, end), rest))
 }
 
 /// Reads a borrow with the type of its reference.

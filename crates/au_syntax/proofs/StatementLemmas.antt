@@ -9,6 +9,7 @@ use Rattle.std.specs.declared.boxed.Box.{Box}
 use Rattle.au_syntax.specs.declared.phases.Phase.{Ghosts}
 use Rattle.au_syntax.specs.declared.types.TypeText.{TypeText}
 use Rattle.au_syntax.specs.declared.types.Access.{Access}
+use Rattle.au_syntax.specs.declared.names.BorrowNames.{BorrowNames}
 use Rattle.au_syntax.specs.declared.names.Ident.{Ident}
 use Rattle.au_syntax.specs.declared.names.Bind.{Bind}
 use Rattle.au_syntax.specs.declared.expressions.BorrowMode.{BorrowMode}
@@ -87,9 +88,14 @@ module _ {X N T C : Type 0} (g : Ghosts X N T C) where
   unfolding statement
   for_says at n a z b = ap (for_loop at (placed g n) (expression g a.value) (expression g z.value)) (block_is b)
 
-  pub borrow_says : (at : Pos) (access : Access) (x : Ident X N T C) (r : Ident X N T C) (region : Ident X N T C) (b : Block X N T C) (stop : Pos) → statement g (code.Borrow at access x r region b stop) ≡ borrow_in at access (placed g x) (placed g r) (placed g region) (block g b) stop
+  pub borrow_says : (at : Pos) (access : Access) (ns : BorrowNames X N T C) (b : Block X N T C) (stop : Pos) →
+      statement g (code.Borrow at access ns b stop)
+      ≡ borrow_in at access (placed g ns.variable) (placed g ns.reference) (placed g ns.region) (block g b) stop
   unfolding statement
-  borrow_says at access x r region b stop = ap (λ ss. borrow_in at access (placed g x) (placed g r) (placed g region) ss stop) (block_is b)
+  borrow_says at access ns b stop =
+      ap
+      (λ ss. borrow_in at access (placed g ns.variable) (placed g ns.reference) (placed g ns.region) ss stop)
+      (block_is b)
 
   pub borrow_typed_says : (at : Pos) (r : Ident X N T C) (t : TypeText) (mode : BorrowMode) (x : Ident X N T C) (b : Block X N T C) (stop : Pos) → statement g (code.BorrowTyped at r t mode x b stop) ≡ borrow_typed at (placed g r) (written t) mode (placed g x) (block g b) stop
   unfolding statement

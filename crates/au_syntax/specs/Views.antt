@@ -128,7 +128,9 @@ module _ {X N T C : Type 0} (g : Ghosts X N T C) where
     statement (stmt.Case' at e shape as') = case_of at (expression e.value) (row_arms as')
     statement (stmt.While' at e shape ss) = while_loop at (expression e.value) (row_statements ss)
     statement (stmt.For' at n a b shape ss) = for_loop at (placed n) (expression a.value) (expression b.value) (row_statements ss)
-    statement (stmt.Borrow' at access x r region shape ss stop) = borrow_in at access (placed x) (placed r) (placed region) (row_statements ss) stop
+    statement (stmt.Borrow' at access ns shape ss stop) =
+        borrow_in at access (placed ns.variable) (placed ns.reference) (placed ns.region)
+        (row_statements ss) stop
     statement (stmt.BorrowTyped' at r t mode x shape ss stop) = borrow_typed at (placed r) (written t) mode (placed x) (row_statements ss) stop
     statement (stmt.Call at e) = discard at (expression e.value)
     statement (stmt.Return at e) = return_of at (expression e.value)

@@ -16,7 +16,7 @@ pub mod wholes;
 pub use declarations::{Decl, Generic, Method, Signature, TypeParameter, UnionCase, Universe};
 pub use expressions::{Argument, BinaryOperator, BorrowMode, Expr, Literal, Site};
 pub use modules::{Import, Module, Part};
-pub use names::{Bind, Field, Ident, Renamed};
+pub use names::{Bind, BorrowNames, Field, Ident, Renamed};
 pub use parsed::Parsed;
 pub use phases::Phase;
 pub use statements::{Arm, Binding, Block, Branch, Stmt};

@@ -39,3 +39,14 @@ pub struct Bind<P: Phase> {
     /// Its type.
     pub of: TypeText,
 }
+
+/// `NAME as NAME in NAME`: what a borrow statement names.
+#[derive(Drop)]
+pub struct BorrowNames<P: Phase> {
+    /// What is borrowed.
+    pub variable: Ident<P>,
+    /// The reference to it.
+    pub reference: Ident<P>,
+    /// The region of the reference.
+    pub region: Ident<P>,
+}

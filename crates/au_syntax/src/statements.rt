@@ -1,7 +1,7 @@
 //! Statements.
 
 use crate::expressions::{BorrowMode, Expr};
-use crate::names::{Bind, Ident};
+use crate::names::{Bind, BorrowNames, Ident};
 use crate::phases::Phase;
 use crate::types::{Access, TypeText};
 use au_base::Pos;
@@ -48,9 +48,9 @@ pub enum Stmt<P: Phase> {
     While(Pos, Box<Expr<P>>, Block<P>),
     /// `for NAME from EXPRESSION to EXPRESSION do BLOCK end for;`
     For(Pos, Ident<P>, Box<Expr<P>>, Box<Expr<P>>, Block<P>),
-    /// `borrow NAME as NAME in NAME do BLOCK end borrow;` or with `borrow!`: the variable, the
-    /// reference, the region, the block, and the place of its `end`.
-    Borrow(Pos, Access, Ident<P>, Ident<P>, Ident<P>, Block<P>, Pos),
+    /// `borrow NAME as NAME in NAME do BLOCK end borrow;` or with `borrow!`, with the place
+    /// of its `end`
+    Borrow(Pos, Access, BorrowNames<P>, Block<P>, Pos),
     /// `borrow NAME: TYPE := &NAME do BLOCK end borrow;` or with `&!` or `&~`: the reference, its
     /// type, the variable, the block, and the place of its `end`.
     BorrowTyped(Pos, Ident<P>, TypeText, BorrowMode, Ident<P>, Block<P>, Pos),

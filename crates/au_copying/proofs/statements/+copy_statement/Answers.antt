@@ -37,8 +37,10 @@ copy_statement-returns-in_ok-copy_block-in-For g t c =
 
 pub copy_statement-returns-in_ok-body-in-Borrow : goal.copy_statement-returns-in_ok-body-in-Borrow
 copy_statement-returns-in_ok-body-in-Borrow g t c =
-    borrow_copied g.P.Phase c.args.of.now c.in-Borrow.at c.in-Borrow.access c.in-Borrow.variable c.in_ok-variable-in-Borrow.variable c.in-Borrow.name c.in_ok-variable-in-Borrow.name c.in-Borrow.region c.in_ok-variable-in-Borrow.region c.in-Borrow.body c.in_ok-body-in-Borrow.body c.in-Borrow.end
-    c.in-Borrow.is c.in_ok-variable-in-Borrow.ensures.of c.in_ok-variable-in-Borrow.ensures.name c.in_ok-variable-in-Borrow.ensures.region c.in_ok-body-in-Borrow.ensures
+    borrow_copied g.P.Phase c.args.of.now c.in-Borrow.at c.in-Borrow.access
+    c.in-Borrow.names c.in_ok-names-in-Borrow.names c.in-Borrow.body c.in_ok-body-in-Borrow.body c.in-Borrow.end
+    c.in-Borrow.is c.in_ok-names-in-Borrow.ensures.variable c.in_ok-names-in-Borrow.ensures.reference
+    c.in_ok-names-in-Borrow.ensures.region c.in_ok-body-in-Borrow.ensures
 
 pub copy_statement-returns-in_ok-body-in-BorrowTyped : goal.copy_statement-returns-in_ok-body-in-BorrowTyped
 copy_statement-returns-in_ok-body-in-BorrowTyped g t c =

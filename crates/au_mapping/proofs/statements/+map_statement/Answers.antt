@@ -95,20 +95,22 @@ map_stmt-map_for-requires g t c κs within =
 
 pub map_borrow-returns-clause-same : goal.map_borrow-returns-clause-same
 map_borrow-returns-clause-same g t c =
-    borrow_same g.Q.Phase g.P.Phase g.Q.Phase.name_bytes g.P.Phase.name_bytes c.args.at c.args.access c.in_ok-variable.variable c.in_ok-name.name c.in_ok-region.region c.in_ok-body.body c.args.end c.args.variable c.args.name c.args.region c.args.body
-    c.in_ok-variable.ensures c.in_ok-name.ensures c.in_ok-region.ensures c.in_ok-body.ensures.same
+    borrow_same g.Q.Phase g.P.Phase g.Q.Phase.name_bytes g.P.Phase.name_bytes c.args.at c.args.access
+    c.in_ok-names.names c.in_ok-body.body c.args.end c.args.names c.args.body
+    c.in_ok-names.ensures.variable c.in_ok-names.ensures.reference c.in_ok-names.ensures.region
+    c.in_ok-body.ensures.same
 
 pub map_borrow-returns-clause-notes : goal.map_borrow-returns-clause-notes
 map_borrow-returns-clause-notes g t c =
-    borrow_notes g.Q.Phase g.Q.Phase.allows_type g.Q.Phase.allows_call c.args.at c.args.access c.in_ok-variable.variable c.in_ok-name.name c.in_ok-region.region c.in_ok-body.body c.args.end
-    c.in_ok-body.ensures.notes
+    borrow_notes g.Q.Phase g.Q.Phase.allows_type g.Q.Phase.allows_call c.args.at c.args.access
+    c.in_ok-names.names c.in_ok-body.body c.args.end c.in_ok-body.ensures.notes
 
 pub map_stmt-returns-in-Borrow-clause-same : goal.map_stmt-returns-in-Borrow-clause-same
 map_stmt-returns-in-Borrow-clause-same g t c = rw c.in-Borrow.is c.map_borrow.ensures.same
 
 pub map_stmt-map_borrow-requires : goal.map_stmt-map_borrow-requires
 map_stmt-map_borrow-requires g t c κs within =
-    let small = size_borrow c.args.stmt c.in-Borrow.at c.in-Borrow.access c.in-Borrow.variable c.in-Borrow.name c.in-Borrow.region c.in-Borrow.body c.in-Borrow.end c.in-Borrow.is in (omega (arith, small), within)
+    let small = size_borrow c.args.stmt c.in-Borrow.at c.in-Borrow.access c.in-Borrow.names c.in-Borrow.body c.in-Borrow.end c.in-Borrow.is in (omega (arith, small), within)
 
 pub map_borrow_typed-returns-clause-same : goal.map_borrow_typed-returns-clause-same
 map_borrow_typed-returns-clause-same g t c =
