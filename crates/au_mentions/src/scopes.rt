@@ -1,7 +1,7 @@
 //! The type parameters of declarations.
 
 ghost use Rattle.std.specs.Prelude.{◌≡◌, ◌∷◌, [], IfOk, map};
-ghost use Rattle.au_heads.specs.HeadsOf.{parameter};
+ghost use Rattle.au_names.specs.HeadsOf.{parameter};
 ghost use Rattle.au_mentions.specs.Mentions as spec;
 ghost use Rattle.au_mentions.specs.Said.{generics_said, parameters_said};
 ghost use Rattle.au_syntax.specs.Plain.{plain_declaration, plain_in_universe};

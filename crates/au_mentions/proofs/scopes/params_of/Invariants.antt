@@ -1,5 +1,5 @@
 use Rattle.std.proofs.Common.{◌≡◌, take, map}
-use Rattle.au_heads.specs.HeadsOf.{parameter}
+use Rattle.au_names.specs.HeadsOf.{parameter}
 use Rattle.au_mentions.specs.Said.{parameters_said}
 use Rattle.au_mentions.proofs.scopes.params_of.Given as goal
 
