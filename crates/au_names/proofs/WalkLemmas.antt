@@ -17,8 +17,11 @@ use Rattle.au_types.specs.Rows.{head_of}
 use Rattle.au_modules.specs.Programs.{ModuleParts}
 use Rattle.au_modules.specs.Seen.{name_of, interface_tree, body_tree}
 use Rattle.au_names.specs.declared.walking.Walk.{Walk}
-use Rattle.au_names.specs.HeadsOf.{head_in, row_of, under_names, counting, rows_of, declarations_of, numbered_in, rows_at, rows_from}
+use Rattle.au_names.specs.HeadsOf.{head_in, row_of, under_names, counting, rows_of, rows_at, rows_from}
+use Rattle.au_names.specs.Exporting.{declarations_seen}
+use Rattle.au_names.specs.Owned.{declarations_in}
 use Rattle.au_names.specs.Walks.{is_new, row_on, rows_on, walk_past, walk_over, IsFreeFrom}
+use Rattle.au_names.proofs.ExportLemmas.{body_seen, interface_seen}
 use Rattle.au_names.proofs.RowLemmas.{free_if, free_behind, IsOnce, once_if}
 
 -- ---- names and their numbers
@@ -167,6 +170,12 @@ rows_on-append w owner (d ∷ ds) es =
     ap (λ r. row_on w owner d ++ r) (rows_on-append (walk_past w d) owner ds es)
     ∙ sym (append_assoc (row_on w owner d) (rows_on (walk_past w d) owner ds) (rows_on (walk_over (walk_past w d) ds) owner es))
 
+-- a walk counts what it passes
+pub number_over : (w : Walk) (ds : List PlainDeclaration) → (walk_over w ds).number ≡ w.number + length ds
+unfolding walk_over
+number_over w [] = omega arith
+number_over w (d ∷ ds) = omega (arith, number_over (walk_past w d) ds)
+
 -- a walk stays in its module
 place_over : (w : Walk) (ds : List PlainDeclaration) → (walk_over w ds).place ≡ w.place
 unfolding walk_over
@@ -228,31 +237,32 @@ some_is x y h = cc
 
 -- the parts of a module, one behind the other
 module_rows : (place : ℕ) (found : Option ModuleParts) (owner : Bytes) → name_of found ≡ Some owner
-    → rows_on (walk_at place owner 0 []) owner (declarations_of (interface_tree found))
-    ++ rows_on (walk_over (walk_at place owner 0 []) (declarations_of (interface_tree found))) owner (declarations_of (body_tree found))
+    → rows_on (walk_at place owner 0 []) owner (declarations_seen (interface_tree found))
+    ++ rows_on (walk_over (walk_at place owner 0 []) (declarations_seen (interface_tree found))) owner (declarations_seen (body_tree found))
     ≡ rows_at place found
 module_rows place None owner h = cc
 module_rows place (Some m) owner h =
-    sym (rows_on-append (walk_at place owner 0 []) owner (declarations_of (interface_tree (Some m))) (declarations_of (body_tree (Some m))))
-    ∙ sym (whole_rows place owner (declarations_of (interface_tree (Some m)) ++ declarations_of (body_tree (Some m))))
-    ∙ ap (λ o. rows_of place o (numbered_in m)) (sym (some_is m.name owner h))
+    sym (rows_on-append (walk_at place owner 0 []) owner (declarations_seen (interface_tree (Some m))) (declarations_seen (body_tree (Some m))))
+    ∙ sym (whole_rows place owner (declarations_seen (interface_tree (Some m)) ++ declarations_seen (body_tree (Some m))))
+    ∙ ap (λ o. rows_of place o (numbered 0 (declarations_seen (interface_tree (Some m)) ++ declarations_seen (body_tree (Some m))))) (sym (some_is m.name owner h))
+    ∙ (λ i. rows_of place m.name (numbered 0 (sym (interface_seen m) i ++ sym (body_seen m) i)))
 
 -- a walk over both parts of the module at a place gives the rows of that module
 pub module_done : (place start : ℕ) (seen : List (Bytes × ℕ)) (found : Option ModuleParts) (owner : Bytes) (interface body : Option PlainModule) (before middle after : List (DeclAt × Head)) (w : Walk)
     → start ≡ place → seen ≡ [] → name_of found ≡ Some owner → interface ≡ interface_tree found → body ≡ body_tree found
-    → middle ≡ before ++ rows_on (record { place = start; number = 0; seen = seen }) owner (declarations_of interface)
-    → w ≡ walk_over (record { place = start; number = 0; seen = seen }) (declarations_of interface)
-    → after ≡ middle ++ rows_on w owner (declarations_of body)
+    → middle ≡ before ++ rows_on (record { place = start; number = 0; seen = seen }) owner (declarations_seen interface)
+    → w ≡ walk_over (record { place = start; number = 0; seen = seen }) (declarations_seen interface)
+    → after ≡ middle ++ rows_on w owner (declarations_seen body)
     → after ≡ before ++ rows_at place found
 module_done place start seen found owner interface body before middle after w here new named first second one stands two =
     let from : Walk = record { place = start; number = 0; seen = seen } in
     two
-    ∙ ap (λ r. r ++ rows_on w owner (declarations_of body)) one
-    ∙ ap (λ v. (before ++ rows_on from owner (declarations_of interface)) ++ rows_on v owner (declarations_of body)) stands
-    ∙ append_assoc before (rows_on from owner (declarations_of interface)) (rows_on (walk_over from (declarations_of interface)) owner (declarations_of body))
+    ∙ ap (λ r. r ++ rows_on w owner (declarations_seen body)) one
+    ∙ ap (λ v. (before ++ rows_on from owner (declarations_seen interface)) ++ rows_on v owner (declarations_seen body)) stands
+    ∙ append_assoc before (rows_on from owner (declarations_seen interface)) (rows_on (walk_over from (declarations_seen interface)) owner (declarations_seen body))
     ∙ ap (λ r. before ++ r)
-    ((λ k. rows_on (record { place = here k; number = 0; seen = new k }) owner (declarations_of (first k))
-    ++ rows_on (walk_over (record { place = here k; number = 0; seen = new k }) (declarations_of (first k))) owner (declarations_of (second k)))
+    ((λ k. rows_on (record { place = here k; number = 0; seen = new k }) owner (declarations_seen (first k))
+    ++ rows_on (walk_over (record { place = here k; number = 0; seen = new k }) (declarations_seen (first k))) owner (declarations_seen (second k)))
     ∙ module_rows place found owner named)
 
 -- a walk over both parts stays in the module
@@ -314,7 +324,7 @@ good_on w owner (d ∷ ds) rows good =
 
 good_module : (place : ℕ) (m : ModuleParts) (rows : List (DeclAt × Head)) → IsGood place 0 rows → IsGood (place + 1) 0 (rows ++ rows_at place (Some m))
 good_module place m rows good =
-    let ds : List PlainDeclaration = declarations_of (interface_tree (Some m)) ++ declarations_of (body_tree (Some m)) in
+    let ds : List PlainDeclaration = declarations_in m.interface ++ declarations_in m.body in
     let w : Walk = record { place = place; number = 0; seen = [] } in
     let P : List (DeclAt × Head) → Type 0 = λ r. IsGood (place + 1) 0 (rows ++ r) in
     let all : IsGood (walk_over w ds).place (walk_over w ds).number (rows ++ rows_on w m.name ds) = good_on w m.name ds rows good in

@@ -3,14 +3,14 @@ use Rattle.std.specs.Prelude.{ℕ, ◌+◌, List, [], ◌∷◌, ◌++◌, map, 
 use Rattle.std.specs.List.{flat_map}
 use Rattle.au_syntax.specs.declared.declarations.Universe.{Universe}
 use Rattle.au_syntax.specs.Modules.{InUniverse, constant, opaque_type, record_type, union_type, function, class, instance, constant_body, function_body, instance_body}
-use Rattle.au_syntax.specs.Plain.{Bytes, PlainDeclaration, PlainModule}
-use Rattle.au_tables.specs.DeclaredNames.{type_names, numbered}
+use Rattle.au_syntax.specs.Plain.{Bytes, PlainDeclaration}
+use Rattle.au_tables.specs.DeclaredNames.{type_names}
 use Rattle.au_tables.specs.Tables.{firsts}
 use Rattle.au_types.specs.declared.types.DeclAt.{DeclAt}
 use Rattle.au_types.specs.declared.headings.Head.{Head}
 use Rattle.au_types.specs.declared.parameters.Parameter.{Parameter}
 use Rattle.au_modules.specs.Programs.{ModuleParts}
-use Rattle.au_modules.specs.Seen.{interface_tree, body_tree}
+use Rattle.au_names.specs.Owned.{declarations_of}
 
 -- ---- one type
 
@@ -65,20 +65,10 @@ rows_of place owner ds = flat_map (row_of place owner) (counting ds)
 
 -- ---- modules
 
--- the declarations of a part of a module, which has none if it isn't there
-abbrev pub declarations_of : Option PlainModule → List PlainDeclaration
-declarations_of None = []
-declarations_of (Some tree) = tree.declarations
-
--- the declarations of a module with their numbers: those of its interface, counted from 0, and then those
--- of its body
-abbrev pub numbered_in : ModuleParts → List (ℕ × PlainDeclaration)
-numbered_in m = numbered 0 (declarations_of (interface_tree (Some m)) ++ declarations_of (body_tree (Some m)))
-
 -- the rows of the module at a place, if there is one
 abbrev pub rows_at : ℕ → Option ModuleParts → List (DeclAt × Head)
 rows_at place None = []
-rows_at place (Some m) = rows_of place m.name (numbered_in m)
+rows_at place (Some m) = rows_of place m.name (declarations_of m)
 
 -- the rows of modules in order, the first of which has this place
 unfoldable pub rows_from : ℕ → List ModuleParts → List (DeclAt × Head)

@@ -51,7 +51,7 @@ fn body_at(modules: &Modules, place: u16) -> Option<&Whole<Parsed>>
 }
 
 /// How many declarations a file has, if it is there.
-fn count_in(file: Option<&Whole<Parsed>>) -> usize
+pub(crate) fn count_in(file: Option<&Whole<Parsed>>) -> usize
     ensures { result ≡ length (declarations_seen (tree_seen file.entry)) }
 {
     match file {

@@ -21,6 +21,7 @@ pub use exports::{Exports, exports_of};
 pub use module_names::ModuleNames;
 pub use part_names::PartNames;
 pub use programs::NamedModules;
+pub use putting::in_space;
 pub use seeing::names_seen;
 pub use targets::Target;
 pub use walking::heads_of;

@@ -1,6 +1,7 @@
 //! A walk through the declarations of modules.
 
-ghost use Rattle.std.specs.Prelude.{◌≡◌, ◌++◌, ◌+◌, ◌<◌, IfOk, OnOk, length, map, slice_get};
+ghost use Rattle.std.specs.Prelude.{◌≡◌, ◌++◌, ◌+◌, ◌<◌, ◌^◌, IfOk, OnOk, length, map, slice_get};
+ghost use Rattle.au_names.specs.Exporting.{declarations_seen};
 ghost use Rattle.au_names.specs.HeadsOf as spec;
 ghost use Rattle.au_names.specs.Walks.{IsFreeFrom, is_new, row_on, rows_on, type_names_of, walk_over, walk_past, written, written_all};
 ghost use Rattle.au_modules.specs.Seen.{tree_seen};
@@ -49,16 +50,6 @@ fn put_type(seen: &mut Table<u32>, decl: &Decl<Parsed>, number: u32) -> Result<b
     }
 }
 
-/// The number of the next declaration, and `Memory` where it fits no number.
-fn next(number: u32) -> Result<u32, Memory>
-    ensures { IfOk result (λ next. next ≡ number + 1) }
-{
-    match number.checked_add(1) {
-        None => Err(Memory),
-        Some(next) => Ok(next),
-    }
-}
-
 /// Walks past a declaration, and puts its row behind others.
 fn pass(
     alloc: Global,
@@ -67,7 +58,8 @@ fn pass(
     walk: &mut Walk,
     heads: &mut Heads,
 ) -> Result<(), Memory>
-    requires { IsFreeFrom walk.old.place walk.old.number heads.old }
+    requires free { IsFreeFrom walk.old.place walk.old.number heads.old }
+    requires fits { walk.old.number + 1 < 2 ^ 32 }
     ensures rows { OnOk result (heads.new ≡ heads.old ++ row_on walk.old owner.now (written decl.now)) }
     ensures walk { OnOk result (walk.new ≡ walk_past walk.old (written decl.now)) }
     ensures free { OnOk result (IsFreeFrom walk.new.place walk.new.number heads.new) }
@@ -76,7 +68,7 @@ fn pass(
         module: walk.place,
         decl: walk.number,
     };
-    walk.number = next(at.decl)?;
+    walk.number = at.decl + 1;
     if put_type(&mut walk.seen, decl, at.decl)? {
         push_row(alloc, owner, at, decl, heads)
     } else {
@@ -92,7 +84,8 @@ fn pass_all(
     walk: &mut Walk,
     heads: &mut Heads,
 ) -> Result<(), Memory>
-    requires { IsFreeFrom walk.old.place walk.old.number heads.old }
+    requires free { IsFreeFrom walk.old.place walk.old.number heads.old }
+    requires fits { walk.old.number + length decls.now.items < 2 ^ 32 }
     ensures rows { OnOk result (heads.new ≡ heads.old ++ rows_on walk.old owner.now (written_all decls.now.items)) }
     ensures walk { OnOk result (walk.new ≡ walk_over walk.old (written_all decls.now.items)) }
     ensures free { OnOk result (IsFreeFrom walk.new.place walk.new.number heads.new) }
@@ -111,25 +104,16 @@ fn pass_part(
     walk: &mut Walk,
     heads: &mut Heads,
 ) -> Result<(), Memory>
-    requires { IsFreeFrom walk.old.place walk.old.number heads.old }
-    ensures rows { OnOk result (heads.new ≡ heads.old ++ rows_on walk.old owner.now (spec.declarations_of (tree_seen part.entry))) }
-    ensures walk { OnOk result (walk.new ≡ walk_over walk.old (spec.declarations_of (tree_seen part.entry))) }
+    requires free { IsFreeFrom walk.old.place walk.old.number heads.old }
+    requires fits { walk.old.number + length (declarations_seen (tree_seen part)) < 2 ^ 32 }
+    ensures rows { OnOk result (heads.new ≡ heads.old ++ rows_on walk.old owner.now (declarations_seen (tree_seen part.entry))) }
+    ensures walk { OnOk result (walk.new ≡ walk_over walk.old (declarations_seen (tree_seen part.entry))) }
     ensures free { OnOk result (IsFreeFrom walk.new.place walk.new.number heads.new) }
 {
     match part {
         None => Ok(()),
         Some(file) => pass_all(alloc, owner, &file.tree().declarations, walk, heads),
     }
-}
-
-/// A place as it stands in a row, and `Memory` where it fits none.
-fn place_in_row(place: usize) -> Result<u16, Memory>
-    ensures { IfOk result (λ same. same ≡ place) }
-{
-    if place > u16::MAX as usize {
-        return Err(Memory);
-    }
-    Ok(place as u16)
 }
 
 /// Puts the rows of the module at a place behind others.
@@ -146,7 +130,7 @@ fn push_module(
 {
     let owner = program.name(place);
     let mut walk = Walk {
-        place: place_in_row(place)?,
+        place: place as u16,
         number: 0,
         seen: Table::new(alloc),
     };
@@ -161,7 +145,7 @@ fn push_module(
 ///
 /// # Errors
 ///
-/// Only for want of memory. It is also what is answered where a place or a number fits no row.
+/// Only for want of memory.
 pub fn heads_of(alloc: Global, program: &Modules) -> Result<Heads, Memory>
     ensures { IfOk result (λ heads. heads ≡ spec.heads_of (modules program.now)) }
 {

@@ -1,4 +1,4 @@
-use Rattle.std.proofs.Common.{◌++◌, ◌+◌, ap, ◌∙◌, drop}
+use Rattle.std.proofs.Common.{◌++◌, ◌+◌, length, ap, ◌∙◌, drop, arith}
 use Rattle.std.proofs.lemmas.List.{drop_all}
 use Rattle.au_syntax.specs.contracts.parsed.ParsedPhase.TheImpl.{ghosts as parsed}
 use Rattle.au_syntax.specs.Plain.{plain_declaration}
@@ -6,6 +6,15 @@ use Rattle.au_syntax.specs.Views.{declaration}
 use Rattle.au_names.specs.Walks.{rows_on, walk_over, written, written_all}
 use Rattle.au_names.proofs.WalkLemmas as lemmas
 use Rattle.au_names.proofs.walking.pass_all.Goals as goal
+
+pub pass-requires : goal.pass-requires
+pass-requires c =
+    let same = ap length c.deref-one-items.ensures.value in
+    let within = c.loop-one-test.true in
+    record {
+      free = c.loop-one.invariant.free;
+      fits = omega (arith, c.requires.fits, same, within, c.loop-one.invariant.number);
+    }
 
 pub loop-one-preserved : goal.loop-one-preserved
 loop-one-preserved c =
@@ -19,6 +28,7 @@ loop-one-preserved c =
       rows = lemmas.rows_next w next c.args.owner.now d c.loop-one.heads c.pass.new.heads (c.args.heads.now ++ rows_on c.args.walk.now c.args.owner.now (written_all items)) (written_all (drop i items)) (written_all (drop (i + 1) items)) split c.loop-one.invariant.rows c.in_ok-pass.ensures.rows c.in_ok-pass.ensures.walk;
       walk = lemmas.walk_next w next (walk_over c.args.walk.now (written_all items)) d (written_all (drop i items)) (written_all (drop (i + 1) items)) split c.loop-one.invariant.walk c.in_ok-pass.ensures.walk;
       free = c.in_ok-pass.ensures.free;
+      number = omega (arith, c.loop-one.invariant.number, ap (λ v. v.number) c.in_ok-pass.ensures.walk);
     }
 
 pub returns-clause-rows : goal.returns-clause-rows
