@@ -6,7 +6,7 @@ use Rattle.std.proofs.lemmas.Option.{none-some, same_Some}
 use Rattle.std.proofs.lemmas.Slice.Eq.{bytes_eq-Decides}
 use Rattle.au_syntax.specs.declared.modules.Part.{Part}
 use Rattle.au_syntax.specs.declared.modules.Part.TheVariants.{Interface, Body}
-use Rattle.au_syntax.specs.Modules.{constant, opaque_type, record_type, union_type}
+use Rattle.au_syntax.specs.Modules.{opaque_type, record_type, union_type}
 use Rattle.au_syntax.specs.Plain.{Bytes, PlainDeclaration}
 use Rattle.au_tables.specs.declared.spaces.Space.TheVariants.{Types}
 use Rattle.au_tables.specs.DeclaredNames.{given, names_in, numbered, type_names}
@@ -15,6 +15,7 @@ use Rattle.au_modules.specs.Programs.{ModuleParts}
 use Rattle.au_names.specs.declared.targets.Target.{Target}
 use Rattle.au_names.specs.Owned.{declarations_in, own, target, targets}
 use Rattle.au_names.proofs.StandingLemmas.{stands}
+use Rattle.au_names.proofs.WalkLemmas.{short}
 use Rattle.au_names.specs.Standing.{Standing, body_at, body_standing, defined_by, definition_for, definition_of, is_named, is_whole, module_standing, opaque_name, standing_at, standing_from, standing_in, whole_name}
 
 -- ---- bytes, and what is found
@@ -53,11 +54,6 @@ whole_named (record_type at own_name parameters universe fields) name h = ap (λ
 whole_named (union_type at own_name parameters universe cases) name h = ap (λ n. n ∷ []) (same_Some own_name.name name h)
 whole_named other name h = absurd (none-some name h)
 
--- a declaration brings in one type or none
-one_name : (d : PlainDeclaration) → length (type_names d) ≤ 1
-one_name (constant at name t) = omega arith
-one_name _ = omega arith
-
 -- ---- what a name means among the types of a module
 
 -- it is the number of a declaration of that name
@@ -94,7 +90,7 @@ type_numbers place first (d ∷ ds) name meaning h = by (type_names d) refl (λ 
         → tables.find name (targets place (given first names ++ names_in Types (numbered (first + 1) ds))) ≡ Some meaning → Numbers place first (d ∷ ds) name meaning
     by [] names on k = on k
     by (x ∷ []) names on k = one x (bytes_eq name x) refl names on k
-    by (x ∷ y ∷ more) names on k = let few = one_name d in let many = ap length names in absurd (omega arith)
+    by (x ∷ y ∷ more) names on k = let few = short d in let many = ap length names in absurd (omega arith)
 
 -- ---- where declarations stand
 

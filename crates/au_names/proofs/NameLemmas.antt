@@ -11,14 +11,10 @@ use Rattle.au_modules.specs.Programs.{ModuleParts}
 use Rattle.au_names.specs.Meanings.{declared_by, seen}
 use Rattle.au_names.specs.declared.part_names.PartNames.{PartNames}
 use Rattle.au_names.specs.declared.module_names.ModuleNames.{ModuleNames}
+use Rattle.au_names.proofs.StandingLemmas.{got_before}
 use Rattle.au_names.specs.Known.{seen_by, names_of, in_part, AreNames}
 
 -- ---- lists with one more item
-
-got_before : {X : Type 0} (xs ys : List X) (k : ℕ) → k < length xs → slice_get (xs ++ ys) k ≡ slice_get xs k
-got_before [] ys k h = absurd (omega arith)
-got_before (x ∷ xs) ys zero h = refl
-got_before (x ∷ xs) ys (suc k) h = got_before xs ys k (omega arith)
 
 got_last : {X : Type 0} (xs : List X) (y : X) (k : ℕ) → k ≡ length xs → slice_get (xs ++ y ∷ []) k ≡ Some y
 got_last [] y zero h = refl

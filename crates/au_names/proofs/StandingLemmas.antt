@@ -25,7 +25,7 @@ Written = Decl Parsed (List ℕ) (Unit {0}) (Unit {0})
 
 -- ---- lists behind others
 
-got_before : {X : Type 0} (xs ys : List X) (k : ℕ) → k < length xs → slice_get (xs ++ ys) k ≡ slice_get xs k
+pub got_before : {X : Type 0} (xs ys : List X) (k : ℕ) → k < length xs → slice_get (xs ++ ys) k ≡ slice_get xs k
 got_before [] ys k h = absurd (omega arith)
 got_before (x ∷ xs) ys zero h = refl
 got_before (x ∷ xs) ys (suc k) h = got_before xs ys k (omega arith)

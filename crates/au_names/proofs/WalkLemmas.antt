@@ -1,9 +1,10 @@
 -- A walk through the declarations of a module gives the rows of those that count.
 use Rattle.std.proofs.Common.{◌≡◌, ℕ, ◌+◌, ◌<◌, ◌≤◌, Bool, true, false, cond, not, List, [], ◌∷◌, ◌++◌, length, map, drop, get_or, Option, None, Some, is_some, refl, sym, ap, ◌∙◌, append_assoc, suc, zero, subst, add-one, drop-cons, arith}
-use Rattle.std.specs.Prelude.{slice_get}
+use Rattle.std.specs.Prelude.{nat_lt, slice_get}
 use Rattle.std.specs.List.{flat_map}
 use Rattle.std.specs.Str.{bytes_eq}
-use Rattle.std.proofs.lemmas.List.{append-nil, map-append}
+use Rattle.std.proofs.lemmas.Bool.{le-ltb, lt-ltb}
+use Rattle.std.proofs.lemmas.List.{append-nil, length-append, map-append}
 use Rattle.std.proofs.lemmas.Grind.{flat_map-append}
 use Rattle.au_syntax.specs.Modules.{constant}
 use Rattle.au_syntax.specs.Plain.{Bytes, PlainDeclaration, PlainModule}
@@ -99,9 +100,31 @@ seen_step seen before d same =
 -- ---- one more declaration
 
 -- a declaration brings in one name or none
-short : (d : PlainDeclaration) → length (type_names d) ≤ 1
+pub short : (d : PlainDeclaration) → length (type_names d) ≤ 1
 short (constant at name t) = omega arith
 short _ = omega arith
+
+-- a table grows where the name of a declaration is new
+grown : (seen : List (Bytes × ℕ)) (names : List Bytes) (number : ℕ) → length names ≤ 1
+    → nat_lt (length seen) (length (with_all seen (given number names))) ≡ is_new names seen
+grown seen [] number few =
+    ap (λ t. nat_lt (length seen) (length t)) (with_all-none seen) ∙ le-ltb (length seen) (length seen) (omega arith)
+grown seen (name ∷ []) number few = ap (λ t. nat_lt (length seen) (length t)) (with_all-one seen name number) ∙ by (has_name name seen) refl
+  where
+    by : (b : Bool) → has_name name seen ≡ b → nat_lt (length seen) (length (with_pair seen name number)) ≡ not (has_name name seen)
+    by true k =
+        ap (λ t. nat_lt (length seen) (length t)) (with_pair-old seen name number k)
+        ∙ le-ltb (length seen) (length seen) (omega arith)
+        ∙ ap not (sym k)
+    by false k =
+        ap (λ t. nat_lt (length seen) (length t)) (with_pair-new seen name number k)
+        ∙ lt-ltb (length seen) (length (seen ++ (name, number) ∷ [])) (omega (arith, length-append seen ((name, number) ∷ [])))
+        ∙ ap not (sym k)
+grown seen (name ∷ more ∷ names) number few = absurd (omega arith)
+
+pub type_put : (seen after : List (Bytes × ℕ)) (d : PlainDeclaration) (number : ℕ) → after ≡ with_all seen (given number (type_names d))
+    → nat_lt (length seen) (length after) ≡ is_new (type_names d) seen
+type_put seen after d number h = ap (λ t. nat_lt (length seen) (length t)) h ∙ grown seen (type_names d) number (short d)
 
 module _ (place : ℕ) (owner : Bytes) where
   abbrev rows_in : List (Bytes × (ℕ × PlainDeclaration)) → List (DeclAt × Head)

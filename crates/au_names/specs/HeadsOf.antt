@@ -1,8 +1,9 @@
 -- The rows of the declared types of a program. Declared types are opaque types, records and unions.
 use Rattle.std.specs.Prelude.{ℕ, ◌+◌, List, [], ◌∷◌, ◌++◌, map, Option, None, Some}
 use Rattle.std.specs.List.{flat_map}
+use Rattle.std.specs.Option.{option_map}
 use Rattle.au_syntax.specs.declared.declarations.Universe.{Universe}
-use Rattle.au_syntax.specs.Modules.{InUniverse, constant, opaque_type, record_type, union_type, function, class, instance, constant_body, function_body, instance_body}
+use Rattle.au_syntax.specs.Modules.{InUniverse}
 use Rattle.au_syntax.specs.Plain.{Bytes, PlainDeclaration}
 use Rattle.au_tables.specs.DeclaredNames.{type_names}
 use Rattle.au_tables.specs.Tables.{firsts}
@@ -10,6 +11,7 @@ use Rattle.au_types.specs.declared.types.DeclAt.{DeclAt}
 use Rattle.au_types.specs.declared.headings.Head.{Head}
 use Rattle.au_types.specs.declared.parameters.Parameter.{Parameter}
 use Rattle.au_modules.specs.Programs.{ModuleParts}
+use Rattle.au_names.specs.DeclaredTypes.{DeclaredType, type_declared}
 use Rattle.au_names.specs.Owned.{declarations_of}
 
 -- ---- one type
@@ -27,18 +29,13 @@ head owner name parameters universe = record {
   params = map parameter parameters;
 }
 
+-- the head of a type that is declared in a module
+abbrev pub head_for : Bytes → DeclaredType → Head
+head_for owner t = head owner t.name t.parameters t.universe
+
 -- the head of a declaration of a module, if it is that of a type
 abbrev pub head_in : Bytes → PlainDeclaration → Option Head
-head_in owner (constant at name t) = None
-head_in owner (opaque_type at name parameters universe) = Some (head owner name.name parameters universe)
-head_in owner (record_type at name parameters universe fields) = Some (head owner name.name parameters universe)
-head_in owner (union_type at name parameters universe cases) = Some (head owner name.name parameters universe)
-head_in owner (function at generics header) = None
-head_in owner (class at name parameter methods) = None
-head_in owner (instance at generics name t) = None
-head_in owner (constant_body at name t e) = None
-head_in owner (function_body at generics header body stop) = None
-head_in owner (instance_body at generics name t methods) = None
+head_in owner d = option_map (head_for owner) (type_declared d)
 
 -- the row of a head, if there is one
 abbrev pub row_under : DeclAt → Option Head → List (DeclAt × Head)

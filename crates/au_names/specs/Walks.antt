@@ -23,6 +23,10 @@ written d = plain_declaration parsed.name_bytes (declaration parsed d)
 abbrev pub written_all : List (Decl Parsed (List ℕ) (Unit {0}) (Unit {0})) → List PlainDeclaration
 written_all ds = map (plain_declaration parsed.name_bytes) (map (declaration parsed) ds)
 
+-- what a type parameter of the code says
+abbrev pub written_parameter : TypeParameter Parsed (List ℕ) (Unit {0}) (Unit {0}) → InUniverse Bytes
+written_parameter p = plain_in_universe parsed.name_bytes (in_universe parsed p)
+
 -- what type parameters of the code say
 abbrev pub written_parameters : List (TypeParameter Parsed (List ℕ) (Unit {0}) (Unit {0})) → List (InUniverse Bytes)
 written_parameters ps = map (plain_in_universe parsed.name_bytes) (map (in_universe parsed) ps)

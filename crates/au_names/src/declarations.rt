@@ -10,6 +10,7 @@ ghost use Rattle.au_names.specs.Standing as spec;
 ghost use Rattle.au_names.specs.Standing.{standing_from, standing_seen};
 ghost use Rattle.au_syntax.specs.declared.modules.Part.TheVariants as parts;
 
+use crate::declared_types::type_declared;
 use au_base::Name;
 use au_modules::Modules;
 use au_syntax::{Decl, Parsed, Part, Whole};
@@ -115,17 +116,9 @@ pub fn declaration(modules: &Modules, at: DeclAt) -> Option<Declared<'_>>
 fn opaque_name(decl: &Decl<Parsed>) -> Option<&Name>
     ensures { option_copied result ≡ spec.opaque_name (written decl.now) }
 {
-    match decl {
-        Decl::Constant(_, _, _) => None,
-        Decl::Opaque(_, name, _, _) => Some(&name.name),
-        Decl::Record(_, _, _, _, _) => None,
-        Decl::Union(_, _, _, _, _) => None,
-        Decl::Function(_, _, _) => None,
-        Decl::Class(_, _, _, _) => None,
-        Decl::Instance(_, _, _, _) => None,
-        Decl::ConstantBody(_, _, _, _) => None,
-        Decl::FunctionBody(_, _, _, _, _) => None,
-        Decl::InstanceBody(_, _, _, _, _) => None,
+    match type_declared(decl) {
+        None => None,
+        Some(one) => { if one.opaque { Some(one.name) } else { None } }
     }
 }
 
@@ -133,17 +126,9 @@ fn opaque_name(decl: &Decl<Parsed>) -> Option<&Name>
 fn whole_name(decl: &Decl<Parsed>) -> Option<&Name>
     ensures { option_copied result ≡ spec.whole_name (written decl.now) }
 {
-    match decl {
-        Decl::Constant(_, _, _) => None,
-        Decl::Opaque(_, _, _, _) => None,
-        Decl::Record(_, name, _, _, _) => Some(&name.name),
-        Decl::Union(_, name, _, _, _) => Some(&name.name),
-        Decl::Function(_, _, _) => None,
-        Decl::Class(_, _, _, _) => None,
-        Decl::Instance(_, _, _, _) => None,
-        Decl::ConstantBody(_, _, _, _) => None,
-        Decl::FunctionBody(_, _, _, _, _) => None,
-        Decl::InstanceBody(_, _, _, _, _) => None,
+    match type_declared(decl) {
+        None => None,
+        Some(one) => { if one.opaque { None } else { Some(one.name) } }
     }
 }
 

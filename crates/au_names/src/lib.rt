@@ -3,11 +3,13 @@
 #![tactic(auto)]
 
 pub mod declarations;
+pub mod declared_types;
 pub mod exports;
 pub mod imports;
 pub mod laws;
 mod members;
 pub mod module_names;
+pub mod parameters;
 pub mod part_names;
 pub mod programs;
 mod putting;
@@ -17,6 +19,7 @@ pub mod targets;
 mod walking;
 
 pub use declarations::{Declared, declaration, definition};
+pub use declared_types::{TypeDeclared, type_declared};
 pub use exports::{Exports, exports_of};
 pub use module_names::ModuleNames;
 pub use part_names::PartNames;

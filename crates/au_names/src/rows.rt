@@ -1,13 +1,16 @@
 //! The row of one declaration.
 
-ghost use Rattle.std.specs.Prelude.{◌≡◌, ◌++◌, ◌∷◌, Some, None, IfOk, OnOk, map};
+ghost use Rattle.std.specs.Prelude.{◌≡◌, ◌++◌, ◌∷◌, Some, None, IfOk, OnOk};
 ghost use Rattle.au_names.specs.HeadsOf as spec;
-ghost use Rattle.au_names.specs.Walks.{written, written_parameters};
+ghost use Rattle.au_names.specs.DeclaredTypes.{type_says};
+ghost use Rattle.au_names.specs.Walks.{written};
 ghost use Rattle.au_types.specs.Rows.{head_of};
 
+use crate::declared_types::{TypeDeclared, type_declared};
+use crate::parameters::params_of;
 use au_base::{Memory, Name, Text};
-use au_syntax::{Decl, Ident, Parsed, TypeParameter, Universe};
-use au_types::{DeclAt, Head, Heads, Parameter, Params};
+use au_syntax::{Decl, Parsed};
+use au_types::{DeclAt, Head, Heads};
 use std::alloc::Global;
 
 /// The text of a type: its module's name, a colon and its own name.
@@ -20,34 +23,15 @@ fn text_of(alloc: Global, owner: &Name, name: &Name) -> Result<Text, Memory>
     Ok(text)
 }
 
-/// The type parameters that are written.
-fn params_of(alloc: Global, list: &Vec<TypeParameter<Parsed>>) -> Result<Params, Memory>
-    ensures { IfOk result (λ params. params ≡ map spec.parameter (written_parameters list.now.items)) }
-{
-    let mut params = Params::new(alloc);
-    for one in list {
-        let universe = one.universe;
-        let name = one.name.name.copy(alloc)?;
-        params.push(Parameter { name, universe })?;
-    }
-    Ok(params)
-}
-
 /// The head of a type of a module.
-fn type_head(
-    alloc: Global,
-    owner: &Name,
-    name: &Ident<Parsed>,
-    list: &Vec<TypeParameter<Parsed>>,
-    universe: Universe,
-) -> Result<Option<Head>, Memory>
-    ensures { IfOk result (λ head. head ≡ Some (spec.head owner.now name.now.name (written_parameters list.now.items) universe)) }
+fn type_head(alloc: Global, owner: &Name, one: &TypeDeclared) -> Result<Option<Head>, Memory>
+    ensures { IfOk result (λ head. head ≡ Some (spec.head_for owner.now (type_says one.now))) }
 {
-    let text = text_of(alloc, owner, &name.name)?;
-    let params = params_of(alloc, list)?;
+    let text = text_of(alloc, owner, one.name)?;
+    let params = params_of(alloc, one.parameters)?;
     Ok(Some(Head {
         text,
-        universe,
+        universe: one.universe,
         params,
     }))
 }
@@ -56,17 +40,9 @@ fn type_head(
 fn head_in(alloc: Global, owner: &Name, decl: &Decl<Parsed>) -> Result<Option<Head>, Memory>
     ensures { IfOk result (λ head. head ≡ spec.head_in owner.now (written decl.now)) }
 {
-    match decl {
-        Decl::Constant(_, _, _) => Ok(None),
-        Decl::Opaque(_, name, list, universe) => type_head(alloc, owner, name, list, *universe),
-        Decl::Record(_, name, list, universe, _) => type_head(alloc, owner, name, list, *universe),
-        Decl::Union(_, name, list, universe, _) => type_head(alloc, owner, name, list, *universe),
-        Decl::Function(_, _, _) => Ok(None),
-        Decl::Class(_, _, _, _) => Ok(None),
-        Decl::Instance(_, _, _, _) => Ok(None),
-        Decl::ConstantBody(_, _, _, _) => Ok(None),
-        Decl::FunctionBody(_, _, _, _, _) => Ok(None),
-        Decl::InstanceBody(_, _, _, _, _) => Ok(None),
+    match type_declared(decl) {
+        None => Ok(None),
+        Some(one) => type_head(alloc, owner, &one),
     }
 }
 

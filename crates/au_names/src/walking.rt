@@ -13,7 +13,8 @@ use crate::rows::push_row;
 use au_base::{Memory, Name};
 use au_modules::Modules;
 use au_syntax::{Decl, Parsed, Whole};
-use au_tables::Table;
+use au_tables::declared_names::put_declared;
+use au_tables::{Space, Table};
 use au_types::{DeclAt, Heads};
 use std::alloc::Global;
 
@@ -31,23 +32,13 @@ pub struct Walk {
 
 /// Puts the name of a declaration, if it brings one in to the space of types, and answers whether it does
 /// and the name is new.
-#[tactic(auto, using(au_syntax::proofs::DeclarationLemmas::declaration_steps, au_tables::proofs::TableLemmas::put_steps, std::proofs::lemmas::Grind::common_steps))]
 fn put_type(seen: &mut Table<u32>, decl: &Decl<Parsed>, number: u32) -> Result<bool, Memory>
     ensures new { IfOk result (λ new. new ≡ is_new (type_names_of decl.now) seen.old) }
     ensures seen { OnOk result (seen.new ≡ with_all seen.old (given number (type_names_of decl.now))) }
 {
-    match decl {
-        Decl::Constant(_, _, _) => Ok(false),
-        Decl::Opaque(_, name, _, _) => seen.put(name.name.as_bytes(), number),
-        Decl::Record(_, name, _, _, _) => seen.put(name.name.as_bytes(), number),
-        Decl::Union(_, name, _, _, _) => seen.put(name.name.as_bytes(), number),
-        Decl::Function(_, _, _) => Ok(false),
-        Decl::Class(_, name, _, _) => seen.put(name.name.as_bytes(), number),
-        Decl::Instance(_, _, _, _) => Ok(false),
-        Decl::ConstantBody(_, _, _, _) => Ok(false),
-        Decl::FunctionBody(_, _, _, _, _) => Ok(false),
-        Decl::InstanceBody(_, _, _, _, _) => Ok(false),
-    }
+    let before = seen.len();
+    put_declared(seen, Space::Types, decl, number)?;
+    Ok(before < seen.len())
 }
 
 /// Walks past a declaration, and puts its row behind others.
