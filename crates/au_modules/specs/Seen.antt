@@ -3,6 +3,8 @@ use Rattle.std.specs.Prelude.{ℕ, List, Option, Some, None}
 use Rattle.std.specs.Borrow.{Bor}
 use Rattle.std.specs.Option.{option_map}
 use Rattle.au_syntax.specs.contracts.parsed.ParsedPhase.TheImpl.{ghosts as parsed}
+use Rattle.au_syntax.specs.declared.modules.Part.{Part}
+use Rattle.au_syntax.specs.declared.modules.Part.TheVariants.{Interface, Body}
 use Rattle.au_syntax.specs.declared.parsed.Parsed.{Parsed}
 use Rattle.au_syntax.specs.declared.wholes.Whole.{Whole}
 use Rattle.au_syntax.specs.Files.{says}
@@ -31,3 +33,8 @@ interface_tree (Some m) = option_map (λ (e : Entry). e.tree) m.interface
 abbrev pub body_tree : Option ModuleParts → Option PlainModule
 body_tree None = None
 body_tree (Some m) = option_map (λ (e : Entry). e.tree) m.body
+
+-- what is written in one of its parts
+abbrev pub part_tree : Part → Option ModuleParts → Option PlainModule
+part_tree Interface found = interface_tree found
+part_tree Body found = body_tree found

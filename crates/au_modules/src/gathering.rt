@@ -1,6 +1,7 @@
 //! From files to modules.
 
-ghost use Rattle.std.specs.Prelude.{◌≡◌, ◌++◌, ◌⊎◌, IfOk, OnOk, Some, None, map, position};
+ghost use Rattle.std.specs.Prelude.{◌≡◌, ◌++◌, ◌⊎◌, IfOk, IsTrue, OnOk, Some, None, map, position};
+ghost use Rattle.au_modules.specs.Counts.{are_few};
 ghost use Rattle.au_modules.specs.Programs as spec;
 ghost use Rattle.au_modules.specs.Programs.{entry, refusal_of, modules_of};
 ghost use Rattle.au_modules.specs.Slots.{modules, shipped_slots, body_slots, body_slot, gives_interface};
@@ -100,6 +101,7 @@ fn slots_of(alloc: Global, givens: &Vec<Given>) -> Result<Vec<Slot>, Memory>
 /// interface without a body (`ModuleFault::NoBody`). `ModuleFault::Memory` where no memory was found,
 /// in place of any other answer.
 pub fn gather(alloc: Global, files: Vec<FileTree>) -> Result<Modules, ModuleFault>
+    requires { IsTrue (are_few (map entry files.items)) }
     // The modules are those of the files by their places.
     ensures modules { IfOk result (λ m. modules m ≡ modules_of (map entry files.items)) }
     // Nothing is refused where they are given.

@@ -22,7 +22,7 @@ use crate::keys::instance_key;
 use crate::sights::Sight;
 use crate::wording::{means_nothing, same_written};
 use au_base::{Memory, Name, Pos};
-use au_resolved::Resolved;
+use au_names::NamedModules as Resolved;
 use au_syntax::{Decl, Generic, Ident, Parsed, Part, TypeText, Whole};
 use au_types::Params;
 use std::alloc::Global;
