@@ -67,8 +67,10 @@ among a b c d e =
 declared_fewer : (m : PlainModule) → length m.declarations ≤ length (words m)
 declared_fewer m =
     let before = part_words m.part ++ dotted m.name ++ word KwIs ++ pragma_words m.pragma in
-    let body = before ++ flat_map declaration_words m.declarations ++ word KwEnd ++ part_words m.part ++ mark Dot in
-    let inner = among before (flat_map declaration_words m.declarations) (word KwEnd) (part_words m.part) (mark Dot) in
+    let body = before ++ flat_map declaration_words m.declarations ++ word KwEnd ++ part_words m.part
+    ++ mark Dot in
+    let inner = among before (flat_map declaration_words m.declarations) (word KwEnd) (part_words m.part)
+    (mark Dot) in
     omega (
       arith,
       fewer m.declarations,
@@ -89,7 +91,8 @@ read_few : (file number : ℕ) (bytes : List ℕ) (one : ReadFile) → IsRead fi
     → has_few (record { file = number; tree = one.tree }) ≡ true
 read_few file number bytes one h =
     let same = spelled_length (words one.tree) one.tokens h.spelled in
-    le-leb (length one.tree.declarations) most_tokens (omega (arith, declared_fewer one.tree, same, h.within.1))
+    le-leb (length one.tree.declarations) most_tokens
+    (omega (arith, declared_fewer one.tree, same, h.within.1))
 
 reads_few : (file : ℕ) (all : List (List ℕ)) (reads : List ReadFile) → AreRead file all reads
     → list_all has_few (entries file reads) ≡ true
