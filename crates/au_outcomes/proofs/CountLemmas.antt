@@ -37,14 +37,14 @@ ends at ws sign = omega (arith, begun_length at (ws ++ mark sign), length-append
 
 -- a declaration has a word
 some_word : (d : PlainDeclaration) → 1 ≤ length (declaration_words d)
-some_word (constant at name t) = ends at _ Semicolon
-some_word (opaque_type at name parameters universe) = ends at _ Semicolon
-some_word (record_type at name parameters universe fields) = ends at _ Semicolon
-some_word (union_type at name parameters universe cases) = ends at _ Semicolon
+some_word (constant at name t) = omega arith
+some_word (opaque_type at name parameters universe) = omega arith
+some_word (record_type at name parameters universe fields) = omega arith
+some_word (union_type at name parameters universe cases) = omega arith
 some_word (function at generics header) = ends at _ Semicolon
-some_word (class at name parameter methods) = ends at _ Semicolon
+some_word (class at name parameter methods) = omega arith
 some_word (instance at generics name t) = ends at _ Semicolon
-some_word (constant_body at name t e) = ends at _ Semicolon
+some_word (constant_body at name t e) = omega arith
 some_word (function_body at generics header body stop) = ends at _ Semicolon
 some_word (instance_body at generics name t methods) = ends at _ Semicolon
 
@@ -131,7 +131,9 @@ files_few : (own : List Entry) → length own ≤ most_files → list_all has_fe
     → are_few (shipped_entries ++ own) ≡ true
 unfolding shipped_entries
 files_few own few all =
-    ap (λ b. b && list_all has_few own) (le-leb (4 + length own) counts.most_files (omega (arith, few))) ∙ all
+    ap (λ b. b && list_all has_few own)
+    (le-leb (suc (suc (suc (suc (length own))))) counts.most_files (omega (arith, few)))
+    ∙ all
 
 pub with_shipped_few : (own : List FileTree) (files : List Entry) → files ≡ shipped_entries ++ map entry own
     → length own ≤ most_files → list_all has_few (map entry own) ≡ true → are_few files ≡ true
