@@ -1,8 +1,7 @@
 -- Files that were read are as few as those of a program, and the declarations in each too.
-use Rattle.std.proofs.Common.{◌≡◌, ◌≤◌, ◌+◌, ℕ, suc, Bool, true, ◌&&◌, List, [], ◌∷◌, ◌++◌, Vec, length, map, refl, ap, sym, ◌∙◌, arith}
+use Rattle.std.proofs.Common.{◌≡◌, ◌≤◌, ◌+◌, ℕ, suc, true, ◌&&◌, List, [], ◌∷◌, ◌++◌, Vec, length, map, refl, ap, sym, ◌∙◌, arith}
 use Rattle.std.specs.Global.{Global}
 use Rattle.std.specs.List.{flat_map, list_all}
-use Rattle.std.specs.Prelude.{IsTrue}
 use Rattle.std.proofs.lemmas.Bool.{le-leb}
 use Rattle.std.proofs.lemmas.List.{length-append, length-map}
 use Rattle.au_base.specs.declared.places.Pos.{Pos}
@@ -14,7 +13,7 @@ use Rattle.au_base.specs.Limits.{most_tokens}
 use Rattle.au_syntax.specs.declared.wholes.FileTree.{FileTree}
 use Rattle.au_syntax.specs.Modules.{constant, opaque_type, record_type, union_type, function, class, instance, constant_body, function_body, instance_body}
 use Rattle.au_syntax.specs.Plain.{PlainDeclaration, PlainModule}
-use Rattle.au_syntax.specs.Words.{AreWords, Spells, Words, begun, declaration_words, dotted, import_words, mark, part_words, pragma_words, word, words}
+use Rattle.au_syntax.specs.Words.{AreWords, Words, begun, declaration_words, dotted, import_words, mark, part_words, pragma_words, word, words}
 use Rattle.au_modules.specs.Counts as counts
 use Rattle.au_modules.specs.Counts.{are_few, has_few}
 use Rattle.au_modules.specs.Programs.{Entry, entry}

@@ -1,4 +1,4 @@
-use Rattle.std.proofs.Common.{◌++◌, ap, ◌∙◌, map}
+use Rattle.std.proofs.Common.{ap, ◌∙◌, map}
 use Rattle.au_modules.specs.Programs.{entry}
 use Rattle.au_modules.specs.Slots.{all_slots, parts_at}
 use Rattle.au_modules.proofs.PlaceLemmas.{slots_placed}
