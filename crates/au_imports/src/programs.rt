@@ -15,10 +15,8 @@ ghost use Rattle.au_types.specs.Views.{meaning};
 ghost use Rattle.au_written_types.specs.Meant.{meant};
 
 use au_base::{Memory, Name};
-use au_names::{Declared, declaration, definition};
 use au_modules::Modules;
-use au_names::PartNames;
-use au_names::NamedModules;
+use au_names::{Declared, NamedModules, PartNames, declaration, definition};
 use au_syntax::{Part, TypeText};
 use au_types::{DeclAt, Heads, Params, Ty};
 use std::alloc::Global;

@@ -28,8 +28,8 @@ pub record IsProgram (files : List Entry) : Type 0 where
   pub limits : (i : ℕ) (e : Entry) → Stands files i e → limit_in e.tree.declarations ≡ None
   -- No file of the user's has the pragma of unsafe modules.
   pub safe : (i : ℕ) (e : Entry) → Stands files i e → IsOwn e → e.tree.pragma ≡ None
-  -- A file of the user's has a module's name that no file before it has, but for one of the user's that gives the other
-  -- part of the module.
+  -- A file of the user's has a module's name that no file before it has, but for one of the user's that
+  -- gives the other part of the module.
   pub once : (i k : ℕ) (e f : Entry) → i < k → Stands files i e → Stands files k f → IsOwn f → AreOfOne e f
       → IsOwn e × ¬ (e.tree.part ≡ f.tree.part)
   -- Each interface of the user's has a body.

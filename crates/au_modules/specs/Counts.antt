@@ -1,5 +1,5 @@
--- How many files a program has and how many declarations a file, so that the place of a module and the number of a
--- declaration fit where they are kept.
+-- How many files a program has and how many declarations a file, so that the place of a module and the
+-- number of a declaration fit where they are kept.
 use Rattle.std.specs.Prelude.{ℕ, Bool, ◌&&◌, nat_le, List, length}
 use Rattle.std.specs.List.{list_all}
 use Rattle.au_base.specs.Limits.{most_tokens}

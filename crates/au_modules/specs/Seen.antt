@@ -12,9 +12,13 @@ use Rattle.au_syntax.specs.Plain.{Bytes, PlainModule}
 use Rattle.au_modules.specs.Programs.{Entry, ModuleParts}
 use Rattle.au_modules.specs.Slots.{file_at}
 
--- what a tree behind a reference says, if there is one
-abbrev pub tree_seen : Option (Bor (Whole Parsed (List ℕ) (Unit {0}) (Unit {0}) parsed)) → Option PlainModule
-tree_seen found = option_map (λ (b : Bor (Whole Parsed (List ℕ) (Unit {0}) (Unit {0}) parsed)). says parsed b.now.tree) found
+-- a whole file that is lent
+abbrev pub FileLent : Type 0
+FileLent = Bor (Whole Parsed (List ℕ) (Unit {0}) (Unit {0}) parsed)
+
+-- what the tree of a file that is lent says, if there is one
+abbrev pub tree_seen : Option FileLent → Option PlainModule
+tree_seen found = option_map (λ (b : FileLent). says parsed b.now.tree) found
 
 -- what is written in the file of this index
 abbrev pub tree_at : List Entry → Option ℕ → Option PlainModule

@@ -1,5 +1,5 @@
 -- What defines a type has the type's name.
-use Rattle.std.proofs.Common.{◌≡◌, ℕ, zero, suc, ◌+◌, ◌≤◌, Bool, true, false, cond, List, [], ◌∷◌, ◌++◌, length, find, Option, None, Some, refl, sym, ap, ◌∙◌, subst, arith, rules, zero-add}
+use Rattle.std.proofs.Common.{◌≡◌, ℕ, zero, suc, ◌+◌, Bool, true, false, cond, List, [], ◌∷◌, ◌++◌, length, find, Option, None, Some, refl, sym, ap, ◌∙◌, subst, arith, rules, zero-add}
 use Rattle.std.specs.Prelude.{slice_get}
 use Rattle.std.specs.Str.{bytes_eq}
 use Rattle.std.proofs.lemmas.Option.{none-some, same_Some}

@@ -152,14 +152,17 @@ body_seen m = by m.body
     by (Some e) = refl
 
 -- a file has as many declarations as its tree
-pub length_seen : (tree : Module Parsed (List ℕ) (Unit {0}) (Unit {0})) → length tree.declarations.items ≡ length (says parsed tree).declarations
+pub length_seen : (tree : Module Parsed (List ℕ) (Unit {0}) (Unit {0}))
+    → length tree.declarations.items ≡ length (says parsed tree).declarations
 length_seen tree =
     sym (length-map (map (declaration parsed) tree.declarations.items) (plain_declaration parsed.name_bytes) ∙ length-map tree.declarations.items (declaration parsed))
 
 -- the declarations that are seen of a file are few where the file's are
-pub few_seen : (seen file : Option PlainModule) → seen ≡ file → declared file ≤ most_tokens → length (declarations_seen seen) ≤ most_tokens
+pub few_seen : (seen file : Option PlainModule) → seen ≡ file → declared file ≤ most_tokens
+    → length (declarations_seen seen) ≤ most_tokens
 few_seen seen None same few = let none = ap (λ o. length (declarations_seen o)) same in omega (arith, none)
-few_seen seen (Some tree) same few = let some = ap (λ o. length (declarations_seen o)) same in omega (arith, some, few)
+few_seen seen (Some tree) same few =
+    let some = ap (λ o. length (declarations_seen o)) same in omega (arith, some, few)
 
 -- a module without parts
 pub nothing : ModuleParts

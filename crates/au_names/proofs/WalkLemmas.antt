@@ -108,10 +108,13 @@ short _ = omega arith
 grown : (seen : List (Bytes × ℕ)) (names : List Bytes) (number : ℕ) → length names ≤ 1
     → nat_lt (length seen) (length (with_all seen (given number names))) ≡ is_new names seen
 grown seen [] number few =
-    ap (λ t. nat_lt (length seen) (length t)) (with_all-none seen) ∙ le-ltb (length seen) (length seen) (omega arith)
-grown seen (name ∷ []) number few = ap (λ t. nat_lt (length seen) (length t)) (with_all-one seen name number) ∙ by (has_name name seen) refl
+    ap (λ t. nat_lt (length seen) (length t)) (with_all-none seen)
+    ∙ le-ltb (length seen) (length seen) (omega arith)
+grown seen (name ∷ []) number few =
+    ap (λ t. nat_lt (length seen) (length t)) (with_all-one seen name number) ∙ by (has_name name seen) refl
   where
-    by : (b : Bool) → has_name name seen ≡ b → nat_lt (length seen) (length (with_pair seen name number)) ≡ not (has_name name seen)
+    by : (b : Bool) → has_name name seen ≡ b
+        → nat_lt (length seen) (length (with_pair seen name number)) ≡ not (has_name name seen)
     by true k =
         ap (λ t. nat_lt (length seen) (length t)) (with_pair-old seen name number k)
         ∙ le-ltb (length seen) (length seen) (omega arith)
@@ -122,9 +125,11 @@ grown seen (name ∷ []) number few = ap (λ t. nat_lt (length seen) (length t))
         ∙ ap not (sym k)
 grown seen (name ∷ more ∷ names) number few = absurd (omega arith)
 
-pub type_put : (seen after : List (Bytes × ℕ)) (d : PlainDeclaration) (number : ℕ) → after ≡ with_all seen (given number (type_names d))
+pub type_put : (seen after : List (Bytes × ℕ)) (d : PlainDeclaration) (number : ℕ)
+    → after ≡ with_all seen (given number (type_names d))
     → nat_lt (length seen) (length after) ≡ is_new (type_names d) seen
-type_put seen after d number h = ap (λ t. nat_lt (length seen) (length t)) h ∙ grown seen (type_names d) number (short d)
+type_put seen after d number h =
+    ap (λ t. nat_lt (length seen) (length t)) h ∙ grown seen (type_names d) number (short d)
 
 module _ (place : ℕ) (owner : Bytes) where
   abbrev rows_in : List (Bytes × (ℕ × PlainDeclaration)) → List (DeclAt × Head)
@@ -267,7 +272,9 @@ module_rows place None owner h = cc
 module_rows place (Some m) owner h =
     sym (rows_on-append (walk_at place owner 0 []) owner (declarations_seen (interface_tree (Some m))) (declarations_seen (body_tree (Some m))))
     ∙ sym (whole_rows place owner (declarations_seen (interface_tree (Some m)) ++ declarations_seen (body_tree (Some m))))
-    ∙ ap (λ o. rows_of place o (numbered 0 (declarations_seen (interface_tree (Some m)) ++ declarations_seen (body_tree (Some m))))) (sym (some_is m.name owner h))
+    ∙ ap (λ o. rows_of place o
+    (numbered 0 (declarations_seen (interface_tree (Some m)) ++ declarations_seen (body_tree (Some m)))))
+    (sym (some_is m.name owner h))
     ∙ (λ i. rows_of place m.name (numbered 0 (sym (interface_seen m) i ++ sym (body_seen m) i)))
 
 -- a walk over both parts of the module at a place gives the rows of that module

@@ -23,8 +23,10 @@ a_type opaque name parameters universe =
 -- the type that a declaration declares, if it declares one
 abbrev pub type_declared : PlainDeclaration → Option DeclaredType
 type_declared (opaque_type at name parameters universe) = Some (a_type true name.name parameters universe)
-type_declared (record_type at name parameters universe fields) = Some (a_type false name.name parameters universe)
-type_declared (union_type at name parameters universe cases) = Some (a_type false name.name parameters universe)
+type_declared (record_type at name parameters universe fields) =
+    Some (a_type false name.name parameters universe)
+type_declared (union_type at name parameters universe cases) =
+    Some (a_type false name.name parameters universe)
 type_declared other = None
 
 -- what a type that the code shows says

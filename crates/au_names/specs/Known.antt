@@ -39,10 +39,12 @@ in_part Body names = names.body
 
 -- These are the names of the modules of a program: at each place what names mean in the module there.
 abbrev pub AreNames : List ModuleParts → List ModuleNames → Type 0
-AreNames program all = (place : ℕ) → slice_get all place ≡ option_map (names_of program place) (slice_get program place)
+AreNames program all =
+    (place : ℕ) → slice_get all place ≡ option_map (names_of program place) (slice_get program place)
 
 -- All of a program is known: what names mean in each part of each module, and the rows of its declared
 -- types.
-pub record IsResolved (program : List ModuleParts) (all : List ModuleNames) (heads : List (DeclAt × Head)) : Type 0 where
+pub record IsResolved (program : List ModuleParts) (all : List ModuleNames)
+    (heads : List (DeclAt × Head)) : Type 0 where
   pub names : AreNames program all
   pub rows : heads ≡ heads_of program

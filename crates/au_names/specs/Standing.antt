@@ -12,8 +12,8 @@ use Rattle.au_names.specs.Walks.{written}
 use Rattle.au_names.specs.Owned.{declarations_in}
 use Rattle.au_names.specs.declared.declarations.Declared as code
 
--- a declaration of a program: the place of its module, its part, its index among the declarations of that part, and
--- what it says
+-- a declaration of a program: the place of its module, its part, its index among the declarations of that
+-- part, and what it says
 pub record Standing : Type 0 where
   pub place : ℕ
   pub part : Part
@@ -32,9 +32,11 @@ standing_from place part index (d ∷ ds) =
 abbrev pub body_standing : ℕ → ModuleParts → List Standing
 body_standing place m = standing_from place Body 0 (declarations_in m.body)
 
--- the declarations of the module at a place by their numbers: those of its interface, and then those of its body
+-- the declarations of the module at a place by their numbers: those of its interface, and then those of
+-- its body
 abbrev pub module_standing : ℕ → ModuleParts → List Standing
-module_standing place m = standing_from place Interface 0 (declarations_in m.interface) ++ body_standing place m
+module_standing place m =
+    standing_from place Interface 0 (declarations_in m.interface) ++ body_standing place m
 
 -- the declaration of a number in the module at a place, if it is there
 abbrev pub standing_in : ℕ → ℕ → Option ModuleParts → Option Standing
@@ -72,8 +74,8 @@ abbrev pub body_at : ℕ → Option ModuleParts → List Standing
 body_at place None = []
 body_at place (Some m) = body_standing place m
 
--- An opaque type of this name is defined by the first record or union of its name in the body of its module. Whatever
--- is no opaque type is its own definition.
+-- An opaque type of this name is defined by the first record or union of its name in the body of its
+-- module. Whatever is no opaque type is its own definition.
 abbrev pub defined_by : List Standing → Standing → Option Bytes → Option Standing
 defined_by body d None = Some d
 defined_by body d (Some name) = find (is_whole name) body
@@ -81,7 +83,8 @@ defined_by body d (Some name) = find (is_whole name) body
 -- the definition of a declaration, if there is one
 abbrev pub definition_for : List ModuleParts → Option Standing → Option Standing
 definition_for program None = None
-definition_for program (Some d) = defined_by (body_at d.place (slice_get program d.place)) d (opaque_name d.says)
+definition_for program (Some d) =
+    defined_by (body_at d.place (slice_get program d.place)) d (opaque_name d.says)
 
 -- the definition of the declaration with this module and number
 abbrev pub definition_of : List ModuleParts → DeclAt → Option Standing

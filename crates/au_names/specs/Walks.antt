@@ -28,7 +28,8 @@ abbrev pub written_parameter : TypeParameter Parsed (List ℕ) (Unit {0}) (Unit 
 written_parameter p = plain_in_universe parsed.name_bytes (in_universe parsed p)
 
 -- what type parameters of the code say
-abbrev pub written_parameters : List (TypeParameter Parsed (List ℕ) (Unit {0}) (Unit {0})) → List (InUniverse Bytes)
+abbrev pub written_parameters : List (TypeParameter Parsed (List ℕ) (Unit {0}) (Unit {0}))
+    → List (InUniverse Bytes)
 written_parameters ps = map (plain_in_universe parsed.name_bytes) (map (in_universe parsed) ps)
 
 -- the names that a declaration of the code brings in to the space of types, which are one or none
@@ -46,7 +47,8 @@ row_on w owner d = if is_new (type_names d) w.seen then row_of w.place owner (w.
 
 -- the walk behind the next declaration
 abbrev pub walk_past : Walk → PlainDeclaration → Walk
-walk_past w d = record { place = w.place; number = w.number + 1; seen = with_all w.seen (given w.number (type_names d)) }
+walk_past w d =
+    record { place = w.place; number = w.number + 1; seen = with_all w.seen (given w.number (type_names d)) }
 
 -- the rows that the next declarations of a module give
 unfoldable pub rows_on : Walk → Bytes → List PlainDeclaration → List (DeclAt × Head)
@@ -60,4 +62,6 @@ walk_over w (d ∷ ds) = walk_over (walk_past w d) ds
 
 -- no row is of this declaration or of one behind it, in the same module or in a later one
 abbrev pub IsFreeFrom : ℕ → ℕ → List (DeclAt × Head) → Type 0
-IsFreeFrom place number rows = (at : DeclAt) → (place < at.«module») ⊎ ((place ≡ at.«module») × (number ≤ at.decl)) → head_of rows at ≡ None
+IsFreeFrom place number rows =
+    (at : DeclAt) → (place < at.«module») ⊎ ((place ≡ at.«module») × (number ≤ at.decl))
+    → head_of rows at ≡ None

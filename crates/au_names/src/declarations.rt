@@ -68,7 +68,8 @@ fn declared_in<'a>(
     file: Option<&'a Whole<Parsed>>,
     index: usize,
 ) -> Option<Declared<'a>>
-    ensures { standing_seen result ≡ slice_get (standing_from place part 0 (declarations_seen (tree_seen file.entry))) index }
+    ensures { standing_seen result
+        ≡ slice_get (standing_from place part 0 (declarations_seen (tree_seen file.entry))) index }
 {
     match file {
         None => None,
@@ -83,7 +84,8 @@ fn declared_at<'a>(
     decls: &'a Vec<Decl<Parsed>>,
     index: usize,
 ) -> Option<Declared<'a>>
-    ensures { standing_seen result ≡ slice_get (standing_from place part 0 (written_all decls.now.items)) index }
+    ensures { standing_seen result
+        ≡ slice_get (standing_from place part 0 (written_all decls.now.items)) index }
 {
     match decls.get(index) {
         None => None,
@@ -144,7 +146,8 @@ fn is_whole(name: &Name, decl: &Decl<Parsed>) -> bool
 
 /// The first record or union of a name among the declarations of the body of the module at a place.
 fn whole_among<'a>(place: u16, decls: &'a Vec<Decl<Parsed>>, name: &Name) -> Option<Declared<'a>>
-    ensures { standing_seen result ≡ find (spec.is_whole name.now) (standing_from place parts.Body 0 (written_all decls.now.items)) }
+    ensures { standing_seen result
+        ≡ find (spec.is_whole name.now) (standing_from place parts.Body 0 (written_all decls.now.items)) }
 {
     for (index, decl) in decls.iter().enumerate() {
         if is_whole(name, decl) {
@@ -161,7 +164,8 @@ fn whole_among<'a>(place: u16, decls: &'a Vec<Decl<Parsed>>, name: &Name) -> Opt
 
 /// The first record or union of a name in the body of the module at a place, if there is one.
 fn whole_in<'a>(modules: &'a Modules, place: u16, name: &Name) -> Option<Declared<'a>>
-    ensures { standing_seen result ≡ find (spec.is_whole name.now) (spec.body_at place (slice_get (slots.modules modules.now) place)) }
+    ensures { standing_seen result
+        ≡ find (spec.is_whole name.now) (spec.body_at place (slice_get (slots.modules modules.now) place)) }
 {
     match body_at(modules, place) {
         None => None,

@@ -59,7 +59,8 @@ pub fn no_names(alloc: Global) -> NameTables
 /// The names that the interface of the module at a place offers.
 fn offered(alloc: Global, modules: &Modules, place: usize) -> Result<NameTables, Memory>
     requires { place < length (slots.modules modules.now) }
-    ensures { IfOk result (λ names. option_map offers (slice_get (slots.modules modules.now) place) ≡ Some names) }
+    ensures { IfOk result
+        (λ names. option_map offers (slice_get (slots.modules modules.now) place) ≡ Some names) }
 {
     match modules.interface(place) {
         None => Ok(no_names(alloc)),
@@ -110,7 +111,8 @@ pub fn exports_of(alloc: Global, modules: &Modules) -> Result<Exports, Memory>
 /// The names of a space that the interface of the module at a place offers.
 pub fn offered_names(exports: &Exports, place: usize, space: Space) -> &Table<u32>
     requires { place < length exports.now.interfaces.items }
-    ensures { (program : List ModuleParts) (m : ModuleParts) → AreExports exports.now program → slice_get program place ≡ Some m → result.now ≡ table_of space (interface_of m) }
+    ensures { (program : List ModuleParts) (m : ModuleParts) → AreExports exports.now program
+        → slice_get program place ≡ Some m → result.now ≡ table_of space (interface_of m) }
 {
     let names = &exports.interfaces[place];
     in_space(names, space)

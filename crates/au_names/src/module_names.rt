@@ -45,7 +45,9 @@ fn names_at(
 ) -> Result<ModuleNames, Memory>
     requires within { place < length (slots.modules modules.now) }
     requires made { AreExports exports.now (slots.modules modules.now) }
-    ensures { IfOk result (λ names. option_map (names_of (slots.modules modules.now) place) (slice_get (slots.modules modules.now) place) ≡ Some names) }
+    ensures { IfOk result
+        (λ names. option_map (names_of (slots.modules modules.now) place)
+        (slice_get (slots.modules modules.now) place) ≡ Some names) }
 {
     let interface = names_seen(alloc, modules, exports, place, Part::Interface)?;
     let body = names_seen(alloc, modules, exports, place, Part::Body)?;

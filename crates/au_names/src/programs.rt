@@ -83,9 +83,12 @@ impl NamedModules {
     /// What names mean in a part of the module at a place.
     pub fn names(&self, place: usize, part: Part) -> &PartNames
         requires { place < length (slots.modules self.now) }
-        ensures values { (m : ModuleParts) → slice_get (slots.modules self.now) place ≡ Some m → result.now.values ≡ declared_by (seen spaces.Values (slots.modules self.now) place m part) }
-        ensures callables { (m : ModuleParts) → slice_get (slots.modules self.now) place ≡ Some m → result.now.callables ≡ seen spaces.Callables (slots.modules self.now) place m part }
-        ensures types { (m : ModuleParts) → slice_get (slots.modules self.now) place ≡ Some m → result.now.types ≡ declared_by (seen spaces.Types (slots.modules self.now) place m part) }
+        ensures values { (m : ModuleParts) → slice_get (slots.modules self.now) place ≡ Some m
+            → result.now.values ≡ declared_by (seen spaces.Values (slots.modules self.now) place m part) }
+        ensures callables { (m : ModuleParts) → slice_get (slots.modules self.now) place ≡ Some m
+            → result.now.callables ≡ seen spaces.Callables (slots.modules self.now) place m part }
+        ensures types { (m : ModuleParts) → slice_get (slots.modules self.now) place ≡ Some m
+            → result.now.types ≡ declared_by (seen spaces.Types (slots.modules self.now) place m part) }
     {
         self.names[place].in_part(part)
     }
@@ -125,7 +128,11 @@ impl NamedModules {
         node: &TypeText,
     ) -> Result<Option<Ty>, Memory>
         requires { place < length (slots.modules self.now) }
-        ensures { (m : ModuleParts) → slice_get (slots.modules self.now) place ≡ Some m → IfOk result (λ found. option_map meaning found ≡ meant regions.now params.now (declared_by (seen spaces.Types (slots.modules self.now) place m (known.part_if body))) (rows.heads_of (slots.modules self.now)) (written node.now)) }
+        ensures { (m : ModuleParts) → slice_get (slots.modules self.now) place ≡ Some m
+            → IfOk result (λ found. option_map meaning found
+            ≡ meant regions.now params.now
+            (declared_by (seen spaces.Types (slots.modules self.now) place m (known.part_if body)))
+            (rows.heads_of (slots.modules self.now)) (written node.now)) }
     {
         let names = self.names(place as usize, part_if(body));
         let found = meant_with(alloc, regions, params, &names.types, self.heads_ref(), node)?;
@@ -149,7 +156,9 @@ fn meant_with(
     heads: &Heads,
     node: &TypeText,
 ) -> Result<Option<Ty>, Memory>
-    ensures { IfOk result (λ found. option_map meaning found ≡ meant regions.now params.now names.now heads.now (written node.now)) }
+    ensures { IfOk result
+        (λ found. option_map meaning found
+        ≡ meant regions.now params.now names.now heads.now (written node.now)) }
 {
     let scope = Scope {
         regions,

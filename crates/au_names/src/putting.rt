@@ -57,7 +57,8 @@ pub fn put_found(
     name: &[u8],
     local: &[u8],
 ) -> Result<(), Memory>
-    ensures { OnOk result (table.new ≡ with_all table.old (found_as place name.now local.now (find name.now names.now))) }
+    ensures { OnOk result
+        (table.new ≡ with_all table.old (found_as place name.now local.now (find name.now names.now))) }
 {
     match names.get(name) {
         None => Ok(()),

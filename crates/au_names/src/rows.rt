@@ -55,7 +55,8 @@ pub fn push_row(
     heads: &mut Heads,
 ) -> Result<(), Memory>
     requires { head_of heads.old at ≡ None }
-    ensures { OnOk result (heads.new ≡ heads.old ++ spec.row_of at.«module» owner.now (at.decl, written decl.now)) }
+    ensures { OnOk result
+        (heads.new ≡ heads.old ++ spec.row_of at.«module» owner.now (at.decl, written decl.now)) }
 {
     match head_in(alloc, owner, decl)? {
         None => Ok(()),

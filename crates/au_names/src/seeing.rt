@@ -25,7 +25,8 @@ use std::alloc::Global;
 /// The names that the body of the module at a place brings in.
 fn named_in_body(alloc: Global, modules: &Modules, place: usize) -> Result<NameTables, Memory>
     requires { place < length (slots.modules modules.now) }
-    ensures { IfOk result (λ names. option_map body_names (slice_get (slots.modules modules.now) place) ≡ Some names) }
+    ensures { IfOk result
+        (λ names. option_map body_names (slice_get (slots.modules modules.now) place) ≡ Some names) }
 {
     let first = count_in(modules.interface(place));
     match modules.body(place) {
@@ -51,7 +52,8 @@ fn put_own(
     requires within { place < length (slots.modules modules.now) }
     requires made { AreExports exports.now (slots.modules modules.now) }
     requires body { option_map body_names (slice_get (slots.modules modules.now) place) ≡ Some body.now }
-    ensures { (m : ModuleParts) → slice_get (slots.modules modules.now) place ≡ Some m → OnOk result (table.new ≡ with_all table.old (own space place m)) }
+    ensures { (m : ModuleParts) → slice_get (slots.modules modules.now) place ≡ Some m
+        → OnOk result (table.new ≡ with_all table.old (own space place m)) }
 {
     let offered = offered_names(exports, place as usize, space);
     put_table(alloc, table, place, offered)?;
@@ -73,7 +75,8 @@ fn table_seen(
     requires within { place < length (slots.modules modules.now) }
     requires made { AreExports exports.now (slots.modules modules.now) }
     requires body { option_map body_names (slice_get (slots.modules modules.now) place) ≡ Some body.now }
-    ensures { (m : ModuleParts) → slice_get (slots.modules modules.now) place ≡ Some m → IfOk result (λ table. table ≡ seen space (slots.modules modules.now) place m part) }
+    ensures { (m : ModuleParts) → slice_get (slots.modules modules.now) place ≡ Some m
+        → IfOk result (λ table. table ≡ seen space (slots.modules modules.now) place m part) }
 {
     let file = modules.part(place, part);
     let mut table = Table::new(alloc);
@@ -98,7 +101,8 @@ fn declared_seen(
     requires within { place < length (slots.modules modules.now) }
     requires made { AreExports exports.now (slots.modules modules.now) }
     requires body { option_map body_names (slice_get (slots.modules modules.now) place) ≡ Some body.now }
-    ensures { (m : ModuleParts) → slice_get (slots.modules modules.now) place ≡ Some m → IfOk result (λ places. places ≡ declared_by (seen space (slots.modules modules.now) place m part)) }
+    ensures { (m : ModuleParts) → slice_get (slots.modules modules.now) place ≡ Some m
+        → IfOk result (λ places. places ≡ declared_by (seen space (slots.modules modules.now) place m part)) }
 {
     let table = table_seen(alloc, modules, exports, body, space, place, part)?;
     declarations(alloc, &table)
@@ -116,9 +120,15 @@ fn names_beside(
     requires within { place < length (slots.modules modules.now) }
     requires made { AreExports exports.now (slots.modules modules.now) }
     requires body { option_map body_names (slice_get (slots.modules modules.now) place) ≡ Some body.now }
-    ensures values { (m : ModuleParts) → slice_get (slots.modules modules.now) place ≡ Some m → IfOk result (λ names. names.values ≡ declared_by (seen Space.Values (slots.modules modules.now) place m part)) }
-    ensures callables { (m : ModuleParts) → slice_get (slots.modules modules.now) place ≡ Some m → IfOk result (λ names. names.callables ≡ seen Space.Callables (slots.modules modules.now) place m part) }
-    ensures types { (m : ModuleParts) → slice_get (slots.modules modules.now) place ≡ Some m → IfOk result (λ names. names.types ≡ declared_by (seen Space.Types (slots.modules modules.now) place m part)) }
+    ensures values { (m : ModuleParts) → slice_get (slots.modules modules.now) place ≡ Some m
+        → IfOk result (λ names. names.values
+        ≡ declared_by (seen Space.Values (slots.modules modules.now) place m part)) }
+    ensures callables { (m : ModuleParts) → slice_get (slots.modules modules.now) place ≡ Some m
+        → IfOk result (λ names. names.callables
+        ≡ seen Space.Callables (slots.modules modules.now) place m part) }
+    ensures types { (m : ModuleParts) → slice_get (slots.modules modules.now) place ≡ Some m
+        → IfOk result (λ names. names.types
+        ≡ declared_by (seen Space.Types (slots.modules modules.now) place m part)) }
 {
     let values = declared_seen(alloc, modules, exports, body, Space::Values, place, part)?;
     let callables = table_seen(alloc, modules, exports, body, Space::Callables, place, part)?;
@@ -145,9 +155,15 @@ pub fn names_seen(
 ) -> Result<PartNames, Memory>
     requires within { place < length (slots.modules modules.now) }
     requires made { AreExports exports.now (slots.modules modules.now) }
-    ensures values { (m : ModuleParts) → slice_get (slots.modules modules.now) place ≡ Some m → IfOk result (λ names. names.values ≡ declared_by (seen Space.Values (slots.modules modules.now) place m part)) }
-    ensures callables { (m : ModuleParts) → slice_get (slots.modules modules.now) place ≡ Some m → IfOk result (λ names. names.callables ≡ seen Space.Callables (slots.modules modules.now) place m part) }
-    ensures types { (m : ModuleParts) → slice_get (slots.modules modules.now) place ≡ Some m → IfOk result (λ names. names.types ≡ declared_by (seen Space.Types (slots.modules modules.now) place m part)) }
+    ensures values { (m : ModuleParts) → slice_get (slots.modules modules.now) place ≡ Some m
+        → IfOk result (λ names. names.values
+        ≡ declared_by (seen Space.Values (slots.modules modules.now) place m part)) }
+    ensures callables { (m : ModuleParts) → slice_get (slots.modules modules.now) place ≡ Some m
+        → IfOk result (λ names. names.callables
+        ≡ seen Space.Callables (slots.modules modules.now) place m part) }
+    ensures types { (m : ModuleParts) → slice_get (slots.modules modules.now) place ≡ Some m
+        → IfOk result (λ names. names.types
+        ≡ declared_by (seen Space.Types (slots.modules modules.now) place m part)) }
 {
     let body = named_in_body(alloc, modules, place)?;
     names_beside(alloc, modules, exports, &body, place, part)

@@ -77,7 +77,8 @@ fn pass_all(
 ) -> Result<(), Memory>
     requires free { IsFreeFrom walk.old.place walk.old.number heads.old }
     requires fits { walk.old.number + length decls.now.items < 2 ^ 32 }
-    ensures rows { OnOk result (heads.new ≡ heads.old ++ rows_on walk.old owner.now (written_all decls.now.items)) }
+    ensures rows { OnOk result
+        (heads.new ≡ heads.old ++ rows_on walk.old owner.now (written_all decls.now.items)) }
     ensures walk { OnOk result (walk.new ≡ walk_over walk.old (written_all decls.now.items)) }
     ensures free { OnOk result (IsFreeFrom walk.new.place walk.new.number heads.new) }
 {
@@ -97,7 +98,8 @@ fn pass_part(
 ) -> Result<(), Memory>
     requires free { IsFreeFrom walk.old.place walk.old.number heads.old }
     requires fits { walk.old.number + length (declarations_seen (tree_seen part)) < 2 ^ 32 }
-    ensures rows { OnOk result (heads.new ≡ heads.old ++ rows_on walk.old owner.now (declarations_seen (tree_seen part.entry))) }
+    ensures rows { OnOk result
+        (heads.new ≡ heads.old ++ rows_on walk.old owner.now (declarations_seen (tree_seen part.entry))) }
     ensures walk { OnOk result (walk.new ≡ walk_over walk.old (declarations_seen (tree_seen part.entry))) }
     ensures free { OnOk result (IsFreeFrom walk.new.place walk.new.number heads.new) }
 {
@@ -116,7 +118,8 @@ fn push_module(
 ) -> Result<(), Memory>
     requires within { place < length (modules program.now) }
     requires free { IsFreeFrom place 0 heads.old }
-    ensures rows { OnOk result (heads.new ≡ heads.old ++ spec.rows_at place (slice_get (modules program.now) place)) }
+    ensures rows { OnOk result
+        (heads.new ≡ heads.old ++ spec.rows_at place (slice_get (modules program.now) place)) }
     ensures free { OnOk result (IsFreeFrom (place + 1) 0 heads.new) }
 {
     let owner = program.name(place);

@@ -1,8 +1,7 @@
 -- Files that were read are as few as those of a program, and the declarations in each too.
-use Rattle.std.proofs.Common.{◌≡◌, ◌≤◌, ◌+◌, ℕ, suc, Bool, true, ◌&&◌, List, [], ◌∷◌, ◌++◌, Vec, length, map, refl, ap, sym, ◌∙◌, arith}
+use Rattle.std.proofs.Common.{◌≡◌, ◌≤◌, ◌+◌, ℕ, suc, true, ◌&&◌, List, [], ◌∷◌, ◌++◌, Vec, length, map, refl, ap, sym, ◌∙◌, arith}
 use Rattle.std.specs.Global.{Global}
 use Rattle.std.specs.List.{flat_map, list_all}
-use Rattle.std.specs.Prelude.{IsTrue}
 use Rattle.std.proofs.lemmas.Bool.{le-leb}
 use Rattle.std.proofs.lemmas.List.{length-append, length-map}
 use Rattle.au_base.specs.declared.places.Pos.{Pos}
@@ -14,7 +13,7 @@ use Rattle.au_base.specs.Limits.{most_tokens}
 use Rattle.au_syntax.specs.declared.wholes.FileTree.{FileTree}
 use Rattle.au_syntax.specs.Modules.{constant, opaque_type, record_type, union_type, function, class, instance, constant_body, function_body, instance_body}
 use Rattle.au_syntax.specs.Plain.{PlainDeclaration, PlainModule}
-use Rattle.au_syntax.specs.Words.{AreWords, Spells, Words, begun, declaration_words, dotted, import_words, mark, part_words, pragma_words, word, words}
+use Rattle.au_syntax.specs.Words.{AreWords, Words, begun, declaration_words, dotted, import_words, mark, part_words, pragma_words, word, words}
 use Rattle.au_modules.specs.Counts as counts
 use Rattle.au_modules.specs.Counts.{are_few, has_few}
 use Rattle.au_modules.specs.Programs.{Entry, entry}
@@ -37,14 +36,14 @@ ends at ws sign = omega (arith, begun_length at (ws ++ mark sign), length-append
 
 -- a declaration has a word
 some_word : (d : PlainDeclaration) → 1 ≤ length (declaration_words d)
-some_word (constant at name t) = ends at _ Semicolon
-some_word (opaque_type at name parameters universe) = ends at _ Semicolon
-some_word (record_type at name parameters universe fields) = ends at _ Semicolon
-some_word (union_type at name parameters universe cases) = ends at _ Semicolon
+some_word (constant at name t) = omega arith
+some_word (opaque_type at name parameters universe) = omega arith
+some_word (record_type at name parameters universe fields) = omega arith
+some_word (union_type at name parameters universe cases) = omega arith
 some_word (function at generics header) = ends at _ Semicolon
-some_word (class at name parameter methods) = ends at _ Semicolon
+some_word (class at name parameter methods) = omega arith
 some_word (instance at generics name t) = ends at _ Semicolon
-some_word (constant_body at name t e) = ends at _ Semicolon
+some_word (constant_body at name t e) = omega arith
 some_word (function_body at generics header body stop) = ends at _ Semicolon
 some_word (instance_body at generics name t methods) = ends at _ Semicolon
 
@@ -67,8 +66,10 @@ among a b c d e =
 declared_fewer : (m : PlainModule) → length m.declarations ≤ length (words m)
 declared_fewer m =
     let before = part_words m.part ++ dotted m.name ++ word KwIs ++ pragma_words m.pragma in
-    let body = before ++ flat_map declaration_words m.declarations ++ word KwEnd ++ part_words m.part ++ mark Dot in
-    let inner = among before (flat_map declaration_words m.declarations) (word KwEnd) (part_words m.part) (mark Dot) in
+    let body = before ++ flat_map declaration_words m.declarations ++ word KwEnd ++ part_words m.part
+    ++ mark Dot in
+    let inner = among before (flat_map declaration_words m.declarations) (word KwEnd) (part_words m.part)
+    (mark Dot) in
     omega (
       arith,
       fewer m.declarations,
@@ -89,7 +90,8 @@ read_few : (file number : ℕ) (bytes : List ℕ) (one : ReadFile) → IsRead fi
     → has_few (record { file = number; tree = one.tree }) ≡ true
 read_few file number bytes one h =
     let same = spelled_length (words one.tree) one.tokens h.spelled in
-    le-leb (length one.tree.declarations) most_tokens (omega (arith, declared_fewer one.tree, same, h.within.1))
+    le-leb (length one.tree.declarations) most_tokens
+    (omega (arith, declared_fewer one.tree, same, h.within.1))
 
 reads_few : (file : ℕ) (all : List (List ℕ)) (reads : List ReadFile) → AreRead file all reads
     → list_all has_few (entries file reads) ≡ true
@@ -128,7 +130,9 @@ files_few : (own : List Entry) → length own ≤ most_files → list_all has_fe
     → are_few (shipped_entries ++ own) ≡ true
 unfolding shipped_entries
 files_few own few all =
-    ap (λ b. b && list_all has_few own) (le-leb (4 + length own) counts.most_files (omega (arith, few))) ∙ all
+    ap (λ b. b && list_all has_few own)
+    (le-leb (suc (suc (suc (suc (length own))))) counts.most_files (omega (arith, few)))
+    ∙ all
 
 pub with_shipped_few : (own : List FileTree) (files : List Entry) → files ≡ shipped_entries ++ map entry own
     → length own ≤ most_files → list_all has_few (map entry own) ≡ true → are_few files ≡ true

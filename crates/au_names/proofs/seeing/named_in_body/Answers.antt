@@ -12,7 +12,8 @@ use Rattle.au_names.proofs.seeing.named_in_body.Goals as goal
 pub returns-in-None : goal.returns-in-None
 returns-in-None c =
     body_names_seen (slots.modules c.args.modules.now) c.args.place None c.requires c.in-None.ensures
-    ∙ ap (λ n. Some (tables_from n [])) (sym (c.count_in-first.ensures ∙ ap (λ o. length (declarations_seen o)) c.interface.ensures))
+    ∙ ap (λ n. Some (tables_from n []))
+    (sym (c.count_in-first.ensures ∙ ap (λ o. length (declarations_seen o)) c.interface.ensures))
     ∙ ap Some (sym (c.no_names.ensures c.count_in-first.result))
 
 pub names_from-requires : goal.names_from-requires
@@ -27,6 +28,8 @@ names_from-requires c =
 pub returns-in_ok-names-in-Some : goal.returns-in_ok-names-in-Some
 returns-in_ok-names-in-Some c =
     body_names_seen (slots.modules c.args.modules.now) c.args.place (Some (says parsed c.in-Some.file.now.tree)) c.requires c.in-Some.ensures
-    ∙ ap (λ n. Some (tables_from n (says parsed c.in-Some.file.now.tree).declarations)) (sym (c.count_in-first.ensures ∙ ap (λ o. length (declarations_seen o)) c.interface.ensures))
-    ∙ ap (λ t. Some (tables_from c.count_in-first.result (says parsed t).declarations)) (sym c.tree-tree.ensures.same)
+    ∙ ap (λ n. Some (tables_from n (says parsed c.in-Some.file.now.tree).declarations))
+    (sym (c.count_in-first.ensures ∙ ap (λ o. length (declarations_seen o)) c.interface.ensures))
+    ∙ ap (λ t. Some (tables_from c.count_in-first.result (says parsed t).declarations))
+    (sym c.tree-tree.ensures.same)
     ∙ ap Some (sym c.in_ok-names-in-Some.ensures)

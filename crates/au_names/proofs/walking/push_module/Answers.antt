@@ -1,10 +1,10 @@
-use Rattle.std.proofs.Common.{◌≡◌, length, refl, ap, arith}
+use Rattle.std.proofs.Common.{refl, ap, arith}
 use Rattle.std.specs.Prelude.{slice_get}
 use Rattle.au_modules.specs.Seen.{tree_seen}
 use Rattle.au_modules.specs.Slots.{modules}
 use Rattle.au_names.specs.Exporting.{declarations_seen}
 use Rattle.au_names.specs.declared.walking.Walk.{Walk}
-use Rattle.au_modules.proofs.PlaceLemmas.{numbers_fit, places_fit}
+use Rattle.au_modules.proofs.PlaceLemmas.{numbers_fit}
 use Rattle.au_names.proofs.ExportLemmas.{few_seen}
 use Rattle.au_names.proofs.RowLemmas.{free_behind}
 use Rattle.au_names.proofs.WalkLemmas.{module_done, number_over, place_done}
