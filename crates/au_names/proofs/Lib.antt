@@ -1,3 +1,4 @@
+pub mod AlongLemmas
 pub mod ExportLemmas
 pub mod ImportLemmas
 pub mod PutLemmas

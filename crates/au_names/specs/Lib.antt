@@ -1,3 +1,4 @@
+pub mod Along
 pub mod Exporting
 pub mod Importing
 pub mod Meanings
