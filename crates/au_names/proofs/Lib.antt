@@ -1,3 +1,4 @@
+pub mod AlongLemmas
 pub mod DeclaredRowLemmas
 pub mod DefinitionLemmas
 pub mod ExportLemmas

@@ -1,3 +1,4 @@
+pub mod Along
 pub mod DeclaredTypes
 pub mod Exporting
 pub mod HeadsOf

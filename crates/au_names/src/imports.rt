@@ -5,6 +5,7 @@ ghost use Rattle.std.specs.List.{flat_map};
 ghost use Rattle.au_modules.specs.Programs.{ModuleParts};
 ghost use Rattle.au_modules.specs.Seen.{tree_seen};
 ghost use Rattle.au_modules.specs.Slots as slots;
+ghost use Rattle.au_names.specs.Along.{AreAlong, members_in};
 ghost use Rattle.au_names.specs.Exporting.{AreExports, imports_seen};
 ghost use Rattle.au_names.specs.Importing as spec;
 ghost use Rattle.au_names.specs.Importing.{along, brings, brought, imported};
@@ -15,6 +16,7 @@ ghost use Rattle.au_syntax.specs.Views.{importing, placed, renaming};
 ghost use Rattle.au_syntax.specs.contracts.parsed.ParsedPhase.TheImpl.{ghosts as parsed};
 ghost use Rattle.au_tables.specs.Tables.{find, with_all};
 
+use crate::decl_sets::DeclSet;
 use crate::exports::{Exports, offered_names};
 use crate::members::put_members_in;
 use crate::putting::put_found;
@@ -62,10 +64,33 @@ pub fn given_name(item: &Renamed<Parsed>) -> &[u8]
     }
 }
 
+/// Puts the cases or methods of a declaration of an interface, unless they have come along before.
+fn put_once(
+    alloc: Global,
+    table: &mut Table<Target>,
+    done: &mut DeclSet,
+    modules: &Modules,
+    at: DeclAt,
+) -> Result<(), Memory>
+    requires within { at.«module» < length (slots.modules modules.now) }
+    requires done { AreAlong (slots.modules modules.now) done.old table.old }
+    ensures members { (m : ModuleParts) → slice_get (slots.modules modules.now) at.«module» ≡ Some m → OnOk result (table.new ≡ with_all table.old (members_in at m)) }
+    ensures done { OnOk result (AreAlong (slots.modules modules.now) done.new table.new) }
+{
+    let fresh = done.put(at)?;
+    if !fresh {
+        return Ok(());
+    }
+    let file = modules.interface(at.module as usize);
+    put_members_in(alloc, table, at, file)?;
+    Ok(())
+}
+
 /// Puts the cases or methods that come along under a name from the module at a place.
 fn put_along(
     alloc: Global,
     table: &mut Table<Target>,
+    done: &mut DeclSet,
     modules: &Modules,
     exports: &Exports,
     other: u16,
@@ -73,7 +98,9 @@ fn put_along(
 ) -> Result<(), Memory>
     requires within { other < length (slots.modules modules.now) }
     requires made { AreExports exports.now (slots.modules modules.now) }
-    ensures { (m : ModuleParts) → slice_get (slots.modules modules.now) other ≡ Some m → OnOk result (table.new ≡ with_all table.old (along other name.now (interface_of m))) }
+    requires done { AreAlong (slots.modules modules.now) done.old table.old }
+    ensures along { (m : ModuleParts) → slice_get (slots.modules modules.now) other ≡ Some m → OnOk result (table.new ≡ with_all table.old (along other name.now (interface_of m))) }
+    ensures done { OnOk result (AreAlong (slots.modules modules.now) done.new table.new) }
 {
     let types = offered_names(exports, other as usize, Space::Types);
     match types.get(name) {
@@ -83,8 +110,7 @@ fn put_along(
                 module: other,
                 decl: *number,
             };
-            let file = modules.interface(other as usize);
-            put_members_in(alloc, table, at, file)?;
+            put_once(alloc, table, done, modules, at)?;
             Ok(())
         }
     }
@@ -94,6 +120,7 @@ fn put_along(
 fn put_item(
     alloc: Global,
     table: &mut Table<Target>,
+    done: &mut DeclSet,
     modules: &Modules,
     exports: &Exports,
     space: Space,
@@ -102,7 +129,9 @@ fn put_item(
 ) -> Result<(), Memory>
     requires within { other < length (slots.modules modules.now) }
     requires made { AreExports exports.now (slots.modules modules.now) }
-    ensures { (m : ModuleParts) → slice_get (slots.modules modules.now) other ≡ Some m → OnOk result (table.new ≡ with_all table.old (brought space other m (plain_renaming parsed.name_bytes (renaming parsed item.now)))) }
+    requires done { AreAlong (slots.modules modules.now) done.old table.old }
+    ensures item { (m : ModuleParts) → slice_get (slots.modules modules.now) other ≡ Some m → OnOk result (table.new ≡ with_all table.old (brought space other m (plain_renaming parsed.name_bytes (renaming parsed item.now)))) }
+    ensures done { OnOk result (AreAlong (slots.modules modules.now) done.new table.new) }
 {
     let name = item.name.name.as_bytes();
     let names = offered_names(exports, other as usize, space);
@@ -111,7 +140,7 @@ fn put_item(
     match space {
         Space::Values => Ok(()),
         Space::Callables => {
-            put_along(alloc, table, modules, exports, other, name)?;
+            put_along(alloc, table, done, modules, exports, other, name)?;
             Ok(())
         }
         Space::Types => Ok(()),
@@ -122,6 +151,7 @@ fn put_item(
 fn put_items(
     alloc: Global,
     table: &mut Table<Target>,
+    done: &mut DeclSet,
     modules: &Modules,
     exports: &Exports,
     space: Space,
@@ -130,10 +160,12 @@ fn put_items(
 ) -> Result<(), Memory>
     requires within { other < length (slots.modules modules.now) }
     requires made { AreExports exports.now (slots.modules modules.now) }
-    ensures { (m : ModuleParts) → slice_get (slots.modules modules.now) other ≡ Some m → OnOk result (table.new ≡ with_all table.old (flat_map (brought space other m) (map (plain_renaming parsed.name_bytes) (map (renaming parsed) items.now.items)))) }
+    requires done { AreAlong (slots.modules modules.now) done.old table.old }
+    ensures items { (m : ModuleParts) → slice_get (slots.modules modules.now) other ≡ Some m → OnOk result (table.new ≡ with_all table.old (flat_map (brought space other m) (map (plain_renaming parsed.name_bytes) (map (renaming parsed) items.now.items)))) }
+    ensures done { OnOk result (AreAlong (slots.modules modules.now) done.new table.new) }
 {
     for item in items {
-        put_item(alloc, table, modules, exports, space, other, item)?;
+        put_item(alloc, table, done, modules, exports, space, other, item)?;
     }
     Ok(())
 }
@@ -142,6 +174,7 @@ fn put_items(
 fn put_import(
     alloc: Global,
     table: &mut Table<Target>,
+    done: &mut DeclSet,
     modules: &Modules,
     exports: &Exports,
     space: Space,
@@ -150,14 +183,17 @@ fn put_import(
 ) -> Result<(), Memory>
     requires within { place < length (slots.modules modules.now) }
     requires made { AreExports exports.now (slots.modules modules.now) }
-    ensures { OnOk result (table.new ≡ with_all table.old (brings space (slots.modules modules.now) place (plain_importing parsed.name_bytes (importing parsed import.now)))) }
+    requires done { AreAlong (slots.modules modules.now) done.old table.old }
+    ensures import { OnOk result (table.new ≡ with_all table.old (brings space (slots.modules modules.now) place (plain_importing parsed.name_bytes (importing parsed import.now)))) }
+    ensures done { OnOk result (AreAlong (slots.modules modules.now) done.new table.new) }
 {
     let found = place_named(alloc, exports, &import.module)?;
     match found {
         None => Ok(()),
         Some(other) => {
             if (other as usize) < place {
-                put_items(alloc, table, modules, exports, space, other, &import.items)?;
+                let items = &import.items;
+                put_items(alloc, table, done, modules, exports, space, other, items)?;
                 Ok(())
             } else {
                 Ok(())
@@ -180,8 +216,11 @@ fn put_imports(
     requires made { AreExports exports.now (slots.modules modules.now) }
     ensures { OnOk result (table.new ≡ with_all table.old (imported space (slots.modules modules.now) place (map (plain_importing parsed.name_bytes) (map (importing parsed) imports.now.items)))) }
 {
+    let mut done = DeclSet::new(alloc);
     for import in imports {
-        put_import(alloc, table, modules, exports, space, place, import)?;
+        put_import(
+            alloc, table, &mut done, modules, exports, space, place, import,
+        )?;
     }
     Ok(())
 }

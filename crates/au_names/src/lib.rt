@@ -2,6 +2,7 @@
 //! the rows of declared types, and where the declarations of a number stand.
 #![tactic(auto)]
 
+pub mod decl_sets;
 pub mod declarations;
 pub mod declared_types;
 pub mod exports;
@@ -18,6 +19,7 @@ pub mod seeing;
 pub mod targets;
 mod walking;
 
+pub use decl_sets::DeclSet;
 pub use declarations::{Declared, declaration, definition};
 pub use declared_types::{TypeDeclared, type_declared};
 pub use exports::{Exports, exports_of};

@@ -2,5 +2,6 @@ pub mod Agreeing
 pub mod Defining
 pub mod Promises
 pub mod Fulfilled
+pub mod Keys
 pub mod Wording
 pub mod Written

@@ -1,14 +1,14 @@
 //! Where the definitions of a body stand among its declarations, so that none is found by a walk through
 //! the body.
 
-ghost use Rattle.std.specs.Prelude.{◌≡◌, IfOk, OnOk, filter, find, slice_get};
+ghost use Rattle.std.specs.Prelude.{◌≡◌, IfOk, OnOk, find, slice_get};
 ghost use Rattle.std.specs.Option.{option_copied};
 ghost use Rattle.au_promises.specs.Defining as defining;
 ghost use Rattle.au_promises.specs.Defining.{AreDefinitions, AreFirst, AreNamed};
 ghost use Rattle.au_promises.specs.Promises as spec;
 ghost use Rattle.au_promises.specs.Written.{declarations_of, declared_of, declared_seen, sight_in};
 
-use crate::keys::first_keyed;
+use crate::keys::{KeySort, first_keyed};
 use crate::sights::Sight;
 use au_base::{Memory, Name};
 use au_syntax::{Decl, Parsed};
@@ -42,10 +42,10 @@ pub struct ByName {
 pub struct Definitions {
     /// The first of each name.
     pub names: ByName,
-    /// The instances, in order.
-    pub instances: Vec<usize>,
-    /// The first instance of each key.
-    pub keyed: Table<usize>,
+    /// The first instance of each class and written type.
+    pub worded: Table<usize>,
+    /// The first instance of each class whose type means nothing.
+    pub meaningless: Table<usize>,
 }
 
 /// The name of the constant that a declaration defines, if it defines one.
@@ -102,24 +102,6 @@ fn function_defined(decl: &Decl<Parsed>) -> Option<&Name>
     }
 }
 
-/// Whether a declaration defines an instance.
-fn is_instance(decl: &Decl<Parsed>) -> bool
-    ensures { result ≡ defining.is_instance (declared_of decl.now) }
-{
-    match decl {
-        Decl::Constant(_, _, _) => false,
-        Decl::Opaque(_, _, _, _) => false,
-        Decl::Record(_, _, _, _, _) => false,
-        Decl::Union(_, _, _, _, _) => false,
-        Decl::Function(_, _, _) => false,
-        Decl::Class(_, _, _, _) => false,
-        Decl::Instance(_, _, _, _) => false,
-        Decl::ConstantBody(_, _, _, _) => false,
-        Decl::FunctionBody(_, _, _, _, _) => false,
-        Decl::InstanceBody(_, _, _, _, _) => true,
-    }
-}
-
 /// The name that a declaration defines of a sort, if it defines one.
 fn name_defined(sort: Sort, decl: &Decl<Parsed>) -> Option<&Name>
     ensures { option_copied result ≡ defining.name_defined sort (declared_of decl.now) }
@@ -150,34 +132,13 @@ fn first_defined(
     sort: Sort,
     decls: &Vec<Decl<Parsed>>,
 ) -> Result<Table<usize>, Memory>
-    ensures { IfOk result (λ table. AreFirst (defining.name_defined sort) (declarations_of decls.now.items) (declarations_of decls.now.items) table) }
+    ensures { IfOk result (λ table. AreFirst (defining.name_defined sort) (declarations_of decls.now.items) table) }
 {
     let mut table = Table::new(alloc);
     for (index, one) in decls.iter().enumerate() {
         put_name(&mut table, name_defined(sort, one), index)?;
     }
     Ok(table)
-}
-
-/// Puts an index behind others, if it is wanted.
-fn push_if(indices: &mut Vec<usize>, wanted: bool, index: usize) -> Result<(), Memory>
-    ensures { OnOk result (indices.new.items ≡ defining.with_index indices.old.items wanted index) }
-{
-    if wanted {
-        indices.push(index)?;
-    }
-    Ok(())
-}
-
-/// The instances, by their indices.
-fn instances_defined(alloc: Global, decls: &Vec<Decl<Parsed>>) -> Result<Vec<usize>, Memory>
-    ensures { IfOk result (λ indices. defining.picked (declarations_of decls.now.items) indices.items ≡ filter defining.is_instance (declarations_of decls.now.items)) }
-{
-    let mut indices = Vec::new(alloc);
-    for (index, one) in decls.iter().enumerate() {
-        push_if(&mut indices, is_instance(one), index)?;
-    }
-    Ok(indices)
 }
 
 impl ByName {
@@ -221,12 +182,12 @@ impl Definitions {
         ensures { IfOk result (λ definitions. AreDefinitions (sight_in sight.now) (declarations_of decls.now.items) definitions) }
     {
         let names = ByName::of(alloc, decls)?;
-        let instances = instances_defined(alloc, decls)?;
-        let keyed = first_keyed(alloc, sight, decls)?;
+        let worded = first_keyed(alloc, sight, KeySort::Worded, decls)?;
+        let meaningless = first_keyed(alloc, sight, KeySort::Meaningless, decls)?;
         Ok(Definitions {
             names,
-            instances,
-            keyed,
+            worded,
+            meaningless,
         })
     }
 }

@@ -1,6 +1,6 @@
 //! The first promise of a program that isn't kept.
 
-ghost use Rattle.std.specs.Prelude.{◌≡◌, ◌<◌, [], false, IfOk, Some, find, is_none, length, slice_get};
+ghost use Rattle.std.specs.Prelude.{◌≡◌, ◌<◌, List, IfOk, Some, find, length, position, slice_get};
 ghost use Rattle.std.specs.Option.{option_copied};
 ghost use Rattle.au_modules.specs.Programs.{ModuleParts};
 ghost use Rattle.au_modules.specs.Seen.{tree_seen};
@@ -8,19 +8,27 @@ ghost use Rattle.au_modules.specs.Slots as slots;
 ghost use Rattle.au_promises.specs.Agreeing as agreeing;
 ghost use Rattle.au_promises.specs.Defining as defining;
 ghost use Rattle.au_promises.specs.Defining.{AreDefinitions};
+ghost use Rattle.au_promises.specs.Keys as keys;
 ghost use Rattle.au_promises.specs.Promises as spec;
-ghost use Rattle.au_promises.specs.Written.{declarations_of, declared_of, declared_seen, generics_of, name_of, sight_in};
+ghost use Rattle.au_promises.specs.Written.{
+  declarations_of,
+  declared_of,
+  declared_seen,
+  generics_of,
+  name_of,
+  sight_in,
+};
+ghost use Rattle.au_syntax.specs.Plain.{PlainDeclaration};
 ghost use Rattle.au_syntax.specs.Views.{written};
 ghost use Rattle.au_tables.specs.Tables as tables;
-ghost use Rattle.au_written_types.specs.Meant.{meant};
 
-use crate::agreeing::{same_class, scope_of};
+use crate::agreeing::scope_of;
 use crate::definitions::{Definitions, Sort, declared_at, found_by};
 use crate::faults::PromiseFault;
 use crate::keeping::keeps;
-use crate::keys::instance_key;
+use crate::keys::{class_key, instance_key};
 use crate::sights::Sight;
-use crate::wording::{means_nothing, same_written};
+use crate::wording::means_nothing;
 use au_base::{Memory, Name, Pos};
 use au_names::NamedModules as Resolved;
 use au_syntax::{Decl, Generic, Ident, Parsed, Part, TypeText, Whole};
@@ -63,124 +71,21 @@ fn promised(decl: &Decl<Parsed>) -> Option<&Name>
     }
 }
 
-/// Whether an instance of the interface and one of the body are of one class and the same written type.
-fn same_instance(
-    alloc: Global,
-    sight: &Sight,
-    scope: &Params,
-    name: &Ident<Parsed>,
-    of: &TypeText,
-    list: &Vec<Generic<Parsed>>,
-    other: &Ident<Parsed>,
-    its: &TypeText,
-) -> Result<bool, Memory>
-    ensures { IfOk result (λ same. same ≡ spec.same_instance (sight_in sight.now) scope.now (name_of name.now) (written of.now) (generics_of list.now.items) (name_of other.now) (written its.now)) }
+/// The earlier of two indices, if there are any.
+fn earlier(one: Option<usize>, other: Option<usize>) -> Option<usize>
+    ensures { result ≡ defining.earlier one other }
 {
-    if same_class(sight, name, other) {
-        let outer = scope_of(alloc, list)?;
-        same_written(alloc, sight, scope, of, &outer, its)
-    } else {
-        Ok(false)
+    match one {
+        None => other,
+        Some(index) => match other {
+            None => Some(index),
+            Some(its) => Some(index.min(its)),
+        },
     }
 }
 
-/// Whether a declaration defines an instance of this class for this written type.
-#[tactic(auto, using(au_syntax::proofs::DeclarationLemmas::declaration_steps, std::proofs::lemmas::Grind::common_steps))]
-fn is_instance_of(
-    alloc: Global,
-    sight: &Sight,
-    scope: &Params,
-    name: &Ident<Parsed>,
-    of: &TypeText,
-    decl: &Decl<Parsed>,
-) -> Result<bool, Memory>
-    ensures { IfOk result (λ is. is ≡ spec.instance_defined (sight_in sight.now) scope.now (name_of name.now) (written of.now) (declared_of decl.now)) }
-{
-    match decl {
-        Decl::Constant(_, _, _) => Ok(false),
-        Decl::Opaque(_, _, _, _) => Ok(false),
-        Decl::Record(_, _, _, _, _) => Ok(false),
-        Decl::Union(_, _, _, _, _) => Ok(false),
-        Decl::Function(_, _, _) => Ok(false),
-        Decl::Class(_, _, _, _) => Ok(false),
-        Decl::Instance(_, _, _, _) => Ok(false),
-        Decl::ConstantBody(_, _, _, _) => Ok(false),
-        Decl::FunctionBody(_, _, _, _, _) => Ok(false),
-        Decl::InstanceBody(_, list, other, its, _) => same_instance(
-            alloc, sight, scope, name, of, list, other, its,
-        ),
-    }
-}
-
-/// A declaration, if there is one and it defines an instance of this class for this type.
-fn instance_if<'a>(
-    alloc: Global,
-    sight: &Sight,
-    scope: &Params,
-    name: &Ident<Parsed>,
-    of: &TypeText,
-    found: Option<&'a Decl<Parsed>>,
-) -> Result<Option<&'a Decl<Parsed>>, Memory>
-    ensures { IfOk result (λ one. declared_seen one ≡ find (spec.instance_defined (sight_in sight.now) scope.now (name_of name.now) (written of.now)) (defining.listed (declared_seen found.entry))) }
-{
-    match found {
-        None => Ok(None),
-        Some(decl) => {
-            if is_instance_of(alloc, sight, scope, name, of, decl)? {
-                Ok(Some(decl))
-            } else {
-                Ok(None)
-            }
-        }
-    }
-}
-
-/// The first of the instances of these indices that is one of this class for this type, if there is one.
-fn instance_among<'a>(
-    alloc: Global,
-    sight: &Sight,
-    scope: &Params,
-    name: &Ident<Parsed>,
-    of: &TypeText,
-    decls: &'a Vec<Decl<Parsed>>,
-    indices: &Vec<usize>,
-) -> Result<Option<&'a Decl<Parsed>>, Memory>
-    ensures { IfOk result (λ found. declared_seen found ≡ find (spec.instance_defined (sight_in sight.now) scope.now (name_of name.now) (written of.now)) (defining.picked (declarations_of decls.now.items) indices.now.items)) }
-{
-    for index in indices {
-        let found = instance_if(alloc, sight, scope, name, of, declared_at(decls, *index))?;
-        if found.is_some() {
-            return Ok(found);
-        }
-    }
-    Ok(None)
-}
-
-/// The first declaration of a body that defines an instance of this class for this type, if there is one,
-/// where this one is looked at before the others.
-fn instance_from<'a>(
-    alloc: Global,
-    sight: &Sight,
-    scope: &Params,
-    name: &Ident<Parsed>,
-    of: &TypeText,
-    decls: &'a Vec<Decl<Parsed>>,
-    definitions: &Definitions,
-    first: Option<&'a Decl<Parsed>>,
-) -> Result<Option<&'a Decl<Parsed>>, Memory>
-    requires { AreDefinitions (sight_in sight.now) (declarations_of decls.now.items) definitions.now }
-    ensures { IfOk result (λ found. declared_seen found ≡ defining.found_from (spec.instance_defined (sight_in sight.now) scope.now (name_of name.now) (written of.now)) (declarations_of decls.now.items) (declared_seen first.entry)) }
-{
-    let found = instance_if(alloc, sight, scope, name, of, first)?;
-    if found.is_some() {
-        return Ok(found);
-    }
-    instance_among(alloc, sight, scope, name, of, decls, &definitions.instances)
-}
-
-/// The index of the first instance of a body with the key of an instance of this class for this type, if
-/// there is one.
-fn first_of_key(
+/// The index of the first instance of a body of this class for this type word for word, if there is one.
+fn first_worded(
     alloc: Global,
     sight: &Sight,
     scope: &Params,
@@ -188,58 +93,49 @@ fn first_of_key(
     of: &TypeText,
     definitions: &Definitions,
 ) -> Result<Option<usize>, Memory>
-    ensures { IfOk result (λ index. index ≡ tables.find (defining.instance_key scope.now (sight_in sight.now).interface (sight_in sight.now).rows (name_of name.now) (written of.now)) definitions.now.keyed) }
+    ensures { IfOk result (λ index. index ≡ tables.find
+        (keys.instance_key scope.now (sight_in sight.now).interface (sight_in sight.now).rows
+        (name_of name.now) (written of.now)) definitions.now.worded) }
 {
     let key = instance_key(alloc, scope, sight.interface, sight.heads, name, of)?;
-    Ok(definitions.keyed.get(key.as_slice()).copied())
+    Ok(definitions.worded.get(key.as_slice()).copied())
 }
 
-/// The first declaration of a body that defines an instance of this class for this type, which means
-/// something, if there is one. It has the key of the two, so where no instance has the key none is the one,
-/// and mostly the first with the key is. Only where that isn't the one are all instances looked at: then
-/// none is, or types of several instances of one class begin with one name, which is refused later.
-fn instance_by_key<'a>(
+/// The index of the first instance of a body of this class whose type means nothing, if there is one.
+fn first_meaningless(
+    alloc: Global,
+    sight: &Sight,
+    name: &Ident<Parsed>,
+    definitions: &Definitions,
+) -> Result<Option<usize>, Memory>
+    ensures { IfOk result (λ index. index ≡ tables.find
+        (keys.class_key (sight_in sight.now).interface (name_of name.now)) definitions.now.meaningless) }
+{
+    let key = class_key(alloc, sight.interface, name)?;
+    Ok(definitions.meaningless.get(key.as_slice()).copied())
+}
+
+/// The index of the first declaration of a body that defines an instance of this class for this type, if
+/// there is one: of the same type word for word, or where both mean nothing.
+fn instance_index(
     alloc: Global,
     sight: &Sight,
     scope: &Params,
     name: &Ident<Parsed>,
     of: &TypeText,
-    decls: &'a Vec<Decl<Parsed>>,
     definitions: &Definitions,
-) -> Result<Option<&'a Decl<Parsed>>, Memory>
-    requires defined { AreDefinitions (sight_in sight.now) (declarations_of decls.now.items) definitions.now }
-    requires meant { is_none (meant [] scope.now (sight_in sight.now).interface (sight_in sight.now).rows (written of.now)) ≡ false }
-    ensures { IfOk result (λ found. declared_seen found ≡ find (spec.instance_defined (sight_in sight.now) scope.now (name_of name.now) (written of.now)) (declarations_of decls.now.items)) }
+) -> Result<Option<usize>, Memory>
+    ensures { (all : List PlainDeclaration) → AreDefinitions (sight_in sight.now) all definitions.now
+        → IfOk result (λ index. index ≡ position (spec.instance_defined (sight_in sight.now) scope.now
+        (name_of name.now) (written of.now)) all) }
 {
-    let index = first_of_key(alloc, sight, scope, name, of, definitions)?;
-    match index {
-        None => Ok(None),
-        Some(at) => {
-            let first = declared_at(decls, at);
-            instance_from(alloc, sight, scope, name, of, decls, definitions, first)
-        }
+    let worded = first_worded(alloc, sight, scope, name, of, definitions)?;
+    let nothing = means_nothing(alloc, sight, scope, of)?;
+    if !nothing {
+        return Ok(worded);
     }
-}
-
-/// The first declaration of a body that defines an instance of this class for this type, if there is one,
-/// given its type parameters. For a type that means nothing all instances are looked at.
-fn instance_with<'a>(
-    alloc: Global,
-    sight: &Sight,
-    scope: &Params,
-    name: &Ident<Parsed>,
-    of: &TypeText,
-    decls: &'a Vec<Decl<Parsed>>,
-    definitions: &Definitions,
-) -> Result<Option<&'a Decl<Parsed>>, Memory>
-    requires { AreDefinitions (sight_in sight.now) (declarations_of decls.now.items) definitions.now }
-    ensures { IfOk result (λ found. declared_seen found ≡ find (spec.instance_defined (sight_in sight.now) scope.now (name_of name.now) (written of.now)) (declarations_of decls.now.items)) }
-{
-    if means_nothing(alloc, sight, scope, of)? {
-        instance_among(alloc, sight, scope, name, of, decls, &definitions.instances)
-    } else {
-        instance_by_key(alloc, sight, scope, name, of, decls, definitions)
-    }
+    let meaningless = first_meaningless(alloc, sight, name, definitions)?;
+    Ok(earlier(worded, meaningless))
 }
 
 /// The first declaration of a body that defines an instance of this class for this type, if there is one.
@@ -253,10 +149,16 @@ fn instance_found<'a>(
     definitions: &Definitions,
 ) -> Result<Option<&'a Decl<Parsed>>, Memory>
     requires { AreDefinitions (sight_in sight.now) (declarations_of decls.now.items) definitions.now }
-    ensures { IfOk result (λ found. declared_seen found ≡ find (spec.instance_defined (sight_in sight.now) (agreeing.scope_of (generics_of list.now.items)) (name_of name.now) (written of.now)) (declarations_of decls.now.items)) }
+    ensures { IfOk result (λ found. declared_seen found
+        ≡ find (spec.instance_defined (sight_in sight.now) (agreeing.scope_of (generics_of list.now.items))
+        (name_of name.now) (written of.now)) (declarations_of decls.now.items)) }
 {
     let scope = scope_of(alloc, list)?;
-    instance_with(alloc, sight, &scope, name, of, decls, definitions)
+    let index = instance_index(alloc, sight, &scope, name, of, definitions)?;
+    match index {
+        None => Ok(None),
+        Some(at) => Ok(declared_at(decls, at)),
+    }
 }
 
 /// The first declaration of a body that defines a promise, if there is one.
@@ -269,7 +171,9 @@ fn definition_of<'a>(
     promise: &Decl<Parsed>,
 ) -> Result<Option<&'a Decl<Parsed>>, Memory>
     requires { AreDefinitions (sight_in sight.now) (declarations_of decls.now.items) definitions.now }
-    ensures { IfOk result (λ found. declared_seen found ≡ find (spec.defines (sight_in sight.now) (declared_of promise.now)) (declarations_of decls.now.items)) }
+    ensures { IfOk result (λ found. declared_seen found
+        ≡ find (spec.defines (sight_in sight.now) (declared_of promise.now))
+        (declarations_of decls.now.items)) }
 {
     match promise {
         Decl::Constant(_, name, _) => {
@@ -305,7 +209,8 @@ fn fault_by(
     promise: &Decl<Parsed>,
     found: Option<&Decl<Parsed>>,
 ) -> Result<Option<PromiseFault>, Memory>
-    ensures { IfOk result (λ fault. fault ≡ spec.kept_by (sight_in sight.now) name.now (declared_of promise.now) (declared_seen found.entry)) }
+    ensures { IfOk result (λ fault. fault ≡ spec.kept_by (sight_in sight.now) name.now
+        (declared_of promise.now) (declared_seen found.entry)) }
 {
     let at = declaration_place(promise);
     match found {
@@ -330,7 +235,8 @@ fn fault_of(
     promise: &Decl<Parsed>,
 ) -> Result<Option<PromiseFault>, Memory>
     requires { AreDefinitions (sight_in sight.now) (declarations_of decls.now.items) definitions.now }
-    ensures { IfOk result (λ fault. fault ≡ spec.promise_fault_of (sight_in sight.now) (declarations_of decls.now.items) (declared_of promise.now)) }
+    ensures { IfOk result (λ fault. fault ≡ spec.promise_fault_of (sight_in sight.now)
+        (declarations_of decls.now.items) (declared_of promise.now)) }
 {
     match promised(promise) {
         None => Ok(None),
@@ -350,7 +256,8 @@ fn unkept(
     promises: &Vec<Decl<Parsed>>,
 ) -> Result<Option<PromiseFault>, Memory>
     requires { AreDefinitions (sight_in sight.now) (declarations_of decls.now.items) definitions.now }
-    ensures { IfOk result (λ fault. fault ≡ spec.unkept (sight_in sight.now) (declarations_of decls.now.items) (declarations_of promises.now.items)) }
+    ensures { IfOk result (λ fault. fault ≡ spec.unkept (sight_in sight.now)
+        (declarations_of decls.now.items) (declarations_of promises.now.items)) }
 {
     for promise in promises {
         let fault = fault_of(alloc, sight, decls, definitions, promise)?;
@@ -368,7 +275,8 @@ fn body_fault(
     decls: &Vec<Decl<Parsed>>,
     promises: &Vec<Decl<Parsed>>,
 ) -> Result<Option<PromiseFault>, Memory>
-    ensures { IfOk result (λ fault. fault ≡ spec.unkept (sight_in sight.now) (declarations_of decls.now.items) (declarations_of promises.now.items)) }
+    ensures { IfOk result (λ fault. fault ≡ spec.unkept (sight_in sight.now)
+        (declarations_of decls.now.items) (declarations_of promises.now.items)) }
 {
     let definitions = Definitions::of(alloc, sight, decls)?;
     unkept(alloc, sight, decls, &definitions, promises)
@@ -381,7 +289,8 @@ fn parts_fault(
     interface: Option<&Whole<Parsed>>,
     body: Option<&Whole<Parsed>>,
 ) -> Result<Option<PromiseFault>, Memory>
-    ensures { IfOk result (λ fault. fault ≡ spec.parts_fault (sight_in sight.now) (tree_seen interface.entry) (tree_seen body.entry)) }
+    ensures { IfOk result (λ fault. fault ≡ spec.parts_fault (sight_in sight.now)
+        (tree_seen interface.entry) (tree_seen body.entry)) }
 {
     match interface {
         None => Ok(None),
@@ -402,7 +311,8 @@ fn module_fault(
     place: usize,
 ) -> Result<Option<PromiseFault>, Memory>
     requires { place < length (slots.modules resolved.now) }
-    ensures { (m : ModuleParts) → slice_get (slots.modules resolved.now) place ≡ Some m → IfOk result (λ fault. fault ≡ spec.module_fault (slots.modules resolved.now) place m) }
+    ensures { (m : ModuleParts) → slice_get (slots.modules resolved.now) place ≡ Some m
+        → IfOk result (λ fault. fault ≡ spec.module_fault (slots.modules resolved.now) place m) }
 {
     let modules = resolved.modules();
     let sight = Sight {

@@ -10,8 +10,8 @@ use Rattle.au_names.proofs.ExportLemmas.{nothing}
 use Rattle.au_names.proofs.ImportLemmas.{brings_nothing, brings_later, brings_earlier, nothing_put}
 use Rattle.au_names.proofs.imports.put_import.Goals as goal
 
-pub returns-in-None : goal.returns-in-None
-returns-in-None c =
+pub returns-in-None-clause-import : goal.returns-in-None-clause-import
+returns-in-None-clause-import c =
     let program = slots.modules c.args.modules.now in
     let one = plain_importing parsed.name_bytes (importing parsed c.args.import.now) in
     nothing_put c.args.table.now _ (brings_nothing c.args.space program c.args.place one (sym (c.requires.made.places (joined one.from)) ∙ sym c.in_ok-found.ensures ∙ c.in-None.is))
@@ -19,21 +19,21 @@ returns-in-None c =
 pub put_items-requires : goal.put_items-requires
 put_items-requires c =
     let less : c.in-Some.other < c.args.place = c.if-other-place.true in
-    record { within = omega (arith, c.requires.within, less); made = c.requires.made }
+    record { within = omega (arith, c.requires.within, less); made = c.requires.made; done = c.requires.done }
 
-pub returns-in_ok-put_items-in-Some : goal.returns-in_ok-put_items-in-Some
-returns-in_ok-put_items-in-Some c =
+pub returns-in_ok-put_items-in-Some-clause-import : goal.returns-in_ok-put_items-in-Some-clause-import
+returns-in_ok-put_items-in-Some-clause-import c =
     let program = slots.modules c.args.modules.now in
     let one = plain_importing parsed.name_bytes (importing parsed c.args.import.now) in
     let other = c.in-Some.other in
     let less : other < c.args.place = c.if-other-place.true in
     let here = slice_get-get_or program other nothing (omega (arith, c.requires.within, less)) in
-    c.in_ok-put_items-in-Some.ensures (get_or program other nothing) here
+    c.in_ok-put_items-in-Some.ensures.items (get_or program other nothing) here
     ∙ sym (ap (with_all c.args.table.now) (brings_earlier c.args.space program c.args.place other one (get_or program other nothing)
     (sym (c.requires.made.places (joined one.from)) ∙ sym c.in_ok-found.ensures ∙ c.in-Some.is) less here))
 
-pub returns-else-other-place : goal.returns-else-other-place
-returns-else-other-place c =
+pub returns-else-other-place-clause-import : goal.returns-else-other-place-clause-import
+returns-else-other-place-clause-import c =
     let program = slots.modules c.args.modules.now in
     let one = plain_importing parsed.name_bytes (importing parsed c.args.import.now) in
     nothing_put c.args.table.now _ (brings_later c.args.space program c.args.place c.in-Some.other one (sym (c.requires.made.places (joined one.from)) ∙ sym c.in_ok-found.ensures ∙ c.in-Some.is) c.if-other-place.false)

@@ -10,7 +10,7 @@ use Rattle.au_promises.proofs.DefinitionLemmas.{first_none, first_next, first_al
 use Rattle.au_promises.proofs.definitions.first_defined.Goals as goal
 
 pub loop-index-init : goal.loop-index-init
-loop-index-init c = first_none (name_defined c.args.sort) (declarations_of c.deref-one-items.result.now) c.new-table.result c.new-table.ensures
+loop-index-init c = first_none (name_defined c.args.sort) c.new-table.result c.new-table.ensures
 
 pub loop-index-preserved : goal.loop-index-preserved
 loop-index-preserved c =
@@ -19,6 +19,6 @@ loop-index-preserved c =
 
 pub returns : goal.returns
 returns c =
-    let first = λ (ds : List (Decl Parsed (List ℕ) (Unit {0}) (Unit {0}))). AreFirst (name_defined c.args.sort) (declarations_of ds) (declarations_of ds) c.loop-index.table in
+    let first = λ (ds : List (Decl Parsed (List ℕ) (Unit {0}) (Unit {0}))). AreFirst (name_defined c.args.sort) (declarations_of ds) c.loop-index.table in
     subst first c.deref-one-items.ensures.value
     (first_all (plain_declaration parsed.name_bytes) (declaration parsed) (name_defined c.args.sort) c.loop-index.table c.deref-one-items.result.now c.loop-index.index c.loop-index-test.false c.loop-index.invariant)
