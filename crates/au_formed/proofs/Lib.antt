@@ -1,0 +1,5 @@
+pub mod NamedLemmas
+pub mod ValueLemmas
+pub mod LeadLemmas
+pub mod GraphLemmas
+pub mod WellMadeLemmas
