@@ -21,23 +21,21 @@ use Rattle.au_formed.proofs.LeadLemmas.{infinite_from, infinite_to, named_declar
 
 among_kept : {A B : Type 0} (f : A → Option B) (xs : List A) (y : B) → Among y (filter_map f xs) → (x : A) × Among x xs × (f x ≡ Some y)
 among_kept f [] y m = absurd m
-among_kept f (x ∷ xs) y m = by (f x) refl m
+among_kept {A} {B} f (x ∷ xs) y m = by (f x) refl m (λ n. let r = among_kept f xs y n in (r.0, inr r.1, r.2))
   where
-    rest : Among y (filter_map f xs) → (z : _) × Among z (x ∷ xs) × (f z ≡ Some y)
-    rest n = let r = among_kept f xs y n in (r.0, inr r.1, r.2)
-
-    by : (o : Option _) → f x ≡ o → Among y (cons_option o (filter_map f xs)) → (z : _) × Among z (x ∷ xs) × (f z ≡ Some y)
-    by None e n = rest n
-    by (Some z) e (inl here) = (x, inl refl, e ∙ ap Some here)
-    by (Some z) e (inr later) = rest later
+    by : (o : Option B) → f x ≡ o → Among y (cons_option o (filter_map f xs))
+        → (Among y (filter_map f xs) → (z : A) × Among z (x ∷ xs) × (f z ≡ Some y)) → (z : A) × Among z (x ∷ xs) × (f z ≡ Some y)
+    by None e n rest = rest n
+    by (Some z) e (inl here) rest = (x, inl refl, e ∙ ap Some here)
+    by (Some z) e (inr later) rest = rest later
 
 kept_among : {A B : Type 0} (f : A → Option B) (xs : List A) (x : A) (y : B) → Among x xs → f x ≡ Some y → Among y (filter_map f xs)
 kept_among f [] x y m e = absurd m
 kept_among f (z ∷ zs) x y (inl here) e =
     subst (λ o. Among y (cons_option o (filter_map f zs))) (sym (ap f here ∙ e)) (inl refl)
-kept_among f (z ∷ zs) x y (inr later) e = by (f z) (kept_among f zs x y later e)
+kept_among {A} {B} f (z ∷ zs) x y (inr later) e = by (f z) (kept_among f zs x y later e)
   where
-    by : (o : Option _) → Among y (filter_map f zs) → Among y (cons_option o (filter_map f zs))
+    by : (o : Option B) → Among y (filter_map f zs) → Among y (cons_option o (filter_map f zs))
     by None m = m
     by (Some w) m = inr m
 
@@ -69,7 +67,7 @@ pub record Declares (first : ℕ) (all : List Naming) (a : DeclAt) (k : ℕ) : T
 
 declares : (first : ℕ) (all : List Naming) (a : DeclAt) (k : ℕ) → declarer_from first all a ≡ Some k → Declares first all a k
 declares first [] a k h = absurd (none-some k h)
-declares first (n ∷ ns) a k h = by (same_place a n.of) refl h
+declares first (n ∷ ns) a k h = by (same_place a n.of) refl h (declares (first + 1) ns a k)
   where
     later : same_place a n.of ≡ false → Declares (first + 1) ns a k → Declares first (n ∷ ns) a k
     later e d = record {
@@ -81,8 +79,9 @@ declares first (n ∷ ns) a k h = by (same_place a n.of) refl h
       names = ap (λ b. cond b n.names (names_of ns a)) e ∙ d.names;
     }
 
-    by : (b : Bool) → same_place a n.of ≡ b → cond b (Some first) (declarer_from (first + 1) ns a) ≡ Some k → Declares first (n ∷ ns) a k
-    by true e k' = record {
+    by : (b : Bool) → same_place a n.of ≡ b → cond b (Some first) (declarer_from (first + 1) ns a) ≡ Some k
+        → (declarer_from (first + 1) ns a ≡ Some k → Declares (first + 1) ns a k) → Declares first (n ∷ ns) a k
+    by true e k' on = record {
       place = 0;
       naming = n;
       counted = (let same = same_Some first k k' in omega arith);
@@ -90,7 +89,7 @@ declares first (n ∷ ns) a k h = by (same_place a n.of) refl h
       of = sym (place_is a n.of e);
       names = ap (λ b. cond b n.names (names_of ns a)) e;
     }
-    by false e k' = later e (declares (first + 1) ns a k k')
+    by false e k' on = later e (on k')
 
 -- what is declared has an index, that of a place or one before it
 declared_by : (first : ℕ) (all : List Naming) (i : ℕ) (n : Naming) → slice_get all i ≡ Some n
@@ -105,6 +104,12 @@ declared_by first (m ∷ ms) (suc i) n h = by (same_place n.of m.of) refl (decla
         → (k : ℕ) × (cond (same_place n.of m.of) (Some first) (declarer_from (first + 1) ms n.of) ≡ Some k) × (k ≤ first + suc i)
     by true e rest = (first, ap (λ b. cond b (Some first) (declarer_from (first + 1) ms n.of)) e, omega arith)
     by false e rest = (rest.0, ap (λ b. cond b (Some first) (declarer_from (first + 1) ms n.of)) e ∙ rest.1, (let less = rest.2 in omega arith))
+
+-- nothing is past the end
+beyond : (xs : List Naming) (i : ℕ) → slice_get xs i ≡ None → length xs ≤ i
+beyond [] i e = omega arith
+beyond (x ∷ xs) zero e = absurd (none-some x (sym e))
+beyond (x ∷ xs) (suc i) e = let rest = beyond xs i e in omega arith
 
 among_at : {A : Type 0} (xs : List A) (x : A) → Among x xs → (i : ℕ) × (slice_get xs i ≡ Some x)
 among_at [] x m = absurd m
@@ -145,15 +150,9 @@ module _ (all : List Naming) where
   edge_to k j names = by (slice_get all k) refl
     where
       by : (o : Option Naming) → slice_get all k ≡ o → (c : DeclAt) × (declarer all c ≡ Some j)
-      by None e = absurd (past_names (graph_of all) k j (past k e) names)
-        where
-          past : (i : ℕ) → slice_get all i ≡ None → length (graph_of all) ≤ i
-          past i none = subst (λ l. l ≤ i) (sym (length-map all (λ (x : Naming). filter_map (declarer all) x.names))) (beyond all i none)
-            where
-              beyond : (xs : List Naming) (i : ℕ) → slice_get xs i ≡ None → length xs ≤ i
-              beyond [] i e = omega arith
-              beyond (x ∷ xs) zero e = absurd (none-some x (sym e))
-              beyond (x ∷ xs) (suc i) e = (let rest = beyond xs i e in omega arith)
+      by None e =
+          absurd (past_names (graph_of all) k j
+          (subst (λ l. l ≤ k) (sym (length-map all (λ (x : Naming). filter_map (declarer all) x.names))) (beyond all k e)) names)
       by (Some n) e =
           let kept = among_kept (declarer all) n.names j (subst (λ l. Among j l) (nexts k n e) (among (successors (graph_of all) k) j names)) in
           (kept.0, kept.2)

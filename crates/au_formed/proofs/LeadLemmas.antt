@@ -20,11 +20,11 @@ any_there p (y ∷ ys) x (inr later) h = or_right (p y) (list_any p ys) (any_the
 
 pub any_found : {A : Type 0} (p : A → Bool) (xs : List A) → list_any p xs ≡ true → (x : A) × Among x xs × (p x ≡ true)
 any_found p [] h = absurd (true≢false (sym h))
-any_found p (y ∷ ys) h = by (or_cases (p y) (list_any p ys) h)
+any_found p (y ∷ ys) h = by (or_cases (p y) (list_any p ys) h) (any_found p ys)
   where
-    by : (p y ≡ true) ⊎ (list_any p ys ≡ true) → (x : _) × Among x (y ∷ ys) × (p x ≡ true)
-    by (inl here) = (y, inl refl, here)
-    by (inr later) = let rest = any_found p ys later in (rest.0, inr rest.1, rest.2)
+    by : (p y ≡ true) ⊎ (list_any p ys ≡ true) → (list_any p ys ≡ true → (x : _) × Among x ys × (p x ≡ true)) → (x : _) × Among x (y ∷ ys) × (p x ≡ true)
+    by (inl here) on = (y, inl refl, here)
+    by (inr later) on = let rest = on later in (rest.0, inr rest.1, rest.2)
 
 any_more : {A : Type 0} (p q : A → Bool) → ((x : A) → p x ≡ true → q x ≡ true) → (xs : List A) → list_any p xs ≡ true → list_any q xs ≡ true
 any_more p q more xs h = let found = any_found p xs h in any_there q xs found.0 found.1 (more found.0 found.2)
@@ -48,19 +48,13 @@ count_most p (x ∷ xs) = by (p x) (count_most p xs)
 count_all : {A : Type 0} (p : A → Bool) (xs : List A) → length xs ≤ count p xs → (x : A) → Among x xs → p x ≡ true
 unfolding count
 count_all p [] h x m = absurd m
-count_all p (y ∷ ys) h x m = by (p y) refl m
+count_all p (y ∷ ys) h x m = by (p y) refl h m (count_most p ys) (λ all later. count_all p ys all x later)
   where
-    most : count p ys ≤ length ys
-    most = count_most p ys
-
-    by : (b : Bool) → p y ≡ b → Among x (y ∷ ys) → p x ≡ true
-    by true e (inl here) = ap p (sym here) ∙ e
-    by true e (inr later) =
-        let all : suc (length ys) ≤ 1 + count p ys = subst (λ c. suc (length ys) ≤ cond c 1 0 + count p ys) e h in
-        count_all p ys (omega arith) x later
-    by false e n =
-        let all : suc (length ys) ≤ 0 + count p ys = subst (λ c. suc (length ys) ≤ cond c 1 0 + count p ys) e h in
-        absurd (omega arith)
+    by : (b : Bool) → p y ≡ b → suc (length ys) ≤ cond b 1 0 + count p ys → Among x (y ∷ ys) → count p ys ≤ length ys
+        → (length ys ≤ count p ys → Among x ys → p x ≡ true) → p x ≡ true
+    by true e all (inl here) most on = ap p (sym here) ∙ e
+    by true e all (inr later) most on = on (omega arith) later
+    by false e all n most on = absurd (omega arith)
 
 -- where what passes goes on passing, no more pass, or more do
 module _ {A : Type 0} (p q : A → Bool) (more : (x : A) → p x ≡ true → q x ≡ true) where
@@ -101,11 +95,11 @@ module _ {A : Type 0} (p q : A → Bool) (more : (x : A) → p x ≡ true → q 
 -- what names something is declared
 pub named_declared : (all : List Naming) (a b : DeclAt) → Among b (names_of all a) → Among a (types_declared all)
 named_declared [] a b m = absurd m
-named_declared (n ∷ ns) a b m = by (same_place a n.of) refl m
+named_declared (n ∷ ns) a b m = by (same_place a n.of) refl m (named_declared ns a b)
   where
-    by : (c : Bool) → same_place a n.of ≡ c → Among b (cond c n.names (names_of ns a)) → Among a (n.of ∷ types_declared ns)
-    by true e here = inl (sym (place_is a n.of e))
-    by false e later = inr (named_declared ns a b later)
+    by : (c : Bool) → same_place a n.of ≡ c → Among b (cond c n.names (names_of ns a)) → (Among b (names_of ns a) → Among a (types_declared ns)) → Among a (n.of ∷ types_declared ns)
+    by true e here on = inl (sym (place_is a n.of e))
+    by false e later on = inr (on later)
 
 module _ (all : List Naming) (b : DeclAt) where
   -- a type leads to this one by way of at most so many others
@@ -135,14 +129,14 @@ module _ (all : List Naming) (b : DeclAt) where
     where
       by : (c : DeclAt) × Among c (names_of all a) × (same_place b c ≡ true) → Leads all a b
       by (c, m, e) = directly a b (subst (λ d. Names all a d) (sym (place_is b c e)) (contains (names_of all a) c m))
-  within_leads (suc n) a h = by (any_found (λ c. same_place b c || within n c) (names_of all a) (sym (within_more n a) ∙ h))
+  within_leads (suc n) a h = by (within_leads n) (any_found (λ c. same_place b c || within n c) (names_of all a) (sym (within_more n a) ∙ h))
     where
-      on : (c : DeclAt) → Among c (names_of all a) → (same_place b c ≡ true) ⊎ (within n c ≡ true) → Leads all a b
-      on c m (inl e) = directly a b (subst (λ d. Names all a d) (sym (place_is b c e)) (contains (names_of all a) c m))
-      on c m (inr e) = onward a c b (contains (names_of all a) c m) (within_leads n c e)
+      on : ((c : DeclAt) → within n c ≡ true → Leads all c b) → (c : DeclAt) → Among c (names_of all a) → (same_place b c ≡ true) ⊎ (within n c ≡ true) → Leads all a b
+      on rest c m (inl e) = directly a b (subst (λ d. Names all a d) (sym (place_is b c e)) (contains (names_of all a) c m))
+      on rest c m (inr e) = onward a c b (contains (names_of all a) c m) (rest c e)
 
-      by : (c : DeclAt) × Among c (names_of all a) × ((same_place b c || within n c) ≡ true) → Leads all a b
-      by (c, m, e) = on c m (or_cases (same_place b c) (within n c) e)
+      by : ((c : DeclAt) → within n c ≡ true → Leads all c b) → (c : DeclAt) × Among c (names_of all a) × ((same_place b c || within n c) ≡ true) → Leads all a b
+      by rest (c, m, e) = on rest c m (or_cases (same_place b c) (within n c) e)
 
   -- ---- by way of more
 
@@ -153,14 +147,14 @@ module _ (all : List Naming) (b : DeclAt) where
       (sym (within_none a) ∙ h)
   next (suc n) a h =
       within_more (suc n) a
-      ∙ any_more (λ c. same_place b c || within n c) (λ c. same_place b c || within (suc n) c) step (names_of all a) (sym (within_more n a) ∙ h)
+      ∙ any_more (λ c. same_place b c || within n c) (λ c. same_place b c || within (suc n) c) (step (next n)) (names_of all a) (sym (within_more n a) ∙ h)
     where
-      on : (c : DeclAt) → (same_place b c ≡ true) ⊎ (within n c ≡ true) → (same_place b c || within (suc n) c) ≡ true
-      on c (inl e) = or_left (same_place b c) (within (suc n) c) e
-      on c (inr e) = or_right (same_place b c) (within (suc n) c) (next n c e)
+      on : ((c : DeclAt) → within n c ≡ true → within (suc n) c ≡ true) → (c : DeclAt) → (same_place b c ≡ true) ⊎ (within n c ≡ true) → (same_place b c || within (suc n) c) ≡ true
+      on rest c (inl e) = or_left (same_place b c) (within (suc n) c) e
+      on rest c (inr e) = or_right (same_place b c) (within (suc n) c) (rest c e)
 
-      step : (c : DeclAt) → (same_place b c || within n c) ≡ true → (same_place b c || within (suc n) c) ≡ true
-      step c e = on c (or_cases (same_place b c) (within n c) e)
+      step : ((c : DeclAt) → within n c ≡ true → within (suc n) c ≡ true) → (c : DeclAt) → (same_place b c || within n c) ≡ true → (same_place b c || within (suc n) c) ≡ true
+      step rest c e = on rest c (or_cases (same_place b c) (within n c) e)
 
   further : (k n : ℕ) (a : DeclAt) → within n a ≡ true → within (k + n) a ≡ true
   further zero n a h = let same : n ≡ 0 + n = omega arith in subst (λ m. within m a ≡ true) same h

@@ -1,5 +1,5 @@
 -- A declaration is refused for nothing exactly where it is well made.
-use Rattle.std.proofs.Common.{◌≡◌, ◌≢◌, inl, inr, Bool, true, false, not, List, [], ◌∷◌, ◌++◌, map, Option, None, Some, is_some, refl, sym, ap, ◌∙◌, subst, Contains, true≢false}
+use Rattle.std.proofs.Common.{◌≡◌, ◌≢◌, inl, inr, Bool, true, false, not, List, [], ◌∷◌, ◌++◌, map, Option, None, Some, refl, sym, ap, ◌∙◌, subst, Contains, true≢false}
 use Rattle.std.specs.List.{flat_map}
 use Rattle.std.specs.Option.{option_map, option_or}
 use Rattle.std.proofs.lemmas.Bool.{not-true, not-false, both_ways}
@@ -15,7 +15,6 @@ use Rattle.au_types.specs.declared.headings.Head.{Head}
 use Rattle.au_types.specs.declared.parameters.Parameter.{Parameter}
 use Rattle.au_types.specs.declared.types.DeclAt.{DeclAt}
 use Rattle.au_types.specs.Types.{Meaning}
-use Rattle.au_generics.specs.Meanings.{class_in}
 use Rattle.au_judged_types.specs.Judging.{judged}
 use Rattle.au_judged_types.specs.Reasons.{Outcome, means, fails}
 use Rattle.au_judged_types.proofs.AgreementLemmas.{judged_is_meant, meant_is_judged}
@@ -33,7 +32,7 @@ use Rattle.au_formed.specs.declared.faults.FormFault.TheVariants.{Malformed, Emp
 use Rattle.au_formed.specs.Fields.{above_place, case_above, empty_union, field_above, first_above, holds, is_above, without_case}
 use Rattle.au_formed.specs.Forms.{form_fault}
 use Rattle.au_formed.specs.Good.{FieldFits, FieldsFit, HasCase, Holds, IsFormed, IsGoodWriting, IsWellMade}
-use Rattle.au_formed.specs.Malformed.{ill_place, is_failure, is_ill, malformed}
+use Rattle.au_formed.specs.Malformed.{ill_place, is_class, is_failure, is_ill, malformed}
 use Rattle.au_formed.specs.Writings.{Writing, a_type, a_class, a_universe, case_writings, field_writings, place_of, writings}
 
 -- ---- options
@@ -60,7 +59,7 @@ holds_from : (u : Universe) (field : TypeUniverse) → holds u field ≡ true �
 holds_from universes.Free Free h = refl
 holds_from universes.Free Linear h = absurd cc
 holds_from universes.Free AnyUniverse h = absurd cc
-holds_from universes.AnyType field h = λ is. true≢false (sym (not-true (is_linear field) h ∙ refl) ∙ ap is_linear is)
+holds_from universes.AnyType field h = λ is. true≢false (sym (ap is_linear is) ∙ not-true (is_linear field) h)
 holds_from universes.Linear field h = tt
 holds_from universes.Region field h = tt
 
@@ -74,7 +73,7 @@ holds_to universes.Region field h = refl
 
 -- ---- classes
 
-class_from : (o : Option Sense) → not (is_some (class_in o)) ≡ false → (at : DeclAt) × (o ≡ Some (class_sense at))
+class_from : (o : Option Sense) → not (is_class o) ≡ false → (at : DeclAt) × (o ≡ Some (class_sense at))
 class_from None h = absurd cc
 class_from (Some (type_sense t)) h = absurd cc
 class_from (Some a_span) h = absurd cc
@@ -82,8 +81,8 @@ class_from (Some (a_region r)) h = absurd cc
 class_from (Some (declared at expected)) h = absurd cc
 class_from (Some (class_sense at)) h = (at, refl)
 
-class_to : (o : Option Sense) (at : DeclAt) → o ≡ Some (class_sense at) → not (is_some (class_in o)) ≡ false
-class_to o at h = ap (λ s. not (is_some (class_in s))) h
+class_to : (o : Option Sense) (at : DeclAt) → o ≡ Some (class_sense at) → not (is_class o) ≡ false
+class_to o at h = ap (λ s. not (is_class s)) h
 
 module _ (visible : List (Bytes × DeclAt)) (heads : List (DeclAt × Head)) (params : List Parameter) where
   abbrev judge : WrittenType → Outcome Meaning

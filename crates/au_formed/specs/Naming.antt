@@ -33,17 +33,17 @@ abbrev pub declared_type : Option Sense → Option DeclAt
 declared_type (Some (declared at expected)) = Some at
 declared_type other = None
 
+-- a name that means this, and what is named in its arguments, which don't count where they are held apart
+abbrev pub named_by : (DeclAt → Bool) → Option DeclAt → List DeclAt → List DeclAt
+named_by holder None inside = inside
+named_by holder (Some at) inside = at ∷ (if holder at then [] else inside)
+
 -- by what a name means among types, and by which declared types hold their arguments apart
 module _ (sense : Bytes → Option Sense) (holder : DeclAt → Bool) where
-  -- a name, and what is named in its arguments, which don't count where they are held apart
-  abbrev pub named_by : Option DeclAt → List DeclAt → List DeclAt
-  named_by None inside = inside
-  named_by (Some at) inside = at ∷ (if holder at then [] else inside)
-
   unfoldable mutual
     -- the declared types that are named in a written type, under references too
     pub types_named : WrittenType → List DeclAt
-    types_named (named name args) = named_by (declared_type (sense name.name)) (all_named args)
+    types_named (named name args) = named_by holder (declared_type (sense name.name)) (all_named args)
     types_named (reference at access target region) = types_named target
 
     -- those that are named in written types

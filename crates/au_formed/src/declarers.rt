@@ -60,7 +60,7 @@ impl Declarers {
 }
 
 /// The first record or union that declares each type.
-pub fn declarers(alloc: Global, namings: &Vec<Naming>) -> Result<Declarers, Memory>
+pub fn first_declarers(alloc: Global, namings: &Vec<Naming>) -> Result<Declarers, Memory>
     ensures { (a : DeclAt) → IfOk result (λ table. index_at table a ≡ declarer namings.now.items a) }
 {
     let mut table = Declarers::new(alloc);

@@ -69,8 +69,9 @@ fn first_in_cases(
     ensures { IfOk result (λ found. found ≡ spec.cases_above (judged_in scope.now) (universes.universe_of scope.now.heads.now scope.now.params.now) universe (cases_said cases.now.items)) }
 {
     for one in cases {
-        if let Some(at) = first_above(alloc, scope, universe, &one.fields)? {
-            return Ok(Some(at));
+        match first_above(alloc, scope, universe, &one.fields)? {
+            Some(at) => return Ok(Some(at)),
+            None => {}
         }
     }
     Ok(None)

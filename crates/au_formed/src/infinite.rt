@@ -5,7 +5,7 @@ ghost use Rattle.au_cycles.specs.Cycles.{HasNoCycle, IsFirstOnCycle};
 ghost use Rattle.au_formed.specs.Graphs.{graph_of};
 ghost use Rattle.au_formed.specs.Infinite as spec;
 
-use crate::declarers::declarers;
+use crate::declarers::first_declarers;
 use crate::graphs::graph_of;
 use crate::namings::Naming;
 use au_base::Memory;
@@ -18,7 +18,7 @@ fn first_index(alloc: Global, namings: &Vec<Naming>) -> Result<Option<usize>, Me
     ensures found { IfOk result (λ first. (k : ℕ) → (first ≡ Some k) ↔ IsFirstOnCycle (graph_of namings.now.items) k) }
     ensures none { IfOk result (λ first. (first ≡ None) ↔ HasNoCycle (graph_of namings.now.items)) }
 {
-    let table = declarers(alloc, namings)?;
+    let table = first_declarers(alloc, namings)?;
     let graph = graph_of(alloc, &table, namings)?;
     first_on_cycle(alloc, &graph)
 }

@@ -23,6 +23,6 @@ pub use faults::FormFault;
 pub use forms::form_fault;
 pub use infinite::first_infinite;
 pub use naming::type_of;
-pub use namings::{Naming, namings};
-pub use texts::{Spot, declarations};
+pub use namings::{Naming, namings_of};
+pub use texts::{Spot, all_declarations};
 pub use visible::{Visible, visible_at};

@@ -4,14 +4,13 @@ ghost use Rattle.std.specs.Prelude.{◌≡◌, IfOk};
 ghost use Rattle.au_formed.specs.Malformed as spec;
 ghost use Rattle.au_formed.specs.Said.{name_said, writing_said, writings_said};
 ghost use Rattle.au_formed.specs.Writings as writing;
-ghost use Rattle.au_generics.specs.Meanings.{class_in};
 ghost use Rattle.au_heads.specs.Walks as walks;
 ghost use Rattle.au_judged_types.specs.Views.{judged_in};
 ghost use Rattle.au_syntax.specs.Plain.{Bytes};
 ghost use Rattle.au_syntax.specs.Views.{written};
 ghost use Rattle.au_universes.specs.Forming as forming;
 ghost use Rattle.au_written_types.specs.Views.{said, sense_in};
-ghost use Rattle.std.specs.Prelude.{Some, is_some, not};
+ghost use Rattle.std.specs.Prelude.{Some, not};
 
 use crate::listing::writings_of;
 use crate::writings::{Writing, place_of};
@@ -33,7 +32,7 @@ fn is_failure(alloc: Global, scope: &Scope, of: &TypeText) -> Result<bool, Memor
 
 /// Whether a sense is that of a class.
 fn is_class(sense: &Sense) -> bool
-    ensures { (name : Bytes) → result ≡ is_some (class_in (Some (said name sense.now))) }
+    ensures { (name : Bytes) → result ≡ spec.is_class (Some (said name sense.now)) }
 {
     match sense {
         Sense::Unit => false,
@@ -50,7 +49,7 @@ fn is_class(sense: &Sense) -> bool
 
 /// Whether a name means no class.
 fn is_no_class(scope: &Scope, name: &Name) -> bool
-    ensures { result ≡ not (is_some (class_in (sense_in scope.now name.now))) }
+    ensures { result ≡ not (spec.is_class (sense_in scope.now name.now)) }
 {
     match sense_of(scope, name) {
         Some(sense) => !is_class(&sense),

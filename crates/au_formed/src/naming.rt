@@ -50,7 +50,13 @@ fn declared_type(scope: &Scope, name: &Name) -> Option<DeclAt>
 fn is_holder_text(text: &[u8]) -> bool
     ensures { result ≡ (bytes_eq text.now (codes "Standard.Box:Box") || bytes_eq text.now (codes "Standard.Buffer:Buffer")) }
 {
-    text == b"Standard.Box:Box" || text == b"Standard.Buffer:Buffer"
+    is_text(text, b"Standard.Box:Box") || is_text(text, b"Standard.Buffer:Buffer")
+}
+
+fn is_text(text: &[u8], other: &[u8]) -> bool
+    ensures { result ≡ bytes_eq text.now other.now }
+{
+    text == other
 }
 
 /// Whether a declared type holds its argument apart, as `Box` and `Buffer` do.

@@ -90,7 +90,7 @@ fn push_naming(
 /// # Errors
 ///
 /// Only for want of memory.
-pub fn namings(
+pub fn namings_of(
     alloc: Global,
     resolved: &Resolved,
     all: &Vec<Spot>,

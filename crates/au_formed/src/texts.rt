@@ -111,7 +111,7 @@ fn push_module<'a>(
 /// # Errors
 ///
 /// Only for want of memory. It is also what is answered where a place or a number doesn't fit.
-pub fn declarations(alloc: Global, modules: &Modules) -> Result<Vec<Spot<'_>>, Memory>
+pub fn all_declarations(alloc: Global, modules: &Modules) -> Result<Vec<Spot<'_>>, Memory>
     ensures { IfOk result (λ all. spots_said all.items ≡ spec.text (slots.modules modules.now)) }
 {
     let mut list = Vec::new(alloc);

@@ -21,7 +21,8 @@ use crate::faults::DeclFault;
 use au_again::Doubles;
 use au_base::{Memory, Pos};
 use au_formed::{
-    FormFault, Spot, Visible, declarations, first_infinite, form_fault, namings, type_of, visible_at,
+    FormFault, Spot, Visible, all_declarations, first_infinite, form_fault, namings_of, type_of,
+    visible_at,
 };
 use au_imports::Resolved;
 use au_syntax::{Decl, Parsed};
@@ -166,7 +167,7 @@ fn first_type(
     requires { spots_said all.now.items ≡ texts.text (slots.modules resolved.now) }
     ensures { IfOk result (λ first. first ≡ infinite.first_infinite (naming.namings (slots.modules resolved.now))) }
 {
-    let list = namings(alloc, resolved, all)?;
+    let list = namings_of(alloc, resolved, all)?;
     first_infinite(alloc, &list)
 }
 
@@ -174,7 +175,7 @@ fn first_type(
 fn decl_fault(alloc: Global, resolved: &Resolved) -> Result<Option<DeclFault>, Memory>
     ensures { IfOk result (λ found. found ≡ spec.decl_fault (slots.modules resolved.now)) }
 {
-    let all = declarations(alloc, resolved.modules())?;
+    let all = all_declarations(alloc, resolved.modules())?;
     let doubles = Doubles::of(alloc, resolved)?;
     let first = first_type(alloc, resolved, &all)?;
     first_fault(alloc, resolved, &doubles, first, &all)

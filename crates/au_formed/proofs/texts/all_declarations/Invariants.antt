@@ -2,7 +2,7 @@ use Rattle.std.proofs.Common.{◌≡◌, take}
 use Rattle.au_formed.specs.Said.{spots_said}
 use Rattle.au_formed.specs.Text.{text_from}
 use Rattle.au_modules.specs.Slots as slots
-use Rattle.au_formed.proofs.texts.declarations.Given as goal
+use Rattle.au_formed.proofs.texts.all_declarations.Given as goal
 
 -- those of the modules that are visited
 abbrev pub invariant-loop-place : goal.invariant-loop-place
