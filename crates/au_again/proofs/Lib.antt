@@ -1,0 +1,4 @@
+pub mod OnceLemmas
+pub mod RuleLemmas
+pub mod ScopeLemmas
+pub mod StatementLemmas
