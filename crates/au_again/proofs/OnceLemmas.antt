@@ -22,18 +22,18 @@ use Rattle.au_again.specs.Once.{AreNew, IsAtTop, IsDeclared, IsDue, IsInBlock, I
 
 -- ---- tests of two truth values
 
-differ : false ≡ true → ⊥
+pub differ : false ≡ true → ⊥
 differ q = cc
 
-or_true : (a b : Bool) → (a || b) ≡ true → (a ≡ true) ⊎ (b ≡ true)
+pub or_true : (a b : Bool) → (a || b) ≡ true → (a ≡ true) ⊎ (b ≡ true)
 or_true true b e = inl refl
 or_true false b e = inr e
 
-or_left : (a b : Bool) → a ≡ true → (a || b) ≡ true
+pub or_left : (a b : Bool) → a ≡ true → (a || b) ≡ true
 or_left true b e = refl
 or_left false b e = absurd (differ e)
 
-or_right : (a b : Bool) → b ≡ true → (a || b) ≡ true
+pub or_right : (a b : Bool) → b ≡ true → (a || b) ≡ true
 or_right true b e = refl
 or_right false b e = e
 
@@ -45,11 +45,11 @@ both_true : (a b : Bool) → a ≡ true → b ≡ true → (a && b) ≡ true
 both_true true b p q = q
 both_true false b p q = absurd (differ p)
 
-not_so : (a : Bool) → ¬ (a ≡ true) → a ≡ false
+pub not_so : (a : Bool) → ¬ (a ≡ true) → a ≡ false
 not_so true h = absurd (h refl)
 not_so false h = refl
 
-so_not : (a : Bool) → a ≡ false → ¬ (a ≡ true)
+pub so_not : (a : Bool) → a ≡ false → ¬ (a ≡ true)
 so_not a e q = differ (sym e ∙ q)
 
 -- ---- one mark
@@ -111,30 +111,32 @@ only_item x y (zero, within, is) = is
 only_item x y (suc k, within, is) = absurd (omega (arith, within))
 
 module _ (role : Role) (kind : Kind) (name : Bytes) where
-  stands_declared : (before : List Mark) → stands before role kind name ≡ true → IsDeclared (reverse before) role kind name
+  pub stands_declared : (before : List Mark) → stands before role kind name ≡ true → IsDeclared (reverse before) role kind name
   stands_declared [] e = absurd (differ e)
-  stands_declared (m ∷ rest) e = by (or_true (is_declaring role kind name m) (stands rest role kind name) e)
+  stands_declared (m ∷ rest) e = by (stands_declared rest) (or_true (is_declaring role kind name m) (stands rest role kind name) e)
     where
-      by : (is_declaring role kind name m ≡ true) ⊎ (stands rest role kind name ≡ true) → IsDeclared (reverse (m ∷ rest)) role kind name
-      by (inl one) =
+      by : (stands rest role kind name ≡ true → IsDeclared (reverse rest) role kind name)
+          → (is_declaring role kind name m ≡ true) ⊎ (stands rest role kind name ≡ true) → IsDeclared (reverse (m ∷ rest)) role kind name
+      by before (inl one) =
           let found = declaring role kind name m one in
           let last : Contains (m ∷ []) (Declares role kind name found.0) = subst (λ x. Contains (x ∷ []) (Declares role kind name found.0)) (sym found.1) (first_in_list (Declares role kind name found.0) []) in
           (found.0, subst (λ l. Contains l (Declares role kind name found.0)) (sym (reverse-append (m ∷ []) rest)) (Contains-append_right (reverse rest) (m ∷ []) (Declares role kind name found.0) last))
-      by (inr more) =
-          let found = stands_declared rest more in
+      by before (inr more) =
+          let found = before more in
           (found.0, subst (λ l. Contains l (Declares role kind name found.0)) (sym (reverse-append (m ∷ []) rest)) (Contains-append_left (reverse rest) (m ∷ []) (Declares role kind name found.0) found.1))
 
-  declared_stands : (before : List Mark) → IsDeclared (reverse before) role kind name → stands before role kind name ≡ true
+  pub declared_stands : (before : List Mark) → IsDeclared (reverse before) role kind name → stands before role kind name ≡ true
   declared_stands [] h = absurd (no_item (Declares role kind name h.0) h.1)
   declared_stands (m ∷ rest) h =
-      by (Contains-append_cases (reverse rest) (m ∷ []) (Declares role kind name h.0) (subst (λ l. Contains l (Declares role kind name h.0)) (reverse-append (m ∷ []) rest) h.1))
+      by (declared_stands rest) (Contains-append_cases (reverse rest) (m ∷ []) (Declares role kind name h.0) (subst (λ l. Contains l (Declares role kind name h.0)) (reverse-append (m ∷ []) rest) h.1))
     where
-      by : Contains (reverse rest) (Declares role kind name h.0) ⊎ Contains (m ∷ []) (Declares role kind name h.0) → stands (m ∷ rest) role kind name ≡ true
-      by (inl more) = or_right (is_declaring role kind name m) (stands rest role kind name) (declared_stands rest (h.0, more))
-      by (inr one) = or_left (is_declaring role kind name m) (stands rest role kind name) (declares role kind name h.0 m (only_item (Declares role kind name h.0) m one))
+      by : (IsDeclared (reverse rest) role kind name → stands rest role kind name ≡ true)
+          → Contains (reverse rest) (Declares role kind name h.0) ⊎ Contains (m ∷ []) (Declares role kind name h.0) → stands (m ∷ rest) role kind name ≡ true
+      by before (inl more) = or_right (is_declaring role kind name m) (stands rest role kind name) (before (h.0, more))
+      by before (inr one) = or_left (is_declaring role kind name m) (stands rest role kind name) (declares role kind name h.0 m (only_item (Declares role kind name h.0) m one))
 
 module _ (before : List Mark) (kind : Kind) (name : Bytes) where
-  top_at_top : is_top before kind name ≡ true → IsAtTop (reverse before) kind name
+  pub top_at_top : is_top before kind name ≡ true → IsAtTop (reverse before) kind name
   top_at_top e = by (or_true (stands before Whole kind name) (stands before Promise kind name || stands before Definition kind name) e)
     where
       by : (stands before Whole kind name ≡ true) ⊎ ((stands before Promise kind name || stands before Definition kind name) ≡ true) → IsAtTop (reverse before) kind name
@@ -142,7 +144,7 @@ module _ (before : List Mark) (kind : Kind) (name : Bytes) where
       by (inr more) = elim (or_true (stands before Promise kind name) (stands before Definition kind name) more)
           [ inl two ↦ inr (inl (stands_declared Promise kind name before two)) | inr three ↦ inr (inr (stands_declared Definition kind name before three)) ]
 
-  at_top_top : IsAtTop (reverse before) kind name → is_top before kind name ≡ true
+  pub at_top_top : IsAtTop (reverse before) kind name → is_top before kind name ≡ true
   at_top_top (inl one) = or_left (stands before Whole kind name) _ (declared_stands Whole kind name before one)
   at_top_top (inr (inl two)) =
       or_right (stands before Whole kind name) _ (or_left (stands before Promise kind name) _ (declared_stands Promise kind name before two))
@@ -150,7 +152,7 @@ module _ (before : List Mark) (kind : Kind) (name : Bytes) where
       or_right (stands before Whole kind name) _ (or_right (stands before Promise kind name) _ (declared_stands Definition kind name before three))
 
   -- a name that no mark declares
-  unknown_from : is_declared before kind name ≡ false → IsUnknown (reverse before) kind name
+  pub unknown_from : is_declared before kind name ≡ false → IsUnknown (reverse before) kind name
   unknown_from e = λ role h. so_not (is_declared before kind name) e (by role h)
     where
       by : (role : Role) → IsDeclared (reverse before) role kind name → is_declared before kind name ≡ true
@@ -159,7 +161,7 @@ module _ (before : List Mark) (kind : Kind) (name : Bytes) where
       by Promise h = or_right (stands before Local kind name) _ (at_top_top (inr (inl h)))
       by Definition h = or_right (stands before Local kind name) _ (at_top_top (inr (inr h)))
 
-  unknown_to : IsUnknown (reverse before) kind name → is_declared before kind name ≡ false
+  pub unknown_to : IsUnknown (reverse before) kind name → is_declared before kind name ≡ false
   unknown_to h = not_so (is_declared before kind name) (λ e. by (or_true (stands before Local kind name) (is_top before kind name) e))
     where
       none : IsAtTop (reverse before) kind name → ⊥
@@ -173,43 +175,43 @@ module _ (before : List Mark) (kind : Kind) (name : Bytes) where
 -- ---- blocks that are open
 
 opened_last : (marks : List Mark) (m : Mark) → opened (marks ++ m ∷ []) ≡ opened marks + opened (m ∷ [])
-opened_last [] m = refl
+opened_last [] m = omega arith
 opened_last (Opens ∷ rest) m = omega (arith, opened_last rest m)
 opened_last (Closes ∷ rest) m = opened_last rest m
 opened_last (Declares role kind name at ∷ rest) m = opened_last rest m
 
 closed_last : (marks : List Mark) (m : Mark) → closed (marks ++ m ∷ []) ≡ closed marks + closed (m ∷ [])
-closed_last [] m = refl
+closed_last [] m = omega arith
 closed_last (Opens ∷ rest) m = closed_last rest m
 closed_last (Closes ∷ rest) m = omega (arith, closed_last rest m)
 closed_last (Declares role kind name at ∷ rest) m = closed_last rest m
+
+-- nothing is cut into nothing
+nothing_front : {X : Type 0} (front back : List X) → [] ≡ front ++ back → front ≡ []
+nothing_front [] back q = refl
+nothing_front (z ∷ zs) back q = absurd cc
+
+nothing_back : {X : Type 0} (front back : List X) → [] ≡ front ++ back → back ≡ []
+nothing_back [] back q = sym q
+nothing_back (z ∷ zs) back q = absurd cc
 
 -- a list that ends in an item, cut in two: the back is empty, or it ends in the item
 cut_last : {X : Type 0} (xs : List X) (x : X) (front back : List X) → xs ++ x ∷ [] ≡ front ++ back
     → ((back ≡ []) × (front ≡ xs ++ x ∷ [])) ⊎ ((rest : List X) × (back ≡ rest ++ x ∷ []) × (xs ≡ front ++ rest))
 cut_last xs x [] back e = inr (xs, sym e, refl)
-cut_last [] x (y ∷ front) back e = inl (nothing front back (tail_same e), ap (λ l. y ∷ l) (front_empty front back (tail_same e)) ∙ ap (λ z. z ∷ []) (head_same e))
+cut_last [] x (y ∷ front) back e =
+    let tail : [] ≡ front ++ back = cc in
+    let head : y ≡ x = cc in
+    inl (nothing_back front back tail, ap (λ l. y ∷ l) (nothing_front front back tail) ∙ ap (λ z. z ∷ []) head)
+cut_last {X} (z ∷ xs) x (y ∷ front) back e =
+    let head : y ≡ z = cc in
+    let tail : xs ++ x ∷ [] ≡ front ++ back = cc in
+    by head (cut_last xs x front back tail)
   where
-    head_same : x ∷ [] ≡ y ∷ (front ++ back) → y ≡ x
-    head_same q = cc
-    tail_same : x ∷ [] ≡ y ∷ (front ++ back) → [] ≡ front ++ back
-    tail_same q = cc
-    front_empty : (front back : List _) → [] ≡ front ++ back → front ≡ []
-    front_empty [] back q = refl
-    front_empty (z ∷ zs) back q = absurd cc
-    nothing : (front back : List _) → [] ≡ front ++ back → back ≡ []
-    nothing [] back q = sym q
-    nothing (z ∷ zs) back q = absurd cc
-cut_last (z ∷ xs) x (y ∷ front) back e = by (cut_last xs x front back (tail_same e))
-  where
-    head_same : z ∷ (xs ++ x ∷ []) ≡ y ∷ (front ++ back) → y ≡ z
-    head_same q = cc
-    tail_same : z ∷ (xs ++ x ∷ []) ≡ y ∷ (front ++ back) → xs ++ x ∷ [] ≡ front ++ back
-    tail_same q = cc
-    by : ((back ≡ []) × (front ≡ xs ++ x ∷ [])) ⊎ ((rest : List _) × (back ≡ rest ++ x ∷ []) × (xs ≡ front ++ rest))
-        → ((back ≡ []) × (y ∷ front ≡ z ∷ (xs ++ x ∷ []))) ⊎ ((rest : List _) × (back ≡ rest ++ x ∷ []) × (z ∷ xs ≡ y ∷ (front ++ rest)))
-    by (inl h) = inl (h.0, λ i. head_same e i ∷ h.1 i)
-    by (inr h) = inr (h.0, h.1, λ i. sym (head_same e) i ∷ h.2 i)
+    by : y ≡ z → ((back ≡ []) × (front ≡ xs ++ x ∷ [])) ⊎ ((rest : List X) × (back ≡ rest ++ x ∷ []) × (xs ≡ front ++ rest))
+        → ((back ≡ []) × (y ∷ front ≡ z ∷ (xs ++ x ∷ []))) ⊎ ((rest : List X) × (back ≡ rest ++ x ∷ []) × (z ∷ xs ≡ y ∷ (front ++ rest)))
+    by head (inl h) = inl (h.0, λ i. head i ∷ h.1 i)
+    by head (inr h) = inr (h.0, h.1, λ i. sym head i ∷ h.2 i)
 
 -- As a block that is open before marks, of which the last stands first, so are some more round it.
 abbrev StaysBy : ℕ → List Mark → Type 0
@@ -278,13 +280,14 @@ module _ (kind : Kind) (name : Bytes) where
   open_in_block zero (Opens ∷ rest) e = behind_one rest Opens zero zero opens_keep_all (open_in_block zero rest e)
   open_in_block (suc n) (Opens ∷ rest) e = behind_one rest Opens n (suc n) (opens_keep n) (open_in_block n rest e)
   open_in_block zero (Declares role other same at ∷ rest) e =
-      by (or_true (is_declaring Local kind name (Declares role other same at)) (is_open kind name zero rest) e)
+      by (open_in_block zero rest) (or_true (is_declaring Local kind name (Declares role other same at)) (is_open kind name zero rest) e)
     where
-      by : (is_declaring Local kind name (Declares role other same at) ≡ true) ⊎ (is_open kind name zero rest ≡ true) → InBlocks zero (reverse (Declares role other same at ∷ rest))
-      by (inl one) =
+      by : (is_open kind name zero rest ≡ true → InBlocks zero (reverse rest))
+          → (is_declaring Local kind name (Declares role other same at) ≡ true) ⊎ (is_open kind name zero rest ≡ true) → InBlocks zero (reverse (Declares role other same at ∷ rest))
+      by before (inl one) =
           let found = declaring Local kind name (Declares role other same at) one in
           (reverse rest, [], found.0, reverse-append (Declares role other same at ∷ []) rest ∙ ap (λ m. reverse rest ++ m ∷ []) found.1, stays_none)
-      by (inr more) = behind_one rest (Declares role other same at) zero zero (names_keep zero role other same at) (open_in_block zero rest more)
+      by before (inr more) = behind_one rest (Declares role other same at) zero zero (names_keep zero role other same at) (before more)
   open_in_block (suc n) (Declares role other same at ∷ rest) e =
       behind_one rest (Declares role other same at) (suc n) (suc n) (names_keep (suc n) role other same at) (open_in_block (suc n) rest e)
 
@@ -348,40 +351,45 @@ module _ (kind : Kind) (name : Bytes) where
       none : (first : List Mark) → [] ≡ first ++ Declares Local kind name at ∷ between → ⊥
       none [] e = cc
       none (x ∷ xs) e = cc
-  in_block_open n (Closes ∷ rest) h = by (parted rest Closes n h)
+  in_block_open n (Closes ∷ rest) h = by (in_block_open (suc n) rest) (parted rest Closes n h)
     where
-      by : ((at : Pos) × (Closes ≡ Declares Local kind name at) × (n ≡ zero)) ⊎ ((first between : List Mark) × (at : Pos) × (reverse rest ≡ first ++ Declares Local kind name at ∷ between) × StaysBy n (between ++ Closes ∷ [])) → is_open kind name (suc n) rest ≡ true
-      by (inl one) = absurd (let no = one.1 in cc)
-      by (inr (first, between, at, is, stays)) = in_block_open (suc n) rest (first, between, at, is, closes_less n between stays)
-  in_block_open zero (Opens ∷ rest) h = by (parted rest Opens zero h)
+      by : (InBlocks (suc n) (reverse rest) → is_open kind name (suc n) rest ≡ true)
+          → ((a : Pos) × (Closes ≡ Declares Local kind name a) × (n ≡ zero)) ⊎ ((first between : List Mark) × (a : Pos) × (reverse rest ≡ first ++ Declares Local kind name a ∷ between) × StaysBy n (between ++ Closes ∷ [])) → is_open kind name (suc n) rest ≡ true
+      by before (inl one) = absurd (let no = one.1 in cc)
+      by before (inr (first, between, a, is, stays)) = before (first, between, a, is, closes_less n between stays)
+  in_block_open zero (Opens ∷ rest) h = by (in_block_open zero rest) (parted rest Opens zero h)
     where
-      by : ((at : Pos) × (Opens ≡ Declares Local kind name at) × (zero ≡ zero)) ⊎ ((first between : List Mark) × (at : Pos) × (reverse rest ≡ first ++ Declares Local kind name at ∷ between) × StaysBy zero (between ++ Opens ∷ [])) → is_open kind name zero rest ≡ true
-      by (inl one) = absurd (let no = one.1 in cc)
-      by (inr (first, between, at, is, stays)) = in_block_open zero rest (first, between, at, is, opens_less_all between stays)
-  in_block_open (suc n) (Opens ∷ rest) h = by (parted rest Opens (suc n) h)
+      by : (InBlocks zero (reverse rest) → is_open kind name zero rest ≡ true)
+          → ((a : Pos) × (Opens ≡ Declares Local kind name a) × (zero ≡ zero)) ⊎ ((first between : List Mark) × (a : Pos) × (reverse rest ≡ first ++ Declares Local kind name a ∷ between) × StaysBy zero (between ++ Opens ∷ [])) → is_open kind name zero rest ≡ true
+      by before (inl one) = absurd (let no = one.1 in cc)
+      by before (inr (first, between, a, is, stays)) = before (first, between, a, is, opens_less_all between stays)
+  in_block_open (suc n) (Opens ∷ rest) h = by (in_block_open n rest) (parted rest Opens (suc n) h)
     where
-      by : ((at : Pos) × (Opens ≡ Declares Local kind name at) × (suc n ≡ zero)) ⊎ ((first between : List Mark) × (at : Pos) × (reverse rest ≡ first ++ Declares Local kind name at ∷ between) × StaysBy (suc n) (between ++ Opens ∷ [])) → is_open kind name n rest ≡ true
-      by (inl one) = absurd (let no = one.1 in cc)
-      by (inr (first, between, at, is, stays)) = in_block_open n rest (first, between, at, is, opens_less n between stays)
-  in_block_open zero (Declares role other same at ∷ rest) h = by (parted rest (Declares role other same at) zero h)
+      by : (InBlocks n (reverse rest) → is_open kind name n rest ≡ true)
+          → ((a : Pos) × (Opens ≡ Declares Local kind name a) × ((suc n) ≡ zero)) ⊎ ((first between : List Mark) × (a : Pos) × (reverse rest ≡ first ++ Declares Local kind name a ∷ between) × StaysBy (suc n) (between ++ Opens ∷ [])) → is_open kind name n rest ≡ true
+      by before (inl one) = absurd (let no = one.1 in cc)
+      by before (inr (first, between, a, is, stays)) = before (first, between, a, is, opens_less n between stays)
+  in_block_open zero (Declares role other same at ∷ rest) h = by (in_block_open zero rest) (parted rest (Declares role other same at) zero h)
     where
-      by : ((a : Pos) × (Declares role other same at ≡ Declares Local kind name a) × (zero ≡ zero)) ⊎ ((first between : List Mark) × (a : Pos) × (reverse rest ≡ first ++ Declares Local kind name a ∷ between) × StaysBy zero (between ++ Declares role other same at ∷ []))
+      by : (InBlocks zero (reverse rest) → is_open kind name zero rest ≡ true)
+          → ((a : Pos) × (Declares role other same at ≡ Declares Local kind name a) × (zero ≡ zero)) ⊎ ((first between : List Mark) × (a : Pos) × (reverse rest ≡ first ++ Declares Local kind name a ∷ between) × StaysBy zero (between ++ Declares role other same at ∷ []))
           → (is_declaring Local kind name (Declares role other same at) || is_open kind name zero rest) ≡ true
-      by (inl one) = or_left (is_declaring Local kind name (Declares role other same at)) _ (declares Local kind name one.0 (Declares role other same at) one.1)
-      by (inr (first, between, a, is, stays)) =
-          or_right (is_declaring Local kind name (Declares role other same at)) _ (in_block_open zero rest (first, between, a, is, names_less zero role other same at between stays))
-  in_block_open (suc n) (Declares role other same at ∷ rest) h = by (parted rest (Declares role other same at) (suc n) h)
+      by before (inl one) = or_left (is_declaring Local kind name (Declares role other same at)) _ (declares Local kind name one.0 (Declares role other same at) one.1)
+      by before (inr (first, between, a, is, stays)) =
+          or_right (is_declaring Local kind name (Declares role other same at)) _ (before (first, between, a, is, names_less zero role other same at between stays))
+  in_block_open (suc n) (Declares role other same at ∷ rest) h = by (in_block_open (suc n) rest) (parted rest (Declares role other same at) (suc n) h)
     where
-      by : ((a : Pos) × (Declares role other same at ≡ Declares Local kind name a) × (suc n ≡ zero)) ⊎ ((first between : List Mark) × (a : Pos) × (reverse rest ≡ first ++ Declares Local kind name a ∷ between) × StaysBy (suc n) (between ++ Declares role other same at ∷ []))
+      by : (InBlocks (suc n) (reverse rest) → is_open kind name (suc n) rest ≡ true)
+          → ((a : Pos) × (Declares role other same at ≡ Declares Local kind name a) × ((suc n) ≡ zero)) ⊎ ((first between : List Mark) × (a : Pos) × (reverse rest ≡ first ++ Declares Local kind name a ∷ between) × StaysBy (suc n) (between ++ Declares role other same at ∷ []))
           → is_open kind name (suc n) rest ≡ true
-      by (inl one) = absurd (let no = one.2 in omega arith)
-      by (inr (first, between, a, is, stays)) = in_block_open (suc n) rest (first, between, a, is, names_less (suc n) role other same at between stays)
+      by before (inl one) = absurd (let no = one.2 in omega arith)
+      by before (inr (first, between, a, is, stays)) = before (first, between, a, is, names_less (suc n) role other same at between stays)
 
   -- a name is open exactly where it is declared in a block that is
-  open_from : (before : List Mark) → IsInBlock (reverse before) kind name → is_open kind name zero before ≡ true
+  pub open_from : (before : List Mark) → IsInBlock (reverse before) kind name → is_open kind name zero before ≡ true
   open_from before (first, between, at, is, stays) =
       let low : closed between ≤ opened between = stays between [] (sym (append-nil between)) in
       in_block_open zero before (first, between, at, is, (stays, omega (arith, low)))
 
-  open_to : (before : List Mark) → is_open kind name zero before ≡ true → IsInBlock (reverse before) kind name
+  pub open_to : (before : List Mark) → is_open kind name zero before ≡ true → IsInBlock (reverse before) kind name
   open_to before e = let found = open_in_block zero before e in (found.0, found.1, found.2, found.3, found.4.0)
