@@ -1,3 +1,5 @@
+pub mod ListLemmas
+pub mod NestLemmas
 pub mod OnceLemmas
 pub mod RuleLemmas
 pub mod ScopeLemmas

@@ -116,8 +116,8 @@ pub record AreNamesOf (kind : Kind) (before : List Mark) (t : Names) : Type 0 wh
   pub wholes : (name : Bytes) → has_name name t.wholes ≡ stands before Whole kind name
   pub promises : (name : Bytes) → has_name name t.promises ≡ stands before Promise kind name
   pub definitions : (name : Bytes) → has_name name t.definitions ≡ stands before Definition kind name
-  pub open : (n : ℕ) (name : Bytes) → has_name name (left_by n t.open).0 ≡ is_open kind name n before
-  pub fits : Fits t.open
+  pub open : (n : ℕ) (name : Bytes) → has_name name (left_by n t.nest).0 ≡ is_open kind name n before
+  pub fits : Fits t.nest
 
 same_kind_self : (kind : Kind) → same_kind kind kind ≡ true
 same_kind_self Values = refl
@@ -144,18 +144,18 @@ noted_same kind before t Local name at h = record {
   promises = h.promises;
   definitions = h.definitions;
   open = opens;
-  fits = rising_more t.open.1 (length t.open.0) (length (with_pair t.open.0 name tt)) (length_put t.open.0 name) h.fits;
+  fits = rising_more t.nest.1 (length t.nest.0) (length (with_pair t.nest.0 name tt)) (length_put t.nest.0 name) h.fits;
 }
   where
-    opens : (n : ℕ) (other : Bytes) → has_name other (left_by n (with_name name tt t.open)).0 ≡ is_open kind other n (Declares Local kind name at ∷ before)
-    opens zero other = put_here kind t.open.0 name other _ (h.open zero other)
-    opens (suc n) other = ap (λ nest. has_name other (left_by n nest).0) (left_put name t.open.0 t.open.1 h.fits) ∙ h.open (suc n) other
+    opens : (n : ℕ) (other : Bytes) → has_name other (left_by n (with_name name tt t.nest)).0 ≡ is_open kind other n (Declares Local kind name at ∷ before)
+    opens zero other = put_here kind t.nest.0 name other _ (h.open zero other)
+    opens (suc n) other = ap (λ nest. has_name other (left_by n nest).0) (left_put name t.nest.0 t.nest.1 h.fits) ∙ h.open (suc n) other
 noted_same kind before t Whole name at h = record {
   locals = h.locals;
   wholes = λ other. put_here kind t.wholes name other _ (h.wholes other);
   promises = h.promises;
   definitions = h.definitions;
-  open = λ n. elim n as (λ n. (other : Bytes) → has_name other (left_by n t.open).0 ≡ is_open kind other n (Declares Whole kind name at ∷ before))
+  open = λ n. elim n as (λ n. (other : Bytes) → has_name other (left_by n t.nest).0 ≡ is_open kind other n (Declares Whole kind name at ∷ before))
       [ zero ↦ h.open zero | suc k ih ↦ h.open (suc k) ];
   fits = h.fits;
 }
@@ -164,7 +164,7 @@ noted_same kind before t Promise name at h = record {
   wholes = h.wholes;
   promises = λ other. put_here kind t.promises name other _ (h.promises other);
   definitions = h.definitions;
-  open = λ n. elim n as (λ n. (other : Bytes) → has_name other (left_by n t.open).0 ≡ is_open kind other n (Declares Promise kind name at ∷ before))
+  open = λ n. elim n as (λ n. (other : Bytes) → has_name other (left_by n t.nest).0 ≡ is_open kind other n (Declares Promise kind name at ∷ before))
       [ zero ↦ h.open zero | suc k ih ↦ h.open (suc k) ];
   fits = h.fits;
 }
@@ -173,7 +173,7 @@ noted_same kind before t Definition name at h = record {
   wholes = h.wholes;
   promises = h.promises;
   definitions = λ other. put_here kind t.definitions name other _ (h.definitions other);
-  open = λ n. elim n as (λ n. (other : Bytes) → has_name other (left_by n t.open).0 ≡ is_open kind other n (Declares Definition kind name at ∷ before))
+  open = λ n. elim n as (λ n. (other : Bytes) → has_name other (left_by n t.nest).0 ≡ is_open kind other n (Declares Definition kind name at ∷ before))
       [ zero ↦ h.open zero | suc k ih ↦ h.open (suc k) ];
   fits = h.fits;
 }
@@ -199,7 +199,7 @@ noted_other kind before t role other name at apart h = record {
   fits = h.fits;
 }
   where
-    opens : (n : ℕ) (one : Bytes) → has_name one (left_by n t.open).0 ≡ is_open kind one n (Declares role other name at ∷ before)
+    opens : (n : ℕ) (one : Bytes) → has_name one (left_by n t.nest).0 ≡ is_open kind one n (Declares role other name at ∷ before)
     opens zero one = h.open zero one ∙ not_here Local role kind other (bytes_eq one name) _ apart
     opens (suc n) one = h.open (suc n) one
 
@@ -215,9 +215,9 @@ opened_names kind before t h = record {
   fits = (omega arith, h.fits);
 }
   where
-    opens : (n : ℕ) (one : Bytes) → has_name one (left_by n (entered t.open)).0 ≡ is_open kind one n (Opens ∷ before)
+    opens : (n : ℕ) (one : Bytes) → has_name one (left_by n (entered t.nest)).0 ≡ is_open kind one n (Opens ∷ before)
     opens zero one = h.open zero one
-    opens (suc n) one = ap (λ nest. has_name one (left_by n nest).0) (left_entered t.open) ∙ h.open n one
+    opens (suc n) one = ap (λ nest. has_name one (left_by n nest).0) (left_entered t.nest) ∙ h.open n one
 
 -- a block ends
 closed_names : (kind : Kind) (before : List Mark) (t : Names) → AreNamesOf kind before t → AreNamesOf kind (Closes ∷ before) (closed t)
@@ -228,7 +228,7 @@ closed_names kind before t h = record {
   promises = h.promises;
   definitions = h.definitions;
   open = λ n one. h.open (suc n) one;
-  fits = fits_left t.open.0 t.open.1 h.fits;
+  fits = fits_left t.nest.0 t.nest.1 h.fits;
 }
 
 -- nothing is declared
@@ -380,14 +380,3 @@ module _ (foreign : Kind → Bytes → Bool) where
 pub after_next : (s : Scopes) (marks : List Mark) (i : ℕ) (m : Mark) → i < length marks → m ≡ get_or marks i m
     → after_all s (take (i + 1) marks) ≡ after (after_all s (take i marks)) m
 after_next s marks i m within is = fold_more after s marks i m within ∙ ap (after (after_all s (take i marks))) (sym is)
-
--- what is listed of one visited item more
-module _ {A B C D : Type 0} (f : A → B) (g : B → C) (h : C → D) where
-  listed_push : (xs : List A) (x : A) → map h (map g (map f (xs ++ x ∷ []))) ≡ map h (map g (map f xs)) ++ h (g (f x)) ∷ []
-  listed_push [] x = refl
-  listed_push (y ∷ ys) x = ap (λ r. h (g (f y)) ∷ r) (listed_push ys x)
-
-  pub listed_next : (xs : List A) (i : ℕ) (x : A) → i < length xs → x ≡ get_or xs i x
-      → map h (map g (map f (take (i + 1) xs))) ≡ map h (map g (map f (take i xs))) ++ h (g (f x)) ∷ []
-  listed_next xs i x within is =
-      ap (λ r. map h (map g (map f r))) (take_more xs i x within ∙ ap (λ y. take i xs ++ y ∷ []) (sym is)) ∙ listed_push (take i xs) x

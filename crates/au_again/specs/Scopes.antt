@@ -19,21 +19,21 @@ use Rattle.au_again.specs.Nests.{entered, left, with_name}
 -- ---- one kind
 
 abbrev pub no_names : Names
-no_names = record { locals = []; wholes = []; promises = []; definitions = []; open = ([], []) }
+no_names = record { locals = []; wholes = []; promises = []; definitions = []; nest = ([], []) }
 
 -- a name is declared so
 abbrev pub noted : Role → Bytes → Names → Names
-noted Local name t = record t { locals = with_pair t.locals name tt; open = with_name name tt t.open }
+noted Local name t = record t { locals = with_pair t.locals name tt; nest = with_name name tt t.nest }
 noted Whole name t = record t { wholes = with_pair t.wholes name tt }
 noted Promise name t = record t { promises = with_pair t.promises name tt }
 noted Definition name t = record t { definitions = with_pair t.definitions name tt }
 
 -- a block begins, and the innermost one ends
 abbrev pub opened : Names → Names
-opened t = record t { open = entered t.open }
+opened t = record t { nest = entered t.nest }
 
 abbrev pub closed : Names → Names
-closed t = record t { open = left t.open }
+closed t = record t { nest = left t.nest }
 
 -- a name stands at the top of the module, and anywhere
 abbrev pub is_top_in : Names → Bytes → Bool
@@ -44,7 +44,7 @@ is_known_in t name = has_name name t.locals || is_top_in t name
 
 -- a name is declared again, given whether it comes from elsewhere too
 abbrev pub is_again_in : Bool → Names → Role → Bytes → Bool
-is_again_in foreign t Local name = foreign || (is_top_in t name || has_name name t.open.0)
+is_again_in foreign t Local name = foreign || (is_top_in t name || has_name name t.nest.0)
 is_again_in foreign t Whole name = is_known_in t name
 is_again_in foreign t Promise name = is_known_in t name
 is_again_in foreign t Definition name =

@@ -77,11 +77,11 @@ fn judge_mark(
 {
     match mark {
         Mark::Opens => {
-            scopes.open()?;
+            scopes.enter()?;
             Ok(None)
         }
         Mark::Closes => {
-            scopes.close();
+            scopes.leave();
             Ok(None)
         }
         Mark::Declares(role, kind, name, at) => {

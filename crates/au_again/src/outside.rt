@@ -12,7 +12,7 @@ use au_types::DeclAt;
 
 /// Whether a declaration is one of another module than that at a place.
 fn is_foreign(place: usize, found: Option<&DeclAt>) -> bool
-    ensures { result ≡ spec.is_foreign place (option_copied found) }
+    ensures { result ≡ spec.is_foreign place (option_copied found.entry) }
 {
     match found {
         None => false,

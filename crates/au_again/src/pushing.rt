@@ -5,8 +5,8 @@ ghost use Rattle.au_again.specs.Marks.{bound_mark, enclosed, function_marks, gen
 ghost use Rattle.au_again.specs.Said.{binds_said};
 ghost use Rattle.au_mentions.specs.Said.{fields_said, generics_said, header_said, parameters_said};
 ghost use Rattle.au_name_faults.specs.NameFaults.{given};
-ghost use Rattle.au_syntax.specs.Plain.{plain_name, plain_renaming};
-ghost use Rattle.au_syntax.specs.Views.{placed, renaming};
+ghost use Rattle.au_syntax.specs.Plain.{plain_bound, plain_name, plain_renaming};
+ghost use Rattle.au_syntax.specs.Views.{bound, placed, renaming};
 ghost use Rattle.au_syntax.specs.contracts.parsed.ParsedPhase.TheImpl.{ghosts as parsed};
 
 use crate::marks::{Kind, Mark, Role};
@@ -113,10 +113,17 @@ pub fn push_binds(
     ensures { OnOk result (list.new.items ≡ list.old.items ++ map bound_mark (binds_said binds.now.items)) }
 {
     for one in binds {
-        let name = given_name(&one.name);
-        push_declared(alloc, list, Role::Local, Kind::Values, name)?;
+        push_bind(alloc, list, one)?;
     }
     Ok(())
+}
+
+/// Puts the name of a variable to which a field is bound.
+fn push_bind(alloc: Global, list: &mut Vec<Mark>, one: &Bind<Parsed>) -> Result<(), Memory>
+    ensures { OnOk result (list.new.items ≡ list.old.items ++ bound_mark (plain_bound parsed.name_bytes (bound parsed one.now)) ∷ []) }
+{
+    let name = given_name(&one.name);
+    push_declared(alloc, list, Role::Local, Kind::Values, name)
 }
 
 /// Puts a block of fields or parameters alone.

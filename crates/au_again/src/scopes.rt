@@ -23,7 +23,7 @@ pub struct Names {
     /// Those that the body may define.
     pub definitions: Table<()>,
     /// The local names in scope.
-    pub open: Nest<()>,
+    pub nest: Nest<()>,
 }
 
 /// Whether a table has a name.
@@ -43,7 +43,7 @@ impl Names {
             wholes: Table::new(alloc),
             promises: Table::new(alloc),
             definitions: Table::new(alloc),
-            open: Nest::new(alloc),
+            nest: Nest::new(alloc),
         }
     }
 
@@ -54,7 +54,7 @@ impl Names {
         match role {
             Role::Local => {
                 self.locals.put(name, ())?;
-                self.open.put(name, ())?;
+                self.nest.put(name, ())?;
             }
             Role::Whole => {
                 self.wholes.put(name, ())?;
@@ -70,17 +70,17 @@ impl Names {
     }
 
     /// Notes that a block begins.
-    fn open(&mut self) -> Result<(), Memory>
+    fn enter(&mut self) -> Result<(), Memory>
         ensures { OnOk result (self.new ≡ spec.opened self.old) }
     {
-        self.open.enter()
+        self.nest.enter()
     }
 
     /// Notes that a block ends.
-    fn close(&mut self)
+    fn leave(&mut self)
         ensures { self.new ≡ spec.closed self.old }
     {
-        self.open.leave()
+        self.nest.leave()
     }
 
     /// Whether a name stands at the top of the module.
@@ -102,7 +102,7 @@ impl Names {
         ensures { result ≡ spec.is_again_in foreign self.now role name.now }
     {
         match role {
-            Role::Local => foreign || self.is_top(name) || self.open.get(name).is_some(),
+            Role::Local => foreign || self.is_top(name) || self.nest.get(name).is_some(),
             Role::Whole => self.is_known(name),
             Role::Promise => self.is_known(name),
             Role::Definition => {
@@ -155,23 +155,23 @@ impl Scopes {
     }
 
     /// Notes that a block begins.
-    pub fn open(&mut self) -> Result<(), Memory>
+    pub fn enter(&mut self) -> Result<(), Memory>
         ensures { OnOk result (self.new ≡ spec.in_each spec.opened self.old) }
     {
-        self.values.open()?;
-        self.callables.open()?;
-        self.types.open()?;
-        self.fields.open()
+        self.values.enter()?;
+        self.callables.enter()?;
+        self.types.enter()?;
+        self.fields.enter()
     }
 
     /// Notes that a block ends.
-    pub fn close(&mut self)
+    pub fn leave(&mut self)
         ensures { self.new ≡ spec.in_each spec.closed self.old }
     {
-        self.values.close();
-        self.callables.close();
-        self.types.close();
-        self.fields.close();
+        self.values.leave();
+        self.callables.leave();
+        self.types.leave();
+        self.fields.leave();
     }
 
     /// The names of a kind.
