@@ -27,7 +27,7 @@ use Rattle.au_again.specs.Scopes.{after, after_all, closed, double_in, doubles_i
 
 -- ---- tables of names
 
-abbrev Names_in_table : Type 0
+abbrev pub Names_in_table : Type 0
 Names_in_table = List (List ℕ × Unit {0})
 
 -- what is found in a table with one name more
@@ -53,7 +53,7 @@ has_put pairs name other = by (bytes_eq other name) (has_name name pairs) refl r
 -- ---- nests
 
 -- a nest of which some blocks are left
-left_by : ℕ → Names_in_table × List ℕ → Names_in_table × List ℕ
+unfoldable pub left_by : ℕ → Names_in_table × List ℕ → Names_in_table × List ℕ
 left_by zero nest = nest
 left_by (suc n) nest = left_by n (left nest)
 
@@ -67,12 +67,12 @@ left_entered : (nest : Names_in_table × List ℕ) → left (entered nest) ≡ n
 left_entered nest = ap (λ names. (names, nest.1)) (take-length nest.0)
 
 -- places where blocks begin, the innermost first: each within the names before the one before it
-abbrev IsRising : List ℕ → ℕ → Type 0
+abbrev pub IsRising : List ℕ → ℕ → Type 0
 IsRising [] size = Unit {0}
 IsRising (begin ∷ begins) size = (begin ≤ size) × IsRising begins begin
 
 -- blocks begin within the names
-abbrev Fits : Names_in_table × List ℕ → Type 0
+abbrev pub Fits : Names_in_table × List ℕ → Type 0
 Fits nest = IsRising nest.1 (length nest.0)
 
 -- a table with one name more begins as before
@@ -116,7 +116,7 @@ pub record AreNamesOf (kind : Kind) (before : List Mark) (t : Names) : Type 0 wh
   pub wholes : (name : Bytes) → has_name name t.wholes ≡ stands before Whole kind name
   pub promises : (name : Bytes) → has_name name t.promises ≡ stands before Promise kind name
   pub definitions : (name : Bytes) → has_name name t.definitions ≡ stands before Definition kind name
-  pub open : (n : ℕ) (name : Bytes) → has_name name (left_by n t.nest).0 ≡ is_open kind name n before
+  pub nested : (n : ℕ) (name : Bytes) → has_name name (left_by n t.nest).0 ≡ is_open kind name n before
   pub fits : Fits t.nest
 
 same_kind_self : (kind : Kind) → same_kind kind kind ≡ true
@@ -143,20 +143,20 @@ noted_same kind before t Local name at h = record {
   wholes = h.wholes;
   promises = h.promises;
   definitions = h.definitions;
-  open = opens;
+  nested = opens;
   fits = rising_more t.nest.1 (length t.nest.0) (length (with_pair t.nest.0 name tt)) (length_put t.nest.0 name) h.fits;
 }
   where
     opens : (n : ℕ) (other : Bytes) → has_name other (left_by n (with_name name tt t.nest)).0 ≡ is_open kind other n (Declares Local kind name at ∷ before)
-    opens zero other = put_here kind t.nest.0 name other _ (h.open zero other)
-    opens (suc n) other = ap (λ nest. has_name other (left_by n nest).0) (left_put name t.nest.0 t.nest.1 h.fits) ∙ h.open (suc n) other
+    opens zero other = put_here kind t.nest.0 name other _ (h.nested zero other)
+    opens (suc n) other = ap (λ nest. has_name other (left_by n nest).0) (left_put name t.nest.0 t.nest.1 h.fits) ∙ h.nested (suc n) other
 noted_same kind before t Whole name at h = record {
   locals = h.locals;
   wholes = λ other. put_here kind t.wholes name other _ (h.wholes other);
   promises = h.promises;
   definitions = h.definitions;
-  open = λ n. elim n as (λ n. (other : Bytes) → has_name other (left_by n t.nest).0 ≡ is_open kind other n (Declares Whole kind name at ∷ before))
-      [ zero ↦ h.open zero | suc k ih ↦ h.open (suc k) ];
+  nested = λ n. elim n as (λ n. (other : Bytes) → has_name other (left_by n t.nest).0 ≡ is_open kind other n (Declares Whole kind name at ∷ before))
+      [ zero ↦ h.nested zero | suc k ↦ h.nested (suc k) ];
   fits = h.fits;
 }
 noted_same kind before t Promise name at h = record {
@@ -164,8 +164,8 @@ noted_same kind before t Promise name at h = record {
   wholes = h.wholes;
   promises = λ other. put_here kind t.promises name other _ (h.promises other);
   definitions = h.definitions;
-  open = λ n. elim n as (λ n. (other : Bytes) → has_name other (left_by n t.nest).0 ≡ is_open kind other n (Declares Promise kind name at ∷ before))
-      [ zero ↦ h.open zero | suc k ih ↦ h.open (suc k) ];
+  nested = λ n. elim n as (λ n. (other : Bytes) → has_name other (left_by n t.nest).0 ≡ is_open kind other n (Declares Promise kind name at ∷ before))
+      [ zero ↦ h.nested zero | suc k ↦ h.nested (suc k) ];
   fits = h.fits;
 }
 noted_same kind before t Definition name at h = record {
@@ -173,8 +173,8 @@ noted_same kind before t Definition name at h = record {
   wholes = h.wholes;
   promises = h.promises;
   definitions = λ other. put_here kind t.definitions name other _ (h.definitions other);
-  open = λ n. elim n as (λ n. (other : Bytes) → has_name other (left_by n t.nest).0 ≡ is_open kind other n (Declares Definition kind name at ∷ before))
-      [ zero ↦ h.open zero | suc k ih ↦ h.open (suc k) ];
+  nested = λ n. elim n as (λ n. (other : Bytes) → has_name other (left_by n t.nest).0 ≡ is_open kind other n (Declares Definition kind name at ∷ before))
+      [ zero ↦ h.nested zero | suc k ↦ h.nested (suc k) ];
   fits = h.fits;
 }
 
@@ -195,13 +195,13 @@ noted_other kind before t role other name at apart h = record {
   wholes = λ one. h.wholes one ∙ not_here Whole role kind other (bytes_eq one name) _ apart;
   promises = λ one. h.promises one ∙ not_here Promise role kind other (bytes_eq one name) _ apart;
   definitions = λ one. h.definitions one ∙ not_here Definition role kind other (bytes_eq one name) _ apart;
-  open = opens;
+  nested = opens;
   fits = h.fits;
 }
   where
     opens : (n : ℕ) (one : Bytes) → has_name one (left_by n t.nest).0 ≡ is_open kind one n (Declares role other name at ∷ before)
-    opens zero one = h.open zero one ∙ not_here Local role kind other (bytes_eq one name) _ apart
-    opens (suc n) one = h.open (suc n) one
+    opens zero one = h.nested zero one ∙ not_here Local role kind other (bytes_eq one name) _ apart
+    opens (suc n) one = h.nested (suc n) one
 
 -- a block begins
 opened_names : (kind : Kind) (before : List Mark) (t : Names) → AreNamesOf kind before t → AreNamesOf kind (Opens ∷ before) (opened t)
@@ -211,13 +211,13 @@ opened_names kind before t h = record {
   wholes = h.wholes;
   promises = h.promises;
   definitions = h.definitions;
-  open = opens;
+  nested = opens;
   fits = (omega arith, h.fits);
 }
   where
     opens : (n : ℕ) (one : Bytes) → has_name one (left_by n (entered t.nest)).0 ≡ is_open kind one n (Opens ∷ before)
-    opens zero one = h.open zero one
-    opens (suc n) one = ap (λ nest. has_name one (left_by n nest).0) (left_entered t.nest) ∙ h.open n one
+    opens zero one = h.nested zero one
+    opens (suc n) one = ap (λ nest. has_name one (left_by n nest).0) (left_entered t.nest) ∙ h.nested n one
 
 -- a block ends
 closed_names : (kind : Kind) (before : List Mark) (t : Names) → AreNamesOf kind before t → AreNamesOf kind (Closes ∷ before) (closed t)
@@ -227,7 +227,7 @@ closed_names kind before t h = record {
   wholes = h.wholes;
   promises = h.promises;
   definitions = h.definitions;
-  open = λ n one. h.open (suc n) one;
+  nested = λ n one. h.nested (suc n) one;
   fits = fits_left t.nest.0 t.nest.1 h.fits;
 }
 
@@ -239,7 +239,7 @@ nothing_named kind = record {
   wholes = λ name. refl;
   promises = λ name. refl;
   definitions = λ name. refl;
-  open = λ n name. ap (λ nest. has_name name nest.0) (left_none n);
+  nested = λ n name. ap (λ nest. has_name name nest.0) (left_none n);
   fits = tt;
 }
 
@@ -253,7 +253,7 @@ module _ (foreign : Kind → Bytes → Bool) (kind : Kind) (before : List Mark) 
 
   again_same : (role : Role) → is_again_in (foreign kind name) t role name ≡ is_name_again foreign before role kind name
   unfolding left_by
-  again_same Local = λ i. foreign kind name || (top_same i || h.open zero name i)
+  again_same Local = λ i. foreign kind name || (top_same i || h.nested zero name i)
   again_same Whole = known_same
   again_same Promise = known_same
   again_same Definition = λ i. cond (h.promises name i) (h.definitions name i) (known_same i)
@@ -380,3 +380,12 @@ module _ (foreign : Kind → Bytes → Bool) where
 pub after_next : (s : Scopes) (marks : List Mark) (i : ℕ) (m : Mark) → i < length marks → m ≡ get_or marks i m
     → after_all s (take (i + 1) marks) ≡ after (after_all s (take i marks)) m
 after_next s marks i m within is = fold_more after s marks i m within ∙ ap (after (after_all s (take i marks))) (sym is)
+
+module _ (foreign : Kind → Bytes → Bool) (s : Scopes) where
+  pub first_nothing : first_in foreign s [] ≡ None
+  unfolding first_in
+  first_nothing = refl
+
+  pub doubles_nothing : doubles_in foreign s [] ≡ []
+  unfolding doubles_in
+  doubles_nothing = refl
