@@ -203,10 +203,12 @@ module _ (all : List Naming) (b : DeclAt) where
   some_way a c (directly x y names) is =
       (0, within_none x ∙ any_there (same_place b) (names_of all x) y (among (names_of all x) y names) (ap (same_place b) is ∙ place_self b))
   some_way a c (onward x m y names rest) is =
-      let found = some_way m y rest is in
-      (suc found.0, within_more found.0 x
-      ∙ any_there (λ d. same_place b d || within found.0 d) (names_of all x) m (among (names_of all x) m names)
-      (or_right (same_place b m) (within found.0 m) found.1))
+      let found = some_way m y rest is in (
+        suc found.0,
+        within_more found.0 x
+            ∙ any_there (λ d. same_place b d || within found.0 d) (names_of all x) m (among (names_of all x) m names)
+            (or_right (same_place b m) (within found.0 m) found.1),
+      )
 
   pub leads_within : (a : DeclAt) → Leads all a b → within (length all) a ≡ true
   leads_within a leads = by (some_way a b leads refl) (grows (length all))

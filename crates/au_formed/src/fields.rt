@@ -28,12 +28,7 @@ fn holds(universe: Universe, field: TypeUniverse) -> bool
 }
 
 /// Whether a written type is above a universe that it is held in. One that isn't well formed is above none.
-fn is_above(
-    alloc: Global,
-    scope: &Scope,
-    universe: Universe,
-    of: &TypeText,
-) -> Result<bool, Memory>
+fn is_above(alloc: Global, scope: &Scope, universe: Universe, of: &TypeText) -> Result<bool, Memory>
     ensures { IfOk result (λ above. above ≡ spec.is_above (judged_in scope.now) (universes.universe_of scope.now.heads.now scope.now.params.now) universe (judged_in scope.now (written of.now))) }
 {
     match judge_type(alloc, scope, of)? {
@@ -82,11 +77,7 @@ fn first_in_cases(
 /// # Errors
 ///
 /// Only for want of memory.
-pub fn field_above(
-    alloc: Global,
-    scope: &Scope,
-    decl: &Decl<Parsed>,
-) -> Result<Option<Pos>, Memory>
+pub fn field_above(alloc: Global, scope: &Scope, decl: &Decl<Parsed>) -> Result<Option<Pos>, Memory>
     ensures { IfOk result (λ found. found ≡ spec.field_above (judged_in scope.now) (universes.universe_of scope.now.heads.now scope.now.params.now) (walks.written decl.now)) }
 {
     match decl {

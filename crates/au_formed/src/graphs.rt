@@ -13,12 +13,7 @@ use au_types::DeclAt;
 use std::alloc::Global;
 
 /// Adds an edge to the first record or union that declares a type, if there is one.
-fn add_edge(
-    graph: &mut Graph,
-    table: &Declarers,
-    from: usize,
-    name: DeclAt,
-) -> Result<(), Memory>
+fn add_edge(graph: &mut Graph, table: &Declarers, from: usize, name: DeclAt) -> Result<(), Memory>
     requires { from < length graph.old }
     ensures { OnOk result (graph.new ≡ slice_set graph.old from (successors graph.old from ++ option_to_list (index_at table.now name))) }
 {
@@ -45,11 +40,7 @@ fn add_edges(
 }
 
 /// The graph of records and unions, by the first that declares each type.
-pub fn graph_of(
-    alloc: Global,
-    table: &Declarers,
-    namings: &Vec<Naming>,
-) -> Result<Graph, Memory>
+pub fn graph_of(alloc: Global, table: &Declarers, namings: &Vec<Naming>) -> Result<Graph, Memory>
     ensures { IfOk result (λ graph. graph ≡ graph_by (index_at table.now) namings.now.items) }
 {
     let mut graph = Graph::new(alloc, namings.len())?;

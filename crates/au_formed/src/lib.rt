@@ -2,6 +2,7 @@
 //! fields above the universe of their record or union, and types that are infinite.
 #![tactic(auto)]
 
+mod declarers;
 pub mod faults;
 pub mod fields;
 pub mod forms;
@@ -10,9 +11,8 @@ pub mod infinite;
 pub mod laws;
 pub mod listing;
 pub mod malformed;
-pub mod namings;
 pub mod naming;
-mod declarers;
+pub mod namings;
 mod pushing;
 pub mod texts;
 mod values;

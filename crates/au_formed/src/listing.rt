@@ -112,10 +112,7 @@ fn push_instance_body<'a>(
 }
 
 /// Puts a declaration.
-fn push_declaration<'a>(
-    list: &mut Vec<Writing<'a>>,
-    decl: &'a Decl<Parsed>,
-) -> Result<(), Memory>
+fn push_declaration<'a>(list: &mut Vec<Writing<'a>>, decl: &'a Decl<Parsed>) -> Result<(), Memory>
     ensures { OnOk result (writings_said list.new.items ≡ writings_said list.old.items ++ spec.writings (walks.written decl.now)) }
 {
     match decl {

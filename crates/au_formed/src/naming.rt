@@ -76,7 +76,12 @@ fn push_named(list: &mut Vec<DeclAt>, scope: &Scope, node: &TypeText) -> Result<
     ensures { OnOk result (list.new.items ≡ list.old.items ++ spec.types_named (sense_in scope.now) (spec.holder_in scope.now.heads.now) (written node.now)) }
 {
     match node {
-        TypeText::Named(name, args) => push_with(list, scope, declared_type(scope, &name.name), args),
+        TypeText::Named(name, args) => push_with(
+            list,
+            scope,
+            declared_type(scope, &name.name),
+            args,
+        ),
         TypeText::Reference(_, _, target, _) => push_named(list, scope, target),
     }
 }
@@ -146,11 +151,7 @@ fn push_cases(
 /// # Errors
 ///
 /// Only for want of memory.
-pub fn push_names(
-    list: &mut Vec<DeclAt>,
-    scope: &Scope,
-    decl: &Decl<Parsed>,
-) -> Result<(), Memory>
+pub fn push_names(list: &mut Vec<DeclAt>, scope: &Scope, decl: &Decl<Parsed>) -> Result<(), Memory>
     ensures { OnOk result (list.new.items ≡ list.old.items ++ spec.declaration_names (sense_in scope.now) (spec.holder_in scope.now.heads.now) (walks.written decl.now)) }
 {
     match decl {

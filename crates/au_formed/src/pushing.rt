@@ -9,9 +9,7 @@ ghost use Rattle.au_syntax.specs.Views.{written};
 
 use crate::writings::Writing;
 use au_base::{Memory, Pos};
-use au_syntax::{
-    Field, Generic, Ident, Method, Parsed, Signature, TypeText, UnionCase, Universe,
-};
+use au_syntax::{Field, Generic, Ident, Method, Parsed, Signature, TypeText, UnionCase, Universe};
 
 /// Puts a type.
 pub fn push_type<'a>(list: &mut Vec<Writing<'a>>, of: &'a TypeText) -> Result<(), Memory>
@@ -64,10 +62,7 @@ fn push_classes<'a>(
 }
 
 /// Puts a type parameter behind `generic`, with its constraints.
-fn push_generic<'a>(
-    list: &mut Vec<Writing<'a>>,
-    one: &'a Generic<Parsed>,
-) -> Result<(), Memory>
+fn push_generic<'a>(list: &mut Vec<Writing<'a>>, one: &'a Generic<Parsed>) -> Result<(), Memory>
     ensures { OnOk result (writings_said list.new.items ≡ writings_said list.old.items ++ spec.generic_writings (generic_said one.now)) }
 {
     if one.classes.is_empty() {

@@ -48,10 +48,7 @@ pub fn push_value<'a>(list: &mut Vec<Writing<'a>>, value: &'a Expr<Parsed>) -> R
 
 /// Puts the types that are written in the arguments of a call.
 #[cycle(push_value)]
-fn push_values<'a>(
-    list: &mut Vec<Writing<'a>>,
-    values: &'a Vec<Expr<Parsed>>,
-) -> Result<(), Memory>
+fn push_values<'a>(list: &mut Vec<Writing<'a>>, values: &'a Vec<Expr<Parsed>>) -> Result<(), Memory>
     ensures { OnOk result (writings_said list.new.items ≡ writings_said list.old.items ++ values_writings (expressions_said values.now.items)) }
 {
     for one in values {

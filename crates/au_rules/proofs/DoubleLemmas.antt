@@ -1,9 +1,10 @@
 -- A name that is declared again is one of a declaration of the text.
-use Rattle.std.proofs.Common.{◌≡◌, ℕ, zero, suc, ◌+◌, ◌-◌, ◌<◌, ◌≤◌, ◌⊎◌, inl, inr, List, [], ◌∷◌, ◌++◌, length, map, Option, None, Some, refl, sym, ap, ◌∙◌, subst, arith, zero-add}
-use Rattle.std.specs.Prelude.{slice_get, Bool}
+use Rattle.std.proofs.Common.{◌≡◌, ℕ, zero, suc, ◌+◌, ◌-◌, ◌<◌, ◌≤◌, ◌⊎◌, inl, inr, Bool, List, [], ◌∷◌, ◌++◌, length, map, Option, None, Some, refl, sym, ap, ◌∙◌, subst, arith, zero-add}
+use Rattle.std.specs.Prelude.{slice_get}
 use Rattle.std.specs.Option.{option_map}
+use Rattle.std.proofs.lemmas.Bool.{cases_lt}
 use Rattle.std.proofs.lemmas.List.{length-append, length-map}
-use Rattle.std.proofs.lemmas.Option.{none-some, same_Some, slice_get_within}
+use Rattle.std.proofs.lemmas.Option.{none-some, same_Some}
 use Rattle.au_syntax.specs.declared.modules.Part.{Part}
 use Rattle.au_syntax.specs.declared.modules.Part.TheVariants.{Interface, Body}
 use Rattle.au_syntax.specs.Plain.{Bytes, PlainDeclaration}
@@ -14,7 +15,7 @@ use Rattle.au_names.specs.Owned.{declarations_in}
 use Rattle.au_again.specs.declared.doubles.Double.{Double}
 use Rattle.au_again.specs.declared.marks.Kind.{Kind}
 use Rattle.au_again.specs.declared.marks.Mark.{Mark}
-use Rattle.au_again.specs.Doubles.{behind, behind_all, doubles_behind, doubles_of, first_double, numbered_double, part_marks}
+use Rattle.au_again.specs.Doubles.{behind, behind_all, doubles_behind, doubles_of, first_double, numbered_double}
 use Rattle.au_again.specs.Marks.{marks}
 use Rattle.au_again.specs.Outside.{outside}
 use Rattle.au_name_faults.proofs.ChoiceLemmas.{Among, among-append_left, among-append_right}
@@ -27,14 +28,18 @@ unfolding doubles_behind
 many_doubles foreign before [] = refl
 many_doubles foreign before (d ∷ ds) = ap suc (many_doubles foreign (behind before d) ds)
 
-many_of : (program : List ModuleParts) (place : ℕ) (m : ModuleParts) → length (doubles_of program place m) ≡ length (declarations_in m.interface) + length (declarations_in m.body)
+many_of : (program : List ModuleParts) (place : ℕ) (m : ModuleParts)
+    → length (doubles_of program place m) ≡ length (declarations_in m.interface) + length (declarations_in m.body)
 many_of program place m =
-    let one = doubles_behind (outside program place m Interface) [] (part_marks Interface m) in
-    let other = doubles_behind (outside program place m Body) (behind_all [] (part_marks Interface m)) (part_marks Body m) in
+    let interface = map (marks Interface) (declarations_in m.interface) in
+    let body = map (marks Body) (declarations_in m.body) in
+    let one = doubles_behind (outside program place m Interface) [] interface in
+    let other = doubles_behind (outside program place m Body) (behind_all [] interface) body in
     length-append one other
-    ∙ ap (λ n. n + length other) (many_doubles (outside program place m Interface) [] (part_marks Interface m) ∙ length-map (declarations_in m.interface) (marks Interface))
+    ∙ ap (λ n. n + length other)
+    (many_doubles (outside program place m Interface) [] interface ∙ length-map (declarations_in m.interface) (marks Interface))
     ∙ ap (λ n. length (declarations_in m.interface) + n)
-    (many_doubles (outside program place m Body) (behind_all [] (part_marks Interface m)) (part_marks Body m) ∙ length-map (declarations_in m.body) (marks Body))
+    (many_doubles (outside program place m Body) (behind_all [] interface) body ∙ length-map (declarations_in m.body) (marks Body))
 
 -- ---- where declarations stand
 
@@ -54,29 +59,17 @@ part_stands place part first (d ∷ ds) (suc i) h =
     (rest.0, inr rest.1, rest.2 ∙ (λ j. record { «module» = place; decl = same j }))
 
 module_stands : (place : ℕ) (m : ModuleParts) (i : ℕ) → i < length (declarations_in m.interface) + length (declarations_in m.body) → Stands (module_spots place m) place i
-module_stands place m i h = by (cases i (length (declarations_in m.interface)))
+module_stands place m i h = by (cases_lt i (length (declarations_in m.interface)))
   where
-    one : List Spot
-    one = spots_from place Interface 0 (declarations_in m.interface)
-
-    other : List Spot
-    other = spots_from place Body (length (declarations_in m.interface)) (declarations_in m.body)
-
-    cases : (a b : ℕ) → (a < b) ⊎ (b ≤ a)
-    cases a zero = inr (omega arith)
-    cases zero (suc b) = inl (omega arith)
-    cases (suc a) (suc b) = step (cases a b)
-      where
-        step : (a < b) ⊎ (b ≤ a) → (suc a < suc b) ⊎ (suc b ≤ suc a)
-        step (inl x) = inl (omega arith)
-        step (inr x) = inr (omega arith)
-
     by : (i < length (declarations_in m.interface)) ⊎ (length (declarations_in m.interface) ≤ i) → Stands (module_spots place m) place i
-    unfolding one other
     by (inl less) =
+        let one = spots_from place Interface 0 (declarations_in m.interface) in
+        let other = spots_from place Body (length (declarations_in m.interface)) (declarations_in m.body) in
         let there = part_stands place Interface 0 (declarations_in m.interface) i less in
         (there.0, among-append_left one other there.0 there.1, there.2 ∙ (λ j. record { «module» = place; decl = zero-add i j }))
     by (inr more) =
+        let one = spots_from place Interface 0 (declarations_in m.interface) in
+        let other = spots_from place Body (length (declarations_in m.interface)) (declarations_in m.body) in
         let there = part_stands place Body (length (declarations_in m.interface)) (declarations_in m.body) (i - length (declarations_in m.interface)) (omega arith) in
         let same : length (declarations_in m.interface) + (i - length (declarations_in m.interface)) ≡ i = omega arith in
         (there.0, among-append_right one other there.0 there.1, there.2 ∙ (λ j. record { «module» = place; decl = same j }))
@@ -97,23 +90,21 @@ text_stands first (x ∷ xs) (suc k) m i here h =
 
 -- ---- what is declared again
 
-pub double_stands : (program : List ModuleParts) (at : DeclAt) (d : Double) → first_double program at ≡ Some d → (s : Spot) × Among s (text program) × (s.at ≡ at)
+-- it has a number below the length of the list
+numbered_within : (found : List (Option Double)) (number : ℕ) (d : Double) → numbered_double number (Some found) ≡ Some d → number < length found
+numbered_within [] number d h = absurd (none-some d h)
+numbered_within (x ∷ xs) zero d h = omega arith
+numbered_within (x ∷ xs) (suc n) d h = let rest = numbered_within xs n d h in omega arith
+
+pub double_stands : (program : List ModuleParts) (at : DeclAt) (d : Double) → first_double program at ≡ Some d
+    → (s : Spot) × Among s (text program) × (s.at ≡ at)
 double_stands program at d h = by (slice_get program at.«module») refl h
   where
-    within : (found : List (Option Double)) → numbered_double at.decl (Some found) ≡ Some d → at.decl < length found
-    within found k = in_list (slice_get found at.decl) refl
-      where
-        in_list : (o : Option (Option Double)) → slice_get found at.decl ≡ o → at.decl < length found
-        in_list None e = absurd (none-some d (sym (missing e) ∙ k))
-          where
-            missing : slice_get found at.decl ≡ None → numbered_double at.decl (Some found) ≡ None
-            missing none = ?
-        in_list (Some x) e = slice_get_within found at.decl x e
-
-    by : (o : Option ModuleParts) → slice_get program at.«module» ≡ o → numbered_double at.decl (option_map (doubles_of program at.«module») o) ≡ Some d → (s : Spot) × Among s (text program) × (s.at ≡ at)
+    by : (o : Option ModuleParts) → slice_get program at.«module» ≡ o → numbered_double at.decl (option_map (doubles_of program at.«module») o) ≡ Some d
+        → (s : Spot) × Among s (text program) × (s.at ≡ at)
     by None e k = absurd (none-some d k)
     by (Some m) e k =
         let less : at.decl < length (declarations_in m.interface) + length (declarations_in m.body) =
-        subst (λ n. at.decl < n) (many_of program at.«module» m) (within (doubles_of program at.«module» m) k) in
+        subst (λ n. at.decl < n) (many_of program at.«module» m) (numbered_within (doubles_of program at.«module» m) at.decl d k) in
         let there = text_stands 0 program at.«module» m at.decl e less in
         (there.0, there.1, there.2 ∙ (λ j. record { «module» = zero-add at.«module» j; decl = at.decl }))

@@ -17,12 +17,21 @@ use Rattle.au_formed.specs.Infinite.{IsInfinite, is_infinite}
 use Rattle.au_formed.specs.Naming.{namings, type_of}
 use Rattle.au_formed.specs.Text.{Spot, text, visible_at}
 use Rattle.au_formed.proofs.LeadLemmas.{infinite_from, infinite_to}
-use Rattle.au_formed.proofs.WellMadeLemmas.{map_none, none_map, well_made_from, well_made_to}
+use Rattle.au_formed.proofs.WellMadeLemmas.{well_made_from, well_made_to}
 use Rattle.au_rules.specs.declared.faults.DeclFault.{DeclFault}
 use Rattle.au_rules.specs.declared.faults.DeclFault.TheVariants as fault
 use Rattle.au_rules.specs.DeclFaults.{decl_fault, declaration_fault, of_double, of_form, type_fault}
 use Rattle.au_rules.specs.Good.{AllDeclarationsAreGood, DeclarationIsGood}
 use Rattle.au_rules.proofs.DoubleLemmas.{double_stands}
+
+-- ---- options
+
+map_none : {A B : Type 0} (f : A → B) (o : Option A) → option_map f o ≡ None → o ≡ None
+map_none f None h = refl
+map_none f (Some x) h = absurd cc
+
+none_map : {A B : Type 0} (f : A → B) (o : Option A) → o ≡ None → option_map f o ≡ None
+none_map f o h = ap (option_map f) h
 
 module _ (program : List ModuleParts) where
   abbrev the_type : Spot → Option DeclAt

@@ -26,11 +26,11 @@ use Rattle.au_rules.specs.Tests.{is_this}
 -- what is found passes
 found_passes : {A : Type 0} (p : A → Bool) (xs : List A) (x : A) → find p xs ≡ Some x → p x ≡ true
 found_passes p [] x h = absurd (none-some x h)
-found_passes p (y ∷ ys) x h = by (p y) refl h
+found_passes p (y ∷ ys) x h = by (p y) refl h (found_passes p ys x)
   where
-    by : (b : Bool) → p y ≡ b → cond b (Some y) (find p ys) ≡ Some x → p x ≡ true
-    by true e k = ap p (sym (same_Some y x k)) ∙ e
-    by false e k = found_passes p ys x k
+    by : (b : Bool) → p y ≡ b → cond b (Some y) (find p ys) ≡ Some x → (find p ys ≡ Some x → p x ≡ true) → p x ≡ true
+    by true e k on = ap p (sym (same_Some y x k)) ∙ e
+    by false e k on = on k
 
 -- a type is this one
 this_is : (first : Option DeclAt) (a : DeclAt) → is_this first a ≡ true → first ≡ Some a
@@ -83,9 +83,6 @@ module _ (program : List ModuleParts) (first : Option DeclAt) where
     where
       make : DeclAt → Naming
       make a = record { of = a; names = names_in (visible_at program s) (heads_of program) s.says }
-
-      goal : Type 0
-      goal = option_or (by_first s) (first_of by_first ss) ≡ option_or (by_all s) (first_of by_all ss)
 
       goes : by_first s ≡ by_all s → first_of by_first ss ≡ first_of by_all ss → option_or (by_first s) (first_of by_first ss) ≡ option_or (by_all s) (first_of by_all ss)
       goes same rest = ap (λ o. option_or o (first_of by_first ss)) same ∙ ap (option_or (by_all s)) rest
