@@ -389,3 +389,17 @@ module _ (foreign : Kind → Bytes → Bool) (s : Scopes) where
   pub doubles_nothing : doubles_in foreign s [] ≡ []
   unfolding doubles_in
   doubles_nothing = refl
+
+-- the doubles of two parts, one behind the other, begun with empty tables
+pub both_parts : (outer inner : Kind → Bytes → Bool) (interface body : List (List Mark)) (s t : Scopes) (start one two : List (Option Double))
+    → s ≡ no_scopes → start ≡ [] → one ≡ start ++ doubles_in outer s interface → t ≡ fold after_all s interface → two ≡ one ++ doubles_in inner t body
+    → two ≡ doubles_behind outer [] interface ++ doubles_behind inner (behind_all [] interface) body
+both_parts outer inner interface body s t start one two empty nothing first then second =
+    let begins : one ≡ doubles_behind outer [] interface =
+        first ∙ ap (λ l. l ++ doubles_in outer s interface) nothing ∙ ap (λ x. doubles_in outer x interface) empty ∙ doubles_same outer [] no_scopes interface no_scopes_of in
+    let goes : t ≡ fold after_all no_scopes interface = then ∙ ap (λ x. fold after_all x interface) empty in
+    second
+    ∙ ap (λ l. l ++ doubles_in inner t body) begins
+    ∙ ap (λ x. doubles_behind outer [] interface ++ doubles_in inner x body) goes
+    ∙ ap (λ l. doubles_behind outer [] interface ++ l)
+      (doubles_same inner (behind_all [] interface) (fold after_all no_scopes interface) body (after_each [] no_scopes interface no_scopes_of))
