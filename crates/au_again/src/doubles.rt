@@ -71,7 +71,7 @@ impl ModuleDoubles {
         requires { place < length (slots.modules resolved.now) }
         ensures { (m : ModuleParts) → slice_get (slots.modules resolved.now) place ≡ Some m → IfOk result (λ doubles. doubles ≡ doubles_of (slots.modules resolved.now) place m) }
     {
-        let mut scopes = Scopes::new(alloc);
+        let mut scopes = Scopes::new(alloc)?;
         ModuleDoubles::with(alloc, resolved, place, &mut scopes)
     }
 
