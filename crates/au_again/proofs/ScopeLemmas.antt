@@ -20,10 +20,9 @@ use Rattle.au_again.specs.declared.marks.Mark.TheVariants.{Opens, Closes, Declar
 use Rattle.au_again.specs.declared.marks.Role.{Role}
 use Rattle.au_again.specs.declared.marks.Role.TheVariants.{Local, Whole, Promise, Definition}
 use Rattle.au_again.specs.declared.scopes.Names.{Names}
-use Rattle.au_again.specs.declared.scopes.Scopes.{Scopes}
 use Rattle.au_again.specs.Doubles.{behind, behind_all, double_of, doubles_behind, first_again, is_declaring, is_declared, is_name_again, is_open, is_top, same_kind, same_role, stands}
 use Rattle.au_again.specs.Nests.{entered, left, with_name}
-use Rattle.au_again.specs.Scopes.{after, after_all, closed, double_in, doubles_in, first_in, is_again_in, is_known_in, is_top_in, no_names, no_scopes, noted, of_kind, opened}
+use Rattle.au_again.specs.Scopes.{after, after_all, closed, double_in, doubles_in, first_in, is_again_among, is_again_in, is_known_in, is_top_in, no_names, no_scopes, noted, opened}
 
 -- ---- tables of names
 
@@ -260,90 +259,171 @@ module _ (foreign : Kind → Bytes → Bool) (kind : Kind) (before : List Mark) 
 
 -- ---- all kinds
 
--- The tables are those of marks, the last first.
-pub record AreScopesOf (before : List Mark) (s : Scopes) : Type 0 where
-  pub values : AreNamesOf Values before s.values
-  pub callables : AreNamesOf Callables before s.callables
-  pub types : AreNamesOf Types before s.types
-  pub fields : AreNamesOf Fields before s.fields
+-- The tables of four kinds are those of marks, the last first.
+pub record AreFourOf (before : List Mark) (values callables types fields : Names) : Type 0 where
+  pub of_values : AreNamesOf Values before values
+  pub of_callables : AreNamesOf Callables before callables
+  pub of_types : AreNamesOf Types before types
+  pub of_fields : AreNamesOf Fields before fields
 
-of_each : (kind : Kind) (before : List Mark) (s : Scopes) → AreScopesOf before s → AreNamesOf kind before (of_kind kind s)
-of_each Values before s h = h.values
-of_each Callables before s h = h.callables
-of_each Types before s h = h.types
-of_each Fields before s h = h.fields
+-- The tables are those of four kinds, in order.
+pub record AreScopesOf (before : List Mark) (s : List Names) : Type 0 where
+  pub values : Names
+  pub callables : Names
+  pub types : Names
+  pub fields : Names
+  pub are : s ≡ values ∷ callables ∷ types ∷ fields ∷ []
+  pub hold : AreFourOf before values callables types fields
 
 -- one mark more
-after_mark : (before : List Mark) (s : Scopes) (m : Mark) → AreScopesOf before s → AreScopesOf (m ∷ before) (after s m)
-after_mark before s Opens h = record {
-  values = opened_names Values before s.values h.values;
-  callables = opened_names Callables before s.callables h.callables;
-  types = opened_names Types before s.types h.types;
-  fields = opened_names Fields before s.fields h.fields;
-}
-after_mark before s Closes h = record {
-  values = closed_names Values before s.values h.values;
-  callables = closed_names Callables before s.callables h.callables;
-  types = closed_names Types before s.types h.types;
-  fields = closed_names Fields before s.fields h.fields;
-}
-after_mark before s (Declares role Values name at) h = record {
-  values = noted_same Values before s.values role name at h.values;
-  callables = noted_other Callables before s.callables role Values name at refl h.callables;
-  types = noted_other Types before s.types role Values name at refl h.types;
-  fields = noted_other Fields before s.fields role Values name at refl h.fields;
-}
-after_mark before s (Declares role Callables name at) h = record {
-  values = noted_other Values before s.values role Callables name at refl h.values;
-  callables = noted_same Callables before s.callables role name at h.callables;
-  types = noted_other Types before s.types role Callables name at refl h.types;
-  fields = noted_other Fields before s.fields role Callables name at refl h.fields;
-}
-after_mark before s (Declares role Types name at) h = record {
-  values = noted_other Values before s.values role Types name at refl h.values;
-  callables = noted_other Callables before s.callables role Types name at refl h.callables;
-  types = noted_same Types before s.types role name at h.types;
-  fields = noted_other Fields before s.fields role Types name at refl h.fields;
-}
-after_mark before s (Declares role Fields name at) h = record {
-  values = noted_other Values before s.values role Fields name at refl h.values;
-  callables = noted_other Callables before s.callables role Fields name at refl h.callables;
-  types = noted_other Types before s.types role Fields name at refl h.types;
-  fields = noted_same Fields before s.fields role name at h.fields;
-}
+module _ (before : List Mark) (v c t f : Names) (h : AreFourOf before v c t f) where
+  abbrev After : Mark → Type 0
+  After m = AreScopesOf (m ∷ before) (after (v ∷ c ∷ t ∷ f ∷ []) m)
+
+  four_opened : After Opens
+  four_opened = record {
+    values = opened v;
+    callables = opened c;
+    types = opened t;
+    fields = opened f;
+    are = refl;
+    hold = record {
+      of_values = opened_names Values before v h.of_values;
+      of_callables = opened_names Callables before c h.of_callables;
+      of_types = opened_names Types before t h.of_types;
+      of_fields = opened_names Fields before f h.of_fields;
+    };
+  }
+
+  four_closed : After Closes
+  four_closed = record {
+    values = closed v;
+    callables = closed c;
+    types = closed t;
+    fields = closed f;
+    are = refl;
+    hold = record {
+      of_values = closed_names Values before v h.of_values;
+      of_callables = closed_names Callables before c h.of_callables;
+      of_types = closed_names Types before t h.of_types;
+      of_fields = closed_names Fields before f h.of_fields;
+    };
+  }
+
+  four_noted : (role : Role) (kind : Kind) (name : Bytes) (at : Pos) → After (Declares role kind name at)
+  four_noted role Values name at = record {
+    values = noted role name v;
+    callables = c;
+    types = t;
+    fields = f;
+    are = refl;
+    hold = record {
+      of_values = noted_same Values before v role name at h.of_values;
+      of_callables = noted_other Callables before c role Values name at refl h.of_callables;
+      of_types = noted_other Types before t role Values name at refl h.of_types;
+      of_fields = noted_other Fields before f role Values name at refl h.of_fields;
+    };
+  }
+  four_noted role Callables name at = record {
+    values = v;
+    callables = noted role name c;
+    types = t;
+    fields = f;
+    are = refl;
+    hold = record {
+      of_values = noted_other Values before v role Callables name at refl h.of_values;
+      of_callables = noted_same Callables before c role name at h.of_callables;
+      of_types = noted_other Types before t role Callables name at refl h.of_types;
+      of_fields = noted_other Fields before f role Callables name at refl h.of_fields;
+    };
+  }
+  four_noted role Types name at = record {
+    values = v;
+    callables = c;
+    types = noted role name t;
+    fields = f;
+    are = refl;
+    hold = record {
+      of_values = noted_other Values before v role Types name at refl h.of_values;
+      of_callables = noted_other Callables before c role Types name at refl h.of_callables;
+      of_types = noted_same Types before t role name at h.of_types;
+      of_fields = noted_other Fields before f role Types name at refl h.of_fields;
+    };
+  }
+  four_noted role Fields name at = record {
+    values = v;
+    callables = c;
+    types = t;
+    fields = noted role name f;
+    are = refl;
+    hold = record {
+      of_values = noted_other Values before v role Fields name at refl h.of_values;
+      of_callables = noted_other Callables before c role Fields name at refl h.of_callables;
+      of_types = noted_other Types before t role Fields name at refl h.of_types;
+      of_fields = noted_same Fields before f role name at h.of_fields;
+    };
+  }
+
+  four_after : (m : Mark) → After m
+  four_after Opens = four_opened
+  four_after Closes = four_closed
+  four_after (Declares role kind name at) = four_noted role kind name at
+
+  four_again : (foreign : Kind → Bytes → Bool) (role : Role) (kind : Kind) (name : Bytes)
+      → is_again_among (foreign kind name) (v ∷ c ∷ t ∷ f ∷ []) role kind name ≡ is_name_again foreign before role kind name
+  four_again foreign role Values name = again_same foreign Values before v h.of_values name role
+  four_again foreign role Callables name = again_same foreign Callables before c h.of_callables name role
+  four_again foreign role Types name = again_same foreign Types before t h.of_types name role
+  four_again foreign role Fields name = again_same foreign Fields before f h.of_fields name role
+
+after_mark : (before : List Mark) (s : List Names) (m : Mark) → AreScopesOf before s → AreScopesOf (m ∷ before) (after s m)
+after_mark before s m h =
+    subst (λ x. AreScopesOf (m ∷ before) (after x m)) (sym h.are) (four_after before h.values h.callables h.types h.fields h.hold m)
 
 -- more marks, and those of several declarations
-after_marks : (before : List Mark) (s : Scopes) (marks : List Mark) → AreScopesOf before s → AreScopesOf (behind before marks) (after_all s marks)
+after_marks : (before : List Mark) (s : List Names) (marks : List Mark) → AreScopesOf before s → AreScopesOf (behind before marks) (after_all s marks)
 after_marks before s [] h = h
 after_marks before s (m ∷ rest) h = after_marks (m ∷ before) (after s m) rest (after_mark before s m h)
 
-pub after_each : (before : List Mark) (s : Scopes) (ds : List (List Mark)) → AreScopesOf before s → AreScopesOf (behind_all before ds) (fold after_all s ds)
+pub after_each : (before : List Mark) (s : List Names) (ds : List (List Mark)) → AreScopesOf before s → AreScopesOf (behind_all before ds) (fold after_all s ds)
 after_each before s [] h = h
 after_each before s (d ∷ rest) h = after_each (behind before d) (after_all s d) rest (after_marks before s d h)
 
 pub no_scopes_of : AreScopesOf [] no_scopes
 no_scopes_of = record {
-  values = nothing_named Values;
-  callables = nothing_named Callables;
-  types = nothing_named Types;
-  fields = nothing_named Fields;
+  values = no_names;
+  callables = no_names;
+  types = no_names;
+  fields = no_names;
+  are = refl;
+  hold = record {
+    of_values = nothing_named Values;
+    of_callables = nothing_named Callables;
+    of_types = nothing_named Types;
+    of_fields = nothing_named Fields;
+  };
 }
 
+again_among : (foreign : Kind → Bytes → Bool) (before : List Mark) (s : List Names) → AreScopesOf before s → (role : Role) (kind : Kind) (name : Bytes)
+    → is_again_among (foreign kind name) s role kind name ≡ is_name_again foreign before role kind name
+again_among foreign before s h role kind name =
+    ap (λ x. is_again_among (foreign kind name) x role kind name) h.are ∙ four_again before h.values h.callables h.types h.fields h.hold foreign role kind name
+
 module _ (foreign : Kind → Bytes → Bool) where
-  double_same : (before : List Mark) (s : Scopes) (m : Mark) → AreScopesOf before s → double_in foreign s m ≡ double_of foreign before m
+  double_same : (before : List Mark) (s : List Names) (m : Mark) → AreScopesOf before s → double_in foreign s m ≡ double_of foreign before m
   double_same before s Opens h = refl
   double_same before s Closes h = refl
   double_same before s (Declares role kind name at) h =
-      ap (λ c. cond c (Some (record { name = name; at = at })) None) (again_same foreign kind before (of_kind kind s) (of_each kind before s h) name role)
+      ap (λ c. cond c (Some (record { name = name; at = at })) None) (again_among foreign before s h role kind name)
 
-  first_same : (before : List Mark) (s : Scopes) (marks : List Mark) → AreScopesOf before s → first_in foreign s marks ≡ first_again foreign before marks
+  first_same : (before : List Mark) (s : List Names) (marks : List Mark) → AreScopesOf before s → first_in foreign s marks ≡ first_again foreign before marks
   unfolding first_in first_again
   first_same before s [] h = refl
   first_same before s (m ∷ rest) h =
       λ i. option_or (double_same before s m h i) (first_same (m ∷ before) (after s m) rest (after_mark before s m h) i)
 
   -- the doubles by the tables are those by the marks
-  pub doubles_same : (before : List Mark) (s : Scopes) (ds : List (List Mark)) → AreScopesOf before s → doubles_in foreign s ds ≡ doubles_behind foreign before ds
+  pub doubles_same : (before : List Mark) (s : List Names) (ds : List (List Mark)) → AreScopesOf before s → doubles_in foreign s ds ≡ doubles_behind foreign before ds
   unfolding doubles_in doubles_behind
   doubles_same before s [] h = refl
   doubles_same before s (d ∷ rest) h =
@@ -359,29 +439,29 @@ module _ (foreign : Kind → Bytes → Bool) where
   or_assoc None p q = refl
   or_assoc (Some x) p q = refl
 
-  pub first_push : (s : Scopes) (marks : List Mark) (m : Mark) → first_in foreign s (marks ++ m ∷ []) ≡ option_or (first_in foreign s marks) (double_in foreign (after_all s marks) m)
+  pub first_push : (s : List Names) (marks : List Mark) (m : Mark) → first_in foreign s (marks ++ m ∷ []) ≡ option_or (first_in foreign s marks) (double_in foreign (after_all s marks) m)
   unfolding first_in
   first_push s [] m = or_none (double_in foreign s m)
   first_push s (one ∷ rest) m =
       ap (option_or (double_in foreign s one)) (first_push (after s one) rest m)
       ∙ or_assoc (double_in foreign s one) (first_in foreign (after s one) rest) (double_in foreign (after_all (after s one) rest) m)
 
-  pub doubles_push : (s : Scopes) (ds : List (List Mark)) (d : List Mark) → doubles_in foreign s (ds ++ d ∷ []) ≡ doubles_in foreign s ds ++ first_in foreign (fold after_all s ds) d ∷ []
+  pub doubles_push : (s : List Names) (ds : List (List Mark)) (d : List Mark) → doubles_in foreign s (ds ++ d ∷ []) ≡ doubles_in foreign s ds ++ first_in foreign (fold after_all s ds) d ∷ []
   unfolding doubles_in
   doubles_push s [] d = refl
   doubles_push s (one ∷ rest) d = ap (λ r. first_in foreign s one ∷ r) (doubles_push (after_all s one) rest d)
 
   -- what one visited mark more makes
-  pub first_next : (s : Scopes) (marks : List Mark) (i : ℕ) (m : Mark) → i < length marks → m ≡ get_or marks i m
+  pub first_next : (s : List Names) (marks : List Mark) (i : ℕ) (m : Mark) → i < length marks → m ≡ get_or marks i m
       → first_in foreign s (take (i + 1) marks) ≡ option_or (first_in foreign s (take i marks)) (double_in foreign (after_all s (take i marks)) m)
   first_next s marks i m within is =
       ap (first_in foreign s) (take_more marks i m within ∙ ap (λ x. take i marks ++ x ∷ []) (sym is)) ∙ first_push s (take i marks) m
 
-pub after_next : (s : Scopes) (marks : List Mark) (i : ℕ) (m : Mark) → i < length marks → m ≡ get_or marks i m
+pub after_next : (s : List Names) (marks : List Mark) (i : ℕ) (m : Mark) → i < length marks → m ≡ get_or marks i m
     → after_all s (take (i + 1) marks) ≡ after (after_all s (take i marks)) m
 after_next s marks i m within is = fold_more after s marks i m within ∙ ap (after (after_all s (take i marks))) (sym is)
 
-module _ (foreign : Kind → Bytes → Bool) (s : Scopes) where
+module _ (foreign : Kind → Bytes → Bool) (s : List Names) where
   pub first_nothing : first_in foreign s [] ≡ None
   unfolding first_in
   first_nothing = refl
@@ -389,3 +469,17 @@ module _ (foreign : Kind → Bytes → Bool) (s : Scopes) where
   pub doubles_nothing : doubles_in foreign s [] ≡ []
   unfolding doubles_in
   doubles_nothing = refl
+
+-- the doubles of two parts, one behind the other, begun with empty tables
+pub both_parts : (outer inner : Kind → Bytes → Bool) (interface body : List (List Mark)) (s t : List Names) (start one two : List (Option Double))
+    → s ≡ no_scopes → start ≡ [] → one ≡ start ++ doubles_in outer s interface → t ≡ fold after_all s interface → two ≡ one ++ doubles_in inner t body
+    → two ≡ doubles_behind outer [] interface ++ doubles_behind inner (behind_all [] interface) body
+both_parts outer inner interface body s t start one two empty nothing first then second =
+    let begins : one ≡ doubles_behind outer [] interface =
+        first ∙ ap (λ l. l ++ doubles_in outer s interface) nothing ∙ ap (λ x. doubles_in outer x interface) empty ∙ doubles_same outer [] no_scopes interface no_scopes_of in
+    let goes : t ≡ fold after_all no_scopes interface = then ∙ ap (λ x. fold after_all x interface) empty in
+    second
+    ∙ ap (λ l. l ++ doubles_in inner t body) begins
+    ∙ ap (λ x. doubles_behind outer [] interface ++ doubles_in inner x body) goes
+    ∙ ap (λ l. doubles_behind outer [] interface ++ l)
+      (doubles_same inner (behind_all [] interface) (fold after_all no_scopes interface) body (after_each [] no_scopes interface no_scopes_of))

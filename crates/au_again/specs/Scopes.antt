@@ -1,6 +1,6 @@
 -- The tables that are kept while the text of a module is read, and how each mark changes them: for each kind the names
 -- that are declared so far, by their roles, and the local names of the blocks that are open.
-use Rattle.std.specs.Prelude.{ℕ, Bool, ◌||◌, if◌then◌else◌, List, [], ◌∷◌, Option, None, Some}
+use Rattle.std.specs.Prelude.{ℕ, Bool, ◌||◌, if◌then◌else◌, List, [], ◌∷◌, Option, None, Some, slice_get, slice_index_or, slice_set}
 use Rattle.std.specs.List.{fold}
 use Rattle.std.specs.Option.{option_or}
 use Rattle.au_syntax.specs.Plain.{Bytes}
@@ -13,7 +13,6 @@ use Rattle.au_again.specs.declared.marks.Mark.TheVariants.{Opens, Closes, Declar
 use Rattle.au_again.specs.declared.marks.Role.{Role}
 use Rattle.au_again.specs.declared.marks.Role.TheVariants.{Local, Whole, Promise, Definition}
 use Rattle.au_again.specs.declared.scopes.Names.{Names}
-use Rattle.au_again.specs.declared.scopes.Scopes.{Scopes}
 use Rattle.au_again.specs.Nests.{entered, left, with_name}
 
 -- ---- one kind
@@ -50,49 +49,57 @@ is_again_in foreign t Promise name = is_known_in t name
 is_again_in foreign t Definition name =
     if has_name name t.promises then has_name name t.definitions else is_known_in t name
 
--- ---- all kinds
+-- ---- all kinds, in order
 
-abbrev pub no_scopes : Scopes
-no_scopes = record { values = no_names; callables = no_names; types = no_names; fields = no_names }
+-- which of the kinds a kind is
+abbrev pub number_of : Kind → ℕ
+number_of Values = 0
+number_of Callables = 1
+number_of Types = 2
+number_of Fields = 3
 
-abbrev pub of_kind : Kind → Scopes → Names
-of_kind Values s = s.values
-of_kind Callables s = s.callables
-of_kind Types s = s.types
-of_kind Fields s = s.fields
+abbrev pub no_scopes : List Names
+no_scopes = no_names ∷ no_names ∷ no_names ∷ no_names ∷ []
 
-abbrev pub noted_as : Role → Kind → Bytes → Scopes → Scopes
-noted_as role Values name s = record s { values = noted role name s.values }
-noted_as role Callables name s = record s { callables = noted role name s.callables }
-noted_as role Types name s = record s { types = noted role name s.types }
-noted_as role Fields name s = record s { fields = noted role name s.fields }
+-- the names of one kind change
+abbrev pub changed : Kind → (Names → Names) → List Names → List Names
+changed kind f s = slice_set s (number_of kind) (f (slice_index_or s (number_of kind) no_names))
 
-abbrev pub in_each : (Names → Names) → Scopes → Scopes
-in_each f s = record { values = f s.values; callables = f s.callables; types = f s.types; fields = f s.fields }
+-- those of each kind do
+abbrev pub changed_each : (Names → Names) → List Names → List Names
+changed_each f s = changed Fields f (changed Types f (changed Callables f (changed Values f s)))
+
+-- a name of a kind is declared again, given whether it comes from elsewhere too
+abbrev pub is_again_of : Bool → Option Names → Role → Bytes → Bool
+is_again_of foreign None role name = foreign
+is_again_of foreign (Some t) role name = is_again_in foreign t role name
+
+abbrev pub is_again_among : Bool → List Names → Role → Kind → Bytes → Bool
+is_again_among foreign s role kind name = is_again_of foreign (slice_get s (number_of kind)) role name
 
 -- the tables behind a mark, and behind several
-abbrev pub after : Scopes → Mark → Scopes
-after s Opens = in_each opened s
-after s Closes = in_each closed s
-after s (Declares role kind name at) = noted_as role kind name s
+abbrev pub after : List Names → Mark → List Names
+after s Opens = changed_each opened s
+after s Closes = changed_each closed s
+after s (Declares role kind name at) = changed kind (noted role name) s
 
-abbrev pub after_all : Scopes → List Mark → Scopes
+abbrev pub after_all : List Names → List Mark → List Names
 after_all s marks = fold after s marks
 
 module _ (foreign : Kind → Bytes → Bool) where
   -- what a mark declares again
-  abbrev pub double_in : Scopes → Mark → Option Double
+  abbrev pub double_in : List Names → Mark → Option Double
   double_in s Opens = None
   double_in s Closes = None
   double_in s (Declares role kind name at) =
-      if is_again_in (foreign kind name) (of_kind kind s) role name then Some (record { name = name; at = at }) else None
+      if is_again_among (foreign kind name) s role kind name then Some (record { name = name; at = at }) else None
 
   -- the first name of marks that is declared again
-  unfoldable pub first_in : Scopes → List Mark → Option Double
+  unfoldable pub first_in : List Names → List Mark → Option Double
   first_in s [] = None
   first_in s (m ∷ rest) = option_or (double_in s m) (first_in (after s m) rest)
 
   -- that of each of several declarations
-  unfoldable pub doubles_in : Scopes → List (List Mark) → List (Option Double)
+  unfoldable pub doubles_in : List Names → List (List Mark) → List (Option Double)
   doubles_in s [] = []
   doubles_in s (d ∷ rest) = first_in s d ∷ doubles_in (after_all s d) rest

@@ -3,6 +3,7 @@
 ghost use Rattle.std.specs.Prelude.{◌≡◌, ◌<◌, IfOk, Some, length, slice_get};
 ghost use Rattle.std.specs.Option.{option_copied};
 ghost use Rattle.au_again.specs.Doubles.{double_at, doubles_of, first_double, numbered_double};
+ghost use Rattle.au_again.specs.Scopes.{no_scopes};
 ghost use Rattle.au_modules.specs.Programs.{ModuleParts};
 ghost use Rattle.au_modules.specs.Slots as slots;
 ghost use Rattle.au_types.specs.declared.types.DeclAt.{DeclAt};
@@ -41,30 +42,37 @@ impl Model for ModuleDoubles {
 }
 
 impl ModuleDoubles {
+    /// Those of the module at a place, with tables in which nothing stands.
+    fn with(
+        alloc: Global,
+        resolved: &Resolved,
+        place: usize,
+        scopes: &mut Scopes,
+    ) -> Result<ModuleDoubles, Memory>
+        requires within { place < length (slots.modules resolved.now) }
+        requires empty { scopes.old ≡ no_scopes }
+        ensures { (m : ModuleParts) → slice_get (slots.modules resolved.now) place ≡ Some m → IfOk result (λ doubles. doubles ≡ doubles_of (slots.modules resolved.now) place m) }
+    {
+        let mut by_number = Vec::new(alloc);
+        judge_part(
+            alloc,
+            &mut by_number,
+            scopes,
+            resolved,
+            place,
+            Part::Interface,
+        )?;
+        judge_part(alloc, &mut by_number, scopes, resolved, place, Part::Body)?;
+        Ok(ModuleDoubles { by_number })
+    }
+
     /// Those of the module at a place.
     fn of(alloc: Global, resolved: &Resolved, place: usize) -> Result<ModuleDoubles, Memory>
         requires { place < length (slots.modules resolved.now) }
         ensures { (m : ModuleParts) → slice_get (slots.modules resolved.now) place ≡ Some m → IfOk result (λ doubles. doubles ≡ doubles_of (slots.modules resolved.now) place m) }
     {
-        let mut scopes = Scopes::new(alloc);
-        let mut by_number = Vec::new(alloc);
-        judge_part(
-            alloc,
-            &mut by_number,
-            &mut scopes,
-            resolved,
-            place,
-            Part::Interface,
-        )?;
-        judge_part(
-            alloc,
-            &mut by_number,
-            &mut scopes,
-            resolved,
-            place,
-            Part::Body,
-        )?;
-        Ok(ModuleDoubles { by_number })
+        let mut scopes = Scopes::new(alloc)?;
+        ModuleDoubles::with(alloc, resolved, place, &mut scopes)
     }
 
     /// That of the declaration of a number.

@@ -1,6 +1,6 @@
 //! The tables that are kept while the text of a module is read.
 
-ghost use Rattle.std.specs.Prelude.{◌≡◌, OnOk};
+ghost use Rattle.std.specs.Prelude.{◌≡◌, IfOk, OnOk, replicate};
 ghost use Rattle.au_again.specs.Scopes as spec;
 ghost use Rattle.au_tables.specs.Tables.{has_name};
 
@@ -9,6 +9,7 @@ use crate::nests::Nest;
 use au_base::Memory;
 use au_tables::Table;
 use std::alloc::Global;
+use std::marker::Model;
 
 /// The names of one kind that are declared so far, by their roles, and the local ones of the blocks that are
 /// open.
@@ -116,80 +117,107 @@ impl Names {
     }
 }
 
-/// The names that are declared so far, by their kinds.
+/// How many kinds of names there are.
+const KINDS: usize = 4;
+
+/// Which of the kinds a kind is, counted from 0.
+fn number_of(kind: Kind) -> usize
+    ensures { result ≡ spec.number_of kind }
+{
+    match kind {
+        Kind::Values => 0,
+        Kind::Callables => 1,
+        Kind::Types => 2,
+        Kind::Fields => 3,
+    }
+}
+
+/// The names that are declared so far, by their kinds. Contracts see those of each kind in order.
 #[derive(Drop)]
 pub struct Scopes {
-    /// The values.
-    pub values: Names,
-    /// The callables.
-    pub callables: Names,
-    /// The types.
-    pub types: Names,
-    /// The fields.
-    pub fields: Names,
+    by_kind: Vec<Names>,
+}
+
+impl Model for Scopes {
+    ghost use Rattle.std.specs.Prelude.{List};
+    ghost use Rattle.au_again.specs.declared.scopes.Names.{Names};
+
+    ghost Value = { List Names };
+
+    ghost view = { λ s. s.by_kind.items };
 }
 
 impl Scopes {
     /// No names.
-    pub fn new(alloc: Global) -> Scopes
-        ensures { result ≡ spec.no_scopes }
+    pub fn new(alloc: Global) -> Result<Scopes, Memory>
+        ensures { IfOk result (λ scopes. scopes ≡ replicate 4 spec.no_names) }
     {
-        Scopes {
-            values: Names::new(alloc),
-            callables: Names::new(alloc),
-            types: Names::new(alloc),
-            fields: Names::new(alloc),
+        let mut by_kind = Vec::new(alloc);
+        for _kind in 0..KINDS {
+            by_kind.push(Names::new(alloc))?;
         }
+        Ok(Scopes { by_kind })
     }
 
     /// Notes that a name is declared.
     pub fn note(&mut self, role: Role, kind: Kind, name: &[u8]) -> Result<(), Memory>
-        ensures { OnOk result (self.new ≡ spec.noted_as role kind name.now self.old) }
+        ensures { OnOk result (self.new ≡ spec.changed kind (spec.noted role name.now) self.old) }
     {
-        match kind {
-            Kind::Values => self.values.note(role, name),
-            Kind::Callables => self.callables.note(role, name),
-            Kind::Types => self.types.note(role, name),
-            Kind::Fields => self.fields.note(role, name),
+        let number = number_of(kind);
+        if number < self.by_kind.len() {
+            self.by_kind[number].note(role, name)?;
         }
+        Ok(())
+    }
+
+    /// Notes that a block begins, for one kind.
+    fn enter_kind(&mut self, kind: Kind) -> Result<(), Memory>
+        ensures { OnOk result (self.new ≡ spec.changed kind spec.opened self.old) }
+    {
+        let number = number_of(kind);
+        if number < self.by_kind.len() {
+            self.by_kind[number].enter()?;
+        }
+        Ok(())
     }
 
     /// Notes that a block begins.
     pub fn enter(&mut self) -> Result<(), Memory>
-        ensures { OnOk result (self.new ≡ spec.in_each spec.opened self.old) }
+        ensures { OnOk result (self.new ≡ spec.changed_each spec.opened self.old) }
     {
-        self.values.enter()?;
-        self.callables.enter()?;
-        self.types.enter()?;
-        self.fields.enter()
+        self.enter_kind(Kind::Values)?;
+        self.enter_kind(Kind::Callables)?;
+        self.enter_kind(Kind::Types)?;
+        self.enter_kind(Kind::Fields)
+    }
+
+    /// Notes that a block ends, for one kind.
+    fn leave_kind(&mut self, kind: Kind)
+        ensures { self.new ≡ spec.changed kind spec.closed self.old }
+    {
+        let number = number_of(kind);
+        if number < self.by_kind.len() {
+            self.by_kind[number].leave();
+        }
     }
 
     /// Notes that a block ends.
     pub fn leave(&mut self)
-        ensures { self.new ≡ spec.in_each spec.closed self.old }
+        ensures { self.new ≡ spec.changed_each spec.closed self.old }
     {
-        self.values.leave();
-        self.callables.leave();
-        self.types.leave();
-        self.fields.leave();
-    }
-
-    /// The names of a kind.
-    fn of_kind(&self, kind: Kind) -> &Names
-        ensures { result.now ≡ spec.of_kind kind self.now }
-    {
-        match kind {
-            Kind::Values => &self.values,
-            Kind::Callables => &self.callables,
-            Kind::Types => &self.types,
-            Kind::Fields => &self.fields,
-        }
+        self.leave_kind(Kind::Values);
+        self.leave_kind(Kind::Callables);
+        self.leave_kind(Kind::Types);
+        self.leave_kind(Kind::Fields);
     }
 
     /// Whether a name that is declared now is declared again, given whether it comes from elsewhere too.
     pub fn is_again(&self, foreign: bool, role: Role, kind: Kind, name: &[u8]) -> bool
-        ensures { result ≡ spec.is_again_in foreign (spec.of_kind kind self.now) role name.now }
+        ensures { result ≡ spec.is_again_among foreign self.now role kind name.now }
     {
-        self.of_kind(kind).is_again(foreign, role, name)
+        match self.by_kind.get(number_of(kind)) {
+            None => foreign,
+            Some(names) => names.is_again(foreign, role, name),
+        }
     }
 }
