@@ -1,0 +1,10 @@
+use Rattle.std.proofs.Common.{◌≡◌, ◌++◌, take}
+use Rattle.std.specs.List.{flat_map}
+use Rattle.au_formed.specs.Naming.{case_names, holder_in}
+use Rattle.au_mentions.specs.Said.{cases_said}
+use Rattle.au_written_types.specs.Views.{sense_in}
+use Rattle.au_formed.proofs.naming.push_cases.Given as goal
+
+-- what the cases name that are visited
+abbrev pub invariant-loop-one : goal.invariant-loop-one
+invariant-loop-one l = l.list.items ≡ l.fn.list.items ++ flat_map (case_names (sense_in l.scope) (holder_in l.scope.heads.now)) (cases_said (take l.one-index l.one-items))

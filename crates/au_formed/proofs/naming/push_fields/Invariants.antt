@@ -1,0 +1,9 @@
+use Rattle.std.proofs.Common.{◌≡◌, ◌++◌, take}
+use Rattle.au_formed.specs.Naming.{fields_name, holder_in}
+use Rattle.au_mentions.specs.Said.{fields_said}
+use Rattle.au_written_types.specs.Views.{sense_in}
+use Rattle.au_formed.proofs.naming.push_fields.Given as goal
+
+-- what the fields name that are visited
+abbrev pub invariant-loop-one : goal.invariant-loop-one
+invariant-loop-one l = l.list.items ≡ l.fn.list.items ++ fields_name (sense_in l.scope) (holder_in l.scope.heads.now) (fields_said (take l.one-index l.one-items))

@@ -1,0 +1,10 @@
+use Rattle.std.proofs.Common.{◌≡◌, ◌++◌, take}
+use Rattle.std.specs.List.{flat_map}
+use Rattle.au_formed.specs.Said.{writings_said}
+use Rattle.au_formed.specs.Writings.{case_writings}
+use Rattle.au_mentions.specs.Said.{cases_said}
+use Rattle.au_formed.proofs.pushing.push_cases.Given as goal
+
+-- what the items say that are visited
+abbrev pub invariant-loop-one : goal.invariant-loop-one
+invariant-loop-one l = writings_said l.list.items ≡ writings_said l.fn.list.items ++ flat_map case_writings (cases_said (take l.one-index l.one-items))

@@ -1,0 +1,9 @@
+use Rattle.std.proofs.Common.{◌≡◌, ◌++◌, take}
+use Rattle.au_formed.specs.Said.{writings_said}
+use Rattle.au_formed.specs.Writings.{class_writings}
+use Rattle.au_mentions.specs.Said.{names_said}
+use Rattle.au_formed.proofs.pushing.push_classes.Given as goal
+
+-- what the items say that are visited
+abbrev pub invariant-loop-one : goal.invariant-loop-one
+invariant-loop-one l = writings_said l.list.items ≡ writings_said l.fn.list.items ++ class_writings (names_said (take l.one-index l.one-items))

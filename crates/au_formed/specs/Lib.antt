@@ -1,0 +1,10 @@
+pub mod Text
+pub mod Writings
+pub mod Malformed
+pub mod Fields
+pub mod Forms
+pub mod Good
+pub mod Naming
+pub mod Infinite
+pub mod Said
+pub mod Graphs

@@ -1,0 +1,3 @@
+pub mod DeclFaults
+pub mod Good
+pub mod Tests
