@@ -159,7 +159,7 @@ module _ {A : Type 0} (key_of : A → Option Bytes) (items : List A) (x : A) (ta
 
 module _ {A B C : Type 0} (p : B → C) (v : A → B) where
   -- what is seen so far, and one more
-  seen_more : (xs : List A) (i : ℕ) (x : A) → i < length xs → x ≡ get_or xs i x → map p (map v (take (i + 1) xs)) ≡ map p (map v (take i xs)) ++ p (v x) ∷ []
+  pub seen_more : (xs : List A) (i : ℕ) (x : A) → i < length xs → x ≡ get_or xs i x → map p (map v (take (i + 1) xs)) ≡ map p (map v (take i xs)) ++ p (v x) ∷ []
   seen_more xs i x h here =
       ap (λ r. map p (map v r)) (take_more xs i x h)
       ∙ ap (λ y. map p (map v (take i xs ++ y ∷ []))) (sym here)
