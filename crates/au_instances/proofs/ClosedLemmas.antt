@@ -48,6 +48,26 @@ use Rattle.au_instances.proofs.RowLemmas.{becomes_found}
 use Rattle.au_instances.proofs.TableLemmas.{row_gave, row_there, Contains-cases, Contains-first, Contains-rest}
 use Rattle.au_matching.proofs.SubstitutedLemmas.{untouched}
 
+-- each of a list passes a test that all pass
+each_passes : (test : DeclAt → Bool) (classes : List DeclAt) (class : DeclAt) → Contains classes class → list_all test classes ≡ true → test class ≡ true
+each_passes test [] class c all = absurd (nothing c)
+  where
+    nothing : Contains [] class → ⊥
+    nothing h = omega arith
+each_passes test (one ∷ rest) class c all =
+    let both = and_parts (test one) (list_all test rest) all in
+    by both.0 (λ h. each_passes test rest class h both.1) (Contains-cases one rest class c)
+  where
+    by : test one ≡ true → (Contains rest class → test class ≡ true) → (one ≡ class) ⊎ Contains rest class → test class ≡ true
+    by mine others (inl is) = subst (λ k. test k ≡ true) is mine
+    by mine others (inr h) = others h
+
+-- all of a list pass a test that each passes
+all_pass : (test : DeclAt → Bool) (classes : List DeclAt) → ((class : DeclAt) → Contains classes class → test class ≡ true) → list_all test classes ≡ true
+all_pass test [] each = refl
+all_pass test (one ∷ rest) each =
+    and_from (test one) (list_all test rest) (each one (Contains-first one rest)) (all_pass test rest (λ class h. each class (Contains-rest one rest class h)))
+
 -- ---- what closes
 
 map_gave : {A B : Type 0} (f : A → B) (o : Option A) (y : B) → option_map f o ≡ Some y → (x : A) × (o ≡ Some x) × (f x ≡ y)
@@ -189,40 +209,25 @@ module _ (rows : List Row) (heads : List (DeclAt × Head)) where
     of_class : (name : Bytes) (wanted : DeclAt) (one : ClosedType) → constrains generics name wanted ≡ true → list_all (has_instance rows heads one) (unwrap_or (classes_of generics name) []) ≡ true → has_instance rows heads one wanted ≡ true
     of_class name wanted one c all = by (classes_of generics name) c all
       where
-        from : (classes : List DeclAt) → Contains classes wanted → list_all (has_instance rows heads one) classes ≡ true → has_instance rows heads one wanted ≡ true
-        from [] h all = absurd (nothing h)
-          where
-            nothing : Contains [] wanted → ⊥
-            nothing h = omega arith
-        from (class ∷ rest) h all = at (Contains-cases class rest wanted h)
-          where
-            both : (has_instance rows heads one class ≡ true) × (list_all (has_instance rows heads one) rest ≡ true)
-            both = and_parts (has_instance rows heads one class) (list_all (has_instance rows heads one) rest) all
-
-            at : (class ≡ wanted) ⊎ Contains rest wanted → has_instance rows heads one wanted ≡ true
-            at (inl is) = subst (λ k. has_instance rows heads one k ≡ true) is both.0
-            at (inr h) = from rest h both.1
-
         by : (o : Option (List DeclAt)) → is_among wanted o ≡ true → list_all (has_instance rows heads one) (unwrap_or o []) ≡ true → has_instance rows heads one wanted ≡ true
         by None c all = absurd cc
-        by (Some classes) c all = from classes (in_classes wanted classes c) all
+        by (Some classes) c all = each_passes (has_instance rows heads one) classes wanted (in_classes wanted classes c) all
 
     filled_hold : (names : Arguments) (list : ClosedTypes) (name : Bytes) (wanted : DeclAt) (value : Meaning) (part : ClosedType) → AllGiven list
         → all_closed_stand heads generics (types_in names) (parts_of rows heads list) ≡ true
         → constrains generics name wanted ≡ true → value_of name (bound_to names (filled names list)) ≡ Some (of_type value) → closed value ≡ Some part → ClosedHolds rows heads wanted part
     filled_hold no_arguments list name wanted value part known stand c v closes = absurd cc
     filled_hold (arguments (of_type t) names) no_types name wanted value part known stand c v closes = absurd cc
-    filled_hold (arguments (of_type t) names) (types one rest) name wanted value part known stand c v closes = by (type_name t) both.0 v
+    filled_hold (arguments (of_type t) names) (types one rest) name wanted value part known stand c v closes =
+        let both = and_parts (closed_stands heads generics (type_name t) (one, has_instance rows heads one)) (all_closed_stand heads generics (types_in names) (parts_of rows heads rest)) stand in
+        by (type_name t) (λ v. filled_hold names rest name wanted value part known.1 both.1 c v closes) both.0 v
       where
-        both : (closed_stands heads generics (type_name t) (one, has_instance rows heads one) ≡ true) × (all_closed_stand heads generics (types_in names) (parts_of rows heads rest) ≡ true)
-        both = and_parts (closed_stands heads generics (type_name t) (one, has_instance rows heads one)) (all_closed_stand heads generics (types_in names) (parts_of rows heads rest)) stand
-
         others : Bindings
         others = bound_to names (filled names rest)
 
-        by : (o : Option Bytes) → closed_stands heads generics o (one, has_instance rows heads one) ≡ true → value_of name (pair_for o (of_type (opened one)) others) ≡ Some (of_type value) → ClosedHolds rows heads wanted part
-        by None stands v = absurd cc
-        by (Some known_name) stands v = at (bytes_eq name known_name) refl v
+        by : (o : Option Bytes) → (value_of name others ≡ Some (of_type value) → ClosedHolds rows heads wanted part) → closed_stands heads generics o (one, has_instance rows heads one) ≡ true → value_of name (pair_for o (of_type (opened one)) others) ≡ Some (of_type value) → ClosedHolds rows heads wanted part
+        by None later stands v = absurd cc
+        by (Some known_name) later stands v = at (bytes_eq name known_name) refl v
           where
             mine : list_all (has_instance rows heads one) (unwrap_or (classes_of generics known_name) []) ≡ true
             mine = (and_parts (closed_taken heads (universe_in (parameters generics) known_name) one) (list_all (has_instance rows heads one) (unwrap_or (classes_of generics known_name) [])) stands).1
@@ -234,19 +239,19 @@ module _ (rows : List Row) (heads : List (DeclAt × Head)) where
                 let part_is : one ≡ part = same_Some one part (sym (opened_closes one) ∙ ap closed value_is ∙ closes) in
                 subst (ClosedHolds rows heads wanted) part_is
                 (known.0 wanted (of_class known_name wanted one (subst (λ n. constrains generics n wanted ≡ true) same_name c) mine))
-            at false is v = filled_hold names rest name wanted value part known.1 both.1 c v closes
-    filled_hold (arguments (in_region region) names) list name wanted value part known stand c v closes = by (region_name region) v
+            at false is v = later v
+    filled_hold (arguments (in_region region) names) list name wanted value part known stand c v closes = by (region_name region) (λ v. filled_hold names list name wanted value part known stand c v closes) v
       where
         others : Bindings
         others = bound_to names (filled names list)
 
-        by : (o : Option Bytes) → value_of name (pair_for o (in_region Static) others) ≡ Some (of_type value) → ClosedHolds rows heads wanted part
-        by None v = filled_hold names list name wanted value part known stand c v closes
-        by (Some known_name) v = at (bytes_eq name known_name) v
+        by : (o : Option Bytes) → (value_of name others ≡ Some (of_type value) → ClosedHolds rows heads wanted part) → value_of name (pair_for o (in_region Static) others) ≡ Some (of_type value) → ClosedHolds rows heads wanted part
+        by None later v = later v
+        by (Some known_name) later v = at (bytes_eq name known_name) v
           where
             at : (b : Bool) → cond b (Some (in_region Static)) (value_of name others) ≡ Some (of_type value) → ClosedHolds rows heads wanted part
             at true v = absurd cc
-            at false v = filled_hold names list name wanted value part known stand c v closes
+            at false v = later v
 
     -- ---- where a substitution that fits makes the arguments close to closed types
 
@@ -257,16 +262,9 @@ module _ (rows : List Row) (heads : List (DeclAt × Head)) where
           → list_all (has_instance rows heads one) (unwrap_or (classes_of generics name) []) ≡ true
       all_held name value one v closes known = by (classes_of generics name) refl
         where
-          each : (classes some : List DeclAt) → classes_of generics name ≡ Some classes → ((class : DeclAt) → Contains some class → Contains classes class) → list_all (has_instance rows heads one) some ≡ true
-          each classes [] is within = refl
-          each classes (class ∷ rest) is within =
-              and_from (has_instance rows heads one class) (list_all (has_instance rows heads one) rest)
-              (known class (held name class value one (ap (is_among class) is ∙ class_among class classes (within class (Contains-first class rest))) v closes))
-              (each classes rest is (λ other h. within other (Contains-rest class rest other h)))
-
           by : (o : Option (List DeclAt)) → classes_of generics name ≡ o → list_all (has_instance rows heads one) (unwrap_or o []) ≡ true
           by None is = refl
-          by (Some classes) is = each classes classes is (λ class h. h)
+          by (Some classes) is = all_pass (has_instance rows heads one) classes (λ class h. known class (held name class value one (ap (is_among class) is ∙ class_among class classes h) v closes))
 
       type_stands_so : (t : Meaning) (one : ClosedType) → is_one_of (parameters generics) (type_name t) (of_type t) ≡ true → EachNameOf (GivesType s) (GivesRegion s) (of_type t) → closed (substituted s t) ≡ Some one
           → ((class : DeclAt) → ClosedHolds rows heads class one → has_instance rows heads one class ≡ true) → closed_stands heads generics (type_name t) (one, has_instance rows heads one) ≡ true

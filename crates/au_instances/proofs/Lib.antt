@@ -5,3 +5,4 @@ pub mod BecomingLemmas
 pub mod RowLemmas
 pub mod PairLemmas
 pub mod ClosedLemmas
+pub mod StandingLemmas

@@ -1,6 +1,6 @@
 //! Which instance a class has at a type.
 
-ghost use Rattle.std.specs.Prelude.{◌≡◌, Contains, IfOk, IfSome, Some, option_copied};
+ghost use Rattle.std.specs.Prelude.{◌≡◌, ◌↔◌, IfOk, IfSome, None, Some, option_copied};
 ghost use Rattle.std.specs.Option.{option_map};
 ghost use Rattle.au_types.specs.Views.{meaning};
 ghost use Rattle.au_universes.specs.Forming.{StandsOver};
@@ -94,7 +94,7 @@ impl Instances {
         requires { StandsOver heads.now scope.now (meaning of.now) }
         ensures first { IfOk result (λ found. option_map pairs.told found
             ≡ pairs.lacking self.now heads.now scope.now known.now class (meaning of.now)) }
-        ensures holds { IfOk result (λ found. found ≡ None ↔ Holds self.now heads.now scope.now known.now class (meaning of.now)) }
+        ensures holds { IfOk result (λ found. (found ≡ None) ↔ Holds self.now heads.now scope.now known.now class (meaning of.now)) }
     {
         let sight = Sight {
             instances: self,
