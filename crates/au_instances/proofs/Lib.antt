@@ -6,3 +6,5 @@ pub mod RowLemmas
 pub mod PairLemmas
 pub mod ClosedLemmas
 pub mod StandingLemmas
+pub mod WalkLemmas
+pub mod ClosesLemmas
