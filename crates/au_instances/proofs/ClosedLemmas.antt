@@ -1,5 +1,11 @@
 -- The row that is found for a class at a closed type is the one that gives the instance there.
-use Rattle.std.proofs.Common.{◌≡◌, ◌⊎◌, ℕ, ◌&&◌, ◌||◌, Bool, true, false, cond, not, List, [], ◌∷◌, ◌++◌, Option, None, Some, Contains, refl, sym, ap, subst, ◌∙◌, inl, inr, true≢false, arith}
+use Rattle.std.proofs.Common.{◌≡◌, ◌⊎◌, ℕ, ◌&&◌, ◌||◌, Bool, true, false, cond, not, List, [], ◌∷◌, ◌++◌, Option, None, Some, Contains, refl, sym, ap, subst, ◌∙◌, inl, inr, true≢false, arith, Vec, length}
+use lib.Dec.{eqb}
+use Rattle.std.specs.Global.{Global}
+use Rattle.std.proofs.lemmas.Bool.{ne_eqb}
+use Rattle.au_closed_types.specs.declared.types.Closed.{Closed, Unit as Unit', Bool as Bool', Int, Text, Named as Named-of, Named', Read', Write'}
+use Rattle.au_closed_types.specs.declared.types.Closed.TheBlock.{backs-Closed, shown-the_row-Closed-0}
+use Rattle.au_closed_types.specs.Views.{closed_meaning}
 use Rattle.std.specs.Prelude.{IsTrue, if◌then◌else◌, is_some, unwrap_or}
 use Rattle.std.specs.List.{list_all, list_any}
 use Rattle.std.specs.Option.{option_map}
@@ -412,7 +418,7 @@ module _ (rows : List Row) (heads : List (DeclAt × Head)) where
   -- ---- the row that gives the instance at a closed type
 
   -- by cases on the type it is the row of its constructor, if that gives the instance
-  closed_row_is : (t : ClosedType) (class : DeclAt) → closed_row rows heads t class ≡ if_gives heads t (parts_in rows heads t) (row_with rows class (closed_constructor t))
+  pub closed_row_is : (t : ClosedType) (class : DeclAt) → closed_row rows heads t class ≡ if_gives heads t (parts_in rows heads t) (row_with rows class (closed_constructor t))
   closed_row_is unit class = refl
   closed_row_is truth class = refl
   closed_row_is (integer kind) class = refl
@@ -421,7 +427,7 @@ module _ (rows : List Row) (heads : List (DeclAt × Head)) where
   closed_row_is (reads to) class = refl
   closed_row_is (writes to) class = refl
 
-  if_gives_gave : (t : ClosedType) (parts : List Part) (o : Option Row) (row : Row) → if_gives heads t parts o ≡ Some row → (o ≡ Some row) × (gives heads row.generics row.head t parts ≡ true)
+  pub if_gives_gave : (t : ClosedType) (parts : List Part) (o : Option Row) (row : Row) → if_gives heads t parts o ≡ Some row → (o ≡ Some row) × (gives heads row.generics row.head t parts ≡ true)
   if_gives_gave t parts None row e = absurd cc
   if_gives_gave t parts (Some other) row e = by (gives heads other.generics other.head t parts) refl e
     where
@@ -498,3 +504,20 @@ module _ (rows : List Row) (heads : List (DeclAt × Head)) where
 
     pub closed_row_there : (class : DeclAt) (t : ClosedType) (row : Row) → ClosedInstance rows heads class t row → closed_row rows heads t class ≡ Some row
     closed_row_there class t row instance = instance_row class t row (all_found t) instance
+
+-- ---- closed types that aren't declared ones
+
+module _ (rows : List Row) (heads : List (DeclAt × Head)) where
+  pub no_parts : (of : Closed) → ((x : DeclAt) (xs : Vec Closed Global) → of ≡ Named-of x xs → ⊥) → parts_in rows heads (closed_meaning of) ≡ []
+  unfolding closed_meaning
+  no_parts (Named' x shape row) differs = absurd (differs x (shown-the_row-Closed-0 shape row) (sym (backs-Closed (Named' x shape row))))
+  no_parts of differs = refl
+
+-- without arguments a head over type parameters becomes a type exactly where it has no types among its own
+pub gives_alone : (heads : List (DeclAt × Head)) (generics : List Bounded) (head : Meaning) (t : ClosedType) (parts : List Part) → (length generics ≡ 0 → ⊥) → parts ≡ [] → gives heads generics head t parts ≡ eqb (length (types_in (arguments_of head))) 0
+gives_alone heads [] head t parts other none = absurd (other refl)
+gives_alone heads (first ∷ others) head t parts other none = ap (gives heads (first ∷ others) head t) none ∙ by (types_in (arguments_of head))
+  where
+    by : (types : List Meaning) → all_closed_stand heads (first ∷ others) types [] ≡ eqb (length types) 0
+    by [] = refl
+    by (one ∷ rest) = sym (ne_eqb (length (one ∷ rest)) 0 (λ e. absurd (omega arith)))

@@ -8,3 +8,5 @@ pub mod ClosedLemmas
 pub mod StandingLemmas
 pub mod WalkLemmas
 pub mod ClosesLemmas
+pub mod KeyLemmas
+pub mod LawLemmas
