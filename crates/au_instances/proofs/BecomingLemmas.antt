@@ -90,15 +90,14 @@ gives_past s name value (arguments known names) (arguments one rest) other gives
 pub bound_gives : (names args : Arguments) → are_distinct names ≡ true → Gives (bound_to names args) names args
 bound_gives no_arguments args distinct = tt
 bound_gives (arguments name names) no_arguments distinct = tt
-bound_gives (arguments name names) (arguments one rest) distinct = by (name_of name) both.0
+bound_gives (arguments name names) (arguments one rest) distinct =
+    let both = and_parts (not (is_again (name_of name) names)) (are_distinct names) distinct in
+    by (name_of name) both.0 (bound_gives names rest both.1)
   where
-    both : (not (is_again (name_of name) names) ≡ true) × (are_distinct names ≡ true)
-    both = and_parts (not (is_again (name_of name) names)) (are_distinct names) distinct
-
-    by : (o : Option Bytes) → not (is_again o names) ≡ true → GivesOne (pair_for o one (bound_to names rest)) o one × Gives (pair_for o one (bound_to names rest)) names rest
-    by None again = (tt, bound_gives names rest both.1)
-    by (Some known) again =
-        (ap (λ b. cond b (Some one) (value_of known (bound_to names rest))) (name_self known), gives_past (bound_to names rest) known one names rest (not-true (stands_in known names) again) (bound_gives names rest both.1))
+    by : (o : Option Bytes) → not (is_again o names) ≡ true → Gives (bound_to names rest) names rest → GivesOne (pair_for o one (bound_to names rest)) o one × Gives (pair_for o one (bound_to names rest)) names rest
+    by None again others = (tt, others)
+    by (Some known) again others =
+        (ap (λ b. cond b (Some one) (value_of known (bound_to names rest))) (name_self known), gives_past (bound_to names rest) known one names rest (not-true (stands_in known names) again) others)
 
 -- ---- where arguments fit, a substitution that gives each name its argument fits and makes the one of the other
 
@@ -148,26 +147,25 @@ module _ (heads : List (DeclAt × Head)) (scope : List Parameter) where
     found_value : (names args : Arguments) (name : Bytes) → stands_in name names ≡ true → all_stand_for heads scope params names args ≡ true → Gives s names args → (value : Argument) × (value_of name s ≡ Some value) × (taken_by heads scope (universe_in params name) value ≡ true)
     found_value no_arguments args name there stand gives = absurd cc
     found_value (arguments known names) no_arguments name there stand gives = absurd cc
-    found_value (arguments known names) (arguments one rest) name there stand gives = by (or_cases (is_called name (name_of known)) (stands_in name names) there)
+    found_value (arguments known names) (arguments one rest) name there stand gives =
+        let fit = and_parts (stands_for heads scope params (name_of known) one) (all_stand_for heads scope params names rest) stand in
+        by fit.0 (λ h. found_value names rest name h fit.1 gives.1) (or_cases (is_called name (name_of known)) (stands_in name names) there)
       where
-        fit : (stands_for heads scope params (name_of known) one ≡ true) × (all_stand_for heads scope params names rest ≡ true)
-        fit = and_parts (stands_for heads scope params (name_of known) one) (all_stand_for heads scope params names rest) stand
-
-        by : (is_called name (name_of known) ≡ true) ⊎ (stands_in name names ≡ true) → (value : Argument) × (value_of name s ≡ Some value) × (taken_by heads scope (universe_in params name) value ≡ true)
-        by (inl h) = found_here (name_of known) one name h fit.0 gives.0
-        by (inr h) = found_value names rest name h fit.1 gives.1
+        by : stands_for heads scope params (name_of known) one ≡ true → (stands_in name names ≡ true → (value : Argument) × (value_of name s ≡ Some value) × (taken_by heads scope (universe_in params name) value ≡ true))
+            → (is_called name (name_of known) ≡ true) ⊎ (stands_in name names ≡ true) → (value : Argument) × (value_of name s ≡ Some value) × (taken_by heads scope (universe_in params name) value ≡ true)
+        by fits others (inl h) = found_here (name_of known) one name h fits gives.0
+        by fits others (inr h) = others h
 
     -- a parameter stands among the arguments, if all do
     parameter_stands : (all : List Parameter) (args : Arguments) (name : Bytes) (universe : Universe) → all_stand all args ≡ true → universe_in all name ≡ Some universe → stands_in name args ≡ true
     parameter_stands [] args name universe stand e = absurd cc
-    parameter_stands (one ∷ rest) args name universe stand e = by (bytes_eq one.name name) refl e
+    parameter_stands (one ∷ rest) args name universe stand e =
+        let both = and_parts (stands_in one.name args) (all_stand rest args) stand in
+        by (bytes_eq one.name name) refl both.0 (parameter_stands rest args name universe both.1) e
       where
-        both : (stands_in one.name args ≡ true) × (all_stand rest args ≡ true)
-        both = and_parts (stands_in one.name args) (all_stand rest args) stand
-
-        by : (b : Bool) → bytes_eq one.name name ≡ b → cond b (Some one.universe) (universe_in rest name) ≡ Some universe → stands_in name args ≡ true
-        by true is e = subst (λ n. stands_in n args ≡ true) ((bytes_eq-Decides one.name name).0 is) both.0
-        by false is e = parameter_stands rest args name universe both.1 e
+        by : (b : Bool) → bytes_eq one.name name ≡ b → stands_in one.name args ≡ true → (universe_in rest name ≡ Some universe → stands_in name args ≡ true) → cond b (Some one.universe) (universe_in rest name) ≡ Some universe → stands_in name args ≡ true
+        by true is mine others e = subst (λ n. stands_in n args ≡ true) ((bytes_eq-Decides one.name name).0 is) mine
+        by false is mine others e = others e
 
     pub fit_back : (names args : Arguments) → all_stand params names ≡ true → all_stand_for heads scope params names args ≡ true → Gives s names args → BindingsFit heads params scope s
     fit_back names args stand all gives name universe e =

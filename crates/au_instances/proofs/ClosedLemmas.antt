@@ -1,5 +1,11 @@
 -- The row that is found for a class at a closed type is the one that gives the instance there.
-use Rattle.std.proofs.Common.{◌≡◌, ◌⊎◌, ℕ, ◌&&◌, ◌||◌, Bool, true, false, cond, not, List, [], ◌∷◌, ◌++◌, Option, None, Some, Contains, refl, sym, ap, subst, ◌∙◌, inl, inr, true≢false, arith}
+use Rattle.std.proofs.Common.{◌≡◌, ◌⊎◌, ℕ, ◌&&◌, ◌||◌, Bool, true, false, cond, not, List, [], ◌∷◌, ◌++◌, Option, None, Some, Contains, refl, sym, ap, subst, ◌∙◌, inl, inr, true≢false, arith, Vec, length}
+use lib.Dec.{eqb}
+use Rattle.std.specs.Global.{Global}
+use Rattle.std.proofs.lemmas.Bool.{ne_eqb}
+use Rattle.au_closed_types.specs.declared.types.Closed.{Closed, Unit as Unit', Bool as Bool', Int, Text, Named as Named-of, Named', Read', Write'}
+use Rattle.au_closed_types.specs.declared.types.Closed.TheBlock.{backs-Closed, shown-the_row-Closed-0}
+use Rattle.au_closed_types.specs.Views.{closed_meaning}
 use Rattle.std.specs.Prelude.{IsTrue, if◌then◌else◌, is_some, unwrap_or}
 use Rattle.std.specs.List.{list_all, list_any}
 use Rattle.std.specs.Option.{option_map}
@@ -47,6 +53,26 @@ use Rattle.au_instances.proofs.PairLemmas.{class_among, in_classes}
 use Rattle.au_instances.proofs.RowLemmas.{becomes_found}
 use Rattle.au_instances.proofs.TableLemmas.{row_gave, row_there, Contains-cases, Contains-first, Contains-rest}
 use Rattle.au_matching.proofs.SubstitutedLemmas.{untouched}
+
+-- each of a list passes a test that all pass
+each_passes : (test : DeclAt → Bool) (classes : List DeclAt) (class : DeclAt) → Contains classes class → list_all test classes ≡ true → test class ≡ true
+each_passes test [] class c all = absurd (nothing c)
+  where
+    nothing : Contains [] class → ⊥
+    nothing h = omega arith
+each_passes test (one ∷ rest) class c all =
+    let both = and_parts (test one) (list_all test rest) all in
+    by both.0 (λ h. each_passes test rest class h both.1) (Contains-cases one rest class c)
+  where
+    by : test one ≡ true → (Contains rest class → test class ≡ true) → (one ≡ class) ⊎ Contains rest class → test class ≡ true
+    by mine others (inl is) = subst (λ k. test k ≡ true) is mine
+    by mine others (inr h) = others h
+
+-- all of a list pass a test that each passes
+all_pass : (test : DeclAt → Bool) (classes : List DeclAt) → ((class : DeclAt) → Contains classes class → test class ≡ true) → list_all test classes ≡ true
+all_pass test [] each = refl
+all_pass test (one ∷ rest) each =
+    and_from (test one) (list_all test rest) (each one (Contains-first one rest)) (all_pass test rest (λ class h. each class (Contains-rest one rest class h)))
 
 -- ---- what closes
 
@@ -189,40 +215,25 @@ module _ (rows : List Row) (heads : List (DeclAt × Head)) where
     of_class : (name : Bytes) (wanted : DeclAt) (one : ClosedType) → constrains generics name wanted ≡ true → list_all (has_instance rows heads one) (unwrap_or (classes_of generics name) []) ≡ true → has_instance rows heads one wanted ≡ true
     of_class name wanted one c all = by (classes_of generics name) c all
       where
-        from : (classes : List DeclAt) → Contains classes wanted → list_all (has_instance rows heads one) classes ≡ true → has_instance rows heads one wanted ≡ true
-        from [] h all = absurd (nothing h)
-          where
-            nothing : Contains [] wanted → ⊥
-            nothing h = omega arith
-        from (class ∷ rest) h all = at (Contains-cases class rest wanted h)
-          where
-            both : (has_instance rows heads one class ≡ true) × (list_all (has_instance rows heads one) rest ≡ true)
-            both = and_parts (has_instance rows heads one class) (list_all (has_instance rows heads one) rest) all
-
-            at : (class ≡ wanted) ⊎ Contains rest wanted → has_instance rows heads one wanted ≡ true
-            at (inl is) = subst (λ k. has_instance rows heads one k ≡ true) is both.0
-            at (inr h) = from rest h both.1
-
         by : (o : Option (List DeclAt)) → is_among wanted o ≡ true → list_all (has_instance rows heads one) (unwrap_or o []) ≡ true → has_instance rows heads one wanted ≡ true
         by None c all = absurd cc
-        by (Some classes) c all = from classes (in_classes wanted classes c) all
+        by (Some classes) c all = each_passes (has_instance rows heads one) classes wanted (in_classes wanted classes c) all
 
     filled_hold : (names : Arguments) (list : ClosedTypes) (name : Bytes) (wanted : DeclAt) (value : Meaning) (part : ClosedType) → AllGiven list
         → all_closed_stand heads generics (types_in names) (parts_of rows heads list) ≡ true
         → constrains generics name wanted ≡ true → value_of name (bound_to names (filled names list)) ≡ Some (of_type value) → closed value ≡ Some part → ClosedHolds rows heads wanted part
     filled_hold no_arguments list name wanted value part known stand c v closes = absurd cc
     filled_hold (arguments (of_type t) names) no_types name wanted value part known stand c v closes = absurd cc
-    filled_hold (arguments (of_type t) names) (types one rest) name wanted value part known stand c v closes = by (type_name t) both.0 v
+    filled_hold (arguments (of_type t) names) (types one rest) name wanted value part known stand c v closes =
+        let both = and_parts (closed_stands heads generics (type_name t) (one, has_instance rows heads one)) (all_closed_stand heads generics (types_in names) (parts_of rows heads rest)) stand in
+        by (type_name t) (λ v. filled_hold names rest name wanted value part known.1 both.1 c v closes) both.0 v
       where
-        both : (closed_stands heads generics (type_name t) (one, has_instance rows heads one) ≡ true) × (all_closed_stand heads generics (types_in names) (parts_of rows heads rest) ≡ true)
-        both = and_parts (closed_stands heads generics (type_name t) (one, has_instance rows heads one)) (all_closed_stand heads generics (types_in names) (parts_of rows heads rest)) stand
-
         others : Bindings
         others = bound_to names (filled names rest)
 
-        by : (o : Option Bytes) → closed_stands heads generics o (one, has_instance rows heads one) ≡ true → value_of name (pair_for o (of_type (opened one)) others) ≡ Some (of_type value) → ClosedHolds rows heads wanted part
-        by None stands v = absurd cc
-        by (Some known_name) stands v = at (bytes_eq name known_name) refl v
+        by : (o : Option Bytes) → (value_of name others ≡ Some (of_type value) → ClosedHolds rows heads wanted part) → closed_stands heads generics o (one, has_instance rows heads one) ≡ true → value_of name (pair_for o (of_type (opened one)) others) ≡ Some (of_type value) → ClosedHolds rows heads wanted part
+        by None later stands v = absurd cc
+        by (Some known_name) later stands v = at (bytes_eq name known_name) refl v
           where
             mine : list_all (has_instance rows heads one) (unwrap_or (classes_of generics known_name) []) ≡ true
             mine = (and_parts (closed_taken heads (universe_in (parameters generics) known_name) one) (list_all (has_instance rows heads one) (unwrap_or (classes_of generics known_name) [])) stands).1
@@ -234,19 +245,19 @@ module _ (rows : List Row) (heads : List (DeclAt × Head)) where
                 let part_is : one ≡ part = same_Some one part (sym (opened_closes one) ∙ ap closed value_is ∙ closes) in
                 subst (ClosedHolds rows heads wanted) part_is
                 (known.0 wanted (of_class known_name wanted one (subst (λ n. constrains generics n wanted ≡ true) same_name c) mine))
-            at false is v = filled_hold names rest name wanted value part known.1 both.1 c v closes
-    filled_hold (arguments (in_region region) names) list name wanted value part known stand c v closes = by (region_name region) v
+            at false is v = later v
+    filled_hold (arguments (in_region region) names) list name wanted value part known stand c v closes = by (region_name region) (λ v. filled_hold names list name wanted value part known stand c v closes) v
       where
         others : Bindings
         others = bound_to names (filled names list)
 
-        by : (o : Option Bytes) → value_of name (pair_for o (in_region Static) others) ≡ Some (of_type value) → ClosedHolds rows heads wanted part
-        by None v = filled_hold names list name wanted value part known stand c v closes
-        by (Some known_name) v = at (bytes_eq name known_name) v
+        by : (o : Option Bytes) → (value_of name others ≡ Some (of_type value) → ClosedHolds rows heads wanted part) → value_of name (pair_for o (in_region Static) others) ≡ Some (of_type value) → ClosedHolds rows heads wanted part
+        by None later v = later v
+        by (Some known_name) later v = at (bytes_eq name known_name) v
           where
             at : (b : Bool) → cond b (Some (in_region Static)) (value_of name others) ≡ Some (of_type value) → ClosedHolds rows heads wanted part
             at true v = absurd cc
-            at false v = filled_hold names list name wanted value part known stand c v closes
+            at false v = later v
 
     -- ---- where a substitution that fits makes the arguments close to closed types
 
@@ -257,16 +268,9 @@ module _ (rows : List Row) (heads : List (DeclAt × Head)) where
           → list_all (has_instance rows heads one) (unwrap_or (classes_of generics name) []) ≡ true
       all_held name value one v closes known = by (classes_of generics name) refl
         where
-          each : (classes some : List DeclAt) → classes_of generics name ≡ Some classes → ((class : DeclAt) → Contains some class → Contains classes class) → list_all (has_instance rows heads one) some ≡ true
-          each classes [] is within = refl
-          each classes (class ∷ rest) is within =
-              and_from (has_instance rows heads one class) (list_all (has_instance rows heads one) rest)
-              (known class (held name class value one (ap (is_among class) is ∙ class_among class classes (within class (Contains-first class rest))) v closes))
-              (each classes rest is (λ other h. within other (Contains-rest class rest other h)))
-
           by : (o : Option (List DeclAt)) → classes_of generics name ≡ o → list_all (has_instance rows heads one) (unwrap_or o []) ≡ true
           by None is = refl
-          by (Some classes) is = each classes classes is (λ class h. h)
+          by (Some classes) is = all_pass (has_instance rows heads one) classes (λ class h. known class (held name class value one (ap (is_among class) is ∙ class_among class classes h) v closes))
 
       type_stands_so : (t : Meaning) (one : ClosedType) → is_one_of (parameters generics) (type_name t) (of_type t) ≡ true → EachNameOf (GivesType s) (GivesRegion s) (of_type t) → closed (substituted s t) ≡ Some one
           → ((class : DeclAt) → ClosedHolds rows heads class one → has_instance rows heads one class ≡ true) → closed_stands heads generics (type_name t) (one, has_instance rows heads one) ≡ true
@@ -414,7 +418,7 @@ module _ (rows : List Row) (heads : List (DeclAt × Head)) where
   -- ---- the row that gives the instance at a closed type
 
   -- by cases on the type it is the row of its constructor, if that gives the instance
-  closed_row_is : (t : ClosedType) (class : DeclAt) → closed_row rows heads t class ≡ if_gives heads t (parts_in rows heads t) (row_with rows class (closed_constructor t))
+  pub closed_row_is : (t : ClosedType) (class : DeclAt) → closed_row rows heads t class ≡ if_gives heads t (parts_in rows heads t) (row_with rows class (closed_constructor t))
   closed_row_is unit class = refl
   closed_row_is truth class = refl
   closed_row_is (integer kind) class = refl
@@ -423,7 +427,7 @@ module _ (rows : List Row) (heads : List (DeclAt × Head)) where
   closed_row_is (reads to) class = refl
   closed_row_is (writes to) class = refl
 
-  if_gives_gave : (t : ClosedType) (parts : List Part) (o : Option Row) (row : Row) → if_gives heads t parts o ≡ Some row → (o ≡ Some row) × (gives heads row.generics row.head t parts ≡ true)
+  pub if_gives_gave : (t : ClosedType) (parts : List Part) (o : Option Row) (row : Row) → if_gives heads t parts o ≡ Some row → (o ≡ Some row) × (gives heads row.generics row.head t parts ≡ true)
   if_gives_gave t parts None row e = absurd cc
   if_gives_gave t parts (Some other) row e = by (gives heads other.generics other.head t parts) refl e
     where
@@ -500,3 +504,20 @@ module _ (rows : List Row) (heads : List (DeclAt × Head)) where
 
     pub closed_row_there : (class : DeclAt) (t : ClosedType) (row : Row) → ClosedInstance rows heads class t row → closed_row rows heads t class ≡ Some row
     closed_row_there class t row instance = instance_row class t row (all_found t) instance
+
+-- ---- closed types that aren't declared ones
+
+module _ (rows : List Row) (heads : List (DeclAt × Head)) where
+  pub no_parts : (of : Closed) → ((x : DeclAt) (xs : Vec Closed Global) → of ≡ Named-of x xs → ⊥) → parts_in rows heads (closed_meaning of) ≡ []
+  unfolding closed_meaning
+  no_parts (Named' x shape row) differs = absurd (differs x (shown-the_row-Closed-0 shape row) (sym (backs-Closed (Named' x shape row))))
+  no_parts of differs = refl
+
+-- without arguments a head over type parameters becomes a type exactly where it has no types among its own
+pub gives_alone : (heads : List (DeclAt × Head)) (generics : List Bounded) (head : Meaning) (t : ClosedType) (parts : List Part) → (length generics ≡ 0 → ⊥) → parts ≡ [] → gives heads generics head t parts ≡ eqb (length (types_in (arguments_of head))) 0
+gives_alone heads [] head t parts other none = absurd (other refl)
+gives_alone heads (first ∷ others) head t parts other none = ap (gives heads (first ∷ others) head t) none ∙ by (types_in (arguments_of head))
+  where
+    by : (types : List Meaning) → all_closed_stand heads (first ∷ others) types [] ≡ eqb (length types) 0
+    by [] = refl
+    by (one ∷ rest) = sym (ne_eqb (length (one ∷ rest)) 0 (λ e. absurd (omega arith)))

@@ -5,3 +5,8 @@ pub mod BecomingLemmas
 pub mod RowLemmas
 pub mod PairLemmas
 pub mod ClosedLemmas
+pub mod StandingLemmas
+pub mod WalkLemmas
+pub mod ClosesLemmas
+pub mod KeyLemmas
+pub mod LawLemmas

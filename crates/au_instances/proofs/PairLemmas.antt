@@ -49,57 +49,56 @@ module _ {X Y : Type 0} (test : Y → Bool) (f : X → List Y) where
     where
       nothing : Contains [] x → ⊥
       nothing h = omega arith
-  each_none (y ∷ ys) x e c = by (Contains-cases y ys x c)
+  each_none (y ∷ ys) x e c =
+      let both = both_none (find test (f y)) (find test (flat_map f ys)) (sym (find-append test (f y) (flat_map f ys)) ∙ e) in
+      by both.0 (each_none ys x both.1) (Contains-cases y ys x c)
     where
-      both : (find test (f y) ≡ None) × (find test (flat_map f ys) ≡ None)
-      both = both_none (find test (f y)) (find test (flat_map f ys)) (sym (find-append test (f y) (flat_map f ys)) ∙ e)
-
-      by : (y ≡ x) ⊎ Contains ys x → find test (f x) ≡ None
-      by (inl is) = subst (λ z. find test (f z) ≡ None) is both.0
-      by (inr h) = each_none ys x both.1 h
+      by : find test (f y) ≡ None → (Contains ys x → find test (f x) ≡ None) → (y ≡ x) ⊎ Contains ys x → find test (f x) ≡ None
+      by mine others (inl is) = subst (λ z. find test (f z) ≡ None) is mine
+      by mine others (inr h) = others h
 
 -- ---- the constraints of a row
 
 pub in_classes : (class : DeclAt) (classes : List DeclAt) → list_any (same_place class) classes ≡ true → Contains classes class
 in_classes class [] e = absurd cc
-in_classes class (one ∷ rest) e = by (or_cases (same_place class one) (list_any (same_place class) rest) e)
+in_classes class (one ∷ rest) e = by (in_classes class rest) (or_cases (same_place class one) (list_any (same_place class) rest) e)
   where
-    by : (same_place class one ≡ true) ⊎ (list_any (same_place class) rest ≡ true) → Contains (one ∷ rest) class
-    by (inl h) = subst (Contains (one ∷ rest)) (sym (place_is class one h)) (Contains-first one rest)
-    by (inr h) = Contains-rest one rest class (in_classes class rest h)
+    by : (list_any (same_place class) rest ≡ true → Contains rest class) → (same_place class one ≡ true) ⊎ (list_any (same_place class) rest ≡ true) → Contains (one ∷ rest) class
+    by others (inl h) = subst (Contains (one ∷ rest)) (sym (place_is class one h)) (Contains-first one rest)
+    by others (inr h) = Contains-rest one rest class (others h)
 
 pub class_among : (class : DeclAt) (classes : List DeclAt) → Contains classes class → list_any (same_place class) classes ≡ true
 class_among class [] c = absurd (nothing c)
   where
     nothing : Contains [] class → ⊥
     nothing h = omega arith
-class_among class (one ∷ rest) c = by (Contains-cases one rest class c)
+class_among class (one ∷ rest) c = by (class_among class rest) (Contains-cases one rest class c)
   where
-    by : (one ≡ class) ⊎ Contains rest class → (same_place class one || list_any (same_place class) rest) ≡ true
-    by (inl is) = or_left (same_place class one) (list_any (same_place class) rest) (subst (λ o. same_place class o ≡ true) (sym is) (place_self class))
-    by (inr h) = or_right (same_place class one) (list_any (same_place class) rest) (class_among class rest h)
+    by : (Contains rest class → list_any (same_place class) rest ≡ true) → (one ≡ class) ⊎ Contains rest class → (same_place class one || list_any (same_place class) rest) ≡ true
+    by others (inl is) = or_left (same_place class one) (list_any (same_place class) rest) (subst (λ o. same_place class o ≡ true) (sym is) (place_self class))
+    by others (inr h) = or_right (same_place class one) (list_any (same_place class) rest) (others h)
 
 named_in : (name : Bytes) (classes : List DeclAt) (class : DeclAt) → Contains classes class → Contains (named_with name classes) (name, class)
 named_in name [] class c = absurd (nothing c)
   where
     nothing : Contains [] class → ⊥
     nothing h = omega arith
-named_in name (one ∷ rest) class c = by (Contains-cases one rest class c)
+named_in name (one ∷ rest) class c = by (named_in name rest class) (Contains-cases one rest class c)
   where
-    by : (one ≡ class) ⊎ Contains rest class → Contains ((name, one) ∷ named_with name rest) (name, class)
-    by (inl is) = subst (λ o. Contains ((name, one) ∷ named_with name rest) (name, o)) is (Contains-first (name, one) (named_with name rest))
-    by (inr h) = Contains-rest (name, one) (named_with name rest) (name, class) (named_in name rest class h)
+    by : (Contains rest class → Contains (named_with name rest) (name, class)) → (one ≡ class) ⊎ Contains rest class → Contains ((name, one) ∷ named_with name rest) (name, class)
+    by others (inl is) = subst (λ o. Contains ((name, one) ∷ named_with name rest) (name, o)) is (Contains-first (name, one) (named_with name rest))
+    by others (inr h) = Contains-rest (name, one) (named_with name rest) (name, class) (others h)
 
 named_out : (name : Bytes) (classes : List DeclAt) (pair : Bytes × DeclAt) → Contains (named_with name classes) pair → (pair.0 ≡ name) × Contains classes pair.1
 named_out name [] pair c = absurd (nothing c)
   where
     nothing : Contains [] pair → ⊥
     nothing h = omega arith
-named_out name (one ∷ rest) pair c = by (Contains-cases (name, one) (named_with name rest) pair c)
+named_out name (one ∷ rest) pair c = by (named_out name rest pair) (Contains-cases (name, one) (named_with name rest) pair c)
   where
-    by : ((name, one) ≡ pair) ⊎ Contains (named_with name rest) pair → (pair.0 ≡ name) × Contains (one ∷ rest) pair.1
-    by (inl is) = (sym (ap (λ p. p.0) is), subst (Contains (one ∷ rest)) (ap (λ p. p.1) is) (Contains-first one rest))
-    by (inr h) = let there = named_out name rest pair h in (there.0, Contains-rest one rest pair.1 there.1)
+    by : (Contains (named_with name rest) pair → (pair.0 ≡ name) × Contains rest pair.1) → ((name, one) ≡ pair) ⊎ Contains (named_with name rest) pair → (pair.0 ≡ name) × Contains (one ∷ rest) pair.1
+    by others (inl is) = (sym (ap (λ p. p.0) is), subst (Contains (one ∷ rest)) (ap (λ p. p.1) is) (Contains-first one rest))
+    by others (inr h) = let there = others h in (there.0, Contains-rest one rest pair.1 there.1)
 
 module _ (all : List Bounded) where
   -- the constraints of one of the type parameters
@@ -108,22 +107,22 @@ module _ (all : List Bounded) where
 
   constraint_in : (some : List Bounded) (name : Bytes) (classes mine : List DeclAt) (class : DeclAt) → classes_of some name ≡ Some mine → classes_of all name ≡ Some classes → Contains classes class → Contains (flat_map constraints_by some) (name, class)
   constraint_in [] name classes mine class e is c = absurd cc
-  constraint_in (one ∷ rest) name classes mine class e is c = by (bytes_eq one.parameter.name name) refl e
+  constraint_in (one ∷ rest) name classes mine class e is c = by (bytes_eq one.parameter.name name) refl (λ e. constraint_in rest name classes mine class e is c) e
     where
-      by : (b : Bool) → bytes_eq one.parameter.name name ≡ b → (if b then Some one.classes else classes_of rest name) ≡ Some mine → Contains (constraints_by one ++ flat_map constraints_by rest) (name, class)
-      by true same e =
+      by : (b : Bool) → bytes_eq one.parameter.name name ≡ b → (classes_of rest name ≡ Some mine → Contains (flat_map constraints_by rest) (name, class)) → (if b then Some one.classes else classes_of rest name) ≡ Some mine → Contains (constraints_by one ++ flat_map constraints_by rest) (name, class)
+      by true same others e =
           let named_so : one.parameter.name ≡ name = (bytes_eq-Decides one.parameter.name name).0 same in
           Contains-append_left (constraints_by one) (flat_map constraints_by rest) (name, class)
           (subst (λ n. Contains (named_with n (unwrap_or (classes_of all n) [])) (name, class)) (sym named_so)
           (subst (λ o. Contains (named_with name (unwrap_or o [])) (name, class)) (sym is) (named_in name classes class c)))
-      by false other e = Contains-append_right (constraints_by one) (flat_map constraints_by rest) (name, class) (constraint_in rest name classes mine class e is c)
+      by false other others e = Contains-append_right (constraints_by one) (flat_map constraints_by rest) (name, class) (others e)
 
   constraint_out : (some : List Bounded) (pair : Bytes × DeclAt) → Contains (flat_map constraints_by some) pair → constrains all pair.0 pair.1 ≡ true
   constraint_out [] pair c = absurd (nothing c)
     where
       nothing : Contains [] pair → ⊥
       nothing h = omega arith
-  constraint_out (one ∷ rest) pair c = by (Contains-append_cases (constraints_by one) (flat_map constraints_by rest) pair c)
+  constraint_out (one ∷ rest) pair c = by (constraint_out rest pair) (Contains-append_cases (constraints_by one) (flat_map constraints_by rest) pair c)
     where
       from : (o : Option (List DeclAt)) → Contains (unwrap_or o []) pair.1 → is_among pair.1 o ≡ true
       from None h = absurd (nothing h)
@@ -132,11 +131,11 @@ module _ (all : List Bounded) where
           nothing h = omega arith
       from (Some classes) h = class_among pair.1 classes h
 
-      by : Contains (constraints_by one) pair ⊎ Contains (flat_map constraints_by rest) pair → constrains all pair.0 pair.1 ≡ true
-      by (inl h) =
+      by : (Contains (flat_map constraints_by rest) pair → constrains all pair.0 pair.1 ≡ true) → Contains (constraints_by one) pair ⊎ Contains (flat_map constraints_by rest) pair → constrains all pair.0 pair.1 ≡ true
+      by others (inl h) =
           let there = named_out one.parameter.name (unwrap_or (classes_of all one.parameter.name) []) pair h in
           subst (λ n. constrains all n pair.1 ≡ true) (sym there.0) (from (classes_of all one.parameter.name) there.1)
-      by (inr h) = constraint_out rest pair h
+      by others (inr h) = others h
 
 -- a class constrains a name exactly where it is listed so
 pub constraint_listed : (generics : List Bounded) (name : Bytes) (class : DeclAt) → constrains generics name class ≡ true → Contains (constraints_of generics) (name, class)
@@ -152,14 +151,13 @@ listed_constrains generics name class c = constraint_out generics generics (name
 -- a name with constraints is that of a parameter, so it is among the arguments that all stand in
 pub constrained_stands : (generics : List Bounded) (args : Arguments) (name : Bytes) (class : DeclAt) → all_stand (parameters generics) args ≡ true → constrains generics name class ≡ true → stands_in name args ≡ true
 constrained_stands [] args name class stand e = absurd cc
-constrained_stands (one ∷ rest) args name class stand e = by (bytes_eq one.parameter.name name) refl e
+constrained_stands (one ∷ rest) args name class stand e =
+    let both = and_parts (stands_in one.parameter.name args) (all_stand (parameters rest) args) stand in
+    by (bytes_eq one.parameter.name name) refl both.0 (constrained_stands rest args name class both.1) e
   where
-    both : (stands_in one.parameter.name args ≡ true) × (all_stand (parameters rest) args ≡ true)
-    both = and_parts (stands_in one.parameter.name args) (all_stand (parameters rest) args) stand
-
-    by : (b : Bool) → bytes_eq one.parameter.name name ≡ b → is_among class (if b then Some one.classes else classes_of rest name) ≡ true → stands_in name args ≡ true
-    by true is e = subst (λ n. stands_in n args ≡ true) ((bytes_eq-Decides one.parameter.name name).0 is) both.0
-    by false is e = constrained_stands rest args name class both.1 e
+    by : (b : Bool) → bytes_eq one.parameter.name name ≡ b → stands_in one.parameter.name args ≡ true → (constrains rest name class ≡ true → stands_in name args ≡ true) → is_among class (if b then Some one.classes else classes_of rest name) ≡ true → stands_in name args ≡ true
+    by true is mine others e = subst (λ n. stands_in n args ≡ true) ((bytes_eq-Decides one.parameter.name name).0 is) mine
+    by false is mine others e = others e
 
 -- ---- the pairs of a class at a type
 
@@ -215,7 +213,7 @@ module _ (rows : List Row) (heads : List (DeclAt × Head)) (scope : List Paramet
         → ((value : Meaning) → value_of name s ≡ Some (of_type value) → lacking rows heads scope known wanted value ≡ None)
         → find test (part_for name names (parts_of rows heads scope (all_substituted s names)) wanted) ≡ None
     walk_none no_arguments name wanted fixed none = refl
-    walk_none (arguments one rest) name wanted fixed none = by (is_called name (name_of one)) refl
+    walk_none (arguments one rest) name wanted fixed none = by (is_called name (name_of one)) refl (walk_none rest name wanted fixed.1 none)
       where
         here : (one : Argument) → EachNameOf (GivesType s) (GivesRegion s) one → is_called name (name_of one) ≡ true → find test (part_of rows heads scope (argument_substituted s one) wanted) ≡ None
         here (of_type (parameter other)) gives called =
@@ -225,9 +223,9 @@ module _ (rows : List Row) (heads : List (DeclAt × Head)) (scope : List Paramet
         here (of_type t) gives called = absurd cc
         here (in_region region) gives called = refl
 
-        by : (b : Bool) → is_called name (name_of one) ≡ b → find test (if b then part_of rows heads scope (argument_substituted s one) wanted else part_for name rest (parts_of rows heads scope (all_substituted s rest)) wanted) ≡ None
-        by true called = here one fixed.0 called
-        by false called = walk_none rest name wanted fixed.1 none
+        by : (b : Bool) → is_called name (name_of one) ≡ b → find test (part_for name rest (parts_of rows heads scope (all_substituted s rest)) wanted) ≡ None → find test (if b then part_of rows heads scope (argument_substituted s one) wanted else part_for name rest (parts_of rows heads scope (all_substituted s rest)) wanted) ≡ None
+        by true called others = here one fixed.0 called
+        by false called others = others
 
   -- P of each type among arguments
   abbrev OfArgument : (Meaning → Type 0) → Argument → Type 0
@@ -248,7 +246,7 @@ module _ (rows : List Row) (heads : List (DeclAt × Head)) (scope : List Paramet
         → find test (part_for name names (parts_of rows heads scope (all_substituted s names)) wanted) ≡ None
         → Holds rows heads scope known wanted value
     walk_holds no_arguments name wanted value fixed met stands is none = absurd cc
-    walk_holds (arguments one rest) name wanted value fixed met stands is none = by (is_called name (name_of one)) refl stands none
+    walk_holds (arguments one rest) name wanted value fixed met stands is none = by (is_called name (name_of one)) refl (λ stands none. walk_holds rest name wanted value fixed.1 met.1 stands is none) stands none
       where
         here : (one : Argument) → EachNameOf (GivesType s) (GivesRegion s) one → OfArgument IsMet (argument_substituted s one) → is_called name (name_of one) ≡ true → find test (part_of rows heads scope (argument_substituted s one) wanted) ≡ None → Holds rows heads scope known wanted value
         here (of_type (parameter other)) gives met called none =
@@ -262,9 +260,9 @@ module _ (rows : List Row) (heads : List (DeclAt × Head)) (scope : List Paramet
             absurd cc
         here (in_region region) gives met called none = absurd cc
 
-        by : (b : Bool) → is_called name (name_of one) ≡ b → (b || stands_in name rest) ≡ true → find test (if b then part_of rows heads scope (argument_substituted s one) wanted else part_for name rest (parts_of rows heads scope (all_substituted s rest)) wanted) ≡ None → Holds rows heads scope known wanted value
-        by true called stands none = here one fixed.0 met.0 called none
-        by false called stands none = walk_holds rest name wanted value fixed.1 met.1 stands is none
+        by : (b : Bool) → is_called name (name_of one) ≡ b → (stands_in name rest ≡ true → find test (part_for name rest (parts_of rows heads scope (all_substituted s rest)) wanted) ≡ None → Holds rows heads scope known wanted value) → (b || stands_in name rest) ≡ true → find test (if b then part_of rows heads scope (argument_substituted s one) wanted else part_for name rest (parts_of rows heads scope (all_substituted s rest)) wanted) ≡ None → Holds rows heads scope known wanted value
+        by true called others stands none = here one fixed.0 met.0 called none
+        by false called others stands none = others stands none
 
   -- ---- where the class holds, nothing is lacking
 
@@ -342,7 +340,7 @@ module _ (rows : List Row) (heads : List (DeclAt × Head)) (scope : List Paramet
         by : (o : Option Row) → row_for heads scope rows class t ≡ o → Holds rows heads scope known class t
         by (Some row) e = given class t row (row_gives class t row met e none)
         by None e =
-            let first : Some (class, t) ≡ None =
+            let first : ◌≡◌ {A = Option Pair} (Some (class, t)) None =
             sym (ap (find test) (pairs_are t class) ∙ ap (λ b. cond b (Some (class, t)) (find test (below (row_for heads scope rows class t) (parts_of rows heads scope (arguments_of t))))) (tested ∙ ap is_none e)) ∙ none in
             absurd cc
 
@@ -354,7 +352,7 @@ module _ (rows : List Row) (heads : List (DeclAt × Head)) (scope : List Paramet
       none_holds text class none = met_by class text tt refl none
       none_holds (parameter name) class none = by (is_known known name class) refl none
         where
-          by : (b : Bool) → is_known known name class ≡ b → cond (not b) (Some (class, parameter name)) None ≡ None → Holds rows heads scope known class (parameter name)
+          by : (b : Bool) → is_known known name class ≡ b → cond {A = Option Pair} (not b) (Some (class, parameter name)) None ≡ None → Holds rows heads scope known class (parameter name)
           by true e none = assumed class name e
           by false e none = absurd cc
       none_holds (named at args) class none = met_by class (named at args) (all_met args) refl none

@@ -1,12 +1,17 @@
 -- The test whether the head of a row becomes a type, and the row of a class that is found by it.
-use Rattle.std.proofs.Common.{◌≡◌, ◌&&◌, Bool, true, false, cond, List, [], ◌∷◌, Option, None, Some, Contains, refl, sym, ap, subst, ◌∙◌, true≢false}
+use Rattle.std.proofs.Common.{◌≡◌, ◌&&◌, Bool, true, false, cond, List, [], ◌∷◌, Option, None, Some, Contains, refl, sym, ap, subst, ◌∙◌, true≢false, Vec}
+use Rattle.std.specs.Global.{Global}
 use Rattle.std.specs.Prelude.{IsTrue, if◌then◌else◌}
 use Rattle.std.proofs.lemmas.Bool.{and_parts, and_from}
 use Rattle.std.proofs.lemmas.Option.{same_Some}
 use Rattle.au_syntax.specs.Plain.{Bytes}
 use Rattle.au_types.specs.declared.headings.Head.{Head}
 use Rattle.au_types.specs.declared.parameters.Parameter.{Parameter}
+use Rattle.au_types.specs.declared.types.Arg.{Arg}
+use Rattle.au_types.specs.declared.types.Arg.TheBlock.{shown-the_row-Arg-0, backs-Ty}
 use Rattle.au_types.specs.declared.types.DeclAt.{DeclAt}
+use Rattle.au_types.specs.declared.types.Ty.{Ty, Unit as Unit', Bool as Bool', Int, Text, Param, Named as Named-of, Named', Read, Write}
+use Rattle.au_types.specs.Views.{meaning}
 use Rattle.au_types.specs.Rows.{same_place}
 use Rattle.au_types.specs.Same.{same}
 use Rattle.au_types.specs.Types.{Meaning, Argument, Arguments, unit, truth, integer, text, parameter, named, reads, writes}
@@ -117,3 +122,16 @@ module _ (heads : List (DeclAt × Head)) (scope : List Parameter) where
       ap (λ o. if_becomes heads scope t (row_with rows class o)) heads_t
       ∙ ap (if_becomes heads scope t) there
       ∙ ap (λ b. if b then Some row else None) passes
+
+-- ---- what the code finds of types that aren't declared ones
+
+module _ (heads : List (DeclAt × Head)) (scope params : List Parameter) where
+  pub no_head_applies : (head : Ty) (t : Meaning) → ((x : DeclAt) (xs : Vec Arg Global) → head ≡ Named-of x xs → ⊥) → applies heads scope params (meaning head) t ≡ false
+  unfolding meaning
+  no_head_applies (Named' x shape row) t differs = absurd (differs x (shown-the_row-Arg-0 shape row) (sym (backs-Ty (Named' x shape row))))
+  no_head_applies head t differs = refl
+
+  pub applies_to_none : (at : DeclAt) (names : Arguments) (of : Ty) → ((x : DeclAt) (xs : Vec Arg Global) → of ≡ Named-of x xs → ⊥) → applies heads scope params (named at names) (meaning of) ≡ false
+  unfolding meaning
+  applies_to_none at names (Named' x shape row) differs = absurd (differs x (shown-the_row-Arg-0 shape row) (sym (backs-Ty (Named' x shape row))))
+  applies_to_none at names of differs = refl

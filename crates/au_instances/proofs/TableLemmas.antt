@@ -39,23 +39,23 @@ Contains-rest x xs y c = Contains-append_right (x ∷ []) xs y c
 -- what is found is in the list and passes the test
 pub find_gave : {X : Type 0} (p : X → Bool) (xs : List X) (y : X) → find p xs ≡ Some y → Contains xs y × (p y ≡ true)
 find_gave p [] y e = absurd cc
-find_gave p (x ∷ xs) y e = by (p x) refl e
+find_gave p (x ∷ xs) y e = by (p x) refl (find_gave p xs y) e
   where
-    by : (b : Bool) → p x ≡ b → cond b (Some x) (find p xs) ≡ Some y → Contains (x ∷ xs) y × (p y ≡ true)
-    by true passes e =
+    by : (b : Bool) → p x ≡ b → (find p xs ≡ Some y → Contains xs y × (p y ≡ true)) → cond b (Some x) (find p xs) ≡ Some y → Contains (x ∷ xs) y × (p y ≡ true)
+    by true passes others e =
         let is = same_Some x y e in
         (subst (Contains (x ∷ xs)) is (Contains-first x xs), subst (λ z. p z ≡ true) is passes)
-    by false fails e = let rest = find_gave p xs y e in (Contains-rest x xs y rest.0, rest.1)
+    by false fails others e = let rest = others e in (Contains-rest x xs y rest.0, rest.1)
 
 -- where nothing is found, nothing passes
 pub find_none : {X : Type 0} (p : X → Bool) (xs : List X) (y : X) → find p xs ≡ None → Contains xs y → p y ≡ false
 find_none p [] y e (k, within, is) = absurd (omega arith)
-find_none p (x ∷ xs) y e c = by (p x) refl e (Contains-cases x xs y c)
+find_none p (x ∷ xs) y e c = by (p x) refl (find_none p xs y) e (Contains-cases x xs y c)
   where
-    by : (b : Bool) → p x ≡ b → cond b (Some x) (find p xs) ≡ None → (x ≡ y) ⊎ Contains xs y → p y ≡ false
-    by true passes e h = absurd cc
-    by false fails e (inl is) = subst (λ z. p z ≡ false) is fails
-    by false fails e (inr h) = find_none p xs y e h
+    by : (b : Bool) → p x ≡ b → (find p xs ≡ None → Contains xs y → p y ≡ false) → cond b (Some x) (find p xs) ≡ None → (x ≡ y) ⊎ Contains xs y → p y ≡ false
+    by true passes others e h = absurd cc
+    by false fails others e (inl is) = subst (λ z. p z ≡ false) is fails
+    by false fails others e (inr h) = others e h
 
 -- ---- rows
 

@@ -1,11 +1,11 @@
 //! Which types the head of a row becomes.
 
-ghost use Rattle.std.specs.Prelude.{◌≡◌};
+ghost use Rattle.std.specs.Prelude.{◌≡◌, true};
+ghost use Rattle.au_types.specs.Universes as universes;
 ghost use Rattle.au_types.specs.Views.{argument, argument_all, meaning};
-ghost use Rattle.au_generics.specs.Bounds.{parameters};
 ghost use Rattle.au_universes.specs.Forming.{ArgumentStandsOver, StandsOver, all_formed, fits_in_kind};
 ghost use Rattle.au_instances.specs.Becoming as spec;
-ghost use Rattle.au_instances.specs.Forms.{arguments_of};
+ghost use Rattle.au_instances.specs.Forms as forms;
 
 use crate::forms::name_of;
 use crate::rows::Row;
@@ -69,7 +69,7 @@ fn all_stand_for(
 /// Whether an argument may stand for another, which is a name of these parameters.
 fn stands_for(heads: &Heads, scope: &Params, params: &Params, name: &Arg, one: &Arg) -> bool
     requires { ArgumentStandsOver heads.now scope.now (argument one.now) }
-    ensures { result ≡ spec.stands_for heads.now scope.now params.now (name_of (argument name.now)) (argument one.now) }
+    ensures { result ≡ spec.stands_for heads.now scope.now params.now (forms.name_of (argument name.now)) (argument one.now) }
 {
     match name_of(name) {
         Some(name) => is_taken(heads, scope, params, name, one),
@@ -80,7 +80,7 @@ fn stands_for(heads: &Heads, scope: &Params, params: &Params, name: &Arg, one: &
 /// Whether the parameter of a name takes an argument.
 fn is_taken(heads: &Heads, scope: &Params, params: &Params, name: &Name, one: &Arg) -> bool
     requires { ArgumentStandsOver heads.now scope.now (argument one.now) }
-    ensures { result ≡ spec.taken_by heads.now scope.now (universe_in params.now name.now) (argument one.now) }
+    ensures { result ≡ spec.taken_by heads.now scope.now (universes.universe_in params.now name.now) (argument one.now) }
 {
     match universe_in(params, name) {
         Some(universe) => fits(heads, scope, universe, one),

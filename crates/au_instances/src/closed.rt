@@ -6,6 +6,7 @@ ghost use Rattle.std.specs.Option.{option_map};
 ghost use Rattle.au_types.specs.Universes as universes;
 ghost use Rattle.au_types.specs.Views.{argument_all, meaning};
 ghost use Rattle.au_closed_types.specs.Closing.{closed};
+ghost use Rattle.au_closed_types.specs.Types.{reads, writes};
 ghost use Rattle.au_closed_types.specs.Views.{closed_meaning, closed_meanings};
 ghost use Rattle.au_generics.specs.Bounds as bounds;
 ghost use Rattle.au_instances.specs.ClosedInstances as spec;

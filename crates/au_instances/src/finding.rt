@@ -1,6 +1,6 @@
 //! Which instance a class has at a type.
 
-ghost use Rattle.std.specs.Prelude.{◌≡◌, Contains, IfOk, IfSome, Some, option_copied};
+ghost use Rattle.std.specs.Prelude.{◌≡◌, ◌↔◌, IfOk, IfSome, None, Some, option_copied};
 ghost use Rattle.std.specs.Option.{option_map};
 ghost use Rattle.au_types.specs.Views.{meaning};
 ghost use Rattle.au_universes.specs.Forming.{StandsOver};
@@ -43,6 +43,7 @@ impl Instances {
             → result ≡ Some row.instance }
         ensures test { result ≡ option_map (λ row. row.instance) (tables.row_for heads.now scope.now self.now class (meaning of.now)) }
     {
+        self.is_table();
         match row_in(self, heads, scope, class, of) {
             Some(row) => Some(row.instance),
             None => None,
@@ -61,6 +62,7 @@ impl Instances {
         ensures only { (row : InstanceRow) → ClosedInstance self.now heads.now class (closed_meaning of.now) row
             → result ≡ Some row.instance }
     {
+        self.is_table();
         match closed_row(of, self, heads, class) {
             Some(row) => Some(row.instance),
             None => None,
@@ -94,8 +96,9 @@ impl Instances {
         requires { StandsOver heads.now scope.now (meaning of.now) }
         ensures first { IfOk result (λ found. option_map pairs.told found
             ≡ pairs.lacking self.now heads.now scope.now known.now class (meaning of.now)) }
-        ensures holds { IfOk result (λ found. found ≡ None ↔ Holds self.now heads.now scope.now known.now class (meaning of.now)) }
+        ensures holds { IfOk result (λ found. (found ≡ None) ↔ Holds self.now heads.now scope.now known.now class (meaning of.now)) }
     {
+        self.is_table();
         let sight = Sight {
             instances: self,
             heads,

@@ -90,6 +90,14 @@ impl Instances {
         Some(&self.rows[index])
     }
 
+    /// A law of each table: the head of each row has the form of a head, and no two rows of one class have
+    /// heads of one constructor.
+    pub fn is_table(&self)
+        ensures { IsTable self.now }
+    {
+        let _rows = self.rows();
+    }
+
     /// The rows in order.
     pub fn rows(&self) -> &[Row]
         ensures rows { rows_said result.now ≡ self.now }

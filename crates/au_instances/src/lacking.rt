@@ -7,7 +7,7 @@ ghost use Rattle.au_instances.specs.Forms as forms;
 ghost use Rattle.au_instances.specs.Instances as rule;
 ghost use Rattle.au_instances.specs.Pairs.{wanted};
 ghost use Rattle.au_instances.specs.Views.{AllStandIn, ArgumentStandsIn, StandsIn};
-ghost use Rattle.au_instances.specs.Views.{lacking_among, lacking_below, lacking_from, lacking_in, lacking_of};
+ghost use Rattle.au_instances.specs.Views.{lacking_among, lacking_at, lacking_below, lacking_from, lacking_in, lacking_of};
 
 use crate::finding::row_in;
 use crate::forms::{arguments_of, is_called};
@@ -17,6 +17,7 @@ use au_base::Name;
 use au_types::{Arg, Heads, Params, Ty};
 
 /// What is known where a constraint is asked for.
+#[derive(Clone, Copy)]
 pub(crate) struct Sight<'a> {
     /// The instances.
     pub instances: &'a Instances,
