@@ -1,0 +1,35 @@
+use Rattle.std.proofs.Common.{◌≡◌, [], ◌∷◌, ap, ◌∙◌}
+use Rattle.std.specs.Option.{option_map}
+use Rattle.std.proofs.lemmas.Result.{IfOk-weaker}
+use Rattle.au_types.specs.Views.{meaning}
+use Rattle.au_matching.specs.Substituted.{substituted}
+use Rattle.au_written_types.specs.Meant.{meant}
+use Rattle.au_generics.specs.Meanings.{parameter}
+use Rattle.au_promises.specs.Written.{parameter_of}
+use Rattle.au_instance_texts.specs.Views.{methods_of}
+use Rattle.au_class_methods.specs.Methods as spec
+use Rattle.au_class_methods.specs.Signatures.{given, head_for, wanted}
+use Rattle.au_class_methods.specs.Views.{class_said, headers_of}
+use Rattle.au_class_methods.proofs.SuitLemmas.{suits_there}
+use Rattle.au_class_methods.proofs.signatures.are_methods.Goals as goal
+
+pub are_defined-requires : goal.are_defined-requires
+are_defined-requires c =
+    suits_there (parameter (parameter_of c.args.class.now.parameter.now)) c.args.class.now.visible.now c.args.heads.now (meaning c.args.head.now) c.in_ok-parameter.parameter c.in_ok-s.s
+    c.requires c.in_ok-parameter.ensures c.in_ok-s.ensures
+
+pub returns : goal.returns
+returns c =
+    let heads = c.args.heads.now in
+    let class = class_said c.args.class.now in
+    let own = given heads c.args.names.now c.args.params.now in
+    let list = headers_of c.args.class.now.methods.now.items in
+    let methods = methods_of c.args.methods.now.items in
+    IfOk-weaker c.are_defined.result
+    (λ are. are ≡ spec.are_methods (λ t. option_map (substituted c.in_ok-s.s) (meant [] c.in_ok-parameter.parameter class.visible heads t)) own list methods)
+    (λ are. are ≡ spec.are_methods (wanted heads class (meaning c.args.head.now)) own list methods)
+    (λ are is.
+    is
+    ∙ ap (λ ps. spec.are_methods (λ t. option_map (substituted c.in_ok-s.s) (meant [] ps class.visible heads t)) own list methods) c.in_ok-parameter.ensures
+    ∙ ap (λ s. spec.are_methods (λ t. option_map (substituted s) (meant [] (class.parameter ∷ []) class.visible heads t)) own list methods) c.in_ok-s.ensures)
+    c.are_defined.ensures

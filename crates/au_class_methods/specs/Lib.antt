@@ -1,0 +1,4 @@
+pub mod Classes
+pub mod Methods
+pub mod Signatures
+pub mod Views

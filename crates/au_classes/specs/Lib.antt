@@ -1,0 +1,4 @@
+pub mod Rows
+pub mod Faults
+pub mod Good
+pub mod Views

@@ -1,0 +1,4 @@
+pub mod IndexLemmas
+pub mod KeyedLemmas
+pub mod MarkLemmas
+pub mod GatherLemmas

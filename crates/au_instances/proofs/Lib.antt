@@ -1,0 +1,12 @@
+pub mod ConstructorLemmas
+pub mod TableLemmas
+pub mod FormLemmas
+pub mod BecomingLemmas
+pub mod RowLemmas
+pub mod PairLemmas
+pub mod ClosedLemmas
+pub mod StandingLemmas
+pub mod WalkLemmas
+pub mod ClosesLemmas
+pub mod KeyLemmas
+pub mod LawLemmas

@@ -1,0 +1,13 @@
+pub mod Constructors
+pub mod Rows
+pub mod Forms
+pub mod Becoming
+pub mod Tables
+pub mod Instances
+pub mod ClosedInstances
+pub mod Pairs
+pub mod Views
+pub mod Keys
+pub mod Hashes
+pub mod Examples
+pub mod Laws
