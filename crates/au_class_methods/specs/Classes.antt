@@ -8,7 +8,7 @@ use Rattle.au_types.specs.declared.types.DeclAt.{DeclAt}
 use Rattle.au_modules.specs.Programs.{ModuleParts}
 use Rattle.au_generics.specs.Meanings.{parameter}
 use Rattle.au_promises.specs.Agreeing.{visible}
-use Rattle.au_declarations.specs.Standing.{Standing, standing_at}
+use Rattle.au_names.specs.Standing.{Standing, standing_at}
 
 -- a class: the names of types and classes that are seen where it stands, its type parameter and its methods
 pub record ClassText : Type 0 where

@@ -13,7 +13,7 @@ use Rattle.au_types.specs.Types.{Meaning}
 use Rattle.au_universes.specs.Forming.{StandsOver}
 use Rattle.au_universes.proofs.LawLemmas.{well_formed_stands}
 use Rattle.au_modules.specs.Programs.{ModuleParts}
-use Rattle.au_heads.specs.HeadsOf.{heads_of}
+use Rattle.au_names.specs.HeadsOf.{heads_of}
 use Rattle.au_promises.specs.Agreeing.{visible}
 use Rattle.au_judged_types.specs.Agreement.{found}
 use Rattle.au_judged_types.specs.Judging.{judged}

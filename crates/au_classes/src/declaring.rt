@@ -7,7 +7,7 @@ ghost use Rattle.au_classes.specs.Rows.{rows_of};
 ghost use Rattle.au_class_methods.specs.Views.{class_said};
 ghost use Rattle.au_classes.specs.Views.{known_said};
 ghost use Rattle.au_generics.specs.Bounds.{parameters};
-ghost use Rattle.au_heads.specs.HeadsOf.{heads_of};
+ghost use Rattle.au_names.specs.HeadsOf.{heads_of};
 ghost use Rattle.au_instance_texts.specs.Views.{text_said, texts_said};
 ghost use Rattle.au_instances.specs.Rows.{row_said};
 ghost use Rattle.au_modules.specs.Slots as slots;

@@ -13,7 +13,7 @@ use Rattle.au_syntax.specs.declared.parsed.Parsed.{Parsed}
 use Rattle.au_syntax.specs.Plain.{Bytes, PlainDeclaration, plain_declaration}
 use Rattle.au_syntax.specs.Views.{declaration}
 use Rattle.au_types.specs.declared.types.DeclAt.{DeclAt}
-use Rattle.au_heads.specs.Walks.{written, written_all}
+use Rattle.au_names.specs.Walks.{written, written_all}
 use Rattle.au_modules.specs.Programs.{ModuleParts}
 use Rattle.au_names.specs.Owned.{declarations_in}
 use Rattle.au_name_faults.proofs.ChoiceLemmas.{Among, among-append}

@@ -11,8 +11,8 @@ use Rattle.au_types.specs.declared.headings.Head.{Head}
 use Rattle.au_types.specs.declared.types.DeclAt.{DeclAt}
 use Rattle.au_types.specs.Rows.{head_of}
 use Rattle.au_modules.specs.Programs.{ModuleParts}
-use Rattle.au_heads.specs.HeadsOf.{heads_of}
-use Rattle.au_declarations.specs.Standing.{whole_name}
+use Rattle.au_names.specs.HeadsOf.{heads_of}
+use Rattle.au_names.specs.Standing.{whole_name}
 use Rattle.au_mentions.specs.Mentions.{type_parameters}
 use Rattle.au_written_types.specs.Senses.{Sense, declared, sense_of}
 use Rattle.au_formed.specs.declared.namings.Naming.{Naming}

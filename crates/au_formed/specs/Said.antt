@@ -6,7 +6,7 @@ use Rattle.au_syntax.specs.declared.parsed.Parsed.{Parsed}
 use Rattle.au_syntax.specs.Names.{Placed}
 use Rattle.au_syntax.specs.Plain.{Bytes, plain_name}
 use Rattle.au_syntax.specs.Views.{placed, written}
-use Rattle.au_heads.specs.Walks as walks
+use Rattle.au_names.specs.Walks as walks
 use Rattle.au_formed.specs.declared.texts.Spot as code_spot
 use Rattle.au_formed.specs.declared.writings.Writing as code
 use Rattle.au_formed.specs.declared.writings.Writing.TheVariants as case

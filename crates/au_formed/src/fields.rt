@@ -2,7 +2,7 @@
 
 ghost use Rattle.std.specs.Prelude.{◌≡◌, IfOk, not};
 ghost use Rattle.au_formed.specs.Fields as spec;
-ghost use Rattle.au_heads.specs.Walks as walks;
+ghost use Rattle.au_names.specs.Walks as walks;
 ghost use Rattle.au_judged_types.specs.Views.{judged_in};
 ghost use Rattle.au_mentions.specs.Said.{cases_said, fields_said};
 ghost use Rattle.au_syntax.specs.Views.{written};

@@ -2,7 +2,7 @@
 
 ghost use Rattle.std.specs.Prelude.{◌≡◌, IfOk};
 ghost use Rattle.au_formed.specs.Forms as spec;
-ghost use Rattle.au_heads.specs.Walks as walks;
+ghost use Rattle.au_names.specs.Walks as walks;
 ghost use Rattle.au_judged_types.specs.Views.{judged_in};
 ghost use Rattle.au_universes.specs.Universes as universes;
 ghost use Rattle.au_written_types.specs.Views.{sense_in};

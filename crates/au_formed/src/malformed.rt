@@ -4,7 +4,7 @@ ghost use Rattle.std.specs.Prelude.{◌≡◌, IfOk};
 ghost use Rattle.au_formed.specs.Malformed as spec;
 ghost use Rattle.au_formed.specs.Said.{name_said, writing_said, writings_said};
 ghost use Rattle.au_formed.specs.Writings as writing;
-ghost use Rattle.au_heads.specs.Walks as walks;
+ghost use Rattle.au_names.specs.Walks as walks;
 ghost use Rattle.au_judged_types.specs.Views.{judged_in};
 ghost use Rattle.au_syntax.specs.Plain.{Bytes};
 ghost use Rattle.au_syntax.specs.Views.{written};

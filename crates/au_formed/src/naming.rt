@@ -4,9 +4,9 @@ ghost use Rattle.std.specs.Prelude.{◌≡◌, ◌++◌, ◌||◌, OnOk, None, c
 ghost use Rattle.std.specs.List.{flat_map};
 ghost use Rattle.std.specs.Option.{option_map};
 ghost use Rattle.std.specs.Str.{bytes_eq};
-ghost use Rattle.au_declarations.specs.Standing as standing;
+ghost use Rattle.au_names.specs.Standing as standing;
 ghost use Rattle.au_formed.specs.Naming as spec;
-ghost use Rattle.au_heads.specs.Walks as walks;
+ghost use Rattle.au_names.specs.Walks as walks;
 ghost use Rattle.au_mentions.specs.Said.{case_said, cases_said, fields_said};
 ghost use Rattle.au_syntax.specs.Plain.{Bytes};
 ghost use Rattle.au_syntax.specs.Views.{written, written_all};

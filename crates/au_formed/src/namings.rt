@@ -6,7 +6,7 @@ ghost use Rattle.std.specs.Option.{option_map};
 ghost use Rattle.au_formed.specs.Naming as spec;
 ghost use Rattle.au_formed.specs.Said.{spots_said};
 ghost use Rattle.au_formed.specs.Text as texts;
-ghost use Rattle.au_heads.specs.Walks as walks;
+ghost use Rattle.au_names.specs.Walks as walks;
 ghost use Rattle.au_modules.specs.Slots as slots;
 
 use crate::naming::{push_names, type_of};

@@ -3,7 +3,7 @@
 ghost use Rattle.std.specs.Prelude.{◌≡◌, ◌+◌, ◌++◌, ◌<◌, IfOk, OnOk, Some, length, slice_get};
 ghost use Rattle.au_formed.specs.Said.{spots_said};
 ghost use Rattle.au_formed.specs.Text as spec;
-ghost use Rattle.au_heads.specs.Walks.{written_all};
+ghost use Rattle.au_names.specs.Walks.{written_all};
 ghost use Rattle.au_modules.specs.Programs.{ModuleParts};
 ghost use Rattle.au_modules.specs.Seen.{tree_seen};
 ghost use Rattle.au_modules.specs.Slots as slots;

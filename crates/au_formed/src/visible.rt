@@ -3,7 +3,7 @@
 ghost use Rattle.std.specs.Prelude.{◌≡◌, ◌<◌, length};
 ghost use Rattle.au_formed.specs.Said.{spot_said};
 ghost use Rattle.au_formed.specs.Text as texts;
-ghost use Rattle.au_heads.specs.HeadsOf as rows;
+ghost use Rattle.au_names.specs.HeadsOf as rows;
 ghost use Rattle.au_modules.specs.Slots as slots;
 
 use crate::texts::Spot;

@@ -10,7 +10,8 @@ use Rattle.au_types.specs.declared.headings.Head.{Head}
 use Rattle.au_types.specs.declared.types.DeclAt.{DeclAt}
 use Rattle.au_modules.specs.Programs.{ModuleParts}
 use Rattle.au_modules.specs.Seen.{interface_tree, body_tree}
-use Rattle.au_heads.specs.HeadsOf.{declarations_of, heads_of}
+use Rattle.au_names.specs.Exporting.{declarations_seen as declarations_of}
+use Rattle.au_names.specs.HeadsOf.{heads_of}
 use Rattle.au_promises.specs.Agreeing.{sight_of, visible}
 use Rattle.au_promises.proofs.DefinitionLemmas.{seen_left}
 use Rattle.au_instance_texts.specs.declared.instance_texts.InstanceText as code

@@ -14,7 +14,7 @@ use Rattle.au_syntax.specs.Types.{WrittenType}
 use Rattle.au_types.specs.declared.types.DeclAt.{DeclAt}
 use Rattle.au_modules.specs.Programs.{ModuleParts}
 use Rattle.au_modules.specs.Seen.{interface_tree, body_tree}
-use Rattle.au_heads.specs.HeadsOf.{declarations_of}
+use Rattle.au_names.specs.Exporting.{declarations_seen as declarations_of}
 use Rattle.au_promises.specs.Agreeing.{Sight, scope_of, sight_of}
 use Rattle.au_promises.specs.Promises.{instance_defined}
 use Rattle.au_instance_texts.specs.Indices.{first_index, is_among}

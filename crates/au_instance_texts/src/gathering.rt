@@ -2,7 +2,8 @@
 
 ghost use Rattle.std.specs.Prelude.{◌≡◌, ◌+◌, ◌<◌, ◌++◌, [], IfOk, OnOk, None, Some, length, slice_get, unwrap_or};
 ghost use Rattle.std.specs.Option.{option_map};
-ghost use Rattle.au_heads.specs.HeadsOf as heads;
+ghost use Rattle.au_names.specs.Exporting as exporting;
+ghost use Rattle.au_names.specs.HeadsOf as heads;
 ghost use Rattle.au_instance_texts.specs.Texts as spec;
 ghost use Rattle.au_instance_texts.specs.Views.{text_said, texts_said};
 ghost use Rattle.au_modules.specs.Programs.{ModuleParts};
@@ -154,7 +155,7 @@ fn push_parts<'a>(
 
 /// The declarations of a part of a module, of which there are none where it isn't there.
 fn declarations_in<'a>(part: Option<&'a Whole<Parsed>>) -> &'a [Decl<Parsed>]
-    ensures { declarations_of result.now ≡ heads.declarations_of (tree_seen part.entry) }
+    ensures { declarations_of result.now ≡ exporting.declarations_seen (tree_seen part.entry) }
 {
     match part {
         None => &[],

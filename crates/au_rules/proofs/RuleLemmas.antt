@@ -6,7 +6,7 @@ use Rattle.std.proofs.lemmas.Option.{none-some}
 use Rattle.au_syntax.specs.Plain.{PlainDeclaration}
 use Rattle.au_types.specs.declared.types.DeclAt.{DeclAt}
 use Rattle.au_modules.specs.Programs.{ModuleParts}
-use Rattle.au_heads.specs.HeadsOf.{heads_of}
+use Rattle.au_names.specs.HeadsOf.{heads_of}
 use Rattle.au_again.specs.declared.doubles.Double.{Double}
 use Rattle.au_again.specs.Doubles.{first_double}
 use Rattle.au_again.specs.Once.{AllNamesAreOnce}

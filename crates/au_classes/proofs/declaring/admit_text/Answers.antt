@@ -5,7 +5,7 @@ use Rattle.std.proofs.lemmas.Result.{IfOk-weaker}
 use Rattle.au_universes.specs.Forming.{StandsOver}
 use Rattle.au_modules.specs.Programs.{ModuleParts}
 use Rattle.au_modules.specs.Slots as slots
-use Rattle.au_heads.specs.HeadsOf.{heads_of}
+use Rattle.au_names.specs.HeadsOf.{heads_of}
 use Rattle.au_generics.specs.Bounds.{parameters}
 use Rattle.au_instance_texts.specs.Views.{text_said}
 use Rattle.au_instances.specs.Rows.{row_said}

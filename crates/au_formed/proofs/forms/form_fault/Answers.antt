@@ -1,5 +1,5 @@
 use Rattle.std.proofs.Common.{◌≡◌, subst, IfOk}
-use Rattle.au_heads.specs.Walks.{written}
+use Rattle.au_names.specs.Walks.{written}
 use Rattle.au_formed.specs.Forms.{fault_in}
 use Rattle.au_formed.proofs.forms.form_fault.Goals as goal
 

@@ -1,6 +1,6 @@
 use Rattle.std.proofs.Common.{◌++◌, sym, ap, ◌∙◌}
 use Rattle.std.specs.Prelude.{option_to_list}
-use Rattle.au_heads.specs.Walks as walks
+use Rattle.au_names.specs.Walks as walks
 use Rattle.au_modules.specs.Slots as slots
 use Rattle.au_formed.specs.Naming.{naming, naming_at}
 use Rattle.au_formed.specs.Said.{spot_said, spots_said}

@@ -1,6 +1,6 @@
 use Rattle.std.proofs.Common.{◌++◌, ◌∷◌, [], sym, ap, ◌∙◌, append_assoc, arith, take}
 use Rattle.std.proofs.lemmas.List.{append-nil, map_push}
-use Rattle.au_heads.specs.Walks.{written, written_all}
+use Rattle.au_names.specs.Walks.{written, written_all}
 use Rattle.au_formed.specs.Said.{spot_said, spots_said}
 use Rattle.au_formed.specs.Text.{spots_from}
 use Rattle.au_formed.proofs.TextLemmas.{spot, spots_more, spots_none}

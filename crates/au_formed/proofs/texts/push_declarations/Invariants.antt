@@ -1,7 +1,7 @@
 use Rattle.std.proofs.Common.{◌≡◌, ◌+◌, ◌++◌, take}
 use Rattle.au_formed.specs.Said.{spots_said}
 use Rattle.au_formed.specs.Text.{spots_from}
-use Rattle.au_heads.specs.Walks.{written_all}
+use Rattle.au_names.specs.Walks.{written_all}
 use Rattle.au_formed.proofs.texts.push_declarations.Given as goal
 
 -- those that are visited

@@ -3,7 +3,8 @@ use Rattle.std.specs.Prelude.{slice_get}
 use Rattle.std.proofs.lemmas.Result.{on_ok_weaker}
 use Rattle.au_modules.specs.Seen.{interface_tree, body_tree}
 use Rattle.au_modules.specs.Slots as slots
-use Rattle.au_heads.specs.HeadsOf as heads
+use Rattle.au_names.specs.Exporting as exporting
+use Rattle.au_names.specs.HeadsOf as heads
 use Rattle.au_promises.specs.Written.{declarations_of}
 use Rattle.au_instance_texts.specs.Views.{texts_said}
 use Rattle.au_instance_texts.proofs.GatherLemmas.{parts_are}
@@ -20,6 +21,6 @@ returns c = λ m here.
     (parts_are program place m c.names.result.now.types c.names-2.result.now.types c.heads_ref.result.now c.in_ok-place_in.field-0
     (declarations_of c.declarations_in-interface.result.now) (declarations_of c.declarations_in-body.result.now)
     (c.names.ensures.types m here) (c.names-2.ensures.types m here) c.heads_ref.ensures c.in_ok-place_in.ensures
-    (c.declarations_in-interface.ensures ∙ ap heads.declarations_of interface)
-    (c.declarations_in-body.ensures ∙ ap heads.declarations_of body)))
+    (c.declarations_in-interface.ensures ∙ ap exporting.declarations_seen interface)
+    (c.declarations_in-body.ensures ∙ ap exporting.declarations_seen body)))
     c.push_parts.ensures
