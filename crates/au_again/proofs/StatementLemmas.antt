@@ -10,6 +10,7 @@ use Rattle.au_syntax.specs.declared.parsed.Parsed.{Parsed}
 use Rattle.au_syntax.specs.declared.expressions.BorrowMode.{BorrowMode}
 use Rattle.au_syntax.specs.declared.expressions.Expr.{Expr}
 use Rattle.au_syntax.specs.declared.names.Bind.{Bind}
+use Rattle.au_syntax.specs.declared.names.BorrowNames.{BorrowNames}
 use Rattle.au_syntax.specs.declared.names.Ident.{Ident}
 use Rattle.au_syntax.specs.declared.statements.Arm.{Arm}
 use Rattle.au_syntax.specs.declared.statements.Binding.{Binding}
@@ -32,6 +33,9 @@ use Rattle.au_again.specs.Said.{arms_said, binds_said, block_said, branches_said
 
 abbrev TheIdent : Type 0
 TheIdent = Ident Parsed (List ℕ) (Unit {0}) (Unit {0})
+
+abbrev TheBorrowNames : Type 0
+TheBorrowNames = BorrowNames Parsed (List ℕ) (Unit {0}) (Unit {0})
 
 abbrev TheExpr : Type 0
 TheExpr = Box (Expr Parsed (List ℕ) (Unit {0}) (Unit {0})) Global
@@ -109,11 +113,11 @@ pub for_marks : (at : Pos) (n : TheIdent) (a z : TheExpr) (b : TheBlock)
 unfolding statement_marks
 for_marks at n a z b = said _ _ (for_says parsed at n a z b)
 
-pub borrow_marks : (at : Pos) (access : Access) (x r region : TheIdent) (b : TheBlock) (stop : Pos)
-    → statement_marks (statement_said (code.Borrow at access x r region b stop))
-    ≡ enclosed (variable r ∷ Declares Local Types region.name region.at ∷ block_marks (block_said b))
+pub borrow_marks : (at : Pos) (access : Access) (ns : TheBorrowNames) (b : TheBlock) (stop : Pos)
+    → statement_marks (statement_said (code.Borrow at access ns b stop))
+    ≡ enclosed (variable ns.reference ∷ Declares Local Types ns.region.name ns.region.at ∷ block_marks (block_said b))
 unfolding statement_marks
-borrow_marks at access x r region b stop = said _ _ (borrow_says parsed at access x r region b stop)
+borrow_marks at access ns b stop = said _ _ (borrow_says parsed at access ns b stop)
 
 pub borrow_typed_marks : (at : Pos) (r : TheIdent) (t : TypeText) (mode : BorrowMode) (x : TheIdent) (b : TheBlock) (stop : Pos)
     → statement_marks (statement_said (code.BorrowTyped at r t mode x b stop)) ≡ enclosed (variable r ∷ block_marks (block_said b))

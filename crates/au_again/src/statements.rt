@@ -63,8 +63,8 @@ fn push_statement(alloc: Global, list: &mut Vec<Mark>, stmt: &Stmt<Parsed>) -> R
             push_variable(alloc, list, name)?;
             push_closed(alloc, list, block)
         }
-        Stmt::Borrow(_, _, _, name, region, block, _) => {
-            push_reference(alloc, list, name, region)?;
+        Stmt::Borrow(_, _, names, block, _) => {
+            push_reference(alloc, list, &names.reference, &names.region)?;
             push_closed(alloc, list, block)
         }
         Stmt::BorrowTyped(_, name, _, _, _, block, _) => {

@@ -1,11 +1,14 @@
 -- Files come to something behind the steps that judge whether they are accepted exactly where they are.
-use Rattle.std.proofs.Common.{◌≡◌, ℕ, ◌+◌, Bool, true, false, List, [], ◌∷◌, ◌++◌, length, map, Option, Some, None, ap, ◌∙◌, sym, refl, subst, ◌⊎◌, inl, inr}
+use Rattle.std.proofs.Common.{◌≡◌, ℕ, ◌+◌, Bool, true, false, List, [], ◌∷◌, ◌++◌, length, map, Option, Some, None, ap, ◌∙◌, sym, refl, subst, inl, inr}
 use Rattle.std.specs.Prelude.{if◌then◌else◌}
 use Rattle.std.specs.Option.{option_map, option_or}
 use Rattle.au_base.specs.declared.limits.Limit.{Limit as Passed}
 use Rattle.au_base.specs.declared.places.Pos.{Pos}
 use Rattle.au_base.specs.Outside.{Files}
-use Rattle.au_imports.specs.declared.faults.ImportFault.{ImportFault}
+use Rattle.au_classes.specs.declared.faults.ClassFault.TheVariants as classes
+use Rattle.au_classes.specs.Faults.{instance_fault}
+use Rattle.au_classes.specs.Good.{InstancesAreGood}
+use Rattle.au_classes.proofs.GoodLemmas as standing
 use Rattle.au_imports.specs.declared.faults.ImportFault.TheVariants as imports
 use Rattle.au_imports.specs.Good.{IsGood}
 use Rattle.au_imports.specs.Importing as importing
@@ -16,7 +19,7 @@ use Rattle.au_modules.specs.declared.faults.ModuleFault.{ModuleFault}
 use Rattle.au_modules.specs.declared.faults.ModuleFault.TheVariants as modules
 use Rattle.au_modules.specs.declared.parts.Given.{Given}
 use Rattle.au_modules.specs.Programs as programs
-use Rattle.au_modules.specs.Programs.{Entry, body_fault, fault_in, first_again, first_bodiless, first_fault, given, is_again, is_shipped, lacks_body, modules_of, pragma_fault}
+use Rattle.au_modules.specs.Programs.{Entry, ModuleParts, body_fault, fault_in, first_again, first_bodiless, first_fault, given, is_again, is_shipped, lacks_body, modules_of, pragma_fault}
 use Rattle.au_modules.proofs.ProgramLemmas.{program_accepted, program_from}
 use Rattle.au_name_faults.specs.declared.faults.NameFault.{NameFault}
 use Rattle.au_name_faults.specs.declared.faults.NameFault.TheVariants as names
@@ -24,10 +27,15 @@ use Rattle.au_name_faults.specs.NameFaults.{name_fault}
 use Rattle.au_promises.specs.declared.faults.PromiseFault.{PromiseFault}
 use Rattle.au_promises.specs.declared.faults.PromiseFault.TheVariants as promises
 use Rattle.au_promises.specs.Promises.{promise_fault}
+use Rattle.au_rules.specs.declared.faults.DeclFault.TheVariants as rules
+use Rattle.au_rules.specs.DeclFaults.{decl_fault}
+use Rattle.au_rules.specs.Good.{AllDeclarationsAreGood}
+use Rattle.au_rules.proofs.GoodLemmas as declaring
 use Rattle.au_outcomes.specs.Accepted.{Accepted, AreAcceptedAs, is_behind, program_files}
 use Rattle.au_outcomes.specs.Halts.{IsUnhad}
 use Rattle.au_outcomes.specs.Outcomes.{BytesCome, Comes, IsFirst}
-use Rattle.au_outcomes.specs.Programs.{IsUnprinting, PrintingComes, PrintsSo, ReadsCome, import_outcome, judged_by, module_outcome, program_outcome}
+use Rattle.au_outcomes.specs.Programs.{IsUnprinting, PrintingComes, PrintsSo, ReadsCome}
+use Rattle.au_outcomes.specs.Programs.{class_outcome, declaration_outcome, import_outcome, judged_by, module_outcome, modules_outcome, program_outcome}
 use Rattle.au_outcomes.specs.Trees.{AreRead, FirstHalts, Halts, ReadFile}
 use Rattle.au_outcomes.specs.declared.outcomes.Outcome.{Outcome}
 use Rattle.au_outcomes.specs.declared.outcomes.Outcome.TheVariants as outcome
@@ -35,23 +43,11 @@ use Rattle.au_refusals.specs.declared.refusals.Refusal.TheVariants as refusal
 use Rattle.au_syntax.specs.Plain.{Bytes}
 use Rattle.au_outcomes.proofs.FetchLemmas.{few_had, files_few}
 use Rattle.au_outcomes.proofs.HaltLemmas.{are_read_same, first_halts_or_read}
-use Rattle.au_outcomes.proofs.JudgeLemmas.{judged_so}
+use Rattle.au_outcomes.proofs.FaultLemmas as causes
+use Rattle.au_outcomes.proofs.FaultLemmas.{judged_none, of_declarations, of_imports, of_instances, of_modules, or_first, or_second, or_some}
+use Rattle.au_outcomes.proofs.JudgeLemmas.{modules_good, program_is}
 use Rattle.au_outcomes.proofs.NameLemmas.{files_same, first_or_files, many_or_few}
 use Rattle.au_outcomes.proofs.PrintLemmas.{bytes_found}
-
--- ---- one of two, or neither
-
-or_some : {A : Type 0} (o p : Option A) (x : A) → option_or o p ≡ Some x → (o ≡ Some x) ⊎ (p ≡ Some x)
-or_some None p x h = inr h
-or_some (Some y) p x h = inl h
-
-or_first : {A : Type 0} (o p : Option A) → option_or o p ≡ None → o ≡ None
-or_first None p h = refl
-or_first (Some x) p h = cc
-
-or_second : {A : Type 0} (o p : Option A) → option_or o p ≡ None → p ≡ None
-or_second None p h = h
-or_second (Some x) p h = cc
 
 -- ---- files and modules are never refused for want of memory
 
@@ -101,37 +97,43 @@ names_unwanted (Some (names.NameTwice at name)) p h = cc
 
 -- ---- a program that comes to nothing before it is seen what it prints
 
-modules_none : (m : Option ModuleFault) → (m ≡ Some modules.Memory → ⊥) → judged_by module_outcome m ≡ None → m ≡ None
-modules_none None unwanted h = refl
-modules_none (Some (modules.TwiceGiven name)) unwanted h = cc
-modules_none (Some (modules.NoBody name)) unwanted h = cc
-modules_none (Some (modules.Unsafe at)) unwanted h = cc
-modules_none (Some (modules.Limit limit)) unwanted h = cc
-modules_none (Some modules.Memory) unwanted h = absurd (unwanted refl)
+-- all that is judged of the modules of a program
+record AreGood (parts : List ModuleParts) : Type 0 where
+  names : IsGood parts
+  declared : AllDeclarationsAreGood parts
+  instances : InstancesAreGood parts
 
-imports_none : (i : Option ImportFault) → (i ≡ Some imports.Memory → ⊥) → judged_by import_outcome i ≡ None → i ≡ None
-imports_none None unwanted h = refl
-imports_none (Some (imports.NoModule at name)) unwanted h = cc
-imports_none (Some (imports.Late at name)) unwanted h = cc
-imports_none (Some (imports.NotVisible at name)) unwanted h = cc
-imports_none (Some (imports.NameTwice at name)) unwanted h = cc
-imports_none (Some (imports.NotDefined at name)) unwanted h = cc
-imports_none (Some (imports.Differs at other name)) unwanted h = cc
-imports_none (Some imports.Memory) unwanted h = absurd (unwanted refl)
+modules_judged : (parts : List ModuleParts) → modules_outcome parts ≡ None → AreGood parts
+unfolding modules_outcome
+modules_judged parts h =
+    let behind = or_second (judged_by import_outcome (importing.refusal_of parts)) _ h in
+    record {
+      names =
+          good_from parts (judged_none import_outcome imports.Memory of_imports (importing.refusal_of parts)
+          (names_unwanted (name_fault parts) (promise_fault parts))
+          (or_first (judged_by import_outcome (importing.refusal_of parts)) _ h));
+      declared =
+          declaring.good_from parts (judged_none declaration_outcome rules.Memory of_declarations (decl_fault parts)
+          (declaring.unwanted parts) (or_first (judged_by declaration_outcome (decl_fault parts)) _ behind));
+      instances =
+          standing.good_from parts (judged_none class_outcome classes.Memory of_instances (instance_fault parts)
+          (standing.unwanted parts) (or_second (judged_by declaration_outcome (decl_fault parts)) _ behind));
+    }
 
-good_judged : (files : List Entry) → program_outcome files ≡ None → IsProgram files × IsGood (modules_of files)
+good_judged : (files : List Entry) → program_outcome files ≡ None → IsProgram files × AreGood (modules_of files)
 unfolding program_outcome
 good_judged files h =
-    let m = programs.refusal_of files in
-    let i = importing.refusal_of (modules_of files) in
-    let first : judged_by module_outcome m ≡ None = or_first (judged_by module_outcome m) (judged_by import_outcome i) h in
-    let second : judged_by import_outcome i ≡ None = or_second (judged_by module_outcome m) (judged_by import_outcome i) h in (
-      program_from files (modules_none m (modules_unwanted files) first),
-      good_from (modules_of files) (imports_none i (names_unwanted (name_fault (modules_of files)) (promise_fault (modules_of files))) second),
+    let first = or_first (judged_by module_outcome (programs.refusal_of files)) _ h in
+    let second = or_second (judged_by module_outcome (programs.refusal_of files)) _ h in (
+      program_from files (judged_none module_outcome modules.Memory of_modules (programs.refusal_of files) (modules_unwanted files) first),
+      modules_judged (modules_of files) second,
     )
 
-judged_accepted : (files : List Entry) → IsProgram files → IsGood (modules_of files) → program_outcome files ≡ None
-judged_accepted files program good = judged_so files files (modules_of files) refl refl (program_accepted files program) (good_accepted (modules_of files) good)
+judged_accepted : (files : List Entry) → IsProgram files → AreGood (modules_of files) → program_outcome files ≡ None
+judged_accepted files program good =
+    program_is files files (modules_of files) refl refl (program_accepted files program)
+    ∙ modules_good (modules_of files) (good_accepted (modules_of files) good.names)
+    (declaring.good_accepted (modules_of files) good.declared) (standing.good_accepted (modules_of files) good.instances)
 
 -- ---- what comes before, and what comes behind
 
@@ -164,32 +166,21 @@ first_unhad_before files (name ∷ names) x h = elim h [
   | inr p ↦ first_unhad_before files names x p.1
 ]
 
-found_before : (o x : Outcome) → is_behind o ≡ false → Some o ≡ Some x → is_behind x ≡ false
-found_before o x h e = let same : o ≡ x = cc in subst (λ z. is_behind z ≡ false) same h
-
-imports_before : (i : Option ImportFault) (x : Outcome) → judged_by import_outcome i ≡ Some x → is_behind x ≡ false
-imports_before (Some (imports.NoModule at name)) x e = found_before _ x refl e
-imports_before (Some (imports.Late at name)) x e = found_before _ x refl e
-imports_before (Some (imports.NotVisible at name)) x e = found_before _ x refl e
-imports_before (Some (imports.NameTwice at name)) x e = found_before _ x refl e
-imports_before (Some (imports.NotDefined at name)) x e = found_before _ x refl e
-imports_before (Some (imports.Differs at other name)) x e = found_before _ x refl e
-imports_before (Some imports.Memory) x e = cc
-imports_before None x e = cc
-
-modules_before : (m : Option ModuleFault) (x : Outcome) → judged_by module_outcome m ≡ Some x → is_behind x ≡ false
-modules_before (Some (modules.TwiceGiven name)) x e = found_before _ x refl e
-modules_before (Some (modules.NoBody name)) x e = found_before _ x refl e
-modules_before (Some (modules.Unsafe at)) x e = found_before _ x refl e
-modules_before (Some (modules.Limit limit)) x e = found_before _ x refl e
-modules_before (Some modules.Memory) x e = cc
-modules_before None x e = cc
+modules_before : (parts : List ModuleParts) (x : Outcome) → modules_outcome parts ≡ Some x → is_behind x ≡ false
+unfolding modules_outcome
+modules_before parts x h = elim (or_some (judged_by import_outcome (importing.refusal_of parts)) _ x h) [
+  | inl p ↦ causes.judged_before import_outcome imports.Memory of_imports (importing.refusal_of parts) x p
+  | inr p ↦ elim (or_some (judged_by declaration_outcome (decl_fault parts)) _ x p) [
+    | inl q ↦ causes.judged_before declaration_outcome rules.Memory of_declarations (decl_fault parts) x q
+    | inr q ↦ causes.judged_before class_outcome classes.Memory of_instances (instance_fault parts) x q
+  ]
+]
 
 judged_before : (files : List Entry) (x : Outcome) → program_outcome files ≡ Some x → is_behind x ≡ false
 unfolding program_outcome
-judged_before files x h = elim (or_some (judged_by module_outcome (programs.refusal_of files)) (judged_by import_outcome (importing.refusal_of (modules_of files))) x h) [
-  | inl p ↦ modules_before (programs.refusal_of files) x p
-  | inr p ↦ imports_before (importing.refusal_of (modules_of files)) x p
+judged_before files x h = elim (or_some (judged_by module_outcome (programs.refusal_of files)) _ x h) [
+  | inl p ↦ causes.judged_before module_outcome modules.Memory of_modules (programs.refusal_of files) x p
+  | inr p ↦ modules_before (modules_of files) x p
 ]
 
 unprinting_behind : (one : ReadFile) (x : Outcome) → IsUnprinting one x → is_behind x ≡ true
@@ -214,14 +205,14 @@ printing_behind (one ∷ next ∷ rest) x h = elim h [
 -- ---- accepted files
 
 -- nothing is refused of them before it is seen what they print
-judged_none : (files : Files) (names all : List (List ℕ)) (reads : List ReadFile) → AreAcceptedAs files names all reads → program_outcome (program_files reads) ≡ None
-judged_none files names all reads good =
-    judged_accepted (program_files reads) good.program (record { names = good.named; promises = good.kept })
+accepted_none : (files : Files) (names all : List (List ℕ)) (reads : List ReadFile) → AreAcceptedAs files names all reads → program_outcome (program_files reads) ≡ None
+accepted_none files names all reads good =
+    judged_accepted (program_files reads) good.program (record { names = record { names = good.named; promises = good.kept }; declared = good.declared; instances = good.instances })
 
 -- they come to what they print
 pub printing_comes : (files : Files) (names all : List (List ℕ)) (reads : List ReadFile) (x : Outcome) → AreAcceptedAs files names all reads → PrintingComes reads x → Comes files names x
 printing_comes files names all reads x good h =
-    let bytes : BytesCome all x = inr (reads, good.read, inr (judged_none files names all reads good, h)) in
+    let bytes : BytesCome all x = inr (reads, good.read, inr (accepted_none files names all reads good, h)) in
     inr (good.few, files_few files names all x good.had bytes (bytes_found all x bytes))
 
 none_or_some : (o : Option Outcome) (x : Outcome) → o ≡ None → o ≡ Some x → ⊥
@@ -245,7 +236,7 @@ comes_printing files names all reads x good h = elim h [
   | inr p ↦ elim (few_had files names x p.1) [
     | inl q ↦ absurd (first_or_files files names all x q good.had)
     | inr q ↦
-        bytes_printing all reads x good.read (judged_none files names all reads good)
+        bytes_printing all reads x good.read (accepted_none files names all reads good)
         (subst (λ l. BytesCome l x) (files_same files names q.0 all q.1 good.had) q.2)
   ]
 ]
@@ -280,7 +271,16 @@ behind_accepted files names x h behind = elim h [
         let good = good_judged (program_files r.0) r.1.1 in (
           q.0,
           r.0,
-          record { few = p.0; had = q.1; read = r.1.0; program = good.0; named = good.1.names; kept = good.1.promises },
+          record {
+            few = p.0;
+            had = q.1;
+            read = r.1.0;
+            program = good.0;
+            named = good.1.names.names;
+            kept = good.1.names.promises;
+            declared = good.1.declared;
+            instances = good.1.instances;
+          },
         )
   ]
 ]

@@ -1,5 +1,9 @@
 -- What the modules of a program come to.
-use Rattle.std.proofs.Common.{◌≡◌, ℕ, List, [], ◌∷◌, ◌++◌, map, Some, None, Err, ap, ◌∙◌, refl, subst, ◌⊎◌, inl, inr}
+use Rattle.std.proofs.Common.{◌≡◌, ℕ, List, [], ◌∷◌, ◌++◌, map, Option, Some, None, Err, Result, ap, ◌∙◌, sym, refl, subst, ◌⊎◌}
+use Rattle.std.specs.Option.{option_or}
+use Rattle.au_classes.specs.declared.faults.ClassFault.{ClassFault}
+use Rattle.au_classes.specs.declared.faults.ClassFault.TheVariants as classes
+use Rattle.au_classes.specs.Faults.{instance_fault}
 use Rattle.au_imports.specs.declared.faults.ImportFault.{ImportFault}
 use Rattle.au_imports.specs.declared.faults.ImportFault.TheVariants as imports
 use Rattle.au_imports.specs.Importing as importing
@@ -7,53 +11,96 @@ use Rattle.au_modules.specs.declared.faults.ModuleFault.{ModuleFault}
 use Rattle.au_modules.specs.declared.faults.ModuleFault.TheVariants as modules
 use Rattle.au_modules.specs.Programs as programs
 use Rattle.au_modules.specs.Programs.{Entry, ModuleParts, entry, modules_of}
+use Rattle.au_rules.specs.declared.faults.DeclFault.{DeclFault}
+use Rattle.au_rules.specs.declared.faults.DeclFault.TheVariants as rules
+use Rattle.au_rules.specs.DeclFaults.{decl_fault}
 use Rattle.au_shipped.specs.Shipped.{file_says, shipped_files}
 use Rattle.au_syntax.specs.declared.wholes.FileTree.{FileTree}
 use Rattle.au_syntax.specs.Plain.{PlainModule}
 use Rattle.au_outcomes.specs.Halts.{Says, known_or_memory}
-use Rattle.au_outcomes.specs.Programs.{import_outcome, module_outcome, program_outcome, shipped_entries}
+use Rattle.au_outcomes.specs.Programs.{class_outcome, declaration_outcome, import_outcome, judged_by, module_outcome}
+use Rattle.au_outcomes.specs.Programs.{modules_outcome, program_outcome, shipped_entries}
+use Rattle.au_outcomes.specs.declared.halts.Halt.{Halt}
+use Rattle.au_outcomes.specs.declared.outcomes.Outcome.{Outcome}
+use Rattle.au_outcomes.proofs.FaultLemmas.{judged_says, of_declarations, of_imports, of_instances, of_modules}
 
--- what a fault of modules comes to, the program comes to
-modules_judged : {T : Type 0} (files : List Entry) (e : ModuleFault) (G : T → Type 0) → (e ≡ modules.Memory) ⊎ (programs.refusal_of files ≡ Some e) →
-    Says {T = T} (Err (known_or_memory (module_outcome e))) G (λ x. program_outcome files ≡ Some x)
+-- ---- files
+
+-- what files come to that aren't those of modules
+files_known : (files : List Entry) (x : Outcome) → judged_by module_outcome (programs.refusal_of files) ≡ Some x → program_outcome files ≡ Some x
 unfolding program_outcome
-modules_judged files (modules.TwiceGiven name) G h = elim h [ inl p ↦ cc | inr p ↦ rw p refl ]
-modules_judged files (modules.NoBody name) G h = elim h [ inl p ↦ cc | inr p ↦ rw p refl ]
-modules_judged files (modules.Unsafe at) G h = elim h [ inl p ↦ cc | inr p ↦ rw p refl ]
-modules_judged files (modules.Limit limit) G h = elim h [ inl p ↦ cc | inr p ↦ rw p refl ]
-modules_judged files modules.Memory G h = tt
+files_known files x h = ap (λ o. option_or o (modules_outcome (modules_of files))) h
 
--- what a fault of names or promises comes to, the program comes to
-imports_judged : {T : Type 0} (files : List Entry) (e : ImportFault) (G : T → Type 0) → programs.refusal_of files ≡ None → (e ≡ imports.Memory) ⊎ (importing.refusal_of (modules_of files) ≡ Some e) →
-    Says {T = T} (Err (known_or_memory (import_outcome e))) G (λ x. program_outcome files ≡ Some x)
+-- the same of files that were given
+pub gather_halts : {T : Type 0} (given files : List Entry) (e : ModuleFault) (G : T → Type 0) → given ≡ files
+    → (e ≡ modules.Memory) ⊎ (programs.refusal_of given ≡ Some e)
+    → Says {T = T} (Err (known_or_memory (module_outcome e))) G (λ x. program_outcome files ≡ Some x)
+gather_halts given files e G same h =
+    judged_says module_outcome modules.Memory of_modules e (programs.refusal_of files) G _
+    (subst (λ l. (e ≡ modules.Memory) ⊎ (programs.refusal_of l ≡ Some e)) same h) (files_known files)
+
+-- what files come to that are those of modules
+files_judged : (files : List Entry) → programs.refusal_of files ≡ None → program_outcome files ≡ modules_outcome (modules_of files)
 unfolding program_outcome
-imports_judged files (imports.NoModule at name) G none h = elim h [ inl p ↦ cc | inr p ↦ rw (none, p) refl ]
-imports_judged files (imports.Late at name) G none h = elim h [ inl p ↦ cc | inr p ↦ rw (none, p) refl ]
-imports_judged files (imports.NotVisible at name) G none h = elim h [ inl p ↦ cc | inr p ↦ rw (none, p) refl ]
-imports_judged files (imports.NameTwice at name) G none h = elim h [ inl p ↦ cc | inr p ↦ rw (none, p) refl ]
-imports_judged files (imports.NotDefined at name) G none h = elim h [ inl p ↦ cc | inr p ↦ rw (none, p) refl ]
-imports_judged files (imports.Differs at other name) G none h = elim h [ inl p ↦ cc | inr p ↦ rw (none, p) refl ]
-imports_judged files imports.Memory G none h = tt
+files_judged files none = ap (λ r. option_or (judged_by module_outcome r) (modules_outcome (modules_of files))) none
 
--- the program is good
-judged_good : (files : List Entry) → programs.refusal_of files ≡ None → importing.refusal_of (modules_of files) ≡ None → program_outcome files ≡ None
-unfolding program_outcome
-judged_good files none good = rw (none, good) refl
+pub program_is : (given files : List Entry) (parts : List ModuleParts) → given ≡ files → parts ≡ modules_of given → programs.refusal_of given ≡ None → program_outcome files ≡ modules_outcome parts
+program_is given files parts same are none =
+    files_judged files (subst (λ l. programs.refusal_of l ≡ None) same none) ∙ ap modules_outcome (sym (are ∙ ap modules_of same))
 
--- the same of files that were given, and of their modules
-pub gather_halts : {T : Type 0} (given files : List Entry) (e : ModuleFault) (G : T → Type 0) → given ≡ files → (e ≡ modules.Memory) ⊎ (programs.refusal_of given ≡ Some e) →
-    Says {T = T} (Err (known_or_memory (module_outcome e))) G (λ x. program_outcome files ≡ Some x)
-gather_halts given files e G same h = modules_judged files e G (subst (λ l. (e ≡ modules.Memory) ⊎ (programs.refusal_of l ≡ Some e)) same h)
+pub program_says : {T : Type 0} (given files : List Entry) (parts : List ModuleParts) (r : Result T Halt) → given ≡ files → parts ≡ modules_of given → programs.refusal_of given ≡ None
+    → Says r (λ _. modules_outcome parts ≡ None) (λ x. modules_outcome parts ≡ Some x)
+    → Says r (λ _. program_outcome files ≡ None) (λ x. program_outcome files ≡ Some x)
+program_says given files parts r same are none h =
+    subst (λ o. Says r (λ _. o ≡ None) (λ x. o ≡ Some x)) (sym (program_is given files parts same are none)) h
 
-pub resolve_halts : {T : Type 0} (given files : List Entry) (parts : List ModuleParts) (e : ImportFault) (G : T → Type 0) → given ≡ files → parts ≡ modules_of given → programs.refusal_of given ≡ None →
-    (e ≡ imports.Memory) ⊎ (importing.refusal_of parts ≡ Some e) → Says {T = T} (Err (known_or_memory (import_outcome e))) G (λ x. program_outcome files ≡ Some x)
-resolve_halts given files parts e G same are none h =
-    imports_judged files e G (subst (λ l. programs.refusal_of l ≡ None) same none)
-    (subst (λ ps. (e ≡ imports.Memory) ⊎ (importing.refusal_of ps ≡ Some e)) (are ∙ ap modules_of same) h)
+-- ---- modules
 
-pub judged_so : (given files : List Entry) (parts : List ModuleParts) → given ≡ files → parts ≡ modules_of given → programs.refusal_of given ≡ None → importing.refusal_of parts ≡ None → program_outcome files ≡ None
-judged_so given files parts same are none good =
-    judged_good files (subst (λ l. programs.refusal_of l ≡ None) same none) (subst (λ ps. importing.refusal_of ps ≡ None) (are ∙ ap modules_of same) good)
+module _ (parts : List ModuleParts) where
+  -- what is judged behind names and promises
+  behind : Option Outcome
+  behind = option_or (judged_by declaration_outcome (decl_fault parts)) (judged_by class_outcome (instance_fault parts))
+
+  names_known : (x : Outcome) → judged_by import_outcome (importing.refusal_of parts) ≡ Some x → modules_outcome parts ≡ Some x
+  unfolding modules_outcome behind
+  names_known x h = ap (λ o. option_or o behind) h
+
+  names_judged : importing.refusal_of parts ≡ None → modules_outcome parts ≡ behind
+  unfolding modules_outcome behind
+  names_judged none = ap (λ r. option_or (judged_by import_outcome r) behind) none
+
+  declarations_known : (x : Outcome) → judged_by declaration_outcome (decl_fault parts) ≡ Some x → behind ≡ Some x
+  unfolding behind
+  declarations_known x h = ap (λ o. option_or o (judged_by class_outcome (instance_fault parts))) h
+
+  declarations_judged : decl_fault parts ≡ None → behind ≡ judged_by class_outcome (instance_fault parts)
+  unfolding behind
+  declarations_judged none =
+      ap (λ r. option_or (judged_by declaration_outcome r) (judged_by class_outcome (instance_fault parts))) none
+
+  pub resolve_halts : {T : Type 0} (e : ImportFault) (G : T → Type 0)
+      → (e ≡ imports.Memory) ⊎ (importing.refusal_of parts ≡ Some e)
+      → Says {T = T} (Err (known_or_memory (import_outcome e))) G (λ x. modules_outcome parts ≡ Some x)
+  resolve_halts e G h =
+      judged_says import_outcome imports.Memory of_imports e (importing.refusal_of parts) G _ h names_known
+
+  pub declarations_halt : {T : Type 0} (e : DeclFault) (G : T → Type 0) → importing.refusal_of parts ≡ None
+      → (e ≡ rules.Memory) ⊎ (decl_fault parts ≡ Some e)
+      → Says {T = T} (Err (known_or_memory (declaration_outcome e))) G (λ x. modules_outcome parts ≡ Some x)
+  declarations_halt e G good h =
+      judged_says declaration_outcome rules.Memory of_declarations e (decl_fault parts) G _ h
+      (λ x k. names_judged good ∙ declarations_known x k)
+
+  pub instances_halt : {T : Type 0} (e : ClassFault) (G : T → Type 0) → importing.refusal_of parts ≡ None → decl_fault parts ≡ None
+      → (e ≡ classes.Memory) ⊎ (instance_fault parts ≡ Some e)
+      → Says {T = T} (Err (known_or_memory (class_outcome e))) G (λ x. modules_outcome parts ≡ Some x)
+  instances_halt e G good declared h =
+      judged_says class_outcome classes.Memory of_instances e (instance_fault parts) G _ h
+      (λ x k. names_judged good ∙ declarations_judged declared ∙ k)
+
+  -- the modules are good
+  pub modules_good : importing.refusal_of parts ≡ None → decl_fault parts ≡ None → instance_fault parts ≡ None → modules_outcome parts ≡ None
+  modules_good good declared instances = names_judged good ∙ declarations_judged declared ∙ ap (judged_by class_outcome) instances
 
 -- the shipped files, and those of the user
 entries_of : (files : List FileTree) → map entry files ≡ map (λ (f : ℕ × PlainModule). record { file = f.0; tree = f.1 }) (map file_says files)

@@ -1,6 +1,7 @@
 pub mod FetchLemmas
 pub mod TreeLemmas
 pub mod HaltLemmas
+pub mod FaultLemmas
 pub mod PrintLemmas
 pub mod NameLemmas
 pub mod KeptLemmas

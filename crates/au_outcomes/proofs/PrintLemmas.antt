@@ -1,24 +1,28 @@
 -- Files that were read come to one thing.
 use Rattle.std.proofs.Common.{◌≡◌, ℕ, true, List, [], ◌∷◌, ◌++◌, Option, Some, None, ap, ◌∙◌, sym, refl, subst, ◌⊎◌, inl, inr, slice_get}
-use Rattle.std.specs.Option.{option_map, option_or}
+use Rattle.std.specs.Option.{option_map}
 use Rattle.au_base.specs.declared.places.Pos.{Pos}
 use Rattle.au_base.specs.declared.tokens.Token.{Token}
-use Rattle.au_imports.specs.declared.faults.ImportFault.{ImportFault}
+use Rattle.au_classes.specs.declared.faults.ClassFault.TheVariants as classes
+use Rattle.au_classes.specs.Faults.{instance_fault}
 use Rattle.au_imports.specs.declared.faults.ImportFault.TheVariants as imports
 use Rattle.au_imports.specs.Importing as importing
-use Rattle.au_modules.specs.declared.faults.ModuleFault.{ModuleFault}
 use Rattle.au_modules.specs.declared.faults.ModuleFault.TheVariants as modules
 use Rattle.au_modules.specs.Programs as programs
-use Rattle.au_modules.specs.Programs.{Entry, modules_of}
+use Rattle.au_modules.specs.Programs.{Entry, ModuleParts, modules_of}
 use Rattle.au_printing.specs.declared.files.First.{First}
 use Rattle.au_printing.specs.Files.{Reads, IsStrangePlace}
 use Rattle.au_printing.proofs.FileLaws.{one_file, read_or_unfinished, read_or_strange, unfinished_or_strange, one_strange}
+use Rattle.au_rules.specs.declared.faults.DeclFault.TheVariants as rules
+use Rattle.au_rules.specs.DeclFaults.{decl_fault}
 use Rattle.au_outcomes.specs.Outcomes.{BytesCome}
-use Rattle.au_outcomes.specs.Programs.{IsUnprinting, PrintingComes, PrintsSo, ReadsCome, entries, import_outcome, judged_by, module_outcome, program_outcome, shipped_entries}
+use Rattle.au_outcomes.specs.Programs.{IsUnprinting, PrintingComes, PrintsSo, ReadsCome, entries, shipped_entries}
+use Rattle.au_outcomes.specs.Programs.{class_outcome, declaration_outcome, import_outcome, judged_by, module_outcome, modules_outcome, program_outcome}
 use Rattle.au_outcomes.specs.Trees.{IsNoPrinting, ReadFile}
 use Rattle.au_outcomes.specs.declared.outcomes.Outcome.{Outcome}
 use Rattle.au_outcomes.specs.declared.outcomes.Outcome.TheVariants as outcome
 use Rattle.au_refusals.specs.declared.refusals.Refusal.TheVariants as refusal
+use Rattle.au_outcomes.proofs.FaultLemmas.{judged_found, of_declarations, of_imports, of_instances, of_modules, or_some}
 use Rattle.au_outcomes.proofs.HaltLemmas.{is_of_files, are_read_same, first_found, first_halts_or_read, first_halts_same}
 
 -- the place where a file stops is one
@@ -137,26 +141,22 @@ bytes_same all x y a b = elim a [
 
 -- ---- what comes from the bytes of files
 
-found_as : (o x : Outcome) → is_of_files o ≡ true → Some o ≡ Some x → is_of_files x ≡ true
-found_as o x h e = let same : o ≡ x = cc in subst (λ z. is_of_files z ≡ true) same h
+modules_found : (parts : List ModuleParts) (x : Outcome) → modules_outcome parts ≡ Some x → is_of_files x ≡ true
+unfolding modules_outcome
+modules_found parts x h = elim (or_some (judged_by import_outcome (importing.refusal_of parts)) _ x h) [
+  | inl p ↦ judged_found import_outcome imports.Memory of_imports (importing.refusal_of parts) x p
+  | inr p ↦ elim (or_some (judged_by declaration_outcome (decl_fault parts)) _ x p) [
+    | inl q ↦ judged_found declaration_outcome rules.Memory of_declarations (decl_fault parts) x q
+    | inr q ↦ judged_found class_outcome classes.Memory of_instances (instance_fault parts) x q
+  ]
+]
 
-import_found : (i : Option ImportFault) (x : Outcome) → judged_by import_outcome i ≡ Some x → is_of_files x ≡ true
-import_found (Some (imports.NoModule at name)) x e = found_as _ x refl e
-import_found (Some (imports.Late at name)) x e = found_as _ x refl e
-import_found (Some (imports.NotVisible at name)) x e = found_as _ x refl e
-import_found (Some (imports.NameTwice at name)) x e = found_as _ x refl e
-import_found (Some (imports.NotDefined at name)) x e = found_as _ x refl e
-import_found (Some (imports.Differs at other name)) x e = found_as _ x refl e
-import_found (Some imports.Memory) x e = cc
-import_found None x e = cc
-
-judged_found : (m : Option ModuleFault) (i : Option ImportFault) (x : Outcome) → option_or (judged_by module_outcome m) (judged_by import_outcome i) ≡ Some x → is_of_files x ≡ true
-judged_found (Some (modules.TwiceGiven name)) i x e = found_as _ x refl e
-judged_found (Some (modules.NoBody name)) i x e = found_as _ x refl e
-judged_found (Some (modules.Unsafe at)) i x e = found_as _ x refl e
-judged_found (Some (modules.Limit limit)) i x e = found_as _ x refl e
-judged_found (Some modules.Memory) i x e = import_found i x e
-judged_found None i x e = import_found i x e
+program_found : (files : List Entry) (x : Outcome) → program_outcome files ≡ Some x → is_of_files x ≡ true
+unfolding program_outcome
+program_found files x h = elim (or_some (judged_by module_outcome (programs.refusal_of files)) _ x h) [
+  | inl p ↦ judged_found module_outcome modules.Memory of_modules (programs.refusal_of files) x p
+  | inr p ↦ modules_found (modules_of files) x p
+]
 
 printing_found : (reads : List ReadFile) (x : Outcome) → PrintingComes reads x → is_of_files x ≡ true
 printing_found [] x h = absurd h
@@ -170,9 +170,8 @@ printing_found (one ∷ next ∷ rest) x h = elim h [
 ]
 
 reads_found : (reads : List ReadFile) (x : Outcome) → ReadsCome reads x → is_of_files x ≡ true
-unfolding program_outcome
 reads_found reads x h = elim h [
-  | inl p ↦ judged_found (programs.refusal_of (shipped_entries ++ entries 0 reads)) (importing.refusal_of (modules_of (shipped_entries ++ entries 0 reads))) x p
+  | inl p ↦ program_found (shipped_entries ++ entries 0 reads) x p
   | inr p ↦ printing_found reads x p.1
 ]
 

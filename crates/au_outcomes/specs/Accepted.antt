@@ -1,12 +1,15 @@
 -- Which files are accepted, as far as they are judged: those of a program that the written rules derive.
 use Rattle.std.specs.Prelude.{ℕ, ◌≤◌, ◌++◌, Bool, true, false, List, length}
 use Rattle.au_base.specs.Outside.{Files}
+use Rattle.au_classes.specs.Good.{InstancesAreGood}
 use Rattle.au_modules.specs.Accepted.{IsProgram}
 use Rattle.au_modules.specs.Programs.{Entry, ModuleParts, modules_of}
 use Rattle.au_name_faults.specs.Good.{AllNamesAreGood}
 use Rattle.au_promises.specs.Fulfilled.{AllFulfil}
 use Rattle.au_refusals.specs.declared.refusals.Refusal.{Refusal}
-use Rattle.au_refusals.specs.declared.refusals.Refusal.TheVariants.{Byte, Syntax, NotYet, WordNotYet, Pair, Import}
+use Rattle.au_refusals.specs.declared.refusals.Refusal.TheVariants.{Byte, Syntax, NotYet, WordNotYet}
+use Rattle.au_refusals.specs.declared.refusals.Refusal.TheVariants.{Pair, Import, Declaration, Instance}
+use Rattle.au_rules.specs.Good.{AllDeclarationsAreGood}
 use Rattle.au_outcomes.specs.Outcomes.{AreFiles, most_files}
 use Rattle.au_outcomes.specs.Programs.{entries, shipped_entries}
 use Rattle.au_outcomes.specs.Trees.{AreRead, ReadFile}
@@ -23,8 +26,8 @@ program_modules reads = modules_of (program_files reads)
 
 -- Files of these names are accepted, with these bytes and as these trees: they are as few as they may be. They have
 -- these bytes, and none is too large. Each is cut into tokens that are the words of its tree, within the limits. With
--- the shipped ones they are the files of a program. In its modules all names are good, and every body fulfils its
--- interface.
+-- the shipped ones they are the files of a program. In its modules all names are good, every body fulfils its
+-- interface, all declarations are good, and all instances are.
 pub record AreAcceptedAs (files : Files) (names all : List (List ℕ)) (reads : List ReadFile) : Type 0 where
   pub few : length names ≤ most_files
   pub had : AreFiles files names all
@@ -32,6 +35,8 @@ pub record AreAcceptedAs (files : Files) (names all : List (List ℕ)) (reads : 
   pub program : IsProgram (program_files reads)
   pub named : AllNamesAreGood (program_modules reads)
   pub kept : AllFulfil (program_modules reads)
+  pub declared : AllDeclarationsAreGood (program_modules reads)
+  pub instances : InstancesAreGood (program_modules reads)
 
 -- The files of these names are accepted.
 abbrev pub Accepted : Files → List (List ℕ) → Type 0
@@ -45,6 +50,8 @@ is_unbuilt (NotYet at) = true
 is_unbuilt (WordNotYet what) = false
 is_unbuilt (Pair fault) = false
 is_unbuilt (Import fault) = false
+is_unbuilt (Declaration fault) = false
+is_unbuilt (Instance fault) = false
 
 -- whether files come to this behind the steps that judge whether they are accepted: the program prints, or a file is
 -- none that prints, which is refused as what isn't built yet

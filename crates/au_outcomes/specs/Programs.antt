@@ -1,5 +1,6 @@
 -- What the files of a program come to once they are read: they are gathered into modules behind the shipped
--- ones, the names and promises of the modules are judged, and then each file in order is one that prints.
+-- ones, the names and promises of the modules are judged, then their declarations, then their instances, and
+-- then each file in order is one that prints.
 use Rattle.std.specs.Prelude.{◌≡◌, ◌⊎◌, ◌+◌, ℕ, List, [], ◌∷◌, ◌++◌, map, Option, None, Some}
 use Rattle.std.specs.Option.{option_or}
 use Rattle.au_printing.specs.declared.files.First.{First}
@@ -7,12 +8,18 @@ use Rattle.au_printing.specs.Files.{Reads}
 use Rattle.au_modules.specs.declared.faults.ModuleFault.{ModuleFault}
 use Rattle.au_modules.specs.declared.faults.ModuleFault.TheVariants as modules
 use Rattle.au_modules.specs.Programs as programs
-use Rattle.au_modules.specs.Programs.{Entry, modules_of}
+use Rattle.au_modules.specs.Programs.{Entry, ModuleParts, modules_of}
 use Rattle.au_syntax.specs.Plain.{PlainModule}
 use Rattle.au_shipped.specs.Shipped.{shipped_files}
+use Rattle.au_classes.specs.declared.faults.ClassFault.{ClassFault}
+use Rattle.au_classes.specs.declared.faults.ClassFault.TheVariants as classes
+use Rattle.au_classes.specs.Faults.{instance_fault}
 use Rattle.au_imports.specs.declared.faults.ImportFault.{ImportFault}
 use Rattle.au_imports.specs.declared.faults.ImportFault.TheVariants as imports
 use Rattle.au_imports.specs.Importing as importing
+use Rattle.au_rules.specs.declared.faults.DeclFault.{DeclFault}
+use Rattle.au_rules.specs.declared.faults.DeclFault.TheVariants as rules
+use Rattle.au_rules.specs.DeclFaults.{decl_fault}
 use Rattle.au_outcomes.specs.Trees.{ReadFile, IsNoPrinting}
 use Rattle.au_outcomes.specs.declared.outcomes.Outcome.{Outcome}
 use Rattle.au_outcomes.specs.declared.outcomes.Outcome.TheVariants as outcome
@@ -38,16 +45,33 @@ abbrev pub import_outcome : ImportFault → Option Outcome
 import_outcome imports.Memory = None
 import_outcome fault = Some (outcome.Refused (refusal.Import fault))
 
+-- what a program comes to of which a declaration isn't good
+abbrev pub declaration_outcome : DeclFault → Option Outcome
+declaration_outcome rules.Memory = None
+declaration_outcome fault = Some (outcome.Refused (refusal.Declaration fault))
+
+-- what a program comes to of which an instance isn't good
+abbrev pub class_outcome : ClassFault → Option Outcome
+class_outcome classes.Memory = None
+class_outcome fault = Some (outcome.Refused (refusal.Instance fault))
+
 -- what is judged of the files of a program, the shipped ones first
 abbrev pub judged_by : {F : Type 0} → (F → Option Outcome) → Option F → Option Outcome
 judged_by outcome_of None = None
 judged_by outcome_of (Some fault) = outcome_of fault
 
--- the files are those of modules, and then names and promises are good, or the program comes to this
+-- names and promises are good, and then declarations, and then instances, or the program comes to this
+unfoldable pub modules_outcome : List ModuleParts → Option Outcome
+modules_outcome program =
+    option_or (judged_by import_outcome (importing.refusal_of program))
+    (option_or (judged_by declaration_outcome (decl_fault program))
+    (judged_by class_outcome (instance_fault program)))
+
+-- the files are those of modules, which are good, or the program comes to this
 unfoldable pub program_outcome : List Entry → Option Outcome
 program_outcome files =
     option_or (judged_by module_outcome (programs.refusal_of files))
-    (judged_by import_outcome (importing.refusal_of (modules_of files)))
+    (modules_outcome (modules_of files))
 
 -- A file that was read isn't one that prints.
 abbrev pub IsUnprinting : ReadFile → Outcome → Type 0

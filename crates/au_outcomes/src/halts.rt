@@ -2,16 +2,18 @@
 
 ghost use Rattle.std.specs.Prelude.{◌≡◌};
 ghost use Rattle.au_outcomes.specs.Halts.{known_or_memory, lex_halt};
-ghost use Rattle.au_outcomes.specs.Programs.{import_outcome, module_outcome};
+ghost use Rattle.au_outcomes.specs.Programs.{class_outcome, declaration_outcome, import_outcome, module_outcome};
 ghost use Rattle.au_outcomes.specs.declared.halts.CheckFault.TheVariants as fault;
 ghost use Rattle.au_outcomes.specs.declared.halts.Halt.TheVariants as halt;
 
 use crate::outcomes::Outcome;
 use au_base::Memory;
+use au_classes::ClassFault;
 use au_imports::ImportFault;
 use au_lexer::LexFault;
 use au_modules::ModuleFault;
 use au_refusals::Refusal;
+use au_rules::DeclFault;
 use std::alloc::{AllocError, AllocFailed};
 use thiserror::Error;
 
@@ -90,6 +92,28 @@ impl From<ImportFault> for Halt {
         match e {
             ImportFault::Memory => Halt::Unknown(CheckFault::Memory),
             fault => Halt::Known(Outcome::Refused(Refusal::Import(fault))),
+        }
+    }
+}
+
+impl From<DeclFault> for Halt {
+    ghost from_gives = { λ e h. h ≡ known_or_memory (declaration_outcome e) };
+
+    fn from(e: DeclFault) -> Halt {
+        match e {
+            DeclFault::Memory => Halt::Unknown(CheckFault::Memory),
+            fault => Halt::Known(Outcome::Refused(Refusal::Declaration(fault))),
+        }
+    }
+}
+
+impl From<ClassFault> for Halt {
+    ghost from_gives = { λ e h. h ≡ known_or_memory (class_outcome e) };
+
+    fn from(e: ClassFault) -> Halt {
+        match e {
+            ClassFault::Memory => Halt::Unknown(CheckFault::Memory),
+            fault => Halt::Known(Outcome::Refused(Refusal::Instance(fault))),
         }
     }
 }

@@ -4,9 +4,10 @@ ghost use Rattle.std.specs.Prelude.{◌≡◌, ◌<◌, ◌≤◌, ◌++◌, Lis
 ghost use Rattle.std.specs.List.{list_all};
 ghost use Rattle.au_modules.specs.Counts.{are_few, has_few};
 ghost use Rattle.au_modules.specs.Programs.{entry};
+ghost use Rattle.au_modules.specs.Slots as slots;
 ghost use Rattle.au_outcomes.specs.Halts.{Says, is_read_halt};
 ghost use Rattle.au_outcomes.specs.Outcomes.{most_files};
-ghost use Rattle.au_outcomes.specs.Programs.{PrintingComes, program_outcome, shipped_entries};
+ghost use Rattle.au_outcomes.specs.Programs.{PrintingComes, modules_outcome, program_outcome, shipped_entries};
 ghost use Rattle.au_outcomes.specs.Reading.{AllPrintSo, first_stop};
 ghost use Rattle.au_outcomes.specs.Trees.{ReadFile};
 ghost use Rattle.au_outcomes.specs.declared.outcomes.Outcome.TheVariants as outcome;
@@ -15,15 +16,17 @@ use crate::halts::Halt;
 use crate::outcomes::Outcome;
 use crate::reading::Printing;
 use au_base::{Memory, Pos};
+use au_classes::declare;
 use au_imports::resolve;
-use au_modules::gather;
+use au_modules::{Modules, gather};
 use au_printing::First;
 use au_refusals::Refusal;
+use au_rules::declarations_hold;
 use au_shipped::shipped;
 use au_syntax::FileTree;
 use std::alloc::Global;
 
-/// Judges the modules of a program: their files, and then their names and promises.
+/// Judges the files of a program, and then their modules.
 pub fn judge(alloc: Global, own: Vec<FileTree>) -> Result<(), Halt>
     requires few { length own.items ≤ most_files }
     requires declared { IsTrue (list_all has_few (map entry own.items)) }
@@ -34,7 +37,19 @@ pub fn judge(alloc: Global, own: Vec<FileTree>) -> Result<(), Halt>
 {
     let files = with_shipped(alloc, own)?;
     let modules = gather(alloc, files)?;
-    resolve(alloc, modules)?;
+    judge_modules(alloc, modules)
+}
+
+/// Judges the modules of a program: their names and promises, then their declarations, then their instances.
+fn judge_modules(alloc: Global, modules: Modules) -> Result<(), Halt>
+    ensures comes { Says result
+        (λ _. modules_outcome (slots.modules modules) ≡ None)
+        (λ arisen. modules_outcome (slots.modules modules) ≡ Some arisen) }
+    ensures is_read { is_read_halt result ≡ false }
+{
+    let program = resolve(alloc, modules)?;
+    declarations_hold(alloc, &program)?;
+    declare(alloc, &program)?;
     Ok(())
 }
 

@@ -4,14 +4,19 @@ use Rattle.au_base.specs.declared.limits.Limit.{Limit}
 use Rattle.au_base.specs.declared.limits.LimitKind.{LimitKind}
 use Rattle.au_base.specs.declared.limits.LimitKind.TheVariants as kind
 use Rattle.au_base.specs.declared.places.Pos.{Pos}
+use Rattle.au_classes.specs.declared.faults.ClassFault.{ClassFault}
+use Rattle.au_classes.specs.declared.faults.ClassFault.TheVariants as classes
 use Rattle.au_imports.specs.declared.faults.ImportFault.{ImportFault}
 use Rattle.au_imports.specs.declared.faults.ImportFault.TheVariants as imports
 use Rattle.au_modules.specs.declared.faults.ModuleFault.{ModuleFault}
 use Rattle.au_modules.specs.declared.faults.ModuleFault.TheVariants as modules
 use Rattle.au_refusals.specs.declared.refusals.Unbuilt.{Unbuilt}
 use Rattle.au_refusals.specs.declared.refusals.Unbuilt.TheVariants as unbuilt
+use Rattle.au_rules.specs.declared.faults.DeclFault.{DeclFault}
+use Rattle.au_rules.specs.declared.faults.DeclFault.TheVariants as rules
 use Rattle.au_refusals.specs.declared.refusals.Refusal.{Refusal}
-use Rattle.au_refusals.specs.declared.refusals.Refusal.TheVariants.{Byte, Syntax, NotYet, WordNotYet, Pair, Import}
+use Rattle.au_refusals.specs.declared.refusals.Refusal.TheVariants.{Byte, Syntax, NotYet, WordNotYet}
+use Rattle.au_refusals.specs.declared.refusals.Refusal.TheVariants.{Pair, Import, Declaration, Instance}
 
 -- each line ends with a newline
 abbrev pub line : List ℕ → List ℕ
@@ -85,6 +90,24 @@ import_text names (imports.Differs at other name) =
     place_text names at ++ codes ": differs from " ++ place_text names other ++ codes ": " ++ name
 import_text names imports.Memory = []
 
+-- what is wrong with a declaration
+abbrev pub declaration_text : List (List ℕ) → DeclFault → List ℕ
+declaration_text names (rules.Again at name) = place_text names at ++ codes ": declared again: " ++ name
+declaration_text names (rules.Malformed at) = place_text names at ++ codes ": malformed type"
+declaration_text names (rules.EmptyUnion at) = place_text names at ++ codes ": empty union"
+declaration_text names (rules.UniverseBelow at) = place_text names at ++ codes ": field above its universe"
+declaration_text names (rules.Infinite at) = place_text names at ++ codes ": infinite type"
+declaration_text names rules.Memory = []
+
+-- what is wrong with an instance
+abbrev pub instance_text : List (List ℕ) → ClassFault → List ℕ
+instance_text names (classes.BadHead at) = place_text names at ++ codes ": bad instance head"
+instance_text names (classes.Orphan at) = place_text names at ++ codes ": orphan instance"
+instance_text names (classes.Overlap at other) =
+    place_text names at ++ codes ": instance overlaps " ++ place_text names other
+instance_text names (classes.MethodDiffers at) = place_text names at ++ codes ": method differs"
+instance_text names classes.Memory = []
+
 -- the line of a refusal, without its end
 abbrev pub refusal_text : List (List ℕ) → Refusal → List ℕ
 refusal_text names (Byte at) = place_text names at ++ codes ": byte"
@@ -93,6 +116,8 @@ refusal_text names (NotYet at) = place_text names at ++ codes ": not yet"
 refusal_text names (WordNotYet what) = codes "not yet: " ++ unbuilt_word what
 refusal_text names (Pair fault) = pair_text names fault
 refusal_text names (Import fault) = import_text names fault
+refusal_text names (Declaration fault) = declaration_text names fault
+refusal_text names (Instance fault) = instance_text names fault
 
 -- the line of a refusal
 abbrev pub refusal_line : List (List ℕ) → Refusal → List ℕ

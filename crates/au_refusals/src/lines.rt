@@ -3,12 +3,15 @@
 ghost use Rattle.std.specs.Prelude.{◌≡◌, ◌++◌, ◌∷◌, [], IfOk, IsTrue, OnOk, codes, map, slice_get, unwrap_or};
 ghost use Rattle.std.specs.String.{string_bytes};
 ghost use Rattle.au_refusals.specs.Lines as lines;
-ghost use Rattle.au_refusals.specs.Refusals.{is_import_refusal, is_module_refusal, is_refusal};
+ghost use Rattle.au_refusals.specs.Refusals.{is_class_refusal, is_declaration_refusal, is_import_refusal};
+ghost use Rattle.au_refusals.specs.Refusals.{is_module_refusal, is_refusal};
 
 use crate::refusals::{Refusal, Unbuilt};
 use au_base::{Limit, LimitKind, Memory, Name, Pos};
+use au_classes::ClassFault;
 use au_imports::ImportFault;
 use au_modules::ModuleFault;
+use au_rules::DeclFault;
 use itoa::Buffer;
 use std::alloc::{AllocError, Global};
 
@@ -35,6 +38,8 @@ fn add_refusal(text: &mut Vec<u8>, refusal: &Refusal, files: &[String]) -> Resul
         Refusal::WordNotYet(what) => add_unbuilt(text, *what),
         Refusal::Pair(fault) => add_pair(text, fault, files),
         Refusal::Import(fault) => add_import(text, fault, files),
+        Refusal::Declaration(fault) => add_declaration(text, fault, files),
+        Refusal::Instance(fault) => add_instance(text, fault, files),
     }
 }
 
@@ -71,6 +76,39 @@ fn add_import(text: &mut Vec<u8>, fault: &ImportFault, files: &[String]) -> Resu
         ImportFault::NotDefined(at, name) => add_naming(text, *at, files, b": not defined: ", name),
         ImportFault::Differs(at, other, name) => add_differing(text, *at, *other, files, name),
         ImportFault::Memory => unreachable!(),
+    }
+}
+
+/// Adds what is wrong with a declaration.
+fn add_declaration(text: &mut Vec<u8>, fault: &DeclFault, files: &[String]) -> Result<(), Memory>
+    requires { IsTrue (is_declaration_refusal fault.now) }
+    ensures { OnOk result (text.new.items ≡ text.old.items
+        ++ lines.declaration_text (map string_bytes files.now) fault.now) }
+{
+    match fault {
+        DeclFault::Again(at, name) => add_naming(text, *at, files, b": declared again: ", name),
+        DeclFault::Malformed(at) => add_placed(text, *at, files, b": malformed type"),
+        DeclFault::EmptyUnion(at) => add_placed(text, *at, files, b": empty union"),
+        DeclFault::UniverseBelow(at) => {
+            add_placed(text, *at, files, b": field above its universe")
+        }
+        DeclFault::Infinite(at) => add_placed(text, *at, files, b": infinite type"),
+        DeclFault::Memory => unreachable!(),
+    }
+}
+
+/// Adds what is wrong with an instance.
+fn add_instance(text: &mut Vec<u8>, fault: &ClassFault, files: &[String]) -> Result<(), Memory>
+    requires { IsTrue (is_class_refusal fault.now) }
+    ensures { OnOk result (text.new.items ≡ text.old.items
+        ++ lines.instance_text (map string_bytes files.now) fault.now) }
+{
+    match fault {
+        ClassFault::BadHead(at) => add_placed(text, *at, files, b": bad instance head"),
+        ClassFault::Orphan(at) => add_placed(text, *at, files, b": orphan instance"),
+        ClassFault::Overlap(at, other) => add_overlapping(text, *at, *other, files),
+        ClassFault::MethodDiffers(at) => add_placed(text, *at, files, b": method differs"),
+        ClassFault::Memory => unreachable!(),
     }
 }
 
@@ -154,6 +192,15 @@ fn add_differing(
 {
     add_placed(text, at, files, b": differs from ")?;
     add_naming(text, other, files, b": ", name)
+}
+
+/// Adds the place of an instance, and that of the earlier one that it overlaps.
+fn add_overlapping(text: &mut Vec<u8>, at: Pos, other: Pos, files: &[String]) -> Result<(), Memory>
+    ensures { OnOk result (text.new.items ≡ text.old.items ++ (lines.place_text (map string_bytes files.now) at
+        ++ codes ": instance overlaps " ++ lines.place_text (map string_bytes files.now) other)) }
+{
+    add_placed(text, at, files, b": instance overlaps ")?;
+    add_place(text, other, files)
 }
 
 /// Adds a place, with the name of its file.

@@ -1,8 +1,10 @@
 //! Refusals.
 
 use au_base::Pos;
+use au_classes::ClassFault;
 use au_imports::ImportFault;
 use au_modules::ModuleFault;
+use au_rules::DeclFault;
 
 /// Why what the words ask for is refused.
 #[derive(Debug, Drop)]
@@ -19,6 +21,10 @@ pub enum Refusal {
     Pair(ModuleFault),
     /// A name or a promise of the modules is not good.
     Import(ImportFault),
+    /// A declaration is not good.
+    Declaration(DeclFault),
+    /// An instance is not good.
+    Instance(ClassFault),
 }
 
 /// What words ask for that is not built yet.

@@ -1,0 +1,181 @@
+-- What the faults of the steps that judge a program come to.
+use Rattle.std.proofs.Common.{◌≡◌, true, false, Option, Some, None, Err, ap, ◌∙◌, refl, sym, subst, ◌⊎◌, inl, inr}
+use Rattle.std.specs.Option.{option_or}
+use Rattle.au_classes.specs.declared.faults.ClassFault.TheVariants as classes
+use Rattle.au_imports.specs.declared.faults.ImportFault.TheVariants as imports
+use Rattle.au_modules.specs.declared.faults.ModuleFault.TheVariants as modules
+use Rattle.au_rules.specs.declared.faults.DeclFault.TheVariants as rules
+use Rattle.au_outcomes.specs.Accepted.{is_behind}
+use Rattle.au_outcomes.specs.Halts.{Says, known_or_memory}
+use Rattle.au_outcomes.specs.Programs.{class_outcome, declaration_outcome, import_outcome, judged_by, module_outcome}
+use Rattle.au_outcomes.specs.declared.outcomes.Outcome.{Outcome}
+use Rattle.au_outcomes.proofs.HaltLemmas.{is_of_files}
+
+-- ---- one of two, or neither
+
+pub or_some : {A : Type 0} (o p : Option A) (x : A) → option_or o p ≡ Some x → (o ≡ Some x) ⊎ (p ≡ Some x)
+or_some None p x h = inr h
+or_some (Some y) p x h = inl h
+
+pub or_first : {A : Type 0} (o p : Option A) → option_or o p ≡ None → o ≡ None
+or_first None p h = refl
+or_first (Some x) p h = cc
+
+pub or_second : {A : Type 0} (o p : Option A) → option_or o p ≡ None → p ≡ None
+or_second None p h = h
+or_second (Some x) p h = cc
+
+-- ---- what a kind of faults comes to
+
+-- Only want of memory is no cause, and what any other fault comes to is a cause of the files, told before it is seen
+-- what they print.
+pub record AreCauses {F : Type 0} (outcome_of : F → Option Outcome) (memory : F) : Type 0 where
+  pub unknown : outcome_of memory ≡ None
+  pub only : (e : F) → outcome_of e ≡ None → e ≡ memory
+  pub before : (e : F) (x : Outcome) → outcome_of e ≡ Some x → is_behind x ≡ false
+  pub found : (e : F) (x : Outcome) → outcome_of e ≡ Some x → is_of_files x ≡ true
+
+before_as : (o x : Outcome) → is_behind o ≡ false → Some o ≡ Some x → is_behind x ≡ false
+before_as o x h e = let same : o ≡ x = cc in subst (λ z. is_behind z ≡ false) same h
+
+found_as : (o x : Outcome) → is_of_files o ≡ true → Some o ≡ Some x → is_of_files x ≡ true
+found_as o x h e = let same : o ≡ x = cc in subst (λ z. is_of_files z ≡ true) same h
+
+pub of_modules : AreCauses module_outcome modules.Memory
+of_modules = record { unknown = refl; only = only; before = before; found = found }
+  where
+    only : (e : _) → module_outcome e ≡ None → e ≡ modules.Memory
+    only (modules.TwiceGiven name) h = cc
+    only (modules.NoBody name) h = cc
+    only (modules.Unsafe at) h = cc
+    only (modules.Limit limit) h = cc
+    only modules.Memory h = refl
+
+    before : (e : _) (x : Outcome) → module_outcome e ≡ Some x → is_behind x ≡ false
+    before (modules.TwiceGiven name) x h = before_as _ x refl h
+    before (modules.NoBody name) x h = before_as _ x refl h
+    before (modules.Unsafe at) x h = before_as _ x refl h
+    before (modules.Limit limit) x h = before_as _ x refl h
+    before modules.Memory x h = cc
+
+    found : (e : _) (x : Outcome) → module_outcome e ≡ Some x → is_of_files x ≡ true
+    found (modules.TwiceGiven name) x h = found_as _ x refl h
+    found (modules.NoBody name) x h = found_as _ x refl h
+    found (modules.Unsafe at) x h = found_as _ x refl h
+    found (modules.Limit limit) x h = found_as _ x refl h
+    found modules.Memory x h = cc
+
+pub of_imports : AreCauses import_outcome imports.Memory
+of_imports = record { unknown = refl; only = only; before = before; found = found }
+  where
+    only : (e : _) → import_outcome e ≡ None → e ≡ imports.Memory
+    only (imports.NoModule at name) h = cc
+    only (imports.Late at name) h = cc
+    only (imports.NotVisible at name) h = cc
+    only (imports.NameTwice at name) h = cc
+    only (imports.NotDefined at name) h = cc
+    only (imports.Differs at other name) h = cc
+    only imports.Memory h = refl
+
+    before : (e : _) (x : Outcome) → import_outcome e ≡ Some x → is_behind x ≡ false
+    before (imports.NoModule at name) x h = before_as _ x refl h
+    before (imports.Late at name) x h = before_as _ x refl h
+    before (imports.NotVisible at name) x h = before_as _ x refl h
+    before (imports.NameTwice at name) x h = before_as _ x refl h
+    before (imports.NotDefined at name) x h = before_as _ x refl h
+    before (imports.Differs at other name) x h = before_as _ x refl h
+    before imports.Memory x h = cc
+
+    found : (e : _) (x : Outcome) → import_outcome e ≡ Some x → is_of_files x ≡ true
+    found (imports.NoModule at name) x h = found_as _ x refl h
+    found (imports.Late at name) x h = found_as _ x refl h
+    found (imports.NotVisible at name) x h = found_as _ x refl h
+    found (imports.NameTwice at name) x h = found_as _ x refl h
+    found (imports.NotDefined at name) x h = found_as _ x refl h
+    found (imports.Differs at other name) x h = found_as _ x refl h
+    found imports.Memory x h = cc
+
+pub of_declarations : AreCauses declaration_outcome rules.Memory
+of_declarations = record { unknown = refl; only = only; before = before; found = found }
+  where
+    only : (e : _) → declaration_outcome e ≡ None → e ≡ rules.Memory
+    only (rules.Again at name) h = cc
+    only (rules.Malformed at) h = cc
+    only (rules.EmptyUnion at) h = cc
+    only (rules.UniverseBelow at) h = cc
+    only (rules.Infinite at) h = cc
+    only rules.Memory h = refl
+
+    before : (e : _) (x : Outcome) → declaration_outcome e ≡ Some x → is_behind x ≡ false
+    before (rules.Again at name) x h = before_as _ x refl h
+    before (rules.Malformed at) x h = before_as _ x refl h
+    before (rules.EmptyUnion at) x h = before_as _ x refl h
+    before (rules.UniverseBelow at) x h = before_as _ x refl h
+    before (rules.Infinite at) x h = before_as _ x refl h
+    before rules.Memory x h = cc
+
+    found : (e : _) (x : Outcome) → declaration_outcome e ≡ Some x → is_of_files x ≡ true
+    found (rules.Again at name) x h = found_as _ x refl h
+    found (rules.Malformed at) x h = found_as _ x refl h
+    found (rules.EmptyUnion at) x h = found_as _ x refl h
+    found (rules.UniverseBelow at) x h = found_as _ x refl h
+    found (rules.Infinite at) x h = found_as _ x refl h
+    found rules.Memory x h = cc
+
+pub of_instances : AreCauses class_outcome classes.Memory
+of_instances = record { unknown = refl; only = only; before = before; found = found }
+  where
+    only : (e : _) → class_outcome e ≡ None → e ≡ classes.Memory
+    only (classes.BadHead at) h = cc
+    only (classes.Orphan at) h = cc
+    only (classes.Overlap at other) h = cc
+    only (classes.MethodDiffers at) h = cc
+    only classes.Memory h = refl
+
+    before : (e : _) (x : Outcome) → class_outcome e ≡ Some x → is_behind x ≡ false
+    before (classes.BadHead at) x h = before_as _ x refl h
+    before (classes.Orphan at) x h = before_as _ x refl h
+    before (classes.Overlap at other) x h = before_as _ x refl h
+    before (classes.MethodDiffers at) x h = before_as _ x refl h
+    before classes.Memory x h = cc
+
+    found : (e : _) (x : Outcome) → class_outcome e ≡ Some x → is_of_files x ≡ true
+    found (classes.BadHead at) x h = found_as _ x refl h
+    found (classes.Orphan at) x h = found_as _ x refl h
+    found (classes.Overlap at other) x h = found_as _ x refl h
+    found (classes.MethodDiffers at) x h = found_as _ x refl h
+    found classes.Memory x h = cc
+
+-- ---- what is judged by such faults
+
+module _ {F : Type 0} (outcome_of : F → Option Outcome) (memory : F) (causes : AreCauses outcome_of memory) where
+  pub judged_none : (r : Option F) → (r ≡ Some memory → ⊥) → judged_by outcome_of r ≡ None → r ≡ None
+  judged_none None unwanted h = refl
+  judged_none (Some e) unwanted h = absurd (unwanted (ap Some (causes.only e h)))
+
+  pub judged_before : (r : Option F) (x : Outcome) → judged_by outcome_of r ≡ Some x → is_behind x ≡ false
+  judged_before None x h = cc
+  judged_before (Some e) x h = causes.before e x h
+
+  pub judged_found : (r : Option F) (x : Outcome) → judged_by outcome_of r ≡ Some x → is_of_files x ≡ true
+  judged_found None x h = cc
+  judged_found (Some e) x h = causes.found e x h
+
+  -- a fault that is found is known to be what the program comes to, unless it is want of memory
+  caused : (e : F) (r : Option F) (x : Outcome) → (e ≡ memory) ⊎ (r ≡ Some e) → outcome_of e ≡ Some x → judged_by outcome_of r ≡ Some x
+  caused e r x (inl p) h =
+      let never : None ≡ Some x = sym (ap outcome_of p ∙ causes.unknown) ∙ h in cc
+  caused e r x (inr p) h = ap (judged_by outcome_of) p ∙ h
+
+  says_by : {T : Type 0} (e : F) (r : Option F) (G : T → Type 0) (B : Outcome → Type 0) (o : Option Outcome)
+      → outcome_of e ≡ o → (e ≡ memory) ⊎ (r ≡ Some e)
+      → ((x : Outcome) → judged_by outcome_of r ≡ Some x → B x)
+      → Says {T = T} (Err (known_or_memory o)) G B
+  says_by e r G B None same either known = tt
+  says_by e r G B (Some x) same either known = known x (caused e r x either same)
+
+  pub judged_says : {T : Type 0} (e : F) (r : Option F) (G : T → Type 0) (B : Outcome → Type 0)
+      → (e ≡ memory) ⊎ (r ≡ Some e)
+      → ((x : Outcome) → judged_by outcome_of r ≡ Some x → B x)
+      → Says {T = T} (Err (known_or_memory (outcome_of e))) G B
+  judged_says e r G B either known = says_by e r G B (outcome_of e) refl either known
