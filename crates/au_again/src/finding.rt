@@ -21,7 +21,6 @@ use crate::outside::is_outside;
 use crate::scopes::Scopes;
 use au_base::{Memory, Name, Pos};
 use au_imports::Resolved;
-use au_name_faults::brought::part_file;
 use au_names::PartNames;
 use au_syntax::{Decl, Parsed, Part};
 use std::alloc::Global;
@@ -154,7 +153,7 @@ pub fn judge_part(
     ensures noted { (m : ModuleParts) → slice_get (slots.modules resolved.now) place ≡ Some m → OnOk result (scopes.new ≡ fold after_all scopes.old (map (marks part) (declarations_in (part_of part m)))) }
 {
     let names = resolved.names(place, part);
-    match part_file(resolved.modules(), place, part) {
+    match resolved.modules().part(place, part) {
         None => Ok(()),
         Some(file) => {
             let tree = file.tree();

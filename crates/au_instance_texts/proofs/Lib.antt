@@ -1,4 +1,3 @@
 pub mod IndexLemmas
-pub mod KeyedLemmas
 pub mod MarkLemmas
 pub mod GatherLemmas

@@ -4,7 +4,6 @@
 pub mod definitions;
 pub mod gathering;
 pub mod instance_texts;
-pub mod keys;
 pub mod marks;
 
 pub use gathering::instances_of;

@@ -127,13 +127,9 @@ fn put_name(table: &mut Table<usize>, name: Option<&Name>, index: usize) -> Resu
 }
 
 /// The first definition of each name of a sort, by its index.
-fn first_defined(
-    alloc: Global,
-    sort: Sort,
-    decls: &Vec<Decl<Parsed>>,
-) -> Result<Table<usize>, Memory>
+fn first_defined(alloc: Global, sort: Sort, decls: &[Decl<Parsed>]) -> Result<Table<usize>, Memory>
     ensures { IfOk result (λ table. AreFirst (defining.name_defined sort)
-        (declarations_of decls.now.items) table) }
+        (declarations_of decls.now) table) }
 {
     let mut table = Table::new(alloc);
     for (index, one) in decls.iter().enumerate() {
@@ -144,8 +140,8 @@ fn first_defined(
 
 impl ByName {
     /// The first definitions of a body by their names.
-    fn of(alloc: Global, decls: &Vec<Decl<Parsed>>) -> Result<ByName, Memory>
-        ensures { IfOk result (λ names. AreNamed (declarations_of decls.now.items) names) }
+    fn of(alloc: Global, decls: &[Decl<Parsed>]) -> Result<ByName, Memory>
+        ensures { IfOk result (λ names. AreNamed (declarations_of decls.now) names) }
     {
         let constants = first_defined(alloc, Sort::Constants, decls)?;
         let types = first_defined(alloc, Sort::Types, decls)?;
@@ -175,13 +171,9 @@ impl Definitions {
     /// # Errors
     ///
     /// Only for want of memory.
-    pub fn of(
-        alloc: Global,
-        sight: &Sight,
-        decls: &Vec<Decl<Parsed>>,
-    ) -> Result<Definitions, Memory>
+    pub fn of(alloc: Global, sight: &Sight, decls: &[Decl<Parsed>]) -> Result<Definitions, Memory>
         ensures { IfOk result (λ definitions. AreDefinitions (sight_in sight.now)
-            (declarations_of decls.now.items) definitions) }
+            (declarations_of decls.now) definitions) }
     {
         let names = ByName::of(alloc, decls)?;
         let worded = first_keyed(alloc, sight, KeySort::Worded, decls)?;

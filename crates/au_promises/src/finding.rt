@@ -117,7 +117,11 @@ fn first_meaningless(
 
 /// The index of the first declaration of a body that defines an instance of this class for this type, if
 /// there is one: of the same type word for word, or where both mean nothing.
-fn instance_index(
+///
+/// # Errors
+///
+/// Only for want of memory.
+pub fn instance_index(
     alloc: Global,
     sight: &Sight,
     scope: &Params,
@@ -278,7 +282,7 @@ fn body_fault(
     ensures { IfOk result (λ fault. fault ≡ spec.unkept (sight_in sight.now)
         (declarations_of decls.now.items) (declarations_of promises.now.items)) }
 {
-    let definitions = Definitions::of(alloc, sight, decls)?;
+    let definitions = Definitions::of(alloc, sight, decls.as_slice())?;
     unkept(alloc, sight, decls, &definitions, promises)
 }
 

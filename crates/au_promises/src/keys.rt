@@ -281,10 +281,10 @@ pub fn first_keyed(
     alloc: Global,
     sight: &Sight,
     sort: KeySort,
-    decls: &Vec<Decl<Parsed>>,
+    decls: &[Decl<Parsed>],
 ) -> Result<Table<usize>, Memory>
     ensures { IfOk result (λ table. AreFirst (defining.key_defined sort (sight_in sight.now))
-        (declarations_of decls.now.items) table) }
+        (declarations_of decls.now) table) }
 {
     let mut table = Table::new(alloc);
     for (index, one) in decls.iter().enumerate() {
