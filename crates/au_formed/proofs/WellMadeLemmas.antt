@@ -1,5 +1,6 @@
 -- A declaration is refused for nothing exactly where it is well made.
-use Rattle.std.proofs.Common.{◌≡◌, ◌≢◌, inl, inr, Bool, true, false, not, List, [], ◌∷◌, ◌++◌, map, Option, None, Some, refl, sym, ap, ◌∙◌, subst, Contains, true≢false}
+use Rattle.std.proofs.Common.{◌≡◌, ◌≢◌, inl, inr, Bool, true, false, not, List, [], ◌∷◌, ◌++◌, map, Option}
+use Rattle.std.proofs.Common.{None, Some, refl, sym, ap, ◌∙◌, subst, Contains, true≢false}
 use Rattle.std.specs.List.{flat_map}
 use Rattle.std.specs.Option.{option_map, option_or}
 use Rattle.std.proofs.lemmas.Bool.{not-true, not-false, both_ways}
@@ -7,7 +8,8 @@ use Rattle.std.proofs.lemmas.Option.{none-some, same_Some}
 use Rattle.au_base.specs.declared.places.Pos.{Pos}
 use Rattle.au_syntax.specs.declared.declarations.Universe.{Universe}
 use Rattle.au_syntax.specs.declared.declarations.Universe.TheVariants as universes
-use Rattle.au_syntax.specs.Modules.{Variant, constant, opaque_type, record_type, union_type, function, class, instance, constant_body, function_body, instance_body}
+use Rattle.au_syntax.specs.Modules.{Variant, constant, opaque_type, record_type, union_type, function, class}
+use Rattle.au_syntax.specs.Modules.{instance, constant_body, function_body, instance_body}
 use Rattle.au_syntax.specs.Names.{Placed}
 use Rattle.au_syntax.specs.Plain.{Bytes, PlainDeclaration}
 use Rattle.au_syntax.specs.Types.{Labelled, WrittenType}
@@ -24,16 +26,20 @@ use Rattle.au_universes.specs.declared.universes.TypeUniverse.TheVariants.{Free,
 use Rattle.au_universes.specs.Forming.{wants_region}
 use Rattle.au_universes.specs.Universes.{is_free, is_linear, universe_of}
 use Rattle.au_written_types.specs.Meant.{meant}
-use Rattle.au_written_types.specs.Senses.{Sense, a_type as type_sense, a_span, a_region, declared, a_class as class_sense, sense_of}
+use Rattle.au_written_types.specs.Senses.{Sense, a_type as type_sense, a_span, a_region, declared}
+use Rattle.au_written_types.specs.Senses.{a_class as class_sense, sense_of}
 use Rattle.au_name_faults.specs.Choices.{first_of, where_so}
-use Rattle.au_name_faults.proofs.ChoiceLemmas.{Among, among, among-flat_map_from, contains, first_from, first_to, or_first, or_neither, or_second, so_from, so_to}
+use Rattle.au_name_faults.proofs.ChoiceLemmas.{Among, among, among-flat_map_from, contains, first_from}
+use Rattle.au_name_faults.proofs.ChoiceLemmas.{first_to, or_first, or_neither, or_second, so_from, so_to}
 use Rattle.au_formed.specs.declared.faults.FormFault.{FormFault}
 use Rattle.au_formed.specs.declared.faults.FormFault.TheVariants.{Malformed, EmptyUnion, UniverseBelow}
-use Rattle.au_formed.specs.Fields.{above_place, case_above, empty_union, field_above, first_above, holds, is_above, without_case}
+use Rattle.au_formed.specs.Fields.{above_place, case_above, empty_union, field_above, first_above, holds}
+use Rattle.au_formed.specs.Fields.{is_above, without_case}
 use Rattle.au_formed.specs.Forms.{form_fault}
 use Rattle.au_formed.specs.Good.{FieldFits, FieldsFit, HasCase, Holds, IsFormed, IsGoodWriting, IsWellMade}
 use Rattle.au_formed.specs.Malformed.{ill_place, is_class, is_failure, is_ill, malformed}
-use Rattle.au_formed.specs.Writings.{Writing, a_type, a_class, a_universe, case_writings, field_writings, place_of, writings}
+use Rattle.au_formed.specs.Writings.{Writing, a_type, a_class, a_universe, case_writings, field_writings}
+use Rattle.au_formed.specs.Writings.{place_of, writings}
 
 -- ---- options
 
@@ -113,41 +119,59 @@ module _ (visible : List (Bytes × DeclAt)) (heads : List (DeclAt × Head)) (par
   good_to (a_class name) h = class_to (sense name.name) h.0 h.1
   good_to (a_universe at u) h = no_region u h
 
-  written_from : (ws : List Writing) → malformed judge sense ws ≡ None → (w : Writing) → Among w ws → IsGoodWriting visible heads params w
-  written_from ws h w m = good_from w (so_from (is_ill judge sense w) (place_of w) (first_from (ill_place judge sense) ws h w m))
+  written_from : (ws : List Writing) → malformed judge sense ws ≡ None → (w : Writing) → Among w ws
+      → IsGoodWriting visible heads params w
+  written_from ws h w m = good_from w
+      (so_from (is_ill judge sense w) (place_of w) (first_from (ill_place judge sense) ws h w m))
 
-  written_to : (ws : List Writing) → ((w : Writing) → Among w ws → IsGoodWriting visible heads params w) → malformed judge sense ws ≡ None
-  written_to ws h = first_to (ill_place judge sense) ws (λ w m. so_to (is_ill judge sense w) (place_of w) (good_to w (h w m)))
+  written_to : (ws : List Writing) → ((w : Writing) → Among w ws → IsGoodWriting visible heads params w)
+      → malformed judge sense ws ≡ None
+  written_to ws h = first_to (ill_place judge sense) ws
+      (λ w m. so_to (is_ill judge sense w) (place_of w) (good_to w (h w m)))
 
   -- ---- fields
 
   abbrev universe : Meaning → TypeUniverse
   universe m = universe_of heads params m
 
-  fits_from : (u : Universe) (field : Labelled Bytes) → IsFormed visible heads params field.of → above_place judge universe u field ≡ None → FieldFits visible heads params u field
+  fits_from : (u : Universe) (field : Labelled Bytes) → IsFormed visible heads params field.of
+      → above_place judge universe u field ≡ None → FieldFits visible heads params u field
   fits_from u field formed h m is =
       let same : formed.0 ≡ m = same_Some formed.0 m (sym formed.1 ∙ is) in
-      let below : is_above judge universe u (judge field.of) ≡ false = so_from (is_above judge universe u (judge field.of)) field.name.at h in
-      let known : judge field.of ≡ means formed.0 = meant_is_judged heads params [] visible field.of formed.0 formed.1 formed.2 in
-      let held : not (holds u (universe formed.0)) ≡ false = sym (ap (is_above judge universe u) known) ∙ below in
-      subst (λ n. Holds u (universe n)) same (holds_from u (universe formed.0) (not-false (holds u (universe formed.0)) held))
+      let below : is_above judge universe u (judge field.of)
+      ≡ false = so_from (is_above judge universe u (judge field.of)) field.name.at h in
+      let known : judge field.of
+      ≡ means formed.0 = meant_is_judged heads params [] visible field.of formed.0 formed.1 formed.2 in
+      let held : not (holds u (universe formed.0)) ≡ false = sym (ap (is_above judge universe u) known)
+      ∙ below in
+      subst (λ n. Holds u (universe n)) same
+      (holds_from u (universe formed.0) (not-false (holds u (universe formed.0)) held))
 
-  fits_to : (u : Universe) (field : Labelled Bytes) → IsFormed visible heads params field.of → FieldFits visible heads params u field → above_place judge universe u field ≡ None
+  fits_to : (u : Universe) (field : Labelled Bytes) → IsFormed visible heads params field.of
+      → FieldFits visible heads params u field → above_place judge universe u field ≡ None
   fits_to u field formed h =
       so_to (is_above judge universe u (judge field.of)) field.name.at
-      (ap (is_above judge universe u) (meant_is_judged heads params [] visible field.of formed.0 formed.1 formed.2)
+      (ap (is_above judge universe u)
+      (meant_is_judged heads params [] visible field.of formed.0 formed.1 formed.2)
       ∙ ap not (holds_to u (universe formed.0) (h formed.0 formed.1)))
 
-  first_above_from : (u : Universe) (fields : List (Labelled Bytes)) → ((f : Labelled Bytes) → Among f fields → IsFormed visible heads params f.of)
-      → first_above judge universe u fields ≡ None → (f : Labelled Bytes) → Among f fields → FieldFits visible heads params u f
-  first_above_from u fields formed h f m = fits_from u f (formed f m) (first_from (above_place judge universe u) fields h f m)
+  first_above_from : (u : Universe) (fields : List (Labelled Bytes))
+      → ((f : Labelled Bytes) → Among f fields → IsFormed visible heads params f.of)
+      → first_above judge universe u fields ≡ None → (f : Labelled Bytes) → Among f fields
+      → FieldFits visible heads params u f
+  first_above_from u fields formed h f m = fits_from u f (formed f m)
+      (first_from (above_place judge universe u) fields h f m)
 
-  first_above_to : (u : Universe) (fields : List (Labelled Bytes)) → ((f : Labelled Bytes) → Among f fields → IsFormed visible heads params f.of)
-      → ((f : Labelled Bytes) → Among f fields → FieldFits visible heads params u f) → first_above judge universe u fields ≡ None
-  first_above_to u fields formed h = first_to (above_place judge universe u) fields (λ f m. fits_to u f (formed f m) (h f m))
+  first_above_to : (u : Universe) (fields : List (Labelled Bytes))
+      → ((f : Labelled Bytes) → Among f fields → IsFormed visible heads params f.of)
+      → ((f : Labelled Bytes) → Among f fields → FieldFits visible heads params u f)
+      → first_above judge universe u fields ≡ None
+  first_above_to u fields formed h = first_to (above_place judge universe u) fields
+      (λ f m. fits_to u f (formed f m) (h f m))
 
   -- a field's type is written
-  written_field : (fields : List (Labelled Bytes)) (f : Labelled Bytes) → Among f fields → Among (a_type f.of) (field_writings fields)
+  written_field : (fields : List (Labelled Bytes)) (f : Labelled Bytes) → Among f fields
+      → Among (a_type f.of) (field_writings fields)
   written_field [] f m = absurd m
   written_field (x ∷ xs) f (inl here) = inl (ap (λ (g : Labelled Bytes). a_type g.of) here)
   written_field (x ∷ xs) f (inr later) = inr (written_field xs f later)
@@ -155,16 +179,21 @@ module _ (visible : List (Bytes × DeclAt)) (heads : List (DeclAt × Head)) (par
   abbrev AllGood : PlainDeclaration → Type 0
   AllGood d = (w : Writing) → Among w (writings d) → IsGoodWriting visible heads params w
 
-  record_formed : (at : Pos) (name : Placed Bytes) (ps : _) (u : Universe) (fields : List (Labelled Bytes)) → AllGood (record_type at name ps u fields)
+  record_formed : (at : Pos) (name : Placed Bytes) (ps : _) (u : Universe) (fields : List (Labelled Bytes))
+      → AllGood (record_type at name ps u fields)
       → (f : Labelled Bytes) → Among f fields → IsFormed visible heads params f.of
   record_formed at name ps u fields good f m = good (a_type f.of) (inr (written_field fields f m))
 
-  case_formed : (at : Pos) (name : Placed Bytes) (ps : _) (u : Universe) (cases : List (Variant Bytes)) → AllGood (union_type at name ps u cases)
-      → (c : Variant Bytes) → Among c cases → (f : Labelled Bytes) → Among f c.fields → IsFormed visible heads params f.of
+  case_formed : (at : Pos) (name : Placed Bytes) (ps : _) (u : Universe) (cases : List (Variant Bytes))
+      → AllGood (union_type at name ps u cases)
+      → (c : Variant Bytes) → Among c cases → (f : Labelled Bytes) → Among f c.fields
+      → IsFormed visible heads params f.of
   case_formed at name ps u cases good c m f n =
-      good (a_type f.of) (inr (among-flat_map_from case_writings cases c (a_type f.of) m (written_field c.fields f n)))
+      good (a_type f.of) (inr
+      (among-flat_map_from case_writings cases c (a_type f.of) m (written_field c.fields f n)))
 
-  fields_from : (d : PlainDeclaration) → AllGood d → field_above judge universe d ≡ None → FieldsFit visible heads params d
+  fields_from : (d : PlainDeclaration) → AllGood d → field_above judge universe d ≡ None
+      → FieldsFit visible heads params d
   fields_from (record_type at name ps u fields) good h = λ f m.
       first_above_from u fields (record_formed at name ps u fields good) h f (among fields f m)
   fields_from (union_type at name ps u cases) good h = λ c m f n.
@@ -179,12 +208,14 @@ module _ (visible : List (Bytes × DeclAt)) (heads : List (DeclAt × Head)) (par
   fields_from (function_body at gs header body stop) good h = tt
   fields_from (instance_body at gs name t methods) good h = tt
 
-  fields_to : (d : PlainDeclaration) → AllGood d → FieldsFit visible heads params d → field_above judge universe d ≡ None
+  fields_to : (d : PlainDeclaration) → AllGood d → FieldsFit visible heads params d
+      → field_above judge universe d ≡ None
   fields_to (record_type at name ps u fields) good h =
       first_above_to u fields (record_formed at name ps u fields good) (λ f m. h f (contains fields f m))
   fields_to (union_type at name ps u cases) good h =
       first_to (case_above judge universe u) cases
-      (λ c m. first_above_to u c.fields (case_formed at name ps u cases good c m) (λ f n. h c (contains cases c m) f (contains c.fields f n)))
+      (λ c m. first_above_to u c.fields (case_formed at name ps u cases good c m)
+      (λ f n. h c (contains cases c m) f (contains c.fields f n)))
   fields_to (constant at name t) good h = refl
   fields_to (opaque_type at name ps u) good h = refl
   fields_to (function at gs header) good h = refl
@@ -246,11 +277,13 @@ module _ (visible : List (Bytes × DeclAt)) (heads : List (DeclAt × Head)) (d :
       let second = option_map EmptyUnion (empty_union d) in
       let third = option_map UniverseBelow above in
       let later = or_second first (option_or second third) h in
-      let written : AllGood visible heads params d = written_from visible heads params (writings d) (map_none Malformed ill (or_first first (option_or second third) h)) in
+      let written : AllGood visible heads params d = written_from visible heads params (writings d)
+      (map_none Malformed ill (or_first first (option_or second third) h)) in
       record {
         written = λ w m. written w (among (writings d) w m);
         cases = case_from d (map_none EmptyUnion (empty_union d) (or_first second third later));
-        fields = fields_from visible heads params d written (map_none UniverseBelow above (or_second second third later));
+        fields = fields_from visible heads params d written
+            (map_none UniverseBelow above (or_second second third later));
       }
 
   pub well_made_to : IsWellMade visible heads d → form_fault visible heads d ≡ None
@@ -259,6 +292,7 @@ module _ (visible : List (Bytes × DeclAt)) (heads : List (DeclAt × Head)) (d :
       let second = option_map EmptyUnion (empty_union d) in
       let third = option_map UniverseBelow above in
       let written : AllGood visible heads params d = λ w m. good.written w (contains (writings d) w m) in
-      or_neither first (option_or second third) (none_map Malformed ill (written_to visible heads params (writings d) written))
+      or_neither first (option_or second third)
+      (none_map Malformed ill (written_to visible heads params (writings d) written))
       (or_neither second third (none_map EmptyUnion (empty_union d) (case_to d good.cases))
       (none_map UniverseBelow above (fields_to visible heads params d written good.fields)))

@@ -1,5 +1,5 @@
--- Whether the fields of records and unions fit the universes that these are declared in, and whether unions have
--- cases.
+-- Whether the fields of records and unions fit the universes that these are declared in, and whether unions
+-- have cases.
 use Rattle.std.specs.Prelude.{Bool, true, false, not, List, [], Option, None, Some}
 use Rattle.au_base.specs.declared.places.Pos.{Pos}
 use Rattle.au_syntax.specs.declared.declarations.Universe.{Universe}

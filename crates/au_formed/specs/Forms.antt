@@ -1,5 +1,5 @@
--- What a declaration is refused for, beside names that are declared again and types that are infinite: what isn't
--- well formed first, then a union without a case, then a field above its universe.
+-- What a declaration is refused for, beside names that are declared again and types that are infinite: what
+-- isn't well formed first, then a union without a case, then a field above its universe.
 use Rattle.std.specs.Prelude.{List, [], Option}
 use Rattle.std.specs.Option.{option_map, option_or}
 use Rattle.au_syntax.specs.Plain.{Bytes, PlainDeclaration}
@@ -26,14 +26,16 @@ abbrev pub fault_by : (WrittenType → Outcome Meaning) → (Bytes → Option Se
     → PlainDeclaration → Option FormFault
 fault_by judge sense universe d =
     option_or (option_map Malformed (malformed judge sense (writings d)))
-    (option_or (option_map EmptyUnion (empty_union d)) (option_map UniverseBelow (field_above judge universe d)))
+    (option_or (option_map EmptyUnion (empty_union d))
+    (option_map UniverseBelow (field_above judge universe d)))
 
 -- among the names of types and classes that are visible and the rows of the declared types
 module _ (visible : List (Bytes × DeclAt)) (heads : List (DeclAt × Head)) where
   -- a declaration in the scope of these type parameters
   abbrev pub fault_in : List Parameter → PlainDeclaration → Option FormFault
   fault_in params d =
-      fault_by (judged [] params visible heads) (sense_of [] params visible heads) (universe_of heads params) d
+      fault_by (judged [] params visible heads) (sense_of [] params visible heads)
+      (universe_of heads params) d
 
   -- a declaration in the scope of its own
   abbrev pub form_fault : PlainDeclaration → Option FormFault

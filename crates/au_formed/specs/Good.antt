@@ -32,8 +32,8 @@ HasCase (union_type at name parameters universe cases) = cases ≢ []
 HasCase other = ⊤
 
 module _ (visible : List (Bytes × DeclAt)) (heads : List (DeclAt × Head)) (params : List Parameter) where
-  -- A written type is well formed: types and regions stand where these are wanted, and arguments fit in number
-  -- and universe.
+  -- A written type is well formed: types and regions stand where these are wanted, and arguments fit in
+  -- number and universe.
   abbrev pub IsFormed : WrittenType → Type 0
   IsFormed t = (m : Meaning) × (meant [] params visible heads t ≡ Some m) × IsWellFormed heads params m
 
@@ -47,7 +47,8 @@ module _ (visible : List (Bytes × DeclAt)) (heads : List (DeclAt × Head)) (par
   -- the type of a field fits a universe that it is held in
   abbrev pub FieldFits : Universe → Labelled Bytes → Type 0
   FieldFits universe field =
-      (m : Meaning) → meant [] params visible heads field.of ≡ Some m → Holds universe (universe_of heads params m)
+      (m : Meaning) → meant [] params visible heads field.of ≡ Some m
+      → Holds universe (universe_of heads params m)
 
   -- the fields of a record or a union fit the universe that it is declared in
   abbrev pub FieldsFit : PlainDeclaration → Type 0
@@ -60,7 +61,8 @@ module _ (visible : List (Bytes × DeclAt)) (heads : List (DeclAt × Head)) (par
 
 -- A declaration is well made among the names that are visible and the rows of the declared types: all that is
 -- written in it is well formed, a union has a case, and fields fit the universe of their record or union.
-pub record IsWellMade (visible : List (Bytes × DeclAt)) (heads : List (DeclAt × Head)) (d : PlainDeclaration) : Type 0 where
+pub record IsWellMade (visible : List (Bytes × DeclAt)) (heads : List (DeclAt × Head))
+    (d : PlainDeclaration) : Type 0 where
   pub written : (w : Writing) → Contains (writings d) w → IsGoodWriting visible heads (type_parameters d) w
   pub cases : HasCase d
   pub fields : FieldsFit visible heads (type_parameters d) d

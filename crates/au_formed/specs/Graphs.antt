@@ -1,4 +1,5 @@
--- The graph of records and unions by their indices: an edge leads to the first that declares a type which is named.
+-- The graph of records and unions by their indices: an edge leads to the first that declares a type which is
+-- named.
 use Rattle.std.specs.Prelude.{ℕ, ◌+◌, List, [], ◌∷◌, map, Option, None, Some, if◌then◌else◌}
 use Rattle.std.specs.List.{filter_map}
 use Rattle.std.specs.Map.{lookup}

@@ -1,5 +1,6 @@
 -- The types that records and unions name in their fields, outside the arguments of boxes and buffers.
-use Rattle.std.specs.Prelude.{Bool, false, ◌||◌, List, [], ◌∷◌, ◌++◌, Option, None, Some, codes, if◌then◌else◌}
+use Rattle.std.specs.Prelude.{Bool, false, ◌||◌, List, [], ◌∷◌, ◌++◌, Option, None, Some, codes}
+use Rattle.std.specs.Prelude.{if◌then◌else◌}
 use Rattle.std.specs.List.{filter_map, flat_map}
 use Rattle.std.specs.Option.{option_map}
 use Rattle.std.specs.Str.{bytes_eq}
@@ -88,7 +89,8 @@ names_in visible heads d =
 
 -- a record or a union: the type that it declares, and the types that its fields name
 abbrev pub naming : List (Bytes × DeclAt) → List (DeclAt × Head) → PlainDeclaration → Option Naming
-naming visible heads d = option_map (λ at. record { of = at; names = names_in visible heads d }) (type_of visible d)
+naming visible heads d = option_map (λ at. record { of = at; names = names_in visible heads d })
+    (type_of visible d)
 
 -- that of a declaration of a program
 abbrev pub naming_at : List ModuleParts → Spot → Option Naming

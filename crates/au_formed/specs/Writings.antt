@@ -1,6 +1,6 @@
--- What is written in a declaration that may not be well formed, in the order of the text and outside the bodies
--- of functions and methods: types, names that stand for classes, and universes that may not be `Region`. The
--- types that are written in a constant's value are among them.
+-- What is written in a declaration that may not be well formed, in the order of the text and outside the
+-- bodies of functions and methods: types, names that stand for classes, and universes that may not be
+-- `Region`. The types that are written in a constant's value are among them.
 use Rattle.std.specs.Prelude.{List, [], ◌∷◌, ◌++◌, map}
 use Rattle.std.specs.List.{flat_map}
 use Rattle.au_base.specs.declared.places.Pos.{Pos}

@@ -14,8 +14,8 @@ use indexmap::IndexMap;
 use std::alloc::Global;
 use std::marker::Model;
 
-/// The index of the first record or union that declares each type, seen by contracts as the list of these types
-/// with their indices.
+/// The index of the first record or union that declares each type, seen by contracts as the list of these
+/// types with their indices.
 #[derive(Drop)]
 pub struct Declarers {
     indices: IndexMap<DeclAt, usize>,
@@ -42,7 +42,9 @@ impl Declarers {
 
     /// Puts the index of what declares a type, unless the type has one.
     pub fn put(&mut self, at: DeclAt, index: usize) -> Result<(), Memory>
-        ensures { (a : DeclAt) → OnOk result (index_at self.new a ≡ option_or (index_at self.old a) (where_so (same_place a at) index)) }
+        ensures { (a : DeclAt)
+            → OnOk result (index_at self.new a
+            ≡ option_or (index_at self.old a) (where_so (same_place a at) index)) }
     {
         if self.indices.contains_key(&at) {
             return Ok(());

@@ -29,7 +29,10 @@ fn holds(universe: Universe, field: TypeUniverse) -> bool
 
 /// Whether a written type is above a universe that it is held in. One that isn't well formed is above none.
 fn is_above(alloc: Global, scope: &Scope, universe: Universe, of: &TypeText) -> Result<bool, Memory>
-    ensures { IfOk result (λ above. above ≡ spec.is_above (judged_in scope.now) (universes.universe_of scope.now.heads.now scope.now.params.now) universe (judged_in scope.now (written of.now))) }
+    ensures { IfOk result
+        (λ above. above ≡ spec.is_above (judged_in scope.now)
+        (universes.universe_of scope.now.heads.now scope.now.params.now) universe
+        (judged_in scope.now (written of.now))) }
 {
     match judge_type(alloc, scope, of)? {
         Judged::Means(t) => Ok(!holds(universe, universe_of(scope.heads, scope.params, &t))),
@@ -44,7 +47,10 @@ fn first_above(
     universe: Universe,
     fields: &Vec<Field<Parsed>>,
 ) -> Result<Option<Pos>, Memory>
-    ensures { IfOk result (λ found. found ≡ spec.first_above (judged_in scope.now) (universes.universe_of scope.now.heads.now scope.now.params.now) universe (fields_said fields.now.items)) }
+    ensures { IfOk result
+        (λ found. found ≡ spec.first_above (judged_in scope.now)
+        (universes.universe_of scope.now.heads.now scope.now.params.now) universe
+        (fields_said fields.now.items)) }
 {
     for one in fields {
         if is_above(alloc, scope, universe, &one.of)? {
@@ -61,7 +67,10 @@ fn first_in_cases(
     universe: Universe,
     cases: &Vec<UnionCase<Parsed>>,
 ) -> Result<Option<Pos>, Memory>
-    ensures { IfOk result (λ found. found ≡ spec.cases_above (judged_in scope.now) (universes.universe_of scope.now.heads.now scope.now.params.now) universe (cases_said cases.now.items)) }
+    ensures { IfOk result
+        (λ found. found ≡ spec.cases_above (judged_in scope.now)
+        (universes.universe_of scope.now.heads.now scope.now.params.now) universe
+        (cases_said cases.now.items)) }
 {
     for one in cases {
         match first_above(alloc, scope, universe, &one.fields)? {
@@ -78,7 +87,9 @@ fn first_in_cases(
 ///
 /// Only for want of memory.
 pub fn field_above(alloc: Global, scope: &Scope, decl: &Decl<Parsed>) -> Result<Option<Pos>, Memory>
-    ensures { IfOk result (λ found. found ≡ spec.field_above (judged_in scope.now) (universes.universe_of scope.now.heads.now scope.now.params.now) (walks.written decl.now)) }
+    ensures { IfOk result
+        (λ found. found ≡ spec.field_above (judged_in scope.now)
+        (universes.universe_of scope.now.heads.now scope.now.params.now) (walks.written decl.now)) }
 {
     match decl {
         Decl::Constant(_, _, _) => Ok(None),

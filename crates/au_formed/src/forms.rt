@@ -19,7 +19,9 @@ use std::alloc::Global;
 
 /// What a declaration is refused for in the scope of its type parameters.
 fn fault_in(alloc: Global, scope: &Scope, decl: &Decl<Parsed>) -> Result<Option<FormFault>, Memory>
-    ensures { IfOk result (λ found. found ≡ spec.fault_by (judged_in scope.now) (sense_in scope.now) (universes.universe_of scope.now.heads.now scope.now.params.now) (walks.written decl.now)) }
+    ensures { IfOk result
+        (λ found. found ≡ spec.fault_by (judged_in scope.now) (sense_in scope.now)
+        (universes.universe_of scope.now.heads.now scope.now.params.now) (walks.written decl.now)) }
 {
     if let Some(at) = malformed(alloc, scope, decl)? {
         return Ok(Some(FormFault::Malformed(at)));
@@ -45,7 +47,9 @@ pub fn form_fault(
     visible: &Visible,
     decl: &Decl<Parsed>,
 ) -> Result<Option<FormFault>, Memory>
-    ensures { IfOk result (λ found. found ≡ spec.form_fault visible.now.names.now visible.now.heads.now (walks.written decl.now)) }
+    ensures { IfOk result
+        (λ found. found ≡ spec.form_fault visible.now.names.now visible.now.heads.now
+        (walks.written decl.now)) }
 {
     let params = type_parameters(alloc, decl)?;
     let scope = Scope {

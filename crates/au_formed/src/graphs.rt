@@ -15,7 +15,9 @@ use std::alloc::Global;
 /// Adds an edge to the first record or union that declares a type, if there is one.
 fn add_edge(graph: &mut Graph, table: &Declarers, from: usize, name: DeclAt) -> Result<(), Memory>
     requires { from < length graph.old }
-    ensures { OnOk result (graph.new ≡ slice_set graph.old from (successors graph.old from ++ option_to_list (index_at table.now name))) }
+    ensures { OnOk result
+        (graph.new ≡ slice_set graph.old from
+        (successors graph.old from ++ option_to_list (index_at table.now name))) }
 {
     match table.get(name) {
         None => Ok(()),
@@ -31,7 +33,9 @@ fn add_edges(
     names: &[DeclAt],
 ) -> Result<(), Memory>
     requires { from < length graph.old }
-    ensures { OnOk result (graph.new ≡ slice_set graph.old from (successors graph.old from ++ filter_map (index_at table.now) names.now)) }
+    ensures { OnOk result
+        (graph.new ≡ slice_set graph.old from
+        (successors graph.old from ++ filter_map (index_at table.now) names.now)) }
 {
     for one in names {
         add_edge(graph, table, from, *one)?;

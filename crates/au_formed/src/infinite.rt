@@ -15,7 +15,8 @@ use std::alloc::Global;
 
 /// Of these records and unions the first that lies on a cycle, by its index.
 fn first_index(alloc: Global, namings: &Vec<Naming>) -> Result<Option<usize>, Memory>
-    ensures found { IfOk result (λ first. (k : ℕ) → (first ≡ Some k) ↔ IsFirstOnCycle (graph_of namings.now.items) k) }
+    ensures found { IfOk result
+        (λ first. (k : ℕ) → (first ≡ Some k) ↔ IsFirstOnCycle (graph_of namings.now.items) k) }
     ensures none { IfOk result (λ first. (first ≡ None) ↔ HasNoCycle (graph_of namings.now.items)) }
 {
     let table = first_declarers(alloc, namings)?;

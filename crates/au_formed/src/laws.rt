@@ -11,7 +11,8 @@ ghost use Rattle.au_types.specs.declared.types.DeclAt.{DeclAt};
 
 /// A declaration is refused for nothing exactly where it is well made.
 pub fn well_made_declarations_are_not_refused()
-    ensures { (visible : List (Bytes × DeclAt)) (heads : List (DeclAt × Head)) (d : PlainDeclaration) → (form_fault visible heads d ≡ None) ↔ IsWellMade visible heads d }
+    ensures { (visible : List (Bytes × DeclAt)) (heads : List (DeclAt × Head)) (d : PlainDeclaration)
+        → (form_fault visible heads d ≡ None) ↔ IsWellMade visible heads d }
 {}
 
 /// The test finds a type infinite exactly where it leads back to itself.

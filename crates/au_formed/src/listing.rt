@@ -4,8 +4,9 @@ ghost use Rattle.std.specs.Prelude.{◌≡◌, ◌++◌, ◌∷◌, IfOk, OnOk};
 ghost use Rattle.std.specs.List.{flat_map};
 ghost use Rattle.au_formed.specs.Said.{name_said, writings_said};
 ghost use Rattle.au_formed.specs.Writings as spec;
-ghost use Rattle.au_names.specs.Walks as walks;
-ghost use Rattle.au_mentions.specs.Said.{cases_said, expression_said, fields_said, generics_said, header_said, headers_said, methods_said};
+ghost use Rattle.au_heads.specs.Walks as walks;
+ghost use Rattle.au_mentions.specs.Said.{cases_said, expression_said, fields_said, generics_said};
+ghost use Rattle.au_mentions.specs.Said.{header_said, headers_said, methods_said};
 ghost use Rattle.au_syntax.specs.Views.{written};
 
 use crate::pushing::{
@@ -27,7 +28,10 @@ fn push_constant_body<'a>(
     of: &'a TypeText,
     value: &'a Expr<Parsed>,
 ) -> Result<(), Memory>
-    ensures { OnOk result (writings_said list.new.items ≡ writings_said list.old.items ++ spec.a_type (written of.now) ∷ spec.value_writings (expression_said value.now)) }
+    ensures { OnOk result
+        (writings_said list.new.items
+        ≡ writings_said list.old.items
+        ++ spec.a_type (written of.now) ∷ spec.value_writings (expression_said value.now)) }
 {
     push_type(list, of)?;
     push_value(list, value)
@@ -40,7 +44,10 @@ fn push_record<'a>(
     universe: Universe,
     fields: &'a Vec<Field<Parsed>>,
 ) -> Result<(), Memory>
-    ensures { OnOk result (writings_said list.new.items ≡ writings_said list.old.items ++ spec.a_universe at universe ∷ spec.field_writings (fields_said fields.now.items)) }
+    ensures { OnOk result
+        (writings_said list.new.items
+        ≡ writings_said list.old.items
+        ++ spec.a_universe at universe ∷ spec.field_writings (fields_said fields.now.items)) }
 {
     push_universe(list, at, universe)?;
     push_fields(list, fields)
@@ -53,7 +60,10 @@ fn push_union<'a>(
     universe: Universe,
     cases: &'a Vec<UnionCase<Parsed>>,
 ) -> Result<(), Memory>
-    ensures { OnOk result (writings_said list.new.items ≡ writings_said list.old.items ++ spec.a_universe at universe ∷ flat_map spec.case_writings (cases_said cases.now.items)) }
+    ensures { OnOk result
+        (writings_said list.new.items
+        ≡ writings_said list.old.items
+        ++ spec.a_universe at universe ∷ flat_map spec.case_writings (cases_said cases.now.items)) }
 {
     push_universe(list, at, universe)?;
     push_cases(list, cases)
@@ -65,7 +75,10 @@ fn push_function<'a>(
     generics: &'a Vec<Generic<Parsed>>,
     one: &'a Signature<Parsed>,
 ) -> Result<(), Memory>
-    ensures { OnOk result (writings_said list.new.items ≡ writings_said list.old.items ++ spec.function_writings (generics_said generics.now.items) (header_said one.now)) }
+    ensures { OnOk result
+        (writings_said list.new.items
+        ≡ writings_said list.old.items
+        ++ spec.function_writings (generics_said generics.now.items) (header_said one.now)) }
 {
     push_generics(list, generics)?;
     push_header(list, one)
@@ -77,7 +90,11 @@ fn push_methods_of<'a>(
     one: &TypeParameter<Parsed>,
     methods: &'a Vec<Signature<Parsed>>,
 ) -> Result<(), Memory>
-    ensures { OnOk result (writings_said list.new.items ≡ writings_said list.old.items ++ spec.a_universe one.now.name.at one.now.universe ∷ flat_map spec.header_writings (headers_said methods.now.items)) }
+    ensures { OnOk result
+        (writings_said list.new.items
+        ≡ writings_said list.old.items
+        ++ spec.a_universe one.now.name.at one.now.universe
+        ∷ flat_map spec.header_writings (headers_said methods.now.items)) }
 {
     push_universe(list, one.name.at, one.universe)?;
     push_headers(list, methods)
@@ -90,7 +107,10 @@ fn push_instance<'a>(
     name: &'a Ident<Parsed>,
     of: &'a TypeText,
 ) -> Result<(), Memory>
-    ensures { OnOk result (writings_said list.new.items ≡ writings_said list.old.items ++ spec.instance_writings (generics_said generics.now.items) (name_said name.now) (written of.now)) }
+    ensures { OnOk result
+        (writings_said list.new.items
+        ≡ writings_said list.old.items
+        ++ spec.instance_writings (generics_said generics.now.items) (name_said name.now) (written of.now)) }
 {
     push_generics(list, generics)?;
     push_class(list, name)?;
@@ -105,7 +125,11 @@ fn push_instance_body<'a>(
     of: &'a TypeText,
     methods: &'a Vec<Method<Parsed>>,
 ) -> Result<(), Memory>
-    ensures { OnOk result (writings_said list.new.items ≡ writings_said list.old.items ++ (spec.instance_writings (generics_said generics.now.items) (name_said name.now) (written of.now) ++ flat_map spec.method_writings (methods_said methods.now.items))) }
+    ensures { OnOk result
+        (writings_said list.new.items
+        ≡ writings_said list.old.items
+        ++ (spec.instance_writings (generics_said generics.now.items) (name_said name.now) (written of.now)
+        ++ flat_map spec.method_writings (methods_said methods.now.items))) }
 {
     push_instance(list, generics, name, of)?;
     push_methods(list, methods)
@@ -113,7 +137,9 @@ fn push_instance_body<'a>(
 
 /// Puts a declaration.
 fn push_declaration<'a>(list: &mut Vec<Writing<'a>>, decl: &'a Decl<Parsed>) -> Result<(), Memory>
-    ensures { OnOk result (writings_said list.new.items ≡ writings_said list.old.items ++ spec.writings (walks.written decl.now)) }
+    ensures { OnOk result
+        (writings_said list.new.items
+        ≡ writings_said list.old.items ++ spec.writings (walks.written decl.now)) }
 {
     match decl {
         Decl::Constant(_, _, of) => push_type(list, of),
@@ -131,9 +157,9 @@ fn push_declaration<'a>(list: &mut Vec<Writing<'a>>, decl: &'a Decl<Parsed>) -> 
     }
 }
 
-/// What is written in a declaration and may not be well formed, in the order of the text and outside the bodies
-/// of functions and methods: types, names that stand for classes, and universes that may not be `Region`. The
-/// types that are written in a constant's value are among them.
+/// What is written in a declaration and may not be well formed, in the order of the text and outside the
+/// bodies of functions and methods: types, names that stand for classes, and universes that may not be
+/// `Region`. The types that are written in a constant's value are among them.
 ///
 /// # Errors
 ///

@@ -71,7 +71,8 @@ fn is_region(universe: Universe) -> bool
 
 /// Whether something that is written isn't well formed.
 fn is_ill(alloc: Global, scope: &Scope, one: &Writing) -> Result<bool, Memory>
-    ensures { IfOk result (λ ill. ill ≡ spec.is_ill (judged_in scope.now) (sense_in scope.now) (writing_said one.now)) }
+    ensures { IfOk result
+        (λ ill. ill ≡ spec.is_ill (judged_in scope.now) (sense_in scope.now) (writing_said one.now)) }
 {
     match one {
         Writing::Type(of) => is_failure(alloc, scope, of),
@@ -82,7 +83,9 @@ fn is_ill(alloc: Global, scope: &Scope, one: &Writing) -> Result<bool, Memory>
 
 /// The place of the first that isn't well formed.
 fn first_ill(alloc: Global, scope: &Scope, list: &Vec<Writing>) -> Result<Option<Pos>, Memory>
-    ensures { IfOk result (λ found. found ≡ spec.malformed (judged_in scope.now) (sense_in scope.now) (writings_said list.now.items)) }
+    ensures { IfOk result
+        (λ found. found ≡ spec.malformed (judged_in scope.now) (sense_in scope.now)
+        (writings_said list.now.items)) }
 {
     for one in list {
         if is_ill(alloc, scope, one)? {
@@ -98,7 +101,9 @@ fn first_ill(alloc: Global, scope: &Scope, list: &Vec<Writing>) -> Result<Option
 ///
 /// Only for want of memory.
 pub fn malformed(alloc: Global, scope: &Scope, decl: &Decl<Parsed>) -> Result<Option<Pos>, Memory>
-    ensures { IfOk result (λ found. found ≡ spec.malformed (judged_in scope.now) (sense_in scope.now) (writing.writings (walks.written decl.now))) }
+    ensures { IfOk result
+        (λ found. found ≡ spec.malformed (judged_in scope.now) (sense_in scope.now)
+        (writing.writings (walks.written decl.now))) }
 {
     let list = writings_of(alloc, decl)?;
     first_ill(alloc, scope, &list)

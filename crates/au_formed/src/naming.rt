@@ -48,7 +48,8 @@ fn declared_type(scope: &Scope, name: &Name) -> Option<DeclAt>
 
 /// Whether the text of a declared type is that of `Box` or `Buffer`.
 fn is_holder_text(text: &[u8]) -> bool
-    ensures { result ≡ (bytes_eq text.now (codes "Standard.Box:Box") || bytes_eq text.now (codes "Standard.Buffer:Buffer")) }
+    ensures { result ≡ (bytes_eq text.now (codes "Standard.Box:Box") || bytes_eq text.now
+        (codes "Standard.Buffer:Buffer")) }
 {
     is_text(text, b"Standard.Box:Box") || is_text(text, b"Standard.Buffer:Buffer")
 }
@@ -73,7 +74,9 @@ fn is_holder(heads: &Heads, at: DeclAt) -> bool
 #[tactic(auto, using(au_syntax::proofs::TypeLemmas::type_steps, crate::proofs::NamedLemmas::named_steps, std::proofs::lemmas::Grind::common_steps))]
 #[cycle(push_named)]
 fn push_named(list: &mut Vec<DeclAt>, scope: &Scope, node: &TypeText) -> Result<(), Memory>
-    ensures { OnOk result (list.new.items ≡ list.old.items ++ spec.types_named (sense_in scope.now) (spec.holder_in scope.now.heads.now) (written node.now)) }
+    ensures { OnOk result
+        (list.new.items ≡ list.old.items
+        ++ spec.types_named (sense_in scope.now) (spec.holder_in scope.now.heads.now) (written node.now)) }
 {
     match node {
         TypeText::Named(name, args) => push_with(
@@ -94,7 +97,11 @@ fn push_with(
     at: Option<DeclAt>,
     args: &Vec<TypeText>,
 ) -> Result<(), Memory>
-    ensures { OnOk result (list.new.items ≡ list.old.items ++ spec.named_by (spec.holder_in scope.now.heads.now) at (spec.all_named (sense_in scope.now) (spec.holder_in scope.now.heads.now) (written_all args.now.items))) }
+    ensures { OnOk result
+        (list.new.items ≡ list.old.items
+        ++ spec.named_by (spec.holder_in scope.now.heads.now) at
+        (spec.all_named (sense_in scope.now) (spec.holder_in scope.now.heads.now)
+        (written_all args.now.items))) }
 {
     let Some(at) = at else {
         return push_all(list, scope, args);
@@ -110,7 +117,10 @@ fn push_with(
 /// Puts the declared types that are named in written types.
 #[cycle(push_named)]
 fn push_all(list: &mut Vec<DeclAt>, scope: &Scope, nodes: &Vec<TypeText>) -> Result<(), Memory>
-    ensures { OnOk result (list.new.items ≡ list.old.items ++ spec.all_named (sense_in scope.now) (spec.holder_in scope.now.heads.now) (written_all nodes.now.items)) }
+    ensures { OnOk result
+        (list.new.items ≡ list.old.items
+        ++ spec.all_named (sense_in scope.now) (spec.holder_in scope.now.heads.now)
+        (written_all nodes.now.items)) }
 {
     for one in nodes {
         push_named(list, scope, one)?;
@@ -124,7 +134,10 @@ fn push_fields(
     scope: &Scope,
     fields: &Vec<Field<Parsed>>,
 ) -> Result<(), Memory>
-    ensures { OnOk result (list.new.items ≡ list.old.items ++ spec.fields_name (sense_in scope.now) (spec.holder_in scope.now.heads.now) (fields_said fields.now.items)) }
+    ensures { OnOk result
+        (list.new.items ≡ list.old.items
+        ++ spec.fields_name (sense_in scope.now) (spec.holder_in scope.now.heads.now)
+        (fields_said fields.now.items)) }
 {
     for one in fields {
         push_named(list, scope, &one.of)?;
@@ -138,7 +151,10 @@ fn push_cases(
     scope: &Scope,
     cases: &Vec<UnionCase<Parsed>>,
 ) -> Result<(), Memory>
-    ensures { OnOk result (list.new.items ≡ list.old.items ++ flat_map (spec.case_names (sense_in scope.now) (spec.holder_in scope.now.heads.now)) (cases_said cases.now.items)) }
+    ensures { OnOk result
+        (list.new.items ≡ list.old.items
+        ++ flat_map (spec.case_names (sense_in scope.now) (spec.holder_in scope.now.heads.now))
+        (cases_said cases.now.items)) }
 {
     for one in cases {
         push_fields(list, scope, &one.fields)?;
@@ -152,7 +168,10 @@ fn push_cases(
 ///
 /// Only for want of memory.
 pub fn push_names(list: &mut Vec<DeclAt>, scope: &Scope, decl: &Decl<Parsed>) -> Result<(), Memory>
-    ensures { OnOk result (list.new.items ≡ list.old.items ++ spec.declaration_names (sense_in scope.now) (spec.holder_in scope.now.heads.now) (walks.written decl.now)) }
+    ensures { OnOk result
+        (list.new.items ≡ list.old.items
+        ++ spec.declaration_names (sense_in scope.now) (spec.holder_in scope.now.heads.now)
+        (walks.written decl.now)) }
 {
     match decl {
         Decl::Constant(_, _, _) => Ok(()),
@@ -186,8 +205,8 @@ fn whole_name(decl: &Decl<Parsed>) -> Option<&Name>
     }
 }
 
-/// The type that a record or a union declares: what its name means where it stands. For what defines an opaque
-/// type it is the opaque type. `None` for all else.
+/// The type that a record or a union declares: what its name means where it stands. For what defines an
+/// opaque type it is the opaque type. `None` for all else.
 pub fn type_of(visible: &Visible, decl: &Decl<Parsed>) -> Option<DeclAt>
     ensures { result ≡ spec.type_of visible.now.names.now (walks.written decl.now) }
 {

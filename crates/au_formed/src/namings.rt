@@ -25,8 +25,8 @@ use std::alloc::Global;
 pub struct Naming {
     /// The type that it declares.
     pub of: DeclAt,
-    /// The declared types that its fields name outside the arguments of boxes and buffers, in the order of the
-    /// text.
+    /// The declared types that its fields name outside the arguments of boxes and buffers, in the order of
+    /// the text.
     pub names: Sequence<DeclAt>,
 }
 
@@ -36,7 +36,9 @@ fn names_in(
     visible: &Visible,
     decl: &Decl<Parsed>,
 ) -> Result<Sequence<DeclAt>, Memory>
-    ensures { IfOk result (λ names. names ≡ spec.names_in visible.now.names.now visible.now.heads.now (walks.written decl.now)) }
+    ensures { IfOk result
+        (λ names. names ≡ spec.names_in visible.now.names.now visible.now.heads.now
+        (walks.written decl.now)) }
 {
     let params = type_parameters(alloc, decl)?;
     let scope = Scope {
@@ -56,7 +58,8 @@ fn naming_of(
     visible: &Visible,
     decl: &Decl<Parsed>,
 ) -> Result<Option<Naming>, Memory>
-    ensures { IfOk result (λ found. found ≡ spec.naming visible.now.names.now visible.now.heads.now (walks.written decl.now)) }
+    ensures { IfOk result
+        (λ found. found ≡ spec.naming visible.now.names.now visible.now.heads.now (walks.written decl.now)) }
 {
     match type_of(visible, decl) {
         None => Ok(None),
@@ -74,7 +77,10 @@ fn push_naming(
     visible: &Visible,
     decl: &Decl<Parsed>,
 ) -> Result<(), Memory>
-    ensures { OnOk result (list.new.items ≡ list.old.items ++ option_to_list (spec.naming visible.now.names.now visible.now.heads.now (walks.written decl.now))) }
+    ensures { OnOk result
+        (list.new.items ≡ list.old.items
+        ++ option_to_list (spec.naming visible.now.names.now visible.now.heads.now
+        (walks.written decl.now))) }
 {
     match naming_of(alloc, visible, decl)? {
         None => Ok(()),

@@ -4,7 +4,8 @@ ghost use Rattle.std.specs.Prelude.{◌≡◌, ◌++◌, ◌∷◌, [], OnOk};
 ghost use Rattle.std.specs.List.{flat_map};
 ghost use Rattle.au_formed.specs.Said.{name_said, writings_said};
 ghost use Rattle.au_formed.specs.Writings as spec;
-ghost use Rattle.au_mentions.specs.Said.{cases_said, fields_said, generic_said, generics_said, header_said, headers_said, methods_said, names_said};
+ghost use Rattle.au_mentions.specs.Said.{cases_said, fields_said, generic_said, generics_said, header_said};
+ghost use Rattle.au_mentions.specs.Said.{headers_said, methods_said, names_said};
 ghost use Rattle.au_syntax.specs.Views.{written};
 
 use crate::writings::Writing;
@@ -13,7 +14,8 @@ use au_syntax::{Field, Generic, Ident, Method, Parsed, Signature, TypeText, Unio
 
 /// Puts a type.
 pub fn push_type<'a>(list: &mut Vec<Writing<'a>>, of: &'a TypeText) -> Result<(), Memory>
-    ensures { OnOk result (writings_said list.new.items ≡ writings_said list.old.items ++ spec.a_type (written of.now) ∷ []) }
+    ensures { OnOk result
+        (writings_said list.new.items ≡ writings_said list.old.items ++ spec.a_type (written of.now) ∷ []) }
 {
     list.push(Writing::Type(of))?;
     Ok(())
@@ -21,7 +23,9 @@ pub fn push_type<'a>(list: &mut Vec<Writing<'a>>, of: &'a TypeText) -> Result<()
 
 /// Puts a name that stands for a class.
 pub fn push_class<'a>(list: &mut Vec<Writing<'a>>, name: &'a Ident<Parsed>) -> Result<(), Memory>
-    ensures { OnOk result (writings_said list.new.items ≡ writings_said list.old.items ++ spec.a_class (name_said name.now) ∷ []) }
+    ensures { OnOk result
+        (writings_said list.new.items
+        ≡ writings_said list.old.items ++ spec.a_class (name_said name.now) ∷ []) }
 {
     list.push(Writing::Class(name))?;
     Ok(())
@@ -29,7 +33,8 @@ pub fn push_class<'a>(list: &mut Vec<Writing<'a>>, name: &'a Ident<Parsed>) -> R
 
 /// Puts a universe that may not be `Region`.
 pub fn push_universe(list: &mut Vec<Writing>, at: Pos, universe: Universe) -> Result<(), Memory>
-    ensures { OnOk result (writings_said list.new.items ≡ writings_said list.old.items ++ spec.a_universe at universe ∷ []) }
+    ensures { OnOk result
+        (writings_said list.new.items ≡ writings_said list.old.items ++ spec.a_universe at universe ∷ []) }
 {
     list.push(Writing::InUniverse(at, universe))?;
     Ok(())
@@ -40,7 +45,9 @@ pub fn push_fields<'a>(
     list: &mut Vec<Writing<'a>>,
     fields: &'a Vec<Field<Parsed>>,
 ) -> Result<(), Memory>
-    ensures { OnOk result (writings_said list.new.items ≡ writings_said list.old.items ++ spec.field_writings (fields_said fields.now.items)) }
+    ensures { OnOk result
+        (writings_said list.new.items
+        ≡ writings_said list.old.items ++ spec.field_writings (fields_said fields.now.items)) }
 {
     for one in fields {
         push_type(list, &one.of)?;
@@ -53,7 +60,9 @@ fn push_classes<'a>(
     list: &mut Vec<Writing<'a>>,
     names: &'a Vec<Ident<Parsed>>,
 ) -> Result<(), Memory>
-    ensures { OnOk result (writings_said list.new.items ≡ writings_said list.old.items ++ spec.class_writings (names_said names.now.items)) }
+    ensures { OnOk result
+        (writings_said list.new.items
+        ≡ writings_said list.old.items ++ spec.class_writings (names_said names.now.items)) }
 {
     for one in names {
         push_class(list, one)?;
@@ -63,7 +72,9 @@ fn push_classes<'a>(
 
 /// Puts a type parameter behind `generic`, with its constraints.
 fn push_generic<'a>(list: &mut Vec<Writing<'a>>, one: &'a Generic<Parsed>) -> Result<(), Memory>
-    ensures { OnOk result (writings_said list.new.items ≡ writings_said list.old.items ++ spec.generic_writings (generic_said one.now)) }
+    ensures { OnOk result
+        (writings_said list.new.items
+        ≡ writings_said list.old.items ++ spec.generic_writings (generic_said one.now)) }
 {
     if one.classes.is_empty() {
         return Ok(());
@@ -77,7 +88,9 @@ pub fn push_generics<'a>(
     list: &mut Vec<Writing<'a>>,
     generics: &'a Vec<Generic<Parsed>>,
 ) -> Result<(), Memory>
-    ensures { OnOk result (writings_said list.new.items ≡ writings_said list.old.items ++ flat_map spec.generic_writings (generics_said generics.now.items)) }
+    ensures { OnOk result
+        (writings_said list.new.items
+        ≡ writings_said list.old.items ++ flat_map spec.generic_writings (generics_said generics.now.items)) }
 {
     for one in generics {
         push_generic(list, one)?;
@@ -90,7 +103,9 @@ pub fn push_header<'a>(
     list: &mut Vec<Writing<'a>>,
     one: &'a Signature<Parsed>,
 ) -> Result<(), Memory>
-    ensures { OnOk result (writings_said list.new.items ≡ writings_said list.old.items ++ spec.header_writings (header_said one.now)) }
+    ensures { OnOk result
+        (writings_said list.new.items
+        ≡ writings_said list.old.items ++ spec.header_writings (header_said one.now)) }
 {
     push_fields(list, &one.parameters)?;
     push_type(list, &one.result)
@@ -101,7 +116,9 @@ pub fn push_headers<'a>(
     list: &mut Vec<Writing<'a>>,
     methods: &'a Vec<Signature<Parsed>>,
 ) -> Result<(), Memory>
-    ensures { OnOk result (writings_said list.new.items ≡ writings_said list.old.items ++ flat_map spec.header_writings (headers_said methods.now.items)) }
+    ensures { OnOk result
+        (writings_said list.new.items
+        ≡ writings_said list.old.items ++ flat_map spec.header_writings (headers_said methods.now.items)) }
 {
     for one in methods {
         push_header(list, one)?;
@@ -114,7 +131,9 @@ pub fn push_cases<'a>(
     list: &mut Vec<Writing<'a>>,
     cases: &'a Vec<UnionCase<Parsed>>,
 ) -> Result<(), Memory>
-    ensures { OnOk result (writings_said list.new.items ≡ writings_said list.old.items ++ flat_map spec.case_writings (cases_said cases.now.items)) }
+    ensures { OnOk result
+        (writings_said list.new.items
+        ≡ writings_said list.old.items ++ flat_map spec.case_writings (cases_said cases.now.items)) }
 {
     for one in cases {
         push_fields(list, &one.fields)?;
@@ -127,7 +146,9 @@ pub fn push_methods<'a>(
     list: &mut Vec<Writing<'a>>,
     methods: &'a Vec<Method<Parsed>>,
 ) -> Result<(), Memory>
-    ensures { OnOk result (writings_said list.new.items ≡ writings_said list.old.items ++ flat_map spec.method_writings (methods_said methods.now.items)) }
+    ensures { OnOk result
+        (writings_said list.new.items
+        ≡ writings_said list.old.items ++ flat_map spec.method_writings (methods_said methods.now.items)) }
 {
     for one in methods {
         push_header(list, &one.signature)?;

@@ -38,8 +38,8 @@ fn next_number(number: u32) -> Result<u32, Memory>
     }
 }
 
-/// Puts declarations of a part of the module at a place, the first of which has this number. Answers the number
-/// behind them.
+/// Puts declarations of a part of the module at a place, the first of which has this number. Answers the
+/// number behind them.
 fn push_declarations<'a>(
     list: &mut Vec<Spot<'a>>,
     place: u16,
@@ -47,7 +47,9 @@ fn push_declarations<'a>(
     first: u32,
     decls: &'a Vec<Decl<Parsed>>,
 ) -> Result<u32, Memory>
-    ensures spots { OnOk result (spots_said list.new.items ≡ spots_said list.old.items ++ spec.spots_from place part first (written_all decls.now.items)) }
+    ensures spots { OnOk result
+        (spots_said list.new.items
+        ≡ spots_said list.old.items ++ spec.spots_from place part first (written_all decls.now.items)) }
     ensures next { IfOk result (λ next. next ≡ first + length (written_all decls.now.items)) }
 {
     let mut number = first;
@@ -62,8 +64,8 @@ fn push_declarations<'a>(
     Ok(number)
 }
 
-/// Puts the declarations of a part of the module at a place, if it is there, the first of which has this number.
-/// Answers the number behind them.
+/// Puts the declarations of a part of the module at a place, if it is there, the first of which has this
+/// number. Answers the number behind them.
 fn push_part<'a>(
     list: &mut Vec<Spot<'a>>,
     place: u16,
@@ -71,7 +73,10 @@ fn push_part<'a>(
     first: u32,
     file: Option<&'a Whole<Parsed>>,
 ) -> Result<u32, Memory>
-    ensures spots { OnOk result (spots_said list.new.items ≡ spots_said list.old.items ++ spec.spots_from place part first (declarations_seen (tree_seen file.entry))) }
+    ensures spots { OnOk result
+        (spots_said list.new.items
+        ≡ spots_said list.old.items
+        ++ spec.spots_from place part first (declarations_seen (tree_seen file.entry))) }
     ensures next { IfOk result (λ next. next ≡ first + length (declarations_seen (tree_seen file.entry))) }
 {
     match file {
@@ -97,7 +102,8 @@ fn push_module<'a>(
     place: usize,
 ) -> Result<(), Memory>
     requires { place < length (slots.modules modules.now) }
-    ensures { (m : ModuleParts) → slice_get (slots.modules modules.now) place ≡ Some m → OnOk result (spots_said list.new.items ≡ spots_said list.old.items ++ spec.module_spots place m) }
+    ensures { (m : ModuleParts) → slice_get (slots.modules modules.now) place ≡ Some m
+        → OnOk result (spots_said list.new.items ≡ spots_said list.old.items ++ spec.module_spots place m) }
 {
     let at = place_number(place)?;
     let number = push_part(list, at, Part::Interface, 0, modules.interface(place))?;

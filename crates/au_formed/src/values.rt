@@ -13,7 +13,9 @@ use au_syntax::{Argument, Expr, Parsed};
 /// Puts the types that are written in a value. A type stands behind what it is written for.
 #[cycle(push_value)]
 pub fn push_value<'a>(list: &mut Vec<Writing<'a>>, value: &'a Expr<Parsed>) -> Result<(), Memory>
-    ensures { OnOk result (writings_said list.new.items ≡ writings_said list.old.items ++ value_writings (expression_said value.now)) }
+    ensures { OnOk result
+        (writings_said list.new.items
+        ≡ writings_said list.old.items ++ value_writings (expression_said value.now)) }
 {
     match value {
         Expr::Number(_, _) => Ok(()),
@@ -49,7 +51,9 @@ pub fn push_value<'a>(list: &mut Vec<Writing<'a>>, value: &'a Expr<Parsed>) -> R
 /// Puts the types that are written in the arguments of a call.
 #[cycle(push_value)]
 fn push_values<'a>(list: &mut Vec<Writing<'a>>, values: &'a Vec<Expr<Parsed>>) -> Result<(), Memory>
-    ensures { OnOk result (writings_said list.new.items ≡ writings_said list.old.items ++ values_writings (expressions_said values.now.items)) }
+    ensures { OnOk result
+        (writings_said list.new.items
+        ≡ writings_said list.old.items ++ values_writings (expressions_said values.now.items)) }
 {
     for one in values {
         push_value(list, one)?;
@@ -63,7 +67,9 @@ fn push_named_values<'a>(
     list: &mut Vec<Writing<'a>>,
     arguments: &'a Vec<Argument<Parsed>>,
 ) -> Result<(), Memory>
-    ensures { OnOk result (writings_said list.new.items ≡ writings_said list.old.items ++ named_values_writings (arguments_said arguments.now.items)) }
+    ensures { OnOk result
+        (writings_said list.new.items
+        ≡ writings_said list.old.items ++ named_values_writings (arguments_said arguments.now.items)) }
 {
     for one in arguments {
         push_named_value(list, one)?;
@@ -77,7 +83,9 @@ fn push_named_value<'a>(
     list: &mut Vec<Writing<'a>>,
     argument: &'a Argument<Parsed>,
 ) -> Result<(), Memory>
-    ensures { OnOk result (writings_said list.new.items ≡ writings_said list.old.items ++ value_writings (expression_said argument.now.value)) }
+    ensures { OnOk result
+        (writings_said list.new.items
+        ≡ writings_said list.old.items ++ value_writings (expression_said argument.now.value)) }
 {
     push_value(list, &argument.value)
 }

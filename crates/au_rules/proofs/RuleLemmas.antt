@@ -1,5 +1,6 @@
 -- Declarations are refused for nothing exactly where all are good.
-use Rattle.std.proofs.Common.{◌≡◌, Bool, true, false, List, Option, None, Some, refl, sym, ap, ◌∙◌, Contains, true≢false}
+use Rattle.std.proofs.Common.{◌≡◌, Bool, true, false, List, Option, None, Some, refl, sym, ap, ◌∙◌, Contains}
+use Rattle.std.proofs.Common.{true≢false}
 use Rattle.std.specs.Prelude.{◌↔◌}
 use Rattle.std.specs.Option.{option_map, option_or}
 use Rattle.std.proofs.lemmas.Option.{none-some}
@@ -10,7 +11,8 @@ use Rattle.au_names.specs.HeadsOf.{heads_of}
 use Rattle.au_again.specs.declared.doubles.Double.{Double}
 use Rattle.au_again.specs.Doubles.{first_double}
 use Rattle.au_again.specs.Once.{AllNamesAreOnce}
-use Rattle.au_name_faults.proofs.ChoiceLemmas.{Among, among, contains, first_from, first_to, or_first, or_neither, or_second, so_from, so_to}
+use Rattle.au_name_faults.proofs.ChoiceLemmas.{Among, among, contains, first_from, first_to, or_first}
+use Rattle.au_name_faults.proofs.ChoiceLemmas.{or_neither, or_second, so_from, so_to}
 use Rattle.au_promises.specs.Promises.{declaration_place}
 use Rattle.au_formed.specs.Forms.{form_fault}
 use Rattle.au_formed.specs.Infinite.{IsInfinite, is_infinite}
@@ -42,7 +44,8 @@ module _ (program : List ModuleParts) where
 
   -- ---- types
 
-  finite_from : (d : PlainDeclaration) (t : Option DeclAt) → type_fault infinite d t ≡ None → (a : DeclAt) → t ≡ Some a → ¬ IsInfinite (namings program) a
+  finite_from : (d : PlainDeclaration) (t : Option DeclAt) → type_fault infinite d t ≡ None → (a : DeclAt)
+      → t ≡ Some a → ¬ IsInfinite (namings program) a
   finite_from d None h a is = absurd (none-some a is)
   finite_from d (Some b) h a is = λ leads.
       let passes : infinite b ≡ true = ap (λ o. by o) is ∙ infinite_to (namings program) a leads in
@@ -52,7 +55,8 @@ module _ (program : List ModuleParts) where
       by None = false
       by (Some x) = infinite x
 
-  finite_to : (d : PlainDeclaration) (t : Option DeclAt) → ((a : DeclAt) → t ≡ Some a → ¬ IsInfinite (namings program) a) → type_fault infinite d t ≡ None
+  finite_to : (d : PlainDeclaration) (t : Option DeclAt)
+      → ((a : DeclAt) → t ≡ Some a → ¬ IsInfinite (namings program) a) → type_fault infinite d t ≡ None
   finite_to d None h = refl
   finite_to d (Some a) h = so_to (infinite a) (fault.Infinite (declaration_place d)) (by (infinite a) refl)
     where
@@ -75,15 +79,20 @@ module _ (program : List ModuleParts) where
   good_spot s h =
       let later = or_second (double s) (option_or (form s) (last s)) h in
       record {
-        made = well_made_from (visible_at program s) (heads_of program) s.says (map_none of_form (form_fault (visible_at program s) (heads_of program) s.says) (or_first (form s) (last s) later));
+        made = well_made_from (visible_at program s) (heads_of program) s.says
+            (map_none of_form (form_fault (visible_at program s) (heads_of program) s.says)
+            (or_first (form s) (last s) later));
         finite = finite_from s.says (the_type s) (or_second (form s) (last s) later);
       }
 
-  spot_good : (s : Spot) → first_double program s.at ≡ None → DeclarationIsGood program s → declaration_fault program s ≡ None
+  spot_good : (s : Spot) → first_double program s.at ≡ None → DeclarationIsGood program s
+      → declaration_fault program s ≡ None
   spot_good s once good =
-      or_neither (double s) (option_or (form s) (last s)) (none_map of_double (first_double program s.at) once)
+      or_neither (double s) (option_or (form s) (last s))
+      (none_map of_double (first_double program s.at) once)
       (or_neither (form s) (last s)
-      (none_map of_form (form_fault (visible_at program s) (heads_of program) s.says) (well_made_to (visible_at program s) (heads_of program) s.says good.made))
+      (none_map of_form (form_fault (visible_at program s) (heads_of program) s.says)
+      (well_made_to (visible_at program s) (heads_of program) s.says good.made))
       (finite_to s.says (the_type s) good.finite))
 
   -- ---- all
@@ -95,15 +104,19 @@ module _ (program : List ModuleParts) where
       by None e = refl
       by (Some d) e =
           let there = double_stands program at d e in
-          let none : declaration_fault program there.0 ≡ None = first_from (declaration_fault program) (text program) h there.0 there.1 in
-          let once : first_double program there.0.at ≡ None = map_none of_double (first_double program there.0.at) (or_first (double there.0) (option_or (form there.0) (last there.0)) none) in
+          let none : declaration_fault program there.0
+          ≡ None = first_from (declaration_fault program) (text program) h there.0 there.1 in
+          let once : first_double program there.0.at
+          ≡ None = map_none of_double (first_double program there.0.at)
+          (or_first (double there.0) (option_or (form there.0) (last there.0)) none) in
           absurd (none-some d (sym once ∙ ap (first_double program) there.2 ∙ e))
 
   module _ (law : ((at : DeclAt) → first_double program at ≡ None) ↔ AllNamesAreOnce program) where
     pub all_good : decl_fault program ≡ None → AllDeclarationsAreGood program
     all_good h = record {
       once = law.0 (no_double h);
-      each = λ s m. good_spot s (first_from (declaration_fault program) (text program) h s (among (text program) s m));
+      each = λ s m. good_spot s
+          (first_from (declaration_fault program) (text program) h s (among (text program) s m));
     }
 
     pub none_refused : AllDeclarationsAreGood program → decl_fault program ≡ None

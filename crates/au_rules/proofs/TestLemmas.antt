@@ -1,5 +1,7 @@
--- The first declaration that is refused is the same, whether all types that are infinite are known or the first alone.
-use Rattle.std.proofs.Common.{◌≡◌, inl, inr, Bool, true, false, cond, List, [], ◌∷◌, find, map, Option, None, Some, refl, sym, ap, ◌∙◌, subst, true≢false}
+-- The first declaration that is refused is the same, whether all types that are infinite are known or the
+-- first alone.
+use Rattle.std.proofs.Common.{◌≡◌, inl, inr, Bool, true, false, cond, List, [], ◌∷◌, find, map, Option, None}
+use Rattle.std.proofs.Common.{Some, refl, sym, ap, ◌∙◌, subst, true≢false}
 use Rattle.std.specs.List.{cons_option, filter_map}
 use Rattle.std.specs.Option.{option_map, option_or}
 use Rattle.std.proofs.lemmas.Option.{none-some, same_Some}
@@ -28,7 +30,8 @@ found_passes : {A : Type 0} (p : A → Bool) (xs : List A) (x : A) → find p xs
 found_passes p [] x h = absurd (none-some x h)
 found_passes p (y ∷ ys) x h = by (p y) refl h (found_passes p ys x)
   where
-    by : (b : Bool) → p y ≡ b → cond b (Some y) (find p ys) ≡ Some x → (find p ys ≡ Some x → p x ≡ true) → p x ≡ true
+    by : (b : Bool) → p y ≡ b → cond b (Some y) (find p ys) ≡ Some x → (find p ys ≡ Some x → p x ≡ true)
+        → p x ≡ true
     by true e k on = ap p (sym (same_Some y x k)) ∙ e
     by false e k on = on k
 
@@ -42,11 +45,13 @@ this_same first a h = ap (λ o. is_this o a) h ∙ place_self a
 
 -- ---- what comes first
 
-first_stays : {A : Type 0} (o p r s : Option A) (x : A) → p ≡ Some x → option_or (option_or o p) r ≡ option_or (option_or o p) s
+first_stays : {A : Type 0} (o p r s : Option A) (x : A) → p ≡ Some x
+    → option_or (option_or o p) r ≡ option_or (option_or o p) s
 first_stays None p r s x h = ap (λ q. option_or q r) h ∙ sym (ap (λ q. option_or q s) h)
 first_stays (Some y) p r s x h = refl
 
-last_stays : {A : Type 0} (o p q r s : Option A) (x : A) → q ≡ Some x → option_or (option_or o (option_or p q)) r ≡ option_or (option_or o (option_or p q)) s
+last_stays : {A : Type 0} (o p q r s : Option A) (x : A) → q ≡ Some x
+    → option_or (option_or o (option_or p q)) r ≡ option_or (option_or o (option_or p q)) s
 last_stays o None q r s x h = first_stays o q r s x h
 last_stays o (Some y) q r s x h = first_stays o (Some y) r s y refl
 
@@ -68,7 +73,8 @@ module _ (program : List ModuleParts) (first : Option DeclAt) where
   the_type s = type_of (visible_at program s) s.says
 
   -- a declaration is refused for the same where the tests agree on its type
-  same_here : (s : Spot) (t : Option DeclAt) → the_type s ≡ t → type_fault (is_this first) s.says t ≡ type_fault (is_infinite all) s.says t → by_first s ≡ by_all s
+  same_here : (s : Spot) (t : Option DeclAt) → the_type s ≡ t
+      → type_fault (is_this first) s.says t ≡ type_fault (is_infinite all) s.says t → by_first s ≡ by_all s
   same_here s t is same =
       let double = option_map of_double (first_double program s.at) in
       let form = option_map of_form (form_fault (visible_at program s) (heads_of program) s.says) in
@@ -76,7 +82,8 @@ module _ (program : List ModuleParts) (first : Option DeclAt) where
       ∙ ap (λ u. option_or double (option_or form u)) same
       ∙ sym (ap (λ u. option_or double (option_or form (type_fault (is_infinite all) s.says u))) is)
 
-  walk : (ss : List Spot) → find (is_infinite all) (declared_from ss) ≡ first → first_of by_first ss ≡ first_of by_all ss
+  walk : (ss : List Spot) → find (is_infinite all) (declared_from ss) ≡ first
+      → first_of by_first ss ≡ first_of by_all ss
   unfolding first_of
   walk [] h = refl
   walk (s ∷ ss) h = by (the_type s) refl h (walk ss)
@@ -84,43 +91,60 @@ module _ (program : List ModuleParts) (first : Option DeclAt) where
       make : DeclAt → Naming
       make a = record { of = a; names = names_in (visible_at program s) (heads_of program) s.says }
 
-      goes : by_first s ≡ by_all s → first_of by_first ss ≡ first_of by_all ss → option_or (by_first s) (first_of by_first ss) ≡ option_or (by_all s) (first_of by_all ss)
+      goes : by_first s ≡ by_all s → first_of by_first ss ≡ first_of by_all ss
+          → option_or (by_first s) (first_of by_first ss) ≡ option_or (by_all s) (first_of by_all ss)
       goes same rest = ap (λ o. option_or o (first_of by_first ss)) same ∙ ap (option_or (by_all s)) rest
 
       -- it declares a type
-      typed : (a : DeclAt) → the_type s ≡ Some a → (b : Bool) → is_infinite all a ≡ b → cond b (Some a) (find (is_infinite all) (declared_from ss)) ≡ first
+      typed : (a : DeclAt) → the_type s ≡ Some a → (b : Bool) → is_infinite all a ≡ b
+          → cond b (Some a) (find (is_infinite all) (declared_from ss)) ≡ first
           → (find (is_infinite all) (declared_from ss) ≡ first → first_of by_first ss ≡ first_of by_all ss)
           → option_or (by_first s) (first_of by_first ss) ≡ option_or (by_all s) (first_of by_all ss)
       typed a is true e k rest =
           let this : is_this first a ≡ true = this_same first a (sym k) in
           let place = fault.Infinite (declaration_place s.says) in
-          let one : type_fault (is_this first) s.says (Some a) ≡ Some place = ap (λ so. where_so so place) this in
-          let other : type_fault (is_infinite all) s.says (Some a) ≡ Some place = ap (λ so. where_so so place) e in
-          let some : type_fault (is_infinite all) s.says (the_type s) ≡ Some place = ap (type_fault (is_infinite all) s.says) is ∙ other in
+          let one : type_fault (is_this first) s.says (Some a)
+          ≡ Some place = ap (λ so. where_so so place) this in
+          let other : type_fault (is_infinite all) s.says (Some a)
+          ≡ Some place = ap (λ so. where_so so place) e in
+          let some : type_fault (is_infinite all) s.says (the_type s)
+          ≡ Some place = ap (type_fault (is_infinite all) s.says) is ∙ other in
           ap (λ o. option_or o (first_of by_first ss)) (same_here s (Some a) is (one ∙ sym other))
           ∙ last_stays (option_map of_double (first_double program s.at))
           (option_map of_form (form_fault (visible_at program s) (heads_of program) s.says))
-          (type_fault (is_infinite all) s.says (the_type s)) (first_of by_first ss) (first_of by_all ss) place some
+          (type_fault (is_infinite all) s.says (the_type s)) (first_of by_first ss)
+          (first_of by_all ss) place some
       typed a is false e k rest = goes (same_here s (Some a) is (apart (is_this first a) refl)) (rest k)
         where
-          apart : (c : Bool) → is_this first a ≡ c → where_so (is_this first a) (fault.Infinite (declaration_place s.says)) ≡ where_so (is_infinite all a) (fault.Infinite (declaration_place s.says))
-          apart true f = absurd (true≢false (sym (found_passes (is_infinite all) (declared_from ss) a (k ∙ this_is first a f)) ∙ e))
+          apart : (c : Bool) → is_this first a ≡ c
+              → where_so (is_this first a) (fault.Infinite (declaration_place s.says))
+              ≡ where_so (is_infinite all a) (fault.Infinite (declaration_place s.says))
+          apart true f = absurd
+              (true≢false (sym (found_passes (is_infinite all) (declared_from ss) a (k ∙ this_is first a f))
+              ∙ e))
           apart false f = ap (λ so. where_so so (fault.Infinite (declaration_place s.says))) (f ∙ sym e)
 
       by : (t : Option DeclAt) → the_type s ≡ t
-          → find (is_infinite all) (types_declared (cons_option (option_map make (the_type s)) (filter_map (naming_at program) ss))) ≡ first
+          → find (is_infinite all)
+          (types_declared (cons_option (option_map make (the_type s))
+          (filter_map (naming_at program) ss))) ≡ first
           → (find (is_infinite all) (declared_from ss) ≡ first → first_of by_first ss ≡ first_of by_all ss)
           → option_or (by_first s) (first_of by_first ss) ≡ option_or (by_all s) (first_of by_all ss)
       by None is k rest =
           let left : find (is_infinite all) (declared_from ss) ≡ first =
-          sym (ap (λ t. find (is_infinite all) (types_declared (cons_option (option_map make t) (filter_map (naming_at program) ss)))) is) ∙ k in
+          sym (ap (λ t. find (is_infinite all)
+          (types_declared (cons_option (option_map make t) (filter_map (naming_at program) ss)))) is)
+          ∙ k in
           goes (same_here s None is refl) (rest left)
       by (Some a) is k rest =
           let left : cond (is_infinite all a) (Some a) (find (is_infinite all) (declared_from ss)) ≡ first =
-          sym (ap (λ t. find (is_infinite all) (types_declared (cons_option (option_map make t) (filter_map (naming_at program) ss)))) is) ∙ k in
+          sym (ap (λ t. find (is_infinite all)
+          (types_declared (cons_option (option_map make t) (filter_map (naming_at program) ss)))) is)
+          ∙ k in
           typed a is (is_infinite all a) refl left rest
 
 -- the first declaration of a program that is refused
-pub same_fault : (program : List ModuleParts) (first : Option DeclAt) → first ≡ first_infinite (namings program)
+pub same_fault : (program : List ModuleParts) (first : Option DeclAt)
+    → first ≡ first_infinite (namings program)
     → first_of (fault_by (is_this first) program) (text program) ≡ decl_fault program
 same_fault program first is = walk program first (text program) (sym is)

@@ -1,6 +1,6 @@
--- What a program is refused for in its declarations: the first fault, in the order of the text. Of one declaration a name
--- that is declared again comes first, then what isn't well formed, then a union without a case, then a field above its
--- universe, and last that its type is infinite.
+-- What a program is refused for in its declarations: the first fault, in the order of the text. Of one
+-- declaration a name that is declared again comes first, then what isn't well formed, then a union without a
+-- case, then a field above its universe, and last that its type is infinite.
 use Rattle.std.specs.Prelude.{Bool, List, Option, None, Some}
 use Rattle.std.specs.Option.{option_map, option_or}
 use Rattle.au_syntax.specs.Plain.{Bytes, PlainDeclaration}

@@ -82,11 +82,7 @@ fn is_this(first: Option<DeclAt>, at: DeclAt) -> bool
 }
 
 /// What is refused of a declaration of this type, if it declares one, where this one is infinite.
-fn type_fault(
-    first: Option<DeclAt>,
-    decl: &Decl<Parsed>,
-    of: Option<DeclAt>,
-) -> Option<DeclFault>
+fn type_fault(first: Option<DeclAt>, decl: &Decl<Parsed>, of: Option<DeclAt>) -> Option<DeclFault>
     ensures { result ≡ spec.type_fault (tests.is_this first) (walks.written decl.now) of }
 {
     match of {
@@ -108,7 +104,12 @@ fn made_fault(
     first: Option<DeclAt>,
     decl: &Decl<Parsed>,
 ) -> Result<Option<DeclFault>, Memory>
-    ensures { IfOk result (λ found. found ≡ option_or (option_map spec.of_form (forms.form_fault visible.now.names.now visible.now.heads.now (walks.written decl.now))) (spec.type_fault (tests.is_this first) (walks.written decl.now) (naming.type_of visible.now.names.now (walks.written decl.now)))) }
+    ensures { IfOk result
+        (λ found. found ≡ option_or
+        (option_map spec.of_form
+        (forms.form_fault visible.now.names.now visible.now.heads.now (walks.written decl.now)))
+        (spec.type_fault (tests.is_this first) (walks.written decl.now)
+        (naming.type_of visible.now.names.now (walks.written decl.now)))) }
 {
     match form_fault(alloc, visible, decl)? {
         Some(found) => Ok(Some(of_form(found))),
@@ -125,8 +126,11 @@ fn spot_fault(
     spot: &Spot,
 ) -> Result<Option<DeclFault>, Memory>
     requires within { spot.now.at.«module» < length (slots.modules resolved.now) }
-    requires made { (at : DeclAt) → doubling.double_at doubles.now at ≡ doubling.first_double (slots.modules resolved.now) at }
-    ensures { IfOk result (λ found. found ≡ spec.fault_by (tests.is_this first) (slots.modules resolved.now) (spot_said spot.now)) }
+    requires made { (at : DeclAt)
+        → doubling.double_at doubles.now at ≡ doubling.first_double (slots.modules resolved.now) at }
+    ensures { IfOk result
+        (λ found. found ≡ spec.fault_by (tests.is_this first) (slots.modules resolved.now)
+        (spot_said spot.now)) }
 {
     match again(alloc, doubles, spot.at)? {
         Some(fault) => Ok(Some(fault)),
@@ -146,8 +150,11 @@ fn first_fault(
     all: &Vec<Spot>,
 ) -> Result<Option<DeclFault>, Memory>
     requires text { spots_said all.now.items ≡ texts.text (slots.modules resolved.now) }
-    requires made { (at : DeclAt) → doubling.double_at doubles.now at ≡ doubling.first_double (slots.modules resolved.now) at }
-    ensures { IfOk result (λ found. found ≡ first_of (spec.fault_by (tests.is_this first) (slots.modules resolved.now)) (texts.text (slots.modules resolved.now))) }
+    requires made { (at : DeclAt)
+        → doubling.double_at doubles.now at ≡ doubling.first_double (slots.modules resolved.now) at }
+    ensures { IfOk result
+        (λ found. found ≡ first_of (spec.fault_by (tests.is_this first) (slots.modules resolved.now))
+        (texts.text (slots.modules resolved.now))) }
 {
     for one in all {
         match spot_fault(alloc, resolved, doubles, first, one)? {
@@ -159,13 +166,10 @@ fn first_fault(
 }
 
 /// The first type of a program that is infinite, given its declarations in the order of the text.
-fn first_type(
-    alloc: Global,
-    resolved: &Resolved,
-    all: &Vec<Spot>,
-) -> Result<Option<DeclAt>, Memory>
+fn first_type(alloc: Global, resolved: &Resolved, all: &Vec<Spot>) -> Result<Option<DeclAt>, Memory>
     requires { spots_said all.now.items ≡ texts.text (slots.modules resolved.now) }
-    ensures { IfOk result (λ first. first ≡ infinite.first_infinite (naming.namings (slots.modules resolved.now))) }
+    ensures { IfOk result
+        (λ first. first ≡ infinite.first_infinite (naming.namings (slots.modules resolved.now))) }
 {
     let list = namings_of(alloc, resolved, all)?;
     first_infinite(alloc, &list)
@@ -187,9 +191,9 @@ fn decl_fault(alloc: Global, resolved: &Resolved) -> Result<Option<DeclFault>, M
 ///
 /// What the first declaration is refused for that isn't good: modules by their places, the interface of each
 /// before its body, in the order of the text. Of one declaration its first name that is declared again
-/// (`DeclFault::Again`); else the first that is written in it and isn't well formed (`DeclFault::Malformed`), at
-/// the first token of a type, at a name that stands for a class, at the name of a type parameter and at the
-/// first token of a declared type; else, at its first token, that it is a union without a case
+/// (`DeclFault::Again`); else the first that is written in it and isn't well formed (`DeclFault::Malformed`),
+/// at the first token of a type, at a name that stands for a class, at the name of a type parameter and at
+/// the first token of a declared type; else, at its first token, that it is a union without a case
 /// (`DeclFault::EmptyUnion`); else its first field that is above its universe, at its name
 /// (`DeclFault::UniverseBelow`); else, at its first token, that its type is infinite (`DeclFault::Infinite`).
 /// `DeclFault::Memory` where no memory was found, in place of any other answer.

@@ -21,8 +21,8 @@ pub enum DeclFault {
     /// The name at this place is declared again while it is in scope.
     #[error("a name is declared again")]
     Again(Pos, Name),
-    /// What is written at this place isn't well formed: a type, a name that stands for a class, or the universe of
-    /// what stands there.
+    /// What is written at this place isn't well formed: a type, a name that stands for a class, or the
+    /// universe of what stands there.
     #[error("a type is malformed")]
     Malformed(Pos),
     /// No memory was found.

@@ -8,6 +8,7 @@ use Rattle.au_formed.proofs.declarers.first_declarers.Goals as goal
 pub loop-index-preserved : goal.loop-index-preserved
 loop-index-preserved c = λ a.
     let one = c.one-item.result in
+    let i = c.loop-index.index in
     c.in_ok-put.ensures a
     ∙ ap (λ o. option_or o (where_so (same_place a one.of) c.loop-index.index)) (c.loop-index.invariant a)
-    ∙ sym (declarer_more c.deref-one-items.result.now c.loop-index.index one a c.loop-index-test.true c.one-item.is)
+    ∙ sym (declarer_more c.deref-one-items.result.now i one a c.loop-index-test.true c.one-item.is)

@@ -17,9 +17,13 @@ returns-then-branch c =
     let place_in = above_place judge universe c.args.universe in
     let items = c.deref-one-items.result.now in
     let place = c.one-item.result.name.at in
-    found_here (λ fs. first_above judge universe c.args.universe (fields_said fs)) (λ f. place_in (plain_labelled parsed.name_bytes (labelled parsed f)))
-    (λ f fs. first_more place_in (plain_labelled parsed.name_bytes (labelled parsed f)) (fields_said fs)) items c.loop-one.one-index c.one-item.result
-    (where_so c.in_ok-is_above.field-0 place) place (first_above judge universe c.args.universe (fields_said items)) c.loop-one-test.true c.one-item.is c.loop-one.invariant
+    found_here (λ fs. first_above judge universe c.args.universe (fields_said fs))
+    (λ f. place_in (plain_labelled parsed.name_bytes (labelled parsed f)))
+    (λ f fs. first_more place_in (plain_labelled parsed.name_bytes (labelled parsed f))
+    (fields_said fs)) items c.loop-one.one-index c.one-item.result
+    (where_so c.in_ok-is_above.field-0 place) place
+    (first_above judge universe c.args.universe
+    (fields_said items)) c.loop-one-test.true c.one-item.is c.loop-one.invariant
     (ap (λ b. where_so b place) c.in_ok-is_above.ensures)
     (ap (λ b. where_so b place) c.if-branch.true)
     ∙ ap (λ fs. first_above judge universe c.args.universe (fields_said fs)) c.deref-one-items.ensures.value
@@ -31,9 +35,13 @@ loop-one-preserved c =
     let place_in = above_place judge universe c.args.universe in
     let items = c.deref-one-items.result.now in
     let place = c.one-item.result.name.at in
-    not_here (λ fs. first_above judge universe c.args.universe (fields_said fs)) (λ f. place_in (plain_labelled parsed.name_bytes (labelled parsed f)))
-    (λ f fs. first_more place_in (plain_labelled parsed.name_bytes (labelled parsed f)) (fields_said fs)) items c.loop-one.one-index c.one-item.result
-    (where_so c.in_ok-is_above.field-0 place) (first_above judge universe c.args.universe (fields_said items)) c.loop-one-test.true c.one-item.is c.loop-one.invariant
+    not_here (λ fs. first_above judge universe c.args.universe (fields_said fs))
+    (λ f. place_in (plain_labelled parsed.name_bytes (labelled parsed f)))
+    (λ f fs. first_more place_in (plain_labelled parsed.name_bytes (labelled parsed f))
+    (fields_said fs)) items c.loop-one.one-index c.one-item.result
+    (where_so c.in_ok-is_above.field-0 place)
+    (first_above judge universe c.args.universe
+    (fields_said items)) c.loop-one-test.true c.one-item.is c.loop-one.invariant
     (ap (λ b. where_so b place) c.in_ok-is_above.ensures)
     (ap (λ b. where_so b place) c.if-branch.false)
 
@@ -42,6 +50,8 @@ returns c =
     let judge = judged_in c.args.scope.now in
     let universe = universe_of c.args.scope.now.heads.now c.args.scope.now.params.now in
     let items = c.deref-one-items.result.now in
-    nowhere (λ fs. first_above judge universe c.args.universe (fields_said fs)) (first_none (above_place judge universe c.args.universe)) items c.loop-one.one-index
-    (first_above judge universe c.args.universe (fields_said items)) c.loop-one-test.false c.loop-one.invariant
+    nowhere (λ fs. first_above judge universe c.args.universe (fields_said fs))
+    (first_none (above_place judge universe c.args.universe)) items c.loop-one.one-index
+    (first_above judge universe c.args.universe
+    (fields_said items)) c.loop-one-test.false c.loop-one.invariant
     ∙ ap (λ fs. first_above judge universe c.args.universe (fields_said fs)) c.deref-one-items.ensures.value

@@ -8,5 +8,7 @@ use Rattle.au_formed.proofs.fields.first_above.Given as goal
 -- what is first above in what is left is so in all
 abbrev pub invariant-loop-one : goal.invariant-loop-one
 invariant-loop-one l =
-    first_above (judged_in l.scope) (universe_of l.scope.heads.now l.scope.params.now) l.universe (fields_said (drop l.one-index l.one-items))
-    ≡ first_above (judged_in l.scope) (universe_of l.scope.heads.now l.scope.params.now) l.universe (fields_said l.one-items)
+    first_above (judged_in l.scope) (universe_of l.scope.heads.now l.scope.params.now) l.universe
+    (fields_said (drop l.one-index l.one-items))
+    ≡ first_above (judged_in l.scope) (universe_of l.scope.heads.now l.scope.params.now) l.universe
+    (fields_said l.one-items)

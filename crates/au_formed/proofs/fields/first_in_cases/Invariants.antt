@@ -8,5 +8,7 @@ use Rattle.au_formed.proofs.fields.first_in_cases.Given as goal
 -- what is first above in what is left is so in all
 abbrev pub invariant-loop-one : goal.invariant-loop-one
 invariant-loop-one l =
-    cases_above (judged_in l.scope) (universe_of l.scope.heads.now l.scope.params.now) l.universe (cases_said (drop l.one-index l.one-items))
-    ≡ cases_above (judged_in l.scope) (universe_of l.scope.heads.now l.scope.params.now) l.universe (cases_said l.one-items)
+    cases_above (judged_in l.scope) (universe_of l.scope.heads.now l.scope.params.now) l.universe
+    (cases_said (drop l.one-index l.one-items))
+    ≡ cases_above (judged_in l.scope) (universe_of l.scope.heads.now l.scope.params.now) l.universe
+    (cases_said l.one-items)

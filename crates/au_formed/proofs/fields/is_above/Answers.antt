@@ -11,5 +11,6 @@ universe_of-requires c =
     let scope = c.args.scope.now in
     let t = meaning c.in-Means.t in
     well_formed_stands scope.heads.now scope.params.now t
-    (judged_is_meant scope.heads.now scope.params.now scope.regions.now scope.names.now (written c.args.of.now) t
+    (judged_is_meant scope.heads.now scope.params.now scope.regions.now scope.names.now
+    (written c.args.of.now) t
     (sym c.in_ok-t.ensures ∙ ap (outcome meaning) c.in-Means.is)).1

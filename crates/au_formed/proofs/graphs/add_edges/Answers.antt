@@ -23,5 +23,6 @@ loop-one-preserved c =
       graph =
           c.in_ok-add_edge.ensures
           ∙ ap (λ g. set g from (successors g from ++ option_to_list (f at))) c.loop-one.invariant.graph
-          ∙ edges_more c.args.graph.now from f names i at c.requires c.loop-one-test.true (get_or_default names i none at c.loop-one-test.true);
+          ∙ edges_more c.args.graph.now from f names i at c.requires c.loop-one-test.true
+          (get_or_default names i none at c.loop-one-test.true);
     }

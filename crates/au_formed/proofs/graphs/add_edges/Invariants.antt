@@ -8,5 +8,6 @@ use Rattle.au_formed.proofs.graphs.add_edges.Given as goal
 abbrev pub invariant-loop-one : goal.invariant-loop-one
 invariant-loop-one l = record {
   within : l.from < length l.graph;
-  graph : l.graph ≡ set l.fn.graph l.from (successors l.fn.graph l.from ++ filter_map (index_at l.table) (take l.one-index l.names));
+  graph : l.graph ≡ set l.fn.graph l.from
+      (successors l.fn.graph l.from ++ filter_map (index_at l.table) (take l.one-index l.names));
 }

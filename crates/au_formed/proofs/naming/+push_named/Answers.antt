@@ -23,5 +23,6 @@ push_all-loop-one-preserved t c =
     let item = c.one-item.result in
     c.in_ok-push_named.ensures
     ∙ ap (λ r. r ++ types_named sense holder (written item)) c.loop-one.invariant
-    ∙ append_assoc start (all_named sense holder (written_all (take i items))) (types_named sense holder (written item))
+    ∙ append_assoc start (all_named sense holder (written_all (take i items)))
+    (types_named sense holder (written item))
     ∙ ap (λ r. start ++ r) (sym (more_named sense holder items i item c.loop-one-test.true c.one-item.is))

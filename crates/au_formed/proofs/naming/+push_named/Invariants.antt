@@ -6,4 +6,6 @@ use Rattle.au_formed.proofs.naming.+push_named.Given as goal
 
 -- what the types name that are visited
 abbrev pub invariant-push_all-loop-one : goal.invariant-push_all-loop-one
-invariant-push_all-loop-one l = l.list.items ≡ l.fn.list.items ++ all_named (sense_in l.scope) (holder_in l.scope.heads.now) (written_all (take l.one-index l.one-items))
+invariant-push_all-loop-one l = l.list.items
+    ≡ l.fn.list.items ++ all_named (sense_in l.scope) (holder_in l.scope.heads.now)
+    (written_all (take l.one-index l.one-items))

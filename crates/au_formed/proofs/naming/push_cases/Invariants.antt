@@ -7,4 +7,6 @@ use Rattle.au_formed.proofs.naming.push_cases.Given as goal
 
 -- what the cases name that are visited
 abbrev pub invariant-loop-one : goal.invariant-loop-one
-invariant-loop-one l = l.list.items ≡ l.fn.list.items ++ flat_map (case_names (sense_in l.scope) (holder_in l.scope.heads.now)) (cases_said (take l.one-index l.one-items))
+invariant-loop-one l = l.list.items
+    ≡ l.fn.list.items ++ flat_map (case_names (sense_in l.scope) (holder_in l.scope.heads.now))
+    (cases_said (take l.one-index l.one-items))

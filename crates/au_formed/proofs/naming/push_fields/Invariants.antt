@@ -6,4 +6,6 @@ use Rattle.au_formed.proofs.naming.push_fields.Given as goal
 
 -- what the fields name that are visited
 abbrev pub invariant-loop-one : goal.invariant-loop-one
-invariant-loop-one l = l.list.items ≡ l.fn.list.items ++ fields_name (sense_in l.scope) (holder_in l.scope.heads.now) (fields_said (take l.one-index l.one-items))
+invariant-loop-one l = l.list.items
+    ≡ l.fn.list.items ++ fields_name (sense_in l.scope) (holder_in l.scope.heads.now)
+    (fields_said (take l.one-index l.one-items))

@@ -14,7 +14,8 @@ visible_at-visible-requires c =
     let items = c.deref-one-items.result.now in
     let one = c.one-item.result in
     spot_within program (spot_said one)
-    (said_among spot_said items (text program) c.loop-one.one-index one (ap spots_said c.deref-one-items.ensures.value ∙ c.requires) c.loop-one-test.true c.one-item.is)
+    (said_among spot_said items (text program) c.loop-one.one-index one
+    (ap spots_said c.deref-one-items.ensures.value ∙ c.requires) c.loop-one-test.true c.one-item.is)
 
 pub loop-one-preserved : goal.loop-one-preserved
 loop-one-preserved c =
@@ -25,7 +26,10 @@ loop-one-preserved c =
     let says = walks.written one.decl.now in
     let seen = c.visible_at-visible.result in
     c.in_ok-push_naming.ensures
-    ∙ ap (λ names. list ++ option_to_list (naming names seen.heads.now says)) c.visible_at-visible.ensures.names
-    ∙ ap (λ heads. list ++ option_to_list (naming (visible_at program (spot_said one)) heads says)) c.visible_at-visible.ensures.heads
+    ∙ ap (λ names. list ++ option_to_list
+    (naming names seen.heads.now says)) c.visible_at-visible.ensures.names
+    ∙ ap (λ heads. list ++ option_to_list
+    (naming (visible_at program (spot_said one)) heads says)) c.visible_at-visible.ensures.heads
     ∙ ap (λ l. l ++ option_to_list (naming_at program (spot_said one))) c.loop-one.invariant
-    ∙ sym (kept_more spot_said (naming_at program) items c.loop-one.one-index one c.loop-one-test.true c.one-item.is)
+    ∙ sym (kept_more spot_said
+    (naming_at program) items c.loop-one.one-index one c.loop-one-test.true c.one-item.is)

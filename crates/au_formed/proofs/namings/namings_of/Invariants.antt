@@ -7,4 +7,5 @@ use Rattle.au_formed.proofs.namings.namings_of.Given as goal
 
 -- those of the declarations that are visited
 abbrev pub invariant-loop-one : goal.invariant-loop-one
-invariant-loop-one l = l.list.items ≡ filter_map (naming_at (slots.modules l.resolved)) (spots_said (take l.one-index l.one-items))
+invariant-loop-one l = l.list.items
+    ≡ filter_map (naming_at (slots.modules l.resolved)) (spots_said (take l.one-index l.one-items))

@@ -7,4 +7,5 @@ use Rattle.au_formed.proofs.pushing.push_cases.Given as goal
 
 -- what the items say that are visited
 abbrev pub invariant-loop-one : goal.invariant-loop-one
-invariant-loop-one l = writings_said l.list.items ≡ writings_said l.fn.list.items ++ flat_map case_writings (cases_said (take l.one-index l.one-items))
+invariant-loop-one l = writings_said l.list.items
+    ≡ writings_said l.fn.list.items ++ flat_map case_writings (cases_said (take l.one-index l.one-items))

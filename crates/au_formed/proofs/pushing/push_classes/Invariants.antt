@@ -6,4 +6,5 @@ use Rattle.au_formed.proofs.pushing.push_classes.Given as goal
 
 -- what the items say that are visited
 abbrev pub invariant-loop-one : goal.invariant-loop-one
-invariant-loop-one l = writings_said l.list.items ≡ writings_said l.fn.list.items ++ class_writings (names_said (take l.one-index l.one-items))
+invariant-loop-one l = writings_said l.list.items
+    ≡ writings_said l.fn.list.items ++ class_writings (names_said (take l.one-index l.one-items))

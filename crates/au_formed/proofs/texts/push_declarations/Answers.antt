@@ -32,5 +32,6 @@ loop-decl-preserved c =
           ∙ ap (λ l. l ++ spot place part c.loop-decl.number d ∷ []) c.loop-decl.invariant.spots
           ∙ append_assoc old so_far (spot place part c.loop-decl.number d ∷ [])
           ∙ ap (λ n. old ++ (so_far ++ spot place part n d ∷ [])) c.loop-decl.invariant.number
-          ∙ ap (λ l. old ++ l) (sym (spots_more place part first items i c.decl-item.result c.loop-decl-test.true c.decl-item.is));
+          ∙ ap (λ l. old ++ l)
+          (sym (spots_more place part first items i c.decl-item.result c.loop-decl-test.true c.decl-item.is));
     }

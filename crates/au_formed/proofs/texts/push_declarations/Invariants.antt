@@ -8,5 +8,7 @@ use Rattle.au_formed.proofs.texts.push_declarations.Given as goal
 abbrev pub invariant-loop-decl : goal.invariant-loop-decl
 invariant-loop-decl l = record {
   number : l.number ≡ l.first + l.decl-index;
-  spots : spots_said l.list.items ≡ spots_said l.fn.list.items ++ spots_from l.place l.part l.first (written_all (take l.decl-index l.decl-items));
+  spots : spots_said l.list.items
+      ≡ spots_said l.fn.list.items
+      ++ spots_from l.place l.part l.first (written_all (take l.decl-index l.decl-items));
 }

@@ -5,5 +5,6 @@ use Rattle.au_rules.proofs.declarations.decl_fault.Goals as goal
 
 pub returns : goal.returns
 returns c =
+    let program = slots.modules c.args.resolved.now in
     subst (λ fault. IfOk c.first_fault.result (λ found. found ≡ fault))
-    (same_fault (slots.modules c.args.resolved.now) c.in_ok-first.first c.in_ok-first.ensures) c.first_fault.ensures
+    (same_fault program c.in_ok-first.first c.in_ok-first.ensures) c.first_fault.ensures

@@ -21,8 +21,10 @@ pub returns-in-Some : goal.returns-in-Some
 returns-in-Some c =
     let f = fault_by (is_this c.args.first) (slots.modules c.args.resolved.now) in
     let items = c.deref-one-items.result.now in
-    found_here (λ ss. first_of f (spots_said ss)) (λ s. f (spot_said s)) (λ s ss. first_more f (spot_said s) (spots_said ss))
-    items c.loop-one.one-index c.one-item.result c.in_ok-fault.field-0 c.in-Some.fault (first_of f (spots_said items))
+    found_here (λ ss. first_of f (spots_said ss)) (λ s. f (spot_said s))
+    (λ s ss. first_more f (spot_said s) (spots_said ss))
+    items c.loop-one.one-index c.one-item.result c.in_ok-fault.field-0 c.in-Some.fault
+    (first_of f (spots_said items))
     c.loop-one-test.true c.one-item.is c.loop-one.invariant c.in_ok-fault.ensures c.in-Some.is
     ∙ ap (first_of f) (ap spots_said c.deref-one-items.ensures.value ∙ c.requires.text)
 
@@ -30,7 +32,8 @@ pub loop-one-preserved : goal.loop-one-preserved
 loop-one-preserved c =
     let f = fault_by (is_this c.args.first) (slots.modules c.args.resolved.now) in
     let items = c.deref-one-items.result.now in
-    not_here (λ ss. first_of f (spots_said ss)) (λ s. f (spot_said s)) (λ s ss. first_more f (spot_said s) (spots_said ss))
+    not_here (λ ss. first_of f (spots_said ss)) (λ s. f (spot_said s))
+    (λ s ss. first_more f (spot_said s) (spots_said ss))
     items c.loop-one.one-index c.one-item.result c.in_ok-fault.field-0 (first_of f (spots_said items))
     c.loop-one-test.true c.one-item.is c.loop-one.invariant c.in_ok-fault.ensures c.in-None.is
 
@@ -38,6 +41,7 @@ pub returns : goal.returns
 returns c =
     let f = fault_by (is_this c.args.first) (slots.modules c.args.resolved.now) in
     let items = c.deref-one-items.result.now in
-    nowhere (λ ss. first_of f (spots_said ss)) (first_none f) items c.loop-one.one-index (first_of f (spots_said items))
+    nowhere (λ ss. first_of f (spots_said ss)) (first_none f) items c.loop-one.one-index
+    (first_of f (spots_said items))
     c.loop-one-test.false c.loop-one.invariant
     ∙ ap (first_of f) (ap spots_said c.deref-one-items.ensures.value ∙ c.requires.text)

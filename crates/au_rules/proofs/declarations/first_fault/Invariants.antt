@@ -9,5 +9,6 @@ use Rattle.au_rules.proofs.declarations.first_fault.Given as goal
 -- what is left decides
 abbrev pub invariant-loop-one : goal.invariant-loop-one
 invariant-loop-one l =
-    first_of (fault_by (is_this l.first) (slots.modules l.resolved)) (spots_said (drop l.one-index l.one-items))
+    first_of (fault_by (is_this l.first) (slots.modules l.resolved))
+    (spots_said (drop l.one-index l.one-items))
     ≡ first_of (fault_by (is_this l.first) (slots.modules l.resolved)) (spots_said l.one-items)
