@@ -74,6 +74,7 @@ module _ (rows : List Row) (heads : List (DeclAt × Head)) (scope : List Paramet
       here (in_region (Named other)) gives called =
           sym (ap (λ o. pairs_at rows heads scope o wanted) (ap (λ n. value_of n s) ((bytes_eq-Decides name other).0 called) ∙ gives.1))
       here (in_region region) gives called = absurd cc
+
       by : (b : Bool) → is_called name (name_of one) ≡ b
           → (stands_in name rest ≡ true → part_for name rest (parts_of rows heads scope (all_substituted s rest)) wanted ≡ pairs_at rows heads scope (value_of name s) wanted)
           → (b || stands_in name rest) ≡ true

@@ -161,17 +161,17 @@ constrained_stands (one ∷ rest) args name class stand e =
 
 -- ---- the pairs of a class at a type
 
+one_empty : (name : Bytes) (args : Arguments) (class : DeclAt) → part_for name args [] class ≡ []
+one_empty name no_arguments class = refl
+one_empty name (arguments first rest) class = refl
+
+pub nothing_below : (names : Arguments) (constraints : Known) → flat_map (λ one. part_for one.0 names [] one.1) constraints ≡ []
+nothing_below names [] = refl
+nothing_below names (one ∷ rest) = ap (λ xs. xs ++ flat_map (λ one. part_for one.0 names [] one.1) rest) (one_empty one.0 names one.1) ∙ nothing_below names rest
+
 none_below : (o : Option Row) → below o [] ≡ []
 none_below None = refl
-none_below (Some row) = all_empty (constraints_of row.generics)
-  where
-    one_empty : (name : Bytes) (args : Arguments) (class : DeclAt) → part_for name args [] class ≡ []
-    one_empty name no_arguments class = refl
-    one_empty name (arguments first rest) class = refl
-
-    all_empty : (known : Known) → flat_map (λ one. part_for one.0 (arguments_of row.head) [] one.1) known ≡ []
-    all_empty [] = refl
-    all_empty (one ∷ rest) = ap (λ xs. xs ++ flat_map (λ one. part_for one.0 (arguments_of row.head) [] one.1) rest) (one_empty one.0 (arguments_of row.head) one.1) ∙ all_empty rest
+none_below (Some row) = nothing_below (arguments_of row.head) (constraints_of row.generics)
 
 module _ (rows : List Row) (heads : List (DeclAt × Head)) (scope : List Parameter) (known : Known) where
   abbrev test : Pair → Bool
