@@ -1,22 +1,22 @@
 -- What is lacking first, as the code looks for it.
-use Rattle.std.proofs.Common.{◌≡◌, ℕ, ◌+◌, ◌<◌, ◌≤◌, Bool, true, false, cond, List, [], ◌∷◌, ◌++◌, length, drop, get_or, map, Option, None, Some, refl, sym, ap, subst, ◌∙◌, arith, Vec}
+use Rattle.std.proofs.Common.{◌≡◌, ℕ, ◌+◌, ◌<◌, ◌≤◌, Bool, true, false, cond, List, [], ◌∷◌, ◌++◌, length, drop, get_or, Option, None, Some, refl, sym, ap, subst, ◌∙◌, Vec}
 use Rattle.std.specs.Global.{Global}
 use Rattle.au_types.specs.declared.headings.Head.{Head}
 use Rattle.au_types.specs.declared.types.Arg.{Arg, Of}
 use Rattle.au_types.proofs.TypeLemmas.{named_means, type_argument_means}
 use Rattle.au_universes.specs.Forming.{ArgumentStandsOver, StandsOver, all_formed, fits_in_kind}
 use Rattle.std.specs.Prelude.{slice_get, is_none, if◌then◌else◌, unwrap_or}
-use Rattle.std.specs.List.{find, flat_map}
+use Rattle.std.specs.List.{flat_map}
 use Rattle.std.specs.Option.{option_map, option_or}
 use Rattle.std.proofs.lemmas.Grind.{flat_map-append}
-use Rattle.std.proofs.lemmas.List.{drop_all, drop_more}
+use Rattle.std.proofs.lemmas.List.{drop_all}
 use Rattle.std.proofs.lemmas.List.Folds.{find-append}
-use Rattle.std.proofs.lemmas.Option.{slice_get-map, slice_get_within, slice_get-get_or, same_Some}
+use Rattle.std.proofs.lemmas.Option.{slice_get-map, same_Some}
 use Rattle.au_syntax.specs.Plain.{Bytes}
 use Rattle.au_types.specs.declared.parameters.Parameter.{Parameter}
 use Rattle.au_types.specs.declared.types.DeclAt.{DeclAt}
 use Rattle.au_types.specs.declared.types.Ty.{Ty, Unit, Bool as Bool', Int, Text, Param, Named as Named-of, Named', Read', Write'}
-use Rattle.au_types.specs.Types.{Meaning, Arguments, no_arguments, arguments}
+use Rattle.au_types.specs.Types.{Arguments, no_arguments, arguments}
 use Rattle.au_types.specs.Views.{argument, argument_all, meaning}
 use Rattle.au_generics.specs.Bounds.{Bounded, classes_of, parameters}
 use Rattle.au_instances.specs.declared.lacking.Sight.{Sight}
@@ -25,9 +25,9 @@ use Rattle.au_instances.specs.Instances.{Known}
 use Rattle.au_instances.specs.Pairs.{Pair, below, constraints_of, is_lacking, named_with, part_for, part_of}
 use Rattle.au_instances.specs.Tables.{row_for}
 use Rattle.au_types.specs.declared.types.Arg.TheBlock.{backs-Ty, shown-the_row-Arg-0}
-use Rattle.au_instances.specs.Views.{first_in, lacking_among, lacking_at, lacking_from, lacking_in, lacking_of, parts_in}
+use Rattle.au_instances.specs.Views.{first_in, lacking_among, lacking_at, lacking_in, lacking_of, parts_in}
 use Rattle.au_instances.proofs.PairLemmas.{nothing_below, pairs_are}
-use Rattle.au_instances.proofs.StandingLemmas.{arguments_left, arguments_stand, none_left}
+use Rattle.au_instances.proofs.StandingLemmas.{arguments_stand}
 use Rattle.au_instances.proofs.WalkLemmas.{dropped, item_left}
 
 module _ (sight : Sight) where

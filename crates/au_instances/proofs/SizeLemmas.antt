@@ -1,5 +1,5 @@
 -- How large types are: a part is smaller than the whole, so what looks at parts ends.
-use Rattle.std.proofs.Common.{◌≡◌, ℕ, suc, ◌+◌, ◌*◌, ◌<◌, ◌≤◌, List, [], ◌∷◌, length, get_or, Vec, refl, sym, ap, subst, ◌∙◌, arith}
+use Rattle.std.proofs.Common.{◌≡◌, ℕ, suc, ◌+◌, ◌<◌, ◌≤◌, List, [], ◌∷◌, length, get_or, Vec, ap, ◌∙◌, arith}
 use Prim.Native.Nat.{zero}
 use Rattle.std.specs.Global.{Global}
 use Rattle.au_types.specs.declared.types.Arg.{Arg, Of}

@@ -1,7 +1,6 @@
-use Rattle.std.proofs.Common.{◌≡◌, ◌+◌, ◌∷◌, ◌≤◌, drop, length, ap, sym, ◌∙◌, arith}
-use Rattle.au_types.specs.Views.{argument, argument_all, meaning}
+use Rattle.std.proofs.Common.{length, ap, ◌∙◌, arith}
+use Rattle.au_types.specs.Views.{argument, meaning}
 use Rattle.au_types.proofs.TypeLemmas.{region_argument_means, type_argument_means}
-use Rattle.au_instances.specs.ClosedInstances.{types_in}
 use Rattle.au_instances.proofs.WalkLemmas.{region_left, type_left}
 use Rattle.au_instances.proofs.closed.type_count.Goals as goal
 use Rattle.au_instances.proofs.closed.type_count.Goals.{in-Of, in-In}

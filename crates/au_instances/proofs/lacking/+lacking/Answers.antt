@@ -1,29 +1,25 @@
-use Rattle.std.proofs.Common.{arith, ◌≡◌, ◌+◌, ◌<◌, ◌∷◌, [], List, drop, length, Some, None, Option, ap, refl, rules, subst, sym, ◌∙◌}
+use Rattle.std.proofs.Common.{arith, ◌≡◌, ◌+◌, [], List, drop, Some, None, Option, ap, sym, ◌∙◌}
 use Rattle.std.specs.Prelude.{slice_get, unwrap_or}
 use Rattle.std.specs.List.{flat_map}
 use Rattle.std.specs.Option.{option_copied, option_map, option_or}
 use Rattle.std.specs.Borrow.{Bor}
 use Rattle.au_types.specs.declared.parameters.Parameter.{Parameter}
 use Rattle.au_types.specs.declared.types.DeclAt.{DeclAt}
-use Rattle.au_types.specs.declared.types.Ty.{Ty}
 use Rattle.au_types.specs.Views.{argument, argument_all, meaning}
-use Rattle.au_types.proofs.TypeLemmas.{named_means, type_argument_means}
 use Rattle.au_generics.specs.Bounds.{classes_of, parameters}
-use Rattle.au_universes.specs.Forming.{ArgumentStandsOver, StandsOver}
-use Rattle.au_instances.specs.Pairs.{Pair, named_with, wanted}
+use Rattle.au_instances.specs.Pairs.{named_with, wanted}
 use Rattle.au_instances.specs.Rows.{row_said}
 use Rattle.au_instances.proofs.LackingLemmas.{class_left, constraints_by, led_all, none_there, parameter_left, place_left}
 use Rattle.au_instances.proofs.PairLemmas.{lacking_with}
-use Rattle.au_instances.proofs.StandingLemmas.{arguments_stand, left_stands}
+use Rattle.au_instances.proofs.StandingLemmas.{left_stands}
 use Rattle.au_instances.proofs.lacking.+lacking.Goals as goal
 use Rattle.au_instances.proofs.lacking.+lacking.Goals.{lacking_at-else-index-names-via-then-index-names+else-is_called, lacking_at-else-index-names-via-else-index-names}
 use Rattle.std.proofs.Common.{get_or, if◌then◌else◌}
 use Rattle.std.proofs.lemmas.List.{get_or_default}
 use Rattle.au_instances.proofs.SizeLemmas.{item_size, named_size, of_size}
-use Rattle.au_types.specs.Types.{no_arguments}
-use Rattle.au_instances.proofs.LackingLemmas.{args_past, at_left, arguments_of_stand, names_past, no_class_left, no_parameter_left, no_arguments_of, type_stands, nothing_known}
+use Rattle.au_instances.proofs.LackingLemmas.{args_past, at_left, arguments_of_stand, names_past, no_arguments_of, type_stands, nothing_known}
 use Rattle.au_instances.specs.Forms.{arguments_of}
-use Rattle.au_instances.specs.Views.{lacking_among, lacking_at, lacking_of}
+use Rattle.au_instances.specs.Views.{lacking_among, lacking_of}
 
 pub lacking_from-returns-in-Some : goal.lacking_from-returns-in-Some
 lacking_from-returns-in-Some t c =

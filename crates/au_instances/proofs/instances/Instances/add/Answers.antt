@@ -1,4 +1,4 @@
-use Rattle.std.proofs.Common.{◌≡◌, ◌++◌, ◌∷◌, [], List, None, Option, Some, ap, subst, sym, ◌∙◌}
+use Rattle.std.proofs.Common.{◌≡◌, ◌++◌, ◌∷◌, [], List, None, Some, ap, subst, sym, ◌∙◌}
 use Rattle.au_types.specs.Views.{meaning}
 use Rattle.au_instances.specs.declared.rows.Row.{Row as RowGiven}
 use Rattle.au_instances.specs.Constructors.{constructor_of}
