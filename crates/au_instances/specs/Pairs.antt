@@ -49,7 +49,8 @@ part_for name (arguments one rest) (part ∷ parts) class =
 -- what the constraints of a row lead to, if there is one
 abbrev pub below : Option Row → Parts → List Pair
 below None parts = []
-below (Some row) parts = flat_map (λ one. part_for one.0 (arguments_of row.head) parts one.1) (constraints_of row.generics)
+below (Some row) parts =
+    flat_map (λ one. part_for one.0 (arguments_of row.head) parts one.1) (constraints_of row.generics)
 
 module _ (rows : List Row) (heads : List (DeclAt × Head)) (scope : List Parameter) where
   abbrev mutual
@@ -62,7 +63,8 @@ module _ (rows : List Row) (heads : List (DeclAt × Head)) (scope : List Paramet
     pairs (integer kind) class = (class, integer kind) ∷ []
     pairs text class = (class, text) ∷ []
     pairs (parameter name) class = (class, parameter name) ∷ []
-    pairs (named at args) class = (class, named at args) ∷ below (row_for heads scope rows class (named at args)) (parts_of args)
+    pairs (named at args) class =
+        (class, named at args) ∷ below (row_for heads scope rows class (named at args)) (parts_of args)
     pairs (reads to region) class = (class, reads to region) ∷ []
     pairs (writes to region) class = (class, writes to region) ∷ []
 

@@ -7,7 +7,8 @@ ghost use Rattle.au_instances.specs.Forms as forms;
 ghost use Rattle.au_instances.specs.Instances as rule;
 ghost use Rattle.au_instances.specs.Pairs.{wanted};
 ghost use Rattle.au_instances.specs.Views.{AllStandIn, ArgumentStandsIn, StandsIn};
-ghost use Rattle.au_instances.specs.Views.{lacking_among, lacking_at, lacking_below, lacking_from, lacking_in, lacking_of};
+ghost use Rattle.au_instances.specs.Views.{lacking_among, lacking_at, lacking_below};
+ghost use Rattle.au_instances.specs.Views.{lacking_from, lacking_in, lacking_of};
 
 use crate::finding::row_in;
 use crate::forms::{arguments_of, is_called};
@@ -54,7 +55,8 @@ pub(crate) fn lacking_in<'a>(of: &'a Ty, sight: &Sight, class: ClassAt) -> Optio
 #[cycle(lacking)]
 fn lacking_below<'a>(of: &'a Ty, sight: &Sight, row: &Row) -> Option<(ClassAt, &'a Ty)>
     requires stands { StandsIn sight.now (meaning of.now) }
-    ensures { option_map wanted result ≡ lacking_below sight.now row.now.generics (meaning row.now.head) (meaning of.now) }
+    ensures { option_map wanted result
+        ≡ lacking_below sight.now row.now.generics (meaning row.now.head) (meaning of.now) }
 {
     match of {
         Ty::Named { args, .. } => lacking_among(args, sight, row),
@@ -67,7 +69,9 @@ fn lacking_below<'a>(of: &'a Ty, sight: &Sight, row: &Row) -> Option<(ClassAt, &
 #[cycle(lacking)]
 fn lacking_among<'a>(args: &'a Vec<Arg>, sight: &Sight, row: &Row) -> Option<(ClassAt, &'a Ty)>
     requires stands { AllStandIn sight.now (argument_all args.now.items) }
-    ensures { option_map wanted result ≡ lacking_among sight.now row.now.generics (forms.arguments_of (meaning row.now.head)) (argument_all args.now.items) }
+    ensures { option_map wanted result
+        ≡ lacking_among sight.now row.now.generics
+        (forms.arguments_of (meaning row.now.head)) (argument_all args.now.items) }
 {
     let names = arguments_of(&row.head);
     for index in 0..row.generics.len() {
@@ -92,7 +96,9 @@ fn lacking_from<'a>(
     classes: &[ClassAt],
 ) -> Option<(ClassAt, &'a Ty)>
     requires stands { AllStandIn sight.now (argument_all args.now.items) }
-    ensures { option_map wanted result ≡ lacking_from sight.now name.now classes.now (argument_all names.now) (argument_all args.now.items) }
+    ensures { option_map wanted result
+        ≡ lacking_from sight.now name.now classes.now
+        (argument_all names.now) (argument_all args.now.items) }
 {
     for class in classes {
         if let Some(found) = lacking_at(args, sight, names, name, *class) {
@@ -112,7 +118,8 @@ fn lacking_at<'a>(
     class: ClassAt,
 ) -> Option<(ClassAt, &'a Ty)>
     requires stands { AllStandIn sight.now (argument_all args.now.items) }
-    ensures { option_map wanted result ≡ lacking_at sight.now name.now class (argument_all names.now) (argument_all args.now.items) }
+    ensures { option_map wanted result
+        ≡ lacking_at sight.now name.now class (argument_all names.now) (argument_all args.now.items) }
 {
     for (index, one) in args.iter().enumerate() {
         if index < names.len() && is_called(name, &names[index]) {
