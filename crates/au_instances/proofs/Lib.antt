@@ -10,3 +10,5 @@ pub mod WalkLemmas
 pub mod ClosesLemmas
 pub mod KeyLemmas
 pub mod LawLemmas
+pub mod LackingLemmas
+pub mod SizeLemmas

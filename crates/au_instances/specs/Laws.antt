@@ -1,12 +1,11 @@
 -- What is known of tables of instances.
-use Rattle.std.specs.Prelude.{◌≡◌, List, [], ◌∷◌, Option, None, Some}
+use Rattle.std.specs.Prelude.{List, [], Option, None, Some}
 use Rattle.std.specs.List.{flat_map}
 use Rattle.au_types.specs.declared.headings.Head.{Head}
 use Rattle.au_types.specs.declared.parameters.Parameter.{Parameter}
 use Rattle.au_types.specs.declared.types.DeclAt.{DeclAt}
-use Rattle.au_types.specs.Types.{Meaning, Argument, of_type, in_region}
+use Rattle.au_types.specs.Types.{Argument, of_type, in_region}
 use Rattle.au_matching.specs.Bindings.{Bindings, value_of}
-use Rattle.au_instances.specs.Becoming.{IsRowFor}
 use Rattle.au_instances.specs.Pairs.{Pair, constraints_of, pairs}
 use Rattle.au_instances.specs.Rows.{Row}
 

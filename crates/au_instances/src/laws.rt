@@ -65,15 +65,15 @@ pub fn tests_find_the_rows()
 /// No pair is lacking exactly where the class holds: where the type is a type parameter that is known to have
 /// it, or a row gives the instance.
 pub fn nothing_lacks_where_a_class_holds()
-    ensures { (rows : List InstanceRow) (heads : List (DeclAt × Head)) (scope : List Parameter) (known : Known)
-        (class : DeclAt) (t : Meaning)
+    ensures { (rows : List InstanceRow) (heads : List (DeclAt × Head)) (scope : List Parameter)
+        (known : Known) (class : DeclAt) (t : Meaning)
         → IsTable rows
         → lacking rows heads scope known class t ≡ None ↔ Holds rows heads scope known class t }
 {}
 
 /// The pairs that come from a class at a type are this one alone, where no row of the class has a head that
-/// becomes the type. Where the head of a row becomes it under a substitution, there come besides those of each
-/// constraint of the row's parameters at the parameter's value.
+/// becomes the type. Where the head of a row becomes it under a substitution, there come besides those of
+/// each constraint of the row's parameters at the parameter's value.
 pub fn pairs_follow_the_rows()
     ensures alone { (rows : List InstanceRow) (heads : List (DeclAt × Head)) (scope : List Parameter)
         (class : DeclAt) (t : Meaning)
@@ -91,12 +91,12 @@ pub fn pairs_follow_the_rows()
 pub fn examples_hold()
     ensures rows { Each (λ one.
         option_map (λ row. row.instance.decl)
-        (row_for examples.declared (examples.parameter_of examples.t_name one.universe ∷ []) examples.table one.class one.of)
+        (row_for examples.declared (examples.scope one.universe) examples.table one.class one.of)
         ≡ one.is) examples.row_examples }
     ensures closed { Each (λ one.
         option_map (λ row. row.instance.decl) (closed_row examples.table examples.declared one.of one.class)
         ≡ one.is) examples.closed_examples }
     ensures lacking { Each (λ one.
-        lacking examples.table examples.declared (examples.parameter_of examples.t_name examples.free ∷ []) one.known one.class one.of
+        lacking examples.table examples.declared (examples.scope examples.free) one.known one.class one.of
         ≡ one.lacks) examples.lacking_examples }
 {}
