@@ -1,3 +1,4 @@
 pub mod KnownLemmas
 pub mod FaultLemmas
 pub mod GoodLemmas
+pub mod AcceptedLemmas

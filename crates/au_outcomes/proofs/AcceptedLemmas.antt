@@ -8,7 +8,7 @@ use Rattle.au_base.specs.Outside.{Files}
 use Rattle.au_classes.specs.declared.faults.ClassFault.TheVariants as classes
 use Rattle.au_classes.specs.Faults.{instance_fault}
 use Rattle.au_classes.specs.Good.{InstancesAreGood}
-use Rattle.au_classes.proofs.GoodLemmas as standing
+use Rattle.au_classes.proofs.AcceptedLemmas as standing
 use Rattle.au_imports.specs.declared.faults.ImportFault.TheVariants as imports
 use Rattle.au_imports.specs.Good.{IsGood}
 use Rattle.au_imports.specs.Importing as importing
@@ -30,7 +30,7 @@ use Rattle.au_promises.specs.Promises.{promise_fault}
 use Rattle.au_rules.specs.declared.faults.DeclFault.TheVariants as rules
 use Rattle.au_rules.specs.DeclFaults.{decl_fault}
 use Rattle.au_rules.specs.Good.{AllDeclarationsAreGood}
-use Rattle.au_rules.proofs.GoodLemmas as declaring
+use Rattle.au_rules.proofs.AcceptedLemmas as declaring
 use Rattle.au_outcomes.specs.Accepted.{Accepted, AreAcceptedAs, is_behind, program_files}
 use Rattle.au_outcomes.specs.Halts.{IsUnhad}
 use Rattle.au_outcomes.specs.Outcomes.{BytesCome, Comes, IsFirst}

@@ -1,3 +1,4 @@
 pub mod TestLemmas
 pub mod RuleLemmas
 pub mod DoubleLemmas
+pub mod AcceptedLemmas

@@ -1,8 +1,9 @@
 use Rattle.std.proofs.Common.{◌++◌, map, sym, ap, ◌∙◌}
 use Rattle.std.specs.Prelude.{slice_get}
 use Rattle.std.proofs.lemmas.List.{append-nil}
-use Rattle.au_modules.specs.Seen.{tree_seen}
+use Rattle.au_modules.specs.Seen.{part_tree, tree_seen}
 use Rattle.au_modules.specs.Slots as slots
+use Rattle.au_name_faults.proofs.BroughtLemmas.{tree_is}
 use Rattle.au_again.specs.Marks.{marks}
 use Rattle.au_again.specs.Outside.{outside}
 use Rattle.au_again.specs.Scopes.{doubles_in}
@@ -16,6 +17,9 @@ returns-in-None-clause-found c = λ m here.
     let start = c.args.list.now.items in
     let s = c.args.scopes.now in
     let foreign = outside program c.args.place m c.args.part in
-    let there = c.part_file.ensures m (ap (λ r. slice_get (slots.modules r) c.args.place) c.modules.ensures.kept ∙ here) in
+    let there =
+    c.part.ensures
+    ∙ ap (part_tree c.args.part) (ap (λ r. slice_get (slots.modules r) c.args.place) c.modules.ensures.kept ∙ here)
+    ∙ tree_is c.args.part m in
     let none = nothing_declared c.args.part m (sym (ap tree_seen c.in-None.is) ∙ there) in
     sym (ap (λ ds. start ++ doubles_in foreign s (map (marks c.args.part) ds)) none ∙ ap (λ r. start ++ r) (doubles_nothing foreign s) ∙ append-nil start)
