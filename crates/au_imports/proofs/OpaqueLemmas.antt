@@ -8,8 +8,8 @@ use Rattle.au_syntax.specs.Plain.{Bytes, PlainDeclaration}
 use Rattle.au_types.specs.declared.types.DeclAt.{DeclAt}
 use Rattle.au_modules.specs.Programs.{Entry, ModuleParts}
 use Rattle.au_names.specs.Owned.{declarations_in}
-use Rattle.au_declarations.specs.Standing.{Standing, body_at, defined_by, definition_for, definition_of, is_named, is_whole, opaque_name, standing_at, standing_from, standing_in, whole_name}
-use Rattle.au_declarations.proofs.DefinitionLemmas.{interface_listed, module_place, standing_found}
+use Rattle.au_names.specs.Standing.{Standing, body_at, defined_by, definition_for, definition_of, is_named, is_whole, opaque_name, standing_at, standing_from, standing_in, whole_name}
+use Rattle.au_names.proofs.DefinitionLemmas.{interface_listed, module_place, standing_found}
 use Rattle.au_promises.proofs.DecidingLemmas.{keeps_decides}
 use Rattle.au_promises.proofs.FulfilledLemmas.{Passes, kept_passes}
 use Rattle.au_promises.specs.Agreeing.{Sight, sight_of}

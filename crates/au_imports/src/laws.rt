@@ -6,7 +6,7 @@ ghost use Rattle.au_imports.specs.Importing.{refusal_of};
 ghost use Rattle.au_modules.specs.Programs.{Entry, ModuleParts};
 ghost use Rattle.au_promises.specs.Agreeing.{sight_of};
 ghost use Rattle.au_promises.specs.Fulfilled.{Agrees};
-ghost use Rattle.au_declarations.specs.Standing.{Standing, definition_of, opaque_name, standing_at};
+ghost use Rattle.au_names.specs.Standing.{Standing, definition_of, opaque_name, standing_at};
 ghost use Rattle.au_syntax.specs.Plain.{Bytes};
 ghost use Rattle.au_syntax.specs.declared.modules.Part.TheVariants as parts;
 ghost use Rattle.au_types.specs.declared.types.DeclAt.{DeclAt};

@@ -2,23 +2,23 @@
 
 ghost use Rattle.std.specs.Prelude.{◌≡◌, ◌<◌, IfOk, Some, length, slice_get};
 ghost use Rattle.std.specs.Option.{option_map};
-ghost use Rattle.au_heads.specs.HeadsOf as rows;
+ghost use Rattle.au_names.specs.HeadsOf as rows;
 ghost use Rattle.au_imports.specs.Good.{IsGood};
 ghost use Rattle.au_modules.specs.Programs.{ModuleParts};
 ghost use Rattle.au_modules.specs.Slots as slots;
 ghost use Rattle.au_names.specs.Meanings.{declared_by, seen};
-ghost use Rattle.au_resolved.specs.Known as known;
-ghost use Rattle.au_declarations.specs.Standing.{definition_of, standing_at, standing_seen};
+ghost use Rattle.au_names.specs.Known as known;
+ghost use Rattle.au_names.specs.Standing.{definition_of, standing_at, standing_seen};
 ghost use Rattle.au_syntax.specs.Views.{written};
 ghost use Rattle.au_tables.specs.declared.spaces.Space.TheVariants as spaces;
 ghost use Rattle.au_types.specs.Views.{meaning};
 ghost use Rattle.au_written_types.specs.Meant.{meant};
 
 use au_base::{Memory, Name};
-use au_declarations::{Declared, declaration, definition};
+use au_names::{Declared, declaration, definition};
 use au_modules::Modules;
 use au_names::PartNames;
-use au_resolved::Resolved as NamedModules;
+use au_names::NamedModules;
 use au_syntax::{Part, TypeText};
 use au_types::{DeclAt, Heads, Params, Ty};
 use std::alloc::Global;

@@ -10,7 +10,7 @@ use au_base::Memory;
 use au_modules::Modules;
 use au_name_faults::name_fault;
 use au_promises::promise_fault;
-use au_resolved::Resolved as NamedModules;
+use au_names::NamedModules;
 use std::alloc::Global;
 
 /// What a program is refused for, if it is refused: for a name, or else for a promise.

@@ -11,7 +11,7 @@ use Rattle.au_syntax.specs.Sizes.{expression_types, expressions_types, arguments
 use Rattle.au_syntax.specs.Types.{WrittenType, WrittenTypes, Labelled, named, reference, no_types, types}
 use Rattle.au_tables.specs.declared.spaces.Space.TheVariants.{Values, Callables, Types}
 use Rattle.au_types.specs.declared.parameters.Parameter.{Parameter}
-use Rattle.au_heads.specs.HeadsOf.{parameter}
+use Rattle.au_names.specs.HeadsOf.{parameter}
 use Rattle.au_mentions.specs.declared.mentions.Mention.{Mention}
 use Rattle.au_mentions.specs.declared.mentions.Mention.TheVariants.{Declares, Writes}
 

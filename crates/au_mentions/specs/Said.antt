@@ -9,13 +9,12 @@ use Rattle.au_syntax.specs.declared.names.Ident.{Ident}
 use Rattle.au_syntax.specs.declared.declarations.Generic.{Generic}
 use Rattle.au_syntax.specs.declared.declarations.Method.{Method}
 use Rattle.au_syntax.specs.declared.declarations.Signature.{Signature}
-use Rattle.au_syntax.specs.declared.declarations.TypeParameter.{TypeParameter}
 use Rattle.au_syntax.specs.declared.declarations.UnionCase.{UnionCase}
-use Rattle.au_syntax.specs.Modules.{Constrained, Header, InUniverse, Variant}
+use Rattle.au_syntax.specs.Modules.{Constrained, Header, Variant}
 use Rattle.au_syntax.specs.Names.{Placed}
-use Rattle.au_syntax.specs.Plain.{Bytes, PlainArguments, PlainExpression, PlainExpressions, PlainMethod, plain_name, plain_labelled, plain_in_universe, plain_constrained, plain_header, plain_variant, plain_method, plain_expression, plain_expressions, plain_arguments}
+use Rattle.au_syntax.specs.Plain.{Bytes, PlainArguments, PlainExpression, PlainExpressions, PlainMethod, plain_name, plain_labelled, plain_constrained, plain_header, plain_variant, plain_method, plain_expression, plain_expressions, plain_arguments}
 use Rattle.au_syntax.specs.Types.{Labelled}
-use Rattle.au_syntax.specs.Views.{placed, labelled, in_universe, constrained, header, variant, method_body, expression, expression_all, argument_all}
+use Rattle.au_syntax.specs.Views.{placed, labelled, constrained, header, variant, method_body, expression, expression_all, argument_all}
 
 -- names
 abbrev pub names_said : List (Ident Parsed (List ℕ) (Unit {0}) (Unit {0})) → List (Placed Bytes)
@@ -24,10 +23,6 @@ names_said names = map (plain_name parsed.name_bytes) (map (placed parsed) names
 -- fields and parameters
 abbrev pub fields_said : List (Field Parsed (List ℕ) (Unit {0}) (Unit {0})) → List (Labelled Bytes)
 fields_said fields = map (plain_labelled parsed.name_bytes) (map (labelled parsed) fields)
-
--- type parameters
-abbrev pub parameters_said : List (TypeParameter Parsed (List ℕ) (Unit {0}) (Unit {0})) → List (InUniverse Bytes)
-parameters_said parameters = map (plain_in_universe parsed.name_bytes) (map (in_universe parsed) parameters)
 
 -- a type parameter behind `generic`, and several of them
 abbrev pub generic_said : Generic Parsed (List ℕ) (Unit {0}) (Unit {0}) → Constrained Bytes

@@ -1,37 +1,18 @@
 //! The type parameters of declarations.
 
 ghost use Rattle.std.specs.Prelude.{◌≡◌, ◌∷◌, [], IfOk, map};
-ghost use Rattle.au_heads.specs.HeadsOf.{parameter};
+ghost use Rattle.au_names.specs.HeadsOf.{parameter};
 ghost use Rattle.au_mentions.specs.Mentions as spec;
-ghost use Rattle.au_mentions.specs.Said.{generics_said, parameters_said};
+ghost use Rattle.au_mentions.specs.Said.{generics_said};
 ghost use Rattle.au_syntax.specs.Plain.{plain_declaration, plain_in_universe};
 ghost use Rattle.au_syntax.specs.Views.{declaration, in_universe};
 ghost use Rattle.au_syntax.specs.contracts.parsed.ParsedPhase.TheImpl.{ghosts as parsed};
 
 use au_base::Memory;
+use au_names::parameters::{parameter_of, params_of};
 use au_syntax::{Decl, Generic, Parsed, TypeParameter};
-use au_types::{Parameter, Params};
+use au_types::Params;
 use std::alloc::Global;
-
-/// A type parameter.
-fn parameter_of(alloc: Global, one: &TypeParameter<Parsed>) -> Result<Parameter, Memory>
-    ensures { IfOk result (λ made. made ≡ parameter (plain_in_universe parsed.name_bytes (in_universe parsed one.now))) }
-{
-    let universe = one.universe;
-    let name = one.name.name.copy(alloc)?;
-    Ok(Parameter { name, universe })
-}
-
-/// Type parameters in brackets.
-fn params_of(alloc: Global, list: &Vec<TypeParameter<Parsed>>) -> Result<Params, Memory>
-    ensures { IfOk result (λ params. params ≡ map parameter (parameters_said list.now.items)) }
-{
-    let mut params = Params::new(alloc);
-    for one in list {
-        params.push(parameter_of(alloc, one)?)?;
-    }
-    Ok(params)
-}
 
 /// Type parameters behind `generic`.
 fn generic_params_of(alloc: Global, list: &Vec<Generic<Parsed>>) -> Result<Params, Memory>

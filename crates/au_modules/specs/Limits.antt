@@ -28,7 +28,8 @@ most_type_parameters = 8
 -- So many were counted before them.
 abbrev pub numbered : {A : Type 0} → LimitKind → ℕ → ℕ → List A → List Limit
 numbered kind most before [] = []
-numbered kind most before (x ∷ xs) = record { kind = kind; count = before + 1; most = most } ∷ numbered kind most (before + 1) xs
+numbered kind most before (x ∷ xs) =
+    record { kind = kind; count = before + 1; most = most } ∷ numbered kind most (before + 1) xs
 
 -- type parameters
 abbrev pub counted_type_parameters : {A : Type 0} → List A → List Limit
@@ -50,20 +51,25 @@ counted_fields fields = numbered Fields most_fields 0 fields
 abbrev pub counted_cases : ℕ → List (Variant Bytes) → List Limit
 counted_cases before [] = []
 counted_cases before (one ∷ cases) =
-    record { kind = Cases; count = before + 1; most = most_cases } ∷ (counted_fields one.fields ++ counted_cases (before + 1) cases)
+    record { kind = Cases; count = before + 1; most = most_cases }
+    ∷ (counted_fields one.fields ++ counted_cases (before + 1) cases)
 
 -- All that is counted in a declaration, in the order of the text. A class has one type parameter.
 abbrev pub counted : PlainDeclaration → List Limit
 counted (constant at name t) = []
 counted (opaque_type at name parameters universe) = counted_type_parameters parameters
-counted (record_type at name parameters universe fields) = counted_type_parameters parameters ++ counted_fields fields
-counted (union_type at name parameters universe cases) = counted_type_parameters parameters ++ counted_cases 0 cases
+counted (record_type at name parameters universe fields) =
+    counted_type_parameters parameters ++ counted_fields fields
+counted (union_type at name parameters universe cases) =
+    counted_type_parameters parameters ++ counted_cases 0 cases
 counted (function at generics header) = counted_type_parameters generics ++ counted_parameters header
 counted (class at name parameter methods) = flat_map counted_parameters methods
 counted (instance at generics name t) = counted_type_parameters generics
 counted (constant_body at name t e) = []
-counted (function_body at generics header body stop) = counted_type_parameters generics ++ counted_parameters header
-counted (instance_body at generics name t methods) = counted_type_parameters generics ++ flat_map counted_method methods
+counted (function_body at generics header body stop) =
+    counted_type_parameters generics ++ counted_parameters header
+counted (instance_body at generics name t methods) =
+    counted_type_parameters generics ++ flat_map counted_method methods
 
 -- what is counted has a greater number than there may be
 abbrev pub passes : Limit → Bool
@@ -83,4 +89,5 @@ limit_in declarations = first_passed (flat_map counted declarations)
 
 -- the limit that so many things pass, of which there may be most
 abbrev pub over : LimitKind → ℕ → ℕ → Option Limit
-over kind most number = if nat_lt most number then Some (record { kind = kind; count = most + 1; most = most }) else None
+over kind most number =
+    if nat_lt most number then Some (record { kind = kind; count = most + 1; most = most }) else None

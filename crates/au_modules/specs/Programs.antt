@@ -47,7 +47,8 @@ pragma_fault false pragma = option_map Unsafe pragma
 -- What is refused in a file for itself, the first in the order of the text: a pragma stands before all
 -- declarations.
 abbrev pub fault_in : Entry → Option ModuleFault
-fault_in e = option_or (pragma_fault (is_shipped e) e.tree.pragma) (option_map Limit (limit_in e.tree.declarations))
+fault_in e =
+    option_or (pragma_fault (is_shipped e) e.tree.pragma) (option_map Limit (limit_in e.tree.declarations))
 
 -- the first of files in which something is refused
 abbrev pub first_fault : List Entry → Option ModuleFault
@@ -66,7 +67,8 @@ is_same_part Body part = not (is_interface part)
 
 -- a file gives what an earlier one gave, or has the name of a shipped one
 abbrev pub clashes : Given → Given → Bool
-clashes later earlier = bytes_eq later.name earlier.name && (earlier.shipped || is_same_part later.part earlier.part)
+clashes later earlier =
+    bytes_eq later.name earlier.name && (earlier.shipped || is_same_part later.part earlier.part)
 
 -- a file of the user's gives what one of these gave
 abbrev pub is_again : List Given → Given → Bool
@@ -75,7 +77,8 @@ is_again before g = not g.shipped && list_any (clashes g) before
 -- the first file that gives what one of those before it gave
 abbrev pub first_again : List Given → List Given → Option ModuleFault
 first_again before [] = None
-first_again before (g ∷ rest) = if is_again before g then Some (TwiceGiven g.name) else first_again (before ++ g ∷ []) rest
+first_again before (g ∷ rest) =
+    if is_again before g then Some (TwiceGiven g.name) else first_again (before ++ g ∷ []) rest
 
 -- ---- last: interfaces without a body
 
@@ -98,7 +101,9 @@ first_bodiless all = option_map body_fault (find (lacks_body all) all)
 
 -- what files are refused for: the first of three rounds that finds something
 abbrev pub refusal_of : List Entry → Option ModuleFault
-refusal_of files = option_or (first_fault files) (option_or (first_again [] (map given files)) (first_bodiless (map given files)))
+refusal_of files =
+    option_or (first_fault files)
+    (option_or (first_again [] (map given files)) (first_bodiless (map given files)))
 
 -- a module: its name, its interface and its body, where it has them
 pub record ModuleParts : Type 0 where
@@ -129,4 +134,5 @@ is_user_body e = not (is_shipped e) && not (is_interface e.tree.part)
 -- The modules of files by their places: the shipped ones in order, and then those of the user in the
 -- order of their bodies.
 abbrev pub modules_of : List Entry → List ModuleParts
-modules_of files = map shipped_module (filter is_shipped files) ++ map (module_of files) (filter is_user_body files)
+modules_of files =
+    map shipped_module (filter is_shipped files) ++ map (module_of files) (filter is_user_body files)

@@ -1,9 +1,10 @@
 //! From files to modules.
 
-ghost use Rattle.std.specs.Prelude.{◌≡◌, ◌++◌, ◌⊎◌, IfOk, OnOk, Some, None, map, position};
+ghost use Rattle.std.specs.Prelude.{◌≡◌, ◌++◌, ◌⊎◌, IfOk, IsTrue, OnOk, Some, None, map, position};
+ghost use Rattle.au_modules.specs.Counts.{are_few};
 ghost use Rattle.au_modules.specs.Programs as spec;
 ghost use Rattle.au_modules.specs.Programs.{entry, refusal_of, modules_of};
-ghost use Rattle.au_modules.specs.Slots.{modules, shipped_slots, body_slots, body_slot, gives_interface};
+ghost use Rattle.au_modules.specs.Slots.{all_slots, modules, shipped_slots, body_slots, body_slot, gives_interface};
 
 use crate::faults::ModuleFault;
 use crate::modules::{Modules, Slot};
@@ -69,7 +70,8 @@ fn push_shipped(alloc: Global, givens: &Vec<Given>, slots: &mut Vec<Slot>) -> Re
 
 /// Puts the modules of the user behind others.
 fn push_bodies(alloc: Global, givens: &Vec<Given>, slots: &mut Vec<Slot>) -> Result<(), Memory>
-    ensures { OnOk result (slots.new.items ≡ slots.old.items ++ body_slots givens.now.items 0 givens.now.items) }
+    ensures { OnOk result
+        (slots.new.items ≡ slots.old.items ++ body_slots givens.now.items 0 givens.now.items) }
 {
     for (index, one) in givens.iter().enumerate() {
         if !one.shipped && !is_interface(one.part) {
@@ -82,7 +84,7 @@ fn push_bodies(alloc: Global, givens: &Vec<Given>, slots: &mut Vec<Slot>) -> Res
 
 /// Where the parts of the modules lie.
 fn slots_of(alloc: Global, givens: &Vec<Given>) -> Result<Vec<Slot>, Memory>
-    ensures { IfOk result (λ slots. slots.items ≡ shipped_slots 0 givens.now.items ++ body_slots givens.now.items 0 givens.now.items) }
+    ensures { IfOk result (λ slots. slots.items ≡ all_slots givens.now.items) }
 {
     let mut slots = Vec::new(alloc);
     push_shipped(alloc, givens, &mut slots)?;
@@ -100,6 +102,7 @@ fn slots_of(alloc: Global, givens: &Vec<Given>) -> Result<Vec<Slot>, Memory>
 /// interface without a body (`ModuleFault::NoBody`). `ModuleFault::Memory` where no memory was found,
 /// in place of any other answer.
 pub fn gather(alloc: Global, files: Vec<FileTree>) -> Result<Modules, ModuleFault>
+    requires { IsTrue (are_few (map entry files.items)) }
     // The modules are those of the files by their places.
     ensures modules { IfOk result (λ m. modules m ≡ modules_of (map entry files.items)) }
     // Nothing is refused where they are given.

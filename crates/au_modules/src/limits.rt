@@ -38,7 +38,8 @@ fn over(kind: LimitKind, number: usize, most: u32) -> Option<Limit>
 
 /// The limit that the case of this number passes.
 fn case_limit(number: usize) -> Option<Limit>
-    ensures { result ≡ spec.first_passed (record { kind = LimitKind.Cases; count = number; most = spec.most_cases } ∷ []) }
+    ensures { result ≡ spec.first_passed
+        (record { kind = LimitKind.Cases; count = number; most = spec.most_cases } ∷ []) }
 {
     if (MOST_CASES as usize) < number {
         Some(Limit {
@@ -74,7 +75,8 @@ fn fields_limit(number: usize) -> Option<Limit>
 
 /// The limit that cases pass, each before its own fields.
 fn cases_limit<P: Phase>(cases: &Vec<UnionCase<P>>) -> Option<Limit>
-    ensures { result ≡ spec.first_passed (spec.counted_cases 0 (map (plain_variant P.name_bytes) (map (variant P.Phase) cases.now.items))) }
+    ensures { result ≡ spec.first_passed
+        (spec.counted_cases 0 (map (plain_variant P.name_bytes) (map (variant P.Phase) cases.now.items))) }
 {
     for (index, one) in cases.iter().enumerate() {
         let found = case_limit(index + 1).or(fields_limit(one.fields.len()));
@@ -87,7 +89,9 @@ fn cases_limit<P: Phase>(cases: &Vec<UnionCase<P>>) -> Option<Limit>
 
 /// The limit that the parameters of methods pass.
 fn signatures_limit<P: Phase>(signatures: &Vec<Signature<P>>) -> Option<Limit>
-    ensures { result ≡ spec.first_passed (flat_map spec.counted_parameters (map (plain_header P.name_bytes) (map (header P.Phase) signatures.now.items))) }
+    ensures { result ≡ spec.first_passed
+        (flat_map spec.counted_parameters
+        (map (plain_header P.name_bytes) (map (header P.Phase) signatures.now.items))) }
 {
     for one in signatures {
         if let Some(limit) = parameters_limit(one.parameters.len()) {
@@ -99,7 +103,9 @@ fn signatures_limit<P: Phase>(signatures: &Vec<Signature<P>>) -> Option<Limit>
 
 /// The limit that the parameters of an instance's methods pass.
 fn methods_limit<P: Phase>(methods: &Vec<Method<P>>) -> Option<Limit>
-    ensures { result ≡ spec.first_passed (flat_map spec.counted_method (map (plain_method P.name_bytes) (map (method_body P.Phase) methods.now.items))) }
+    ensures { result ≡ spec.first_passed
+        (flat_map spec.counted_method
+        (map (plain_method P.name_bytes) (map (method_body P.Phase) methods.now.items))) }
 {
     for one in methods {
         if let Some(limit) = parameters_limit(one.signature.parameters.len()) {
@@ -142,7 +148,8 @@ pub fn limit_of<P: Phase>(decl: &Decl<P>) -> Option<Limit>
 
 /// The limit that declarations pass, the first in the order of the text.
 pub fn limit_in<P: Phase>(declarations: &Vec<Decl<P>>) -> Option<Limit>
-    ensures { result ≡ spec.limit_in (map (plain_declaration P.name_bytes) (map (declaration P.Phase) declarations.now.items)) }
+    ensures { result ≡ spec.limit_in
+        (map (plain_declaration P.name_bytes) (map (declaration P.Phase) declarations.now.items)) }
 {
     for one in declarations {
         if let Some(limit) = limit_of(one) {

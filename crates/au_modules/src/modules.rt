@@ -1,12 +1,11 @@
 //! The modules of a program.
 
-ghost use Rattle.std.specs.Prelude.{◌≡◌, ◌<◌, Some, length, map, slice_get};
+ghost use Rattle.std.specs.Prelude.{◌≤◌, IsTrue, length, map};
+ghost use Rattle.au_modules.specs.Counts.{are_few, most_files};
 ghost use Rattle.au_modules.specs.Programs.{entry};
-ghost use Rattle.au_modules.specs.Seen.{body_tree, interface_tree, name_of, tree_at, tree_seen};
-ghost use Rattle.au_modules.specs.Slots.{modules};
 
 use au_base::Name;
-use au_syntax::{FileTree, Parsed, Whole};
+use au_syntax::{FileTree, Parsed, Part, Whole};
 
 /// A module: its name, and which files hold its interface and its body, by their indices.
 #[derive(Drop)]
@@ -20,16 +19,23 @@ pub struct Slot {
 }
 
 /// The modules of a program, by their places: the shipped ones first, and then those of the user in
-/// the order of their bodies.
+/// the order of their bodies. Their files are as few as those of a program, and the declarations in each too.
 #[derive(Drop)]
 pub struct Modules {
     /// The files.
     pub files: Vec<FileTree>,
     /// The modules by place.
     pub slots: Vec<Slot>,
+    pub ghost few: { IsTrue (are_few (map entry files.items)) },
+    pub ghost placed: { length slots.items ≤ most_files },
 }
 
 impl Modules {
+    ghost use Rattle.std.specs.Prelude.{◌≡◌, ◌<◌, Some, length, map, slice_get};
+    ghost use Rattle.au_modules.specs.Programs.{entry};
+    ghost use Rattle.au_modules.specs.Seen.{body_tree, interface_tree, name_of, part_tree, tree_at, tree_seen};
+    ghost use Rattle.au_modules.specs.Slots.{modules};
+
     /// How many modules there are.
     #[tactic(auto, using(crate::proofs::PlaceLemmas::place_steps, std::proofs::lemmas::Grind::common_steps))]
     pub fn len(&self) -> usize
@@ -63,6 +69,17 @@ impl Modules {
         ensures { tree_seen result ≡ body_tree (slice_get (modules self.now) place) }
     {
         self.tree_at(self.slots[place].body)
+    }
+
+    /// A part of the module at a place, if it has it.
+    pub fn part(&self, place: usize, part: Part) -> Option<&Whole<Parsed>>
+        requires { place < length (modules self.now) }
+        ensures { tree_seen result ≡ part_tree part (slice_get (modules self.now) place) }
+    {
+        match part {
+            Part::Interface => self.interface(place),
+            Part::Body => self.body(place),
+        }
     }
 
     /// What the file of an index holds.

@@ -25,7 +25,11 @@ pub struct Given {
 }
 
 /// The parts of a name, a dot before each of them.
-fn dotted_text(alloc: Global, names: &Vec<Ident<Parsed>>) -> Result<Text, Memory>
+///
+/// # Errors
+///
+/// Only for want of memory.
+pub fn dotted_text(alloc: Global, names: &Vec<Ident<Parsed>>) -> Result<Text, Memory>
     ensures text { IfOk result (λ text. text ≡ flat_map dotted names.now.items) }
     ensures some { IfOk result (λ text. 0 < length names.now.items → 1 < length text) }
 {

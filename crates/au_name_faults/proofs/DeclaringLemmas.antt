@@ -15,7 +15,7 @@ use Rattle.au_tables.specs.Tables.{has_name}
 use Rattle.au_tables.proofs.TableLemmas.{find-firsts}
 use Rattle.au_types.specs.declared.parameters.Parameter.{Parameter}
 use Rattle.au_modules.specs.Programs.{ModuleParts}
-use Rattle.au_heads.specs.HeadsOf.{heads_of}
+use Rattle.au_names.specs.HeadsOf.{heads_of}
 use Rattle.au_names.specs.Exporting.{in_space, offers}
 use Rattle.au_names.specs.Meanings.{declared_by, seen}
 use Rattle.au_names.specs.Owned.{interface_of}

@@ -12,7 +12,7 @@ use Rattle.au_tables.specs.declared.spaces.Space.{Space}
 use Rattle.au_tables.specs.declared.spaces.Space.TheVariants.{Types}
 use Rattle.au_tables.specs.Tables.{find, has_name}
 use Rattle.au_modules.specs.Programs.{ModuleParts}
-use Rattle.au_heads.specs.HeadsOf.{heads_of}
+use Rattle.au_names.specs.HeadsOf.{heads_of}
 use Rattle.au_names.specs.declared.targets.Target.{Target}
 use Rattle.au_names.specs.Importing.{imported, place_of}
 use Rattle.au_names.specs.Meanings.{declared_by, imports_in, part_of, pervasive, seen}

@@ -13,7 +13,7 @@ use Rattle.au_tables.specs.declared.spaces.Space.{Space}
 use Rattle.au_tables.specs.declared.spaces.Space.TheVariants.{Values, Callables, Types}
 use Rattle.au_types.specs.declared.parameters.Parameter.{Parameter}
 use Rattle.au_modules.specs.Programs.{Entry, ModuleParts}
-use Rattle.au_heads.specs.HeadsOf.{heads_of}
+use Rattle.au_names.specs.HeadsOf.{heads_of}
 use Rattle.au_names.specs.declared.targets.Target.{Target}
 use Rattle.au_names.specs.Importing.{along, place_of}
 use Rattle.au_names.specs.Meanings.{declared_by, part_of, seen}

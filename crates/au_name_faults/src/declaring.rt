@@ -19,7 +19,7 @@ use crate::faults::NameFault;
 use crate::offers::{Offers, offered_in};
 use au_base::{Memory, Name, Pos};
 use au_mentions::{Mention, mentions_of, type_parameters};
-use au_resolved::Resolved;
+use au_names::NamedModules as Resolved;
 use au_syntax::{Decl, Parsed, Part};
 use au_tables::{NameTables, Space, Table};
 use au_types::{DeclAt, Heads, Params};

@@ -17,7 +17,7 @@ use crate::faults::NameFault;
 use crate::importing::imports_fault;
 use crate::offers::{Offers, offers_of};
 use au_base::Memory;
-use au_resolved::Resolved;
+use au_names::NamedModules as Resolved;
 use au_syntax::{Module, Parsed, Part};
 use std::alloc::Global;
 

@@ -7,7 +7,14 @@ use Rattle.std.specs.Str.{bytes_eq}
 use Rattle.std.proofs.lemmas.Bool.{lt-ltb, le-ltb, cases_lt}
 use Rattle.std.proofs.lemmas.List.{append-nil, drop_all, length-map}
 use Rattle.std.proofs.lemmas.Option.{none-some, same_Some, slice_get-map, slice_get-get_or, get_or_from_slice_get}
-use Rattle.au_syntax.specs.Plain.{Bytes, PlainDeclaration, PlainModule}
+use Rattle.au_base.specs.Limits.{most_tokens}
+use Rattle.au_syntax.specs.contracts.parsed.ParsedPhase.TheImpl.{ghosts as parsed}
+use Rattle.au_syntax.specs.declared.modules.Module.{Module}
+use Rattle.au_syntax.specs.declared.parsed.Parsed.{Parsed}
+use Rattle.au_syntax.specs.Files.{says}
+use Rattle.au_syntax.specs.Plain.{Bytes, PlainDeclaration, PlainModule, plain_declaration}
+use Rattle.au_syntax.specs.Views.{declaration}
+use Rattle.au_modules.proofs.PlaceLemmas.{declared}
 use Rattle.au_tables.specs.declared.name_tables.NameTables.{NameTables}
 use Rattle.au_tables.specs.declared.spaces.Space.{Space}
 use Rattle.au_tables.specs.declared.spaces.Space.TheVariants.{Values, Callables, Types}
@@ -143,6 +150,19 @@ body_seen m = by m.body
     by : (o : Option Entry) → declarations_in o ≡ declarations_seen (option_map (λ (e : Entry). e.tree) o)
     by None = refl
     by (Some e) = refl
+
+-- a file has as many declarations as its tree
+pub length_seen : (tree : Module Parsed (List ℕ) (Unit {0}) (Unit {0}))
+    → length tree.declarations.items ≡ length (says parsed tree).declarations
+length_seen tree =
+    sym (length-map (map (declaration parsed) tree.declarations.items) (plain_declaration parsed.name_bytes) ∙ length-map tree.declarations.items (declaration parsed))
+
+-- the declarations that are seen of a file are few where the file's are
+pub few_seen : (seen file : Option PlainModule) → seen ≡ file → declared file ≤ most_tokens
+    → length (declarations_seen seen) ≤ most_tokens
+few_seen seen None same few = let none = ap (λ o. length (declarations_seen o)) same in omega (arith, none)
+few_seen seen (Some tree) same few =
+    let some = ap (λ o. length (declarations_seen o)) same in omega (arith, some, few)
 
 -- a module without parts
 pub nothing : ModuleParts

@@ -1,5 +1,11 @@
 pub mod AlongLemmas
+pub mod DeclaredRowLemmas
+pub mod DefinitionLemmas
 pub mod ExportLemmas
 pub mod ImportLemmas
+pub mod NameLemmas
 pub mod PutLemmas
+pub mod RowLemmas
 pub mod SeenLemmas
+pub mod StandingLemmas
+pub mod WalkLemmas

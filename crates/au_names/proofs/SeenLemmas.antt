@@ -8,6 +8,7 @@ use Rattle.std.proofs.lemmas.List.{map-append, length-map}
 use Rattle.std.proofs.lemmas.Option.{none-some, same_Some, slice_get-get_or}
 use Rattle.std.proofs.lemmas.Slice.Eq.{bytes_eq-Decides}
 use Rattle.au_syntax.specs.declared.modules.Part.{Part}
+use Rattle.au_syntax.specs.declared.modules.Part.TheVariants.{Interface, Body}
 use Rattle.au_syntax.specs.contracts.parsed.ParsedPhase.TheImpl.{ghosts as parsed}
 use Rattle.au_syntax.specs.declared.modules.Module.{Module}
 use Rattle.au_syntax.specs.declared.parsed.Parsed.{Parsed}
@@ -20,7 +21,7 @@ use Rattle.au_tables.specs.DeclaredNames.{declared_names, given, numbered, names
 use Rattle.au_tables.proofs.TableLemmas.{with_all-firsts, find-firsts}
 use Rattle.au_tables.proofs.DeclaredLemmas.{numbered-append}
 use Rattle.au_modules.specs.Programs.{Entry, ModuleParts}
-use Rattle.au_modules.specs.Seen.{interface_tree, body_tree}
+use Rattle.au_modules.specs.Seen.{interface_tree, body_tree, part_tree}
 use Rattle.au_names.specs.declared.targets.Target.{Target}
 use Rattle.au_names.specs.Owned.{declarations_in, interface_of, target, targets, own}
 use Rattle.au_names.specs.Importing.{imported}
@@ -117,24 +118,13 @@ body_names_seen program place body within h = by (slice_get program place) refl 
         ∙ ap (λ ds. Some (tables_from (length (declarations_seen (interface_tree (Some m)))) ds)) (body_seen m ∙ ap declarations_seen (sym k))
 
 -- the imports of a part are those that are seen of it
-pub interface_imports : (m : ModuleParts) → imports_seen (interface_tree (Some m)) ≡ imports_in m.interface
-interface_imports m = by m.interface
-  where
-    by : (o : Option Entry) → imports_seen (option_map (λ (e : Entry). e.tree) o) ≡ imports_in o
-    by None = refl
-    by (Some e) = refl
+imports_of : (o : Option Entry) → imports_seen (option_map (λ (e : Entry). e.tree) o) ≡ imports_in o
+imports_of None = refl
+imports_of (Some e) = refl
 
-pub body_imports : (m : ModuleParts) → imports_seen (body_tree (Some m)) ≡ imports_in m.body
-body_imports m = by m.body
-  where
-    by : (o : Option Entry) → imports_seen (option_map (λ (e : Entry). e.tree) o) ≡ imports_in o
-    by None = refl
-    by (Some e) = refl
-
--- a file has as many declarations as its tree
-pub length_seen : (tree : Module Parsed (List ℕ) (Unit {0}) (Unit {0})) → length tree.declarations.items ≡ length (says parsed tree).declarations
-length_seen tree =
-    sym (length-map (map (declaration parsed) tree.declarations.items) (plain_declaration parsed.name_bytes) ∙ length-map tree.declarations.items (declaration parsed))
+pub part_imports : (part : Part) (m : ModuleParts) → imports_seen (part_tree part (Some m)) ≡ imports_in (part_of part m)
+part_imports Interface m = imports_of m.interface
+part_imports Body m = imports_of m.body
 
 -- ---- what is seen is meant
 

@@ -1,6 +1,11 @@
 pub mod Along
+pub mod DeclaredTypes
 pub mod Exporting
+pub mod HeadsOf
 pub mod Importing
+pub mod Known
 pub mod Meanings
 pub mod Owned
 pub mod Placing
+pub mod Standing
+pub mod Walks

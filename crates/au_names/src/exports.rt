@@ -1,6 +1,6 @@
 //! What the interfaces of a program offer, by name.
 
-ghost use Rattle.std.specs.Prelude.{◌≡◌, ◌<◌, ℕ, List, [], Some, IfOk, length, map, slice_get};
+ghost use Rattle.std.specs.Prelude.{◌≡◌, ◌<◌, ◌+◌, ◌≤◌, ◌^◌, ℕ, List, [], Some, IfOk, length, map, slice_get};
 ghost use Rattle.std.specs.Option.{option_map};
 ghost use Rattle.au_modules.specs.Programs.{ModuleParts};
 ghost use Rattle.au_modules.specs.Slots as slots;
@@ -19,12 +19,6 @@ use au_syntax::{Module, Parsed};
 use au_tables::{NameTables, Space, Table};
 use std::alloc::Global;
 
-/// How many declarations may be numbered.
-const MOST_NUMBERS: usize = 1 << 32;
-
-/// How many modules may have places.
-pub(crate) const MOST_PLACES: usize = 1 << 16;
-
 /// What is made once for a program, so that names of its interfaces are found without a walk.
 #[derive(Drop)]
 pub struct Exports {
@@ -35,24 +29,21 @@ pub struct Exports {
     pub interfaces: Vec<NameTables>,
 }
 
-/// The names that a file's declarations bring in, numbered from here on. Numbers that don't fit are
-/// answered by `Memory`.
+/// The names that a file's declarations bring in, numbered from here on.
 pub(crate) fn names_from(
     alloc: Global,
     tree: &Module<Parsed>,
     first: usize,
 ) -> Result<NameTables, Memory>
+    requires { first + length tree.now.declarations.items < 2 ^ 32 }
     ensures { IfOk result (λ names. names ≡ tables_from first (says parsed tree.now).declarations) }
 {
-    if MOST_NUMBERS <= first || MOST_NUMBERS - first < tree.declarations.len() {
-        return Err(Memory);
-    }
     let names = NameTables::of(alloc, tree, first as u32)?;
     Ok(names)
 }
 
 /// No names.
-pub(crate) fn no_names(alloc: Global) -> NameTables
+pub fn no_names(alloc: Global) -> NameTables
     ensures { (first : ℕ) → result ≡ tables_from first [] }
 {
     let values = Table::new(alloc);
@@ -68,7 +59,8 @@ pub(crate) fn no_names(alloc: Global) -> NameTables
 /// The names that the interface of the module at a place offers.
 fn offered(alloc: Global, modules: &Modules, place: usize) -> Result<NameTables, Memory>
     requires { place < length (slots.modules modules.now) }
-    ensures { IfOk result (λ names. option_map offers (slice_get (slots.modules modules.now) place) ≡ Some names) }
+    ensures { IfOk result
+        (λ names. option_map offers (slice_get (slots.modules modules.now) place) ≡ Some names) }
 {
     match modules.interface(place) {
         None => Ok(no_names(alloc)),
@@ -80,15 +72,12 @@ fn offered(alloc: Global, modules: &Modules, place: usize) -> Result<NameTables,
     }
 }
 
-/// The places of the modules, by their names. A place that doesn't fit is answered by `Memory`.
+/// The places of the modules, by their names.
 fn places_by_name(alloc: Global, modules: &Modules) -> Result<Table<u16>, Memory>
     ensures { IfOk result (λ places. places ≡ with_all [] (places_from 0 (slots.modules modules.now))) }
 {
     let mut places = Table::new(alloc);
     for place in 0..modules.len() {
-        if MOST_PLACES <= place {
-            return Err(Memory);
-        }
         places.put(modules.name(place).as_bytes(), place as u16)?;
     }
     Ok(places)
@@ -122,7 +111,8 @@ pub fn exports_of(alloc: Global, modules: &Modules) -> Result<Exports, Memory>
 /// The names of a space that the interface of the module at a place offers.
 pub fn offered_names(exports: &Exports, place: usize, space: Space) -> &Table<u32>
     requires { place < length exports.now.interfaces.items }
-    ensures { (program : List ModuleParts) (m : ModuleParts) → AreExports exports.now program → slice_get program place ≡ Some m → result.now ≡ table_of space (interface_of m) }
+    ensures { (program : List ModuleParts) (m : ModuleParts) → AreExports exports.now program
+        → slice_get program place ≡ Some m → result.now ≡ table_of space (interface_of m) }
 {
     let names = &exports.interfaces[place];
     in_space(names, space)

@@ -2,7 +2,6 @@
 
 ghost use Rattle.std.specs.Prelude.{◌≡◌, ◌<◌, IfOk, OnOk, Some, drop, length, map, slice_get};
 ghost use Rattle.std.specs.List.{flat_map};
-ghost use Rattle.au_modules.specs.Names.{dotted};
 ghost use Rattle.au_modules.specs.Programs.{ModuleParts};
 ghost use Rattle.au_modules.specs.Seen.{tree_seen};
 ghost use Rattle.au_modules.specs.Slots as slots;
@@ -22,28 +21,12 @@ use crate::exports::{Exports, offered_names};
 use crate::members::put_members_in;
 use crate::putting::put_found;
 use crate::targets::Target;
-use au_base::{Memory, Text};
-use au_modules::Modules;
+use au_base::Memory;
+use au_modules::{Modules, dotted_text};
 use au_syntax::{Ident, Import, Parsed, Renamed, Whole};
 use au_tables::{Space, Table};
 use au_types::DeclAt;
 use std::alloc::Global;
-
-/// The parts of a name, a dot before each of them.
-///
-/// # Errors
-///
-/// Only for want of memory.
-pub fn dotted_text(alloc: Global, names: &Vec<Ident<Parsed>>) -> Result<Text, Memory>
-    ensures { IfOk result (λ text. text ≡ flat_map dotted names.now.items) }
-{
-    let mut text = Text::new(alloc);
-    for one in names {
-        text.push(b'.')?;
-        text.append(one.name.as_bytes())?;
-    }
-    Ok(text)
-}
 
 /// Bytes without the first.
 fn past_first(bytes: &[u8]) -> &[u8]

@@ -1,18 +1,32 @@
-//! What names mean in a part of a module: the tables of the names that it sees, in the three spaces.
+//! What names mean in the modules of a program: the tables of the names that each part sees, in three spaces,
+//! the rows of declared types, and where the declarations of a number stand.
 #![tactic(auto)]
 
 pub mod decl_sets;
+pub mod declarations;
+pub mod declared_types;
 pub mod exports;
 pub mod imports;
 pub mod laws;
 mod members;
+pub mod module_names;
+pub mod parameters;
 pub mod part_names;
+pub mod programs;
 mod putting;
+mod rows;
 pub mod seeing;
 pub mod targets;
+mod walking;
 
 pub use decl_sets::DeclSet;
+pub use declarations::{Declared, declaration, definition};
+pub use declared_types::{TypeDeclared, type_declared};
 pub use exports::{Exports, exports_of};
+pub use module_names::ModuleNames;
 pub use part_names::PartNames;
+pub use programs::NamedModules;
+pub use putting::in_space;
 pub use seeing::names_seen;
 pub use targets::Target;
+pub use walking::heads_of;

@@ -25,7 +25,11 @@ fn put_cases<P: Phase>(
     at: DeclAt,
     cases: &Vec<UnionCase<P>>,
 ) -> Result<(), Memory>
-    ensures { OnOk result (table.new ≡ with_all table.old (targets at.«module» (given at.decl (map (λ c. c.name.name) (map (plain_variant P.name_bytes) (map (variant P.Phase) cases.now.items)))))) }
+    ensures { OnOk result
+        (table.new ≡ with_all table.old
+        (targets at.«module» (given at.decl
+        (map (λ c. c.name.name)
+        (map (plain_variant P.name_bytes) (map (variant P.Phase) cases.now.items)))))) }
 {
     for one in cases {
         let name = P::bytes_of(&one.name.name);
@@ -41,7 +45,11 @@ fn put_methods<P: Phase>(
     at: DeclAt,
     methods: &Vec<Signature<P>>,
 ) -> Result<(), Memory>
-    ensures { OnOk result (table.new ≡ with_all table.old (targets at.«module» (given at.decl (map (λ h. h.name.name) (map (plain_header P.name_bytes) (map (header P.Phase) methods.now.items)))))) }
+    ensures { OnOk result
+        (table.new ≡ with_all table.old
+        (targets at.«module» (given at.decl
+        (map (λ h. h.name.name)
+        (map (plain_header P.name_bytes) (map (header P.Phase) methods.now.items)))))) }
 {
     for one in methods {
         let name = P::bytes_of(&one.name.name);
@@ -57,7 +65,10 @@ fn put_members<P: Phase>(
     at: DeclAt,
     decl: &Decl<P>,
 ) -> Result<(), Memory>
-    ensures { OnOk result (table.new ≡ with_all table.old (targets at.«module» (given at.decl (members (plain_declaration P.name_bytes (declaration P.Phase decl.now)))))) }
+    ensures { OnOk result
+        (table.new ≡ with_all table.old
+        (targets at.«module» (given at.decl
+        (members (plain_declaration P.name_bytes (declaration P.Phase decl.now)))))) }
 {
     match decl {
         Decl::Constant(_, _, _) => Ok(()),
@@ -80,7 +91,10 @@ fn put_members_at<P: Phase>(
     at: DeclAt,
     declarations: &Vec<Decl<P>>,
 ) -> Result<(), Memory>
-    ensures { OnOk result (table.new ≡ with_all table.old (members_at at.«module» at.decl (map (plain_declaration P.name_bytes) (map (declaration P.Phase) declarations.now.items)))) }
+    ensures { OnOk result
+        (table.new ≡ with_all table.old
+        (members_at at.«module» at.decl
+        (map (plain_declaration P.name_bytes) (map (declaration P.Phase) declarations.now.items)))) }
 {
     match declarations.get(at.decl as usize) {
         None => Ok(()),
@@ -99,7 +113,9 @@ pub fn put_members_in(
     at: DeclAt,
     file: Option<&Whole<Parsed>>,
 ) -> Result<(), Memory>
-    ensures { OnOk result (table.new ≡ with_all table.old (members_at at.«module» at.decl (declarations_seen (tree_seen file.entry)))) }
+    ensures { OnOk result
+        (table.new ≡ with_all table.old
+        (members_at at.«module» at.decl (declarations_seen (tree_seen file.entry)))) }
 {
     match file {
         None => Ok(()),

@@ -1,26 +1,16 @@
 //! Puts what names mean.
 
-ghost use Rattle.std.specs.Prelude.{◌≡◌, IfOk, OnOk, Option};
+ghost use Rattle.std.specs.Prelude.{◌≡◌, OnOk, Option};
 ghost use Rattle.au_names.specs.Exporting as exporting;
 ghost use Rattle.au_names.specs.Exporting.{found_as};
 ghost use Rattle.au_names.specs.Owned.{target, targets};
 ghost use Rattle.au_tables.specs.Tables.{find, with_all, with_pair};
 
 use crate::targets::Target;
-use au_base::{MOST_NAME_BYTES, Memory, Name};
+use au_base::{Memory, Text};
 use au_tables::{NameTables, Space, Table};
 use au_types::DeclAt;
 use std::alloc::Global;
-
-/// The name of these bytes. Bytes that are no name stand in no tree: they are answered by `Memory`.
-fn name_of(alloc: Global, bytes: &[u8]) -> Result<Name, Memory>
-    ensures { IfOk result (λ name. name ≡ bytes.now) }
-{
-    if bytes.is_empty() || MOST_NAME_BYTES < bytes.len() {
-        return Err(Memory);
-    }
-    Name::copy_of(alloc, bytes)
-}
 
 /// Puts a declaration, or its case or method of a name, under a local name.
 pub fn put_target(
@@ -32,7 +22,7 @@ pub fn put_target(
 ) -> Result<(), Memory>
     ensures { OnOk result (table.new ≡ with_pair table.old local.now (target at.«module» name.now at.decl)) }
 {
-    let name = name_of(alloc, name)?;
+    let name = Text::copy_of(alloc, name)?;
     table.put(local, Target { at, name })?;
     Ok(())
 }
@@ -67,7 +57,8 @@ pub fn put_found(
     name: &[u8],
     local: &[u8],
 ) -> Result<(), Memory>
-    ensures { OnOk result (table.new ≡ with_all table.old (found_as place name.now local.now (find name.now names.now))) }
+    ensures { OnOk result
+        (table.new ≡ with_all table.old (found_as place name.now local.now (find name.now names.now))) }
 {
     match names.get(name) {
         None => Ok(()),

@@ -3,42 +3,32 @@
 ghost use Rattle.std.specs.Prelude.{◌≡◌, ◌<◌, IfOk, OnOk, Some, length, slice_get};
 ghost use Rattle.std.specs.Option.{option_map};
 ghost use Rattle.au_modules.specs.Programs.{ModuleParts};
-ghost use Rattle.au_modules.specs.Seen.{interface_tree, tree_seen};
 ghost use Rattle.au_modules.specs.Slots as slots;
-ghost use Rattle.au_names.specs.Exporting.{AreExports, body_names, declarations_seen, imports_seen};
-ghost use Rattle.au_names.specs.Meanings.{declared_by, imports_in, part_of, seen};
+ghost use Rattle.au_names.specs.Exporting.{AreExports, body_names};
+ghost use Rattle.au_names.specs.Meanings.{declared_by, seen};
 ghost use Rattle.au_names.specs.Owned.{own};
 ghost use Rattle.au_tables.specs.Tables.{with_all};
 
-use crate::exports::{Exports, MOST_PLACES, names_from, no_names, offered_names};
+use crate::declarations::count_in;
+use crate::exports::{Exports, names_from, no_names, offered_names};
 use crate::imports::put_imported;
 use crate::part_names::{PartNames, declarations};
 use crate::putting::{in_space, put_table};
 use crate::targets::Target;
 use au_base::Memory;
 use au_modules::Modules;
-use au_syntax::{Parsed, Part, Whole};
+use au_syntax::Part;
 use au_tables::{NameTables, Space, Table};
 use au_types::DeclAt;
 use std::alloc::Global;
 
-/// How many declarations the interface of the module at a place has.
-fn interface_length(modules: &Modules, place: usize) -> usize
-    requires { place < length (slots.modules modules.now) }
-    ensures { result ≡ length (declarations_seen (interface_tree (slice_get (slots.modules modules.now) place))) }
-{
-    match modules.interface(place) {
-        None => 0,
-        Some(file) => file.tree().declarations.len(),
-    }
-}
-
 /// The names that the body of the module at a place brings in.
 fn named_in_body(alloc: Global, modules: &Modules, place: usize) -> Result<NameTables, Memory>
     requires { place < length (slots.modules modules.now) }
-    ensures { IfOk result (λ names. option_map body_names (slice_get (slots.modules modules.now) place) ≡ Some names) }
+    ensures { IfOk result
+        (λ names. option_map body_names (slice_get (slots.modules modules.now) place) ≡ Some names) }
 {
-    let first = interface_length(modules, place);
+    let first = count_in(modules.interface(place));
     match modules.body(place) {
         None => Ok(no_names(alloc)),
         Some(file) => {
@@ -46,17 +36,6 @@ fn named_in_body(alloc: Global, modules: &Modules, place: usize) -> Result<NameT
             let names = names_from(alloc, tree, first)?;
             Ok(names)
         }
-    }
-}
-
-/// The file of a part of the module at a place, if the module has it.
-fn part_file(modules: &Modules, place: usize, part: Part) -> Option<&Whole<Parsed>>
-    requires { place < length (slots.modules modules.now) }
-    ensures { (m : ModuleParts) → slice_get (slots.modules modules.now) place ≡ Some m → imports_seen (tree_seen result) ≡ imports_in (part_of part m) }
-{
-    match part {
-        Part::Interface => modules.interface(place),
-        Part::Body => modules.body(place),
     }
 }
 
@@ -73,7 +52,8 @@ fn put_own(
     requires within { place < length (slots.modules modules.now) }
     requires made { AreExports exports.now (slots.modules modules.now) }
     requires body { option_map body_names (slice_get (slots.modules modules.now) place) ≡ Some body.now }
-    ensures { (m : ModuleParts) → slice_get (slots.modules modules.now) place ≡ Some m → OnOk result (table.new ≡ with_all table.old (own space place m)) }
+    ensures { (m : ModuleParts) → slice_get (slots.modules modules.now) place ≡ Some m
+        → OnOk result (table.new ≡ with_all table.old (own space place m)) }
 {
     let offered = offered_names(exports, place as usize, space);
     put_table(alloc, table, place, offered)?;
@@ -82,8 +62,7 @@ fn put_own(
     Ok(())
 }
 
-/// The names of a space that a part of the module at a place sees, given what its body brings in. A
-/// place that doesn't fit is answered by `Memory`.
+/// The names of a space that a part of the module at a place sees, given what its body brings in.
 fn table_seen(
     alloc: Global,
     modules: &Modules,
@@ -96,12 +75,10 @@ fn table_seen(
     requires within { place < length (slots.modules modules.now) }
     requires made { AreExports exports.now (slots.modules modules.now) }
     requires body { option_map body_names (slice_get (slots.modules modules.now) place) ≡ Some body.now }
-    ensures { (m : ModuleParts) → slice_get (slots.modules modules.now) place ≡ Some m → IfOk result (λ table. table ≡ seen space (slots.modules modules.now) place m part) }
+    ensures { (m : ModuleParts) → slice_get (slots.modules modules.now) place ≡ Some m
+        → IfOk result (λ table. table ≡ seen space (slots.modules modules.now) place m part) }
 {
-    if MOST_PLACES <= place {
-        return Err(Memory);
-    }
-    let file = part_file(modules, place, part);
+    let file = modules.part(place, part);
     let mut table = Table::new(alloc);
     let number = place as u16;
     put_own(alloc, &mut table, modules, exports, body, space, number)?;
@@ -124,7 +101,8 @@ fn declared_seen(
     requires within { place < length (slots.modules modules.now) }
     requires made { AreExports exports.now (slots.modules modules.now) }
     requires body { option_map body_names (slice_get (slots.modules modules.now) place) ≡ Some body.now }
-    ensures { (m : ModuleParts) → slice_get (slots.modules modules.now) place ≡ Some m → IfOk result (λ places. places ≡ declared_by (seen space (slots.modules modules.now) place m part)) }
+    ensures { (m : ModuleParts) → slice_get (slots.modules modules.now) place ≡ Some m
+        → IfOk result (λ places. places ≡ declared_by (seen space (slots.modules modules.now) place m part)) }
 {
     let table = table_seen(alloc, modules, exports, body, space, place, part)?;
     declarations(alloc, &table)
@@ -142,9 +120,15 @@ fn names_beside(
     requires within { place < length (slots.modules modules.now) }
     requires made { AreExports exports.now (slots.modules modules.now) }
     requires body { option_map body_names (slice_get (slots.modules modules.now) place) ≡ Some body.now }
-    ensures values { (m : ModuleParts) → slice_get (slots.modules modules.now) place ≡ Some m → IfOk result (λ names. names.values ≡ declared_by (seen Space.Values (slots.modules modules.now) place m part)) }
-    ensures callables { (m : ModuleParts) → slice_get (slots.modules modules.now) place ≡ Some m → IfOk result (λ names. names.callables ≡ seen Space.Callables (slots.modules modules.now) place m part) }
-    ensures types { (m : ModuleParts) → slice_get (slots.modules modules.now) place ≡ Some m → IfOk result (λ names. names.types ≡ declared_by (seen Space.Types (slots.modules modules.now) place m part)) }
+    ensures values { (m : ModuleParts) → slice_get (slots.modules modules.now) place ≡ Some m
+        → IfOk result (λ names. names.values
+        ≡ declared_by (seen Space.Values (slots.modules modules.now) place m part)) }
+    ensures callables { (m : ModuleParts) → slice_get (slots.modules modules.now) place ≡ Some m
+        → IfOk result (λ names. names.callables
+        ≡ seen Space.Callables (slots.modules modules.now) place m part) }
+    ensures types { (m : ModuleParts) → slice_get (slots.modules modules.now) place ≡ Some m
+        → IfOk result (λ names. names.types
+        ≡ declared_by (seen Space.Types (slots.modules modules.now) place m part)) }
 {
     let values = declared_seen(alloc, modules, exports, body, Space::Values, place, part)?;
     let callables = table_seen(alloc, modules, exports, body, Space::Callables, place, part)?;
@@ -171,9 +155,15 @@ pub fn names_seen(
 ) -> Result<PartNames, Memory>
     requires within { place < length (slots.modules modules.now) }
     requires made { AreExports exports.now (slots.modules modules.now) }
-    ensures values { (m : ModuleParts) → slice_get (slots.modules modules.now) place ≡ Some m → IfOk result (λ names. names.values ≡ declared_by (seen Space.Values (slots.modules modules.now) place m part)) }
-    ensures callables { (m : ModuleParts) → slice_get (slots.modules modules.now) place ≡ Some m → IfOk result (λ names. names.callables ≡ seen Space.Callables (slots.modules modules.now) place m part) }
-    ensures types { (m : ModuleParts) → slice_get (slots.modules modules.now) place ≡ Some m → IfOk result (λ names. names.types ≡ declared_by (seen Space.Types (slots.modules modules.now) place m part)) }
+    ensures values { (m : ModuleParts) → slice_get (slots.modules modules.now) place ≡ Some m
+        → IfOk result (λ names. names.values
+        ≡ declared_by (seen Space.Values (slots.modules modules.now) place m part)) }
+    ensures callables { (m : ModuleParts) → slice_get (slots.modules modules.now) place ≡ Some m
+        → IfOk result (λ names. names.callables
+        ≡ seen Space.Callables (slots.modules modules.now) place m part) }
+    ensures types { (m : ModuleParts) → slice_get (slots.modules modules.now) place ≡ Some m
+        → IfOk result (λ names. names.types
+        ≡ declared_by (seen Space.Types (slots.modules modules.now) place m part)) }
 {
     let body = named_in_body(alloc, modules, place)?;
     names_beside(alloc, modules, exports, &body, place, part)

@@ -2,7 +2,7 @@
 
 ghost use Rattle.std.specs.Prelude.{◌≡◌, IfOk};
 
-use au_base::{Memory, Name};
+use au_base::{Memory, Text};
 use au_types::DeclAt;
 use std::alloc::Global;
 
@@ -12,7 +12,7 @@ pub struct Target {
     /// The declaration.
     pub at: DeclAt,
     /// The name under which it, or its case or method, is declared.
-    pub name: Name,
+    pub name: Text,
 }
 
 impl Target {

@@ -6,4 +6,5 @@ pub mod NameLemmas
 pub mod KeptLemmas
 pub mod JudgeLemmas
 pub mod ComesLemmas
+pub mod CountLemmas
 pub mod AcceptedLemmas

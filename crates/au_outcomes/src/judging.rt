@@ -1,8 +1,11 @@
 //! From the trees of files to what the program comes to.
 
-ghost use Rattle.std.specs.Prelude.{◌≡◌, ◌<◌, ◌++◌, List, Some, None, IfOk, false, map, length};
+ghost use Rattle.std.specs.Prelude.{◌≡◌, ◌<◌, ◌≤◌, ◌++◌, List, Some, None, IfOk, IsTrue, false, map, length};
+ghost use Rattle.std.specs.List.{list_all};
+ghost use Rattle.au_modules.specs.Counts.{are_few, has_few};
 ghost use Rattle.au_modules.specs.Programs.{entry};
 ghost use Rattle.au_outcomes.specs.Halts.{Says, is_read_halt};
+ghost use Rattle.au_outcomes.specs.Outcomes.{most_files};
 ghost use Rattle.au_outcomes.specs.Programs.{PrintingComes, program_outcome, shipped_entries};
 ghost use Rattle.au_outcomes.specs.Reading.{AllPrintSo, first_stop};
 ghost use Rattle.au_outcomes.specs.Trees.{ReadFile};
@@ -22,6 +25,8 @@ use std::alloc::Global;
 
 /// Judges the modules of a program: their files, and then their names and promises.
 pub fn judge(alloc: Global, own: Vec<FileTree>) -> Result<(), Halt>
+    requires few { length own.items ≤ most_files }
+    requires declared { IsTrue (list_all has_few (map entry own.items)) }
     ensures comes { Says result
         (λ _. program_outcome (shipped_entries ++ map entry own.items) ≡ None)
         (λ arisen. program_outcome (shipped_entries ++ map entry own.items) ≡ Some arisen) }
@@ -35,7 +40,10 @@ pub fn judge(alloc: Global, own: Vec<FileTree>) -> Result<(), Halt>
 
 /// The shipped files, and these behind them.
 fn with_shipped(alloc: Global, own: Vec<FileTree>) -> Result<Vec<FileTree>, Memory>
-    ensures { IfOk result (λ files. map entry files.items ≡ shipped_entries ++ map entry own.items) }
+    requires few { length own.items ≤ most_files }
+    requires declared { IsTrue (list_all has_few (map entry own.items)) }
+    ensures files { IfOk result (λ files. map entry files.items ≡ shipped_entries ++ map entry own.items) }
+    ensures few { IfOk result (λ files. IsTrue (are_few (map entry files.items))) }
 {
     let mut files = shipped(alloc)?;
     let mut left = own;

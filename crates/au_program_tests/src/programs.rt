@@ -2,7 +2,7 @@
 
 use au_imports::{Resolved, resolve};
 use au_lexer::lex;
-use au_modules::gather;
+use au_modules::{are_few, gather};
 use au_parser::parse;
 use au_syntax::FileTree;
 use std::alloc::Global;
@@ -27,6 +27,9 @@ pub(crate) fn put_file(
 
 /// The program of these files.
 pub(crate) fn program_of(alloc: Global, files: Vec<FileTree>) -> Result<Resolved, Fail> {
+    if !are_few(&files) {
+        return Err(Fail::new("too many files or declarations"));
+    }
     let modules = gather(alloc, files)?;
     Ok(resolve(alloc, modules)?)
 }

@@ -20,7 +20,7 @@ use Rattle.au_types.specs.Rows.{same_place}
 use Rattle.au_types.specs.Same.{same}
 use Rattle.au_types.specs.Types.{Meaning}
 use Rattle.au_modules.specs.Programs.{ModuleParts}
-use Rattle.au_heads.specs.HeadsOf.{heads_of, parameter}
+use Rattle.au_names.specs.HeadsOf.{heads_of, parameter}
 use Rattle.au_names.specs.Meanings.{declared_by, seen}
 use Rattle.au_written_types.specs.Meant.{meant}
 

@@ -30,7 +30,7 @@ use crate::keys::{class_key, instance_key};
 use crate::sights::Sight;
 use crate::wording::means_nothing;
 use au_base::{Memory, Name, Pos};
-use au_resolved::Resolved;
+use au_names::NamedModules as Resolved;
 use au_syntax::{Decl, Generic, Ident, Parsed, Part, TypeText, Whole};
 use au_types::Params;
 use std::alloc::Global;

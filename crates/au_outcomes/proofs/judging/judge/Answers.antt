@@ -11,17 +11,17 @@ pub returns-in_err-modules-clause-comes : goal.returns-in_err-modules-clause-com
 returns-in_err-modules-clause-comes c =
     let p = err_from_is_err_and c.from_residual-in_err-modules.result c.from_residual-in_err-modules.ensures.1 in
     rw (p.1, p.2)
-    (gather_halts (map entry c.in_ok-files.files.items) (shipped_entries ++ map entry c.args.own.items) c.in_err-modules.field-0.0 _ c.in_ok-files.ensures
+    (gather_halts (map entry c.in_ok-files.files.items) (shipped_entries ++ map entry c.args.own.items) c.in_err-modules.field-0.0 _ c.in_ok-files.ensures.files
     (c.in_err-modules.ensures.refused c.in_err-modules.field-0.0 refl))
 
 pub returns-in_err-resolve-clause-comes : goal.returns-in_err-resolve-clause-comes
 returns-in_err-resolve-clause-comes c =
     let p = err_from_is_err_and c.from_residual-in_err-resolve.result c.from_residual-in_err-resolve.ensures.1 in
     rw (p.1, p.2)
-    (resolve_halts (map entry c.in_ok-files.files.items) (shipped_entries ++ map entry c.args.own.items) (slots.modules c.in_ok-modules.modules) c.in_err-resolve.field-0.0 _ c.in_ok-files.ensures
+    (resolve_halts (map entry c.in_ok-files.files.items) (shipped_entries ++ map entry c.args.own.items) (slots.modules c.in_ok-modules.modules) c.in_err-resolve.field-0.0 _ c.in_ok-files.ensures.files
     c.in_ok-modules.ensures.modules c.in_ok-modules.ensures.accepted (c.in_err-resolve.ensures.refused c.in_err-resolve.field-0.0 refl))
 
 pub returns-clause-comes : goal.returns-clause-comes
 returns-clause-comes c =
-    judged_so (map entry c.in_ok-files.files.items) (shipped_entries ++ map entry c.args.own.items) (slots.modules c.in_ok-modules.modules) c.in_ok-files.ensures
+    judged_so (map entry c.in_ok-files.files.items) (shipped_entries ++ map entry c.args.own.items) (slots.modules c.in_ok-modules.modules) c.in_ok-files.ensures.files
     c.in_ok-modules.ensures.modules c.in_ok-modules.ensures.accepted c.in_ok-resolve.ensures.accepted

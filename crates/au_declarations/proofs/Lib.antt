@@ -1,2 +1,0 @@
-pub mod StandingLemmas
-pub mod DefinitionLemmas

@@ -1,5 +1,0 @@
-use Rattle.au_heads.proofs.WalkLemmas.{heads_once}
-use Rattle.au_heads.proofs.laws.rows_stand_once.Goals as goal
-
-pub returns : goal.returns
-returns c program index row h = heads_once program index row h

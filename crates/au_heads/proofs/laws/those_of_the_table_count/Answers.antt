@@ -1,5 +1,0 @@
-use Rattle.au_heads.proofs.WalkLemmas.{counting_numbers}
-use Rattle.au_heads.proofs.laws.those_of_the_table_count.Goals as goal
-
-pub returns : goal.returns
-returns c ds = counting_numbers ds

@@ -1,8 +1,0 @@
-use Rattle.std.proofs.Common.{◌≡◌, take, map}
-use Rattle.au_heads.specs.HeadsOf as spec
-use Rattle.au_heads.specs.Walks.{written_parameters}
-use Rattle.au_heads.proofs.rows.params_of.Given as goal
-
--- the type parameters that are visited
-abbrev pub invariant-loop-one : goal.invariant-loop-one
-invariant-loop-one l = l.params ≡ map spec.parameter (written_parameters (take l.one-index l.one-items))

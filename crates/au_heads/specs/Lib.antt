@@ -1,2 +1,0 @@
-pub mod HeadsOf
-pub mod Walks
