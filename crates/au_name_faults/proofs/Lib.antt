@@ -11,5 +11,6 @@ pub mod MentionLemmas
 pub mod NamingLemmas
 pub mod NumberLemmas
 pub mod OfferLemmas
+pub mod PassLemmas
 pub mod RuleLemmas
 pub mod SourceLemmas

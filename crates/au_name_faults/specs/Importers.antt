@@ -1,5 +1,5 @@
 -- A part of a module whose imports are looked at, with what is known of its program.
-use Rattle.std.specs.Prelude.{◌≡◌, ◌<◌, ℕ, ◌&&◌, ◌||◌, Bool, List, Option, Some, length, slice_get}
+use Rattle.std.specs.Prelude.{◌≡◌, ◌<◌, ℕ, ◌&&◌, ◌||◌, Bool, true, List, Option, None, Some, length, slice_get}
 use Rattle.std.specs.List.{list_all}
 use Rattle.au_base.specs.declared.places.Pos.{Pos}
 use Rattle.au_syntax.specs.Forms.{some}
@@ -9,11 +9,14 @@ use Rattle.au_syntax.specs.Plain.{Bytes}
 use Rattle.au_syntax.specs.Sizes.{fits_name}
 use Rattle.au_tables.specs.declared.spaces.Space.{Space}
 use Rattle.au_tables.specs.declared.spaces.Space.TheVariants.{Values, Callables, Types}
+use Rattle.au_types.specs.declared.types.DeclAt.{DeclAt}
 use Rattle.au_modules.specs.Programs.{ModuleParts}
 use Rattle.au_modules.specs.Slots as slots
 use Rattle.au_names.specs.declared.targets.Target.{Target}
+use Rattle.au_names.specs.Along.{is_among, members_in}
 use Rattle.au_name_faults.specs.declared.clashes.Importer.{Importer}
 use Rattle.au_name_faults.specs.declared.faults.NameFault.{NameFault}
+use Rattle.au_name_faults.specs.Choices.{first_of}
 use Rattle.au_name_faults.specs.Clashing.{import_clashes}
 use Rattle.au_name_faults.specs.Gathered.{AreBrought, AreOffers}
 use Rattle.au_name_faults.specs.NameFaults.{item_clashes, member_fault}
@@ -54,3 +57,10 @@ any_clashes one m from other item =
 -- what is refused of a case or a method that comes along from the module at another place
 abbrev pub fault_in : Importer → ModuleParts → ℕ → ModuleParts → Pos → Bytes × Target → Option NameFault
 fault_in one m from other = member_fault (program_of one) one.place m one.part from other
+
+-- The cases or methods of each of these declarations are refused for nothing where they come along, wherever they stand.
+abbrev pub AllPass : Importer → List DeclAt → Type 0
+AllPass one some =
+    (at : DeclAt) (m other : ModuleParts) (stands : Pos) → is_among at some ≡ true → IsOf one m
+    → slice_get (program_of one) at.«module» ≡ Some other
+    → first_of (fault_in one m at.«module» other stands) (members_in at other) ≡ None

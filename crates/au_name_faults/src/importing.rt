@@ -1,12 +1,12 @@
 //! What imports are refused for.
 
-ghost use Rattle.std.specs.Prelude.{◌≡◌, ◌<◌, IfOk, IsTrue, Some, length, map, slice_get};
+ghost use Rattle.std.specs.Prelude.{◌≡◌, ◌<◌, IfOk, IsTrue, None, Some, length, map, slice_get};
 ghost use Rattle.au_modules.specs.Programs.{ModuleParts};
 ghost use Rattle.au_modules.specs.Slots as slots;
 ghost use Rattle.au_name_faults.specs.Choices.{first_of};
 ghost use Rattle.au_name_faults.specs.Gathered.{AreBrought, AreOffers};
 ghost use Rattle.au_name_faults.specs.Importers as importers;
-ghost use Rattle.au_name_faults.specs.Importers.{IsOf, IsReady, is_module_name, name_modules, program_of};
+ghost use Rattle.au_name_faults.specs.Importers.{AllPass, IsOf, IsReady, is_module_name, name_modules, program_of};
 ghost use Rattle.au_name_faults.specs.NameFaults as spec;
 ghost use Rattle.au_syntax.specs.Plain.{plain_importing, plain_name, plain_renaming};
 ghost use Rattle.au_syntax.specs.Sizes.{joined};
@@ -20,6 +20,7 @@ use crate::members::along_fault;
 use crate::offers::Offers;
 use au_base::{Memory, Name, Pos};
 use au_modules::{Modules, dotted_text};
+use au_names::DeclSet;
 use au_names::imports::place_named;
 use au_syntax::{Ident, Import, Parsed, Part, Renamed};
 use au_tables::Space;
@@ -132,16 +133,20 @@ fn any_clashes(importer: &Importer, from: u16, item: &Renamed<Parsed>) -> bool
         || item_clashes(importer, from, item, Space::Types)
 }
 
-/// What an item of an import of the module at a place is refused for.
+/// What an item of an import of the module at a place is refused for, given the declarations whose cases or methods
+/// were refused for nothing.
 fn item_fault(
     alloc: Global,
     importer: &Importer,
+    passed: &mut DeclSet,
     from: u16,
     item: &Renamed<Parsed>,
 ) -> Result<Option<NameFault>, Memory>
     requires ready { IsReady importer.now }
     requires within { from < length (program_of importer.now) }
-    ensures { (m other : ModuleParts) → IsOf importer.now m → slice_get (program_of importer.now) from ≡ Some other → IfOk result (λ found. found ≡ spec.item_fault (program_of importer.now) importer.now.place m importer.now.part from other (plain_renaming parsed.name_bytes (renaming parsed item.now))) }
+    requires passed { AllPass importer.now passed.old }
+    ensures item { (m other : ModuleParts) → IsOf importer.now m → slice_get (program_of importer.now) from ≡ Some other → IfOk result (λ found. found ≡ spec.item_fault (program_of importer.now) importer.now.place m importer.now.part from other (plain_renaming parsed.name_bytes (renaming parsed item.now))) }
+    ensures passed { IfOk result (λ found. found ≡ None → AllPass importer.now passed.new) }
 {
     if is_hidden(importer, from, item.name.name.as_bytes()) {
         let name = item.name.name.copy(alloc)?;
@@ -152,37 +157,44 @@ fn item_fault(
         let name = local.name.copy(alloc)?;
         return Ok(Some(NameFault::NameTwice(local.at, name)));
     }
-    along_fault(alloc, importer, from, &item.name)
+    along_fault(alloc, importer, passed, from, &item.name)
 }
 
-/// What items of an import of the module at a place are refused for.
+/// What items of an import of the module at a place are refused for, given the declarations whose cases or methods
+/// were refused for nothing.
 fn items_fault(
     alloc: Global,
     importer: &Importer,
+    passed: &mut DeclSet,
     from: u16,
     items: &Vec<Renamed<Parsed>>,
 ) -> Result<Option<NameFault>, Memory>
     requires ready { IsReady importer.now }
     requires within { from < length (program_of importer.now) }
-    ensures { (m other : ModuleParts) → IsOf importer.now m → slice_get (program_of importer.now) from ≡ Some other → IfOk result (λ found. found ≡ first_of (spec.item_fault (program_of importer.now) importer.now.place m importer.now.part from other) (map (plain_renaming parsed.name_bytes) (map (renaming parsed) items.now.items))) }
+    requires passed { AllPass importer.now passed.old }
+    ensures items { (m other : ModuleParts) → IsOf importer.now m → slice_get (program_of importer.now) from ≡ Some other → IfOk result (λ found. found ≡ first_of (spec.item_fault (program_of importer.now) importer.now.place m importer.now.part from other) (map (plain_renaming parsed.name_bytes) (map (renaming parsed) items.now.items))) }
+    ensures passed { IfOk result (λ found. found ≡ None → AllPass importer.now passed.new) }
 {
     for item in items {
-        if let Some(fault) = item_fault(alloc, importer, from, item)? {
+        if let Some(fault) = item_fault(alloc, importer, passed, from, item)? {
             return Ok(Some(fault));
         }
     }
     Ok(None)
 }
 
-/// What an import is refused for.
+/// What an import is refused for, given the declarations whose cases or methods were refused for nothing.
 fn import_fault(
     alloc: Global,
     importer: &Importer,
+    passed: &mut DeclSet,
     import: &Import<Parsed>,
 ) -> Result<Option<NameFault>, Memory>
     requires ready { IsReady importer.now }
+    requires passed { AllPass importer.now passed.old }
     requires named { IsTrue (is_module_name (plain_importing parsed.name_bytes (importing parsed import.now)).from) }
-    ensures { (m : ModuleParts) → IsOf importer.now m → IfOk result (λ found. found ≡ spec.import_fault (program_of importer.now) importer.now.place m importer.now.part (plain_importing parsed.name_bytes (importing parsed import.now))) }
+    ensures import { (m : ModuleParts) → IsOf importer.now m → IfOk result (λ found. found ≡ spec.import_fault (program_of importer.now) importer.now.place m importer.now.part (plain_importing parsed.name_bytes (importing parsed import.now))) }
+    ensures passed { IfOk result (λ found. found ≡ None → AllPass importer.now passed.new) }
 {
     match place_named(alloc, &importer.offers.exports, &import.module)? {
         None => {
@@ -192,7 +204,7 @@ fn import_fault(
         }
         Some(from) => {
             if (from as usize) < importer.place {
-                return items_fault(alloc, importer, from, &import.items);
+                return items_fault(alloc, importer, passed, from, &import.items);
             }
             let name = joined_name(alloc, &import.module)?;
             let at = first_place(import.at, &import.module);
@@ -211,8 +223,9 @@ fn all_imports_fault(
     requires named { IsTrue (name_modules (map (plain_importing parsed.name_bytes) (map (importing parsed) imports.now.items))) }
     ensures { (m : ModuleParts) → IsOf importer.now m → IfOk result (λ found. found ≡ first_of (spec.import_fault (program_of importer.now) importer.now.place m importer.now.part) (map (plain_importing parsed.name_bytes) (map (importing parsed) imports.now.items))) }
 {
+    let mut passed = DeclSet::new(alloc);
     for import in imports {
-        if let Some(fault) = import_fault(alloc, importer, import)? {
+        if let Some(fault) = import_fault(alloc, importer, &mut passed, import)? {
             return Ok(Some(fault));
         }
     }

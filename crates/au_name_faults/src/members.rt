@@ -1,10 +1,11 @@
 //! What imports are refused for that bring cases of unions and methods of classes along.
 
-ghost use Rattle.std.specs.Prelude.{◌≡◌, ◌<◌, IfOk, Some, length, map, slice_get};
+ghost use Rattle.std.specs.Prelude.{◌≡◌, ◌<◌, IfOk, None, Some, length, map, slice_get};
 ghost use Rattle.au_modules.specs.Programs.{ModuleParts};
 ghost use Rattle.au_modules.specs.Seen.{tree_seen};
 ghost use Rattle.au_name_faults.specs.Choices.{first_of};
-ghost use Rattle.au_name_faults.specs.Importers.{IsOf, IsReady, fault_in, program_of};
+ghost use Rattle.au_name_faults.specs.Importers.{AllPass, IsOf, IsReady, fault_in, program_of};
+ghost use Rattle.au_names.specs.Along.{members_in};
 ghost use Rattle.au_names.specs.Exporting.{declarations_seen, members_at};
 ghost use Rattle.au_names.specs.Importing.{along, members};
 ghost use Rattle.au_names.specs.Owned.{interface_of, target, targets};
@@ -16,6 +17,7 @@ ghost use Rattle.au_tables.specs.DeclaredNames.{given};
 use crate::clashes::{Importer, first_offered, import_clashes};
 use crate::faults::NameFault;
 use au_base::{Memory, Name, Pos};
+use au_names::DeclSet;
 use au_syntax::{Decl, Ident, Parsed, Signature, UnionCase, Whole};
 use au_tables::Space;
 use au_types::DeclAt;
@@ -141,17 +143,44 @@ fn file_fault(
     }
 }
 
-/// What is refused of the cases or methods that come along under a name from the module at a place. They
-/// stand where the name stands.
+/// What the cases or methods of a declaration of an interface are refused for. They stand at a place of the text. Where
+/// they have come along before and were refused for nothing, they are not walked again.
+fn fault_once(
+    alloc: Global,
+    importer: &Importer,
+    passed: &mut DeclSet,
+    stands: Pos,
+    at: DeclAt,
+) -> Result<Option<NameFault>, Memory>
+    requires ready { IsReady importer.now }
+    requires within { at.«module» < length (program_of importer.now) }
+    requires passed { AllPass importer.now passed.old }
+    ensures fault { (m other : ModuleParts) → IsOf importer.now m → slice_get (program_of importer.now) at.«module» ≡ Some other → IfOk result (λ found. found ≡ first_of (fault_in importer.now m at.«module» other stands) (members_in at other)) }
+    ensures passed { IfOk result (λ found. found ≡ None → AllPass importer.now passed.new) }
+{
+    let fresh = passed.put(at)?;
+    if !fresh {
+        return Ok(None);
+    }
+    let file = importer.modules.interface(at.module as usize);
+    let fault = file_fault(alloc, importer, stands, at, file)?;
+    Ok(fault)
+}
+
+/// What is refused of the cases or methods that come along under a name from the module at a place, given those
+/// that were refused for nothing. They stand where the name stands.
 pub fn along_fault(
     alloc: Global,
     importer: &Importer,
+    passed: &mut DeclSet,
     from: u16,
     name: &Ident<Parsed>,
 ) -> Result<Option<NameFault>, Memory>
     requires ready { IsReady importer.now }
     requires within { from < length (program_of importer.now) }
-    ensures { (m other : ModuleParts) → IsOf importer.now m → slice_get (program_of importer.now) from ≡ Some other → IfOk result (λ found. found ≡ first_of (fault_in importer.now m from other name.now.at) (along from name.now.name (interface_of other))) }
+    requires passed { AllPass importer.now passed.old }
+    ensures along { (m other : ModuleParts) → IsOf importer.now m → slice_get (program_of importer.now) from ≡ Some other → IfOk result (λ found. found ≡ first_of (fault_in importer.now m from other name.now.at) (along from name.now.name (interface_of other))) }
+    ensures passed { IfOk result (λ found. found ≡ None → AllPass importer.now passed.new) }
 {
     match first_offered(importer, from as usize, Space::Types, name.name.as_bytes()) {
         None => Ok(None),
@@ -160,8 +189,7 @@ pub fn along_fault(
                 module: from,
                 decl: number,
             };
-            let file = importer.modules.interface(from as usize);
-            file_fault(alloc, importer, name.at, at, file)
+            fault_once(alloc, importer, passed, name.at, at)
         }
     }
 }
