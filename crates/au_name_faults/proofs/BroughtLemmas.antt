@@ -1,12 +1,14 @@
 -- What the imports of a part bring.
 use Rattle.std.proofs.Common.{◌≡◌, ℕ, List, Option, None, Some, refl}
 use Rattle.au_syntax.specs.declared.modules.Part.{Part}
+use Rattle.au_syntax.specs.declared.modules.Part.TheVariants.{Interface, Body}
 use Rattle.au_tables.specs.declared.spaces.Space.{Space}
 use Rattle.au_tables.specs.declared.spaces.Space.TheVariants.{Values, Callables, Types}
 use Rattle.au_tables.specs.Tables.{firsts}
 use Rattle.au_modules.specs.Programs.{Entry, ModuleParts}
+use Rattle.au_modules.specs.Seen.{part_tree}
 use Rattle.au_names.specs.Exporting.{imports_seen}
-use Rattle.au_names.specs.Meanings.{imports_in}
+use Rattle.au_names.specs.Meanings.{imports_in, part_of}
 use Rattle.au_name_faults.specs.declared.brought.Brought.{Brought}
 use Rattle.au_name_faults.specs.Clashing.{brought_to}
 use Rattle.au_name_faults.specs.Gathered.{AreBrought, brought_in}
@@ -23,3 +25,8 @@ pub table_of : (program : List ModuleParts) (place : ℕ) (m : ModuleParts) (par
 table_of program place m part brought made Values = made.values
 table_of program place m part brought made Callables = made.callables
 table_of program place m part brought made Types = made.types
+
+-- the tree of a part
+pub tree_is : (part : Part) (m : ModuleParts) → part_tree part (Some m) ≡ tree_of (part_of part m)
+tree_is Interface m = refl
+tree_is Body m = refl

@@ -24,6 +24,14 @@ part_there program place m part tree h = by (part_of part m) h
     by None k = absurd (none-some tree (sym k))
     by (Some e) k = ap (λ t. option_or (first_of (import_fault program place m part) t.imports) (first_of (declaration_fault program place m part) t.declarations)) (same_Some tree e.tree k)
 
+-- one that isn't is refused for nothing
+pub part_nowhere : (program : List ModuleParts) (place : ℕ) (m : ModuleParts) (part : Part) → None ≡ tree_of (part_of part m) → None ≡ part_fault program place m part
+part_nowhere program place m part h = by (part_of part m) h
+  where
+    by : (o : Option Entry) → None ≡ tree_of o → None ≡ file_fault program place m part o
+    by None k = refl
+    by (Some e) k = absurd (none-some e.tree k)
+
 module _ (program : List ModuleParts) (goal : Option NameFault) where
   faults_cons : (place : ℕ) (m : ModuleParts) (ms : List ModuleParts) → faults_from program place (m ∷ ms) ≡ option_or (module_fault program place m) (faults_from program (place + 1) ms)
   unfolding faults_from

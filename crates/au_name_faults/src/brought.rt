@@ -7,8 +7,6 @@ ghost use Rattle.au_modules.specs.Slots as slots;
 ghost use Rattle.au_name_faults.specs.Gathered.{AreBrought, brought_in};
 ghost use Rattle.au_names.specs.Exporting.{AreExports, imports_seen};
 ghost use Rattle.au_names.specs.Importing.{imported};
-ghost use Rattle.au_names.specs.Meanings.{part_of};
-ghost use Rattle.au_name_faults.specs.Parts.{tree_of};
 ghost use Rattle.au_tables.specs.Tables.{firsts};
 
 use au_base::Memory;
@@ -28,17 +26,6 @@ pub struct Brought {
     pub callables: Table<Target>,
     /// The types.
     pub types: Table<Target>,
-}
-
-/// The file of a part of the module at a place, if the module has it.
-pub fn part_file(modules: &Modules, place: usize, part: Part) -> Option<&Whole<Parsed>>
-    requires { place < length (slots.modules modules.now) }
-    ensures { (m : ModuleParts) → slice_get (slots.modules modules.now) place ≡ Some m → tree_seen result ≡ tree_of (part_of part m) }
-{
-    match part {
-        Part::Interface => modules.interface(place),
-        Part::Body => modules.body(place),
-    }
 }
 
 /// What the imports of a file of the module at a place bring into a space, if there is one.
@@ -75,7 +62,7 @@ pub fn brought_to(
     requires made { AreExports exports.now (slots.modules modules.now) }
     ensures { (m : ModuleParts) → slice_get (slots.modules modules.now) place ≡ Some m → IfOk result (λ brought. AreBrought (slots.modules modules.now) place m part brought) }
 {
-    let file = part_file(modules, place, part);
+    let file = modules.part(place, part);
     let values = table_brought(alloc, modules, exports, Space::Values, place, file)?;
     let callables = table_brought(alloc, modules, exports, Space::Callables, place, file)?;
     let types = table_brought(alloc, modules, exports, Space::Types, place, file)?;

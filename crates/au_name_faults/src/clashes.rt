@@ -10,10 +10,10 @@ ghost use Rattle.au_tables.specs.Tables.{find};
 
 use crate::brought::{Brought, brought_in};
 use crate::built_in::is_built_in;
-use crate::offers::{Offers, offered_in};
+use crate::offers::Offers;
 use au_modules::Modules;
-use au_names::Target;
 use au_names::exports::offered_names;
+use au_names::{Target, in_space};
 use au_syntax::Part;
 use au_tables::Space;
 use au_types::DeclAt;
@@ -50,7 +50,7 @@ pub fn last_offered(importer: &Importer, place: usize, space: Space, name: &[u8]
     ensures { (m : ModuleParts) → slice_get (program_of importer.now) place ≡ Some m → result ≡ spec.last_offered space m name.now }
 {
     let tables = &importer.offers.lasts[place];
-    let names = offered_in(tables, space);
+    let names = in_space(tables, space);
     names.get(name).copied()
 }
 

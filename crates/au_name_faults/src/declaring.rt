@@ -16,10 +16,10 @@ ghost use Rattle.au_tables.specs.Tables.{has_name};
 use crate::brought::{Brought, brought_in};
 use crate::built_in::is_built_in;
 use crate::faults::NameFault;
-use crate::offers::{Offers, offered_in};
+use crate::offers::Offers;
 use au_base::{Memory, Name, Pos};
 use au_mentions::{Mention, mentions_of, type_parameters};
-use au_names::NamedModules as Resolved;
+use au_names::{NamedModules as Resolved, in_space};
 use au_syntax::{Decl, Parsed, Part};
 use au_tables::{NameTables, Space, Table};
 use au_types::{DeclAt, Heads, Params};
@@ -49,7 +49,7 @@ pub struct Site<'a> {
 fn is_pervasive(names: &NameTables, space: Space, name: &Name) -> bool
     ensures { result ≡ has_name name.now (exporting.in_space space names.now) }
 {
-    offered_in(names, space).get(name.as_bytes()).is_some()
+    in_space(names, space).get(name.as_bytes()).is_some()
 }
 
 /// Whether imports bring a name.

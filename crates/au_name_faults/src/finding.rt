@@ -11,7 +11,7 @@ ghost use Rattle.au_syntax.specs.Files.{is_formed, is_within, says};
 ghost use Rattle.au_syntax.specs.contracts.parsed.ParsedPhase.TheImpl.{ghosts as parsed};
 ghost use Rattle.au_syntax.specs.declared.modules.Part.TheVariants as parts;
 
-use crate::brought::{Brought, brought_to, part_file};
+use crate::brought::{Brought, brought_to};
 use crate::declaring::declarations_fault;
 use crate::faults::NameFault;
 use crate::importing::imports_fault;
@@ -83,7 +83,7 @@ fn part_fault(
     requires body { (m : ModuleParts) → slice_get (slots.modules resolved.now) place ≡ Some m → AreBrought (slots.modules resolved.now) place m parts.Body body.now }
     ensures { (m : ModuleParts) → slice_get (slots.modules resolved.now) place ≡ Some m → IfOk result (λ found. found ≡ spec.part_fault (slots.modules resolved.now) place m part) }
 {
-    match part_file(resolved.modules(), place, part) {
+    match resolved.modules().part(place, part) {
         None => Ok(None),
         Some(file) => {
             let tree = file.tree();

@@ -1,10 +1,9 @@
 //! What the interfaces of a program offer.
 
-ghost use Rattle.std.specs.Prelude.{◌≡◌, ◌<◌, [], IfOk, Some, length, map, reverse, slice_get};
+ghost use Rattle.std.specs.Prelude.{◌≡◌, ◌<◌, ◌^◌, IfOk, Some, length, map, reverse, slice_get};
 ghost use Rattle.std.specs.Option.{option_map};
 ghost use Rattle.au_modules.specs.Slots as slots;
 ghost use Rattle.au_name_faults.specs.Gathered.{AreOffers, last_offers, last_tables};
-ghost use Rattle.au_names.specs.Exporting.{in_space};
 ghost use Rattle.au_syntax.specs.Plain.{plain_declaration};
 ghost use Rattle.au_syntax.specs.Views.{declaration};
 ghost use Rattle.au_syntax.specs.contracts.parsed.ParsedPhase.TheImpl.{ghosts as parsed};
@@ -12,14 +11,12 @@ ghost use Rattle.au_tables.specs.DeclaredNames.{numbered, table_of};
 
 use au_base::Memory;
 use au_modules::Modules;
+use au_names::exports::no_names;
 use au_names::{Exports, exports_of};
 use au_syntax::{Decl, Parsed};
 use au_tables::declared_names::put_declared;
 use au_tables::{NameTables, Space, Table};
 use std::alloc::Global;
-
-/// How many declarations may be numbered.
-const MOST_NUMBERS: usize = 1 << 32;
 
 /// What the interfaces of a program offer, made once.
 #[derive(Drop)]
@@ -31,29 +28,15 @@ pub struct Offers {
     pub lasts: Vec<NameTables>,
 }
 
-/// The table of a space of what an interface offers.
-pub(crate) fn offered_in(names: &NameTables, space: Space) -> &Table<u32>
-    ensures { result.now ≡ in_space space names.now }
-{
-    match space {
-        Space::Values => &names.values,
-        Space::Callables => &names.callables,
-        Space::Types => &names.types,
-    }
-}
-
-/// The table of a space of declarations that are numbered from 0, from the last to the first. Numbers that
-/// don't fit are answered by `Memory`.
+/// The table of a space of declarations that are numbered from 0, from the last to the first.
 fn last_table(
     alloc: Global,
     space: Space,
     declarations: &Vec<Decl<Parsed>>,
 ) -> Result<Table<u32>, Memory>
+    requires { length declarations.now.items < 2 ^ 32 }
     ensures { IfOk result (λ table. table ≡ table_of space (reverse (numbered 0 (map (plain_declaration parsed.name_bytes) (map (declaration parsed) declarations.now.items))))) }
 {
-    if MOST_NUMBERS < declarations.len() {
-        return Err(Memory);
-    }
     let mut table = Table::new(alloc);
     let mut left = declarations.len();
     while left > 0 {
@@ -65,6 +48,7 @@ fn last_table(
 
 /// The tables of declarations that are numbered from 0, from the last to the first.
 fn tables_back(alloc: Global, declarations: &Vec<Decl<Parsed>>) -> Result<NameTables, Memory>
+    requires { length declarations.now.items < 2 ^ 32 }
     ensures { IfOk result (λ names. names ≡ last_tables (map (plain_declaration parsed.name_bytes) (map (declaration parsed) declarations.now.items))) }
 {
     let values = last_table(alloc, Space::Values, declarations)?;
@@ -75,20 +59,6 @@ fn tables_back(alloc: Global, declarations: &Vec<Decl<Parsed>>) -> Result<NameTa
         callables,
         types,
     })
-}
-
-/// No names.
-fn no_names(alloc: Global) -> NameTables
-    ensures { result ≡ last_tables [] }
-{
-    let values = Table::new(alloc);
-    let callables = Table::new(alloc);
-    let types = Table::new(alloc);
-    NameTables {
-        values,
-        callables,
-        types,
-    }
 }
 
 /// The names that the interface of the module at a place offers, each with the number of its last
