@@ -11,24 +11,29 @@ use Rattle.au_imports.specs.Importing.{of_names, of_promises, refusal_of}
 
 -- ---- neither of two
 
-first_none : {A B C : Type 0} (f : A → C) (g : B → C) (a : Option A) (b : Option B) → option_or (option_map f a) (option_map g b) ≡ None → a ≡ None
+first_none : {A B C : Type 0} (f : A → C) (g : B → C) (a : Option A) (b : Option B)
+    → option_or (option_map f a) (option_map g b) ≡ None → a ≡ None
 first_none f g None b h = refl
 first_none f g (Some x) b h = cc
 
-second_none : {A B C : Type 0} (f : A → C) (g : B → C) (a : Option A) (b : Option B) → option_or (option_map f a) (option_map g b) ≡ None → b ≡ None
+second_none : {A B C : Type 0} (f : A → C) (g : B → C) (a : Option A) (b : Option B)
+    → option_or (option_map f a) (option_map g b) ≡ None → b ≡ None
 second_none f g None None h = refl
 second_none f g None (Some y) h = cc
 second_none f g (Some x) b h = cc
 
-both_none : {A B C : Type 0} (f : A → C) (g : B → C) (a : Option A) (b : Option B) → a ≡ None → b ≡ None → option_or (option_map f a) (option_map g b) ≡ None
+both_none : {A B C : Type 0} (f : A → C) (g : B → C) (a : Option A) (b : Option B)
+    → a ≡ None → b ≡ None → option_or (option_map f a) (option_map g b) ≡ None
 both_none f g a b h k = ap (λ one. option_or (option_map f one) (option_map g b)) h ∙ ap (option_map g) k
 
 -- ---- all
 
 pub good_from : (program : List ModuleParts) → refusal_of program ≡ None → IsGood program
 good_from program h = record {
-  names = naming.good_from program (first_none of_names of_promises (name_fault program) (promise_fault program) h);
-  promises = keeping.fulfilled_from program (second_none of_names of_promises (name_fault program) (promise_fault program) h);
+  names = naming.good_from program (first_none of_names of_promises (name_fault program)
+      (promise_fault program) h);
+  promises = keeping.fulfilled_from program (second_none of_names of_promises
+      (name_fault program) (promise_fault program) h);
 }
 
 pub good_accepted : (program : List ModuleParts) → IsGood program → refusal_of program ≡ None

@@ -24,4 +24,5 @@ of_promises (promises.Differs at other name) = fault.Differs at other name
 
 -- what a program is refused for
 abbrev pub refusal_of : List ModuleParts → Option ImportFault
-refusal_of program = option_or (option_map of_names (name_fault program)) (option_map of_promises (promise_fault program))
+refusal_of program = option_or (option_map of_names (name_fault program))
+    (option_map of_promises (promise_fault program))

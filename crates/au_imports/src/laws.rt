@@ -19,5 +19,10 @@ pub fn good_programs_are_not_refused()
 /// In a good program each opaque type of a module that has a body is defined in it, and its definition agrees
 /// with it.
 pub fn opaque_types_are_defined()
-    ensures { (program : List ModuleParts) (at : DeclAt) (m : ModuleParts) (interface body : Entry) (s : Standing) (name : Bytes) → IsGood program → slice_get program at.«module» ≡ Some m → m.interface ≡ Some interface → m.body ≡ Some body → standing_at program at ≡ Some s → s.part ≡ parts.Interface → opaque_name s.says ≡ Some name → (d : Standing) × (definition_of program at ≡ Some d) × Agrees (sight_of program at.«module» m) s.says d.says }
+    ensures { (program : List ModuleParts) (at : DeclAt) (m : ModuleParts)
+        (interface body : Entry) (s : Standing) (name : Bytes) → IsGood program
+        → slice_get program at.«module» ≡ Some m → m.interface ≡ Some interface
+        → m.body ≡ Some body → standing_at program at ≡ Some s → s.part ≡ parts.Interface
+        → opaque_name s.says ≡ Some name → (d : Standing) × (definition_of program at ≡ Some d)
+        × Agrees (sight_of program at.«module» m) s.says d.says }
 {}

@@ -15,10 +15,8 @@ ghost use Rattle.au_types.specs.Views.{meaning};
 ghost use Rattle.au_written_types.specs.Meant.{meant};
 
 use au_base::{Memory, Name};
-use au_names::{Declared, declaration, definition};
 use au_modules::Modules;
-use au_names::PartNames;
-use au_names::NamedModules;
+use au_names::{Declared, NamedModules, PartNames, declaration, definition};
 use au_syntax::{Part, TypeText};
 use au_types::{DeclAt, Heads, Params, Ty};
 use std::alloc::Global;
@@ -92,9 +90,12 @@ impl Resolved {
     /// What names mean in a part of the module at a place.
     pub fn names(&self, place: usize, part: Part) -> &PartNames
         requires { place < length (slots.modules self.now) }
-        ensures values { (m : ModuleParts) → slice_get (slots.modules self.now) place ≡ Some m → result.now.values ≡ declared_by (seen spaces.Values (slots.modules self.now) place m part) }
-        ensures callables { (m : ModuleParts) → slice_get (slots.modules self.now) place ≡ Some m → result.now.callables ≡ seen spaces.Callables (slots.modules self.now) place m part }
-        ensures types { (m : ModuleParts) → slice_get (slots.modules self.now) place ≡ Some m → result.now.types ≡ declared_by (seen spaces.Types (slots.modules self.now) place m part) }
+        ensures values { (m : ModuleParts) → slice_get (slots.modules self.now) place ≡ Some m
+            → result.now.values ≡ declared_by (seen spaces.Values (slots.modules self.now) place m part) }
+        ensures callables { (m : ModuleParts) → slice_get (slots.modules self.now) place ≡ Some m
+            → result.now.callables ≡ seen spaces.Callables (slots.modules self.now) place m part }
+        ensures types { (m : ModuleParts) → slice_get (slots.modules self.now) place ≡ Some m
+            → result.now.types ≡ declared_by (seen spaces.Types (slots.modules self.now) place m part) }
     {
         self.named.names(place, part)
     }
@@ -134,7 +135,10 @@ impl Resolved {
         node: &TypeText,
     ) -> Result<Option<Ty>, Memory>
         requires { place < length (slots.modules self.now) }
-        ensures { (m : ModuleParts) → slice_get (slots.modules self.now) place ≡ Some m → IfOk result (λ found. option_map meaning found ≡ meant regions.now params.now (declared_by (seen spaces.Types (slots.modules self.now) place m (known.part_if body))) (rows.heads_of (slots.modules self.now)) (written node.now)) }
+        ensures { (m : ModuleParts) → slice_get (slots.modules self.now) place ≡ Some m
+            → IfOk result (λ found. option_map meaning found ≡ meant regions.now params.now
+            (declared_by (seen spaces.Types (slots.modules self.now) place m (known.part_if body)))
+            (rows.heads_of (slots.modules self.now)) (written node.now)) }
     {
         self.named
             .type_of(alloc, place, body, params, regions, node)

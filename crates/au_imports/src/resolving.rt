@@ -9,8 +9,8 @@ use crate::programs::Resolved;
 use au_base::Memory;
 use au_modules::Modules;
 use au_name_faults::name_fault;
-use au_promises::promise_fault;
 use au_names::NamedModules;
+use au_promises::promise_fault;
 use std::alloc::Global;
 
 /// What a program is refused for, if it is refused: for a name, or else for a promise.

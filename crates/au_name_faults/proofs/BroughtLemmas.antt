@@ -20,7 +20,8 @@ imports_of None = refl
 imports_of (Some e) = refl
 
 -- the table of a space holds what they bring into it
-pub table_of : (program : List ModuleParts) (place : ℕ) (m : ModuleParts) (part : Part) (brought : Brought) → AreBrought program place m part brought → (space : Space)
+pub table_of : (program : List ModuleParts) (place : ℕ) (m : ModuleParts) (part : Part) (brought : Brought)
+    → AreBrought program place m part brought → (space : Space)
     → brought_in space brought ≡ firsts (brought_to program place m part space)
 table_of program place m part brought made Values = made.values
 table_of program place m part brought made Callables = made.callables

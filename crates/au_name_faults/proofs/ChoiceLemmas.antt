@@ -1,5 +1,36 @@
 -- The first of several things that may be there, items of lists, and what is found by a name.
-use Rattle.std.proofs.Common.{◌≡◌, ℕ, zero, suc, ◌<◌, ◌⊎◌, inl, inr, Bool, true, false, true≢false, cond, List, [], ◌∷◌, ◌++◌, length, get_or, Option, Some, None, is_some, refl, ap, sym, ◌∙◌, subst, Contains, arith}
+use Rattle.std.proofs.Common.{
+  ◌≡◌,
+  ℕ,
+  zero,
+  suc,
+  ◌<◌,
+  ◌⊎◌,
+  inl,
+  inr,
+  Bool,
+  true,
+  false,
+  true≢false,
+  cond,
+  List,
+  [],
+  ◌∷◌,
+  ◌++◌,
+  length,
+  get_or,
+  Option,
+  Some,
+  None,
+  is_some,
+  refl,
+  ap,
+  sym,
+  ◌∙◌,
+  subst,
+  Contains,
+  arith,
+}
 use Rattle.std.specs.List.{flat_map}
 use Rattle.std.specs.Option.{option_or}
 use Rattle.std.specs.Str.{bytes_eq}
@@ -32,7 +63,8 @@ pub among : {A : Type 0} (xs : List A) (x : A) → Contains xs x → Among x xs
 among [] x c = omega (arith, c.1)
 among (y ∷ ys) x c = by c.0 c.1 c.2 (among ys x)
   where
-    by : (k : ℕ) → k < length (y ∷ ys) → get_or (y ∷ ys) k x ≡ x → (Contains ys x → Among x ys) → Among x (y ∷ ys)
+    by : (k : ℕ) → k < length (y ∷ ys) → get_or (y ∷ ys) k x ≡ x → (Contains ys x → Among x ys)
+        → Among x (y ∷ ys)
     by zero within here rest = inl here
     by (suc k) within here rest = inr (rest (k, omega arith, here))
 
@@ -61,28 +93,36 @@ among-append (y ∷ xs) ys x (inr later) = by (among-append xs ys x later)
     by (inl m) = inl (inr m)
     by (inr m) = inr m
 
-pub among-flat_map : {A B : Type 0} (f : A → List B) (xs : List A) (y : B) → Among y (flat_map f xs) → (x : A) × Among x xs × Among y (f x)
+pub among-flat_map : {A B : Type 0} (f : A → List B) (xs : List A) (y : B)
+    → Among y (flat_map f xs) → (x : A) × Among x xs × Among y (f x)
 among-flat_map f [] y m = absurd m
 among-flat_map f (x ∷ xs) y m = by (among-append (f x) (flat_map f xs) y m) (among-flat_map f xs y)
   where
-    by : Among y (f x) ⊎ Among y (flat_map f xs) → (Among y (flat_map f xs) → (z : _) × Among z xs × Among y (f z)) → (z : _) × Among z (x ∷ xs) × Among y (f z)
+    by : Among y (f x) ⊎ Among y (flat_map f xs)
+        → (Among y (flat_map f xs) → (z : _) × Among z xs × Among y (f z))
+        → (z : _) × Among z (x ∷ xs) × Among y (f z)
     by (inl here) rest = (x, inl refl, here)
     by (inr later) rest = ((rest later).0, inr (rest later).1, (rest later).2)
 
-pub among-flat_map_from : {A B : Type 0} (f : A → List B) (xs : List A) (x : A) (y : B) → Among x xs → Among y (f x) → Among y (flat_map f xs)
+pub among-flat_map_from : {A B : Type 0} (f : A → List B) (xs : List A) (x : A) (y : B)
+    → Among x xs → Among y (f x) → Among y (flat_map f xs)
 among-flat_map_from f [] x y m n = absurd m
-among-flat_map_from f (z ∷ xs) x y (inl here) n = among-append_left (f z) (flat_map f xs) y (subst (λ w. Among y (f w)) (sym here) n)
-among-flat_map_from f (z ∷ xs) x y (inr later) n = among-append_right (f z) (flat_map f xs) y (among-flat_map_from f xs x y later n)
+among-flat_map_from f (z ∷ xs) x y (inl here) n = among-append_left (f z)
+    (flat_map f xs) y (subst (λ w. Among y (f w)) (sym here) n)
+among-flat_map_from f (z ∷ xs) x y (inr later) n = among-append_right (f z)
+    (flat_map f xs) y (among-flat_map_from f xs x y later n)
 
 -- ---- nothing is the first
 
-pub first_from : {A B : Type 0} (f : A → Option B) (xs : List A) → first_of f xs ≡ None → (x : A) → Among x xs → f x ≡ None
+pub first_from : {A B : Type 0} (f : A → Option B) (xs : List A) → first_of f xs ≡ None
+    → (x : A) → Among x xs → f x ≡ None
 unfolding first_of
 first_from f [] h x m = absurd m
 first_from f (y ∷ ys) h x (inl here) = ap f (sym here) ∙ or_first (f y) (first_of f ys) h
 first_from f (y ∷ ys) h x (inr later) = first_from f ys (or_second (f y) (first_of f ys) h) x later
 
-pub first_to : {A B : Type 0} (f : A → Option B) (xs : List A) → ((x : A) → Among x xs → f x ≡ None) → first_of f xs ≡ None
+pub first_to : {A B : Type 0} (f : A → Option B) (xs : List A) → ((x : A) → Among x xs → f x ≡ None)
+    → first_of f xs ≡ None
 unfolding first_of
 first_to f [] h = refl
 first_to f (y ∷ ys) h = or_neither (f y) (first_of f ys) (h y (inl refl)) (first_to f ys (λ x m. h x (inr m)))
@@ -105,7 +145,8 @@ module _ {V : Type 0} (name : List ℕ) where
   found_among [] v h = absurd (none-some v h)
   found_among (p ∷ ps) v h = by (bytes_eq name p.0) refl (found_among ps v)
     where
-      by : (b : Bool) → bytes_eq name p.0 ≡ b → (find name ps ≡ Some v → Among (name, v) ps) → Among (name, v) (p ∷ ps)
+      by : (b : Bool) → bytes_eq name p.0 ≡ b → (find name ps ≡ Some v → Among (name, v) ps)
+          → Among (name, v) (p ∷ ps)
       by true e rest =
           let value : p.1 ≡ v = same_Some p.1 v (sym (ap (λ c. cond c (Some p.1) (find name ps)) e) ∙ h) in
           let key : p.0 ≡ name = sym ((bytes_eq-Decides name p.0).0 e) in
@@ -116,15 +157,21 @@ module _ {V : Type 0} (name : List ℕ) where
   apart : (p : List ℕ × V) (v : V) → bytes_eq name p.0 ≡ false → p ≡ (name, v) → ⊥
   apart p v other here = true≢false (sym ((bytes_eq-Decides name p.0).1 (sym (ap (λ q. q.0) here))) ∙ other)
 
-  pub among_found : (pairs : List (List ℕ × V)) (v : V) → Among (name, v) pairs → (w : V) × (find name pairs ≡ Some w)
+  pub among_found : (pairs : List (List ℕ × V)) (v : V) → Among (name, v) pairs
+      → (w : V) × (find name pairs ≡ Some w)
   among_found [] v m = absurd m
   among_found (p ∷ ps) v m = by (bytes_eq name p.0) refl m (among_found ps v)
     where
-      by : (b : Bool) → bytes_eq name p.0 ≡ b → Among (name, v) (p ∷ ps) → (Among (name, v) ps → (w : V) × (find name ps ≡ Some w))
+      by : (b : Bool) → bytes_eq name p.0 ≡ b → Among (name, v) (p ∷ ps)
+          → (Among (name, v) ps → (w : V) × (find name ps ≡ Some w))
           → (w : V) × (find name (p ∷ ps) ≡ Some w)
       by true e n rest = (p.1, ap (λ c. cond c (Some p.1) (find name ps)) e)
       by false e (inl here) rest = absurd (apart p v e here)
-      by false e (inr later) rest = ((rest later).0, ap (λ c. cond c (Some p.1) (find name ps)) e ∙ (rest later).1)
+      by false e (inr later) rest = (
+        (rest later).0,
+        ap (λ c. cond c (Some p.1) (find name ps)) e
+            ∙ (rest later).1,
+      )
 
   pub among_has : (pairs : List (List ℕ × V)) (v : V) → Among (name, v) pairs → has_name name pairs ≡ true
   among_has pairs v m = ap is_some (among_found pairs v m).1
@@ -156,9 +203,11 @@ module _ (R : ℕ → ℕ → Type 0) where
   pub first_bounds : ((k : ℕ) → R k k) → (name : List ℕ) (a x : ℕ) (pairs : List (List ℕ × ℕ)) → Ordered pairs
       → find name pairs ≡ Some a → Among (name, x) pairs → R a x
   first_bounds self name a x [] h found m = absurd m
-  first_bounds self name a x (p ∷ ps) h found m = by (bytes_eq name p.0) refl m (first_bounds self name a x ps h.1)
+  first_bounds self name a x (p ∷ ps) h found m = by (bytes_eq name p.0) refl m
+      (first_bounds self name a x ps h.1)
     where
-      by : (b : Bool) → bytes_eq name p.0 ≡ b → Among (name, x) (p ∷ ps) → (find name ps ≡ Some a → Among (name, x) ps → R a x) → R a x
+      by : (b : Bool) → bytes_eq name p.0 ≡ b → Among (name, x) (p ∷ ps)
+          → (find name ps ≡ Some a → Among (name, x) ps → R a x) → R a x
       by true e n rest = on n
         where
           first : p.1 ≡ a

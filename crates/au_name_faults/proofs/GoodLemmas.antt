@@ -1,5 +1,23 @@
 -- Names are refused for nothing exactly where they are good by the rules.
-use Rattle.std.proofs.Common.{◌≡◌, ℕ, zero, suc, ◌+◌, List, [], ◌∷◌, Some, None, refl, ap, sym, ◌∙◌, slice_get, arith, zero-add}
+use Rattle.std.proofs.Common.{
+  ◌≡◌,
+  ℕ,
+  zero,
+  suc,
+  ◌+◌,
+  List,
+  [],
+  ◌∷◌,
+  Some,
+  None,
+  refl,
+  ap,
+  sym,
+  ◌∙◌,
+  slice_get,
+  arith,
+  zero-add,
+}
 use Rattle.std.proofs.lemmas.Option.{none-some, same_Some}
 use Rattle.au_modules.specs.Programs.{ModuleParts}
 use Rattle.au_syntax.specs.declared.modules.Part.{Part}
@@ -12,7 +30,8 @@ use Rattle.au_name_faults.proofs.RuleLemmas.{good_of_free, free_of_good}
 
 -- ---- modules by their places
 
-modules_from : (program : List ModuleParts) (start : ℕ) (rest : List ModuleParts) → faults_from program start rest ≡ None
+modules_from : (program : List ModuleParts) (start : ℕ) (rest : List ModuleParts)
+    → faults_from program start rest ≡ None
     → (i : ℕ) (m : ModuleParts) → slice_get rest i ≡ Some m → module_fault program (start + i) m ≡ None
 unfolding faults_from
 modules_from program start [] h i m here = absurd (none-some m here)
@@ -24,10 +43,12 @@ modules_from program start (x ∷ xs) h zero m here =
 modules_from program start (x ∷ xs) h (suc i) m here =
     let same : start + suc i ≡ start + 1 + i = omega arith in
     ap (λ place. module_fault program place m) same
-    ∙ modules_from program (start + 1) xs (or_second (module_fault program start x) (faults_from program (start + 1) xs) h) i m here
+    ∙ modules_from program (start + 1) xs (or_second (module_fault program start x)
+    (faults_from program (start + 1) xs) h) i m here
 
 modules_to : (program : List ModuleParts) (start : ℕ) (rest : List ModuleParts)
-    → ((i : ℕ) (m : ModuleParts) → slice_get rest i ≡ Some m → module_fault program (start + i) m ≡ None) → faults_from program start rest ≡ None
+    → ((i : ℕ) (m : ModuleParts) → slice_get rest i ≡ Some m → module_fault program (start + i) m ≡ None)
+    → faults_from program start rest ≡ None
 unfolding faults_from
 modules_to program start [] h = refl
 modules_to program start (x ∷ xs) h =
@@ -41,23 +62,29 @@ modules_to program start (x ∷ xs) h =
 
 -- ---- the two parts of a module
 
-part_from : (program : List ModuleParts) (place : ℕ) (m : ModuleParts) → module_fault program place m ≡ None → (part : Part) → part_fault program place m part ≡ None
-part_from program place m h Interface = or_first (part_fault program place m Interface) (part_fault program place m Body) h
-part_from program place m h Body = or_second (part_fault program place m Interface) (part_fault program place m Body) h
+part_from : (program : List ModuleParts) (place : ℕ) (m : ModuleParts)
+    → module_fault program place m ≡ None → (part : Part) → part_fault program place m part ≡ None
+part_from program place m h Interface = or_first (part_fault program place m Interface)
+    (part_fault program place m Body) h
+part_from program place m h Body = or_second (part_fault program place m Interface)
+    (part_fault program place m Body) h
 
 -- ---- all
 
 pub good_from : (program : List ModuleParts) → name_fault program ≡ None → AllNamesAreGood program
 good_from program h place m part here =
     let none : module_fault program place m ≡ None =
-    ap (λ p. module_fault program p m) (sym (zero-add place)) ∙ modules_from program 0 program h place m here in
-    good_of_free program place m (λ one. free_from program place m one (part_from program place m none one)) part
+    ap (λ p. module_fault program p m) (sym (zero-add place))
+    ∙ modules_from program 0 program h place m here in
+    good_of_free program place m (λ one. free_from program place m one (part_from program place m none one))
+    part
 
 pub good_accepted : (program : List ModuleParts) → AllNamesAreGood program → name_fault program ≡ None
 good_accepted program h =
     modules_to program 0 program
     (λ place m here.
-    let free : (part : Part) → IsFree program place m part = free_of_good program place m (λ part. h place m part here) in
+    let free : (part : Part) → IsFree program place m part = free_of_good program place m
+    (λ part. h place m part here) in
     ap (λ p. module_fault program p m) (zero-add place)
     ∙ or_neither (part_fault program place m Interface) (part_fault program place m Body)
     (free_to program place m Interface (free Interface)) (free_to program place m Body (free Body)))

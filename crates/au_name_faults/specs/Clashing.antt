@@ -3,7 +3,21 @@
 -- what is pervasive, what the imports of its part bring under the name before it, and in a body what the
 -- interface declares. The first that imports bring under a name speaks for all before it, since
 -- an import that brings another is refused itself.
-use Rattle.std.specs.Prelude.{ℕ, Bool, false, not, ◌||◌, ◌&&◌, ◌==◌, List, Option, None, Some, slice_get, reverse}
+use Rattle.std.specs.Prelude.{
+  ℕ,
+  Bool,
+  false,
+  not,
+  ◌||◌,
+  ◌&&◌,
+  ◌==◌,
+  List,
+  Option,
+  None,
+  Some,
+  slice_get,
+  reverse,
+}
 use Rattle.std.specs.Option.{option_map}
 use Rattle.std.specs.Str.{bytes_eq}
 use Rattle.au_syntax.specs.declared.modules.Part.{Part}
@@ -86,7 +100,8 @@ module _ (program : List ModuleParts) (place : ℕ) (m : ModuleParts) where
   -- the imports of a part and of those before it, which all stand before its declarations
   abbrev pub is_brought_before : Part → Space → Bytes → Bool
   is_brought_before Interface space name = has_name name (brought_to Interface space)
-  is_brought_before Body space name = has_name name (brought_to Interface space) || has_name name (brought_to Body space)
+  is_brought_before Body space name = has_name name (brought_to Interface space)
+      || has_name name (brought_to Body space)
 
   -- A declaration of a part brings in a name that means something before it that no declaration of its
   -- own module is. What the first module declares is itself pervasive.

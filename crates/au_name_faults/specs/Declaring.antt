@@ -22,7 +22,8 @@ use Rattle.au_name_faults.specs.Gathered.{brought_in}
 -- the imports of a part and of those before it bring a name, by their tables
 abbrev pub is_brought_by : Part → Space → Brought → Brought → Bytes → Bool
 is_brought_by Interface space interface body name = has_name name (brought_in space interface)
-is_brought_by Body space interface body name = has_name name (brought_in space interface) || has_name name (brought_in space body)
+is_brought_by Body space interface body name = has_name name (brought_in space interface)
+    || has_name name (brought_in space body)
 
 -- a declaration brings in a name that means something before it
 abbrev pub clashes_at : Site → Space → Bytes → Bool
@@ -33,12 +34,15 @@ clashes_at site space name =
 
 -- a name means nothing among types, classes and regions, in the scope of type parameters
 abbrev pub means_nothing_at : Site → List Parameter → Bytes → Bool
-means_nothing_at site parameters name = not (is_some (sense_of [] parameters site.names.now site.heads.now name))
+means_nothing_at site parameters name =
+    not (is_some (sense_of [] parameters site.names.now site.heads.now name))
 
 -- a name in a declaration with these type parameters
 abbrev pub mention_fault_at : Site → List Parameter → Mention → Option NameFault
-mention_fault_at site parameters (Declares space name at) = where_so (clashes_at site space name) (NameTwice at name)
-mention_fault_at site parameters (Writes name at) = where_so (means_nothing_at site parameters name) (NotVisible at name)
+mention_fault_at site parameters (Declares space name at) =
+    where_so (clashes_at site space name) (NameTwice at name)
+mention_fault_at site parameters (Writes name at) = where_so (means_nothing_at site parameters name)
+    (NotVisible at name)
 
 -- a declaration
 abbrev pub declaration_fault_at : Site → PlainDeclaration → Option NameFault

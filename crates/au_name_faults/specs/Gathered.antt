@@ -7,15 +7,19 @@ use Rattle.au_tables.specs.declared.spaces.Space.{Space}
 use Rattle.au_tables.specs.declared.spaces.Space.TheVariants.{Values, Callables, Types}
 use Rattle.au_tables.specs.DeclaredNames.{numbered, table_of}
 use Rattle.au_tables.specs.Tables.{firsts}
+use Rattle.au_modules.specs.declared.modules.Modules.{Modules}
 use Rattle.au_modules.specs.Programs.{ModuleParts}
+use Rattle.au_modules.specs.Slots as slots
 use Rattle.au_names.specs.declared.targets.Target.{Target}
 use Rattle.au_names.specs.Exporting.{AreExports}
 use Rattle.au_names.specs.Owned.{declarations_in}
+use Rattle.au_name_faults.specs.Written.{IsAt}
 use Rattle.au_name_faults.specs.declared.brought.Brought.{Brought}
 use Rattle.au_name_faults.specs.declared.offers.Offers.{Offers}
 use Rattle.au_name_faults.specs.Clashing.{brought_to}
 
--- the tables of the names of declarations that are numbered from 0, with the number of the last declaration of each
+-- the tables of the names of declarations that are numbered from 0, with the number of the last declaration
+-- of each
 abbrev pub last_tables : List PlainDeclaration → NameTables
 last_tables ds = record {
   values = table_of Values (reverse (numbered 0 ds));
@@ -40,7 +44,13 @@ brought_in Types brought = brought.types
 
 -- These are the tables of what the imports of a part of the module at a place bring, the first that
 -- each name is given.
-pub record AreBrought (program : List ModuleParts) (place : ℕ) (m : ModuleParts) (part : Part) (brought : Brought) : Type 0 where
+pub record AreBrought (program : List ModuleParts) (place : ℕ) (m : ModuleParts)
+    (part : Part) (brought : Brought) : Type 0 where
   pub values : brought.values ≡ firsts (brought_to program place m part Values)
   pub callables : brought.callables ≡ firsts (brought_to program place m part Callables)
   pub types : brought.types ≡ firsts (brought_to program place m part Types)
+
+-- These are the tables of what the imports of a part of the module at a place bring.
+abbrev pub AreBroughtTo : Modules → ℕ → Part → Brought → Type 0
+AreBroughtTo modules place part brought =
+    (m : ModuleParts) → IsAt modules place m → AreBrought (slots.modules modules) place m part brought

@@ -6,3 +6,4 @@ pub mod Good
 pub mod Importers
 pub mod NameFaults
 pub mod Parts
+pub mod Written

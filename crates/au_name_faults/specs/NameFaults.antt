@@ -1,6 +1,25 @@
 -- What names are refused for: the first fault, modules by place, the interface of each before its body,
 -- in the order of the text. Imports stand before declarations.
-use Rattle.std.specs.Prelude.{◌+◌, ℕ, Bool, false, not, ◌||◌, ◌==◌, nat_lt, List, [], ◌∷◌, Option, None, Some, unwrap_or, is_some, slice_get, if◌then◌else◌}
+use Rattle.std.specs.Prelude.{
+  ◌+◌,
+  ℕ,
+  Bool,
+  false,
+  not,
+  ◌||◌,
+  ◌==◌,
+  nat_lt,
+  List,
+  [],
+  ◌∷◌,
+  Option,
+  None,
+  Some,
+  unwrap_or,
+  is_some,
+  slice_get,
+  if◌then◌else◌,
+}
 use Rattle.std.specs.Option.{option_or}
 use Rattle.au_base.specs.declared.places.Pos.{Pos}
 use Rattle.au_syntax.specs.declared.modules.Part.{Part}
@@ -24,7 +43,13 @@ use Rattle.au_name_faults.specs.declared.faults.NameFault.TheVariants.{NoModule,
 use Rattle.au_mentions.specs.declared.mentions.Mention.{Mention}
 use Rattle.au_mentions.specs.declared.mentions.Mention.TheVariants.{Declares, Writes}
 use Rattle.au_name_faults.specs.Choices.{first_of, where_so}
-use Rattle.au_name_faults.specs.Clashing.{declaration_clashes, first_offered, import_clashes, is_offered, last_offered}
+use Rattle.au_name_faults.specs.Clashing.{
+  declaration_clashes,
+  first_offered,
+  import_clashes,
+  is_offered,
+  last_offered,
+}
 use Rattle.au_mentions.specs.Mentions.{mentions, type_parameters}
 
 -- the place of the first of names, or else this place
@@ -47,12 +72,14 @@ module _ (program : List ModuleParts) (place : ℕ) (m : ModuleParts) (part : Pa
   module _ (from : ℕ) (other : ModuleParts) where
     -- no space of the other interface has the name
     abbrev pub is_hidden : Bytes → Bool
-    is_hidden name = not (is_offered Values other name || is_offered Callables other name || is_offered Types other name)
+    is_hidden name = not (is_offered Values other name || is_offered Callables other name
+        || is_offered Types other name)
 
     -- what is brought under a name, if anything is, clashes
     abbrev pub found_clashes : Space → Bytes → Bytes → Option ℕ → Bool
     found_clashes space name local None = false
-    found_clashes space name local (Some number) = import_clashes program place m part space local (target from name number)
+    found_clashes space name local (Some number) = import_clashes program place m part space local
+        (target from name number)
 
     -- An item brings two different things into a space, or something that clashes.
     abbrev pub item_clashes : Renaming Bytes → Space → Bool
@@ -69,7 +96,8 @@ module _ (program : List ModuleParts) (place : ℕ) (m : ModuleParts) (part : Pa
     abbrev pub item_fault : Renaming Bytes → Option NameFault
     item_fault item =
         option_or (where_so (is_hidden item.name.name) (NotVisible item.name.at item.name.name))
-        (option_or (where_so (item_clashes item Values || item_clashes item Callables || item_clashes item Types) (NameTwice (given item).at (given item).name))
+        (option_or (where_so (item_clashes item Values || item_clashes item Callables
+        || item_clashes item Types) (NameTwice (given item).at (given item).name))
         (first_of (member_fault item.name.at) (along from item.name.name (interface_of other))))
 
   -- the items of an import of the module at a place, if that is there
@@ -92,11 +120,13 @@ module _ (program : List ModuleParts) (place : ℕ) (m : ModuleParts) (part : Pa
   -- a name means nothing among types, classes and regions, in the scope of type parameters
   abbrev pub means_nothing : List Parameter → Bytes → Bool
   means_nothing parameters name =
-      not (is_some (sense_of [] parameters (declared_by (seen Types program place m part)) (heads_of program) name))
+      not (is_some (sense_of [] parameters (declared_by (seen Types program place m part))
+      (heads_of program) name))
 
   -- a name in a declaration with these type parameters
   abbrev pub mention_fault : List Parameter → Mention → Option NameFault
-  mention_fault parameters (Declares space name at) = where_so (declaration_clashes program place m part space name) (NameTwice at name)
+  mention_fault parameters (Declares space name at) =
+      where_so (declaration_clashes program place m part space name) (NameTwice at name)
   mention_fault parameters (Writes name at) = where_so (means_nothing parameters name) (NotVisible at name)
 
   -- a declaration
@@ -107,7 +137,8 @@ module _ (program : List ModuleParts) (place : ℕ) (m : ModuleParts) (part : Pa
 
   abbrev pub file_fault : Option Entry → Option NameFault
   file_fault None = None
-  file_fault (Some e) = option_or (first_of import_fault e.tree.imports) (first_of declaration_fault e.tree.declarations)
+  file_fault (Some e) = option_or (first_of import_fault e.tree.imports)
+      (first_of declaration_fault e.tree.declarations)
 
 -- a part of the module at a place
 abbrev pub part_fault : List ModuleParts → ℕ → ModuleParts → Part → Option NameFault
@@ -115,12 +146,14 @@ part_fault program place m part = file_fault program place m part (part_of part 
 
 -- the module at a place
 abbrev pub module_fault : List ModuleParts → ℕ → ModuleParts → Option NameFault
-module_fault program place m = option_or (part_fault program place m Interface) (part_fault program place m Body)
+module_fault program place m = option_or (part_fault program place m Interface)
+    (part_fault program place m Body)
 
 -- the modules from a place on
 unfoldable pub faults_from : List ModuleParts → ℕ → List ModuleParts → Option NameFault
 faults_from program place [] = None
-faults_from program place (m ∷ ms) = option_or (module_fault program place m) (faults_from program (place + 1) ms)
+faults_from program place (m ∷ ms) = option_or (module_fault program place m)
+    (faults_from program (place + 1) ms)
 
 -- what a program is refused for
 abbrev pub name_fault : List ModuleParts → Option NameFault

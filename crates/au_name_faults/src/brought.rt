@@ -1,6 +1,6 @@
 //! What the imports of a part bring, by name.
 
-ghost use Rattle.std.specs.Prelude.{◌≡◌, ◌<◌, IfOk, Some, length, slice_get};
+ghost use Rattle.std.specs.Prelude.{◌≡◌, ◌<◌, IfOk, length};
 ghost use Rattle.au_modules.specs.Programs.{ModuleParts};
 ghost use Rattle.au_modules.specs.Seen.{tree_seen};
 ghost use Rattle.au_modules.specs.Slots as slots;
@@ -8,6 +8,7 @@ ghost use Rattle.au_name_faults.specs.Gathered.{AreBrought, brought_in};
 ghost use Rattle.au_names.specs.Exporting.{AreExports, imports_seen};
 ghost use Rattle.au_names.specs.Importing.{imported};
 ghost use Rattle.au_tables.specs.Tables.{firsts};
+ghost use Rattle.au_name_faults.specs.Written.{IsAt};
 
 use au_base::Memory;
 use au_modules::Modules;
@@ -39,7 +40,8 @@ fn table_brought(
 ) -> Result<Table<Target>, Memory>
     requires within { place < length (slots.modules modules.now) }
     requires made { AreExports exports.now (slots.modules modules.now) }
-    ensures { IfOk result (λ table. table ≡ firsts (imported space (slots.modules modules.now) place (imports_seen (tree_seen file.entry)))) }
+    ensures { IfOk result (λ table. table
+        ≡ firsts (imported space (slots.modules modules.now) place (imports_seen (tree_seen file.entry)))) }
 {
     let mut table = Table::new(alloc);
     put_imported(alloc, &mut table, modules, exports, space, place, file)?;
@@ -60,7 +62,8 @@ pub fn brought_to(
 ) -> Result<Brought, Memory>
     requires within { place < length (slots.modules modules.now) }
     requires made { AreExports exports.now (slots.modules modules.now) }
-    ensures { (m : ModuleParts) → slice_get (slots.modules modules.now) place ≡ Some m → IfOk result (λ brought. AreBrought (slots.modules modules.now) place m part brought) }
+    ensures { (m : ModuleParts) → IsAt modules.now place m
+        → IfOk result (λ brought. AreBrought (slots.modules modules.now) place m part brought) }
 {
     let file = modules.part(place, part);
     let values = table_brought(alloc, modules, exports, Space::Values, place, file)?;

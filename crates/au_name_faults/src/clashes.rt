@@ -4,7 +4,8 @@ ghost use Rattle.std.specs.Prelude.{◌≡◌, ◌<◌, Some, length, slice_get}
 ghost use Rattle.std.specs.Option.{option_copied};
 ghost use Rattle.au_modules.specs.Programs.{ModuleParts};
 ghost use Rattle.au_name_faults.specs.Clashing as spec;
-ghost use Rattle.au_name_faults.specs.Importers.{IsOf, IsReady, clashes_in, program_of};
+ghost use Rattle.au_name_faults.specs.Importers as importers;
+ghost use Rattle.au_name_faults.specs.Importers.{IsFrom, IsOf, IsReady, clashes_in, program_of};
 ghost use Rattle.au_names.specs.Owned.{target};
 ghost use Rattle.au_tables.specs.Tables.{find};
 
@@ -37,7 +38,7 @@ pub struct Importer<'a> {
 pub fn first_offered(importer: &Importer, place: usize, space: Space, name: &[u8]) -> Option<u32>
     requires ready { IsReady importer.now }
     requires within { place < length (program_of importer.now) }
-    ensures { (m : ModuleParts) → slice_get (program_of importer.now) place ≡ Some m → result ≡ spec.first_offered space m name.now }
+    ensures { (m : ModuleParts) → IsFrom importer.now place m → result ≡ spec.first_offered space m name.now }
 {
     let names = offered_names(&importer.offers.exports, place, space);
     names.get(name).copied()
@@ -47,7 +48,7 @@ pub fn first_offered(importer: &Importer, place: usize, space: Space, name: &[u8
 pub fn last_offered(importer: &Importer, place: usize, space: Space, name: &[u8]) -> Option<u32>
     requires ready { IsReady importer.now }
     requires within { place < length (program_of importer.now) }
-    ensures { (m : ModuleParts) → slice_get (program_of importer.now) place ≡ Some m → result ≡ spec.last_offered space m name.now }
+    ensures { (m : ModuleParts) → IsFrom importer.now place m → result ≡ spec.last_offered space m name.now }
 {
     let tables = &importer.offers.lasts[place];
     let names = in_space(tables, space);
@@ -76,7 +77,8 @@ fn is_other_pervasive(
     name: &[u8],
 ) -> bool
     requires { IsReady importer.now }
-    ensures { result ≡ spec.is_other (spec.pervasive_target space (slice_get (program_of importer.now) 0) local.now) (target at.«module» name.now at.decl) }
+    ensures { result ≡ spec.is_other (importers.pervasive_in importer.now space local.now)
+        (target at.«module» name.now at.decl) }
 {
     match first_offered(importer, 0, space, local) {
         None => false,
@@ -96,7 +98,9 @@ fn is_other_brought(
     name: &[u8],
 ) -> bool
     requires { IsReady importer.now }
-    ensures { (m : ModuleParts) → IsOf importer.now m → result ≡ spec.is_other (find local.now (spec.brought_to (program_of importer.now) importer.now.place m importer.now.part space)) (target at.«module» name.now at.decl) }
+    ensures { (m : ModuleParts) → IsOf importer.now m
+        → result ≡ spec.is_other (find local.now (importers.brought_by importer.now m space))
+        (target at.«module» name.now at.decl) }
 {
     let table = brought_in(importer.brought, space);
     is_other(table.get(local), at, name)
@@ -105,7 +109,8 @@ fn is_other_brought(
 /// Whether the interface declares a name before.
 fn is_declared_before(importer: &Importer, space: Space, name: &[u8]) -> bool
     requires { IsReady importer.now }
-    ensures { (m : ModuleParts) → IsOf importer.now m → result ≡ spec.is_declared_before (program_of importer.now) importer.now.place m importer.now.part space name.now }
+    ensures { (m : ModuleParts) → IsOf importer.now m
+        → result ≡ importers.is_declared_in importer.now m space name.now }
 {
     match importer.part {
         Part::Interface => false,
@@ -122,7 +127,8 @@ pub fn import_clashes(
     name: &[u8],
 ) -> bool
     requires { IsReady importer.now }
-    ensures { (m : ModuleParts) → IsOf importer.now m → result ≡ clashes_in importer.now m space local.now (target at.«module» name.now at.decl) }
+    ensures { (m : ModuleParts) → IsOf importer.now m
+        → result ≡ clashes_in importer.now m space local.now (target at.«module» name.now at.decl) }
 {
     is_built_in(space, local)
         || is_other_pervasive(importer, space, local, at, name)

@@ -1,17 +1,22 @@
 //! What declarations are refused for.
 
-ghost use Rattle.std.specs.Prelude.{◌≡◌, ◌<◌, ◌==◌, IfOk, Some, length, map, slice_get};
+ghost use Rattle.std.specs.Prelude.{◌≡◌, ◌<◌, ◌==◌, IfOk, Some, length};
 ghost use Rattle.au_modules.specs.Programs.{ModuleParts};
 ghost use Rattle.au_modules.specs.Slots as slots;
 ghost use Rattle.au_name_faults.specs.Choices.{first_of, where_so};
-ghost use Rattle.au_name_faults.specs.Declaring.{clashes_at, declaration_fault_at, is_brought_by, means_nothing_at, mention_fault_at};
-ghost use Rattle.au_name_faults.specs.Gathered.{AreBrought, AreOffers, brought_in};
+ghost use Rattle.au_name_faults.specs.Declaring.{
+  clashes_at,
+  declaration_fault_at,
+  is_brought_by,
+  means_nothing_at,
+  mention_fault_at,
+};
+ghost use Rattle.au_name_faults.specs.Gathered.{AreBroughtTo, AreOffers, brought_in};
 ghost use Rattle.au_name_faults.specs.NameFaults.{declaration_fault};
 ghost use Rattle.au_names.specs.Exporting as exporting;
-ghost use Rattle.au_syntax.specs.Plain.{plain_declaration};
 ghost use Rattle.au_syntax.specs.Views.{declaration};
-ghost use Rattle.au_syntax.specs.contracts.parsed.ParsedPhase.TheImpl.{ghosts as parsed};
 ghost use Rattle.au_tables.specs.Tables.{has_name};
+ghost use Rattle.au_name_faults.specs.Written.{IsAt, all_declared, declared_of};
 
 use crate::brought::{Brought, brought_in};
 use crate::built_in::is_built_in;
@@ -100,7 +105,8 @@ fn declared_fault(
     name: &Name,
     at: Pos,
 ) -> Result<Option<NameFault>, Memory>
-    ensures { IfOk result (λ found. found ≡ where_so (clashes_at site.now space name.now) (NameFault.NameTwice at name.now)) }
+    ensures { IfOk result (λ found. found ≡ where_so (clashes_at site.now space name.now)
+        (NameFault.NameTwice at name.now)) }
 {
     if clashes(site, space, name) {
         let name = name.copy(alloc)?;
@@ -118,7 +124,8 @@ fn written_fault(
     name: &Name,
     at: Pos,
 ) -> Result<Option<NameFault>, Memory>
-    ensures { IfOk result (λ found. found ≡ where_so (means_nothing_at site.now params.now name.now) (NameFault.NotVisible at name.now)) }
+    ensures { IfOk result (λ found. found ≡ where_so (means_nothing_at site.now params.now name.now)
+        (NameFault.NotVisible at name.now)) }
 {
     if means_nothing(site, params, name) {
         let name = name.copy(alloc)?;
@@ -167,7 +174,7 @@ fn declaration_fault(
     site: &Site,
     decl: &Decl<Parsed>,
 ) -> Result<Option<NameFault>, Memory>
-    ensures { IfOk result (λ found. found ≡ declaration_fault_at site.now (plain_declaration parsed.name_bytes (declaration parsed decl.now))) }
+    ensures { IfOk result (λ found. found ≡ declaration_fault_at site.now (declared_of decl.now)) }
 {
     let params = type_parameters(alloc, decl)?;
     let list = mentions_of(alloc, decl)?;
@@ -180,7 +187,8 @@ fn first_fault(
     site: &Site,
     declarations: &Vec<Decl<Parsed>>,
 ) -> Result<Option<NameFault>, Memory>
-    ensures { IfOk result (λ found. found ≡ first_of (declaration_fault_at site.now) (map (plain_declaration parsed.name_bytes) (map (declaration parsed) declarations.now.items))) }
+    ensures { IfOk result (λ found. found ≡ first_of (declaration_fault_at site.now)
+        (all_declared declarations.now.items)) }
 {
     for one in declarations {
         match declaration_fault(alloc, site, one)? {
@@ -210,9 +218,11 @@ pub fn declarations_fault(
 ) -> Result<Option<NameFault>, Memory>
     requires within { place < length (slots.modules resolved.now) }
     requires made { AreOffers (slots.modules resolved.now) offers.now }
-    requires by_interface { (m : ModuleParts) → slice_get (slots.modules resolved.now) place ≡ Some m → AreBrought (slots.modules resolved.now) place m Part.Interface interface.now }
-    requires by_body { (m : ModuleParts) → slice_get (slots.modules resolved.now) place ≡ Some m → AreBrought (slots.modules resolved.now) place m Part.Body body.now }
-    ensures { (m : ModuleParts) → slice_get (slots.modules resolved.now) place ≡ Some m → IfOk result (λ found. found ≡ first_of (declaration_fault (slots.modules resolved.now) place m part) (map (plain_declaration parsed.name_bytes) (map (declaration parsed) declarations.now.items))) }
+    requires by_interface { AreBroughtTo resolved.now place Part.Interface interface.now }
+    requires by_body { AreBroughtTo resolved.now place Part.Body body.now }
+    ensures { (m : ModuleParts) → IsAt resolved.now place m
+        → IfOk result (λ found. found ≡ first_of (declaration_fault (slots.modules resolved.now) place m part)
+        (all_declared declarations.now.items)) }
 {
     let names = resolved.names(place, part);
     let site = Site {

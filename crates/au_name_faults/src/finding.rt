@@ -1,15 +1,15 @@
 //! The first fault of the names of a program.
 
-ghost use Rattle.std.specs.Prelude.{◌≡◌, ◌<◌, ℕ, List, IfOk, IsTrue, Some, length, slice_get};
-ghost use Rattle.std.specs.Option.{option_or};
+ghost use Rattle.std.specs.Prelude.{◌≡◌, ◌<◌, ℕ, List, IfOk, IsTrue, Some, length};
 ghost use Rattle.au_modules.specs.Programs.{ModuleParts};
 ghost use Rattle.au_modules.specs.Slots as slots;
-ghost use Rattle.au_name_faults.specs.Choices.{first_of};
-ghost use Rattle.au_name_faults.specs.Gathered.{AreBrought, AreOffers};
+ghost use Rattle.au_name_faults.specs.Gathered.{AreBrought, AreBroughtTo, AreOffers};
 ghost use Rattle.au_name_faults.specs.NameFaults as spec;
+ghost use Rattle.au_name_faults.specs.Parts.{tree_fault};
 ghost use Rattle.au_syntax.specs.Files.{is_formed, is_within, says};
 ghost use Rattle.au_syntax.specs.contracts.parsed.ParsedPhase.TheImpl.{ghosts as parsed};
 ghost use Rattle.au_syntax.specs.declared.modules.Part.TheVariants as parts;
+ghost use Rattle.au_name_faults.specs.Written.{IsAt};
 
 use crate::brought::{Brought, brought_to};
 use crate::declaring::declarations_fault;
@@ -23,7 +23,9 @@ use std::alloc::Global;
 
 /// What the imports of one of the parts bring.
 fn of_part<'a>(interface: &'a Brought, body: &'a Brought, part: Part) -> &'a Brought
-    ensures { (program : List ModuleParts) (place : ℕ) (m : ModuleParts) → AreBrought program place m parts.Interface interface.now → AreBrought program place m parts.Body body.now → AreBrought program place m part result.now }
+    ensures { (program : List ModuleParts) (place : ℕ) (m : ModuleParts)
+        → AreBrought program place m parts.Interface interface.now
+        → AreBrought program place m parts.Body body.now → AreBrought program place m part result.now }
 {
     match part {
         Part::Interface => interface,
@@ -46,9 +48,11 @@ fn tree_fault(
     requires sized { IsTrue (is_within parsed tree.now) }
     requires within { place < length (slots.modules resolved.now) }
     requires offers { AreOffers (slots.modules resolved.now) offers.now }
-    requires interface { (m : ModuleParts) → slice_get (slots.modules resolved.now) place ≡ Some m → AreBrought (slots.modules resolved.now) place m parts.Interface interface.now }
-    requires body { (m : ModuleParts) → slice_get (slots.modules resolved.now) place ≡ Some m → AreBrought (slots.modules resolved.now) place m parts.Body body.now }
-    ensures { (m : ModuleParts) → slice_get (slots.modules resolved.now) place ≡ Some m → IfOk result (λ found. found ≡ option_or (first_of (spec.import_fault (slots.modules resolved.now) place m part) (says parsed tree.now).imports) (first_of (spec.declaration_fault (slots.modules resolved.now) place m part) (says parsed tree.now).declarations)) }
+    requires interface { AreBroughtTo resolved.now place parts.Interface interface.now }
+    requires body { AreBroughtTo resolved.now place parts.Body body.now }
+    ensures { (m : ModuleParts) → IsAt resolved.now place m
+        → IfOk result (λ found. found ≡ tree_fault (slots.modules resolved.now) place m part
+        (says parsed tree.now)) }
 {
     let brought = of_part(interface, body, part);
     let modules = resolved.modules();
@@ -79,9 +83,10 @@ fn part_fault(
 ) -> Result<Option<NameFault>, Memory>
     requires within { place < length (slots.modules resolved.now) }
     requires offers { AreOffers (slots.modules resolved.now) offers.now }
-    requires interface { (m : ModuleParts) → slice_get (slots.modules resolved.now) place ≡ Some m → AreBrought (slots.modules resolved.now) place m parts.Interface interface.now }
-    requires body { (m : ModuleParts) → slice_get (slots.modules resolved.now) place ≡ Some m → AreBrought (slots.modules resolved.now) place m parts.Body body.now }
-    ensures { (m : ModuleParts) → slice_get (slots.modules resolved.now) place ≡ Some m → IfOk result (λ found. found ≡ spec.part_fault (slots.modules resolved.now) place m part) }
+    requires interface { AreBroughtTo resolved.now place parts.Interface interface.now }
+    requires body { AreBroughtTo resolved.now place parts.Body body.now }
+    ensures { (m : ModuleParts) → IsAt resolved.now place m
+        → IfOk result (λ found. found ≡ spec.part_fault (slots.modules resolved.now) place m part) }
 {
     match resolved.modules().part(place, part) {
         None => Ok(None),
@@ -103,9 +108,10 @@ fn parts_fault(
 ) -> Result<Option<NameFault>, Memory>
     requires within { place < length (slots.modules resolved.now) }
     requires offers { AreOffers (slots.modules resolved.now) offers.now }
-    requires interface { (m : ModuleParts) → slice_get (slots.modules resolved.now) place ≡ Some m → AreBrought (slots.modules resolved.now) place m parts.Interface interface.now }
-    requires body { (m : ModuleParts) → slice_get (slots.modules resolved.now) place ≡ Some m → AreBrought (slots.modules resolved.now) place m parts.Body body.now }
-    ensures { (m : ModuleParts) → slice_get (slots.modules resolved.now) place ≡ Some m → IfOk result (λ found. found ≡ spec.module_fault (slots.modules resolved.now) place m) }
+    requires interface { AreBroughtTo resolved.now place parts.Interface interface.now }
+    requires body { AreBroughtTo resolved.now place parts.Body body.now }
+    ensures { (m : ModuleParts) → IsAt resolved.now place m
+        → IfOk result (λ found. found ≡ spec.module_fault (slots.modules resolved.now) place m) }
 {
     let first = part_fault(
         alloc,
@@ -131,7 +137,8 @@ fn module_fault(
 ) -> Result<Option<NameFault>, Memory>
     requires within { place < length (slots.modules resolved.now) }
     requires offers { AreOffers (slots.modules resolved.now) offers.now }
-    ensures { (m : ModuleParts) → slice_get (slots.modules resolved.now) place ≡ Some m → IfOk result (λ found. found ≡ spec.module_fault (slots.modules resolved.now) place m) }
+    ensures { (m : ModuleParts) → IsAt resolved.now place m
+        → IfOk result (λ found. found ≡ spec.module_fault (slots.modules resolved.now) place m) }
 {
     let modules = resolved.modules();
     let interface = brought_to(alloc, modules, &offers.exports, place, Part::Interface)?;

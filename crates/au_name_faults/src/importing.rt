@@ -1,17 +1,27 @@
 //! What imports are refused for.
 
-ghost use Rattle.std.specs.Prelude.{◌≡◌, ◌<◌, IfOk, IsTrue, None, Some, length, map, slice_get};
+ghost use Rattle.std.specs.Prelude.{◌≡◌, ◌<◌, IfOk, IsTrue, None, Some, length};
 ghost use Rattle.au_modules.specs.Programs.{ModuleParts};
 ghost use Rattle.au_modules.specs.Slots as slots;
 ghost use Rattle.au_name_faults.specs.Choices.{first_of};
-ghost use Rattle.au_name_faults.specs.Gathered.{AreBrought, AreOffers};
+ghost use Rattle.au_name_faults.specs.Gathered.{AreBroughtTo, AreOffers};
 ghost use Rattle.au_name_faults.specs.Importers as importers;
-ghost use Rattle.au_name_faults.specs.Importers.{AllPass, IsOf, IsReady, is_module_name, name_modules, program_of};
+ghost use Rattle.au_name_faults.specs.Importers.{
+  AllPass,
+  IsFrom,
+  IsOf,
+  IsReady,
+  is_module_name,
+  item_fault_in,
+  name_modules,
+  program_of,
+};
 ghost use Rattle.au_name_faults.specs.NameFaults as spec;
-ghost use Rattle.au_syntax.specs.Plain.{plain_importing, plain_name, plain_renaming};
+ghost use Rattle.au_syntax.specs.Plain.{plain_name};
 ghost use Rattle.au_syntax.specs.Sizes.{joined};
-ghost use Rattle.au_syntax.specs.Views.{importing, placed, renaming};
+ghost use Rattle.au_syntax.specs.Views.{placed};
 ghost use Rattle.au_syntax.specs.contracts.parsed.ParsedPhase.TheImpl.{ghosts as parsed};
+ghost use Rattle.au_name_faults.specs.Written.{IsAt, import_of, imports_of, item_of, items_of, names_of};
 
 use crate::brought::Brought;
 use crate::clashes::{Importer, first_offered, import_clashes, last_offered};
@@ -29,8 +39,8 @@ use std::alloc::Global;
 
 /// The name of a module, given by its parts.
 fn joined_name(alloc: Global, names: &Vec<Ident<Parsed>>) -> Result<Name, Memory>
-    requires { IsTrue (is_module_name (map (plain_name parsed.name_bytes) (map (placed parsed) names.now.items))) }
-    ensures { IfOk result (λ name. name ≡ joined (map (plain_name parsed.name_bytes) (map (placed parsed) names.now.items))) }
+    requires { IsTrue (is_module_name (names_of names.now.items)) }
+    ensures { IfOk result (λ name. name ≡ joined (names_of names.now.items)) }
 {
     let first = names[0].name.as_bytes();
     prove!(!first.is_empty());
@@ -40,7 +50,7 @@ fn joined_name(alloc: Global, names: &Vec<Ident<Parsed>>) -> Result<Name, Memory
 
 /// The place of the first of names, or else this place.
 fn first_place(at: Pos, names: &Vec<Ident<Parsed>>) -> Pos
-    ensures { result ≡ spec.first_place at (map (plain_name parsed.name_bytes) (map (placed parsed) names.now.items)) }
+    ensures { result ≡ spec.first_place at (names_of names.now.items) }
 {
     match names.first() {
         None => at,
@@ -50,7 +60,7 @@ fn first_place(at: Pos, names: &Vec<Ident<Parsed>>) -> Pos
 
 /// The name that an item gives: that after its `as`, or its own.
 fn given(item: &Renamed<Parsed>) -> &Ident<Parsed>
-    ensures { plain_name parsed.name_bytes (placed parsed result.now) ≡ spec.given (plain_renaming parsed.name_bytes (renaming parsed item.now)) }
+    ensures { plain_name parsed.name_bytes (placed parsed result.now) ≡ spec.given (item_of item.now) }
 {
     match &item.alias {
         None => &item.name,
@@ -72,7 +82,8 @@ fn is_apart(first: Option<u32>, last: Option<u32>) -> bool
 fn is_hidden(importer: &Importer, from: u16, name: &[u8]) -> bool
     requires ready { IsReady importer.now }
     requires within { from < length (program_of importer.now) }
-    ensures { (m other : ModuleParts) → slice_get (program_of importer.now) from ≡ Some other → result ≡ spec.is_hidden (program_of importer.now) importer.now.place m importer.now.part from other name.now }
+    ensures { (m other : ModuleParts) → IsFrom importer.now from other
+        → result ≡ importers.is_hidden_in importer.now m from other name.now }
 {
     let place = from as usize;
     let seen = first_offered(importer, place, Space::Values, name).is_some()
@@ -91,7 +102,8 @@ fn found_clashes(
     found: Option<u32>,
 ) -> bool
     requires { IsReady importer.now }
-    ensures { (m other : ModuleParts) → IsOf importer.now m → result ≡ spec.found_clashes (program_of importer.now) importer.now.place m importer.now.part from other space name.now local.now found }
+    ensures { (m other : ModuleParts) → IsOf importer.now m
+        → result ≡ importers.clashes_where importer.now m from other space name.now local.now found }
 {
     match found {
         None => false,
@@ -109,7 +121,8 @@ fn found_clashes(
 fn item_clashes(importer: &Importer, from: u16, item: &Renamed<Parsed>, space: Space) -> bool
     requires ready { IsReady importer.now }
     requires within { from < length (program_of importer.now) }
-    ensures { (m other : ModuleParts) → IsOf importer.now m → slice_get (program_of importer.now) from ≡ Some other → result ≡ spec.item_clashes (program_of importer.now) importer.now.place m importer.now.part from other (plain_renaming parsed.name_bytes (renaming parsed item.now)) space }
+    ensures { (m other : ModuleParts) → IsOf importer.now m → IsFrom importer.now from other
+        → result ≡ importers.clashes_by importer.now m from other (item_of item.now) space }
 {
     let place = from as usize;
     let name = item.name.name.as_bytes();
@@ -126,15 +139,16 @@ fn item_clashes(importer: &Importer, from: u16, item: &Renamed<Parsed>, space: S
 fn any_clashes(importer: &Importer, from: u16, item: &Renamed<Parsed>) -> bool
     requires ready { IsReady importer.now }
     requires within { from < length (program_of importer.now) }
-    ensures { (m other : ModuleParts) → IsOf importer.now m → slice_get (program_of importer.now) from ≡ Some other → result ≡ importers.any_clashes importer.now m from other (plain_renaming parsed.name_bytes (renaming parsed item.now)) }
+    ensures { (m other : ModuleParts) → IsOf importer.now m → IsFrom importer.now from other
+        → result ≡ importers.any_clashes importer.now m from other (item_of item.now) }
 {
     item_clashes(importer, from, item, Space::Values)
         || item_clashes(importer, from, item, Space::Callables)
         || item_clashes(importer, from, item, Space::Types)
 }
 
-/// What an item of an import of the module at a place is refused for, given the declarations whose cases or methods
-/// were refused for nothing.
+/// What an item of an import of the module at a place is refused for, given the declarations whose cases or
+/// methods were refused for nothing.
 fn item_fault(
     alloc: Global,
     importer: &Importer,
@@ -145,7 +159,8 @@ fn item_fault(
     requires ready { IsReady importer.now }
     requires within { from < length (program_of importer.now) }
     requires passed { AllPass importer.now passed.old }
-    ensures item { (m other : ModuleParts) → IsOf importer.now m → slice_get (program_of importer.now) from ≡ Some other → IfOk result (λ found. found ≡ spec.item_fault (program_of importer.now) importer.now.place m importer.now.part from other (plain_renaming parsed.name_bytes (renaming parsed item.now))) }
+    ensures item { (m other : ModuleParts) → IsOf importer.now m → IsFrom importer.now from other
+        → IfOk result (λ found. found ≡ item_fault_in importer.now m from other (item_of item.now)) }
     ensures passed { IfOk result (λ found. found ≡ None → AllPass importer.now passed.new) }
 {
     if is_hidden(importer, from, item.name.name.as_bytes()) {
@@ -160,8 +175,8 @@ fn item_fault(
     along_fault(alloc, importer, passed, from, &item.name)
 }
 
-/// What items of an import of the module at a place are refused for, given the declarations whose cases or methods
-/// were refused for nothing.
+/// What items of an import of the module at a place are refused for, given the declarations whose cases or
+/// methods were refused for nothing.
 fn items_fault(
     alloc: Global,
     importer: &Importer,
@@ -172,7 +187,9 @@ fn items_fault(
     requires ready { IsReady importer.now }
     requires within { from < length (program_of importer.now) }
     requires passed { AllPass importer.now passed.old }
-    ensures items { (m other : ModuleParts) → IsOf importer.now m → slice_get (program_of importer.now) from ≡ Some other → IfOk result (λ found. found ≡ first_of (spec.item_fault (program_of importer.now) importer.now.place m importer.now.part from other) (map (plain_renaming parsed.name_bytes) (map (renaming parsed) items.now.items))) }
+    ensures items { (m other : ModuleParts) → IsOf importer.now m → IsFrom importer.now from other
+        → IfOk result (λ found. found ≡ first_of (item_fault_in importer.now m from other)
+        (items_of items.now.items)) }
     ensures passed { IfOk result (λ found. found ≡ None → AllPass importer.now passed.new) }
 {
     for item in items {
@@ -192,8 +209,9 @@ fn import_fault(
 ) -> Result<Option<NameFault>, Memory>
     requires ready { IsReady importer.now }
     requires passed { AllPass importer.now passed.old }
-    requires named { IsTrue (is_module_name (plain_importing parsed.name_bytes (importing parsed import.now)).from) }
-    ensures import { (m : ModuleParts) → IsOf importer.now m → IfOk result (λ found. found ≡ spec.import_fault (program_of importer.now) importer.now.place m importer.now.part (plain_importing parsed.name_bytes (importing parsed import.now))) }
+    requires named { IsTrue (is_module_name (import_of import.now).from) }
+    ensures import { (m : ModuleParts) → IsOf importer.now m
+        → IfOk result (λ found. found ≡ importers.import_fault_in importer.now m (import_of import.now)) }
     ensures passed { IfOk result (λ found. found ≡ None → AllPass importer.now passed.new) }
 {
     match place_named(alloc, &importer.offers.exports, &import.module)? {
@@ -220,8 +238,10 @@ fn all_imports_fault(
     imports: &Vec<Import<Parsed>>,
 ) -> Result<Option<NameFault>, Memory>
     requires ready { IsReady importer.now }
-    requires named { IsTrue (name_modules (map (plain_importing parsed.name_bytes) (map (importing parsed) imports.now.items))) }
-    ensures { (m : ModuleParts) → IsOf importer.now m → IfOk result (λ found. found ≡ first_of (spec.import_fault (program_of importer.now) importer.now.place m importer.now.part) (map (plain_importing parsed.name_bytes) (map (importing parsed) imports.now.items))) }
+    requires named { IsTrue (name_modules (imports_of imports.now.items)) }
+    ensures { (m : ModuleParts) → IsOf importer.now m
+        → IfOk result (λ found. found ≡ first_of (importers.import_fault_in importer.now m)
+        (imports_of imports.now.items)) }
 {
     let mut passed = DeclSet::new(alloc);
     for import in imports {
@@ -248,9 +268,11 @@ pub fn imports_fault(
 ) -> Result<Option<NameFault>, Memory>
     requires within { place < length (slots.modules modules.now) }
     requires offers { AreOffers (slots.modules modules.now) offers.now }
-    requires brought { (m : ModuleParts) → slice_get (slots.modules modules.now) place ≡ Some m → AreBrought (slots.modules modules.now) place m part brought.now }
-    requires named { IsTrue (name_modules (map (plain_importing parsed.name_bytes) (map (importing parsed) imports.now.items))) }
-    ensures { (m : ModuleParts) → slice_get (slots.modules modules.now) place ≡ Some m → IfOk result (λ found. found ≡ first_of (spec.import_fault (slots.modules modules.now) place m part) (map (plain_importing parsed.name_bytes) (map (importing parsed) imports.now.items))) }
+    requires brought { AreBroughtTo modules.now place part brought.now }
+    requires named { IsTrue (name_modules (imports_of imports.now.items)) }
+    ensures { (m : ModuleParts) → IsAt modules.now place m
+        → IfOk result (λ found. found ≡ first_of (spec.import_fault (slots.modules modules.now) place m part)
+        (imports_of imports.now.items)) }
 {
     let importer = Importer {
         modules,

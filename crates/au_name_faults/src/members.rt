@@ -1,18 +1,19 @@
 //! What imports are refused for that bring cases of unions and methods of classes along.
 
-ghost use Rattle.std.specs.Prelude.{◌≡◌, ◌<◌, IfOk, None, Some, length, map, slice_get};
+ghost use Rattle.std.specs.Prelude.{◌≡◌, ◌<◌, IfOk, None, Some, length, map};
 ghost use Rattle.au_modules.specs.Programs.{ModuleParts};
 ghost use Rattle.au_modules.specs.Seen.{tree_seen};
 ghost use Rattle.au_name_faults.specs.Choices.{first_of};
-ghost use Rattle.au_name_faults.specs.Importers.{AllPass, IsOf, IsReady, fault_in, program_of};
+ghost use Rattle.au_name_faults.specs.Importers.{AllPass, IsFrom, IsOf, IsReady, fault_in, program_of};
 ghost use Rattle.au_names.specs.Along.{members_in};
 ghost use Rattle.au_names.specs.Exporting.{declarations_seen, members_at};
 ghost use Rattle.au_names.specs.Importing.{along, members};
 ghost use Rattle.au_names.specs.Owned.{interface_of, target, targets};
-ghost use Rattle.au_syntax.specs.Plain.{plain_declaration, plain_header, plain_variant};
+ghost use Rattle.au_syntax.specs.Plain.{plain_header, plain_variant};
 ghost use Rattle.au_syntax.specs.Views.{declaration, header, variant};
 ghost use Rattle.au_syntax.specs.contracts.parsed.ParsedPhase.TheImpl.{ghosts as parsed};
 ghost use Rattle.au_tables.specs.DeclaredNames.{given};
+ghost use Rattle.au_name_faults.specs.Written.{all_declared, declared_of};
 
 use crate::clashes::{Importer, first_offered, import_clashes};
 use crate::faults::NameFault;
@@ -32,7 +33,9 @@ fn one_fault(
     name: &Name,
 ) -> Result<Option<NameFault>, Memory>
     requires { IsReady importer.now }
-    ensures { (m other : ModuleParts) → IsOf importer.now m → IfOk result (λ found. found ≡ fault_in importer.now m at.«module» other stands (name.now, target at.«module» name.now at.decl)) }
+    ensures { (m other : ModuleParts) → IsOf importer.now m
+        → IfOk result (λ found. found ≡ fault_in importer.now m at.«module» other stands
+        (name.now, target at.«module» name.now at.decl)) }
 {
     let bytes = name.as_bytes();
     if import_clashes(importer, Space::Callables, bytes, at, bytes) {
@@ -51,7 +54,11 @@ fn cases_fault(
     cases: &Vec<UnionCase<Parsed>>,
 ) -> Result<Option<NameFault>, Memory>
     requires { IsReady importer.now }
-    ensures { (m other : ModuleParts) → IsOf importer.now m → IfOk result (λ found. found ≡ first_of (fault_in importer.now m at.«module» other stands) (targets at.«module» (given at.decl (map (λ c. c.name.name) (map (plain_variant parsed.name_bytes) (map (variant parsed) cases.now.items)))))) }
+    ensures { (m other : ModuleParts) → IsOf importer.now m
+        → IfOk result (λ found. found ≡ first_of (fault_in importer.now m at.«module» other stands)
+        (targets at.«module»
+        (given at.decl (map (λ c. c.name.name) (map (plain_variant parsed.name_bytes)
+        (map (variant parsed) cases.now.items)))))) }
 {
     for one in cases {
         if let Some(fault) = one_fault(alloc, importer, stands, at, &one.name.name)? {
@@ -70,7 +77,11 @@ fn methods_fault(
     methods: &Vec<Signature<Parsed>>,
 ) -> Result<Option<NameFault>, Memory>
     requires { IsReady importer.now }
-    ensures { (m other : ModuleParts) → IsOf importer.now m → IfOk result (λ found. found ≡ first_of (fault_in importer.now m at.«module» other stands) (targets at.«module» (given at.decl (map (λ h. h.name.name) (map (plain_header parsed.name_bytes) (map (header parsed) methods.now.items)))))) }
+    ensures { (m other : ModuleParts) → IsOf importer.now m
+        → IfOk result (λ found. found ≡ first_of (fault_in importer.now m at.«module» other stands)
+        (targets at.«module»
+        (given at.decl (map (λ h. h.name.name) (map (plain_header parsed.name_bytes)
+        (map (header parsed) methods.now.items)))))) }
 {
     for one in methods {
         if let Some(fault) = one_fault(alloc, importer, stands, at, &one.name.name)? {
@@ -90,7 +101,9 @@ fn declared_fault(
     decl: &Decl<Parsed>,
 ) -> Result<Option<NameFault>, Memory>
     requires { IsReady importer.now }
-    ensures { (m other : ModuleParts) → IsOf importer.now m → IfOk result (λ found. found ≡ first_of (fault_in importer.now m at.«module» other stands) (targets at.«module» (given at.decl (members (plain_declaration parsed.name_bytes (declaration parsed decl.now)))))) }
+    ensures { (m other : ModuleParts) → IsOf importer.now m
+        → IfOk result (λ found. found ≡ first_of (fault_in importer.now m at.«module» other stands)
+        (targets at.«module» (given at.decl (members (declared_of decl.now))))) }
 {
     match decl {
         Decl::Constant(_, _, _) => Ok(None),
@@ -115,7 +128,9 @@ fn numbered_fault(
     declarations: &Vec<Decl<Parsed>>,
 ) -> Result<Option<NameFault>, Memory>
     requires { IsReady importer.now }
-    ensures { (m other : ModuleParts) → IsOf importer.now m → IfOk result (λ found. found ≡ first_of (fault_in importer.now m at.«module» other stands) (members_at at.«module» at.decl (map (plain_declaration parsed.name_bytes) (map (declaration parsed) declarations.now.items)))) }
+    ensures { (m other : ModuleParts) → IsOf importer.now m
+        → IfOk result (λ found. found ≡ first_of (fault_in importer.now m at.«module» other stands)
+        (members_at at.«module» at.decl (all_declared declarations.now.items))) }
 {
     match declarations.get(at.decl as usize) {
         None => Ok(None),
@@ -132,7 +147,9 @@ fn file_fault(
     file: Option<&Whole<Parsed>>,
 ) -> Result<Option<NameFault>, Memory>
     requires { IsReady importer.now }
-    ensures { (m other : ModuleParts) → IsOf importer.now m → IfOk result (λ found. found ≡ first_of (fault_in importer.now m at.«module» other stands) (members_at at.«module» at.decl (declarations_seen (tree_seen file.entry)))) }
+    ensures { (m other : ModuleParts) → IsOf importer.now m
+        → IfOk result (λ found. found ≡ first_of (fault_in importer.now m at.«module» other stands)
+        (members_at at.«module» at.decl (declarations_seen (tree_seen file.entry)))) }
 {
     match file {
         None => Ok(None),
@@ -143,8 +160,8 @@ fn file_fault(
     }
 }
 
-/// What the cases or methods of a declaration of an interface are refused for. They stand at a place of the text. Where
-/// they have come along before and were refused for nothing, they are not walked again.
+/// What the cases or methods of a declaration of an interface are refused for. They stand at a place of the
+/// text. Where they have come along before and were refused for nothing, they are not walked again.
 fn fault_once(
     alloc: Global,
     importer: &Importer,
@@ -155,7 +172,9 @@ fn fault_once(
     requires ready { IsReady importer.now }
     requires within { at.«module» < length (program_of importer.now) }
     requires passed { AllPass importer.now passed.old }
-    ensures fault { (m other : ModuleParts) → IsOf importer.now m → slice_get (program_of importer.now) at.«module» ≡ Some other → IfOk result (λ found. found ≡ first_of (fault_in importer.now m at.«module» other stands) (members_in at other)) }
+    ensures fault { (m other : ModuleParts) → IsOf importer.now m → IsFrom importer.now at.«module» other
+        → IfOk result (λ found. found ≡ first_of (fault_in importer.now m at.«module» other stands)
+        (members_in at other)) }
     ensures passed { IfOk result (λ found. found ≡ None → AllPass importer.now passed.new) }
 {
     let fresh = passed.put(at)?;
@@ -167,8 +186,8 @@ fn fault_once(
     Ok(fault)
 }
 
-/// What is refused of the cases or methods that come along under a name from the module at a place, given those
-/// that were refused for nothing. They stand where the name stands.
+/// What is refused of the cases or methods that come along under a name from the module at a place, given
+/// those that were refused for nothing. They stand where the name stands.
 pub fn along_fault(
     alloc: Global,
     importer: &Importer,
@@ -179,7 +198,9 @@ pub fn along_fault(
     requires ready { IsReady importer.now }
     requires within { from < length (program_of importer.now) }
     requires passed { AllPass importer.now passed.old }
-    ensures along { (m other : ModuleParts) → IsOf importer.now m → slice_get (program_of importer.now) from ≡ Some other → IfOk result (λ found. found ≡ first_of (fault_in importer.now m from other name.now.at) (along from name.now.name (interface_of other))) }
+    ensures along { (m other : ModuleParts) → IsOf importer.now m → IsFrom importer.now from other
+        → IfOk result (λ found. found ≡ first_of (fault_in importer.now m from other name.now.at)
+        (along from name.now.name (interface_of other))) }
     ensures passed { IfOk result (λ found. found ≡ None → AllPass importer.now passed.new) }
 {
     match first_offered(importer, from as usize, Space::Types, name.name.as_bytes()) {

@@ -4,10 +4,9 @@ ghost use Rattle.std.specs.Prelude.{◌≡◌, ◌<◌, ◌^◌, IfOk, Some, len
 ghost use Rattle.std.specs.Option.{option_map};
 ghost use Rattle.au_modules.specs.Slots as slots;
 ghost use Rattle.au_name_faults.specs.Gathered.{AreOffers, last_offers, last_tables};
-ghost use Rattle.au_syntax.specs.Plain.{plain_declaration};
 ghost use Rattle.au_syntax.specs.Views.{declaration};
-ghost use Rattle.au_syntax.specs.contracts.parsed.ParsedPhase.TheImpl.{ghosts as parsed};
 ghost use Rattle.au_tables.specs.DeclaredNames.{numbered, table_of};
+ghost use Rattle.au_name_faults.specs.Written.{all_declared};
 
 use au_base::Memory;
 use au_modules::Modules;
@@ -21,8 +20,8 @@ use std::alloc::Global;
 /// What the interfaces of a program offer, made once.
 #[derive(Drop)]
 pub struct Offers {
-    /// The places of the modules and the names that each interface offers, with the number of the first declaration
-    /// of each.
+    /// The places of the modules and the names that each interface offers, with the number of the first
+    /// declaration of each.
     pub exports: Exports,
     /// The names that each interface offers, with the number of the last declaration of each.
     pub lasts: Vec<NameTables>,
@@ -35,7 +34,8 @@ fn last_table(
     declarations: &Vec<Decl<Parsed>>,
 ) -> Result<Table<u32>, Memory>
     requires { length declarations.now.items < 2 ^ 32 }
-    ensures { IfOk result (λ table. table ≡ table_of space (reverse (numbered 0 (map (plain_declaration parsed.name_bytes) (map (declaration parsed) declarations.now.items))))) }
+    ensures { IfOk result (λ table. table ≡ table_of space
+        (reverse (numbered 0 (all_declared declarations.now.items)))) }
 {
     let mut table = Table::new(alloc);
     let mut left = declarations.len();
@@ -49,7 +49,7 @@ fn last_table(
 /// The tables of declarations that are numbered from 0, from the last to the first.
 fn tables_back(alloc: Global, declarations: &Vec<Decl<Parsed>>) -> Result<NameTables, Memory>
     requires { length declarations.now.items < 2 ^ 32 }
-    ensures { IfOk result (λ names. names ≡ last_tables (map (plain_declaration parsed.name_bytes) (map (declaration parsed) declarations.now.items))) }
+    ensures { IfOk result (λ names. names ≡ last_tables (all_declared declarations.now.items)) }
 {
     let values = last_table(alloc, Space::Values, declarations)?;
     let callables = last_table(alloc, Space::Callables, declarations)?;
@@ -65,7 +65,8 @@ fn tables_back(alloc: Global, declarations: &Vec<Decl<Parsed>>) -> Result<NameTa
 /// declaration.
 fn last_offered(alloc: Global, modules: &Modules, place: usize) -> Result<NameTables, Memory>
     requires { place < length (slots.modules modules.now) }
-    ensures { IfOk result (λ names. option_map last_offers (slice_get (slots.modules modules.now) place) ≡ Some names) }
+    ensures { IfOk result (λ names. option_map last_offers (slice_get (slots.modules modules.now) place)
+        ≡ Some names) }
 {
     match modules.interface(place) {
         None => Ok(no_names(alloc)),

@@ -48,7 +48,9 @@ pub fn place_named(
     exports: &Exports,
     names: &Vec<Ident<Parsed>>,
 ) -> Result<Option<u16>, Memory>
-    ensures { IfOk result (λ found. found ≡ find (joined (map (plain_name parsed.name_bytes) (map (placed parsed) names.now.items))) exports.now.places) }
+    ensures { IfOk result (λ found. found
+        ≡ find (joined (map (plain_name parsed.name_bytes) (map (placed parsed) names.now.items)))
+        exports.now.places) }
 {
     let text = dotted_text(alloc, names)?;
     Ok(exports.places.get(past_first(text.as_bytes())).copied())
@@ -74,7 +76,8 @@ fn put_once(
 ) -> Result<(), Memory>
     requires within { at.«module» < length (slots.modules modules.now) }
     requires done { AreAlong (slots.modules modules.now) done.old table.old }
-    ensures members { (m : ModuleParts) → slice_get (slots.modules modules.now) at.«module» ≡ Some m → OnOk result (table.new ≡ with_all table.old (members_in at m)) }
+    ensures members { (m : ModuleParts) → slice_get (slots.modules modules.now) at.«module» ≡ Some m
+        → OnOk result (table.new ≡ with_all table.old (members_in at m)) }
     ensures done { OnOk result (AreAlong (slots.modules modules.now) done.new table.new) }
 {
     let fresh = done.put(at)?;
@@ -99,7 +102,8 @@ fn put_along(
     requires within { other < length (slots.modules modules.now) }
     requires made { AreExports exports.now (slots.modules modules.now) }
     requires done { AreAlong (slots.modules modules.now) done.old table.old }
-    ensures along { (m : ModuleParts) → slice_get (slots.modules modules.now) other ≡ Some m → OnOk result (table.new ≡ with_all table.old (along other name.now (interface_of m))) }
+    ensures along { (m : ModuleParts) → slice_get (slots.modules modules.now) other ≡ Some m
+        → OnOk result (table.new ≡ with_all table.old (along other name.now (interface_of m))) }
     ensures done { OnOk result (AreAlong (slots.modules modules.now) done.new table.new) }
 {
     let types = offered_names(exports, other as usize, Space::Types);
@@ -130,7 +134,9 @@ fn put_item(
     requires within { other < length (slots.modules modules.now) }
     requires made { AreExports exports.now (slots.modules modules.now) }
     requires done { AreAlong (slots.modules modules.now) done.old table.old }
-    ensures item { (m : ModuleParts) → slice_get (slots.modules modules.now) other ≡ Some m → OnOk result (table.new ≡ with_all table.old (brought space other m (plain_renaming parsed.name_bytes (renaming parsed item.now)))) }
+    ensures item { (m : ModuleParts) → slice_get (slots.modules modules.now) other ≡ Some m
+        → OnOk result (table.new ≡ with_all table.old
+        (brought space other m (plain_renaming parsed.name_bytes (renaming parsed item.now)))) }
     ensures done { OnOk result (AreAlong (slots.modules modules.now) done.new table.new) }
 {
     let name = item.name.name.as_bytes();
@@ -161,7 +167,10 @@ fn put_items(
     requires within { other < length (slots.modules modules.now) }
     requires made { AreExports exports.now (slots.modules modules.now) }
     requires done { AreAlong (slots.modules modules.now) done.old table.old }
-    ensures items { (m : ModuleParts) → slice_get (slots.modules modules.now) other ≡ Some m → OnOk result (table.new ≡ with_all table.old (flat_map (brought space other m) (map (plain_renaming parsed.name_bytes) (map (renaming parsed) items.now.items)))) }
+    ensures items { (m : ModuleParts) → slice_get (slots.modules modules.now) other ≡ Some m
+        → OnOk result (table.new ≡ with_all table.old
+        (flat_map (brought space other m) (map (plain_renaming parsed.name_bytes)
+        (map (renaming parsed) items.now.items)))) }
     ensures done { OnOk result (AreAlong (slots.modules modules.now) done.new table.new) }
 {
     for item in items {
@@ -184,7 +193,9 @@ fn put_import(
     requires within { place < length (slots.modules modules.now) }
     requires made { AreExports exports.now (slots.modules modules.now) }
     requires done { AreAlong (slots.modules modules.now) done.old table.old }
-    ensures import { OnOk result (table.new ≡ with_all table.old (brings space (slots.modules modules.now) place (plain_importing parsed.name_bytes (importing parsed import.now)))) }
+    ensures import { OnOk result (table.new ≡ with_all table.old
+        (brings space (slots.modules modules.now) place
+        (plain_importing parsed.name_bytes (importing parsed import.now)))) }
     ensures done { OnOk result (AreAlong (slots.modules modules.now) done.new table.new) }
 {
     let found = place_named(alloc, exports, &import.module)?;
@@ -214,7 +225,9 @@ fn put_imports(
 ) -> Result<(), Memory>
     requires within { place < length (slots.modules modules.now) }
     requires made { AreExports exports.now (slots.modules modules.now) }
-    ensures { OnOk result (table.new ≡ with_all table.old (imported space (slots.modules modules.now) place (map (plain_importing parsed.name_bytes) (map (importing parsed) imports.now.items)))) }
+    ensures { OnOk result (table.new ≡ with_all table.old
+        (imported space (slots.modules modules.now) place
+        (map (plain_importing parsed.name_bytes) (map (importing parsed) imports.now.items)))) }
 {
     let mut done = DeclSet::new(alloc);
     for import in imports {
@@ -242,7 +255,8 @@ pub fn put_imported(
 ) -> Result<(), Memory>
     requires within { place < length (slots.modules modules.now) }
     requires made { AreExports exports.now (slots.modules modules.now) }
-    ensures { OnOk result (table.new ≡ with_all table.old (imported space (slots.modules modules.now) place (imports_seen (tree_seen file.entry)))) }
+    ensures { OnOk result (table.new ≡ with_all table.old
+        (imported space (slots.modules modules.now) place (imports_seen (tree_seen file.entry)))) }
 {
     match file {
         None => Ok(()),

@@ -1,5 +1,29 @@
 -- Lists that agree, item by item.
-use Rattle.std.proofs.Common.{◌≡◌, ℕ, ◌+◌, ◌<◌, ◌≤◌, suc, Bool, true, false, ◌&&◌, List, [], ◌∷◌, length, map, drop, get_or, refl, sym, ap, ◌∙◌, add-one, drop-cons}
+use Rattle.std.proofs.Common.{
+  ◌≡◌,
+  ℕ,
+  ◌+◌,
+  ◌<◌,
+  ◌≤◌,
+  suc,
+  Bool,
+  true,
+  false,
+  ◌&&◌,
+  List,
+  [],
+  ◌∷◌,
+  length,
+  map,
+  drop,
+  get_or,
+  refl,
+  sym,
+  ap,
+  ◌∙◌,
+  add-one,
+  drop-cons,
+}
 use Rattle.std.proofs.lemmas.List.{drop_all}
 use denote.Enum.Bare.{sameb}
 use Rattle.au_syntax.specs.contracts.declarations.Universe.{the_type as universe}
@@ -27,7 +51,8 @@ universes_same universes.Region universes.AnyType = refl
 universes_same universes.Region universes.Region = refl
 
 -- what is left from an item on, of a list that is seen through two views
-left : {A B C : Type 0} (p : B → C) (v : A → B) (xs : List A) (i : ℕ) (x : A) → i < length xs → x ≡ get_or xs i x
+left : {A B C : Type 0} (p : B → C) (v : A → B) (xs : List A) (i : ℕ) (x : A)
+    → i < length xs → x ≡ get_or xs i x
     → map p (map v (drop i xs)) ≡ p (v x) ∷ map p (map v (drop (i + 1) xs))
 left p v xs i x h here =
     ap (λ r. map p (map v r)) (drop-cons xs i x h)
@@ -35,11 +60,13 @@ left p v xs i x h here =
     ∙ ap (λ n. p (v x) ∷ map p (map v (drop n xs))) (sym (add-one i))
 
 -- nothing is left
-none_left : {A B C : Type 0} (p : B → C) (v : A → B) (xs : List A) (i : ℕ) → length xs ≤ i → map p (map v (drop i xs)) ≡ []
+none_left : {A B C : Type 0} (p : B → C) (v : A → B) (xs : List A) (i : ℕ)
+    → length xs ≤ i → map p (map v (drop i xs)) ≡ []
 none_left p v xs i past = ap (λ r. map p (map v r)) (drop_all i xs past)
 
 module _ {A B C : Type 0} (agree : C → C → Bool) (p : B → C) (v : A → B) where
-  agree_cons : (x y : C) (xs ys : List C) → all_agree agree (x ∷ xs) (y ∷ ys) ≡ agree x y && all_agree agree xs ys
+  agree_cons : (x y : C) (xs ys : List C) → all_agree agree (x ∷ xs) (y ∷ ys)
+      ≡ agree x y && all_agree agree xs ys
   unfolding all_agree
   agree_cons x y xs ys = refl
 
@@ -48,25 +75,30 @@ module _ {A B C : Type 0} (agree : C → C → Bool) (p : B → C) (v : A → B)
   agree_nil = refl
 
   -- lists of two lengths don't agree
-  pub disagree : (xs ys : List A) → (length xs ≡ length ys → ⊥) → all_agree agree (map p (map v xs)) (map p (map v ys)) ≡ false
+  pub disagree : (xs ys : List A) → (length xs ≡ length ys → ⊥)
+      → all_agree agree (map p (map v xs)) (map p (map v ys)) ≡ false
   unfolding all_agree
   disagree [] [] differ = absurd (differ refl)
   disagree [] (y ∷ ys) differ = refl
   disagree (x ∷ xs) [] differ = refl
   disagree (x ∷ xs) (y ∷ ys) differ = by (agree (p (v x)) (p (v y))) (disagree xs ys (λ e. differ (ap suc e)))
     where
-      by : (b : Bool) → all_agree agree (map p (map v xs)) (map p (map v ys)) ≡ false → (b && all_agree agree (map p (map v xs)) (map p (map v ys))) ≡ false
+      by : (b : Bool) → all_agree agree (map p (map v xs)) (map p (map v ys)) ≡ false
+          → (b && all_agree agree (map p (map v xs)) (map p (map v ys))) ≡ false
       by true rest = rest
       by false rest = refl
 
   -- Two lists have one length, and those of their items that are left decide whether they agree.
   pub record AgreeSoFar (xs ys : List A) (i : ℕ) : Type 0 where
     pub lengths : length xs ≡ length ys
-    pub rest : all_agree agree (map p (map v xs)) (map p (map v ys)) ≡ all_agree agree (map p (map v (drop i xs))) (map p (map v (drop i ys)))
+    pub rest : all_agree agree (map p (map v xs)) (map p (map v ys))
+        ≡ all_agree agree (map p (map v (drop i xs))) (map p (map v (drop i ys)))
 
   -- the next two items decide
-  next : (xs ys : List A) (i : ℕ) (x y : A) → AgreeSoFar xs ys i → i < length xs → i < length ys → x ≡ get_or xs i x → y ≡ get_or ys i y
-      → all_agree agree (map p (map v xs)) (map p (map v ys)) ≡ agree (p (v x)) (p (v y)) && all_agree agree (map p (map v (drop (i + 1) xs))) (map p (map v (drop (i + 1) ys)))
+  next : (xs ys : List A) (i : ℕ) (x y : A) → AgreeSoFar xs ys i → i < length xs
+      → i < length ys → x ≡ get_or xs i x → y ≡ get_or ys i y
+      → all_agree agree (map p (map v xs)) (map p (map v ys)) ≡ agree (p (v x)) (p (v y))
+      && all_agree agree (map p (map v (drop (i + 1) xs))) (map p (map v (drop (i + 1) ys)))
   next xs ys i x y old h k here there =
       old.rest
       ∙ ap (λ r. all_agree agree r (map p (map v (drop i ys)))) (left p v xs i x h here)
@@ -74,21 +106,28 @@ module _ {A B C : Type 0} (agree : C → C → Bool) (p : B → C) (v : A → B)
       ∙ agree_cons (p (v x)) (p (v y)) (map p (map v (drop (i + 1) xs))) (map p (map v (drop (i + 1) ys)))
 
   -- two items more that agree
-  pub agree_next : (xs ys : List A) (i : ℕ) (x y : A) → AgreeSoFar xs ys i → i < length xs → i < length ys → x ≡ get_or xs i x → y ≡ get_or ys i y
+  pub agree_next : (xs ys : List A) (i : ℕ) (x y : A) → AgreeSoFar xs ys i
+      → i < length xs → i < length ys → x ≡ get_or xs i x → y ≡ get_or ys i y
       → agree (p (v x)) (p (v y)) ≡ true → AgreeSoFar xs ys (i + 1)
   agree_next xs ys i x y old h k here there same = record {
     lengths = old.lengths;
-    rest = next xs ys i x y old h k here there ∙ ap (λ b. b && all_agree agree (map p (map v (drop (i + 1) xs))) (map p (map v (drop (i + 1) ys)))) same;
+    rest = next xs ys i x y old h k here there
+        ∙ ap (λ b. b && all_agree agree (map p (map v (drop (i + 1) xs))) (map p (map v (drop (i + 1) ys))))
+        same;
   }
 
   -- two items that don't agree
-  pub agree_not : (xs ys : List A) (i : ℕ) (x y : A) → AgreeSoFar xs ys i → i < length xs → i < length ys → x ≡ get_or xs i x → y ≡ get_or ys i y
+  pub agree_not : (xs ys : List A) (i : ℕ) (x y : A) → AgreeSoFar xs ys i
+      → i < length xs → i < length ys → x ≡ get_or xs i x → y ≡ get_or ys i y
       → agree (p (v x)) (p (v y)) ≡ false → false ≡ all_agree agree (map p (map v xs)) (map p (map v ys))
   agree_not xs ys i x y old h k here there differ =
-      sym (next xs ys i x y old h k here there ∙ ap (λ b. b && all_agree agree (map p (map v (drop (i + 1) xs))) (map p (map v (drop (i + 1) ys)))) differ)
+      sym (next xs ys i x y old h k here there
+      ∙ ap (λ b. b && all_agree agree (map p (map v (drop (i + 1) xs))) (map p (map v (drop (i + 1) ys))))
+      differ)
 
   -- all have agreed
-  pub agree_end : (xs ys : List A) (i : ℕ) → AgreeSoFar xs ys i → length xs ≤ i → length ys ≤ i → true ≡ all_agree agree (map p (map v xs)) (map p (map v ys))
+  pub agree_end : (xs ys : List A) (i : ℕ) → AgreeSoFar xs ys i → length xs ≤ i
+      → length ys ≤ i → true ≡ all_agree agree (map p (map v xs)) (map p (map v ys))
   agree_end xs ys i old h k =
       sym
       (old.rest

@@ -1,5 +1,42 @@
 -- Where the definitions of a body stand, and which is found.
-use Rattle.std.proofs.Common.{◌≡◌, ℕ, ◌+◌, ◌<◌, ◌≤◌, ◌⊎◌, inl, inr, suc, Bool, true, false, cond, List, [], ◌∷◌, ◌++◌, length, map, find, take, drop, get_or, Option, None, Some, is_some, refl, sym, ap, ◌∙◌, subst, true≢false, add-one, drop-cons, arith}
+use Rattle.std.proofs.Common.{
+  ◌≡◌,
+  ℕ,
+  ◌+◌,
+  ◌<◌,
+  ◌≤◌,
+  ◌⊎◌,
+  inl,
+  inr,
+  suc,
+  Bool,
+  true,
+  false,
+  cond,
+  List,
+  [],
+  ◌∷◌,
+  ◌++◌,
+  length,
+  map,
+  find,
+  take,
+  drop,
+  get_or,
+  Option,
+  None,
+  Some,
+  is_some,
+  refl,
+  sym,
+  ap,
+  ◌∙◌,
+  subst,
+  true≢false,
+  add-one,
+  drop-cons,
+  arith,
+}
 use Rattle.std.specs.Prelude.{◌||◌, min, position, slice_get}
 use Rattle.std.specs.Borrow.{Bor}
 use Rattle.std.specs.List.{position_from, position_or_len}
@@ -21,7 +58,15 @@ use Rattle.au_promises.specs.declared.definitions.ByName.{ByName}
 use Rattle.au_promises.specs.declared.definitions.Sort.{Sort}
 use Rattle.au_promises.specs.declared.definitions.Sort.TheVariants.{Constants, Types, Functions}
 use Rattle.au_promises.specs.Promises.{is_name}
-use Rattle.au_promises.specs.Defining.{name_defined, has_key, with_name, table_of, AreNamed, AreFirst, earlier}
+use Rattle.au_promises.specs.Defining.{
+  name_defined,
+  has_key,
+  with_name,
+  table_of,
+  AreNamed,
+  AreFirst,
+  earlier,
+}
 
 -- ---- options
 
@@ -48,7 +93,8 @@ nothing_found (x ∷ xs) = nothing_found xs
 
 module _ {A B C : Type 0} (p : B → C) (v : A → B) where
   -- what is seen so far, and one more
-  seen_more : (xs : List A) (i : ℕ) (x : A) → i < length xs → x ≡ get_or xs i x → map p (map v (take (i + 1) xs)) ≡ map p (map v (take i xs)) ++ p (v x) ∷ []
+  seen_more : (xs : List A) (i : ℕ) (x : A) → i < length xs → x ≡ get_or xs i x
+      → map p (map v (take (i + 1) xs)) ≡ map p (map v (take i xs)) ++ p (v x) ∷ []
   seen_more xs i x h here =
       ap (λ r. map p (map v r)) (take_more xs i x h)
       ∙ ap (λ y. map p (map v (take i xs ++ y ∷ []))) (sym here)
@@ -56,24 +102,30 @@ module _ {A B C : Type 0} (p : B → C) (v : A → B) where
       ∙ map-append p (map v (take i xs)) (v x ∷ [])
 
   -- what is seen at an index
-  seen_at : (xs : List A) (i : ℕ) (x : A) → i < length xs → x ≡ get_or xs i x → slice_get (map p (map v xs)) i ≡ Some (p (v x))
+  seen_at : (xs : List A) (i : ℕ) (x : A) → i < length xs → x ≡ get_or xs i x
+      → slice_get (map p (map v xs)) i ≡ Some (p (v x))
   seen_at xs i x h here =
-      slice_get-map p (map v xs) i ∙ ap (option_map p) (slice_get-map v xs i) ∙ ap (λ o. option_map p (option_map v o)) (slice_get_read xs (length xs) i x refl h here)
+      slice_get-map p (map v xs) i ∙ ap (option_map p) (slice_get-map v xs i)
+      ∙ ap (λ o. option_map p (option_map v o)) (slice_get_read xs (length xs) i x refl h here)
 
   -- what is got at an index, as it is seen
-  pub seen_got : (xs : List A) (i : ℕ) (r : Option (Bor A)) → is_some r ≡ ltb i (length xs) → IfSome r (λ b. b.now ≡ get_or xs i b.now)
+  pub seen_got : (xs : List A) (i : ℕ) (r : Option (Bor A)) → is_some r ≡ ltb i (length xs)
+      → IfSome r (λ b. b.now ≡ get_or xs i b.now)
       → option_map (λ b. p (v b.now)) r ≡ slice_get (map p (map v xs)) i
   seen_got xs i r has is = by r (cases_lt i (length xs)) has is
     where
-      by : (r : Option (Bor A)) → (i < length xs) ⊎ (length xs ≤ i) → is_some r ≡ ltb i (length xs) → IfSome r (λ b. b.now ≡ get_or xs i b.now)
+      by : (r : Option (Bor A)) → (i < length xs) ⊎ (length xs ≤ i) → is_some r ≡ ltb i (length xs)
+          → IfSome r (λ b. b.now ≡ get_or xs i b.now)
           → option_map (λ b. p (v b.now)) r ≡ slice_get (map p (map v xs)) i
       by None (inl less) has is = absurd (true≢false (sym (has ∙ lt-ltb i (length xs) less)))
-      by None (inr more) has is = sym (slice_get-map p (map v xs) i ∙ ap (option_map p) (slice_get-map v xs i) ∙ ap (λ o. option_map p (option_map v o)) (slice_get_past xs i more))
+      by None (inr more) has is = sym (slice_get-map p (map v xs) i ∙ ap (option_map p) (slice_get-map v xs i)
+          ∙ ap (λ o. option_map p (option_map v o)) (slice_get_past xs i more))
       by (Some b) (inl less) has is = sym (seen_at xs i b.now less is)
       by (Some b) (inr more) has is = absurd (true≢false (has ∙ le-ltb i (length xs) more))
 
   -- what is left from an item on
-  pub seen_left : (xs : List A) (i : ℕ) (x : A) → i < length xs → x ≡ get_or xs i x → map p (map v (drop i xs)) ≡ p (v x) ∷ map p (map v (drop (i + 1) xs))
+  pub seen_left : (xs : List A) (i : ℕ) (x : A) → i < length xs → x ≡ get_or xs i x
+      → map p (map v (drop i xs)) ≡ p (v x) ∷ map p (map v (drop (i + 1) xs))
   seen_left xs i x h here =
       ap (λ r. map p (map v r)) (drop-cons xs i x h)
       ∙ ap (λ y. p (v y) ∷ map p (map v (drop (suc i) xs))) (sym here)
@@ -82,26 +134,33 @@ module _ {A B C : Type 0} (p : B → C) (v : A → B) where
 -- ---- tables
 
 module _ {V : Type 0} where
-  find_behind : (name : Bytes) (pairs more : List (Bytes × V)) → tables.find name (pairs ++ more) ≡ option_or (tables.find name pairs) (tables.find name more)
+  find_behind : (name : Bytes) (pairs more : List (Bytes × V))
+      → tables.find name (pairs ++ more) ≡ option_or (tables.find name pairs) (tables.find name more)
   find_behind name [] more = refl
   find_behind name (q ∷ qs) more = by (bytes_eq name q.0) (find_behind name qs more)
     where
-      by : (b : Bool) → tables.find name (qs ++ more) ≡ option_or (tables.find name qs) (tables.find name more)
-          → cond b (Some q.1) (tables.find name (qs ++ more)) ≡ option_or (cond b (Some q.1) (tables.find name qs)) (tables.find name more)
+      by : (b : Bool) → tables.find name (qs ++ more) ≡ option_or (tables.find name qs)
+          (tables.find name more)
+          → cond b (Some q.1) (tables.find name (qs ++ more))
+          ≡ option_or (cond b (Some q.1) (tables.find name qs)) (tables.find name more)
       by true rest = refl
       by false rest = rest
 
   -- what is found once a value is put under a name
   find_put : (name : Bytes) (pairs : List (Bytes × V)) (other : Bytes) (value : V)
-      → tables.find name (with_pair pairs other value) ≡ option_or (tables.find name pairs) (cond (bytes_eq name other) (Some value) None)
+      → tables.find name (with_pair pairs other value) ≡ option_or (tables.find name pairs)
+      (cond (bytes_eq name other) (Some value) None)
   find_put name pairs other value = by (has_name other pairs) (bytes_eq name other) refl refl
     where
       by : (h b : Bool) → has_name other pairs ≡ h → bytes_eq name other ≡ b
-          → tables.find name (with_pair pairs other value) ≡ option_or (tables.find name pairs) (cond (bytes_eq name other) (Some value) None)
-      by false b e k = ap (tables.find name) (with_pair-new pairs other value e) ∙ find_behind name pairs ((other, value) ∷ [])
+          → tables.find name (with_pair pairs other value) ≡ option_or (tables.find name pairs)
+          (cond (bytes_eq name other) (Some value) None)
+      by false b e k = ap (tables.find name) (with_pair-new pairs other value e)
+          ∙ find_behind name pairs ((other, value) ∷ [])
       by true false e k =
           ap (tables.find name) (with_pair-old pairs other value e)
-          ∙ sym (ap (λ c. option_or (tables.find name pairs) (cond c (Some value) None)) k ∙ or_none (tables.find name pairs))
+          ∙ sym (ap (λ c. option_or (tables.find name pairs) (cond c (Some value) None)) k
+          ∙ or_none (tables.find name pairs))
       by true true e k =
           let has : Bytes → Type 0 = λ n. has_name n pairs ≡ true in
           let there : has_name name pairs ≡ true = subst has (sym ((bytes_eq-Decides name other).0 k)) e in
@@ -115,21 +174,28 @@ module _ {A : Type 0} (p : A → Bool) where
   find_place : (xs : List A) → option_and_then (slice_get xs) (position p xs) ≡ find p xs
   find_place xs = by (cases_lt (position_or_len p xs) (length xs))
     where
-      by : (position_or_len p xs < length xs) ⊎ (length xs ≤ position_or_len p xs) → option_and_then (slice_get xs) (position p xs) ≡ find p xs
+      by : (position_or_len p xs < length xs) ⊎ (length xs ≤ position_or_len p xs)
+          → option_and_then (slice_get xs) (position p xs) ≡ find p xs
       by (inl less) =
-          ap (λ b. option_and_then (slice_get xs) (cond b (Some (position_or_len p xs)) None)) (lt-ltb (position_or_len p xs) (length xs) less)
+          ap (λ b. option_and_then (slice_get xs) (cond b (Some (position_or_len p xs)) None))
+          (lt-ltb (position_or_len p xs) (length xs) less)
           ∙ sym (find_at p xs)
       by (inr more) =
-          ap (λ b. option_and_then (slice_get xs) (cond b (Some (position_or_len p xs)) None)) (le-ltb (position_or_len p xs) (length xs) more)
+          ap (λ b. option_and_then (slice_get xs) (cond b (Some (position_or_len p xs)) None))
+          (le-ltb (position_or_len p xs) (length xs) more)
           ∙ sym (find_at p xs ∙ slice_get_past xs (position_or_len p xs) more)
 
   -- one more is behind
-  place_more : (n : ℕ) (xs : List A) (y : A) → position_from p n (xs ++ y ∷ []) ≡ option_or (position_from p n xs) (cond (p y) (Some (n + length xs)) None)
+  place_more : (n : ℕ) (xs : List A) (y : A) → position_from p n (xs ++ y ∷ [])
+      ≡ option_or (position_from p n xs) (cond (p y) (Some (n + length xs)) None)
   place_more n [] y = let e : n ≡ n + 0 = omega arith in ap (λ k. cond (p y) (Some k) None) e
   place_more n (x ∷ xs) y = by (p x) (place_more (n + 1) xs y)
     where
-      by : (b : Bool) → position_from p (n + 1) (xs ++ y ∷ []) ≡ option_or (position_from p (n + 1) xs) (cond (p y) (Some (n + 1 + length xs)) None)
-          → cond b (Some n) (position_from p (n + 1) (xs ++ y ∷ [])) ≡ option_or (cond b (Some n) (position_from p (n + 1) xs)) (cond (p y) (Some (n + suc (length xs))) None)
+      by : (b : Bool) → position_from p (n + 1) (xs ++ y ∷ []) ≡ option_or (position_from p (n + 1) xs)
+          (cond (p y) (Some (n + 1 + length xs)) None)
+          → cond b (Some n) (position_from p (n + 1) (xs ++ y ∷ []))
+          ≡ option_or (cond b (Some n) (position_from p (n + 1) xs))
+          (cond (p y) (Some (n + suc (length xs))) None)
       by true rest = refl
       by false rest =
           let e : n + 1 + length xs ≡ n + suc (length xs) = omega arith in
@@ -140,7 +206,8 @@ module _ {A : Type 0} (p : A → Bool) where
   place_behind i n [] h = refl
   place_behind i n (x ∷ xs) h = by (p x) (place_behind i (n + 1) xs (omega arith))
     where
-      by : (b : Bool) → earlier (Some i) (position_from p (n + 1) xs) ≡ Some i → earlier (Some i) (cond b (Some n) (position_from p (n + 1) xs)) ≡ Some i
+      by : (b : Bool) → earlier (Some i) (position_from p (n + 1) xs) ≡ Some i
+          → earlier (Some i) (cond b (Some n) (position_from p (n + 1) xs)) ≡ Some i
       by true rest = let e : min i n ≡ i = omega arith in ap Some e
       by false rest = rest
 
@@ -148,18 +215,23 @@ module _ {A : Type 0} (p : A → Bool) where
   place_after i n [] h = refl
   place_after i n (x ∷ xs) h = by (p x) (place_after i (n + 1) xs (omega arith))
     where
-      by : (b : Bool) → earlier (position_from p (n + 1) xs) (Some i) ≡ Some i → earlier (cond b (Some n) (position_from p (n + 1) xs)) (Some i) ≡ Some i
+      by : (b : Bool) → earlier (position_from p (n + 1) xs) (Some i) ≡ Some i
+          → earlier (cond b (Some n) (position_from p (n + 1) xs)) (Some i) ≡ Some i
       by true rest = let e : min n i ≡ i = omega arith in ap Some e
       by false rest = rest
 
 module _ {A : Type 0} (p q : A → Bool) where
   -- two tests of which one passes
-  place_either : (n : ℕ) (xs : List A) → earlier (position_from p n xs) (position_from q n xs) ≡ position_from (λ x. p x || q x) n xs
+  place_either : (n : ℕ) (xs : List A) → earlier (position_from p n xs) (position_from q n xs)
+      ≡ position_from (λ x. p x || q x) n xs
   place_either n [] = refl
   place_either n (x ∷ xs) = by (p x) (q x) (place_either (n + 1) xs)
     where
-      by : (b c : Bool) → earlier (position_from p (n + 1) xs) (position_from q (n + 1) xs) ≡ position_from (λ x. p x || q x) (n + 1) xs
-          → earlier (cond b (Some n) (position_from p (n + 1) xs)) (cond c (Some n) (position_from q (n + 1) xs)) ≡ cond (b || c) (Some n) (position_from (λ x. p x || q x) (n + 1) xs)
+      by : (b c : Bool) → earlier (position_from p (n + 1) xs) (position_from q (n + 1) xs)
+          ≡ position_from (λ x. p x || q x) (n + 1) xs
+          → earlier (cond b (Some n) (position_from p (n + 1) xs))
+          (cond c (Some n) (position_from q (n + 1) xs)) ≡ cond (b || c) (Some n)
+          (position_from (λ x. p x || q x) (n + 1) xs)
       by true true rest = let e : min n n ≡ n = omega arith in ap Some e
       by true false rest = place_behind q n (n + 1) xs (omega arith)
       by false true rest = place_after p n (n + 1) xs (omega arith)
@@ -176,7 +248,8 @@ module _ {A : Type 0} (p q : A → Bool) where
   position_alike same xs = position_from-zero p xs ∙ place_alike same 0 xs ∙ sym (position_from-zero q xs)
 
 -- what passes one of two tests, by the first of each
-pub position_either : {A : Type 0} (p q r : A → Bool) → ((x : A) → (p x || q x) ≡ r x) → (xs : List A) → earlier (position p xs) (position q xs) ≡ position r xs
+pub position_either : {A : Type 0} (p q r : A → Bool) → ((x : A) → (p x || q x) ≡ r x)
+    → (xs : List A) → earlier (position p xs) (position q xs) ≡ position r xs
 position_either p q r same xs =
     ap (λ o. earlier o (position q xs)) (position_from-zero p xs)
     ∙ ap (earlier (position_from p 0 xs)) (position_from-zero q xs)
@@ -187,10 +260,14 @@ position_either p q r same xs =
 -- ---- what is found by a key
 
 -- one more declaration is visited
-module _ (key_of : PlainDeclaration → Option Bytes) (some : List PlainDeclaration) (before : List (Bytes × ℕ)) (i : ℕ) (one : PlainDeclaration) (here : i ≡ 0 + length some) (old : AreFirst key_of some before) where
-  put_named : (found : Option Bytes) (name : Bytes) → tables.find name (with_name before found i) ≡ option_or (position (has_key key_of name) some) (cond (is_name name found) (Some i) None)
+module _ (key_of : PlainDeclaration → Option Bytes) (some : List PlainDeclaration)
+    (before : List (Bytes × ℕ)) (i : ℕ) (one : PlainDeclaration) (here : i ≡ 0 + length some)
+    (old : AreFirst key_of some before) where
+  put_named : (found : Option Bytes) (name : Bytes) → tables.find name (with_name before found i)
+      ≡ option_or (position (has_key key_of name) some) (cond (is_name name found) (Some i) None)
   put_named None name = old name ∙ sym (or_none (position (has_key key_of name) some))
-  put_named (Some other) name = find_put name before other i ∙ ap (λ r. option_or r (cond (bytes_eq name other) (Some i) None)) (old name)
+  put_named (Some other) name = find_put name before other i
+      ∙ ap (λ r. option_or r (cond (bytes_eq name other) (Some i) None)) (old name)
 
   first_more : AreFirst key_of (some ++ one ∷ []) (with_name before (key_of one) i)
   first_more name =
@@ -202,11 +279,14 @@ module _ (key_of : PlainDeclaration → Option Bytes) (some : List PlainDeclarat
       ∙ sym (position_from-zero p (some ++ one ∷ []))
 
 -- no declaration is visited
-pub first_none : (key_of : PlainDeclaration → Option Bytes) (table : List (Bytes × ℕ)) → table ≡ [] → AreFirst key_of [] table
+pub first_none : (key_of : PlainDeclaration → Option Bytes) (table : List (Bytes × ℕ))
+    → table ≡ [] → AreFirst key_of [] table
 first_none key_of table none name = ap (tables.find name) none
 
 -- the declaration at an index is visited, as it is seen through two views
-pub first_next : {A B : Type 0} (p : B → PlainDeclaration) (v : A → B) (key_of : PlainDeclaration → Option Bytes) (before after : List (Bytes × ℕ)) (xs : List A) (i : ℕ) (x : A) → i < length xs → x ≡ get_or xs i x
+pub first_next : {A B : Type 0} (p : B → PlainDeclaration) (v : A → B)
+    (key_of : PlainDeclaration → Option Bytes) (before after : List (Bytes × ℕ)) (xs : List A) (i : ℕ) (x : A)
+    → i < length xs → x ≡ get_or xs i x
     → AreFirst key_of (map p (map v (take i xs))) before → after ≡ with_name before (key_of (p (v x))) i
     → AreFirst key_of (map p (map v (take (i + 1) xs))) after
 first_next p v key_of before after xs i x h here old new name =
@@ -217,20 +297,25 @@ first_next p v key_of before after xs i x h here old new name =
     ∙ ap (position (has_key key_of name)) (sym (seen_more p v xs i x h here))
 
 -- all are visited
-pub first_all : {A B : Type 0} (p : B → PlainDeclaration) (v : A → B) (key_of : PlainDeclaration → Option Bytes) (table : List (Bytes × ℕ)) (xs : List A) (i : ℕ) → length xs ≤ i
+pub first_all : {A B : Type 0} (p : B → PlainDeclaration) (v : A → B) (key_of : PlainDeclaration
+    → Option Bytes) (table : List (Bytes × ℕ)) (xs : List A) (i : ℕ) → length xs ≤ i
     → AreFirst key_of (map p (map v (take i xs))) table → AreFirst key_of (map p (map v xs)) table
-first_all p v key_of table xs i past old name = old name ∙ ap (λ r. position (has_key key_of name) (map p (map v r))) (take_all i xs past)
+first_all p v key_of table xs i past old name = old name
+    ∙ ap (λ r. position (has_key key_of name) (map p (map v r))) (take_all i xs past)
 
 -- the table of a sort finds the first of this sort
-pub first_of : (sort : Sort) (all : List PlainDeclaration) (names : ByName) → AreNamed all names → AreFirst (name_defined sort) all (table_of sort names)
+pub first_of : (sort : Sort) (all : List PlainDeclaration) (names : ByName)
+    → AreNamed all names → AreFirst (name_defined sort) all (table_of sort names)
 first_of Constants all names are = are.constants
 first_of Types all names are = are.types
 first_of Functions all names are = are.functions
 
 -- the declaration at the index of the first that passes a test is the first
-pub first_there : (p : PlainDeclaration → Bool) (all : List PlainDeclaration) (index : Option ℕ) (i : ℕ) → index ≡ position p all → index ≡ Some i → slice_get all i ≡ find p all
+pub first_there : (p : PlainDeclaration → Bool) (all : List PlainDeclaration) (index : Option ℕ) (i : ℕ)
+    → index ≡ position p all → index ≡ Some i → slice_get all i ≡ find p all
 first_there p all index i is some = ap (option_and_then (slice_get all)) (sym some ∙ is) ∙ find_place p all
 
 -- none is where there is no index
-pub first_missing : (p : PlainDeclaration → Bool) (all : List PlainDeclaration) (index : Option ℕ) → index ≡ position p all → index ≡ None → None ≡ find p all
+pub first_missing : (p : PlainDeclaration → Bool) (all : List PlainDeclaration) (index : Option ℕ)
+    → index ≡ position p all → index ≡ None → None ≡ find p all
 first_missing p all index is none = ap (option_and_then (slice_get all)) (sym none ∙ is) ∙ find_place p all

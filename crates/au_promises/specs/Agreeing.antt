@@ -88,7 +88,8 @@ module _ (sight : Sight) where
 
   -- a written type of the interface and one of the body, each with its type parameters, mean one type
   abbrev pub same_type : List Parameter → WrittenType → List Parameter → WrittenType → Bool
-  same_type scope t other u = same_meaning (meant [] scope sight.interface sight.rows t) (meant [] other sight.body sight.rows u)
+  same_type scope t other u = same_meaning (meant [] scope sight.interface sight.rows t)
+      (meant [] other sight.body sight.rows u)
 
   -- two type parameters behind `generic`, with the classes of their constraints in order
   abbrev pub same_generic : Constrained Bytes → Constrained Bytes → Bool
@@ -100,8 +101,11 @@ module _ (sight : Sight) where
 
   -- the parameters and the results of two functions, each with its type parameters
   abbrev pub same_signature : List Parameter → Header Bytes → List Parameter → Header Bytes → Bool
-  same_signature scope h other k = all_agree (same_labelled scope other) h.parameters k.parameters && same_type scope h.result other k.result
+  same_signature scope h other k = all_agree (same_labelled scope other) h.parameters k.parameters
+      && same_type scope h.result other k.result
 
   -- two functions: their type parameters, parameters and results
-  abbrev pub same_function : List (Constrained Bytes) → Header Bytes → List (Constrained Bytes) → Header Bytes → Bool
-  same_function generics h others k = all_agree same_generic generics others && same_signature (scope_of generics) h (scope_of others) k
+  abbrev pub same_function : List (Constrained Bytes) → Header Bytes → List (Constrained Bytes)
+      → Header Bytes → Bool
+  same_function generics h others k = all_agree same_generic generics others
+      && same_signature (scope_of generics) h (scope_of others) k

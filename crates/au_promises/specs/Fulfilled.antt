@@ -3,7 +3,20 @@
 -- and the first such definition has the same type parameters, parameters, types and universe.
 use Rattle.std.specs.Prelude.{◌≡◌, ◌⊎◌, ℕ, List, [], ◌∷◌, ◌++◌, Option, None, Some, Contains, slice_get}
 use Rattle.au_syntax.specs.declared.declarations.Universe.{Universe}
-use Rattle.au_syntax.specs.Modules.{InUniverse, Constrained, Header, constant, opaque_type, record_type, union_type, function, instance, constant_body, function_body, instance_body}
+use Rattle.au_syntax.specs.Modules.{
+  InUniverse,
+  Constrained,
+  Header,
+  constant,
+  opaque_type,
+  record_type,
+  union_type,
+  function,
+  instance,
+  constant_body,
+  function_body,
+  instance_body,
+}
 use Rattle.au_syntax.specs.Names.{Placed}
 use Rattle.au_syntax.specs.Plain.{Bytes, PlainDeclaration, PlainModule}
 use Rattle.au_syntax.specs.Types.{WrittenType, WrittenTypes, named, reference, no_types, types, Labelled}
@@ -58,13 +71,15 @@ module _ (sight : Sight) where
 
     -- two words say the same
     abbrev pub SameWord : Bytes → Bytes → Type 0
-    SameWord a b = SayTheSame a b (declaration_meant scope sight.interface sight.rows a) (declaration_meant other sight.body sight.rows b)
+    SameWord a b = SayTheSame a b (declaration_meant scope sight.interface sight.rows a)
+        (declaration_meant other sight.body sight.rows b)
 
     abbrev mutual
       -- two written types are the same word for word
       pub SameWording : WrittenType → WrittenType → Type 0
       SameWording (named a args) (named b others) = SameWord a.name b.name × SameWordings args others
-      SameWording (reference at kind t r) (reference by its u s) = (kind ≡ its) × SameWord r.name s.name × SameWording t u
+      SameWording (reference at kind t r) (reference by its u s) = (kind ≡ its)
+          × SameWord r.name s.name × SameWording t u
       SameWording t u = ⊥
 
       -- so are arguments, each with that in its place
@@ -87,7 +102,8 @@ module _ (sight : Sight) where
 
   -- a declaration of the body defines an instance of this class for this written type
   abbrev pub DefinesInstance : List Parameter → Placed Bytes → WrittenType → PlainDeclaration → Type 0
-  DefinesInstance scope name t (instance_body at generics other u methods) = SameClass name other × SameWritten scope (scope_of generics) t u
+  DefinesInstance scope name t (instance_body at generics other u methods) =
+      SameClass name other × SameWritten scope (scope_of generics) t u
   DefinesInstance scope name t d = ⊥
 
   -- A declaration of the body defines a promise: it is a definition of the sort and the name, and for an
@@ -106,13 +122,16 @@ module _ (sight : Sight) where
 
   -- a definition has these type parameters and this universe
   abbrev pub OfHeading : List (InUniverse Bytes) → Universe → PlainDeclaration → Type 0
-  OfHeading parameters universe (record_type at name others its fields) = Each SameParameter parameters others × (universe ≡ its)
-  OfHeading parameters universe (union_type at name others its cases) = Each SameParameter parameters others × (universe ≡ its)
+  OfHeading parameters universe (record_type at name others its fields) =
+      Each SameParameter parameters others × (universe ≡ its)
+  OfHeading parameters universe (union_type at name others its cases) = Each SameParameter parameters others
+      × (universe ≡ its)
   OfHeading parameters universe d = ⊥
 
   -- a definition has these type parameters, parameters and this result
   abbrev pub OfSignature : List (Constrained Bytes) → Header Bytes → PlainDeclaration → Type 0
-  OfSignature generics header (function_body at others its body stop) = Each SameGeneric generics others × SameSignature (scope_of generics) (scope_of others) header its
+  OfSignature generics header (function_body at others its body stop) = Each SameGeneric generics others
+      × SameSignature (scope_of generics) (scope_of others) header its
   OfSignature generics header d = ⊥
 
   -- a definition has these type parameters
@@ -129,7 +148,8 @@ module _ (sight : Sight) where
   Agrees promise d = ⊥
 
   -- the first definition of a promise among the declarations of the body: none before it is one
-  pub record IsFirst (promise : PlainDeclaration) (body : List PlainDeclaration) (d : PlainDeclaration) : Type 0 where
+  pub record IsFirst (promise : PlainDeclaration) (body : List PlainDeclaration)
+      (d : PlainDeclaration) : Type 0 where
     pub before : List PlainDeclaration
     pub after : List PlainDeclaration
     pub stands : body ≡ before ++ d ∷ after
@@ -143,11 +163,13 @@ module _ (sight : Sight) where
   -- A body fulfils an interface.
   abbrev pub Fulfils : PlainModule → PlainModule → Type 0
   Fulfils interface body =
-      (promise : PlainDeclaration) (name : Bytes) → Contains interface.declarations promise → promised promise ≡ Some name
+      (promise : PlainDeclaration) (name : Bytes) → Contains interface.declarations promise
+      → promised promise ≡ Some name
       → IsKept body.declarations promise
 
 -- Every body of a program fulfils its interface, as names mean in the two parts of its module.
 abbrev pub AllFulfil : List ModuleParts → Type 0
 AllFulfil program =
     (place : ℕ) (m : ModuleParts) (interface body : Entry) → slice_get program place ≡ Some m
-    → m.interface ≡ Some interface → m.body ≡ Some body → Fulfils (sight_of program place m) interface.tree body.tree
+    → m.interface ≡ Some interface → m.body ≡ Some body
+    → Fulfils (sight_of program place m) interface.tree body.tree

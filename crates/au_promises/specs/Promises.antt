@@ -1,11 +1,39 @@
 -- What the interface of a module promises, and what its body is refused for: each constant, opaque type,
 -- function and instance of the interface has a definition in the body, and the first of them agrees with it.
-use Rattle.std.specs.Prelude.{◌+◌, ℕ, Bool, false, ◌&&◌, List, [], ◌∷◌, Option, None, Some, find, if◌then◌else◌}
+use Rattle.std.specs.Prelude.{
+  ◌+◌,
+  ℕ,
+  Bool,
+  false,
+  ◌&&◌,
+  List,
+  [],
+  ◌∷◌,
+  Option,
+  None,
+  Some,
+  find,
+  if◌then◌else◌,
+}
 use Rattle.std.specs.Option.{option_or}
 use Rattle.std.specs.Str.{bytes_eq}
 use Rattle.au_base.specs.declared.places.Pos.{Pos}
 use Rattle.au_syntax.specs.declared.declarations.Universe.{Universe}
-use Rattle.au_syntax.specs.Modules.{InUniverse, Constrained, Header, constant, opaque_type, record_type, union_type, function, class, instance, constant_body, function_body, instance_body}
+use Rattle.au_syntax.specs.Modules.{
+  InUniverse,
+  Constrained,
+  Header,
+  constant,
+  opaque_type,
+  record_type,
+  union_type,
+  function,
+  class,
+  instance,
+  constant_body,
+  function_body,
+  instance_body,
+}
 use Rattle.au_syntax.specs.Names.{Placed}
 use Rattle.au_syntax.specs.Plain.{Bytes, PlainDeclaration, PlainModule}
 use Rattle.au_syntax.specs.Types.{WrittenType}
@@ -14,7 +42,18 @@ use Rattle.au_modules.specs.Seen.{interface_tree, body_tree}
 use Rattle.au_types.specs.declared.parameters.Parameter.{Parameter}
 use Rattle.au_promises.specs.declared.faults.PromiseFault.{PromiseFault}
 use Rattle.au_promises.specs.declared.faults.PromiseFault.TheVariants.{NotDefined, Differs}
-use Rattle.au_promises.specs.Agreeing.{all_agree, same_class, same_function, same_generic, same_parameter, same_type, same_universe, scope_of, Sight, sight_of}
+use Rattle.au_promises.specs.Agreeing.{
+  all_agree,
+  same_class,
+  same_function,
+  same_generic,
+  same_parameter,
+  same_type,
+  same_universe,
+  scope_of,
+  Sight,
+  sight_of,
+}
 use Rattle.au_promises.specs.Wording.{same_written}
 
 -- the place of a declaration's first token
@@ -62,22 +101,28 @@ is_name name (Some other) = bytes_eq name other
 
 -- the type parameters and the universes of two types
 abbrev pub same_heading : List (InUniverse Bytes) → Universe → List (InUniverse Bytes) → Universe → Bool
-same_heading parameters universe others other = all_agree same_parameter parameters others && same_universe universe other
+same_heading parameters universe others other = all_agree same_parameter parameters others
+    && same_universe universe other
 
 -- what defines an opaque type has its type parameters and its universe
 abbrev pub keeps_type : List (InUniverse Bytes) → Universe → PlainDeclaration → Bool
-keeps_type parameters universe (record_type at name others other fields) = same_heading parameters universe others other
-keeps_type parameters universe (union_type at name others other cases) = same_heading parameters universe others other
+keeps_type parameters universe (record_type at name others other fields) =
+    same_heading parameters universe others other
+keeps_type parameters universe (union_type at name others other cases) =
+    same_heading parameters universe others other
 keeps_type parameters universe d = false
 
 module _ (sight : Sight) where
   -- an instance of the interface and one of the body are of one class and the same written type
-  abbrev pub same_instance : List Parameter → Placed Bytes → WrittenType → List (Constrained Bytes) → Placed Bytes → WrittenType → Bool
-  same_instance scope name t generics other u = same_class sight name other && same_written sight scope (scope_of generics) t u
+  abbrev pub same_instance : List Parameter → Placed Bytes → WrittenType
+      → List (Constrained Bytes) → Placed Bytes → WrittenType → Bool
+  same_instance scope name t generics other u = same_class sight name other
+      && same_written sight scope (scope_of generics) t u
 
   -- a declaration of the body defines an instance of this class for this written type
   abbrev pub instance_defined : List Parameter → Placed Bytes → WrittenType → PlainDeclaration → Bool
-  instance_defined scope name t (instance_body at generics other u methods) = same_instance scope name t generics other u
+  instance_defined scope name t (instance_body at generics other u methods) =
+      same_instance scope name t generics other u
   instance_defined scope name t d = false
 
   -- a declaration of the body defines what is promised: one of its sort and name, and for an
@@ -96,12 +141,14 @@ module _ (sight : Sight) where
 
   -- what defines a function has its type parameters, parameters and result
   abbrev pub keeps_function : List (Constrained Bytes) → Header Bytes → PlainDeclaration → Bool
-  keeps_function generics header (function_body at others other body stop) = same_function sight generics header others other
+  keeps_function generics header (function_body at others other body stop) =
+      same_function sight generics header others other
   keeps_function generics header d = false
 
   -- what defines an instance has its type parameters
   abbrev pub keeps_instance : List (Constrained Bytes) → PlainDeclaration → Bool
-  keeps_instance generics (instance_body at others name t methods) = all_agree (same_generic sight) generics others
+  keeps_instance generics (instance_body at others name t methods) =
+      all_agree (same_generic sight) generics others
   keeps_instance generics d = false
 
   -- what defines a promise agrees with it
@@ -139,12 +186,14 @@ module _ (sight : Sight) where
 
 -- the module at a place
 abbrev pub module_fault : List ModuleParts → ℕ → ModuleParts → Option PromiseFault
-module_fault program place m = parts_fault (sight_of program place m) (interface_tree (Some m)) (body_tree (Some m))
+module_fault program place m = parts_fault (sight_of program place m) (interface_tree (Some m))
+    (body_tree (Some m))
 
 -- the modules from a place on
 unfoldable pub faults_from : List ModuleParts → ℕ → List ModuleParts → Option PromiseFault
 faults_from program place [] = None
-faults_from program place (m ∷ ms) = option_or (module_fault program place m) (faults_from program (place + 1) ms)
+faults_from program place (m ∷ ms) = option_or (module_fault program place m)
+    (faults_from program (place + 1) ms)
 
 -- what a program is refused for: the first promise, modules by place, that isn't kept
 abbrev pub promise_fault : List ModuleParts → Option PromiseFault

@@ -22,7 +22,8 @@ declaration_of (Some (a_class at)) = Some at
 declaration_of other = None
 
 -- the declaration that a name means among type parameters, names and rows, if it means one
-abbrev pub declaration_meant : List Parameter → List (Bytes × DeclAt) → List (DeclAt × Head) → Bytes → Option DeclAt
+abbrev pub declaration_meant : List Parameter → List (Bytes × DeclAt) → List (DeclAt × Head)
+    → Bytes → Option DeclAt
 declaration_meant scope visible rows name = declaration_of (sense_of [] scope visible rows name)
 
 -- two kinds of references
@@ -40,7 +41,8 @@ neither a b = false
 module _ (sight : Sight) (scope other : List Parameter) where
   -- a word of the interface and one of the body
   abbrev pub same_word : Bytes → Bytes → Bool
-  same_word a b = same_declaration a b (declaration_meant scope sight.interface sight.rows a) (declaration_meant other sight.body sight.rows b)
+  same_word a b = same_declaration a b (declaration_meant scope sight.interface sight.rows a)
+      (declaration_meant other sight.body sight.rows b)
 
   -- the signs of two references, and their regions
   abbrev pub same_sign : Access → Bytes → Access → Bytes → Bool
@@ -50,7 +52,8 @@ module _ (sight : Sight) (scope other : List Parameter) where
     -- a written type of the interface and one of the body, word for word
     pub same_wording : WrittenType → WrittenType → Bool
     same_wording (named a args) (named b others) = same_word a.name b.name && same_wordings args others
-    same_wording (reference at kind t r) (reference by its u s) = same_sign kind r.name its s.name && same_wording t u
+    same_wording (reference at kind t r) (reference by its u s) = same_sign kind r.name its s.name
+        && same_wording t u
     same_wording t u = false
 
     -- arguments, each with that in its place
@@ -61,7 +64,8 @@ module _ (sight : Sight) (scope other : List Parameter) where
 
   -- a written type of the interface and one of the body both mean nothing
   abbrev pub neither_means : WrittenType → WrittenType → Bool
-  neither_means t u = neither (meant [] scope sight.interface sight.rows t) (meant [] other sight.body sight.rows u)
+  neither_means t u = neither (meant [] scope sight.interface sight.rows t)
+      (meant [] other sight.body sight.rows u)
 
   -- a written type of the interface and one of the body: word for word, or both mean nothing
   abbrev pub same_written : WrittenType → WrittenType → Bool

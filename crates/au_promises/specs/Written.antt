@@ -12,7 +12,16 @@ use Rattle.au_syntax.specs.declared.names.Ident.{Ident}
 use Rattle.au_syntax.specs.declared.parsed.Parsed.{Parsed}
 use Rattle.au_syntax.specs.Modules.{InUniverse, Constrained, Header}
 use Rattle.au_syntax.specs.Names.{Placed}
-use Rattle.au_syntax.specs.Plain.{Bytes, PlainDeclaration, plain_constrained, plain_declaration, plain_header, plain_in_universe, plain_labelled, plain_name}
+use Rattle.au_syntax.specs.Plain.{
+  Bytes,
+  PlainDeclaration,
+  plain_constrained,
+  plain_declaration,
+  plain_header,
+  plain_in_universe,
+  plain_labelled,
+  plain_name,
+}
 use Rattle.au_syntax.specs.Types.{Labelled}
 use Rattle.au_syntax.specs.Views.{constrained, declaration, header, in_universe, labelled, placed}
 use Rattle.au_promises.specs.declared.sights.Sight as code
@@ -31,7 +40,8 @@ abbrev pub parameter_of : TypeParameter Parsed (List ℕ) (Unit {0}) (Unit {0}) 
 parameter_of one = plain_in_universe parsed.name_bytes (in_universe parsed one)
 
 -- type parameters
-abbrev pub parameters_of : List (TypeParameter Parsed (List ℕ) (Unit {0}) (Unit {0})) → List (InUniverse Bytes)
+abbrev pub parameters_of : List (TypeParameter Parsed (List ℕ) (Unit {0}) (Unit {0}))
+    → List (InUniverse Bytes)
 parameters_of all = map (plain_in_universe parsed.name_bytes) (map (in_universe parsed) all)
 
 -- a type parameter behind `generic`
@@ -64,7 +74,8 @@ declarations_of all = map (plain_declaration parsed.name_bytes) (map (declaratio
 
 -- a declaration behind a reference, if there is one
 abbrev pub declared_seen : Option (Bor (Decl Parsed (List ℕ) (Unit {0}) (Unit {0}))) → Option PlainDeclaration
-declared_seen found = option_map (λ (b : Bor (Decl Parsed (List ℕ) (Unit {0}) (Unit {0}))). declared_of b.now) found
+declared_seen found = option_map (λ (b : Bor (Decl Parsed (List ℕ) (Unit {0}) (Unit {0}))). declared_of b.now)
+    found
 
 -- what the code sees of a module
 abbrev pub sight_in : code.Sight → Sight

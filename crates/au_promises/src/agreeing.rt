@@ -3,7 +3,18 @@
 ghost use Rattle.std.specs.Prelude.{◌≡◌, [], IfOk};
 ghost use Rattle.std.specs.Option.{option_map};
 ghost use Rattle.au_promises.specs.Agreeing as spec;
-ghost use Rattle.au_promises.specs.Written.{generic_of, generics_of, header_of, labelled_of, labels_of, name_of, names_of, parameter_of, parameters_of, sight_in};
+ghost use Rattle.au_promises.specs.Written.{
+  generic_of,
+  generics_of,
+  header_of,
+  labelled_of,
+  labels_of,
+  name_of,
+  names_of,
+  parameter_of,
+  parameters_of,
+  sight_in,
+};
 ghost use Rattle.au_syntax.specs.Views.{written};
 ghost use Rattle.au_types.specs.Views.{meaning};
 ghost use Rattle.au_written_types.specs.Meant.{meant};
@@ -42,7 +53,8 @@ pub fn same_parameters(
     list: &Vec<TypeParameter<Parsed>>,
     others: &Vec<TypeParameter<Parsed>>,
 ) -> bool
-    ensures { result ≡ spec.all_agree spec.same_parameter (parameters_of list.now.items) (parameters_of others.now.items) }
+    ensures { result ≡ spec.all_agree spec.same_parameter (parameters_of list.now.items)
+        (parameters_of others.now.items) }
 {
     if list.len() != others.len() {
         return false;
@@ -84,7 +96,8 @@ pub fn same_class(sight: &Sight, one: &Ident<Parsed>, other: &Ident<Parsed>) -> 
 /// Whether names of classes of the interface and of the body are of the same classes, each with that in
 /// its place.
 fn same_classes(sight: &Sight, list: &Vec<Ident<Parsed>>, others: &Vec<Ident<Parsed>>) -> bool
-    ensures { result ≡ spec.all_agree (spec.same_class (sight_in sight.now)) (names_of list.now.items) (names_of others.now.items) }
+    ensures { result ≡ spec.all_agree (spec.same_class (sight_in sight.now))
+        (names_of list.now.items) (names_of others.now.items) }
 {
     if list.len() != others.len() {
         return false;
@@ -111,7 +124,8 @@ pub fn same_generics(
     list: &Vec<Generic<Parsed>>,
     others: &Vec<Generic<Parsed>>,
 ) -> bool
-    ensures { result ≡ spec.all_agree (spec.same_generic (sight_in sight.now)) (generics_of list.now.items) (generics_of others.now.items) }
+    ensures { result ≡ spec.all_agree (spec.same_generic (sight_in sight.now))
+        (generics_of list.now.items) (generics_of others.now.items) }
 {
     if list.len() != others.len() {
         return false;
@@ -152,7 +166,8 @@ pub fn meant_with(
     heads: &Heads,
     node: &TypeText,
 ) -> Result<Option<Ty>, Memory>
-    ensures { IfOk result (λ found. option_map meaning found ≡ meant [] params.now names.now heads.now (written node.now)) }
+    ensures { IfOk result (λ found. option_map meaning found ≡ meant [] params.now names.now heads.now
+        (written node.now)) }
 {
     let scope = Scope {
         regions: &[],
@@ -177,7 +192,8 @@ pub fn same_type(
     outer: &Params,
     other: &TypeText,
 ) -> Result<bool, Memory>
-    ensures { IfOk result (λ same. same ≡ spec.same_type (sight_in sight.now) scope.now (written one.now) outer.now (written other.now)) }
+    ensures { IfOk result (λ same. same ≡ spec.same_type (sight_in sight.now) scope.now
+        (written one.now) outer.now (written other.now)) }
 {
     let of = meant_with(alloc, scope, sight.interface, sight.heads, one)?;
     let its = meant_with(alloc, outer, sight.body, sight.heads, other)?;
@@ -210,7 +226,8 @@ fn same_labelled(
     outer: &Params,
     other: &Field<Parsed>,
 ) -> Result<bool, Memory>
-    ensures { IfOk result (λ same. same ≡ spec.same_labelled (sight_in sight.now) scope.now outer.now (labelled_of one.now) (labelled_of other.now)) }
+    ensures { IfOk result (λ same. same ≡ spec.same_labelled (sight_in sight.now) scope.now outer.now
+        (labelled_of one.now) (labelled_of other.now)) }
 {
     if same_name(&one.name, &other.name) {
         same_type(alloc, sight, scope, &one.of, outer, &other.of)
@@ -228,7 +245,9 @@ fn same_labels(
     outer: &Params,
     others: &Vec<Field<Parsed>>,
 ) -> Result<bool, Memory>
-    ensures { IfOk result (λ same. same ≡ spec.all_agree (spec.same_labelled (sight_in sight.now) scope.now outer.now) (labels_of list.now.items) (labels_of others.now.items)) }
+    ensures { IfOk result (λ same. same ≡ spec.all_agree
+        (spec.same_labelled (sight_in sight.now) scope.now outer.now) (labels_of list.now.items)
+        (labels_of others.now.items)) }
 {
     if list.len() != others.len() {
         return Ok(false);
@@ -250,7 +269,8 @@ fn same_signature(
     outer: &Params,
     other: &Signature<Parsed>,
 ) -> Result<bool, Memory>
-    ensures { IfOk result (λ same. same ≡ spec.same_signature (sight_in sight.now) scope.now (header_of one.now) outer.now (header_of other.now)) }
+    ensures { IfOk result (λ same. same ≡ spec.same_signature (sight_in sight.now) scope.now
+        (header_of one.now) outer.now (header_of other.now)) }
 {
     if same_labels(
         alloc,
@@ -280,7 +300,9 @@ pub fn same_function(
     others: &Vec<Generic<Parsed>>,
     other: &Signature<Parsed>,
 ) -> Result<bool, Memory>
-    ensures { IfOk result (λ same. same ≡ spec.same_function (sight_in sight.now) (generics_of list.now.items) (header_of one.now) (generics_of others.now.items) (header_of other.now)) }
+    ensures { IfOk result (λ same. same ≡ spec.same_function (sight_in sight.now)
+        (generics_of list.now.items) (header_of one.now)
+        (generics_of others.now.items) (header_of other.now)) }
 {
     if same_generics(sight, list, others) {
         let scope = scope_of(alloc, list)?;

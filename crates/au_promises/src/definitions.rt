@@ -132,7 +132,8 @@ fn first_defined(
     sort: Sort,
     decls: &Vec<Decl<Parsed>>,
 ) -> Result<Table<usize>, Memory>
-    ensures { IfOk result (λ table. AreFirst (defining.name_defined sort) (declarations_of decls.now.items) table) }
+    ensures { IfOk result (λ table. AreFirst (defining.name_defined sort)
+        (declarations_of decls.now.items) table) }
 {
     let mut table = Table::new(alloc);
     for (index, one) in decls.iter().enumerate() {
@@ -179,7 +180,8 @@ impl Definitions {
         sight: &Sight,
         decls: &Vec<Decl<Parsed>>,
     ) -> Result<Definitions, Memory>
-        ensures { IfOk result (λ definitions. AreDefinitions (sight_in sight.now) (declarations_of decls.now.items) definitions) }
+        ensures { IfOk result (λ definitions. AreDefinitions (sight_in sight.now)
+            (declarations_of decls.now.items) definitions) }
     {
         let names = ByName::of(alloc, decls)?;
         let worded = first_keyed(alloc, sight, KeySort::Worded, decls)?;
@@ -207,7 +209,8 @@ pub fn found_by<'a>(
     name: &Name,
 ) -> Option<&'a Decl<Parsed>>
     requires { AreNamed (declarations_of decls.now.items) names.now }
-    ensures { declared_seen result ≡ find (defining.is_defined sort name.now) (declarations_of decls.now.items) }
+    ensures { declared_seen result ≡ find (defining.is_defined sort name.now)
+        (declarations_of decls.now.items) }
 {
     match names.table(sort).get(name.as_bytes()) {
         None => None,

@@ -20,7 +20,8 @@ fn same_plain_type(
     one: &TypeText,
     other: &TypeText,
 ) -> Result<bool, Memory>
-    ensures { IfOk result (λ same. same ≡ agreeing.same_type (sight_in sight.now) [] (written one.now) [] (written other.now)) }
+    ensures { IfOk result (λ same. same ≡ agreeing.same_type (sight_in sight.now) []
+        (written one.now) [] (written other.now)) }
 {
     let none = Params::new(alloc);
     same_type(alloc, sight, &none, one, &none, other)
@@ -33,7 +34,8 @@ fn same_heading(
     others: &Vec<TypeParameter<Parsed>>,
     other: Universe,
 ) -> bool
-    ensures { result ≡ spec.same_heading (parameters_of list.now.items) universe (parameters_of others.now.items) other }
+    ensures { result ≡ spec.same_heading (parameters_of list.now.items) universe
+        (parameters_of others.now.items) other }
 {
     same_parameters(list, others) && same_universe(universe, other)
 }
@@ -45,7 +47,8 @@ fn keeps_constant(
     of: &TypeText,
     decl: &Decl<Parsed>,
 ) -> Result<bool, Memory>
-    ensures { IfOk result (λ kept. kept ≡ spec.keeps_constant (sight_in sight.now) (written of.now) (declared_of decl.now)) }
+    ensures { IfOk result (λ kept. kept ≡ spec.keeps_constant (sight_in sight.now)
+        (written of.now) (declared_of decl.now)) }
 {
     match decl {
         Decl::Constant(_, _, _) => Ok(false),
@@ -87,7 +90,8 @@ fn keeps_function(
     one: &Signature<Parsed>,
     decl: &Decl<Parsed>,
 ) -> Result<bool, Memory>
-    ensures { IfOk result (λ kept. kept ≡ spec.keeps_function (sight_in sight.now) (generics_of list.now.items) (header_of one.now) (declared_of decl.now)) }
+    ensures { IfOk result (λ kept. kept ≡ spec.keeps_function (sight_in sight.now)
+        (generics_of list.now.items) (header_of one.now) (declared_of decl.now)) }
 {
     match decl {
         Decl::Constant(_, _, _) => Ok(false),
@@ -107,7 +111,8 @@ fn keeps_function(
 
 /// Whether a declaration defines an instance of these type parameters.
 fn keeps_instance(sight: &Sight, list: &Vec<Generic<Parsed>>, decl: &Decl<Parsed>) -> bool
-    ensures { result ≡ spec.keeps_instance (sight_in sight.now) (generics_of list.now.items) (declared_of decl.now) }
+    ensures { result ≡ spec.keeps_instance (sight_in sight.now) (generics_of list.now.items)
+        (declared_of decl.now) }
 {
     match decl {
         Decl::Constant(_, _, _) => false,
@@ -134,7 +139,8 @@ pub fn keeps(
     promise: &Decl<Parsed>,
     decl: &Decl<Parsed>,
 ) -> Result<bool, Memory>
-    ensures { IfOk result (λ kept. kept ≡ spec.keeps (sight_in sight.now) (declared_of promise.now) (declared_of decl.now)) }
+    ensures { IfOk result (λ kept. kept ≡ spec.keeps (sight_in sight.now) (declared_of promise.now)
+        (declared_of decl.now)) }
 {
     match promise {
         Decl::Constant(_, _, of) => keeps_constant(alloc, sight, of, decl),

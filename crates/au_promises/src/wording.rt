@@ -66,7 +66,9 @@ pub fn means_nothing(
     scope: &Params,
     of: &TypeText,
 ) -> Result<bool, Memory>
-    ensures { IfOk result (λ nothing. nothing ≡ is_none (meant [] scope.now (sight_in sight.now).interface (sight_in sight.now).rows (written of.now))) }
+    ensures { IfOk result (λ nothing. nothing
+        ≡ is_none (meant [] scope.now (sight_in sight.now).interface (sight_in sight.now).rows
+        (written of.now))) }
 {
     let found = meant_with(alloc, scope, sight.interface, sight.heads, of)?;
     Ok(found.is_none())

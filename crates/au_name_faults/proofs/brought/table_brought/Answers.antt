@@ -9,5 +9,6 @@ use Rattle.au_name_faults.proofs.brought.table_brought.Goals as goal
 
 pub returns : goal.returns
 returns c =
-    let those = imported c.args.space (slots.modules c.args.modules.now) c.args.place (imports_seen (tree_seen c.args.file)) in
+    let those = imported c.args.space (slots.modules c.args.modules.now) c.args.place
+    (imports_seen (tree_seen c.args.file)) in
     c.in_ok-put_imported.ensures ∙ ap (λ t. with_all t those) c.new-table.ensures ∙ with_all-firsts those

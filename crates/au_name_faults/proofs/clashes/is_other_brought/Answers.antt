@@ -13,5 +13,7 @@ returns c = λ m here.
     c.is_other.ensures
     ∙ ap (λ o. is_other o (target c.args.at.«module» c.args.name.now c.args.at.decl))
     (c.get.ensures
-    ∙ ap (find c.args.local.now) (c.brought_in-table.ensures ∙ table_of (program_of one) one.place m one.part one.brought.now (c.requires.brought m here) c.args.space)
+    ∙ ap (find c.args.local.now) (c.brought_in-table.ensures
+    ∙ table_of (program_of one) one.place m one.part one.brought.now
+    (c.requires.brought m here) c.args.space)
     ∙ find-firsts c.args.local.now (brought_to (program_of one) one.place m one.part c.args.space))

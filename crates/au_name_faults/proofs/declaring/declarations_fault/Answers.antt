@@ -24,12 +24,14 @@ returns c = λ m there.
     let made : IsSite program place m part site = record {
       the_part = refl;
       is_first = refl;
-      pervasive = first_offers program c.args.offers.now.exports.interfaces.items c.index.result.now place c.requires.made.exports.interfaces c.requires.within c.index.ensures;
+      pervasive = first_offers program c.args.offers.now.exports.interfaces.items
+          c.index.result.now place c.requires.made.exports.interfaces c.requires.within c.index.ensures;
       interface = c.requires.by_interface m there;
       body = c.requires.by_body m there;
       names = c.names-names.ensures.types m there;
       heads = c.heads_ref.ensures;
     } in
     subst (λ r. IfOk c.first_fault.result (λ found. found ≡ r))
-    (faults_same program place m part site made (map (plain_declaration parsed.name_bytes) (map (declaration parsed) c.args.declarations.now.items)))
+    (faults_same program place m part site made (map (plain_declaration parsed.name_bytes)
+    (map (declaration parsed) c.args.declarations.now.items)))
     c.first_fault.ensures

@@ -20,7 +20,8 @@ pub returns-in-Some : goal.returns-in-Some
 returns-in-Some c =
     let f = declaration_fault_at c.args.site.now in
     let items = c.deref-one-items.result.now in
-    found_here (λ ds. first_of f (all_said ds)) (λ d. f (said d)) (λ d ds. first_more f (said d) (all_said ds)) items c.loop-one.one-index c.one-item.result
+    found_here (λ ds. first_of f (all_said ds)) (λ d. f (said d))
+    (λ d ds. first_more f (said d) (all_said ds)) items c.loop-one.one-index c.one-item.result
     c.in_ok-fault.field-0 c.in-Some.fault (first_of f (all_said items))
     c.loop-one-test.true c.one-item.is c.loop-one.invariant c.in_ok-fault.ensures c.in-Some.is
     ∙ ap (λ ds. first_of f (all_said ds)) c.deref-one-items.ensures.value
@@ -29,7 +30,8 @@ pub loop-one-preserved : goal.loop-one-preserved
 loop-one-preserved c =
     let f = declaration_fault_at c.args.site.now in
     let items = c.deref-one-items.result.now in
-    not_here (λ ds. first_of f (all_said ds)) (λ d. f (said d)) (λ d ds. first_more f (said d) (all_said ds)) items c.loop-one.one-index c.one-item.result
+    not_here (λ ds. first_of f (all_said ds)) (λ d. f (said d))
+    (λ d ds. first_more f (said d) (all_said ds)) items c.loop-one.one-index c.one-item.result
     c.in_ok-fault.field-0 (first_of f (all_said items))
     c.loop-one-test.true c.one-item.is c.loop-one.invariant c.in_ok-fault.ensures c.in-None.is
 
@@ -37,5 +39,6 @@ pub returns : goal.returns
 returns c =
     let f = declaration_fault_at c.args.site.now in
     let items = c.deref-one-items.result.now in
-    nowhere (λ ds. first_of f (all_said ds)) (first_none f) items c.loop-one.one-index (first_of f (all_said items)) c.loop-one-test.false c.loop-one.invariant
+    nowhere (λ ds. first_of f (all_said ds)) (first_none f) items c.loop-one.one-index
+    (first_of f (all_said items)) c.loop-one-test.false c.loop-one.invariant
     ∙ ap (λ ds. first_of f (all_said ds)) c.deref-one-items.ensures.value

@@ -9,5 +9,7 @@ use Rattle.au_name_faults.proofs.declaring.first_fault.Given as goal
 -- what the declarations that are left are refused for is what all are refused for
 abbrev pub invariant-loop-one : goal.invariant-loop-one
 invariant-loop-one l =
-    first_of (declaration_fault_at l.site) (map (plain_declaration parsed.name_bytes) (map (declaration parsed) (drop l.one-index l.one-items)))
-    ≡ first_of (declaration_fault_at l.site) (map (plain_declaration parsed.name_bytes) (map (declaration parsed) l.one-items))
+    first_of (declaration_fault_at l.site) (map (plain_declaration parsed.name_bytes)
+    (map (declaration parsed) (drop l.one-index l.one-items)))
+    ≡ first_of (declaration_fault_at l.site) (map (plain_declaration parsed.name_bytes)
+    (map (declaration parsed) l.one-items))

@@ -5,4 +5,6 @@ use Rattle.au_name_faults.proofs.finding.name_fault.Given as goal
 
 -- what is left decides
 abbrev pub invariant-loop-place : goal.invariant-loop-place
-invariant-loop-place l = faults_from (slots.modules l.resolved) l.place (drop l.place (slots.modules l.resolved)) ≡ faults_from (slots.modules l.resolved) 0 (slots.modules l.resolved)
+invariant-loop-place l = faults_from (slots.modules l.resolved) l.place
+    (drop l.place (slots.modules l.resolved)) ≡ faults_from (slots.modules l.resolved) 0
+    (slots.modules l.resolved)

@@ -15,7 +15,9 @@ pub returns-in-None : goal.returns-in-None
 returns-in-None c = λ m here.
     let part = c.args.part in
     part_nowhere (slots.modules c.args.resolved.now) c.args.place m part
-    (c.in-None.ensures ∙ ap (part_tree part) (ap (λ r. slice_get (slots.modules r) c.args.place) c.modules.ensures ∙ here) ∙ tree_is part m)
+    (c.in-None.ensures
+    ∙ ap (part_tree part) (ap (λ r. slice_get (slots.modules r) c.args.place) c.modules.ensures ∙ here)
+    ∙ tree_is part m)
 
 pub returns-in-Some : goal.returns-in-Some
 returns-in-Some c = λ m here.
@@ -23,6 +25,11 @@ returns-in-Some c = λ m here.
     let place = c.args.place in
     let part = c.args.part in
     subst (λ z. IfOk c.tree_fault.result (λ found. found ≡ z))
-    (ap (λ t. option_or (first_of (import_fault program place m part) (says parsed t).imports) (first_of (declaration_fault program place m part) (says parsed t).declarations)) c.tree-tree.ensures.same
-    ∙ part_there program place m part (says parsed c.in-Some.file.now.tree) (c.in-Some.ensures ∙ ap (part_tree part) (ap (λ r. slice_get (slots.modules r) place) c.modules.ensures ∙ here) ∙ tree_is part m))
+    (ap (λ t. option_or (first_of (import_fault program place m part) (says parsed t).imports)
+    (first_of (declaration_fault program place m part) (says parsed t).declarations))
+    c.tree-tree.ensures.same
+    ∙ part_there program place m part (says parsed c.in-Some.file.now.tree)
+    (c.in-Some.ensures
+    ∙ ap (part_tree part) (ap (λ r. slice_get (slots.modules r) place) c.modules.ensures ∙ here)
+    ∙ tree_is part m))
     (c.tree_fault.ensures m here)

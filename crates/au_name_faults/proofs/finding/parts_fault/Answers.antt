@@ -9,4 +9,6 @@ use Rattle.au_name_faults.proofs.finding.parts_fault.Goals as goal
 pub returns-in-None : goal.returns-in-None
 returns-in-None c = λ m here.
     let body = part_fault (slots.modules c.args.resolved.now) c.args.place m Body in
-    subst (λ z. IfOk c.part_fault-in-None.result (λ found. found ≡ z)) (sym (ap (λ o. option_or o body) (sym (c.in_ok-first.ensures m here) ∙ c.in-None.is))) (c.part_fault-in-None.ensures m here)
+    subst (λ z. IfOk c.part_fault-in-None.result (λ found. found ≡ z))
+    (sym (ap (λ o. option_or o body) (sym (c.in_ok-first.ensures m here) ∙ c.in-None.is)))
+    (c.part_fault-in-None.ensures m here)

@@ -12,7 +12,10 @@ use Rattle.au_name_faults.proofs.importing.all_imports_fault.Given as goal
 abbrev pub invariant-loop-import : goal.invariant-loop-import
 invariant-loop-import l = record {
   left : (m : ModuleParts) → IsOf l.importer m
-      → first_of (import_fault (program_of l.importer) l.importer.place m l.importer.part) (map (plain_importing parsed.name_bytes) (map (importing parsed) (drop l.import-index l.import-items)))
-      ≡ first_of (import_fault (program_of l.importer) l.importer.place m l.importer.part) (map (plain_importing parsed.name_bytes) (map (importing parsed) l.import-items));
+      → first_of (import_fault (program_of l.importer) l.importer.place m l.importer.part)
+      (map (plain_importing parsed.name_bytes)
+      (map (importing parsed) (drop l.import-index l.import-items)))
+      ≡ first_of (import_fault (program_of l.importer) l.importer.place m l.importer.part)
+      (map (plain_importing parsed.name_bytes) (map (importing parsed) l.import-items));
   passed : AllPass l.importer l.passed;
 }

@@ -13,7 +13,9 @@ use Rattle.au_name_faults.proofs.importing.items_fault.Given as goal
 abbrev pub invariant-loop-item : goal.invariant-loop-item
 invariant-loop-item l = record {
   left : (m other : ModuleParts) → IsOf l.importer m → slice_get (program_of l.importer) l.from ≡ Some other
-      → first_of (item_fault (program_of l.importer) l.importer.place m l.importer.part l.from other) (map (plain_renaming parsed.name_bytes) (map (renaming parsed) (drop l.item-index l.item-items)))
-      ≡ first_of (item_fault (program_of l.importer) l.importer.place m l.importer.part l.from other) (map (plain_renaming parsed.name_bytes) (map (renaming parsed) l.item-items));
+      → first_of (item_fault (program_of l.importer) l.importer.place m l.importer.part l.from other)
+      (map (plain_renaming parsed.name_bytes) (map (renaming parsed) (drop l.item-index l.item-items)))
+      ≡ first_of (item_fault (program_of l.importer) l.importer.place m l.importer.part l.from other)
+      (map (plain_renaming parsed.name_bytes) (map (renaming parsed) l.item-items));
   passed : AllPass l.importer l.passed;
 }

@@ -9,10 +9,14 @@ use Rattle.au_name_faults.proofs.importing.joined_name.Goals as goal
 
 pub copy_of-requires-clause-most : goal.copy_of-requires-clause-most
 copy_of-requires-clause-most c =
-    let same = ap length (bytes_joined c.as_bytes.result.now c.args.names.now.items (c.as_bytes.ensures ∙ c.in_ok-text.ensures.text)) in
-    let most = within_limit (map (plain_name parsed.name_bytes) (map (placed parsed) c.args.names.now.items)) c.requires in
+    let same = ap length (bytes_joined c.as_bytes.result.now c.args.names.now.items
+    (c.as_bytes.ensures ∙ c.in_ok-text.ensures.text)) in
+    let most = within_limit (map (plain_name parsed.name_bytes) (map (placed parsed) c.args.names.now.items))
+    c.requires in
     omega (arith, same, most)
 
 pub returns : goal.returns
 returns c =
-    subst (λ z. IfOk c.copy_of.result (λ name. name ≡ z)) (bytes_joined c.as_bytes.result.now c.args.names.now.items (c.as_bytes.ensures ∙ c.in_ok-text.ensures.text)) c.copy_of.ensures
+    subst (λ z. IfOk c.copy_of.result (λ name. name ≡ z))
+    (bytes_joined c.as_bytes.result.now c.args.names.now.items (c.as_bytes.ensures
+    ∙ c.in_ok-text.ensures.text)) c.copy_of.ensures

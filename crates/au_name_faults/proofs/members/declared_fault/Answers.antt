@@ -14,12 +14,18 @@ pub returns-in-Union : goal.returns-in-Union
 unfolding declaration
 returns-in-Union c = λ m other this.
     subst
-    (λ d. IfOk c.cases_fault.result (λ found. found ≡ first_of (fault_in c.args.importer.now m c.args.at.«module» other c.args.stands) (targets c.args.at.«module» (given c.args.at.decl (members (plain_declaration parsed.name_bytes (declaration parsed d)))))))
+    (λ d. IfOk c.cases_fault.result (λ found. found
+    ≡ first_of (fault_in c.args.importer.now m c.args.at.«module» other c.args.stands)
+    (targets c.args.at.«module»
+    (given c.args.at.decl (members (plain_declaration parsed.name_bytes (declaration parsed d)))))))
     (sym c.in-Union.is) (c.cases_fault.ensures m other this)
 
 pub returns-in-Class : goal.returns-in-Class
 unfolding declaration
 returns-in-Class c = λ m other this.
     subst
-    (λ d. IfOk c.methods_fault.result (λ found. found ≡ first_of (fault_in c.args.importer.now m c.args.at.«module» other c.args.stands) (targets c.args.at.«module» (given c.args.at.decl (members (plain_declaration parsed.name_bytes (declaration parsed d)))))))
+    (λ d. IfOk c.methods_fault.result (λ found. found
+    ≡ first_of (fault_in c.args.importer.now m c.args.at.«module» other c.args.stands)
+    (targets c.args.at.«module»
+    (given c.args.at.decl (members (plain_declaration parsed.name_bytes (declaration parsed d)))))))
     (sym c.in-Class.is) (c.methods_fault.ensures m other this)

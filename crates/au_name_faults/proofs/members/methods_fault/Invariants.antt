@@ -12,5 +12,11 @@ use Rattle.au_name_faults.proofs.members.methods_fault.Given as goal
 -- what is left decides
 abbrev pub invariant-loop-one : goal.invariant-loop-one
 invariant-loop-one l = (m other : ModuleParts) → IsOf l.importer m
-    → first_of (fault_in l.importer m l.at.«module» other l.stands) (targets l.at.«module» (given l.at.decl (map (λ h. h.name.name) (map (plain_header parsed.name_bytes) (map (header parsed) (drop l.one-index l.one-items))))))
-    ≡ first_of (fault_in l.importer m l.at.«module» other l.stands) (targets l.at.«module» (given l.at.decl (map (λ h. h.name.name) (map (plain_header parsed.name_bytes) (map (header parsed) l.one-items)))))
+    → first_of (fault_in l.importer m l.at.«module» other l.stands)
+    (targets l.at.«module»
+    (given l.at.decl (map (λ h. h.name.name) (map (plain_header parsed.name_bytes)
+    (map (header parsed) (drop l.one-index l.one-items))))))
+    ≡ first_of (fault_in l.importer m l.at.«module» other l.stands)
+    (targets l.at.«module»
+    (given l.at.decl (map (λ h. h.name.name) (map (plain_header parsed.name_bytes)
+    (map (header parsed) l.one-items)))))

@@ -8,9 +8,11 @@ pub loop-place-preserved : goal.loop-place-preserved
 loop-place-preserved c =
     let program = slots.modules c.args.modules.now in
     ap (λ r. r ++ map last_offers (drop (c.loop-place.place + 1) program)) c.in_ok-push.ensures.items
-    ∙ lasts_step c.loop-place.lasts.items program c.loop-place.place c.in_ok-names.names c.loop-place.invariant c.in_ok-names.ensures
+    ∙ lasts_step c.loop-place.lasts.items program c.loop-place.place c.in_ok-names.names
+    c.loop-place.invariant c.in_ok-names.ensures
 
 pub returns : goal.returns
 returns c =
     let program = slots.modules c.args.modules.now in
-    lasts_end c.loop-place.lasts.items program c.loop-place.place (omega (arith, c.len-place-end.ensures, c.loop-place-test.false)) c.loop-place.invariant
+    lasts_end c.loop-place.lasts.items program c.loop-place.place
+    (omega (arith, c.len-place-end.ensures, c.loop-place-test.false)) c.loop-place.invariant

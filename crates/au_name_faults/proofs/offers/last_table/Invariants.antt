@@ -10,8 +10,10 @@ use Rattle.au_name_faults.proofs.offers.last_table.Given as goal
 abbrev pub invariant-loop-left : goal.invariant-loop-left
 invariant-loop-left l = record {
   within : l.left ≤ length l.declarations.items;
-  same : with_all l.table (names_back (plain_declaration parsed.name_bytes) (declaration parsed) l.space (take l.left l.declarations.items))
-      ≡ with_all [] (names_back (plain_declaration parsed.name_bytes) (declaration parsed) l.space l.declarations.items);
+  same : with_all l.table (names_back (plain_declaration parsed.name_bytes)
+      (declaration parsed) l.space (take l.left l.declarations.items))
+      ≡ with_all [] (names_back (plain_declaration parsed.name_bytes)
+      (declaration parsed) l.space l.declarations.items);
 }
 
 abbrev pub decreases-loop-left : goal.decreases-loop-left

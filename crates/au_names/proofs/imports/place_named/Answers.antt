@@ -7,4 +7,6 @@ pub returns : goal.returns
 returns c =
     c.copied.ensures
     ∙ c.get.ensures
-    ∙ ap (λ n. find n c.args.exports.now.places) (c.past_first.ensures ∙ ap (drop 1) (c.as_bytes.ensures ∙ c.in_ok-text.ensures.text) ∙ sym (name_joined c.args.names.now.items))
+    ∙ ap (λ n. find n c.args.exports.now.places) (c.past_first.ensures
+    ∙ ap (drop 1) (c.as_bytes.ensures ∙ c.in_ok-text.ensures.text)
+    ∙ sym (name_joined c.args.names.now.items))

@@ -8,14 +8,25 @@ use Rattle.au_names.proofs.ImportLemmas.{along_none, along_some}
 use Rattle.au_names.proofs.imports.put_along.Goals as goal
 
 pub offered_names-types-requires : goal.offered_names-types-requires
-offered_names-types-requires c = omega (arith, c.requires.within, as_many c.args.exports.now.interfaces.items (slots.modules c.args.modules.now) c.requires.made.interfaces)
+offered_names-types-requires c = omega (
+  arith,
+  c.requires.within,
+  as_many c.args.exports.now.interfaces.items (slots.modules c.args.modules.now) c.requires.made.interfaces,
+)
 
 pub returns-in-None-clause-along : goal.returns-in-None-clause-along
 returns-in-None-clause-along c = λ m here.
-    along_none c.args.table.now c.args.other c.args.name.now m c.offered_names-types.result.now (c.offered_names-types.ensures (slots.modules c.args.modules.now) m c.requires.made here) c.in-None.ensures
+    along_none c.args.table.now c.args.other c.args.name.now m c.offered_names-types.result.now
+    (c.offered_names-types.ensures (slots.modules c.args.modules.now) m c.requires.made here)
+    c.in-None.ensures
 
 pub returns-in_ok-put_once-in-Some-clause-along : goal.returns-in_ok-put_once-in-Some-clause-along
 returns-in_ok-put_once-in-Some-clause-along c = λ m here.
-    along_some c.args.table.now c.put_once.new.table c.args.other c.args.name.now m c.offered_names-types.result.now c.in-Some.number.now (interface_tree (Some m))
-    (c.offered_names-types.ensures (slots.modules c.args.modules.now) m c.requires.made here) c.in-Some.ensures refl
-    (c.in_ok-put_once-in-Some.ensures.members m here ∙ ap (with_all c.args.table.now) (sym (along_file (record { «module» = c.args.other; decl = c.in-Some.number.now }) m (interface_tree (Some m)) refl)))
+    along_some c.args.table.now c.put_once.new.table c.args.other c.args.name.now
+    m c.offered_names-types.result.now c.in-Some.number.now (interface_tree (Some m))
+    (c.offered_names-types.ensures (slots.modules c.args.modules.now) m c.requires.made here)
+    c.in-Some.ensures refl
+    (c.in_ok-put_once-in-Some.ensures.members m here
+    ∙ ap (with_all c.args.table.now)
+    (sym (along_file (record { «module» = c.args.other; decl = c.in-Some.number.now }) m
+    (interface_tree (Some m)) refl)))

@@ -14,7 +14,8 @@ pub returns-in-None-clause-import : goal.returns-in-None-clause-import
 returns-in-None-clause-import c =
     let program = slots.modules c.args.modules.now in
     let one = plain_importing parsed.name_bytes (importing parsed c.args.import.now) in
-    nothing_put c.args.table.now _ (brings_nothing c.args.space program c.args.place one (sym (c.requires.made.places (joined one.from)) ∙ sym c.in_ok-found.ensures ∙ c.in-None.is))
+    nothing_put c.args.table.now _ (brings_nothing c.args.space program c.args.place one
+    (sym (c.requires.made.places (joined one.from)) ∙ sym c.in_ok-found.ensures ∙ c.in-None.is))
 
 pub put_items-requires : goal.put_items-requires
 put_items-requires c =
@@ -29,11 +30,14 @@ returns-in_ok-put_items-in-Some-clause-import c =
     let less : other < c.args.place = c.if-other-place.true in
     let here = slice_get-get_or program other nothing (omega (arith, c.requires.within, less)) in
     c.in_ok-put_items-in-Some.ensures.items (get_or program other nothing) here
-    ∙ sym (ap (with_all c.args.table.now) (brings_earlier c.args.space program c.args.place other one (get_or program other nothing)
+    ∙ sym (ap (with_all c.args.table.now) (brings_earlier c.args.space program c.args.place other one
+    (get_or program other nothing)
     (sym (c.requires.made.places (joined one.from)) ∙ sym c.in_ok-found.ensures ∙ c.in-Some.is) less here))
 
 pub returns-else-other-place-clause-import : goal.returns-else-other-place-clause-import
 returns-else-other-place-clause-import c =
     let program = slots.modules c.args.modules.now in
     let one = plain_importing parsed.name_bytes (importing parsed c.args.import.now) in
-    nothing_put c.args.table.now _ (brings_later c.args.space program c.args.place c.in-Some.other one (sym (c.requires.made.places (joined one.from)) ∙ sym c.in_ok-found.ensures ∙ c.in-Some.is) c.if-other-place.false)
+    nothing_put c.args.table.now _ (brings_later c.args.space program c.args.place c.in-Some.other one
+    (sym (c.requires.made.places (joined one.from)) ∙ sym c.in_ok-found.ensures
+    ∙ c.in-Some.is) c.if-other-place.false)

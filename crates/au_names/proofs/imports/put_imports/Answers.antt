@@ -20,10 +20,15 @@ loop-import-preserved c = record {
   left =
       let program = slots.modules c.args.modules.now in
       let items = c.deref-import-items.result.now in
-      put_step (λ xs. imported c.args.space program c.args.place (map (plain_importing parsed.name_bytes) (map (importing parsed) xs)))
-      (λ x. brings c.args.space program c.args.place (plain_importing parsed.name_bytes (importing parsed x))) (λ x xs. refl) c.loop-import.table c.put_import.new.table
-      (with_all c.args.table.now (imported c.args.space program c.args.place (map (plain_importing parsed.name_bytes) (map (importing parsed) items))))
-      items c.loop-import.import-index c.import-item.result (read_at items c.loop-import.import-index c.import-item.result c.loop-import-test.true c.import-item.is) c.loop-import.invariant.left c.in_ok-put_import.ensures.import;
+      put_step (λ xs. imported c.args.space program c.args.place
+      (map (plain_importing parsed.name_bytes) (map (importing parsed) xs)))
+      (λ x. brings c.args.space program c.args.place (plain_importing parsed.name_bytes (importing parsed x)))
+      (λ x xs. refl) c.loop-import.table c.put_import.new.table
+      (with_all c.args.table.now (imported c.args.space program c.args.place
+      (map (plain_importing parsed.name_bytes) (map (importing parsed) items))))
+      items c.loop-import.import-index c.import-item.result
+      (read_at items c.loop-import.import-index c.import-item.result c.loop-import-test.true
+      c.import-item.is) c.loop-import.invariant.left c.in_ok-put_import.ensures.import;
   done = c.in_ok-put_import.ensures.done;
 }
 
@@ -31,7 +36,11 @@ pub returns : goal.returns
 returns c =
     let program = slots.modules c.args.modules.now in
     let items = c.deref-import-items.result.now in
-    put_end (λ xs. imported c.args.space program c.args.place (map (plain_importing parsed.name_bytes) (map (importing parsed) xs))) refl c.loop-import.table
-    (with_all c.args.table.now (imported c.args.space program c.args.place (map (plain_importing parsed.name_bytes) (map (importing parsed) items))))
+    put_end (λ xs. imported c.args.space program c.args.place
+    (map (plain_importing parsed.name_bytes) (map (importing parsed) xs))) refl c.loop-import.table
+    (with_all c.args.table.now (imported c.args.space program c.args.place
+    (map (plain_importing parsed.name_bytes) (map (importing parsed) items))))
     items c.loop-import.import-index c.loop-import-test.false c.loop-import.invariant.left
-    ∙ ap (λ xs. with_all c.args.table.now (imported c.args.space program c.args.place (map (plain_importing parsed.name_bytes) (map (importing parsed) xs)))) c.deref-import-items.ensures.value
+    ∙ ap (λ xs. with_all c.args.table.now (imported c.args.space program c.args.place
+    (map (plain_importing parsed.name_bytes) (map (importing parsed) xs))))
+    c.deref-import-items.ensures.value

@@ -11,7 +11,9 @@ use Rattle.au_names.proofs.imports.put_imports.Given as goal
 -- what is left to put comes to the same, and what has come along is in the table
 abbrev pub invariant-loop-import : goal.invariant-loop-import
 invariant-loop-import l = record {
-  left : with_all l.table (imported l.space (slots.modules l.modules) l.place (map (plain_importing parsed.name_bytes) (map (importing parsed) (drop l.import-index l.import-items))))
-      ≡ with_all l.fn.table (imported l.space (slots.modules l.modules) l.place (map (plain_importing parsed.name_bytes) (map (importing parsed) l.import-items)));
+  left : with_all l.table (imported l.space (slots.modules l.modules) l.place
+      (map (plain_importing parsed.name_bytes) (map (importing parsed) (drop l.import-index l.import-items))))
+      ≡ with_all l.fn.table (imported l.space (slots.modules l.modules) l.place
+      (map (plain_importing parsed.name_bytes) (map (importing parsed) l.import-items)));
   done : AreAlong (slots.modules l.modules) l.done l.table;
 }

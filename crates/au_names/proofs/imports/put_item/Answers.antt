@@ -12,45 +12,61 @@ use Rattle.au_names.proofs.ImportLemmas.{found_put, brought_value, brought_type,
 use Rattle.au_names.proofs.imports.put_item.Goals as goal
 
 pub offered_names-names-requires : goal.offered_names-names-requires
-offered_names-names-requires c = omega (arith, c.requires.within, as_many c.args.exports.now.interfaces.items (slots.modules c.args.modules.now) c.requires.made.interfaces)
+offered_names-names-requires c = omega (
+  arith,
+  c.requires.within,
+  as_many c.args.exports.now.interfaces.items (slots.modules c.args.modules.now) c.requires.made.interfaces,
+)
 
 pub returns-in-Values-clause-item : goal.returns-in-Values-clause-item
 returns-in-Values-clause-item c = λ m here.
     let item = plain_renaming parsed.name_bytes (renaming parsed c.args.item.now) in
-    brought_value c.args.space c.args.table.now c.put_found.new.table c.args.other m item c.offered_names-names.result.now c.in-Values.is (c.offered_names-names.ensures (slots.modules c.args.modules.now) m c.requires.made here)
-    (found_put c.args.table.now c.put_found.new.table c.args.other c.offered_names-names.result.now c.as_bytes-name.result.now item.name.name c.given_name-local.result.now (given_name item)
+    brought_value c.args.space c.args.table.now c.put_found.new.table c.args.other
+    m item c.offered_names-names.result.now c.in-Values.is
+    (c.offered_names-names.ensures (slots.modules c.args.modules.now) m c.requires.made here)
+    (found_put c.args.table.now c.put_found.new.table c.args.other c.offered_names-names.result.now
+    c.as_bytes-name.result.now item.name.name c.given_name-local.result.now (given_name item)
     c.as_bytes-name.ensures.bytes c.given_name-local.ensures c.in_ok-put_found.ensures)
 
 pub returns-in_ok-put_along-in-Callables-clause-item : goal.returns-in_ok-put_along-in-Callables-clause-item
 returns-in_ok-put_along-in-Callables-clause-item c = λ m here.
     let item = plain_renaming parsed.name_bytes (renaming parsed c.args.item.now) in
-    brought_callable c.args.space c.args.table.now c.put_found.new.table c.put_along.new.table c.args.other m item c.offered_names-names.result.now c.in-Callables.is (c.offered_names-names.ensures (slots.modules c.args.modules.now) m c.requires.made here)
-    (found_put c.args.table.now c.put_found.new.table c.args.other c.offered_names-names.result.now c.as_bytes-name.result.now item.name.name c.given_name-local.result.now (given_name item)
+    brought_callable c.args.space c.args.table.now c.put_found.new.table c.put_along.new.table
+    c.args.other m item c.offered_names-names.result.now c.in-Callables.is
+    (c.offered_names-names.ensures (slots.modules c.args.modules.now) m c.requires.made here)
+    (found_put c.args.table.now c.put_found.new.table c.args.other c.offered_names-names.result.now
+    c.as_bytes-name.result.now item.name.name c.given_name-local.result.now (given_name item)
     c.as_bytes-name.ensures.bytes c.given_name-local.ensures c.in_ok-put_found.ensures)
     (rw c.as_bytes-name.ensures.bytes at c.in_ok-put_along-in-Callables.ensures.along m here)
 
 pub returns-in-Types-clause-item : goal.returns-in-Types-clause-item
 returns-in-Types-clause-item c = λ m here.
     let item = plain_renaming parsed.name_bytes (renaming parsed c.args.item.now) in
-    brought_type c.args.space c.args.table.now c.put_found.new.table c.args.other m item c.offered_names-names.result.now c.in-Types.is (c.offered_names-names.ensures (slots.modules c.args.modules.now) m c.requires.made here)
-    (found_put c.args.table.now c.put_found.new.table c.args.other c.offered_names-names.result.now c.as_bytes-name.result.now item.name.name c.given_name-local.result.now (given_name item)
+    brought_type c.args.space c.args.table.now c.put_found.new.table c.args.other
+    m item c.offered_names-names.result.now c.in-Types.is
+    (c.offered_names-names.ensures (slots.modules c.args.modules.now) m c.requires.made here)
+    (found_put c.args.table.now c.put_found.new.table c.args.other c.offered_names-names.result.now
+    c.as_bytes-name.result.now item.name.name c.given_name-local.result.now (given_name item)
     c.as_bytes-name.ensures.bytes c.given_name-local.ensures c.in_ok-put_found.ensures)
 
 -- what has come along stays as the item itself is put
 pub returns-in-Values-clause-done : goal.returns-in-Values-clause-done
 returns-in-Values-clause-done c =
     along_stays (slots.modules c.args.modules.now) c.args.done.now c.args.table.now c.put_found.new.table
-    (found_as c.args.other c.as_bytes-name.result.now c.given_name-local.result.now (find c.as_bytes-name.result.now c.offered_names-names.result.now))
+    (found_as c.args.other c.as_bytes-name.result.now c.given_name-local.result.now
+    (find c.as_bytes-name.result.now c.offered_names-names.result.now))
     c.requires.done c.in_ok-put_found.ensures
 
 pub returns-in-Types-clause-done : goal.returns-in-Types-clause-done
 returns-in-Types-clause-done c =
     along_stays (slots.modules c.args.modules.now) c.args.done.now c.args.table.now c.put_found.new.table
-    (found_as c.args.other c.as_bytes-name.result.now c.given_name-local.result.now (find c.as_bytes-name.result.now c.offered_names-names.result.now))
+    (found_as c.args.other c.as_bytes-name.result.now c.given_name-local.result.now
+    (find c.as_bytes-name.result.now c.offered_names-names.result.now))
     c.requires.done c.in_ok-put_found.ensures
 
 pub put_along-requires-clause-done : goal.put_along-requires-clause-done
 put_along-requires-clause-done c =
     along_stays (slots.modules c.args.modules.now) c.args.done.now c.args.table.now c.put_found.new.table
-    (found_as c.args.other c.as_bytes-name.result.now c.given_name-local.result.now (find c.as_bytes-name.result.now c.offered_names-names.result.now))
+    (found_as c.args.other c.as_bytes-name.result.now c.given_name-local.result.now
+    (find c.as_bytes-name.result.now c.offered_names-names.result.now))
     c.requires.done c.in_ok-put_found.ensures

@@ -15,7 +15,9 @@ use Rattle.au_names.proofs.imports.put_items.Given as goal
 abbrev pub invariant-loop-item : goal.invariant-loop-item
 invariant-loop-item l = record {
   left : (m : ModuleParts) → slice_get (slots.modules l.modules) l.other ≡ Some m
-      → with_all l.table (flat_map (brought l.space l.other m) (map (plain_renaming parsed.name_bytes) (map (renaming parsed) (drop l.item-index l.item-items))))
-      ≡ with_all l.fn.table (flat_map (brought l.space l.other m) (map (plain_renaming parsed.name_bytes) (map (renaming parsed) l.item-items)));
+      → with_all l.table (flat_map (brought l.space l.other m)
+      (map (plain_renaming parsed.name_bytes) (map (renaming parsed) (drop l.item-index l.item-items))))
+      ≡ with_all l.fn.table (flat_map (brought l.space l.other m)
+      (map (plain_renaming parsed.name_bytes) (map (renaming parsed) l.item-items)));
   done : AreAlong (slots.modules l.modules) l.done l.table;
 }

@@ -8,4 +8,5 @@ use Rattle.au_promises.proofs.agreeing.same_classes.Given as goal
 
 -- all items so far agree
 abbrev pub invariant-loop-index : goal.invariant-loop-index
-invariant-loop-index l = AgreeSoFar (same_class (sight_in l.sight)) (plain_name parsed.name_bytes) (placed parsed) l.one-items l.others.items l.index
+invariant-loop-index l = AgreeSoFar (same_class (sight_in l.sight)) (plain_name parsed.name_bytes)
+    (placed parsed) l.one-items l.others.items l.index

@@ -8,4 +8,5 @@ use Rattle.au_promises.proofs.agreeing.same_labels.Given as goal
 
 -- all items so far agree
 abbrev pub invariant-loop-index : goal.invariant-loop-index
-invariant-loop-index l = AgreeSoFar (same_labelled (sight_in l.sight) l.scope l.outer) (plain_labelled parsed.name_bytes) (labelled parsed) l.one-items l.others.items l.index
+invariant-loop-index l = AgreeSoFar (same_labelled (sight_in l.sight) l.scope l.outer)
+    (plain_labelled parsed.name_bytes) (labelled parsed) l.one-items l.others.items l.index

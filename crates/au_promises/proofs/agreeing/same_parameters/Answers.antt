@@ -11,27 +11,46 @@ pub returns-then-len : goal.returns-then-len
 returns-then-len c =
     let one = c.args.list.now in
     let other = c.args.others.now in
-    sym (disagree same_parameter (plain_in_universe parsed.name_bytes) (in_universe parsed) one.items other.items (λ e. c.if-len.true (c.len.ensures ∙ one.ok.0 ∙ e ∙ sym other.ok.0 ∙ sym c.len-2.ensures)))
+    sym (disagree same_parameter (plain_in_universe parsed.name_bytes)
+    (in_universe parsed) one.items other.items (λ e. c.if-len.true (c.len.ensures
+    ∙ one.ok.0 ∙ e ∙ sym other.ok.0 ∙ sym c.len-2.ensures)))
 
 pub returns-then-not-same_parameter : goal.returns-then-not-same_parameter
 returns-then-not-same_parameter c =
     let xs = c.deref-one-items.result.now in
     let ys = c.args.others.now.items in
-    let within : c.loop-index.index < length ys = omega (arith, c.loop-index.invariant.lengths, c.loop-index-test.true) in
-    agree_not same_parameter (plain_in_universe parsed.name_bytes) (in_universe parsed) xs ys c.loop-index.index c.one-item.result c.index.result.now c.loop-index.invariant c.loop-index-test.true within c.one-item.is c.index.ensures (sym c.if-not-same_parameter.ensures)
-    ∙ ap (λ r. all_agree same_parameter (map (plain_in_universe parsed.name_bytes) (map (in_universe parsed) r)) (map (plain_in_universe parsed.name_bytes) (map (in_universe parsed) ys))) c.deref-one-items.ensures.value
+    let within : c.loop-index.index < length ys =
+    omega (arith, c.loop-index.invariant.lengths, c.loop-index-test.true) in
+    agree_not same_parameter (plain_in_universe parsed.name_bytes)
+    (in_universe parsed) xs ys c.loop-index.index c.one-item.result c.index.result.now
+    c.loop-index.invariant c.loop-index-test.true within c.one-item.is c.index.ensures
+    (sym c.if-not-same_parameter.ensures)
+    ∙ ap (λ r. all_agree same_parameter (map (plain_in_universe parsed.name_bytes)
+    (map (in_universe parsed) r)) (map (plain_in_universe parsed.name_bytes)
+    (map (in_universe parsed) ys))) c.deref-one-items.ensures.value
 
 pub loop-index-preserved : goal.loop-index-preserved
 loop-index-preserved c =
     let xs = c.deref-one-items.result.now in
     let ys = c.args.others.now.items in
-    let within : c.loop-index.index < length ys = omega (arith, c.loop-index.invariant.lengths, c.loop-index-test.true) in
-    agree_next same_parameter (plain_in_universe parsed.name_bytes) (in_universe parsed) xs ys c.loop-index.index c.one-item.result c.index.result.now c.loop-index.invariant c.loop-index-test.true within c.one-item.is c.index.ensures (sym c.if-not-same_parameter.ensures)
+    let within : c.loop-index.index < length ys =
+    omega (arith, c.loop-index.invariant.lengths, c.loop-index-test.true) in
+    agree_next same_parameter (plain_in_universe parsed.name_bytes)
+    (in_universe parsed) xs ys c.loop-index.index c.one-item.result c.index.result.now
+    c.loop-index.invariant c.loop-index-test.true within c.one-item.is c.index.ensures
+    (sym c.if-not-same_parameter.ensures)
 
 pub returns : goal.returns
 returns c =
     let xs = c.deref-one-items.result.now in
     let ys = c.args.others.now.items in
-    let past : length ys ≤ c.loop-index.index = omega (arith, c.loop-index.invariant.lengths, c.loop-index-test.false) in
-    agree_end same_parameter (plain_in_universe parsed.name_bytes) (in_universe parsed) xs ys c.loop-index.index c.loop-index.invariant c.loop-index-test.false past
-    ∙ ap (λ r. all_agree same_parameter (map (plain_in_universe parsed.name_bytes) (map (in_universe parsed) r)) (map (plain_in_universe parsed.name_bytes) (map (in_universe parsed) ys))) c.deref-one-items.ensures.value
+    let past : length ys ≤ c.loop-index.index = omega (
+      arith,
+      c.loop-index.invariant.lengths,
+      c.loop-index-test.false,
+    ) in
+    agree_end same_parameter (plain_in_universe parsed.name_bytes)
+    (in_universe parsed) xs ys c.loop-index.index c.loop-index.invariant c.loop-index-test.false past
+    ∙ ap (λ r. all_agree same_parameter (map (plain_in_universe parsed.name_bytes)
+    (map (in_universe parsed) r)) (map (plain_in_universe parsed.name_bytes)
+    (map (in_universe parsed) ys))) c.deref-one-items.ensures.value

@@ -7,4 +7,5 @@ use Rattle.au_promises.proofs.agreeing.same_parameters.Given as goal
 
 -- all items so far agree
 abbrev pub invariant-loop-index : goal.invariant-loop-index
-invariant-loop-index l = AgreeSoFar (same_parameter) (plain_in_universe parsed.name_bytes) (in_universe parsed) l.one-items l.others.items l.index
+invariant-loop-index l = AgreeSoFar (same_parameter) (plain_in_universe parsed.name_bytes)
+    (in_universe parsed) l.one-items l.others.items l.index

@@ -9,5 +9,6 @@ use Rattle.au_promises.proofs.definitions.declared_at.Goals as goal
 
 pub returns : goal.returns
 returns c =
-    seen_got (plain_declaration parsed.name_bytes) (declaration parsed) c.deref.result.now c.args.index c.get.result c.get.ensures.lookup.0 c.get.ensures.lookup.1
+    seen_got (plain_declaration parsed.name_bytes) (declaration parsed) c.deref.result.now
+    c.args.index c.get.result c.get.ensures.lookup.0 c.get.ensures.lookup.1
     ∙ ap (λ r. slice_get (declarations_of r) c.args.index) c.deref.ensures.value

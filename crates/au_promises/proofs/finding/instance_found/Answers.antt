@@ -13,8 +13,10 @@ returns-in-None c =
     let name = name_of c.args.name.now in
     let t = written c.args.of.now in
     let all = declarations_of c.args.decls.now.items in
-    first_missing (instance_defined sight (scope_of (generics_of c.args.list.now.items)) name t) all c.in_ok-index.index
-    (c.in_ok-index.ensures all c.requires ∙ ap (λ s. position (instance_defined sight s name t) all) c.in_ok-scope.ensures)
+    first_missing (instance_defined sight (scope_of (generics_of c.args.list.now.items)) name t)
+    all c.in_ok-index.index
+    (c.in_ok-index.ensures all c.requires
+    ∙ ap (λ s. position (instance_defined sight s name t) all) c.in_ok-scope.ensures)
     c.in-None.is
 
 pub returns : goal.returns
@@ -24,6 +26,8 @@ returns c =
     let t = written c.args.of.now in
     let all = declarations_of c.args.decls.now.items in
     c.declared_at.ensures
-    ∙ first_there (instance_defined sight (scope_of (generics_of c.args.list.now.items)) name t) all c.in_ok-index.index c.in-Some.at
-    (c.in_ok-index.ensures all c.requires ∙ ap (λ s. position (instance_defined sight s name t) all) c.in_ok-scope.ensures)
+    ∙ first_there (instance_defined sight (scope_of (generics_of c.args.list.now.items)) name t)
+    all c.in_ok-index.index c.in-Some.at
+    (c.in_ok-index.ensures all c.requires
+    ∙ ap (λ s. position (instance_defined sight s name t) all) c.in_ok-scope.ensures)
     c.in-Some.is

@@ -24,7 +24,8 @@ returns c all are =
     c.earlier.ensures
     ∙ ap (λ o. earlier o c.in_ok-meaningless.meaningless) (c.in_ok-worded.ensures ∙ are.worded key)
     ∙ ap (earlier (position worded all)) (c.in_ok-meaningless.ensures ∙ are.meaningless class)
-    ∙ position_either worded meaningless (instance_defined sight scope name t) (nothing_defined sight scope name t (sym c.in_ok-nothing.ensures ∙ c.if-not-nothing.false)) all
+    ∙ position_either worded meaningless (instance_defined sight scope name t)
+    (nothing_defined sight scope name t (sym c.in_ok-nothing.ensures ∙ c.if-not-nothing.false)) all
 
 -- for one that means something
 pub returns-then-not-nothing : goal.returns-then-not-nothing
@@ -36,4 +37,5 @@ returns-then-not-nothing c all are =
     let key = instance_key scope sight.interface sight.rows name t in
     c.in_ok-worded.ensures
     ∙ are.worded key
-    ∙ position_alike (has_key (key_defined Worded sight) key) (instance_defined sight scope name t) (meant_defined sight scope name t (sym c.in_ok-nothing.ensures ∙ c.if-not-nothing.true)) all
+    ∙ position_alike (has_key (key_defined Worded sight) key) (instance_defined sight scope name t)
+    (meant_defined sight scope name t (sym c.in_ok-nothing.ensures ∙ c.if-not-nothing.true)) all

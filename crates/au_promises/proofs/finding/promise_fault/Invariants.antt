@@ -5,4 +5,5 @@ use Rattle.au_promises.proofs.finding.promise_fault.Given as goal
 
 -- nothing is refused so far, so the modules that are left decide
 abbrev pub invariant-loop-place : goal.invariant-loop-place
-invariant-loop-place l = faults_from (slots.modules l.resolved) 0 (slots.modules l.resolved) ≡ faults_from (slots.modules l.resolved) l.place (drop l.place (slots.modules l.resolved))
+invariant-loop-place l = faults_from (slots.modules l.resolved) 0 (slots.modules l.resolved)
+    ≡ faults_from (slots.modules l.resolved) l.place (drop l.place (slots.modules l.resolved))

@@ -19,8 +19,10 @@ returns-then-is_some c =
     c.in_ok-fault.ensures
     ∙ sym
     (c.loop-promise.invariant
-    ∙ unkept_next sight body (plain_declaration parsed.name_bytes) (declaration parsed) items i c.promise-item.result c.loop-promise-test.true c.promise-item.is
-    ∙ or_there (promise_fault_of sight body (declared_of c.promise-item.result)) rest (ap is_some (sym c.in_ok-fault.ensures) ∙ sym c.is_some.ensures ∙ c.if-is_some.true))
+    ∙ unkept_next sight body (plain_declaration parsed.name_bytes)
+    (declaration parsed) items i c.promise-item.result c.loop-promise-test.true c.promise-item.is
+    ∙ or_there (promise_fault_of sight body (declared_of c.promise-item.result)) rest
+    (ap is_some (sym c.in_ok-fault.ensures) ∙ sym c.is_some.ensures ∙ c.if-is_some.true))
     ∙ ap (λ r. spec.unkept sight body (declarations_of r)) c.deref-promise-items.ensures.value
 
 pub loop-promise-preserved : goal.loop-promise-preserved
@@ -31,8 +33,10 @@ loop-promise-preserved c =
     let i = c.loop-promise.promise-index in
     let rest = spec.unkept sight body (declarations_of (drop (i + 1) items)) in
     c.loop-promise.invariant
-    ∙ unkept_next sight body (plain_declaration parsed.name_bytes) (declaration parsed) items i c.promise-item.result c.loop-promise-test.true c.promise-item.is
-    ∙ or_behind (promise_fault_of sight body (declared_of c.promise-item.result)) rest (ap is_some (sym c.in_ok-fault.ensures) ∙ sym c.is_some.ensures ∙ c.if-is_some.false)
+    ∙ unkept_next sight body (plain_declaration parsed.name_bytes)
+    (declaration parsed) items i c.promise-item.result c.loop-promise-test.true c.promise-item.is
+    ∙ or_behind (promise_fault_of sight body (declared_of c.promise-item.result)) rest
+    (ap is_some (sym c.in_ok-fault.ensures) ∙ sym c.is_some.ensures ∙ c.if-is_some.false)
 
 pub returns : goal.returns
 returns c =
@@ -41,4 +45,6 @@ returns c =
     sym
     (ap (λ r. spec.unkept sight body (declarations_of r)) (sym c.deref-promise-items.ensures.value)
     ∙ c.loop-promise.invariant
-    ∙ unkept_end sight body (plain_declaration parsed.name_bytes) (declaration parsed) c.deref-promise-items.result.now c.loop-promise.promise-index c.loop-promise-test.false)
+    ∙ unkept_end sight body (plain_declaration parsed.name_bytes)
+    (declaration parsed) c.deref-promise-items.result.now c.loop-promise.promise-index
+    c.loop-promise-test.false)

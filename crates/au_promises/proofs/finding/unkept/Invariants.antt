@@ -7,4 +7,5 @@ use Rattle.au_promises.proofs.finding.unkept.Given as goal
 abbrev pub invariant-loop-promise : goal.invariant-loop-promise
 invariant-loop-promise l =
     spec.unkept (sight_in l.sight) (declarations_of l.decls.items) (declarations_of l.promise-items)
-    ≡ spec.unkept (sight_in l.sight) (declarations_of l.decls.items) (declarations_of (drop l.promise-index l.promise-items))
+    ≡ spec.unkept (sight_in l.sight) (declarations_of l.decls.items)
+    (declarations_of (drop l.promise-index l.promise-items))

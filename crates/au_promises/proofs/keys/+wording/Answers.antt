@@ -13,29 +13,38 @@ push_wording-returns-in_ok-push_meant-in-Named t c =
     on_ok_weaker c.push_wordings.result
     (λ h.
     wording_turn key _ _ _ _ _ _ c.in_ok-push-in-Named.ensures.items c.in_ok-push_meant-in-Named.ensures h
-    ∙ ap (λ u. key ++ whole u) (sym (ap written c.in-Named.is ∙ named_written c.in-Named.name c.in-Named.args)))
+    ∙ ap (λ u. key ++ whole u) (sym (ap written c.in-Named.is
+    ∙ named_written c.in-Named.name c.in-Named.args)))
     c.push_wordings.ensures
 
-pub push_wording-returns-in_ok-push_meant-in-Reference : goal.push_wording-returns-in_ok-push_meant-in-Reference
+pub push_wording-returns-in_ok-push_meant-in-Reference
+    : goal.push_wording-returns-in_ok-push_meant-in-Reference
 push_wording-returns-in_ok-push_meant-in-Reference t c =
     let key = c.args.key.now.items in
     let whole = wording_key c.args.params.now c.args.names.now c.args.heads.now in
     let word = meant_key c.args.params.now c.args.names.now c.args.heads.now c.in-Reference.region.name in
     on_ok_weaker c.push_wording.result
     (λ h.
-    wording_turn key _ _ _ _ _ _ c.in_ok-push-in-Reference.ensures.items c.in_ok-push_meant-in-Reference.ensures h
+    wording_turn key _ _ _ _ _ _ c.in_ok-push-in-Reference.ensures.items
+    c.in_ok-push_meant-in-Reference.ensures h
     ∙ ap (λ n. key ++ (n ∷ word ++ whole (written c.deref.result.now))) c.access_key.ensures
-    ∙ ap (λ target. key ++ (access_key c.in-Reference.access ∷ word ++ whole (written target))) c.deref.ensures
-    ∙ ap (λ u. key ++ whole u) (sym (ap written c.in-Reference.is ∙ reference_written c.in-Reference.field-0 c.in-Reference.access c.in-Reference.target c.in-Reference.region)))
+    ∙ ap (λ target. key ++ (access_key c.in-Reference.access ∷ word ++ whole (written target)))
+    c.deref.ensures
+    ∙ ap (λ u. key ++ whole u) (sym (ap written c.in-Reference.is
+    ∙ reference_written c.in-Reference.field-0 c.in-Reference.access c.in-Reference.target
+    c.in-Reference.region)))
     c.push_wording.ensures
 
 pub push_wordings-loop-one-preserved : goal.push_wordings-loop-one-preserved
 push_wordings-loop-one-preserved t c =
     wordings_turn _ _ _ _ _ _ _ c.in_ok-push.ensures.items c.in_ok-push_wording.ensures
-    (wordings_left c.args.params.now c.args.names.now c.args.heads.now c.deref-one-items.result.now c.loop-one.one-index c.one-item.result c.loop-one-test.true c.one-item.is)
+    (wordings_left c.args.params.now c.args.names.now c.args.heads.now c.deref-one-items.result.now
+    c.loop-one.one-index c.one-item.result c.loop-one-test.true c.one-item.is)
     c.loop-one.invariant
 
 pub push_wordings-returns : goal.push_wordings-returns
 push_wordings-returns t c =
-    wordings_end c.args.params.now c.args.names.now c.args.heads.now c.deref-one-items.result.now c.loop-one.one-index _ _ _ c.loop-one-test.false c.loop-one.invariant c.in_ok-push-2.ensures.items
-    ∙ ap (λ r. c.args.key.now.items ++ wordings_key c.args.params.now c.args.names.now c.args.heads.now (written_all r)) c.deref-one-items.ensures.value
+    wordings_end c.args.params.now c.args.names.now c.args.heads.now c.deref-one-items.result.now
+    c.loop-one.one-index _ _ _ c.loop-one-test.false c.loop-one.invariant c.in_ok-push-2.ensures.items
+    ∙ ap (λ r. c.args.key.now.items ++ wordings_key c.args.params.now c.args.names.now c.args.heads.now
+    (written_all r)) c.deref-one-items.ensures.value

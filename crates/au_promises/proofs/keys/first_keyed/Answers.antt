@@ -10,15 +10,23 @@ use Rattle.au_promises.proofs.DefinitionLemmas.{first_none, first_next, first_al
 use Rattle.au_promises.proofs.keys.first_keyed.Goals as goal
 
 pub loop-index-init : goal.loop-index-init
-loop-index-init c = first_none (key_defined c.args.sort (sight_in c.args.sight.now)) c.new-table.result c.new-table.ensures
+loop-index-init c = first_none (key_defined c.args.sort (sight_in c.args.sight.now))
+    c.new-table.result c.new-table.ensures
 
 pub loop-index-preserved : goal.loop-index-preserved
 loop-index-preserved c =
-    first_next (plain_declaration parsed.name_bytes) (declaration parsed) (key_defined c.args.sort (sight_in c.args.sight.now)) c.loop-index.table c.put_key.new.table c.deref-one-items.result.now c.loop-index.index c.one-item.result c.loop-index-test.true c.one-item.is c.loop-index.invariant
+    first_next (plain_declaration parsed.name_bytes) (declaration parsed)
+    (key_defined c.args.sort (sight_in c.args.sight.now)) c.loop-index.table
+    c.put_key.new.table c.deref-one-items.result.now c.loop-index.index c.one-item.result
+    c.loop-index-test.true c.one-item.is c.loop-index.invariant
     c.in_ok-put_key.ensures
 
 pub returns : goal.returns
 returns c =
-    let first = λ (ds : List (Decl Parsed (List ℕ) (Unit {0}) (Unit {0}))). AreFirst (key_defined c.args.sort (sight_in c.args.sight.now)) (declarations_of ds) c.loop-index.table in
+    let first = λ (ds : List (Decl Parsed (List ℕ) (Unit {0}) (Unit {0}))).
+    AreFirst (key_defined c.args.sort (sight_in c.args.sight.now))
+    (declarations_of ds) c.loop-index.table in
     subst first c.deref-one-items.ensures.value
-    (first_all (plain_declaration parsed.name_bytes) (declaration parsed) (key_defined c.args.sort (sight_in c.args.sight.now)) c.loop-index.table c.deref-one-items.result.now c.loop-index.index c.loop-index-test.false c.loop-index.invariant)
+    (first_all (plain_declaration parsed.name_bytes) (declaration parsed)
+    (key_defined c.args.sort (sight_in c.args.sight.now)) c.loop-index.table
+    c.deref-one-items.result.now c.loop-index.index c.loop-index-test.false c.loop-index.invariant)
