@@ -127,19 +127,9 @@ fn put_name(table: &mut Table<usize>, name: Option<&Name>, index: usize) -> Resu
 }
 
 /// The first definition of each name of a sort, by its index.
-<<<<<<< HEAD
 fn first_defined(alloc: Global, sort: Sort, decls: &[Decl<Parsed>]) -> Result<Table<usize>, Memory>
     ensures { IfOk result (λ table. AreFirst (defining.name_defined sort)
         (declarations_of decls.now) table) }
-=======
-fn first_defined(
-    alloc: Global,
-    sort: Sort,
-    decls: &Vec<Decl<Parsed>>,
-) -> Result<Table<usize>, Memory>
-    ensures { IfOk result (λ table. AreFirst (defining.name_defined sort)
-        (declarations_of decls.now.items) table) }
->>>>>>> eea48b42eb50f15e23b540fa35030245e7fee2c7
 {
     let mut table = Table::new(alloc);
     for (index, one) in decls.iter().enumerate() {
@@ -181,19 +171,9 @@ impl Definitions {
     /// # Errors
     ///
     /// Only for want of memory.
-<<<<<<< HEAD
     pub fn of(alloc: Global, sight: &Sight, decls: &[Decl<Parsed>]) -> Result<Definitions, Memory>
         ensures { IfOk result (λ definitions. AreDefinitions (sight_in sight.now)
             (declarations_of decls.now) definitions) }
-=======
-    pub fn of(
-        alloc: Global,
-        sight: &Sight,
-        decls: &Vec<Decl<Parsed>>,
-    ) -> Result<Definitions, Memory>
-        ensures { IfOk result (λ definitions. AreDefinitions (sight_in sight.now)
-            (declarations_of decls.now.items) definitions) }
->>>>>>> eea48b42eb50f15e23b540fa35030245e7fee2c7
     {
         let names = ByName::of(alloc, decls)?;
         let worded = first_keyed(alloc, sight, KeySort::Worded, decls)?;
