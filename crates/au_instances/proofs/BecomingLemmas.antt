@@ -154,7 +154,7 @@ module _ (heads : List (DeclAt × Head)) (scope : List Parameter) where
         by fits others (inr h) = others h
 
     -- a parameter stands among the arguments, if all do
-    parameter_stands : (all : List Parameter) (args : Arguments) (name : Bytes) (universe : Universe) → all_stand all args ≡ true → universe_in all name ≡ Some universe → stands_in name args ≡ true
+    pub parameter_stands : (all : List Parameter) (args : Arguments) (name : Bytes) (universe : Universe) → all_stand all args ≡ true → universe_in all name ≡ Some universe → stands_in name args ≡ true
     parameter_stands [] args name universe stand e = absurd cc
     parameter_stands (one ∷ rest) args name universe stand e =
         let both = and_parts (stands_in one.name args) (all_stand rest args) stand in

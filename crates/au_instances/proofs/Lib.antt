@@ -12,3 +12,4 @@ pub mod KeyLemmas
 pub mod LawLemmas
 pub mod LackingLemmas
 pub mod SizeLemmas
+pub mod AfterClosingLemmas

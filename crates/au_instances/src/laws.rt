@@ -9,13 +9,15 @@ ghost use Rattle.au_types.specs.declared.types.DeclAt.{DeclAt};
 ghost use Rattle.au_types.specs.Types.{Meaning};
 ghost use Rattle.au_matching.specs.Bindings.{Bindings};
 ghost use Rattle.au_matching.specs.Substituted.{substituted};
+ghost use Rattle.au_type_laws.specs.Fitting.{BindingsFit};
+ghost use Rattle.au_universes.specs.Forming.{StandsOver};
 ghost use Rattle.au_closed_types.specs.Closing.{closed};
 ghost use Rattle.au_closed_types.specs.Types.{ClosedType};
 ghost use Rattle.au_instances.specs.Becoming.{IsRowFor};
-ghost use Rattle.au_instances.specs.ClosedInstances.{ClosedInstance, closed_row};
+ghost use Rattle.au_instances.specs.ClosedInstances.{ClosedHolds, ClosedInstance, closed_row};
 ghost use Rattle.au_instances.specs.Examples as examples;
 ghost use Rattle.au_instances.specs.Instances.{Holds, Known};
-ghost use Rattle.au_instances.specs.Laws.{pairs_below};
+ghost use Rattle.au_instances.specs.Laws.{ValuesMeet, pairs_below};
 ghost use Rattle.au_instances.specs.Pairs.{lacking, pairs};
 ghost use Rattle.au_instances.specs.Rows.{Row as InstanceRow};
 ghost use Rattle.au_instances.specs.Tables.{IsTable, row_for};
@@ -47,6 +49,20 @@ pub fn closing_keeps_the_row()
         → closed (substituted s t) ≡ Some u
         → ClosedInstance rows heads class u other
         → one ≡ other }
+{}
+
+/// What holds of a type at a place with type parameters holds of what it closes to once values stand for these:
+/// values that fit their universes, and of which the known constraints hold.
+pub fn closing_keeps_what_holds()
+    ensures { (rows : List InstanceRow) (heads : List (DeclAt × Head)) (scope : List Parameter)
+        (known : Known) (class : DeclAt) (t : Meaning) (s : Bindings) (u : ClosedType)
+        → IsTable rows
+        → BindingsFit heads scope [] s
+        → ValuesMeet rows heads known s
+        → StandsOver heads scope t
+        → Holds rows heads scope known class t
+        → closed (substituted s t) ≡ Some u
+        → ClosedHolds rows heads class u }
 {}
 
 /// The tests find the rows of the rule: that of a class whose head becomes a type, and that which gives the
