@@ -1,24 +1,21 @@
 -- The test whether a head becomes a type is true exactly where some substitution that fits makes it so.
-use Rattle.std.proofs.Common.{◌≡◌, ◌⊎◌, ◌&&◌, ◌||◌, Bool, true, false, cond, not, List, [], ◌∷◌, Option, None, Some, refl, sym, ap, subst, ◌∙◌, inl, inr, true≢false}
-use Rattle.std.specs.Prelude.{IsTrue}
-use Rattle.std.specs.List.{list_all}
+use Rattle.std.proofs.Common.{◌≡◌, ◌⊎◌, Bool, true, false, cond, not, List, [], ◌∷◌, Option, None, Some, refl, sym, ap, subst, ◌∙◌, inl, inr, true≢false}
 use Rattle.std.specs.Str.{bytes_eq}
 use Rattle.std.proofs.lemmas.Bool.{and_parts, and_from, or_cases, or_parts, not-true, false_from_ne_true}
 use Rattle.std.proofs.lemmas.Slice.Eq.{bytes_eq-Decides}
 use Rattle.au_syntax.specs.declared.declarations.Universe.{Universe}
-use Rattle.au_syntax.specs.declared.declarations.Universe.TheVariants as universes
 use Rattle.au_syntax.specs.Plain.{Bytes}
 use Rattle.au_types.specs.declared.headings.Head.{Head}
 use Rattle.au_types.specs.declared.parameters.Parameter.{Parameter}
 use Rattle.au_types.specs.declared.types.DeclAt.{DeclAt}
 use Rattle.au_types.specs.declared.types.Region.{Region}
-use Rattle.au_types.specs.declared.types.Region.TheVariants.{Static, Named, Anonymous}
-use Rattle.au_types.specs.Types.{Meaning, Argument, Arguments, unit, truth, integer, text, parameter, named, reads, writes, of_type, in_region, no_arguments, arguments}
+use Rattle.au_types.specs.declared.types.Region.TheVariants.{Named}
+use Rattle.au_types.specs.Types.{Meaning, Argument, Arguments, parameter, of_type, in_region, no_arguments, arguments}
 use Rattle.au_types.specs.Universes.{universe_in}
 use Rattle.au_matching.specs.Bindings.{Bindings, value_of, GivesType, GivesRegion}
-use Rattle.au_matching.specs.Substituted.{type_for, region_for, substituted, argument_substituted, all_substituted, EachNameOf, EachNameOfAll}
+use Rattle.au_matching.specs.Substituted.{type_for, region_for, argument_substituted, all_substituted, EachNameOf, EachNameOfAll}
 use Rattle.au_type_laws.specs.Fitting.{stand_in, BindingsFit}
-use Rattle.au_universes.specs.Forming.{fits, fits_in_kind, takes, wants_region}
+use Rattle.au_universes.specs.Forming.{fits, wants_region}
 use Rattle.au_universes.proofs.LawLemmas.{fits_kind}
 use Rattle.au_instances.specs.Becoming.{taken_by, stands_for, all_stand_for}
 use Rattle.au_instances.specs.Forms.{name_of, of_kind, is_one_of, are_parameters, are_distinct, is_again, is_called, stands_in, all_stand}
@@ -157,7 +154,7 @@ module _ (heads : List (DeclAt × Head)) (scope : List Parameter) where
         by fits others (inr h) = others h
 
     -- a parameter stands among the arguments, if all do
-    parameter_stands : (all : List Parameter) (args : Arguments) (name : Bytes) (universe : Universe) → all_stand all args ≡ true → universe_in all name ≡ Some universe → stands_in name args ≡ true
+    pub parameter_stands : (all : List Parameter) (args : Arguments) (name : Bytes) (universe : Universe) → all_stand all args ≡ true → universe_in all name ≡ Some universe → stands_in name args ≡ true
     parameter_stands [] args name universe stand e = absurd cc
     parameter_stands (one ∷ rest) args name universe stand e =
         let both = and_parts (stands_in one.name args) (all_stand rest args) stand in

@@ -1,16 +1,16 @@
 -- The row that is found for a class at a closed type is the one that gives the instance there.
-use Rattle.std.proofs.Common.{◌≡◌, ◌⊎◌, ℕ, ◌&&◌, ◌||◌, Bool, true, false, cond, not, List, [], ◌∷◌, ◌++◌, Option, None, Some, Contains, refl, sym, ap, subst, ◌∙◌, inl, inr, true≢false, arith, Vec, length}
+use Rattle.std.proofs.Common.{◌≡◌, ◌⊎◌, Bool, true, false, cond, List, [], ◌∷◌, ◌++◌, Option, None, Some, Contains, refl, sym, ap, subst, ◌∙◌, inl, inr, arith, Vec, length}
 use lib.Dec.{eqb}
 use Rattle.std.specs.Global.{Global}
 use Rattle.std.proofs.lemmas.Bool.{ne_eqb}
-use Rattle.au_closed_types.specs.declared.types.Closed.{Closed, Unit as Unit', Bool as Bool', Int, Text, Named as Named-of, Named', Read', Write'}
+use Rattle.au_closed_types.specs.declared.types.Closed.{Closed, Named as Named-of, Named'}
 use Rattle.au_closed_types.specs.declared.types.Closed.TheBlock.{backs-Closed, shown-the_row-Closed-0}
 use Rattle.au_closed_types.specs.Views.{closed_meaning}
-use Rattle.std.specs.Prelude.{IsTrue, if◌then◌else◌, is_some, unwrap_or}
-use Rattle.std.specs.List.{list_all, list_any}
+use Rattle.std.specs.Prelude.{if◌then◌else◌, is_some, unwrap_or}
+use Rattle.std.specs.List.{list_all}
 use Rattle.std.specs.Option.{option_map}
 use Rattle.std.specs.Str.{bytes_eq}
-use Rattle.std.proofs.lemmas.Bool.{and_parts, and_from, or_cases, or_left, or_right}
+use Rattle.std.proofs.lemmas.Bool.{and_parts, and_from}
 use Rattle.std.proofs.lemmas.Option.{same_Some}
 use Rattle.std.proofs.lemmas.Slice.Eq.{bytes_eq-Decides}
 use Rattle.au_syntax.specs.declared.declarations.Universe.{Universe}
@@ -20,37 +20,32 @@ use Rattle.au_types.specs.declared.parameters.Parameter.{Parameter}
 use Rattle.au_types.specs.declared.types.DeclAt.{DeclAt}
 use Rattle.au_types.specs.declared.types.Region.{Region}
 use Rattle.au_types.specs.declared.types.Region.TheVariants.{Static, Named, Anonymous}
-use Rattle.au_types.specs.Rows.{head_of, same_place}
+use Rattle.au_types.specs.Rows.{head_of}
 use Rattle.au_types.specs.Types as whole
 use Rattle.au_types.specs.Types.{Meaning, Argument, Arguments, of_type, in_region, no_arguments, arguments}
 use Rattle.au_types.specs.Universes.{universe_in}
-use Rattle.au_types.proofs.SameLemmas.{place_is, place_self}
 use Rattle.au_matching.specs.Bindings.{Bindings, value_of, GivesType, GivesRegion}
 use Rattle.au_matching.specs.Matched.{Makes}
-use Rattle.au_matching.specs.Substituted.{type_for, substituted, argument_substituted, all_substituted, Fixes, EachNameOf, EachNameOfAll}
+use Rattle.au_matching.specs.Substituted.{type_for, substituted, all_substituted, Fixes, EachNameOf, EachNameOfAll}
 use Rattle.au_type_laws.specs.Fitting.{BindingsFit}
 use Rattle.au_universes.specs.declared.universes.TypeUniverse.{TypeUniverse}
-use Rattle.au_universes.specs.declared.universes.TypeUniverse.TheVariants.{Free, Linear}
-use Rattle.au_universes.specs.Forming.{fits, takes, wants_region}
+use Rattle.au_universes.specs.Forming.{takes}
 use Rattle.au_universes.specs.Universes.{judged, of_row, universe_of, argument_universe, argument_universes}
 use Rattle.au_closed_types.specs.Closing.{closed, all_closed, argument_closed, in_front}
-use Rattle.au_closed_types.specs.Same.{same}
 use Rattle.au_closed_types.specs.Types.{ClosedType, ClosedTypes, unit, truth, integer, text, named, reads, writes, no_types, types}
 use Rattle.au_closed_types.proofs.SameLemmas.{same_is, same_self}
 use Rattle.au_generics.specs.Bounds.{Bounded, classes_of, constrains, is_among, parameters}
 use Rattle.au_instances.specs.declared.constructors.Constructor.{Constructor}
-use Rattle.au_instances.specs.declared.constructors.Constructor.TheVariants as constructors
-use Rattle.au_instances.specs.Becoming.{Becomes, stands_for, all_stand_for, taken_by}
-use Rattle.au_instances.specs.ClosedInstances.{ClosedBecomes, ClosedInstance, by_row, ClosedHolds, given, closed_universe, closed_universes, Part, types_in, type_in, closes_to, closed_taken, closed_stands, all_closed_stand, gives, if_gives, closed_row, parts_of, has_instance, parts_in}
+use Rattle.au_instances.specs.Becoming.{stands_for, all_stand_for, taken_by}
+use Rattle.au_instances.specs.ClosedInstances.{ClosedInstance, by_row, ClosedHolds, given, closed_universe, closed_universes, Part, types_in, closes_to, closed_taken, closed_stands, all_closed_stand, gives, if_gives, closed_row, parts_of, has_instance, parts_in}
 use Rattle.au_instances.specs.Constructors.{constructor_of, closed_constructor}
-use Rattle.au_instances.specs.Forms.{HasForm, arguments_of, name_of, type_name, region_name, is_one_of, of_kind, are_parameters}
+use Rattle.au_instances.specs.Forms.{HasForm, arguments_of, type_name, region_name, is_one_of, of_kind, are_parameters}
 use Rattle.au_instances.specs.Rows.{Row}
-use Rattle.au_instances.specs.Tables.{IsTable, row_of, row_with}
+use Rattle.au_instances.specs.Tables.{IsTable, row_with}
 use Rattle.au_instances.proofs.BecomingLemmas.{all_back, bound_to, bound_gives, fit_back, pair_for, value_taken}
 use Rattle.au_instances.proofs.ConstructorLemmas.{constructor_stays}
 use Rattle.au_instances.proofs.FormLemmas.{OverParameters, closed_each, form_closed, form_over}
 use Rattle.au_instances.proofs.PairLemmas.{class_among, in_classes}
-use Rattle.au_instances.proofs.RowLemmas.{becomes_found}
 use Rattle.au_instances.proofs.TableLemmas.{row_gave, row_there, Contains-cases, Contains-first, Contains-rest}
 use Rattle.au_matching.proofs.SubstitutedLemmas.{untouched}
 

@@ -1,10 +1,9 @@
 -- The test whether a type closes to a closed type, form by form.
-use Rattle.std.proofs.Common.{◌≡◌, ◌&&◌, Bool, true, false, Option, None, Some, Vec, refl, sym, ap, subst, ◌∙◌}
+use Rattle.std.proofs.Common.{◌≡◌, ◌&&◌, Bool, true, false, Option, None, Some, refl, sym, ap, subst, ◌∙◌}
 use Rattle.std.specs.Global.{Global}
 use Rattle.std.specs.Option.{option_map}
 use Rattle.std.specs.declared.boxed.Box.{Box}
 use Rattle.std.proofs.lemmas.Bool.{and_right}
-use Rattle.au_base.specs.declared.kinds.IntKind.{IntKind}
 use Rattle.au_types.specs.declared.types.DeclAt.{DeclAt}
 use Rattle.au_types.specs.declared.types.Region.{Region}
 use Rattle.au_types.specs.declared.types.Ty.{Ty, Unit, Bool as Bool', Int, Text, Param, Named', Read, Read', Write, Write'}
@@ -15,7 +14,7 @@ use Rattle.au_types.specs.Views.{meaning}
 use Rattle.au_types.proofs.SameLemmas.{place_is, place_self}
 use Rattle.au_closed_types.specs.Closing.{closed, all_closed, in_front}
 use Rattle.au_closed_types.specs.Same.{same, same_all}
-use Rattle.au_closed_types.specs.Types.{ClosedType, ClosedTypes, unit, truth, integer, text, named, reads, writes, no_types, types}
+use Rattle.au_closed_types.specs.Types.{ClosedType, ClosedTypes, named, reads, writes, no_types, types}
 use Rattle.au_instances.specs.declared.constructors.Constructor.TheVariants as constructors
 use Rattle.au_instances.specs.ClosedInstances.{closes_to, all_close_to, types_in}
 use Rattle.au_instances.specs.Constructors.{constructor_of, is_constructor}

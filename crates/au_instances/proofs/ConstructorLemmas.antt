@@ -1,6 +1,5 @@
 -- The test of two constructors is true exactly for equal ones.
-use Rattle.std.proofs.Common.{◌≡◌, true, Option, None, Some, refl, sym, ap, subst, ◌∙◌}
-use Rattle.std.proofs.lemmas.Option.{same_Some}
+use Rattle.std.proofs.Common.{◌≡◌, true, Option, None, Some, refl, sym, ap, subst}
 use denote.Enum.Bare.{same_true, true_same}
 use Rattle.au_base.specs.contracts.kinds.IntKind.{the_type as kind}
 use Rattle.au_types.specs.Types.{Meaning, unit, truth, integer, text, parameter, named, reads, writes}

@@ -1,8 +1,7 @@
 -- Heads of instances: the test of their form, and what is known of a head that has it.
-use Rattle.std.proofs.Common.{◌≡◌, ◌⊎◌, ◌&&◌, ◌||◌, Bool, true, false, not, List, [], ◌∷◌, Option, None, Some, refl, sym, ap, subst, ◌∙◌, inl, inr, true≢false}
+use Rattle.std.proofs.Common.{◌≡◌, ◌⊎◌, ◌&&◌, ◌||◌, true, false, List, [], ◌∷◌, Option, None, Some, refl, sym, ap, ◌∙◌, inl, inr, true≢false}
 use Rattle.std.specs.Prelude.{is_some, IsTrue}
 use Rattle.std.specs.Bool.{Decides}
-use Rattle.std.specs.List.{list_all}
 use Rattle.std.proofs.lemmas.Bool.{and_parts, and_from, or_cases, or_left, or_right}
 use Rattle.au_syntax.specs.Plain.{Bytes}
 use Rattle.au_types.specs.declared.parameters.Parameter.{Parameter}
@@ -14,7 +13,7 @@ use Rattle.au_matching.specs.Substituted.{EachName, EachNameOf, EachNameOfAll, O
 use Rattle.au_generics.specs.Bounds.{Bounded, parameters}
 use Rattle.au_instances.specs.declared.constructors.Constructor.{Constructor}
 use Rattle.au_instances.specs.Constructors.{constructor_of}
-use Rattle.au_instances.specs.Forms.{HasForm, has_form, is_closed, is_closed_argument, are_closed, is_static, arguments_of, are_parameters, are_distinct, all_stand, stands_in, is_called, name_of, type_name, region_name, is_one_of}
+use Rattle.au_instances.specs.Forms.{HasForm, has_form, is_closed, is_closed_argument, are_closed, is_static, arguments_of, are_parameters, are_distinct, all_stand, stands_in, is_called, name_of, type_name, is_one_of}
 
 -- ---- the test decides
 

@@ -1,7 +1,7 @@
 -- Rows are found by their keys.
-use Rattle.std.proofs.Common.{◌≡◌, ◌⊎◌, ℕ, suc, ◌+◌, ◌<◌, ◌≤◌, ◌&&◌, Bool, true, false, cond, not, List, [], ◌∷◌, ◌++◌, length, map, get_or, Option, None, Some, Contains, refl, sym, ap, subst, ◌∙◌, inl, inr, arith}
+use Rattle.std.proofs.Common.{◌≡◌, ◌⊎◌, ℕ, suc, ◌+◌, ◌<◌, ◌≤◌, ◌&&◌, Bool, true, false, cond, not, List, [], ◌∷◌, ◌++◌, length, map, get_or, Option, None, Some, Contains, refl, sym, ap, subst, ◌∙◌, inl, inr}
 use Rattle.std.specs.Prelude.{nat_lt, slice_get, if◌then◌else◌}
-use Rattle.std.specs.List.{find, list_any, position, position_or_len}
+use Rattle.std.specs.List.{list_any, position, position_or_len}
 use Rattle.std.specs.Option.{option_map}
 use Rattle.std.proofs.lemmas.Bool.{ltb-true, ltb-false, or_from}
 use Rattle.std.proofs.lemmas.List.{map-append}

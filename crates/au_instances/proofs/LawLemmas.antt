@@ -1,5 +1,5 @@
 -- Laws of tables of instances.
-use Rattle.std.proofs.Common.{◌≡◌, ◌&&◌, ◌||◌, Bool, true, false, cond, List, [], ◌∷◌, ◌++◌, Option, None, Some, Contains, refl, sym, ap, subst, ◌∙◌}
+use Rattle.std.proofs.Common.{◌≡◌, ◌||◌, Bool, true, false, List, [], ◌∷◌, ◌++◌, Option, None, Some, Contains, refl, sym, ap, subst, ◌∙◌}
 use Rattle.std.specs.Prelude.{if◌then◌else◌}
 use Rattle.std.specs.List.{flat_map}
 use Rattle.std.proofs.lemmas.Option.{same_Some}
@@ -15,15 +15,14 @@ use Rattle.au_matching.specs.Substituted.{type_for, substituted, argument_substi
 use Rattle.au_closed_types.specs.Closing.{closed}
 use Rattle.au_closed_types.specs.Types.{ClosedType}
 use Rattle.au_generics.specs.Bounds.{Bounded}
-use Rattle.au_instances.specs.declared.constructors.Constructor.{Constructor}
 use Rattle.au_instances.specs.Becoming.{IsRowFor}
-use Rattle.au_instances.specs.ClosedInstances.{ClosedInstance, closed_row, parts_in}
+use Rattle.au_instances.specs.ClosedInstances.{ClosedInstance, parts_in}
 use Rattle.au_instances.specs.Constructors.{constructor_of, closed_constructor}
 use Rattle.au_instances.specs.Forms.{HasForm, arguments_of, is_called, name_of, stands_in}
 use Rattle.au_instances.specs.Laws.{pairs_at, pairs_below}
-use Rattle.au_instances.specs.Pairs.{Pair, constraints_of, part_for, below, pairs, part_of, parts_of}
+use Rattle.au_instances.specs.Pairs.{constraints_of, part_for, below, pairs, part_of, parts_of}
 use Rattle.au_instances.specs.Rows.{Row}
-use Rattle.au_instances.specs.Tables.{IsTable, row_of, row_with, row_for}
+use Rattle.au_instances.specs.Tables.{IsTable, row_with, row_for}
 use Rattle.au_instances.proofs.ClosedLemmas.{closed_constructor_is, closed_row_there, closed_row_is, if_gives_gave}
 use Rattle.au_instances.proofs.ConstructorLemmas.{constructor_stays}
 use Rattle.au_instances.proofs.FormLemmas.{form_over}
@@ -74,6 +73,7 @@ module _ (rows : List Row) (heads : List (DeclAt × Head)) (scope : List Paramet
       here (in_region (Named other)) gives called =
           sym (ap (λ o. pairs_at rows heads scope o wanted) (ap (λ n. value_of n s) ((bytes_eq-Decides name other).0 called) ∙ gives.1))
       here (in_region region) gives called = absurd cc
+
       by : (b : Bool) → is_called name (name_of one) ≡ b
           → (stands_in name rest ≡ true → part_for name rest (parts_of rows heads scope (all_substituted s rest)) wanted ≡ pairs_at rows heads scope (value_of name s) wanted)
           → (b || stands_in name rest) ≡ true

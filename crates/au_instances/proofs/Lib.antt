@@ -10,3 +10,6 @@ pub mod WalkLemmas
 pub mod ClosesLemmas
 pub mod KeyLemmas
 pub mod LawLemmas
+pub mod LackingLemmas
+pub mod SizeLemmas
+pub mod AfterClosingLemmas

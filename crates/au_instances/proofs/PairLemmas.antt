@@ -1,10 +1,10 @@
 -- No pair is lacking exactly where the class holds at the type.
-use Rattle.std.proofs.Common.{◌≡◌, ◌⊎◌, ℕ, ◌&&◌, ◌||◌, Bool, true, false, cond, not, List, [], ◌∷◌, ◌++◌, map, Option, None, Some, Contains, refl, sym, ap, subst, ◌∙◌, inl, inr, true≢false, arith}
+use Rattle.std.proofs.Common.{◌≡◌, ◌⊎◌, ◌||◌, Bool, true, false, cond, not, List, [], ◌∷◌, ◌++◌, Option, None, Some, Contains, refl, sym, ap, subst, ◌∙◌, inl, inr, arith}
 use Rattle.std.specs.Prelude.{IsTrue, if◌then◌else◌, is_none, unwrap_or}
 use Rattle.std.specs.List.{find, flat_map, list_any}
 use Rattle.std.specs.Option.{option_or}
 use Rattle.std.specs.Str.{bytes_eq}
-use Rattle.std.proofs.lemmas.Bool.{and_parts, and_from, or_cases, or_left, or_right, not-false}
+use Rattle.std.proofs.lemmas.Bool.{and_parts, or_cases, or_left, or_right}
 use Rattle.std.proofs.lemmas.List.Elements.{Contains-append_cases, Contains-append_left, Contains-append_right}
 use Rattle.std.proofs.lemmas.List.Folds.{find-append}
 use Rattle.std.proofs.lemmas.Slice.Eq.{bytes_eq-Decides}
@@ -25,7 +25,7 @@ use Rattle.au_instances.specs.Instances.{Known, is_known, Instance, by_row, Hold
 use Rattle.au_instances.specs.Pairs.{Pair, Parts, named_with, constraints_of, part_for, below, pairs, part_of, parts_of, is_lacking, lacking}
 use Rattle.au_instances.specs.Rows.{Row}
 use Rattle.au_instances.specs.Tables.{IsTable, row_for}
-use Rattle.au_instances.proofs.FormLemmas.{OverParameters, form_over}
+use Rattle.au_instances.proofs.FormLemmas.{form_over}
 use Rattle.au_instances.proofs.RowLemmas.{row_for_gave, row_for_there}
 use Rattle.au_instances.proofs.TableLemmas.{Contains-cases, Contains-first, Contains-rest}
 
@@ -161,17 +161,17 @@ constrained_stands (one ∷ rest) args name class stand e =
 
 -- ---- the pairs of a class at a type
 
+one_empty : (name : Bytes) (args : Arguments) (class : DeclAt) → part_for name args [] class ≡ []
+one_empty name no_arguments class = refl
+one_empty name (arguments first rest) class = refl
+
+pub nothing_below : (names : Arguments) (constraints : Known) → flat_map (λ one. part_for one.0 names [] one.1) constraints ≡ []
+nothing_below names [] = refl
+nothing_below names (one ∷ rest) = ap (λ xs. xs ++ flat_map (λ one. part_for one.0 names [] one.1) rest) (one_empty one.0 names one.1) ∙ nothing_below names rest
+
 none_below : (o : Option Row) → below o [] ≡ []
 none_below None = refl
-none_below (Some row) = all_empty (constraints_of row.generics)
-  where
-    one_empty : (name : Bytes) (args : Arguments) (class : DeclAt) → part_for name args [] class ≡ []
-    one_empty name no_arguments class = refl
-    one_empty name (arguments first rest) class = refl
-
-    all_empty : (known : Known) → flat_map (λ one. part_for one.0 (arguments_of row.head) [] one.1) known ≡ []
-    all_empty [] = refl
-    all_empty (one ∷ rest) = ap (λ xs. xs ++ flat_map (λ one. part_for one.0 (arguments_of row.head) [] one.1) rest) (one_empty one.0 (arguments_of row.head) one.1) ∙ all_empty rest
+none_below (Some row) = nothing_below (arguments_of row.head) (constraints_of row.generics)
 
 module _ (rows : List Row) (heads : List (DeclAt × Head)) (scope : List Parameter) (known : Known) where
   abbrev test : Pair → Bool

@@ -1,7 +1,7 @@
 -- The test whether the head of a row becomes a type, and the row of a class that is found by it.
-use Rattle.std.proofs.Common.{◌≡◌, ◌&&◌, Bool, true, false, cond, List, [], ◌∷◌, Option, None, Some, Contains, refl, sym, ap, subst, ◌∙◌, true≢false, Vec}
+use Rattle.std.proofs.Common.{◌≡◌, Bool, true, false, List, [], ◌∷◌, Option, None, Some, Contains, refl, sym, ap, subst, ◌∙◌, Vec}
 use Rattle.std.specs.Global.{Global}
-use Rattle.std.specs.Prelude.{IsTrue, if◌then◌else◌}
+use Rattle.std.specs.Prelude.{if◌then◌else◌}
 use Rattle.std.proofs.lemmas.Bool.{and_parts, and_from}
 use Rattle.std.proofs.lemmas.Option.{same_Some}
 use Rattle.au_syntax.specs.Plain.{Bytes}
@@ -10,11 +10,11 @@ use Rattle.au_types.specs.declared.parameters.Parameter.{Parameter}
 use Rattle.au_types.specs.declared.types.Arg.{Arg}
 use Rattle.au_types.specs.declared.types.Arg.TheBlock.{shown-the_row-Arg-0, backs-Ty}
 use Rattle.au_types.specs.declared.types.DeclAt.{DeclAt}
-use Rattle.au_types.specs.declared.types.Ty.{Ty, Unit as Unit', Bool as Bool', Int, Text, Param, Named as Named-of, Named', Read, Write}
+use Rattle.au_types.specs.declared.types.Ty.{Ty, Named as Named-of, Named'}
 use Rattle.au_types.specs.Views.{meaning}
 use Rattle.au_types.specs.Rows.{same_place}
 use Rattle.au_types.specs.Same.{same}
-use Rattle.au_types.specs.Types.{Meaning, Argument, Arguments, unit, truth, integer, text, parameter, named, reads, writes}
+use Rattle.au_types.specs.Types.{Meaning, Argument, Arguments, named}
 use Rattle.au_types.proofs.SameLemmas.{same_is, same_self, place_is, place_self}
 use Rattle.au_matching.specs.Bindings.{Bindings, value_of, GivesType, GivesRegion}
 use Rattle.au_matching.specs.Matched.{Makes}
@@ -24,10 +24,10 @@ use Rattle.au_type_laws.specs.Fitting.{BindingsFit}
 use Rattle.au_generics.specs.Bounds.{Bounded, parameters}
 use Rattle.au_instances.specs.declared.constructors.Constructor.{Constructor}
 use Rattle.au_instances.specs.Constructors.{constructor_of}
-use Rattle.au_instances.specs.Becoming.{Becomes, IsRowFor, applies, becomes, all_stand_for}
-use Rattle.au_instances.specs.Forms.{HasForm, is_closed, arguments_of}
+use Rattle.au_instances.specs.Becoming.{IsRowFor, applies, becomes, all_stand_for}
+use Rattle.au_instances.specs.Forms.{HasForm}
 use Rattle.au_instances.specs.Rows.{Row}
-use Rattle.au_instances.specs.Tables.{IsTable, row_of, row_with, if_becomes, row_for}
+use Rattle.au_instances.specs.Tables.{IsTable, row_with, if_becomes, row_for}
 use Rattle.au_instances.proofs.BecomingLemmas.{all_forward, all_back, bound_to, bound_gives, fit_back}
 use Rattle.au_instances.proofs.ConstructorLemmas.{constructor_stays}
 use Rattle.au_instances.proofs.FormLemmas.{OverParameters, closed_each, form_closed, form_over}

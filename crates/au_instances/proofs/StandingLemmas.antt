@@ -1,14 +1,13 @@
 -- Types that stand over rows and type parameters, and the parts of them.
-use Rattle.std.proofs.Common.{◌≡◌, ℕ, ◌+◌, ◌<◌, ◌≤◌, ◌&&◌, Bool, true, false, List, [], ◌∷◌, length, drop, get_or, refl, sym, ap, subst, ◌∙◌}
+use Rattle.std.proofs.Common.{◌≡◌, ℕ, ◌+◌, ◌<◌, ◌≤◌, true, List, length, drop, get_or, sym, ap, subst, ◌∙◌}
 use Rattle.std.proofs.lemmas.Bool.{and_parts}
 use Rattle.std.proofs.lemmas.List.{drop_more, drop_all}
-use Rattle.au_syntax.specs.declared.declarations.Universe.{Universe}
 use Rattle.au_types.specs.declared.headings.Head.{Head}
 use Rattle.au_types.specs.declared.parameters.Parameter.{Parameter}
 use Rattle.au_types.specs.declared.types.Arg.{Arg}
 use Rattle.au_types.specs.declared.types.DeclAt.{DeclAt}
 use Rattle.au_types.specs.Rows.{head_of}
-use Rattle.au_types.specs.Types.{Meaning, Argument, Arguments, named, of_type, in_region, no_arguments, arguments}
+use Rattle.au_types.specs.Types.{Argument, Arguments, named, of_type, in_region, no_arguments, arguments}
 use Rattle.au_types.specs.Views.{argument, argument_all}
 use Rattle.au_universes.specs.Forming.{ArgumentStandsOver, StandsOver, fit_row, fits_in_kind, is_formed, argument_formed, all_formed}
 

@@ -1,5 +1,5 @@
 -- Rows of a table are told apart by class and constructor.
-use Rattle.std.proofs.Common.{◌≡◌, ◌⊎◌, ℕ, ◌<◌, ◌&&◌, Bool, true, false, cond, List, [], ◌∷◌, ◌++◌, length, get_or, Option, None, Some, Contains, refl, sym, ap, subst, ◌∙◌, inl, inr, arith, true≢false}
+use Rattle.std.proofs.Common.{◌≡◌, ◌⊎◌, ℕ, ◌<◌, Bool, true, false, cond, List, [], ◌∷◌, get_or, Option, None, Some, Contains, refl, sym, ap, subst, ◌∙◌, inl, inr, arith, true≢false}
 use Rattle.std.specs.List.{find}
 use Rattle.std.proofs.lemmas.Bool.{and_parts, and_from, cases_order}
 use Rattle.std.proofs.lemmas.Option.{same_Some}
@@ -11,7 +11,7 @@ use Rattle.au_types.proofs.SameLemmas.{place_is, place_self}
 use Rattle.au_instances.specs.declared.constructors.Constructor.{Constructor}
 use Rattle.au_instances.specs.Constructors.{constructor_of, is_constructor}
 use Rattle.au_instances.specs.Rows.{Row}
-use Rattle.au_instances.specs.Tables.{AreApart, IsTable, is_row_of, row_of}
+use Rattle.au_instances.specs.Tables.{IsTable, is_row_of, row_of}
 use Rattle.au_instances.proofs.ConstructorLemmas.{is_that, that_is}
 
 -- ---- what is found in lists

@@ -5,9 +5,8 @@ use Rattle.std.specs.List.{list_all}
 use Rattle.au_syntax.specs.declared.declarations.Universe.{Universe}
 use Rattle.au_syntax.specs.Plain.{Bytes}
 use Rattle.au_types.specs.declared.headings.Head.{Head}
-use Rattle.au_types.specs.declared.parameters.Parameter.{Parameter}
 use Rattle.au_types.specs.declared.types.DeclAt.{DeclAt}
-use Rattle.au_types.specs.Rows.{head_of, same_place}
+use Rattle.au_types.specs.Rows.{head_of}
 use Rattle.au_types.specs.Types as whole
 use Rattle.au_types.specs.Types.{Meaning, Argument, Arguments, of_type}
 use Rattle.au_types.specs.Universes.{universe_in}
@@ -42,12 +41,18 @@ mutual
         → Contains rows row
         → row.class ≡ class
         → ClosedBecomes heads row t s
-        → ((name : Bytes) (wanted : DeclAt) (value : Meaning) (part : ClosedType) → IsTrue (constrains row.generics name wanted) → value_of name s ≡ Some (of_type value) → closed value ≡ Some part → ClosedHolds rows heads wanted part)
+        → ((name : Bytes) (wanted : DeclAt) (value : Meaning) (part : ClosedType)
+        → IsTrue (constrains row.generics name wanted)
+        → value_of name s ≡ Some (of_type value)
+        → closed value ≡ Some part
+        → ClosedHolds rows heads wanted part)
         → ClosedInstance rows heads class t row
 
   -- a constraint holds of a closed type: some row gives the instance
   pub data ClosedHolds (rows : List Row) (heads : List (DeclAt × Head)) : DeclAt → ClosedType → Type 0 where
-    given : (class : DeclAt) (t : ClosedType) (row : Row) → ClosedInstance rows heads class t row → ClosedHolds rows heads class t
+    given : (class : DeclAt) (t : ClosedType) (row : Row)
+        → ClosedInstance rows heads class t row
+        → ClosedHolds rows heads class t
 
 -- ---- the same as a test
 
@@ -96,7 +101,8 @@ module _ (heads : List (DeclAt × Head)) where
   abbrev pub closed_stands : List Bounded → Option Bytes → Part → Bool
   closed_stands generics None part = false
   closed_stands generics (Some name) part =
-      closed_taken (universe_in (parameters generics) name) part.0 && list_all part.1 (unwrap_or (classes_of generics name) [])
+      closed_taken (universe_in (parameters generics) name) part.0
+      && list_all part.1 (unwrap_or (classes_of generics name) [])
 
   -- the same of as many types, each that in its place
   abbrev pub all_closed_stand : List Bounded → List Meaning → List Part → Bool

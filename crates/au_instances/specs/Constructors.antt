@@ -1,4 +1,4 @@
--- What heads a type: a built-in type or a declared one. A type parameter and a reference are headed by nothing.
+-- What heads a type: a built-in type or a declared one. Nothing heads a type parameter or a reference.
 use Rattle.std.specs.Prelude.{Bool, true, false, Option, None, Some}
 use denote.Enum.Bare.{sameb}
 use Rattle.au_base.specs.contracts.kinds.IntKind.{the_type as kind}

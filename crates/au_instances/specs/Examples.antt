@@ -42,12 +42,15 @@ lent = place 4 1
 abbrev pub parameter_of : Bytes → Universe → Parameter
 parameter_of name universe = record { name = name; universe = universe }
 
+abbrev pub headed : List ℕ → Universe → List Parameter → Head
+headed said universe params = record { text = said; universe = universe; params = params }
+
 abbrev pub declared : List (DeclAt × Head)
 declared =
-    (option, record { text = codes "Austral.Pervasive:Option"; universe = universes.AnyType; params = parameter_of (codes "T") universes.AnyType ∷ [] })
-    ∷ (box, record { text = codes "Standard.Box:Box"; universe = universes.Linear; params = parameter_of (codes "T") universes.AnyType ∷ [] })
-    ∷ (pair, record { text = codes "Main:Pair"; universe = universes.Free; params = parameter_of (codes "A") universes.Free ∷ parameter_of (codes "B") universes.Free ∷ [] })
-    ∷ (lent, record { text = codes "Main:Lent"; universe = universes.Free; params = parameter_of (codes "R") universes.Region ∷ parameter_of (codes "T") universes.Free ∷ [] })
+    (option, headed (codes "Austral.Pervasive:Option") universes.AnyType (parameter_of (codes "T") universes.AnyType ∷ []))
+    ∷ (box, headed (codes "Standard.Box:Box") universes.Linear (parameter_of (codes "T") universes.AnyType ∷ []))
+    ∷ (pair, headed (codes "Main:Pair") universes.Free (parameter_of (codes "A") universes.Free ∷ parameter_of (codes "B") universes.Free ∷ []))
+    ∷ (lent, headed (codes "Main:Lent") universes.Free (parameter_of (codes "R") universes.Region ∷ parameter_of (codes "T") universes.Free ∷ []))
     ∷ []
 
 -- ---- types
@@ -67,6 +70,10 @@ t = whole.parameter t_name
 
 abbrev pub free : Universe
 free = universes.Free
+
+-- T of a universe alone in scope
+abbrev pub scope : Universe → List Parameter
+scope universe = parameter_of t_name universe ∷ []
 
 -- a declared type over one type, and over two
 abbrev pub of_one : DeclAt → Meaning → Meaning

@@ -1,6 +1,6 @@
 -- Which types may be heads of instances.
-use Rattle.std.specs.Prelude.{◌≡◌, ◌⊎◌, ◌&&◌, ◌||◌, List, [], ◌∷◌, Bool, true, false, not, Option, None, Some, IsTrue, is_some}
-use Rattle.std.specs.List.{list_all, list_any}
+use Rattle.std.specs.Prelude.{◌≡◌, ◌⊎◌, ◌&&◌, ◌||◌, List, Bool, true, false, not, Option, None, Some, IsTrue, is_some}
+use Rattle.std.specs.List.{list_all}
 use Rattle.std.specs.Str.{bytes_eq}
 use Rattle.au_syntax.specs.declared.declarations.Universe.{Universe}
 use Rattle.au_syntax.specs.Plain.{Bytes}
@@ -110,7 +110,8 @@ all_stand params args = list_all (λ one. stands_in one.name args) params
 pub record HasForm (generics : List Bounded) (head : Meaning) : Type 0 where
   pub constructor : Constructor
   pub heads : constructor_of head ≡ Some constructor
-  pub over : IsTrue (is_closed head) ⊎ (IsTrue (are_parameters (parameters generics) (arguments_of head)) × IsTrue (are_distinct (arguments_of head)))
+  pub over : IsTrue (is_closed head)
+      ⊎ (IsTrue (are_parameters (parameters generics) (arguments_of head)) × IsTrue (are_distinct (arguments_of head)))
   pub stand : IsTrue (all_stand (parameters generics) (arguments_of head))
 
 -- the same as a test
@@ -118,4 +119,5 @@ abbrev pub has_form : List Bounded → Meaning → Bool
 has_form generics head =
     let params = parameters generics in
     let args = arguments_of head in
-    is_some (constructor_of head) && ((is_closed head || (are_parameters params args && are_distinct args)) && all_stand params args)
+    is_some (constructor_of head)
+    && ((is_closed head || (are_parameters params args && are_distinct args)) && all_stand params args)

@@ -29,11 +29,18 @@ mutual
         → Contains rows row
         → row.class ≡ class
         → Becomes heads scope row t s
-        → ((name : Bytes) (wanted : DeclAt) (value : Meaning) → IsTrue (constrains row.generics name wanted) → value_of name s ≡ Some (of_type value) → Holds rows heads scope known wanted value)
+        → ((name : Bytes) (wanted : DeclAt) (value : Meaning)
+        → IsTrue (constrains row.generics name wanted)
+        → value_of name s ≡ Some (of_type value)
+        → Holds rows heads scope known wanted value)
         → Instance rows heads scope known class t row
 
   -- A constraint holds of a type: the type is a type parameter in scope that is known to have it, or some row
   -- gives the instance.
   pub data Holds (rows : List Row) (heads : List (DeclAt × Head)) (scope : List Parameter) (known : Known) : DeclAt → Meaning → Type 0 where
-    assumed : (class : DeclAt) (name : Bytes) → IsTrue (is_known known name class) → Holds rows heads scope known class (parameter name)
-    given : (class : DeclAt) (t : Meaning) (row : Row) → Instance rows heads scope known class t row → Holds rows heads scope known class t
+    assumed : (class : DeclAt) (name : Bytes)
+        → IsTrue (is_known known name class)
+        → Holds rows heads scope known class (parameter name)
+    given : (class : DeclAt) (t : Meaning) (row : Row)
+        → Instance rows heads scope known class t row
+        → Holds rows heads scope known class t

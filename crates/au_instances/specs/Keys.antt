@@ -1,9 +1,7 @@
 -- What rows are found by: a class and a constructor.
-use Rattle.std.specs.Prelude.{ℕ, List, ◌++◌, Option, Some}
-use Rattle.std.specs.Hash as fed
+use Rattle.std.specs.Prelude.{Option, Some}
 use Rattle.au_types.specs.declared.types.DeclAt.{DeclAt}
 use Rattle.au_instances.specs.declared.constructors.Constructor.{Constructor}
-use Rattle.au_instances.specs.declared.constructors.Constructor.TheVariants as constructors
 use Rattle.au_instances.specs.declared.keys.Key.{Key}
 use Rattle.au_instances.specs.Constructors.{constructor_of}
 use Rattle.au_instances.specs.Rows.{Row}

@@ -1,12 +1,11 @@
 -- Which constraints a class at a type leads to, and which of them is lacking first.
-use Rattle.std.specs.Prelude.{◌&&◌, List, [], ◌∷◌, Bool, not, Option, None, Some, is_none, map, unwrap_or, if◌then◌else◌}
+use Rattle.std.specs.Prelude.{List, [], ◌∷◌, Bool, not, Option, None, Some, is_none, map, unwrap_or, if◌then◌else◌}
 use Rattle.std.specs.Borrow.{Bor}
 use Rattle.std.specs.List.{find, flat_map}
 use Rattle.au_syntax.specs.Plain.{Bytes}
 use Rattle.au_types.specs.declared.headings.Head.{Head}
 use Rattle.au_types.specs.declared.parameters.Parameter.{Parameter}
 use Rattle.au_types.specs.declared.types.DeclAt.{DeclAt}
-use Rattle.au_types.specs.declared.types.Region.{Region}
 use Rattle.au_types.specs.declared.types.Ty.{Ty}
 use Rattle.au_types.specs.Views.{meaning}
 use Rattle.au_types.specs.Types.{Meaning, Argument, Arguments, unit, truth, integer, text, parameter, named, reads, writes, of_type, in_region, no_arguments, arguments}
@@ -50,7 +49,8 @@ part_for name (arguments one rest) (part ∷ parts) class =
 -- what the constraints of a row lead to, if there is one
 abbrev pub below : Option Row → Parts → List Pair
 below None parts = []
-below (Some row) parts = flat_map (λ one. part_for one.0 (arguments_of row.head) parts one.1) (constraints_of row.generics)
+below (Some row) parts =
+    flat_map (λ one. part_for one.0 (arguments_of row.head) parts one.1) (constraints_of row.generics)
 
 module _ (rows : List Row) (heads : List (DeclAt × Head)) (scope : List Parameter) where
   abbrev mutual
@@ -63,7 +63,8 @@ module _ (rows : List Row) (heads : List (DeclAt × Head)) (scope : List Paramet
     pairs (integer kind) class = (class, integer kind) ∷ []
     pairs text class = (class, text) ∷ []
     pairs (parameter name) class = (class, parameter name) ∷ []
-    pairs (named at args) class = (class, named at args) ∷ below (row_for heads scope rows class (named at args)) (parts_of args)
+    pairs (named at args) class =
+        (class, named at args) ∷ below (row_for heads scope rows class (named at args)) (parts_of args)
     pairs (reads to region) class = (class, reads to region) ∷ []
     pairs (writes to region) class = (class, writes to region) ∷ []
 

@@ -23,7 +23,8 @@ pub record IsTable (rows : List Row) : Type 0 where
 
 -- whether a row is of this class and has a head of this constructor
 abbrev pub is_row_of : DeclAt → Constructor → Row → Bool
-is_row_of class constructor row = same_place class row.class && is_constructor constructor (constructor_of row.head)
+is_row_of class constructor row =
+    same_place class row.class && is_constructor constructor (constructor_of row.head)
 
 -- the first row of a class whose head has this constructor, and none where no row is such
 abbrev pub row_of : List Row → DeclAt → Constructor → Option Row

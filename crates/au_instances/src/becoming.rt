@@ -17,7 +17,8 @@ use au_universes::fits;
 /// constructor and arguments that fit the parameters in their places.
 pub(crate) fn becomes(heads: &Heads, scope: &Params, row: &Row, of: &Ty) -> bool
     requires { StandsOver heads.now scope.now (meaning of.now) }
-    ensures { result ≡ spec.becomes heads.now scope.now row.now.generics (meaning row.now.head) (meaning of.now) }
+    ensures { result
+        ≡ spec.becomes heads.now scope.now row.now.generics (meaning row.now.head) (meaning of.now) }
 {
     if row.generics.len() == 0 {
         return is_same(&row.head, of);
@@ -53,7 +54,9 @@ fn all_stand_for(
     args: &Vec<Arg>,
 ) -> bool
     requires { all_formed fits_in_kind heads.now scope.now (argument_all args.now.items) ≡ true }
-    ensures { result ≡ spec.all_stand_for heads.now scope.now params.now (argument_all names.now.items) (argument_all args.now.items) }
+    ensures { result
+        ≡ spec.all_stand_for heads.now scope.now params.now
+        (argument_all names.now.items) (argument_all args.now.items) }
 {
     if names.len() != args.len() {
         return false;
@@ -69,7 +72,9 @@ fn all_stand_for(
 /// Whether an argument may stand for another, which is a name of these parameters.
 fn stands_for(heads: &Heads, scope: &Params, params: &Params, name: &Arg, one: &Arg) -> bool
     requires { ArgumentStandsOver heads.now scope.now (argument one.now) }
-    ensures { result ≡ spec.stands_for heads.now scope.now params.now (forms.name_of (argument name.now)) (argument one.now) }
+    ensures { result
+        ≡ spec.stands_for heads.now scope.now params.now
+        (forms.name_of (argument name.now)) (argument one.now) }
 {
     match name_of(name) {
         Some(name) => is_taken(heads, scope, params, name, one),
@@ -80,7 +85,8 @@ fn stands_for(heads: &Heads, scope: &Params, params: &Params, name: &Arg, one: &
 /// Whether the parameter of a name takes an argument.
 fn is_taken(heads: &Heads, scope: &Params, params: &Params, name: &Name, one: &Arg) -> bool
     requires { ArgumentStandsOver heads.now scope.now (argument one.now) }
-    ensures { result ≡ spec.taken_by heads.now scope.now (universes.universe_in params.now name.now) (argument one.now) }
+    ensures { result
+        ≡ spec.taken_by heads.now scope.now (universes.universe_in params.now name.now) (argument one.now) }
 {
     match universe_in(params, name) {
         Some(universe) => fits(heads, scope, universe, one),

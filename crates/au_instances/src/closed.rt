@@ -33,7 +33,8 @@ pub(crate) fn closed_row<'a>(
     heads: &Heads,
     class: ClassAt,
 ) -> Option<&'a Row>
-    ensures { option_map row_said (option_copied result) ≡ spec.closed_row instances.now heads.now (closed_meaning of.now) class }
+    ensures { option_map row_said (option_copied result)
+        ≡ spec.closed_row instances.now heads.now (closed_meaning of.now) class }
 {
     let row = instances.row_of(class, constructor_of_closed(of)?)?;
     if gives(of, instances, heads, row) {
@@ -48,7 +49,9 @@ pub(crate) fn closed_row<'a>(
 #[cycle(closed_row)]
 fn gives(of: &Closed, instances: &Instances, heads: &Heads, row: &Row) -> bool
     ensures { let t = closed_meaning of.now in
-        result ≡ spec.gives heads.now row.now.generics (meaning row.now.head) t (spec.parts_in instances.now heads.now t) }
+        result
+        ≡ spec.gives heads.now row.now.generics (meaning row.now.head) t
+        (spec.parts_in instances.now heads.now t) }
 {
     if row.generics.len() == 0 {
         return closes_to(of, &row.head);
@@ -110,7 +113,8 @@ fn stands(
 /// Whether each of these classes has an instance at a closed type.
 #[cycle(closed_row)]
 fn have_instances(one: &Closed, instances: &Instances, heads: &Heads, classes: &[ClassAt]) -> bool
-    ensures { result ≡ list_all (spec.has_instance instances.now heads.now (closed_meaning one.now)) classes.now }
+    ensures { result
+        ≡ list_all (spec.has_instance instances.now heads.now (closed_meaning one.now)) classes.now }
 {
     for class in classes {
         if closed_row(one, instances, heads, *class).is_none() {
@@ -132,7 +136,8 @@ fn classes_of<'a>(generics: &'a Generics, name: &Name) -> &'a [ClassAt]
 
 /// Whether the parameter of a name takes a closed type.
 fn is_taken(heads: &Heads, params: &Params, name: &Name, one: &Closed) -> bool
-    ensures { result ≡ spec.closed_taken heads.now (universes.universe_in params.now name.now) (closed_meaning one.now) }
+    ensures { result
+        ≡ spec.closed_taken heads.now (universes.universe_in params.now name.now) (closed_meaning one.now) }
 {
     match universe_in(params, name) {
         Some(universe) => takes(universe, closed_universe(heads, one)),
@@ -156,7 +161,8 @@ fn type_count(args: &[Arg]) -> usize
 
 /// The type among the arguments that so many others stand before, if there is one.
 fn nth_type(args: &[Arg], place: usize) -> Option<&Ty>
-    ensures { option_map meaning (option_copied result) ≡ slice_get (spec.types_in (argument_all args.now)) place }
+    ensures { option_map meaning (option_copied result)
+        ≡ slice_get (spec.types_in (argument_all args.now)) place }
 {
     let mut left = place;
     for one in args {
@@ -215,7 +221,8 @@ fn write_closes_to(target: &Closed, of: &Ty) -> bool
 /// Whether the types among arguments close to closed types, each to that in its place.
 #[cycle(closes_to)]
 fn all_close_to(targets: &Vec<Closed>, args: &[Arg]) -> bool
-    ensures { result ≡ spec.all_close_to (spec.types_in (argument_all args.now)) (closed_meanings targets.now.items) }
+    ensures { result
+        ≡ spec.all_close_to (spec.types_in (argument_all args.now)) (closed_meanings targets.now.items) }
 {
     if targets.len() != type_count(args) {
         return false;
@@ -233,7 +240,8 @@ fn all_close_to(targets: &Vec<Closed>, args: &[Arg]) -> bool
 
 /// Whether a constructor heads a type.
 fn is_headed(constructor: Constructor, of: &Ty) -> bool
-    ensures { result ≡ constructors.is_constructor constructor (constructors.constructor_of (meaning of.now)) }
+    ensures { result
+        ≡ constructors.is_constructor constructor (constructors.constructor_of (meaning of.now)) }
 {
     match constructor_of(of) {
         Some(other) => constructor == other,

@@ -38,10 +38,14 @@ impl Instances {
     ) -> Option<InstanceAt>
         requires { StandsOver heads.now scope.now (meaning of.now) }
         ensures found { IfSome result (λ at.
-            (row : InstanceRow) × IsRowFor heads.now scope.now self.now class (meaning of.now) row × (row.instance ≡ at)) }
+            (row : InstanceRow)
+            × IsRowFor heads.now scope.now self.now class (meaning of.now) row
+            × (row.instance ≡ at)) }
         ensures only { (row : InstanceRow) → IsRowFor heads.now scope.now self.now class (meaning of.now) row
             → result ≡ Some row.instance }
-        ensures test { result ≡ option_map (λ row. row.instance) (tables.row_for heads.now scope.now self.now class (meaning of.now)) }
+        ensures test { result
+            ≡ option_map (λ row. row.instance)
+            (tables.row_for heads.now scope.now self.now class (meaning of.now)) }
     {
         self.is_table();
         match row_in(self, heads, scope, class, of) {
@@ -58,8 +62,11 @@ impl Instances {
     /// It takes no memory.
     pub fn instance_for(&self, heads: &Heads, class: ClassAt, of: &Closed) -> Option<InstanceAt>
         ensures found { IfSome result (λ at.
-            (row : InstanceRow) × ClosedInstance self.now heads.now class (closed_meaning of.now) row × (row.instance ≡ at)) }
-        ensures only { (row : InstanceRow) → ClosedInstance self.now heads.now class (closed_meaning of.now) row
+            (row : InstanceRow)
+            × ClosedInstance self.now heads.now class (closed_meaning of.now) row
+            × (row.instance ≡ at)) }
+        ensures only { (row : InstanceRow)
+            → ClosedInstance self.now heads.now class (closed_meaning of.now) row
             → result ≡ Some row.instance }
     {
         self.is_table();
@@ -73,10 +80,10 @@ impl Instances {
     /// where the class holds there: where the type is a type parameter that is known to have it, or an
     /// instance of the class is given at it.
     ///
-    /// The pairs are this one and, where a row of a pair's class has a head that becomes the pair's type, each
-    /// constraint of the row's parameters with the parameter's value. A pair is followed at once by those of
-    /// its row, each with all that come from it. A pair is lacking where its type is a type parameter that
-    /// isn't known to have the class, and where no row of the class has a head that becomes its type.
+    /// The pairs are this one and, where a row of a pair's class has a head that becomes the pair's type,
+    /// each constraint of the row's parameters with the parameter's value. A pair is followed at once by
+    /// those of its row, each with all that come from it. A pair is lacking where its type is a type parameter
+    /// that isn't known to have the class, and where no row of the class has a head that becomes its type.
     ///
     /// The type stands over the rows of declared types and the type parameters in scope; `known` lists the
     /// constraints of these.
@@ -96,7 +103,8 @@ impl Instances {
         requires { StandsOver heads.now scope.now (meaning of.now) }
         ensures first { IfOk result (λ found. option_map pairs.told found
             ≡ pairs.lacking self.now heads.now scope.now known.now class (meaning of.now)) }
-        ensures holds { IfOk result (λ found. (found ≡ None) ↔ Holds self.now heads.now scope.now known.now class (meaning of.now)) }
+        ensures holds { IfOk result (λ found. (found ≡ None)
+            ↔ Holds self.now heads.now scope.now known.now class (meaning of.now)) }
     {
         self.is_table();
         let sight = Sight {

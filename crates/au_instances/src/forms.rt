@@ -14,9 +14,9 @@ use au_generics::Generics;
 use au_syntax::Universe;
 use au_types::{Arg, Params, Region, Ty, universe_in};
 
-/// Whether a type may be the head of an instance with these type parameters: it is headed by a constructor, it
-/// is closed or its arguments are distinct parameters of the instance, and each parameter of the instance is
-/// one of them. A closed type holds no type parameter and no region but `Static`.
+/// Whether a type may be the head of an instance with these type parameters: it is headed by a constructor,
+/// it is closed or its arguments are distinct parameters of the instance, and each parameter of the instance
+/// is one of them. A closed type holds no type parameter and no region but `Static`.
 ///
 /// It takes no memory. The arguments of the head are compared with one another and with the parameters.
 pub fn has_form(generics: &Generics, head: &Ty) -> bool

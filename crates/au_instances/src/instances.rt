@@ -65,7 +65,8 @@ impl Instances {
     /// `Memory` when memory runs out, and the table is as it was.
     pub fn add(&mut self, row: Row) -> Result<(), Memory>
         requires form { HasForm row.generics (meaning row.head) }
-        requires apart { tables.row_with self.old row.class (constructors.constructor_of (meaning row.head)) ≡ None }
+        requires apart { tables.row_with self.old row.class (constructors.constructor_of (meaning row.head))
+            ≡ None }
         ensures ok { OnOk result (self.new ≡ self.old ++ row_said row ∷ []) }
         ensures err { OnErr result (self.new ≡ self.old) }
     {

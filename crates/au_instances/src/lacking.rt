@@ -7,7 +7,8 @@ ghost use Rattle.au_instances.specs.Forms as forms;
 ghost use Rattle.au_instances.specs.Instances as rule;
 ghost use Rattle.au_instances.specs.Pairs.{wanted};
 ghost use Rattle.au_instances.specs.Views.{AllStandIn, ArgumentStandsIn, StandsIn};
-ghost use Rattle.au_instances.specs.Views.{lacking_among, lacking_at, lacking_below, lacking_from, lacking_in, lacking_of};
+ghost use Rattle.au_instances.specs.Views.{lacking_among, lacking_at, lacking_below};
+ghost use Rattle.au_instances.specs.Views.{lacking_from, lacking_in, lacking_of};
 
 use crate::finding::row_in;
 use crate::forms::{arguments_of, is_called};
@@ -30,9 +31,10 @@ pub(crate) struct Sight<'a> {
 }
 
 /// The first lacking pair that comes from a class at a type, if one is lacking.
+#[tactic(auto, using(au_types::proofs::TypeLemmas::type_steps))]
 #[cycle(lacking)]
 pub(crate) fn lacking_in<'a>(of: &'a Ty, sight: &Sight, class: ClassAt) -> Option<(ClassAt, &'a Ty)>
-    requires { StandsIn sight.now (meaning of.now) }
+    requires stands { StandsIn sight.now (meaning of.now) }
     ensures { option_map wanted result ≡ lacking_in sight.now class (meaning of.now) }
 {
     if let Ty::Param(name) = of {
@@ -49,10 +51,12 @@ pub(crate) fn lacking_in<'a>(of: &'a Ty, sight: &Sight, class: ClassAt) -> Optio
 }
 
 /// The first lacking pair that comes from the constraints of a row whose head becomes a type.
+#[tactic(auto, using(au_types::proofs::TypeLemmas::type_steps))]
 #[cycle(lacking)]
 fn lacking_below<'a>(of: &'a Ty, sight: &Sight, row: &Row) -> Option<(ClassAt, &'a Ty)>
-    requires { StandsIn sight.now (meaning of.now) }
-    ensures { option_map wanted result ≡ lacking_below sight.now row.now.generics (meaning row.now.head) (meaning of.now) }
+    requires stands { StandsIn sight.now (meaning of.now) }
+    ensures { option_map wanted result
+        ≡ lacking_below sight.now row.now.generics (meaning row.now.head) (meaning of.now) }
 {
     match of {
         Ty::Named { args, .. } => lacking_among(args, sight, row),
@@ -64,8 +68,10 @@ fn lacking_below<'a>(of: &'a Ty, sight: &Sight, row: &Row) -> Option<(ClassAt, &
 /// arguments.
 #[cycle(lacking)]
 fn lacking_among<'a>(args: &'a Vec<Arg>, sight: &Sight, row: &Row) -> Option<(ClassAt, &'a Ty)>
-    requires { AllStandIn sight.now (argument_all args.now.items) }
-    ensures { option_map wanted result ≡ lacking_among sight.now row.now.generics (forms.arguments_of (meaning row.now.head)) (argument_all args.now.items) }
+    requires stands { AllStandIn sight.now (argument_all args.now.items) }
+    ensures { option_map wanted result
+        ≡ lacking_among sight.now row.now.generics
+        (forms.arguments_of (meaning row.now.head)) (argument_all args.now.items) }
 {
     let names = arguments_of(&row.head);
     for index in 0..row.generics.len() {
@@ -89,8 +95,10 @@ fn lacking_from<'a>(
     name: &Name,
     classes: &[ClassAt],
 ) -> Option<(ClassAt, &'a Ty)>
-    requires { AllStandIn sight.now (argument_all args.now.items) }
-    ensures { option_map wanted result ≡ lacking_from sight.now name.now classes.now (argument_all names.now) (argument_all args.now.items) }
+    requires stands { AllStandIn sight.now (argument_all args.now.items) }
+    ensures { option_map wanted result
+        ≡ lacking_from sight.now name.now classes.now
+        (argument_all names.now) (argument_all args.now.items) }
 {
     for class in classes {
         if let Some(found) = lacking_at(args, sight, names, name, *class) {
@@ -109,8 +117,9 @@ fn lacking_at<'a>(
     name: &Name,
     class: ClassAt,
 ) -> Option<(ClassAt, &'a Ty)>
-    requires { AllStandIn sight.now (argument_all args.now.items) }
-    ensures { option_map wanted result ≡ lacking_at sight.now name.now class (argument_all names.now) (argument_all args.now.items) }
+    requires stands { AllStandIn sight.now (argument_all args.now.items) }
+    ensures { option_map wanted result
+        ≡ lacking_at sight.now name.now class (argument_all names.now) (argument_all args.now.items) }
 {
     for (index, one) in args.iter().enumerate() {
         if index < names.len() && is_called(name, &names[index]) {
@@ -121,9 +130,10 @@ fn lacking_at<'a>(
 }
 
 /// The first lacking pair that comes from a class at an argument. A region leads to none.
+#[tactic(auto, using(au_types::proofs::TypeLemmas::type_steps))]
 #[cycle(lacking)]
 fn lacking_of<'a>(one: &'a Arg, sight: &Sight, class: ClassAt) -> Option<(ClassAt, &'a Ty)>
-    requires { ArgumentStandsIn sight.now (argument one.now) }
+    requires stands { ArgumentStandsIn sight.now (argument one.now) }
     ensures { option_map wanted result ≡ lacking_of sight.now class (argument one.now) }
 {
     match one {

@@ -1,4 +1,4 @@
-use Rattle.std.proofs.Common.{true, ap, subst, sym, ◌∙◌}
+use Rattle.std.proofs.Common.{ap, subst, sym, ◌∙◌}
 use Rattle.au_types.specs.Views.{argument_all, meaning}
 use Rattle.au_types.proofs.TypeLemmas.{named_means}
 use Rattle.au_universes.specs.Forming.{StandsOver}

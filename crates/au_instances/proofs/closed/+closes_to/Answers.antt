@@ -8,7 +8,7 @@ use Rattle.au_types.specs.Views.{argument_all, meaning}
 use Rattle.au_types.proofs.TypeLemmas.{reads_means, writes_means}
 use Rattle.au_closed_types.specs.declared.types.Closed.{Closed}
 use Rattle.au_closed_types.specs.Closing.{closed}
-use Rattle.au_closed_types.specs.Types.{named, reads, writes}
+use Rattle.au_closed_types.specs.Types.{reads, writes}
 use Rattle.au_closed_types.specs.Views.{closed_meaning, closed_meanings}
 use Rattle.au_closed_types.proofs.ClosedLemmas.{named_means}
 use Rattle.au_instances.specs.ClosedInstances.{all_close_to, closes_to, types_in}
