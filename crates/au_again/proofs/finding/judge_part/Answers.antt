@@ -16,6 +16,8 @@ returns-in-None-clause-found c = λ m here.
     let start = c.args.list.now.items in
     let s = c.args.scopes.now in
     let foreign = outside program c.args.place m c.args.part in
-    let there = c.part_file.ensures m (ap (λ r. slice_get (slots.modules r) c.args.place) c.modules.ensures.kept ∙ here) in
+    let there = c.part_file.ensures m (ap (λ r. slice_get (slots.modules r) c.args.place)
+    c.modules.ensures.kept ∙ here) in
     let none = nothing_declared c.args.part m (sym (ap tree_seen c.in-None.is) ∙ there) in
-    sym (ap (λ ds. start ++ doubles_in foreign s (map (marks c.args.part) ds)) none ∙ ap (λ r. start ++ r) (doubles_nothing foreign s) ∙ append-nil start)
+    sym (ap (λ ds. start ++ doubles_in foreign s (map (marks c.args.part) ds)) none
+    ∙ ap (λ r. start ++ r) (doubles_nothing foreign s) ∙ append-nil start)

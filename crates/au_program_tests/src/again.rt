@@ -1,13 +1,9 @@
 //! The names that small programs declare again.
 
+use crate::programs::{program_of, put_file};
 use au_again::Doubles;
 use au_base::Memory;
-use au_imports::{Resolved, resolve};
-use au_lexer::lex;
-use au_modules::gather;
-use au_parser::parse;
 use au_shipped::shipped;
-use au_syntax::FileTree;
 use au_types::DeclAt;
 use std::alloc::Global;
 use std::process::Abort;
@@ -159,22 +155,6 @@ const PROGRAMS: [(&[u8], &[u8], Option<(u32, u32)>); 26] = [
     ),
 ];
 
-/// Puts the file of a number that holds this text behind others.
-fn put_file(
-    rt: &impl Abort,
-    alloc: Global,
-    files: &mut Vec<FileTree>,
-    file: u16,
-    source: &[u8],
-) -> Result<(), Fail> {
-    assert!(rt; source.len() < 10_000_000);
-    let tokens = lex(alloc, file, source)?;
-    assert!(rt; tokens.len() < 1_000_000);
-    let tree = parse(alloc, tokens.as_slice())?;
-    files.push(FileTree { file, tree })?;
-    Ok(())
-}
-
 /// The text of a part of the module `M`, which begins and ends so.
 fn part(alloc: Global, before: &[u8], inside: &[u8], behind: &[u8]) -> Result<Vec<u8>, Memory> {
     let mut text = Vec::from_slice(alloc, before)?;
@@ -183,25 +163,18 @@ fn part(alloc: Global, before: &[u8], inside: &[u8], behind: &[u8]) -> Result<Ve
     Ok(text)
 }
 
-/// The program of these files.
-fn program_of(alloc: Global, files: Vec<FileTree>) -> Result<Resolved, Fail> {
-    let modules = gather(alloc, files)?;
-    Ok(resolve(alloc, modules)?)
-}
-
-/// The program of the shipped modules and of the module `M`.
-fn module_of(
+/// The names that the program of the shipped modules and of the module `M` declares again.
+fn doubles_of(
     rt: &impl Abort,
     alloc: Global,
     interface: &[u8],
     body: &[u8],
-) -> Result<Resolved, Fail> {
+) -> Result<Doubles, Fail> {
     let mut files = shipped(alloc)?;
-    let first = part(alloc, b"module M is ", interface, b" end module.")?;
-    put_file(rt, alloc, &mut files, 0, &first)?;
-    let second = part(alloc, b"module body M is ", body, b" end module body.")?;
-    put_file(rt, alloc, &mut files, 1, &second)?;
-    program_of(alloc, files)
+    put_file(rt, alloc, &mut files, 0, interface)?;
+    put_file(rt, alloc, &mut files, 1, body)?;
+    let resolved = program_of(alloc, files)?;
+    Ok(Doubles::of(alloc, &resolved)?)
 }
 
 /// The number of the first declaration of the module at a place that declares a name again, and the column of
@@ -215,18 +188,28 @@ fn first_of(doubles: &Doubles, module: u16) -> Option<(u32, u32)> {
     None
 }
 
+/// Asserts what the module `M` declares again. The shipped modules declare no name again.
+fn is_found(
+    rt: &impl Abort,
+    alloc: Global,
+    interface: &[u8],
+    body: &[u8],
+    due: Option<(u32, u32)>,
+) -> Result<(), Fail> {
+    let first = part(alloc, b"module M is ", interface, b" end module.")?;
+    let second = part(alloc, b"module body M is ", body, b" end module body.")?;
+    let doubles = doubles_of(rt, alloc, &first, &second)?;
+    assert!(rt; first_of(&doubles, 4) == due);
+    for place in 0..4 {
+        assert!(rt; first_of(&doubles, place).is_none());
+    }
+    Ok(())
+}
+
 #[test]
 fn names_are_found_that_are_declared_again(rt: HostRuntime) -> Result<(), Fail> {
-    let alloc = rt.alloc();
     for (interface, body, due) in PROGRAMS {
-        let resolved = module_of(&rt, alloc, interface, body)?;
-        let doubles = Doubles::of(alloc, &resolved)?;
-        assert_eq!(rt; first_of(&doubles, 4), due);
-        // The shipped modules declare no name again.
-        assert!(rt; first_of(&doubles, 0).is_none());
-        assert!(rt; first_of(&doubles, 1).is_none());
-        assert!(rt; first_of(&doubles, 2).is_none());
-        assert!(rt; first_of(&doubles, 3).is_none());
+        is_found(&rt, rt.alloc(), interface, body, due)?;
     }
     Ok(())
 }
