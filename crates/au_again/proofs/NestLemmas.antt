@@ -12,7 +12,8 @@ module _ {K V : Type 0} (name_of : K → List ℕ) where
   pairs_take (suc n) (e ∷ es) = ap (λ r. (name_of e.0, e.1) ∷ r) (pairs_take n es)
 
   -- the innermost block is the last that was entered
-  pub left_is : (es kept : List (K × V)) (begins rest : List ℕ) (begin : ℕ) → kept ≡ take begin es → begins ≡ rest ++ begin ∷ []
+  pub left_is : (es kept : List (K × V)) (begins rest : List ℕ) (begin : ℕ) → kept ≡ take begin es → begins
+      ≡ rest ++ begin ∷ []
       → (pairs_by kept name_of, reverse rest) ≡ left (pairs_by es name_of, reverse begins)
   left_is es kept begins rest begin cut last =
       ap (λ k. (pairs_by k name_of, reverse rest)) cut

@@ -11,5 +11,6 @@ none_in : (e : Option Entry) → None ≡ tree_of e → declarations_in e ≡ []
 none_in None h = refl
 none_in (Some e) h = absurd cc
 
-pub nothing_declared : (part : Part) (m : ModuleParts) → None ≡ tree_of (part_of part m) → declarations_in (part_of part m) ≡ []
+pub nothing_declared : (part : Part) (m : ModuleParts) → None ≡ tree_of (part_of part m)
+    → declarations_in (part_of part m) ≡ []
 nothing_declared part m h = none_in (part_of part m) h

@@ -1,5 +1,5 @@
--- The marks of a statement of the code, variant by variant, and of lists of them. The definitions are opaque; these
--- equations stand for them.
+-- The marks of a statement of the code, variant by variant, and of lists of them. The definitions are opaque;
+-- these equations stand for them.
 use Rattle.std.proofs.Common.{◌≡◌, ℕ, ◌+◌, ◌<◌, List, [], ◌∷◌, ◌++◌, length, take, get_or, map, Vec, refl, sym, ap, ◌∙◌, append_assoc}
 use Rattle.std.specs.Global.{Global}
 use Rattle.std.specs.declared.boxed.Box.{Box}
@@ -94,7 +94,8 @@ unfolding statement_marks
 if_marks at bs = said _ _ (if_says parsed at bs)
 
 pub if_else_marks : (at : Pos) (bs : Vec TheBranch Global) (b : TheBlock)
-    → statement_marks (statement_said (code.IfElse at bs b)) ≡ branch_marks (branches_said bs.items) ++ enclosed (block_marks (block_said b))
+    → statement_marks (statement_said (code.IfElse at bs b)) ≡ branch_marks (branches_said bs.items)
+    ++ enclosed (block_marks (block_said b))
 unfolding statement_marks
 if_else_marks at bs b = said _ _ (if_else_says parsed at bs b)
 
@@ -109,7 +110,8 @@ unfolding statement_marks
 while_marks at e b = said _ _ (while_says parsed at e b)
 
 pub for_marks : (at : Pos) (n : TheIdent) (a z : TheExpr) (b : TheBlock)
-    → statement_marks (statement_said (code.For at n a z b)) ≡ enclosed (variable n ∷ block_marks (block_said b))
+    → statement_marks (statement_said (code.For at n a z b))
+    ≡ enclosed (variable n ∷ block_marks (block_said b))
 unfolding statement_marks
 for_marks at n a z b = said _ _ (for_says parsed at n a z b)
 
@@ -119,8 +121,10 @@ pub borrow_marks : (at : Pos) (access : Access) (ns : TheBorrowNames) (b : TheBl
 unfolding statement_marks
 borrow_marks at access ns b stop = said _ _ (borrow_says parsed at access ns b stop)
 
-pub borrow_typed_marks : (at : Pos) (r : TheIdent) (t : TypeText) (mode : BorrowMode) (x : TheIdent) (b : TheBlock) (stop : Pos)
-    → statement_marks (statement_said (code.BorrowTyped at r t mode x b stop)) ≡ enclosed (variable r ∷ block_marks (block_said b))
+pub borrow_typed_marks : (at : Pos) (r : TheIdent) (t : TypeText) (mode : BorrowMode) (x : TheIdent)
+    (b : TheBlock) (stop : Pos)
+    → statement_marks (statement_said (code.BorrowTyped at r t mode x b stop))
+    ≡ enclosed (variable r ∷ block_marks (block_said b))
 unfolding statement_marks
 borrow_typed_marks at r t mode x b stop = said _ _ (borrow_typed_says parsed at r t mode x b stop)
 
@@ -153,21 +157,25 @@ of_branch b = enclosed (block_marks (block_said b.block))
 abbrev pub of_arm : TheArm → List Mark
 of_arm a = enclosed (map bound_mark (binds_said a.binds.items) ++ block_marks (block_said a.block))
 
-last_statement : (ss : List TheStmt) (s : TheStmt) → block_marks (statements_said (ss ++ s ∷ [])) ≡ block_marks (statements_said ss) ++ statement_marks (statement_said s)
+last_statement : (ss : List TheStmt) (s : TheStmt) → block_marks (statements_said (ss ++ s ∷ []))
+    ≡ block_marks (statements_said ss) ++ statement_marks (statement_said s)
 unfolding block_marks
 last_statement [] s = append-nil (statement_marks (statement_said s))
 last_statement (one ∷ rest) s =
     ap (λ r. statement_marks (statement_said one) ++ r) (last_statement rest s)
-    ∙ sym (append_assoc (statement_marks (statement_said one)) (block_marks (statements_said rest)) (statement_marks (statement_said s)))
+    ∙ sym (append_assoc (statement_marks (statement_said one)) (block_marks (statements_said rest))
+    (statement_marks (statement_said s)))
 
-last_branch : (bs : List TheBranch) (b : TheBranch) → branch_marks (branches_said (bs ++ b ∷ [])) ≡ branch_marks (branches_said bs) ++ of_branch b
+last_branch : (bs : List TheBranch) (b : TheBranch) → branch_marks (branches_said (bs ++ b ∷ []))
+    ≡ branch_marks (branches_said bs) ++ of_branch b
 unfolding branch_marks
 last_branch [] b = append-nil (of_branch b)
 last_branch (one ∷ rest) b =
     ap (λ r. of_branch one ++ r) (last_branch rest b)
     ∙ sym (append_assoc (of_branch one) (branch_marks (branches_said rest)) (of_branch b))
 
-last_arm : (rest : List TheArm) (a : TheArm) → arm_marks (arms_said (rest ++ a ∷ [])) ≡ arm_marks (arms_said rest) ++ of_arm a
+last_arm : (rest : List TheArm) (a : TheArm) → arm_marks (arms_said (rest ++ a ∷ []))
+    ≡ arm_marks (arms_said rest) ++ of_arm a
 unfolding arm_marks
 last_arm [] a = append-nil (of_arm a)
 last_arm (one ∷ rest) a =
@@ -176,15 +184,18 @@ last_arm (one ∷ rest) a =
 
 -- those of one more
 pub more_statements : (ss : List TheStmt) (i : ℕ) (s : TheStmt) → i < length ss → s ≡ get_or ss i s
-    → block_marks (statements_said (take (i + 1) ss)) ≡ block_marks (statements_said (take i ss)) ++ statement_marks (statement_said s)
+    → block_marks (statements_said (take (i + 1) ss)) ≡ block_marks (statements_said (take i ss))
+    ++ statement_marks (statement_said s)
 more_statements ss i s within is =
-    ap (λ r. block_marks (statements_said r)) (take_more ss i s within ∙ ap (λ x. take i ss ++ x ∷ []) (sym is))
+    ap (λ r. block_marks (statements_said r)) (take_more ss i s within
+    ∙ ap (λ x. take i ss ++ x ∷ []) (sym is))
     ∙ last_statement (take i ss) s
 
 pub more_branches : (bs : List TheBranch) (i : ℕ) (b : TheBranch) → i < length bs → b ≡ get_or bs i b
     → branch_marks (branches_said (take (i + 1) bs)) ≡ branch_marks (branches_said (take i bs)) ++ of_branch b
 more_branches bs i b within is =
-    ap (λ r. branch_marks (branches_said r)) (take_more bs i b within ∙ ap (λ x. take i bs ++ x ∷ []) (sym is))
+    ap (λ r. branch_marks (branches_said r)) (take_more bs i b within
+    ∙ ap (λ x. take i bs ++ x ∷ []) (sym is))
     ∙ last_branch (take i bs) b
 
 pub more_arms : (rest : List TheArm) (i : ℕ) (a : TheArm) → i < length rest → a ≡ get_or rest i a

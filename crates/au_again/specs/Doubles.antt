@@ -1,5 +1,5 @@
--- Which names are declared again, as a function of the text of a module: a name is judged by the marks before it, of
--- which the last stands first.
+-- Which names are declared again, as a function of the text of a module: a name is judged by the marks before
+-- it, of which the last stands first.
 use Rattle.std.specs.Prelude.{ℕ, zero, suc, Bool, true, false, ◌&&◌, ◌||◌, if◌then◌else◌, List, [], ◌∷◌, ◌++◌, Option, None, Some, map, slice_get}
 use Rattle.std.specs.List.{fold, list_any}
 use Rattle.std.specs.Option.{option_map, option_or}
@@ -36,7 +36,8 @@ same_role role other = false
 
 -- a mark declares this name so
 abbrev pub is_declaring : Role → Kind → Bytes → Mark → Bool
-is_declaring role kind name (Declares its other same at) = same_role role its && (same_kind kind other && bytes_eq name same)
+is_declaring role kind name (Declares its other same at) =
+    same_role role its && (same_kind kind other && bytes_eq name same)
 is_declaring role kind name mark = false
 
 -- what the marks before a place say, the last first
@@ -53,8 +54,8 @@ module _ (before : List Mark) where
   abbrev pub is_declared : Kind → Bytes → Bool
   is_declared kind name = stands Local kind name || is_top kind name
 
--- A local name is in scope behind marks, of which the last stands first, where some blocks are passed over: those that
--- end before the place and begin before the name.
+-- A local name is in scope behind marks, of which the last stands first, where some blocks are passed over:
+-- those that end before the place and begin before the name.
 unfoldable pub is_open : Kind → Bytes → ℕ → List Mark → Bool
 is_open kind name passed [] = false
 is_open kind name passed (Closes ∷ before) = is_open kind name (suc passed) before
@@ -66,14 +67,16 @@ is_open kind name (suc passed) (Declares role other same at ∷ before) = is_ope
 
 -- names of each kind that are in scope in all of the module and come from elsewhere
 module _ (foreign : Kind → Bytes → Bool) where
-  -- A name is declared again behind marks. A local one is where it is in scope. One at the top of the module is where
-  -- any mark declares it, since it is in scope before it too; but what is promised is defined once.
+  -- A name is declared again behind marks. A local one is where it is in scope. One at the top of the module
+  -- is where any mark declares it, since it is in scope before it too; but what is promised is defined once.
   abbrev pub is_name_again : List Mark → Role → Kind → Bytes → Bool
-  is_name_again before Local kind name = foreign kind name || (is_top before kind name || is_open kind name zero before)
+  is_name_again before Local kind name =
+      foreign kind name || (is_top before kind name || is_open kind name zero before)
   is_name_again before Whole kind name = is_declared before kind name
   is_name_again before Promise kind name = is_declared before kind name
   is_name_again before Definition kind name =
-      if stands before Promise kind name then stands before Definition kind name else is_declared before kind name
+      if stands before Promise kind name then stands before Definition kind name
+      else is_declared before kind name
 
   -- what a mark declares again
   abbrev pub double_of : List Mark → Mark → Option Double
@@ -97,11 +100,13 @@ behind_all before more = fold behind before more
 -- the first name of each of several declarations that is declared again, behind marks
 unfoldable pub doubles_behind : (Kind → Bytes → Bool) → List Mark → List (List Mark) → List (Option Double)
 doubles_behind foreign before [] = []
-doubles_behind foreign before (d ∷ rest) = first_again foreign before d ∷ doubles_behind foreign (behind before d) rest
+doubles_behind foreign before (d ∷ rest) =
+    first_again foreign before d ∷ doubles_behind foreign (behind before d) rest
 
--- the doubles of the declarations of an interface and of a body, by their numbers, given what comes from elsewhere in
--- each of the two: the interface stands before the body
-abbrev pub text_doubles : (Kind → Bytes → Bool) → (Kind → Bytes → Bool) → List PlainDeclaration → List PlainDeclaration → List (Option Double)
+-- the doubles of the declarations of an interface and of a body, by their numbers, given what comes from
+-- elsewhere in each of the two: the interface stands before the body
+abbrev pub text_doubles : (Kind → Bytes → Bool) → (Kind → Bytes → Bool) → List PlainDeclaration
+    → List PlainDeclaration → List (Option Double)
 text_doubles outer inner interface body =
     doubles_behind outer [] (map (marks Interface) interface)
     ++ doubles_behind inner (behind_all [] (map (marks Interface) interface)) (map (marks Body) body)

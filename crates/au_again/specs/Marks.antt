@@ -1,6 +1,6 @@
--- What the text of a declaration says of names and of their scopes, in order: where blocks begin and end, and which
--- names are declared. A record or a union defines a type of the interface only in a body. The methods of an instance
--- are those of its class, so that their names aren't declared there.
+-- What the text of a declaration says of names and of their scopes, in order: where blocks begin and end, and
+-- which names are declared. A record or a union defines a type of the interface only in a body. The methods
+-- of an instance are those of its class, so that their names aren't declared there.
 use Rattle.std.specs.Prelude.{List, [], ◌∷◌, ◌++◌, map}
 use Rattle.std.specs.List.{flat_map}
 use Rattle.au_syntax.specs.declared.modules.Part.{Part}
@@ -29,7 +29,8 @@ local kind name = declared Local kind name
 abbrev pub enclosed : List Mark → List Mark
 enclosed inside = Opens ∷ (inside ++ Closes ∷ [])
 
--- a field or a parameter; a bound field, by the name that it is given; a type parameter, and one behind `generic`
+-- a field or a parameter; a bound field, by the name that it is given; a type parameter, and one behind
+-- `generic`
 abbrev pub labelled_mark : Kind → Labelled Bytes → Mark
 labelled_mark kind field = local kind field.name
 
@@ -43,8 +44,8 @@ abbrev pub generic_mark : Constrained Bytes → Mark
 generic_mark p = parameter_mark p.parameter
 
 unfoldable mutual
-  -- a statement. What `let` and `var` declare is in scope in the rest of the block; the variable of a loop, the bound
-  -- fields of an arm and the names of a borrow statement are in scope in their own blocks.
+  -- a statement. What `let` and `var` declare is in scope in the rest of the block; the variable of a loop,
+  -- the bound fields of an arm and the names of a borrow statement are in scope in their own blocks.
   pub statement_marks : PlainStatement → List Mark
   statement_marks (skip at) = []
   statement_marks (declare at binding name t e) = local Values name ∷ []
@@ -56,7 +57,8 @@ unfoldable mutual
   statement_marks (case_of at e rest) = arm_marks rest
   statement_marks (while_loop at e block) = enclosed (block_marks block)
   statement_marks (for_loop at name a z block) = enclosed (local Values name ∷ block_marks block)
-  statement_marks (borrow_in at access x r region block stop) = enclosed (local Values r ∷ local Types region ∷ block_marks block)
+  statement_marks (borrow_in at access x r region block stop) = enclosed (local Values r ∷ local Types region
+      ∷ block_marks block)
   statement_marks (borrow_typed at r t mode x block stop) = enclosed (local Values r ∷ block_marks block)
   statement_marks (discard at e) = []
   statement_marks (return_of at e) = []
@@ -74,7 +76,8 @@ unfoldable mutual
   -- the arms of a case
   pub arm_marks : PlainArms → List Mark
   arm_marks no_arms = []
-  arm_marks (arms at name binds block rest) = enclosed (map bound_mark binds ++ block_marks block) ++ arm_marks rest
+  arm_marks (arms at name binds block rest) = enclosed (map bound_mark binds ++ block_marks block)
+      ++ arm_marks rest
 
 -- a case of a union with its fields, and a method of a class with its parameters
 abbrev pub case_marks : Variant Bytes → List Mark
@@ -90,7 +93,8 @@ method_body_marks m = enclosed (map (labelled_mark Values) m.header.parameters +
 -- the type parameters of a function, its name and its parameters
 abbrev pub function_marks : Role → List (Constrained Bytes) → Header Bytes → List Mark
 function_marks role generics header =
-    map generic_mark generics ++ declared role Callables header.name ∷ map (labelled_mark Values) header.parameters
+    map generic_mark generics ++ declared role Callables header.name
+    ∷ map (labelled_mark Values) header.parameters
 
 -- how a record or a union is declared in a part
 abbrev pub type_role : Part → Role
@@ -100,16 +104,20 @@ type_role Body = Definition
 -- a declaration of a part
 abbrev pub marks : Part → PlainDeclaration → List Mark
 marks part (constant at name t) = declared Promise Values name ∷ []
-marks part (opaque_type at name parameters universe) = declared Promise Types name ∷ enclosed (map parameter_mark parameters)
+marks part (opaque_type at name parameters universe) = declared Promise Types name
+    ∷ enclosed (map parameter_mark parameters)
 marks part (record_type at name parameters universe fields) =
     declared (type_role part) Types name ∷ declared Whole Callables name
     ∷ enclosed (map parameter_mark parameters ++ map (labelled_mark Fields) fields)
 marks part (union_type at name parameters universe cases) =
-    declared (type_role part) Types name ∷ enclosed (map parameter_mark parameters ++ flat_map case_marks cases)
+    declared (type_role part) Types name ∷ enclosed (map parameter_mark parameters
+    ++ flat_map case_marks cases)
 marks part (function at generics header) = enclosed (function_marks Promise generics header)
 marks part (class at name parameter methods) =
     declared Whole Types name ∷ enclosed (parameter_mark parameter ∷ flat_map method_marks methods)
 marks part (instance at generics name t) = enclosed (map generic_mark generics)
 marks part (constant_body at name t value) = declared Definition Values name ∷ []
-marks part (function_body at generics header body stop) = enclosed (function_marks Definition generics header ++ block_marks body)
-marks part (instance_body at generics name t methods) = enclosed (map generic_mark generics ++ flat_map method_body_marks methods)
+marks part (function_body at generics header body stop) = enclosed (function_marks Definition generics header
+    ++ block_marks body)
+marks part (instance_body at generics name t methods) = enclosed (map generic_mark generics
+    ++ flat_map method_body_marks methods)

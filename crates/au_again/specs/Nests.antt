@@ -1,5 +1,5 @@
--- Names in scope with values, in blocks that lie in one another: the names of all open blocks in the order in which
--- they came, and where each block begins among them, the innermost first.
+-- Names in scope with values, in blocks that lie in one another: the names of all open blocks in the order in
+-- which they came, and where each block begins among them, the innermost first.
 use Rattle.std.specs.Prelude.{ℕ, List, [], ◌∷◌, length, take}
 use Rattle.au_tables.specs.Tables.{with_pair}
 

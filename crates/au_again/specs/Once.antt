@@ -1,7 +1,7 @@
--- The rule as it reads: no name is declared again in its space while it is in scope, and no field within its record or
--- case. What is declared at the top of a module is in scope in all of both its parts, before it too, and the later name
--- in the text is the one that is declared again; the interface stands before the body. A definition of what the
--- interface promises isn't declared again; a second one is.
+-- The rule as it reads: no name is declared again in its space while it is in scope, and no field within its
+-- record or case. What is declared at the top of a module is in scope in all of both its parts, before it
+-- too, and the later name in the text is the one that is declared again; the interface stands before the
+-- body. A definition of what the interface promises isn't declared again; a second one is.
 use Rattle.std.specs.Prelude.{◌≡◌, ◌⊎◌, ◌≤◌, ◌+◌, ℕ, Bool, List, [], ◌∷◌, ◌++◌, Some, Contains, IsTrue, slice_get}
 use Rattle.std.specs.List.{flat_map}
 use Rattle.au_base.specs.declared.places.Pos.{Pos}
@@ -30,7 +30,8 @@ closed [] = 0
 closed (Closes ∷ rest) = 1 + closed rest
 closed (m ∷ rest) = closed rest
 
--- A block that is open before marks is open behind them: up to no place among them more blocks end than begin.
+-- A block that is open before marks is open behind them: up to no place among them more blocks end than
+-- begin.
 abbrev pub StaysOpen : List Mark → Type 0
 StaysOpen between = (first rest : List Mark) → between ≡ first ++ rest → closed first ≤ opened first
 
@@ -41,12 +42,14 @@ IsDeclared before role kind name = (at : Pos) × Contains before (Declares role 
 -- A local name is declared among marks, and its block is still open behind them.
 abbrev pub IsInBlock : List Mark → Kind → Bytes → Type 0
 IsInBlock before kind name =
-    (first between : List Mark) × (at : Pos) × (before ≡ first ++ Declares Local kind name at ∷ between) × StaysOpen between
+    (first between : List Mark) × (at : Pos) × (before ≡ first ++ Declares Local kind name at ∷ between)
+    × StaysOpen between
 
 -- A name is declared among marks, at the top of the module.
 abbrev pub IsAtTop : List Mark → Kind → Bytes → Type 0
 IsAtTop before kind name =
-    IsDeclared before Whole kind name ⊎ (IsDeclared before Promise kind name ⊎ IsDeclared before Definition kind name)
+    IsDeclared before Whole kind name
+    ⊎ (IsDeclared before Promise kind name ⊎ IsDeclared before Definition kind name)
 
 -- Behind marks, the interface has promised a name and the body hasn't defined it.
 abbrev pub IsDue : List Mark → Kind → Bytes → Type 0
@@ -58,10 +61,11 @@ IsUnknown before kind name = (role : Role) → ¬ IsDeclared before role kind na
 
 module _ (foreign : Kind → Bytes → Bool) where
   -- A name that is declared behind marks isn't declared again. A local one isn't in scope there: neither from
-  -- elsewhere, nor at the top of the module, nor in a block that is open. One at the top isn't declared before, or it
-  -- defines what is due.
+  -- elsewhere, nor at the top of the module, nor in a block that is open. One at the top isn't declared
+  -- before, or it defines what is due.
   abbrev pub IsNew : List Mark → Role → Kind → Bytes → Type 0
-  IsNew before Local kind name = (¬ IsTrue (foreign kind name)) × (¬ IsAtTop before kind name) × (¬ IsInBlock before kind name)
+  IsNew before Local kind name = (¬ IsTrue (foreign kind name)) × (¬ IsAtTop before kind name)
+      × (¬ IsInBlock before kind name)
   IsNew before Whole kind name = IsUnknown before kind name
   IsNew before Promise kind name = IsUnknown before kind name
   IsNew before Definition kind name = IsUnknown before kind name ⊎ IsDue before kind name
@@ -83,4 +87,5 @@ pub record NamesAreOnce (program : List ModuleParts) (place : ℕ) (m : ModulePa
 
 -- No name of a program is declared again.
 abbrev pub AllNamesAreOnce : List ModuleParts → Type 0
-AllNamesAreOnce program = (place : ℕ) (m : ModuleParts) → slice_get program place ≡ Some m → NamesAreOnce program place m
+AllNamesAreOnce program = (place : ℕ) (m : ModuleParts) → slice_get program place ≡ Some m
+    → NamesAreOnce program place m

@@ -1,6 +1,6 @@
--- Which names are in scope in all of a part of a module and come from elsewhere: what its imports bring, what is
--- pervasive, and what is built in. Nothing is declared as a callable but at the top of a module, where it is compared
--- with these before; and no field comes from elsewhere.
+-- Which names are in scope in all of a part of a module and come from elsewhere: what its imports bring, what
+-- is pervasive, and what is built in. Nothing is declared as a callable but at the top of a module, where it
+-- is compared with these before; and no field comes from elsewhere.
 use Rattle.std.specs.Prelude.{ℕ, Bool, false, not, ◌==◌, ◌||◌, List, Option, None, Some}
 use Rattle.au_syntax.specs.declared.modules.Part.{Part}
 use Rattle.au_syntax.specs.Plain.{Bytes}

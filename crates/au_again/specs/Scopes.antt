@@ -1,5 +1,5 @@
--- The tables that are kept while the text of a module is read, and how each mark changes them: for each kind the names
--- that are declared so far, by their roles, and the local names of the blocks that are open.
+-- The tables that are kept while the text of a module is read, and how each mark changes them: for each kind
+-- the names that are declared so far, by their roles, and the local names of the blocks that are open.
 use Rattle.std.specs.Prelude.{ℕ, Bool, ◌||◌, if◌then◌else◌, List, [], ◌∷◌, Option, None, Some, slice_get, slice_index_or, slice_set}
 use Rattle.std.specs.List.{fold}
 use Rattle.std.specs.Option.{option_or}
@@ -92,7 +92,8 @@ module _ (foreign : Kind → Bytes → Bool) where
   double_in s Opens = None
   double_in s Closes = None
   double_in s (Declares role kind name at) =
-      if is_again_among (foreign kind name) s role kind name then Some (record { name = name; at = at }) else None
+      if is_again_among (foreign kind name) s role kind name then Some (record { name = name; at = at }) else
+      None
 
   -- the first name of marks that is declared again
   unfoldable pub first_in : List Names → List Mark → Option Double

@@ -18,7 +18,7 @@ use std::alloc::Global;
 use std::marker::Model;
 
 /// A name that is declared again, and the place where it is.
-#[derive(Debug, Drop)]
+#[derive(Drop)]
 pub struct Double {
     /// The name.
     pub name: Name,
@@ -51,7 +51,8 @@ impl ModuleDoubles {
     ) -> Result<ModuleDoubles, Memory>
         requires within { place < length (slots.modules resolved.now) }
         requires empty { scopes.old ≡ no_scopes }
-        ensures { (m : ModuleParts) → slice_get (slots.modules resolved.now) place ≡ Some m → IfOk result (λ doubles. doubles ≡ doubles_of (slots.modules resolved.now) place m) }
+        ensures { (m : ModuleParts) → slice_get (slots.modules resolved.now) place ≡ Some m
+            → IfOk result (λ doubles. doubles ≡ doubles_of (slots.modules resolved.now) place m) }
     {
         let mut by_number = Vec::new(alloc);
         judge_part(
@@ -69,7 +70,8 @@ impl ModuleDoubles {
     /// Those of the module at a place.
     fn of(alloc: Global, resolved: &Resolved, place: usize) -> Result<ModuleDoubles, Memory>
         requires { place < length (slots.modules resolved.now) }
-        ensures { (m : ModuleParts) → slice_get (slots.modules resolved.now) place ≡ Some m → IfOk result (λ doubles. doubles ≡ doubles_of (slots.modules resolved.now) place m) }
+        ensures { (m : ModuleParts) → slice_get (slots.modules resolved.now) place ≡ Some m
+            → IfOk result (λ doubles. doubles ≡ doubles_of (slots.modules resolved.now) place m) }
     {
         let mut scopes = Scopes::new(alloc)?;
         ModuleDoubles::with(alloc, resolved, place, &mut scopes)
@@ -109,7 +111,8 @@ impl Doubles {
     ///
     /// Only for want of memory.
     pub fn of(alloc: Global, resolved: &Resolved) -> Result<Doubles, Memory>
-        ensures { IfOk result (λ doubles. (at : DeclAt) → double_at doubles at ≡ first_double (slots.modules resolved.now) at) }
+        ensures { IfOk result (λ doubles. (at : DeclAt) → double_at doubles at
+            ≡ first_double (slots.modules resolved.now) at) }
     {
         let mut by_place = Vec::new(alloc);
         for place in 0..resolved.modules().len() {

@@ -27,7 +27,8 @@ use std::alloc::Global;
 
 /// A name as a double, where it is one.
 fn double_if(alloc: Global, again: bool, name: &Name, at: Pos) -> Result<Option<Double>, Memory>
-    ensures { IfOk result (λ found. found ≡ (if again then Some (record { name = name.now; at = at }) else None)) }
+    ensures { IfOk result (λ found. found ≡ (if again then Some (record { name = name.now; at = at }) else
+        None)) }
 {
     if again {
         let name = name.copy(alloc)?;
@@ -48,7 +49,8 @@ fn judge_name(
     name: &Name,
     at: Pos,
 ) -> Result<Option<Double>, Memory>
-    ensures found { IfOk result (λ found. found ≡ spec.double_in (outside.is_outside place names.now) scopes.old (Mark.Declares role kind name.now at)) }
+    ensures found { IfOk result (λ found. found ≡ spec.double_in (outside.is_outside place names.now)
+        scopes.old (Mark.Declares role kind name.now at)) }
     ensures noted { OnOk result (scopes.new ≡ after scopes.old (Mark.Declares role kind name.now at)) }
 {
     let bytes = name.as_bytes();
@@ -66,7 +68,8 @@ fn judge_mark(
     names: &PartNames,
     mark: &Mark,
 ) -> Result<Option<Double>, Memory>
-    ensures found { IfOk result (λ found. found ≡ spec.double_in (outside.is_outside place names.now) scopes.old mark.now) }
+    ensures found { IfOk result (λ found. found ≡ spec.double_in (outside.is_outside place names.now)
+        scopes.old mark.now) }
     ensures noted { OnOk result (scopes.new ≡ after scopes.old mark.now) }
 {
     match mark {
@@ -92,7 +95,8 @@ fn judge_marks(
     names: &PartNames,
     marks: &Vec<Mark>,
 ) -> Result<Option<Double>, Memory>
-    ensures found { IfOk result (λ found. found ≡ spec.first_in (outside.is_outside place names.now) scopes.old marks.now.items) }
+    ensures found { IfOk result (λ found. found ≡ spec.first_in (outside.is_outside place names.now)
+        scopes.old marks.now.items) }
     ensures noted { OnOk result (scopes.new ≡ after_all scopes.old marks.now.items) }
 {
     let mut first = None;
@@ -112,8 +116,10 @@ fn judge_declaration(
     part: Part,
     decl: &Decl<Parsed>,
 ) -> Result<Option<Double>, Memory>
-    ensures found { IfOk result (λ found. found ≡ spec.first_in (outside.is_outside place names.now) scopes.old (marks part (plain_declaration parsed.name_bytes (declaration parsed decl.now)))) }
-    ensures noted { OnOk result (scopes.new ≡ after_all scopes.old (marks part (plain_declaration parsed.name_bytes (declaration parsed decl.now)))) }
+    ensures found { IfOk result (λ found. found ≡ spec.first_in (outside.is_outside place names.now)
+        scopes.old (marks part (plain_declaration parsed.name_bytes (declaration parsed decl.now)))) }
+    ensures noted { OnOk result (scopes.new ≡ after_all scopes.old
+        (marks part (plain_declaration parsed.name_bytes (declaration parsed decl.now)))) }
 {
     let marks = marks_of(alloc, part, decl)?;
     judge_marks(alloc, scopes, place, names, &marks)
@@ -129,8 +135,13 @@ fn judge_declarations(
     part: Part,
     decls: &Vec<Decl<Parsed>>,
 ) -> Result<(), Memory>
-    ensures found { OnOk result (list.new.items ≡ list.old.items ++ spec.doubles_in (outside.is_outside place names.now) scopes.old (map (marks part) (map (plain_declaration parsed.name_bytes) (map (declaration parsed) decls.now.items)))) }
-    ensures noted { OnOk result (scopes.new ≡ fold after_all scopes.old (map (marks part) (map (plain_declaration parsed.name_bytes) (map (declaration parsed) decls.now.items)))) }
+    ensures found { OnOk result (list.new.items ≡ list.old.items
+        ++ spec.doubles_in (outside.is_outside place names.now) scopes.old
+        (map (marks part) (map (plain_declaration parsed.name_bytes)
+        (map (declaration parsed) decls.now.items)))) }
+    ensures noted { OnOk result (scopes.new ≡ fold after_all scopes.old
+        (map (marks part) (map (plain_declaration parsed.name_bytes)
+        (map (declaration parsed) decls.now.items)))) }
 {
     for decl in decls {
         let found = judge_declaration(alloc, scopes, place, names, part, decl)?;
@@ -149,8 +160,13 @@ pub fn judge_part(
     part: Part,
 ) -> Result<(), Memory>
     requires { place < length (slots.modules resolved.now) }
-    ensures found { (m : ModuleParts) → slice_get (slots.modules resolved.now) place ≡ Some m → OnOk result (list.new.items ≡ list.old.items ++ spec.doubles_in (outside.outside (slots.modules resolved.now) place m part) scopes.old (map (marks part) (declarations_in (part_of part m)))) }
-    ensures noted { (m : ModuleParts) → slice_get (slots.modules resolved.now) place ≡ Some m → OnOk result (scopes.new ≡ fold after_all scopes.old (map (marks part) (declarations_in (part_of part m)))) }
+    ensures found { (m : ModuleParts) → slice_get (slots.modules resolved.now) place ≡ Some m
+        → OnOk result (list.new.items ≡ list.old.items
+        ++ spec.doubles_in (outside.outside (slots.modules resolved.now) place m part) scopes.old
+        (map (marks part) (declarations_in (part_of part m)))) }
+    ensures noted { (m : ModuleParts) → slice_get (slots.modules resolved.now) place ≡ Some m
+        → OnOk result (scopes.new ≡ fold after_all scopes.old
+        (map (marks part) (declarations_in (part_of part m)))) }
 {
     let names = resolved.names(place, part);
     match resolved.modules().part(place, part) {

@@ -10,7 +10,8 @@ ghost use Rattle.au_types.specs.declared.types.DeclAt.{DeclAt};
 
 /// No declaration of a program declares a name again exactly where the rule on names holds.
 pub fn no_doubles_exactly_where_names_are_once()
-    ensures { (program : List ModuleParts) → ((at : DeclAt) → first_double program at ≡ None) ↔ AllNamesAreOnce program }
+    ensures { (program : List ModuleParts) → ((at : DeclAt) → first_double program at ≡ None)
+        ↔ AllNamesAreOnce program }
 {}
 
 /// In a few small modules the names that are declared again are those that were found by hand.

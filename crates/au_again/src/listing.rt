@@ -40,7 +40,9 @@ fn push_opaque(
     name: &Ident<Parsed>,
     parameters: &Vec<TypeParameter<Parsed>>,
 ) -> Result<(), Memory>
-    ensures { OnOk result (list.new.items ≡ list.old.items ++ Mark.Declares Role.Promise Kind.Types name.now.name name.now.at ∷ enclosed (map parameter_mark (parameters_said parameters.now.items))) }
+    ensures { OnOk result (list.new.items ≡ list.old.items
+        ++ Mark.Declares Role.Promise Kind.Types name.now.name name.now.at
+        ∷ enclosed (map parameter_mark (parameters_said parameters.now.items))) }
 {
     push_declared(alloc, list, Role::Promise, Kind::Types, name)?;
     push_opens(list)?;
@@ -55,7 +57,9 @@ fn push_record_block(
     parameters: &Vec<TypeParameter<Parsed>>,
     fields: &Vec<Field<Parsed>>,
 ) -> Result<(), Memory>
-    ensures { OnOk result (list.new.items ≡ list.old.items ++ enclosed (map parameter_mark (parameters_said parameters.now.items) ++ map (labelled_mark Kind.Fields) (fields_said fields.now.items))) }
+    ensures { OnOk result (list.new.items ≡ list.old.items
+        ++ enclosed (map parameter_mark (parameters_said parameters.now.items)
+        ++ map (labelled_mark Kind.Fields) (fields_said fields.now.items))) }
 {
     push_opens(list)?;
     push_parameters(alloc, list, parameters)?;
@@ -72,7 +76,11 @@ fn push_record(
     parameters: &Vec<TypeParameter<Parsed>>,
     fields: &Vec<Field<Parsed>>,
 ) -> Result<(), Memory>
-    ensures { OnOk result (list.new.items ≡ list.old.items ++ Mark.Declares (spec.type_role part) Kind.Types name.now.name name.now.at ∷ Mark.Declares Role.Whole Kind.Callables name.now.name name.now.at ∷ enclosed (map parameter_mark (parameters_said parameters.now.items) ++ map (labelled_mark Kind.Fields) (fields_said fields.now.items))) }
+    ensures { OnOk result (list.new.items ≡ list.old.items
+        ++ Mark.Declares (spec.type_role part) Kind.Types name.now.name name.now.at
+        ∷ Mark.Declares Role.Whole Kind.Callables name.now.name name.now.at
+        ∷ enclosed (map parameter_mark (parameters_said parameters.now.items)
+        ++ map (labelled_mark Kind.Fields) (fields_said fields.now.items))) }
 {
     let role = type_role(part);
     push_declared(alloc, list, role, Kind::Types, name)?;
@@ -86,7 +94,8 @@ fn push_cases(
     list: &mut Vec<Mark>,
     cases: &Vec<UnionCase<Parsed>>,
 ) -> Result<(), Memory>
-    ensures { OnOk result (list.new.items ≡ list.old.items ++ flat_map case_marks (cases_said cases.now.items)) }
+    ensures { OnOk result (list.new.items ≡ list.old.items
+        ++ flat_map case_marks (cases_said cases.now.items)) }
 {
     for one in cases {
         push_case(alloc, list, one)?;
@@ -109,7 +118,9 @@ fn push_union_block(
     parameters: &Vec<TypeParameter<Parsed>>,
     cases: &Vec<UnionCase<Parsed>>,
 ) -> Result<(), Memory>
-    ensures { OnOk result (list.new.items ≡ list.old.items ++ enclosed (map parameter_mark (parameters_said parameters.now.items) ++ flat_map case_marks (cases_said cases.now.items))) }
+    ensures { OnOk result (list.new.items ≡ list.old.items
+        ++ enclosed (map parameter_mark (parameters_said parameters.now.items)
+        ++ flat_map case_marks (cases_said cases.now.items))) }
 {
     push_opens(list)?;
     push_parameters(alloc, list, parameters)?;
@@ -126,7 +137,10 @@ fn push_union(
     parameters: &Vec<TypeParameter<Parsed>>,
     cases: &Vec<UnionCase<Parsed>>,
 ) -> Result<(), Memory>
-    ensures { OnOk result (list.new.items ≡ list.old.items ++ Mark.Declares (spec.type_role part) Kind.Types name.now.name name.now.at ∷ enclosed (map parameter_mark (parameters_said parameters.now.items) ++ flat_map case_marks (cases_said cases.now.items))) }
+    ensures { OnOk result (list.new.items ≡ list.old.items
+        ++ Mark.Declares (spec.type_role part) Kind.Types name.now.name name.now.at
+        ∷ enclosed (map parameter_mark (parameters_said parameters.now.items)
+        ++ flat_map case_marks (cases_said cases.now.items))) }
 {
     let role = type_role(part);
     push_declared(alloc, list, role, Kind::Types, name)?;
@@ -140,7 +154,9 @@ fn push_function(
     generics: &Vec<Generic<Parsed>>,
     signature: &Signature<Parsed>,
 ) -> Result<(), Memory>
-    ensures { OnOk result (list.new.items ≡ list.old.items ++ enclosed (function_marks Role.Promise (generics_said generics.now.items) (header_said signature.now))) }
+    ensures { OnOk result (list.new.items ≡ list.old.items
+        ++ enclosed (function_marks Role.Promise (generics_said generics.now.items)
+        (header_said signature.now))) }
 {
     push_head(alloc, list, Role::Promise, generics, signature)?;
     push_closes(list)
@@ -154,7 +170,9 @@ fn push_function_body(
     signature: &Signature<Parsed>,
     body: &Block<Parsed>,
 ) -> Result<(), Memory>
-    ensures { OnOk result (list.new.items ≡ list.old.items ++ enclosed (function_marks Role.Definition (generics_said generics.now.items) (header_said signature.now) ++ block_marks (block_said body.now))) }
+    ensures { OnOk result (list.new.items ≡ list.old.items
+        ++ enclosed (function_marks Role.Definition (generics_said generics.now.items)
+        (header_said signature.now) ++ block_marks (block_said body.now))) }
 {
     push_head(alloc, list, Role::Definition, generics, signature)?;
     push_closed(alloc, list, body)
@@ -166,7 +184,8 @@ fn push_methods(
     list: &mut Vec<Mark>,
     methods: &Vec<Signature<Parsed>>,
 ) -> Result<(), Memory>
-    ensures { OnOk result (list.new.items ≡ list.old.items ++ flat_map method_marks (headers_said methods.now.items)) }
+    ensures { OnOk result (list.new.items ≡ list.old.items
+        ++ flat_map method_marks (headers_said methods.now.items)) }
 {
     for one in methods {
         push_method(alloc, list, one)?;
@@ -189,7 +208,9 @@ fn push_class_block(
     parameter: &TypeParameter<Parsed>,
     methods: &Vec<Signature<Parsed>>,
 ) -> Result<(), Memory>
-    ensures { OnOk result (list.new.items ≡ list.old.items ++ enclosed (parameter_mark (plain_in_universe parsed.name_bytes (in_universe parsed parameter.now)) ∷ flat_map method_marks (headers_said methods.now.items))) }
+    ensures { OnOk result (list.new.items ≡ list.old.items
+        ++ enclosed (parameter_mark (plain_in_universe parsed.name_bytes (in_universe parsed parameter.now))
+        ∷ flat_map method_marks (headers_said methods.now.items))) }
 {
     push_opens(list)?;
     push_declared(alloc, list, Role::Local, Kind::Types, &parameter.name)?;
@@ -205,7 +226,10 @@ fn push_class(
     parameter: &TypeParameter<Parsed>,
     methods: &Vec<Signature<Parsed>>,
 ) -> Result<(), Memory>
-    ensures { OnOk result (list.new.items ≡ list.old.items ++ Mark.Declares Role.Whole Kind.Types name.now.name name.now.at ∷ enclosed (parameter_mark (plain_in_universe parsed.name_bytes (in_universe parsed parameter.now)) ∷ flat_map method_marks (headers_said methods.now.items))) }
+    ensures { OnOk result (list.new.items ≡ list.old.items
+        ++ Mark.Declares Role.Whole Kind.Types name.now.name name.now.at
+        ∷ enclosed (parameter_mark (plain_in_universe parsed.name_bytes (in_universe parsed parameter.now))
+        ∷ flat_map method_marks (headers_said methods.now.items))) }
 {
     push_declared(alloc, list, Role::Whole, Kind::Types, name)?;
     push_class_block(alloc, list, parameter, methods)
@@ -217,7 +241,8 @@ fn push_instance(
     list: &mut Vec<Mark>,
     generics: &Vec<Generic<Parsed>>,
 ) -> Result<(), Memory>
-    ensures { OnOk result (list.new.items ≡ list.old.items ++ enclosed (map generic_mark (generics_said generics.now.items))) }
+    ensures { OnOk result (list.new.items ≡ list.old.items
+        ++ enclosed (map generic_mark (generics_said generics.now.items))) }
 {
     push_opens(list)?;
     push_generics(alloc, list, generics)?;
@@ -230,7 +255,8 @@ fn push_method_bodies(
     list: &mut Vec<Mark>,
     methods: &Vec<Method<Parsed>>,
 ) -> Result<(), Memory>
-    ensures { OnOk result (list.new.items ≡ list.old.items ++ flat_map method_body_marks (methods_said methods.now.items)) }
+    ensures { OnOk result (list.new.items ≡ list.old.items
+        ++ flat_map method_body_marks (methods_said methods.now.items)) }
 {
     for one in methods {
         push_method_body(alloc, list, one)?;
@@ -240,7 +266,8 @@ fn push_method_bodies(
 
 /// Puts the marks of a method of an instance.
 fn push_method_body(alloc: Global, list: &mut Vec<Mark>, one: &Method<Parsed>) -> Result<(), Memory>
-    ensures { OnOk result (list.new.items ≡ list.old.items ++ method_body_marks (plain_method parsed.name_bytes (method_body parsed one.now))) }
+    ensures { OnOk result (list.new.items ≡ list.old.items
+        ++ method_body_marks (plain_method parsed.name_bytes (method_body parsed one.now))) }
 {
     push_opens(list)?;
     push_fields(alloc, list, Kind::Values, &one.signature.parameters)?;
@@ -254,7 +281,9 @@ fn push_instance_body(
     generics: &Vec<Generic<Parsed>>,
     methods: &Vec<Method<Parsed>>,
 ) -> Result<(), Memory>
-    ensures { OnOk result (list.new.items ≡ list.old.items ++ enclosed (map generic_mark (generics_said generics.now.items) ++ flat_map method_body_marks (methods_said methods.now.items))) }
+    ensures { OnOk result (list.new.items ≡ list.old.items
+        ++ enclosed (map generic_mark (generics_said generics.now.items)
+        ++ flat_map method_body_marks (methods_said methods.now.items))) }
 {
     push_opens(list)?;
     push_generics(alloc, list, generics)?;
@@ -269,7 +298,8 @@ fn push_marks(
     part: Part,
     decl: &Decl<Parsed>,
 ) -> Result<(), Memory>
-    ensures { OnOk result (list.new.items ≡ list.old.items ++ marks part (plain_declaration parsed.name_bytes (declaration parsed decl.now))) }
+    ensures { OnOk result (list.new.items ≡ list.old.items
+        ++ marks part (plain_declaration parsed.name_bytes (declaration parsed decl.now))) }
 {
     match decl {
         Decl::Constant(_, name, _) => {
@@ -306,7 +336,8 @@ fn push_marks(
 ///
 /// Only for want of memory.
 pub fn marks_of(alloc: Global, part: Part, decl: &Decl<Parsed>) -> Result<Vec<Mark>, Memory>
-    ensures { IfOk result (λ found. found.items ≡ marks part (plain_declaration parsed.name_bytes (declaration parsed decl.now))) }
+    ensures { IfOk result (λ found. found.items ≡ marks part
+        (plain_declaration parsed.name_bytes (declaration parsed decl.now))) }
 {
     let mut list = Vec::new(alloc);
     push_marks(alloc, &mut list, part, decl)?;

@@ -3,7 +3,7 @@
 use au_base::{Name, Pos};
 
 /// What a name is declared as: a name of one of the three spaces, or a field.
-#[derive(Clone, Copy, Debug, PartialEq, Eq)]
+#[derive(Clone, Copy)]
 pub enum Kind {
     /// Variables, parameters and constants.
     Values,
@@ -16,7 +16,7 @@ pub enum Kind {
 }
 
 /// How a name is declared.
-#[derive(Clone, Copy, Debug, PartialEq, Eq)]
+#[derive(Clone, Copy)]
 pub enum Role {
     /// In a block, as a variable, a parameter, a type parameter, a region or a field.
     Local,

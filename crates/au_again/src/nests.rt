@@ -10,9 +10,9 @@ use indexmap::IndexMap;
 use std::alloc::Global;
 use std::marker::Model;
 
-/// Names in scope with their values, in blocks that lie in one another. A name is found without a walk through
-/// the blocks. Contracts see the names with their values in the order in which they came, and where each open
-/// block begins among them, the innermost first.
+/// Names in scope with their values, in blocks that lie in one another. A name is found without a walk
+/// through the blocks. Contracts see the names with their values in the order in which they came, and where
+/// each open block begins among them, the innermost first.
 #[derive(Drop)]
 pub struct Nest<V> {
     entries: IndexMap<Vec<u8>, V>,

@@ -38,7 +38,8 @@ pub fn push_declared(
     kind: Kind,
     name: &Ident<Parsed>,
 ) -> Result<(), Memory>
-    ensures { OnOk result (list.new.items ≡ list.old.items ++ Mark.Declares role kind name.now.name name.now.at ∷ []) }
+    ensures { OnOk result (list.new.items ≡ list.old.items
+        ++ Mark.Declares role kind name.now.name name.now.at ∷ []) }
 {
     let copy = name.name.copy(alloc)?;
     list.push(Mark::Declares(role, kind, copy, name.at))?;
@@ -52,7 +53,8 @@ pub fn push_fields(
     kind: Kind,
     fields: &Vec<Field<Parsed>>,
 ) -> Result<(), Memory>
-    ensures { OnOk result (list.new.items ≡ list.old.items ++ map (labelled_mark kind) (fields_said fields.now.items)) }
+    ensures { OnOk result (list.new.items ≡ list.old.items
+        ++ map (labelled_mark kind) (fields_said fields.now.items)) }
 {
     for one in fields {
         push_declared(alloc, list, Role::Local, kind, &one.name)?;
@@ -66,7 +68,8 @@ pub fn push_parameters(
     list: &mut Vec<Mark>,
     parameters: &Vec<TypeParameter<Parsed>>,
 ) -> Result<(), Memory>
-    ensures { OnOk result (list.new.items ≡ list.old.items ++ map parameter_mark (parameters_said parameters.now.items)) }
+    ensures { OnOk result (list.new.items ≡ list.old.items
+        ++ map parameter_mark (parameters_said parameters.now.items)) }
 {
     for one in parameters {
         push_declared(alloc, list, Role::Local, Kind::Types, &one.name)?;
@@ -80,7 +83,8 @@ pub fn push_generics(
     list: &mut Vec<Mark>,
     generics: &Vec<Generic<Parsed>>,
 ) -> Result<(), Memory>
-    ensures { OnOk result (list.new.items ≡ list.old.items ++ map generic_mark (generics_said generics.now.items)) }
+    ensures { OnOk result (list.new.items ≡ list.old.items
+        ++ map generic_mark (generics_said generics.now.items)) }
 {
     for one in generics {
         push_declared(alloc, list, Role::Local, Kind::Types, &one.parameter.name)?;
@@ -90,7 +94,8 @@ pub fn push_generics(
 
 /// The name that is given: that after `as`, or its own.
 fn given_name(item: &Renamed<Parsed>) -> &Ident<Parsed>
-    ensures { plain_name parsed.name_bytes (placed parsed result.now) ≡ given (plain_renaming parsed.name_bytes (renaming parsed item.now)) }
+    ensures { plain_name parsed.name_bytes (placed parsed result.now)
+        ≡ given (plain_renaming parsed.name_bytes (renaming parsed item.now)) }
 {
     match &item.alias {
         None => &item.name,
@@ -114,7 +119,8 @@ pub fn push_binds(
 
 /// Puts the name of a variable to which a field is bound.
 fn push_bind(alloc: Global, list: &mut Vec<Mark>, one: &Bind<Parsed>) -> Result<(), Memory>
-    ensures { OnOk result (list.new.items ≡ list.old.items ++ bound_mark (plain_bound parsed.name_bytes (bound parsed one.now)) ∷ []) }
+    ensures { OnOk result (list.new.items ≡ list.old.items
+        ++ bound_mark (plain_bound parsed.name_bytes (bound parsed one.now)) ∷ []) }
 {
     let name = given_name(&one.name);
     push_declared(alloc, list, Role::Local, Kind::Values, name)
@@ -127,7 +133,8 @@ pub fn push_enclosed(
     kind: Kind,
     fields: &Vec<Field<Parsed>>,
 ) -> Result<(), Memory>
-    ensures { OnOk result (list.new.items ≡ list.old.items ++ enclosed (map (labelled_mark kind) (fields_said fields.now.items))) }
+    ensures { OnOk result (list.new.items ≡ list.old.items
+        ++ enclosed (map (labelled_mark kind) (fields_said fields.now.items))) }
 {
     push_opens(list)?;
     push_fields(alloc, list, kind, fields)?;
@@ -142,7 +149,8 @@ pub fn push_head(
     generics: &Vec<Generic<Parsed>>,
     signature: &Signature<Parsed>,
 ) -> Result<(), Memory>
-    ensures { OnOk result (list.new.items ≡ list.old.items ++ Mark.Opens ∷ function_marks role (generics_said generics.now.items) (header_said signature.now)) }
+    ensures { OnOk result (list.new.items ≡ list.old.items ++ Mark.Opens
+        ∷ function_marks role (generics_said generics.now.items) (header_said signature.now)) }
 {
     push_opens(list)?;
     push_generics(alloc, list, generics)?;

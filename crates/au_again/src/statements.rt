@@ -12,7 +12,8 @@ use std::alloc::Global;
 
 /// Puts the beginning of a block with a variable.
 fn push_variable(alloc: Global, list: &mut Vec<Mark>, name: &Ident<Parsed>) -> Result<(), Memory>
-    ensures { OnOk result (list.new.items ≡ list.old.items ++ Mark.Opens ∷ Mark.Declares Role.Local Kind.Values name.now.name name.now.at ∷ []) }
+    ensures { OnOk result (list.new.items ≡ list.old.items ++ Mark.Opens
+        ∷ Mark.Declares Role.Local Kind.Values name.now.name name.now.at ∷ []) }
 {
     push_opens(list)?;
     push_declared(alloc, list, Role::Local, Kind::Values, name)
@@ -25,7 +26,9 @@ fn push_reference(
     name: &Ident<Parsed>,
     region: &Ident<Parsed>,
 ) -> Result<(), Memory>
-    ensures { OnOk result (list.new.items ≡ list.old.items ++ Mark.Opens ∷ Mark.Declares Role.Local Kind.Values name.now.name name.now.at ∷ Mark.Declares Role.Local Kind.Types region.now.name region.now.at ∷ []) }
+    ensures { OnOk result (list.new.items ≡ list.old.items ++ Mark.Opens
+        ∷ Mark.Declares Role.Local Kind.Values name.now.name name.now.at
+        ∷ Mark.Declares Role.Local Kind.Types region.now.name region.now.at ∷ []) }
 {
     push_variable(alloc, list, name)?;
     push_declared(alloc, list, Role::Local, Kind::Types, region)
@@ -33,7 +36,8 @@ fn push_reference(
 
 /// Puts the beginning of a block with bound fields.
 fn push_bound(alloc: Global, list: &mut Vec<Mark>, binds: &Vec<Bind<Parsed>>) -> Result<(), Memory>
-    ensures { OnOk result (list.new.items ≡ list.old.items ++ Mark.Opens ∷ map bound_mark (binds_said binds.now.items)) }
+    ensures { OnOk result (list.new.items ≡ list.old.items ++ Mark.Opens
+        ∷ map bound_mark (binds_said binds.now.items)) }
 {
     push_opens(list)?;
     push_binds(alloc, list, binds)
@@ -88,7 +92,8 @@ fn push_block(alloc: Global, list: &mut Vec<Mark>, body: &Block<Parsed>) -> Resu
 /// Puts the statements of a block, and its end.
 #[cycle(push_statement)]
 pub fn push_closed(alloc: Global, list: &mut Vec<Mark>, body: &Block<Parsed>) -> Result<(), Memory>
-    ensures { OnOk result (list.new.items ≡ list.old.items ++ (block_marks (block_said body.now) ++ Mark.Closes ∷ [])) }
+    ensures { OnOk result (list.new.items ≡ list.old.items
+        ++ (block_marks (block_said body.now) ++ Mark.Closes ∷ [])) }
 {
     for one in &body.statements {
         push_statement(alloc, list, one)?;
@@ -103,7 +108,8 @@ fn push_branches(
     list: &mut Vec<Mark>,
     branches: &Vec<Branch<Parsed>>,
 ) -> Result<(), Memory>
-    ensures { OnOk result (list.new.items ≡ list.old.items ++ branch_marks (branches_said branches.now.items)) }
+    ensures { OnOk result (list.new.items ≡ list.old.items
+        ++ branch_marks (branches_said branches.now.items)) }
 {
     for one in branches {
         push_branch(alloc, list, one)?;
@@ -114,7 +120,8 @@ fn push_branches(
 /// Puts a branch of a conditional.
 #[cycle(push_statement)]
 fn push_branch(alloc: Global, list: &mut Vec<Mark>, branch: &Branch<Parsed>) -> Result<(), Memory>
-    ensures { OnOk result (list.new.items ≡ list.old.items ++ enclosed (block_marks (block_said branch.now.block))) }
+    ensures { OnOk result (list.new.items ≡ list.old.items
+        ++ enclosed (block_marks (block_said branch.now.block))) }
 {
     push_block(alloc, list, &branch.block)
 }
@@ -133,7 +140,9 @@ fn push_arms(alloc: Global, list: &mut Vec<Mark>, arms: &Vec<Arm<Parsed>>) -> Re
 /// Puts an arm of a case.
 #[cycle(push_statement)]
 fn push_arm(alloc: Global, list: &mut Vec<Mark>, arm: &Arm<Parsed>) -> Result<(), Memory>
-    ensures { OnOk result (list.new.items ≡ list.old.items ++ enclosed (map bound_mark (binds_said arm.now.binds.items) ++ block_marks (block_said arm.now.block))) }
+    ensures { OnOk result (list.new.items ≡ list.old.items
+        ++ enclosed (map bound_mark (binds_said arm.now.binds.items)
+        ++ block_marks (block_said arm.now.block))) }
 {
     push_bound(alloc, list, &arm.binds)?;
     push_closed(alloc, list, &arm.block)

@@ -11,5 +11,9 @@ use Rattle.au_again.proofs.finding.judge_declarations.Given as goal
 -- the doubles of the declarations that are visited, and the tables behind them
 abbrev pub invariant-loop-decl : goal.invariant-loop-decl
 invariant-loop-decl l =
-    (l.list.items ≡ l.fn.list.items ++ doubles_in (is_outside l.place l.names) l.fn.scopes (map (marks l.part) (map (plain_declaration parsed.name_bytes) (map (declaration parsed) (take l.decl-index l.decl-items)))))
-    × (l.scopes ≡ fold after_all l.fn.scopes (map (marks l.part) (map (plain_declaration parsed.name_bytes) (map (declaration parsed) (take l.decl-index l.decl-items)))))
+    (l.list.items ≡ l.fn.list.items ++ doubles_in (is_outside l.place l.names) l.fn.scopes
+    (map (marks l.part) (map (plain_declaration parsed.name_bytes)
+    (map (declaration parsed) (take l.decl-index l.decl-items)))))
+    × (l.scopes ≡ fold after_all l.fn.scopes (map (marks l.part)
+    (map (plain_declaration parsed.name_bytes)
+    (map (declaration parsed) (take l.decl-index l.decl-items)))))

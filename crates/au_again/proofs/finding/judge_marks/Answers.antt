@@ -17,7 +17,9 @@ loop-mark-preserved c =
     let item = c.mark-item.result in
     let before = c.loop-mark.invariant in
     let found = c.in_ok-found.ensures.found ∙ ap (λ t. double_in foreign t item) before.1 in (
-      c.or-first.ensures ∙ ap (λ o. option_or o c.in_ok-found.found) before.0 ∙ ap (option_or (first_in foreign s (take i items))) found
+      c.or-first.ensures ∙ ap (λ o. option_or o c.in_ok-found.found) before.0
+          ∙ ap (option_or (first_in foreign s (take i items))) found
           ∙ sym (first_next foreign s items i item c.loop-mark-test.true c.mark-item.is),
-      c.in_ok-found.ensures.noted ∙ ap (λ t. after t item) before.1 ∙ sym (after_next s items i item c.loop-mark-test.true c.mark-item.is),
+      c.in_ok-found.ensures.noted ∙ ap (λ t. after t item) before.1
+          ∙ sym (after_next s items i item c.loop-mark-test.true c.mark-item.is),
     )

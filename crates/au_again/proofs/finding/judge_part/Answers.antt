@@ -22,4 +22,5 @@ returns-in-None-clause-found c = λ m here.
     ∙ ap (part_tree c.args.part) (ap (λ r. slice_get (slots.modules r) c.args.place) c.modules.ensures.kept ∙ here)
     ∙ tree_is c.args.part m in
     let none = nothing_declared c.args.part m (sym (ap tree_seen c.in-None.is) ∙ there) in
-    sym (ap (λ ds. start ++ doubles_in foreign s (map (marks c.args.part) ds)) none ∙ ap (λ r. start ++ r) (doubles_nothing foreign s) ∙ append-nil start)
+    sym (ap (λ ds. start ++ doubles_in foreign s (map (marks c.args.part) ds)) none
+    ∙ ap (λ r. start ++ r) (doubles_nothing foreign s) ∙ append-nil start)

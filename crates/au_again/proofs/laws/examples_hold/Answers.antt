@@ -5,7 +5,19 @@ use Rattle.au_again.proofs.laws.examples_hold.Goals as goal
 
 pub returns-clause-top : goal.returns-clause-top
 unfolding doubles_behind first_again is_open statement_marks block_marks branch_marks arm_marks
-returns-clause-top c = (refl, (refl, (refl, (refl, (refl, (refl, (refl, (refl, (refl, (refl, (refl, tt)))))))))))
+returns-clause-top c = (
+  refl,
+  (
+    refl,
+    (
+      refl,
+      (
+        refl,
+        (refl, (refl, (refl, (refl, (refl, (refl, (refl, tt))))))),
+      ),
+    ),
+  ),
+)
 
 pub returns-clause-blocks : goal.returns-clause-blocks
 unfolding doubles_behind first_again is_open statement_marks block_marks branch_marks arm_marks

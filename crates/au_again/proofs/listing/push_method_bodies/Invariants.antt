@@ -6,4 +6,5 @@ use Rattle.au_again.proofs.listing.push_method_bodies.Given as goal
 
 -- the marks of the items that are visited
 abbrev pub invariant-loop-one : goal.invariant-loop-one
-invariant-loop-one l = l.list.items ≡ l.fn.list.items ++ flat_map method_body_marks (methods_said (take l.one-index l.one-items))
+invariant-loop-one l = l.list.items ≡ l.fn.list.items
+    ++ flat_map method_body_marks (methods_said (take l.one-index l.one-items))

@@ -17,4 +17,5 @@ loop-one-preserved c =
     c.in_ok-push_bind.ensures
     ∙ ap (λ r. r ++ mark ∷ []) c.loop-one.invariant
     ∙ append_assoc start (map bound_mark (binds_said (take i items))) (mark ∷ [])
-    ∙ ap (λ r. start ++ r) (sym (listed_next (bound parsed) (plain_bound parsed.name_bytes) bound_mark items i item c.loop-one-test.true c.one-item.is))
+    ∙ ap (λ r. start ++ r) (sym (listed_next (bound parsed) (plain_bound parsed.name_bytes) bound_mark items i
+    item c.loop-one-test.true c.one-item.is))

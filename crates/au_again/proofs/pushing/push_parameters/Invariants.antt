@@ -5,4 +5,5 @@ use Rattle.au_again.proofs.pushing.push_parameters.Given as goal
 
 -- the marks of the items that are visited
 abbrev pub invariant-loop-one : goal.invariant-loop-one
-invariant-loop-one l = l.list.items ≡ l.fn.list.items ++ map parameter_mark (parameters_said (take l.one-index l.one-items))
+invariant-loop-one l = l.list.items ≡ l.fn.list.items
+    ++ map parameter_mark (parameters_said (take l.one-index l.one-items))

@@ -39,17 +39,21 @@ push_statement-returns-in-Call t c = grind (arith, common_steps, call_marks)
 pub push_statement-returns-in-Return : goal.push_statement-returns-in-Return
 push_statement-returns-in-Return t c = grind (arith, common_steps, return_marks)
 
-pub push_statement-returns-in_ok-push_branches-in-IfElse : goal.push_statement-returns-in_ok-push_branches-in-IfElse
+pub push_statement-returns-in_ok-push_branches-in-IfElse :
+    goal.push_statement-returns-in_ok-push_branches-in-IfElse
 push_statement-returns-in_ok-push_branches-in-IfElse t c = grind (arith, common_steps, if_else_marks)
 
 pub push_statement-returns-in_ok-push_variable-in-For : goal.push_statement-returns-in_ok-push_variable-in-For
 push_statement-returns-in_ok-push_variable-in-For t c = grind (arith, common_steps, for_marks)
 
-pub push_statement-returns-in_ok-push_reference-in-Borrow : goal.push_statement-returns-in_ok-push_reference-in-Borrow
+pub push_statement-returns-in_ok-push_reference-in-Borrow :
+    goal.push_statement-returns-in_ok-push_reference-in-Borrow
 push_statement-returns-in_ok-push_reference-in-Borrow t c = grind (arith, common_steps, borrow_marks)
 
-pub push_statement-returns-in_ok-push_variable-in-BorrowTyped : goal.push_statement-returns-in_ok-push_variable-in-BorrowTyped
-push_statement-returns-in_ok-push_variable-in-BorrowTyped t c = grind (arith, common_steps, borrow_typed_marks)
+pub push_statement-returns-in_ok-push_variable-in-BorrowTyped :
+    goal.push_statement-returns-in_ok-push_variable-in-BorrowTyped
+push_statement-returns-in_ok-push_variable-in-BorrowTyped t c = grind
+    (arith, common_steps, borrow_typed_marks)
 
 pub push_closed-loop-one-init : goal.push_closed-loop-one-init
 push_closed-loop-one-init t c =
@@ -64,7 +68,8 @@ push_closed-loop-one-preserved t c =
     let item = c.one-item.result in
     c.in_ok-push_statement.ensures
     ∙ ap (λ r. r ++ statement_marks (statement_said item)) c.loop-one.invariant
-    ∙ append_assoc start (block_marks (statements_said (take i items))) (statement_marks (statement_said item))
+    ∙ append_assoc start (block_marks (statements_said (take i items)))
+    (statement_marks (statement_said item))
     ∙ ap (λ r. start ++ r) (sym (more_statements items i item c.loop-one-test.true c.one-item.is))
 
 pub push_branches-loop-one-init : goal.push_branches-loop-one-init
@@ -101,14 +106,16 @@ push_arms-loop-one-preserved t c =
 
 pub push_branches-push_branch-requires : goal.push_branches-push_branch-requires
 push_branches-push_branch-requires t c = (
-  item_falls (size-Branch _ _ _ _) c.deref-one-items.result.now c.args.branches.now.items c.loop-one.one-index c.one-item.result t
+  item_falls (size-Branch _ _ _ _) c.deref-one-items.result.now c.args.branches.now.items c.loop-one.one-index
+      c.one-item.result t
       c.decreases c.deref-one-items.ensures.value c.loop-one-test.true c.one-item.is,
   tt,
 )
 
 pub push_arms-push_arm-requires : goal.push_arms-push_arm-requires
 push_arms-push_arm-requires t c = (
-  item_falls (size-Arm _ _ _ _) c.deref-one-items.result.now c.args.arms.now.items c.loop-one.one-index c.one-item.result t
+  item_falls (size-Arm _ _ _ _) c.deref-one-items.result.now c.args.arms.now.items c.loop-one.one-index
+      c.one-item.result t
       c.decreases c.deref-one-items.ensures.value c.loop-one-test.true c.one-item.is,
   tt,
 )

@@ -15,6 +15,9 @@ returns c = λ m here.
     let first = c.in_ok-judge_part.ensures in
     let second = c.in_ok-judge_part-2.ensures in
     both_parts (outside program place m Interface) (outside program place m Body)
-    (map (marks Interface) (declarations_in (part_of Interface m))) (map (marks Body) (declarations_in (part_of Body m)))
-    c.args.scopes.now c.judge_part.new.scopes c.new-by_number.result.items c.judge_part.new.list.items c.judge_part-2.new.list.items
-    c.requires.empty c.new-by_number.ensures.items (first.found m here) (first.noted m here) (second.found m here)
+    (map (marks Interface) (declarations_in (part_of Interface m)))
+    (map (marks Body) (declarations_in (part_of Body m)))
+    c.args.scopes.now c.judge_part.new.scopes c.new-by_number.result.items c.judge_part.new.list.items
+    c.judge_part-2.new.list.items
+    c.requires.empty c.new-by_number.ensures.items (first.found m here) (first.noted m here)
+    (second.found m here)

@@ -5,5 +5,6 @@ use Rattle.au_again.proofs.nests.Nest.leave.Goals as goal
 
 pub returns-in-Some : goal.returns-in-Some
 returns-in-Some g c =
-    left_is (λ k. k.items) c.self.inside.entries.entries _ c.self.inside.begins.items c.pop.new.self.items c.in-Some.begin c.truncate-in-Some.ensures.entries c.in-Some.ensures.items
+    left_is (λ k. k.items) c.self.inside.entries.entries _ c.self.inside.begins.items c.pop.new.self.items
+    c.in-Some.begin c.truncate-in-Some.ensures.entries c.in-Some.ensures.items
     ∙ ap left c.self.view_is
