@@ -82,8 +82,9 @@ impl Instances {
     ///
     /// The pairs are this one and, where a row of a pair's class has a head that becomes the pair's type,
     /// each constraint of the row's parameters with the parameter's value. A pair is followed at once by
-    /// those of its row, each with all that come from it. A pair is lacking where its type is a type parameter
-    /// that isn't known to have the class, and where no row of the class has a head that becomes its type.
+    /// those of its row, each with all that come from it. A pair is lacking where its type is a type
+    /// parameter that isn't known to have the class, and where no row of the class has a head that becomes
+    /// its type.
     ///
     /// The type stands over the rows of declared types and the type parameters in scope; `known` lists the
     /// constraints of these.

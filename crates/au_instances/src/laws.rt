@@ -51,8 +51,8 @@ pub fn closing_keeps_the_row()
         → one ≡ other }
 {}
 
-/// What holds of a type at a place with type parameters holds of what it closes to once values stand for these:
-/// values that fit their universes, and of which the known constraints hold.
+/// What holds of a type at a place with type parameters holds of what it closes to once values stand for
+/// these: values that fit their universes, and of which the known constraints hold.
 pub fn closing_keeps_what_holds()
     ensures { (rows : List InstanceRow) (heads : List (DeclAt × Head)) (scope : List Parameter)
         (known : Known) (class : DeclAt) (t : Meaning) (s : Bindings) (u : ClosedType)
