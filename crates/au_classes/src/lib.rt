@@ -1,8 +1,10 @@
-//! The instances of a program's classes: whether their table is good, and which instance a class has at a type.
+//! The instances of a program's classes: whether their table is good, and which instance a class has at a
+//! type.
 #![tactic(auto)]
 
 pub mod declaring;
 pub mod faults;
+pub mod finding;
 pub mod judging;
 pub mod knowing;
 pub mod known;

@@ -70,7 +70,8 @@ fn indices_by(
 ) -> Result<Vec<Option<usize>>, Memory>
     requires { AreDefinitions (sight_in sight.now) (declarations_of body.now) definitions.now }
     ensures { IfOk result (λ all. all.items
-        ≡ spec.definition_indices (sight_in sight.now) (declarations_of body.now) (declarations_of interface.now)) }
+        ≡ spec.definition_indices (sight_in sight.now) (declarations_of body.now)
+        (declarations_of interface.now)) }
 {
     let mut all = Vec::new(alloc);
     for one in interface {
@@ -80,8 +81,8 @@ fn indices_by(
     Ok(all)
 }
 
-/// The indices of the definitions of what an interface declares, in order: of each that is an instance and has
-/// one.
+/// The indices of the definitions of what an interface declares, in order: of each that is an instance and
+/// has one.
 ///
 /// # Errors
 ///
@@ -93,7 +94,8 @@ pub(crate) fn definition_indices(
     body: &[Decl<Parsed>],
 ) -> Result<Vec<Option<usize>>, Memory>
     ensures { IfOk result (λ all. all.items
-        ≡ spec.definition_indices (sight_in sight.now) (declarations_of body.now) (declarations_of interface.now)) }
+        ≡ spec.definition_indices (sight_in sight.now) (declarations_of body.now)
+        (declarations_of interface.now)) }
 {
     let definitions = Definitions::of(alloc, sight, body)?;
     indices_by(alloc, sight, interface, body, &definitions)
