@@ -1,11 +1,8 @@
-use Rattle.std.proofs.Common.{ℕ, List, ap, ◌∙◌, subst}
+use Rattle.std.proofs.Common.{ap, ◌∙◌}
 use Rattle.au_syntax.specs.contracts.parsed.ParsedPhase.TheImpl.{ghosts as parsed}
-use Rattle.au_syntax.specs.declared.declarations.Decl.{Decl}
-use Rattle.au_syntax.specs.declared.parsed.Parsed.{Parsed}
 use Rattle.au_syntax.specs.Plain.{plain_declaration}
 use Rattle.au_syntax.specs.Views.{declaration}
-use Rattle.au_promises.specs.Defining.{AreFirst, name_defined, with_name}
-use Rattle.au_promises.specs.Written.{declarations_of}
+use Rattle.au_promises.specs.Defining.{name_defined, with_name}
 use Rattle.au_promises.proofs.DefinitionLemmas.{first_none, first_next, first_all}
 use Rattle.au_promises.proofs.definitions.first_defined.Goals as goal
 
@@ -15,16 +12,13 @@ loop-index-init c = first_none (name_defined c.args.sort) c.new-table.result c.n
 pub loop-index-preserved : goal.loop-index-preserved
 loop-index-preserved c =
     first_next (plain_declaration parsed.name_bytes) (declaration parsed)
-    (name_defined c.args.sort) c.loop-index.table c.put_name.new.table c.deref-one-items.result.now
+    (name_defined c.args.sort) c.loop-index.table c.put_name.new.table c.args.decls.now
     c.loop-index.index c.one-item.result c.loop-index-test.true c.one-item.is c.loop-index.invariant
     (c.in_ok-put_name.ensures ∙ ap (λ name. with_name c.loop-index.table name c.loop-index.index)
     c.name_defined.ensures)
 
 pub returns : goal.returns
 returns c =
-    let first = λ (ds : List (Decl Parsed (List ℕ) (Unit {0}) (Unit {0}))).
-    AreFirst (name_defined c.args.sort) (declarations_of ds) c.loop-index.table in
-    subst first c.deref-one-items.ensures.value
-    (first_all (plain_declaration parsed.name_bytes) (declaration parsed)
-    (name_defined c.args.sort) c.loop-index.table c.deref-one-items.result.now
-    c.loop-index.index c.loop-index-test.false c.loop-index.invariant)
+    first_all (plain_declaration parsed.name_bytes) (declaration parsed)
+    (name_defined c.args.sort) c.loop-index.table c.args.decls.now
+    c.loop-index.index c.loop-index-test.false c.loop-index.invariant

@@ -5,4 +5,4 @@ use Rattle.au_promises.proofs.definitions.first_defined.Given as goal
 
 -- the table finds the first of the declarations that are visited
 abbrev pub invariant-loop-index : goal.invariant-loop-index
-invariant-loop-index l = AreFirst (name_defined l.sort) (declarations_of (take l.index l.one-items)) l.table
+invariant-loop-index l = AreFirst (name_defined l.sort) (declarations_of (take l.index l.decls)) l.table

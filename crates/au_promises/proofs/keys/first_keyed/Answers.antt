@@ -1,11 +1,8 @@
-use Rattle.std.proofs.Common.{ℕ, List, subst}
 use Rattle.au_syntax.specs.contracts.parsed.ParsedPhase.TheImpl.{ghosts as parsed}
-use Rattle.au_syntax.specs.declared.declarations.Decl.{Decl}
-use Rattle.au_syntax.specs.declared.parsed.Parsed.{Parsed}
 use Rattle.au_syntax.specs.Plain.{plain_declaration}
 use Rattle.au_syntax.specs.Views.{declaration}
-use Rattle.au_promises.specs.Defining.{AreFirst, key_defined}
-use Rattle.au_promises.specs.Written.{declarations_of, sight_in}
+use Rattle.au_promises.specs.Defining.{key_defined}
+use Rattle.au_promises.specs.Written.{sight_in}
 use Rattle.au_promises.proofs.DefinitionLemmas.{first_none, first_next, first_all}
 use Rattle.au_promises.proofs.keys.first_keyed.Goals as goal
 
@@ -17,16 +14,12 @@ pub loop-index-preserved : goal.loop-index-preserved
 loop-index-preserved c =
     first_next (plain_declaration parsed.name_bytes) (declaration parsed)
     (key_defined c.args.sort (sight_in c.args.sight.now)) c.loop-index.table
-    c.put_key.new.table c.deref-one-items.result.now c.loop-index.index c.one-item.result
+    c.put_key.new.table c.args.decls.now c.loop-index.index c.one-item.result
     c.loop-index-test.true c.one-item.is c.loop-index.invariant
     c.in_ok-put_key.ensures
 
 pub returns : goal.returns
 returns c =
-    let first = λ (ds : List (Decl Parsed (List ℕ) (Unit {0}) (Unit {0}))).
-    AreFirst (key_defined c.args.sort (sight_in c.args.sight.now))
-    (declarations_of ds) c.loop-index.table in
-    subst first c.deref-one-items.ensures.value
-    (first_all (plain_declaration parsed.name_bytes) (declaration parsed)
+    first_all (plain_declaration parsed.name_bytes) (declaration parsed)
     (key_defined c.args.sort (sight_in c.args.sight.now)) c.loop-index.table
-    c.deref-one-items.result.now c.loop-index.index c.loop-index-test.false c.loop-index.invariant)
+    c.args.decls.now c.loop-index.index c.loop-index-test.false c.loop-index.invariant

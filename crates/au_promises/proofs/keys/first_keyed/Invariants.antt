@@ -6,4 +6,4 @@ use Rattle.au_promises.proofs.keys.first_keyed.Given as goal
 -- the table finds the first of the declarations that are visited
 abbrev pub invariant-loop-index : goal.invariant-loop-index
 invariant-loop-index l = AreFirst (key_defined l.sort (sight_in l.sight))
-    (declarations_of (take l.index l.one-items)) l.table
+    (declarations_of (take l.index l.decls)) l.table
