@@ -14,8 +14,8 @@ pub loop-index-preserved : goal.loop-index-preserved
 loop-index-preserved c =
     first_next (plain_declaration parsed.name_bytes) (declaration parsed)
     (key_defined c.args.sort (sight_in c.args.sight.now)) c.loop-index.table
-    c.put_key.new.table c.args.decls.now c.loop-index.index c.one-item.result
-    c.loop-index-test.true c.one-item.is c.loop-index.invariant
+    c.put_key.new.table c.args.decls.now c.loop-index.index c.index-decls-index.result
+    c.loop-index-test.true c.index-decls-index.is c.loop-index.invariant
     c.in_ok-put_key.ensures
 
 pub returns : goal.returns
