@@ -1,24 +1,21 @@
 -- No name is declared again exactly where the rule on marks holds. The marks before a place stand in the order of the
 -- text in the rule, and the last first in what finds the doubles.
-use Rattle.std.proofs.Common.{◌≡◌, ◌↔◌, ◌⊎◌, inl, inr, ℕ, zero, suc, ◌+◌, ◌<◌, ◌≤◌, Bool, true, false, ◌&&◌, ◌||◌, cond, List, [], ◌∷◌, ◌++◌, length, reverse, map, Option, None, Some, refl, sym, ap, ◌∙◌, subst, append_assoc, arith}
-use Rattle.std.specs.Prelude.{Contains, IsTrue, slice_get}
-use Rattle.std.specs.List.{flat_map, list_any}
-use Rattle.std.specs.Option.{option_map, option_or}
+use Rattle.std.proofs.Common.{◌≡◌, ◌⊎◌, inl, inr, ℕ, zero, suc, ◌+◌, ◌≤◌, Bool, true, false, ◌&&◌, ◌||◌, List, [], ◌∷◌, ◌++◌, reverse, refl, sym, ap, ◌∙◌, subst, append_assoc, arith}
+use Rattle.std.specs.Prelude.{Contains}
 use Rattle.std.specs.Str.{bytes_eq}
 use Rattle.std.proofs.lemmas.List.{append-nil, reverse-append}
 use Rattle.std.proofs.lemmas.List.Elements.{Contains-append_left, Contains-append_right, Contains-append_cases}
 use Rattle.std.proofs.lemmas.Slice.Eq.{bytes_eq-Decides}
 use Rattle.au_base.specs.declared.places.Pos.{Pos}
 use Rattle.au_syntax.specs.Plain.{Bytes}
-use Rattle.au_again.specs.declared.doubles.Double.{Double}
 use Rattle.au_again.specs.declared.marks.Kind.{Kind}
 use Rattle.au_again.specs.declared.marks.Kind.TheVariants.{Values, Callables, Types, Fields}
 use Rattle.au_again.specs.declared.marks.Mark.{Mark}
 use Rattle.au_again.specs.declared.marks.Mark.TheVariants.{Opens, Closes, Declares}
 use Rattle.au_again.specs.declared.marks.Role.{Role}
 use Rattle.au_again.specs.declared.marks.Role.TheVariants.{Local, Whole, Promise, Definition}
-use Rattle.au_again.specs.Doubles.{behind, behind_all, double_of, doubles_behind, first_again, is_declaring, is_declared, is_name_again, is_open, is_top, numbered_double, same_kind, same_role, stands}
-use Rattle.au_again.specs.Once.{AreNew, IsAtTop, IsDeclared, IsDue, IsInBlock, IsNew, IsUnknown, StaysOpen, closed, opened}
+use Rattle.au_again.specs.Doubles.{is_declaring, is_declared, is_open, is_top, same_kind, same_role, stands}
+use Rattle.au_again.specs.Once.{IsAtTop, IsDeclared, IsInBlock, IsUnknown, StaysOpen, closed, opened}
 
 -- ---- tests of two truth values
 
@@ -96,7 +93,7 @@ declares : (role : Role) (kind : Kind) (name : Bytes) (at : Pos) (m : Mark) → 
 declares role kind name at m e =
     ap (is_declaring role kind name) e
     ∙ both_true (same_role role role) (same_kind kind kind && bytes_eq name name) (same_role_self role)
-      (both_true (same_kind kind kind) (bytes_eq name name) (same_kind_self kind) ((bytes_eq-Decides name name).1 refl))
+    (both_true (same_kind kind kind) (bytes_eq name name) (same_kind_self kind) ((bytes_eq-Decides name name).1 refl))
 
 -- ---- names that are declared before a place
 
@@ -168,6 +165,7 @@ module _ (before : List Mark) (kind : Kind) (name : Bytes) where
       none (inl one) = h Whole one
       none (inr (inl two)) = h Promise two
       none (inr (inr three)) = h Definition three
+
       by : (stands before Local kind name ≡ true) ⊎ (is_top before kind name ≡ true) → ⊥
       by (inl one) = h Local (stands_declared Local kind name before one)
       by (inr more) = none (top_at_top more)
@@ -244,10 +242,13 @@ module _ (kind : Kind) (name : Bytes) where
   behind_one : (rest : List Mark) (m : Mark) (less more : ℕ)
       → ((between : List Mark) → StaysBy less between → StaysBy more (between ++ m ∷ []))
       → InBlocks less (reverse rest) → InBlocks more (reverse (m ∷ rest))
-  behind_one rest m less more keeps (first, between, at, is, stays) =
-      (first, between ++ m ∷ [], at,
-        reverse-append (m ∷ []) rest ∙ ap (λ l. l ++ m ∷ []) is ∙ append_assoc first (Declares Local kind name at ∷ between) (m ∷ []),
-        keeps between stays)
+  behind_one rest m less more keeps (first, between, at, is, stays) = (
+    first,
+    between ++ m ∷ [],
+    at,
+    reverse-append (m ∷ []) rest ∙ ap (λ l. l ++ m ∷ []) is ∙ append_assoc first (Declares Local kind name at ∷ between) (m ∷ []),
+    keeps between stays,
+  )
 
   closes_keep : (n : ℕ) (between : List Mark) → StaysBy (suc n) between → StaysBy n (between ++ Closes ∷ [])
   closes_keep n between h =
@@ -307,6 +308,7 @@ module _ (kind : Kind) (name : Bytes) where
           let same : d ≡ Declares Local kind name at = cc in
           let tail : between ≡ rest ++ m ∷ [] = cc in
           inr (first, rest, at, f ∙ ap (λ x. first ++ x ∷ rest) same, subst (StaysBy n) tail stays)
+
       by : ((Declares Local kind name at ∷ between ≡ []) × (first ≡ xs ++ m ∷ [])) ⊎ ((rest : List Mark) × (Declares Local kind name at ∷ between ≡ rest ++ m ∷ []) × (xs ≡ first ++ rest))
           → ((at : Pos) × (m ≡ Declares Local kind name at) × (n ≡ zero)) ⊎ ((first between : List Mark) × (at : Pos) × (xs ≡ first ++ Declares Local kind name at ∷ between) × StaysBy n (between ++ m ∷ []))
       by (inl h) = absurd (let no = h.0 in cc)

@@ -1,5 +1,5 @@
 -- The declarations of a part of a module, and what names mean there.
-use Rattle.std.proofs.Common.{◌≡◌, List, [], Option, None, Some, refl}
+use Rattle.std.proofs.Common.{◌≡◌, [], Option, None, Some, refl}
 use Rattle.au_syntax.specs.declared.modules.Part.{Part}
 use Rattle.au_modules.specs.Programs.{Entry, ModuleParts}
 use Rattle.au_name_faults.specs.Parts.{tree_of}

@@ -52,6 +52,7 @@ below_next program place all after one within old is new = record {
         → Some one ≡ option_map (doubles_of program place) (slice_get program place)
     there (inl found) = ap Some (is found.0 found.2) ∙ sym (ap (option_map (doubles_of program place)) found.2)
     there (inr past) = absurd (omega (arith, past.0, within))
+
     by : (k : ℕ) → k < place + 1 → (k < place) ⊎ (place ≤ k) → slice_get after k ≡ option_map (doubles_of program k) (slice_get program k)
     by k h (inl less) =
         let inside : k < length all = omega (arith, less, old.count) in

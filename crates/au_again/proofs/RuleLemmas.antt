@@ -1,7 +1,7 @@
 -- The first double of each declaration is none exactly where the rule holds.
-use Rattle.std.proofs.Common.{◌≡◌, ◌↔◌, ◌⊎◌, inl, inr, ℕ, zero, suc, ◌+◌, ◌<◌, ◌≤◌, Bool, true, false, ◌&&◌, ◌||◌, cond, List, [], ◌∷◌, ◌++◌, length, reverse, map, Option, None, Some, refl, sym, ap, ◌∙◌, subst, append_assoc, arith}
-use Rattle.std.specs.Prelude.{Contains, IsTrue, slice_get}
-use Rattle.std.specs.List.{flat_map, fold}
+use Rattle.std.proofs.Common.{◌≡◌, ◌↔◌, ◌⊎◌, inl, inr, ℕ, zero, suc, Bool, true, false, ◌||◌, cond, List, [], ◌∷◌, ◌++◌, reverse, map, Option, None, Some, refl, sym, ap, ◌∙◌, subst, append_assoc}
+use Rattle.std.specs.Prelude.{slice_get}
+use Rattle.std.specs.List.{flat_map}
 use Rattle.std.specs.Option.{option_map, option_or}
 use Rattle.std.proofs.lemmas.List.{append-nil, reverse-append}
 use Rattle.au_base.specs.declared.places.Pos.{Pos}
@@ -20,9 +20,9 @@ use Rattle.au_again.specs.declared.marks.Role.{Role}
 use Rattle.au_again.specs.declared.marks.Role.TheVariants.{Local, Whole, Promise, Definition}
 use Rattle.au_again.specs.Doubles.{behind, behind_all, double_of, doubles_behind, doubles_of, first_again, first_double, is_declared, is_name_again, is_open, is_top, numbered_double, stands}
 use Rattle.au_again.specs.Marks.{marks}
-use Rattle.au_again.specs.Once.{AllNamesAreOnce, AreNew, IsAtTop, IsDeclared, IsDue, IsInBlock, IsNew, IsUnknown, NamesAreOnce, text_of}
+use Rattle.au_again.specs.Once.{AllNamesAreOnce, AreNew, IsDue, IsNew, IsUnknown, NamesAreOnce, text_of}
 use Rattle.au_again.specs.Outside.{outside}
-use Rattle.au_again.proofs.OnceLemmas.{at_top_top, declared_stands, differ, not_so, open_from, open_to, or_left, or_right, or_true, so_not, stands_declared, top_at_top, unknown_from, unknown_to}
+use Rattle.au_again.proofs.OnceLemmas.{at_top_top, declared_stands, not_so, open_from, open_to, or_left, or_right, or_true, so_not, stands_declared, top_at_top, unknown_from, unknown_to}
 
 module _ (foreign : Kind → Bytes → Bool) where
   -- ---- one name
@@ -46,6 +46,7 @@ module _ (foreign : Kind → Bytes → Bool) where
         inner : (is_top before kind name ≡ true) ⊎ (is_open kind name zero before ≡ true) → ⊥
         inner (inl one) = h.1 (top_at_top before kind name one)
         inner (inr one) = h.2 (open_to kind name before one)
+
         by : (foreign kind name ≡ true) ⊎ ((is_top before kind name || is_open kind name zero before) ≡ true) → ⊥
         by (inl one) = h.0 one
         by (inr more) = inner (or_true (is_top before kind name) (is_open kind name zero before) more)
@@ -281,6 +282,7 @@ exact program = (all, none)
     all : ((at : DeclAt) → first_double program at ≡ None) → AllNamesAreOnce program
     all h place m here = once_from program place m (λ k.
         sym (ap (λ o. numbered_double k (option_map (doubles_of program place) o)) here) ∙ h (record { «module» = place; decl = k }))
+
     none : AllNamesAreOnce program → (at : DeclAt) → first_double program at ≡ None
     none h at = by (slice_get program at.«module») refl
       where

@@ -1,16 +1,15 @@
 -- The tables that are kept while a text is read hold what its marks say, of which the last stands first.
-use Rattle.std.proofs.Common.{◌≡◌, ℕ, zero, suc, ◌+◌, ◌<◌, ◌≤◌, Bool, true, false, ◌&&◌, ◌||◌, cond, List, [], ◌∷◌, ◌++◌, length, take, get_or, map, Option, None, Some, is_some, refl, sym, ap, ◌∙◌, subst, arith}
-use Rattle.std.specs.List.{fold, list_any}
+use Rattle.std.proofs.Common.{◌≡◌, ℕ, zero, suc, ◌+◌, ◌<◌, ◌≤◌, Bool, true, false, ◌&&◌, ◌||◌, cond, List, [], ◌∷◌, ◌++◌, length, take, get_or, Option, None, Some, is_some, refl, sym, ap, ◌∙◌, subst, arith}
+use Rattle.std.specs.List.{fold}
 use Rattle.std.specs.Option.{option_or}
 use Rattle.std.specs.Str.{bytes_eq}
 use Rattle.std.proofs.Math.Seq.{take-length}
 use Rattle.std.proofs.lemmas.List.{length-take-le, take-append-le, take_more}
-use Rattle.std.proofs.lemmas.List.Sums.{fold_more, fold_push}
+use Rattle.std.proofs.lemmas.List.Sums.{fold_more}
 use Rattle.std.proofs.lemmas.Slice.Eq.{bytes_eq-Decides}
-use Rattle.std.specs.Cmp.Lexicographic.{nat_list_eq_equiv}
 use Rattle.au_base.specs.declared.places.Pos.{Pos}
 use Rattle.au_syntax.specs.Plain.{Bytes}
-use Rattle.au_tables.specs.Tables.{find, has_name, with_pair}
+use Rattle.au_tables.specs.Tables.{has_name, with_pair}
 use Rattle.au_tables.proofs.TableLemmas.{find-with_pair, find-with_pair_other, with_pair-new, with_pair-old}
 use Rattle.au_again.specs.declared.doubles.Double.{Double}
 use Rattle.au_again.specs.declared.marks.Kind.{Kind}
@@ -20,7 +19,7 @@ use Rattle.au_again.specs.declared.marks.Mark.TheVariants.{Opens, Closes, Declar
 use Rattle.au_again.specs.declared.marks.Role.{Role}
 use Rattle.au_again.specs.declared.marks.Role.TheVariants.{Local, Whole, Promise, Definition}
 use Rattle.au_again.specs.declared.scopes.Names.{Names}
-use Rattle.au_again.specs.Doubles.{behind, behind_all, double_of, doubles_behind, first_again, is_declaring, is_declared, is_name_again, is_open, is_top, same_kind, same_role, stands}
+use Rattle.au_again.specs.Doubles.{behind, behind_all, double_of, doubles_behind, first_again, is_declared, is_name_again, is_open, is_top, same_kind, same_role, stands}
 use Rattle.au_again.specs.Nests.{entered, left, with_name}
 use Rattle.au_again.specs.Scopes.{after, after_all, closed, double_in, doubles_in, first_in, is_again_among, is_again_in, is_known_in, is_top_in, no_names, no_scopes, noted, opened}
 
@@ -99,6 +98,7 @@ length_put pairs name = by (has_name name pairs) refl
     grown : (xs : Names_in_table) (x : List ℕ × Unit {0}) → length xs ≤ length (xs ++ x ∷ [])
     grown [] x = omega arith
     grown (y ∷ ys) x = omega (arith, grown ys x)
+
     by : (h : Bool) → has_name name pairs ≡ h → length pairs ≤ length (with_pair pairs name tt)
     by true k = subst (λ p. length pairs ≤ length p) (sym (with_pair-old pairs name tt k)) (omega arith)
     by false k = subst (λ p. length pairs ≤ length p) (sym (with_pair-new pairs name tt k)) (grown pairs (name, tt))
@@ -476,10 +476,10 @@ pub both_parts : (outer inner : Kind → Bytes → Bool) (interface body : List 
     → two ≡ doubles_behind outer [] interface ++ doubles_behind inner (behind_all [] interface) body
 both_parts outer inner interface body s t start one two empty nothing first then second =
     let begins : one ≡ doubles_behind outer [] interface =
-        first ∙ ap (λ l. l ++ doubles_in outer s interface) nothing ∙ ap (λ x. doubles_in outer x interface) empty ∙ doubles_same outer [] no_scopes interface no_scopes_of in
+    first ∙ ap (λ l. l ++ doubles_in outer s interface) nothing ∙ ap (λ x. doubles_in outer x interface) empty ∙ doubles_same outer [] no_scopes interface no_scopes_of in
     let goes : t ≡ fold after_all no_scopes interface = then ∙ ap (λ x. fold after_all x interface) empty in
     second
     ∙ ap (λ l. l ++ doubles_in inner t body) begins
     ∙ ap (λ x. doubles_behind outer [] interface ++ doubles_in inner x body) goes
     ∙ ap (λ l. doubles_behind outer [] interface ++ l)
-      (doubles_same inner (behind_all [] interface) (fold after_all no_scopes interface) body (after_each [] no_scopes interface no_scopes_of))
+    (doubles_same inner (behind_all [] interface) (fold after_all no_scopes interface) body (after_each [] no_scopes interface no_scopes_of))

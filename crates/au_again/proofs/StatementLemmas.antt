@@ -25,7 +25,7 @@ use Rattle.au_syntax.specs.Views.{statement}
 use Rattle.au_syntax.proofs.StatementLemmas.{let_says, destructure_says, assign_says, assign_through_says, if_says, if_else_says, case_says, while_says, for_says, borrow_says, borrow_typed_says, call_says, return_says, skip_says}
 use Rattle.au_again.specs.declared.marks.Kind.TheVariants.{Values, Types}
 use Rattle.au_again.specs.declared.marks.Mark.{Mark}
-use Rattle.au_again.specs.declared.marks.Mark.TheVariants.{Opens, Closes, Declares}
+use Rattle.au_again.specs.declared.marks.Mark.TheVariants.{Declares}
 use Rattle.au_again.specs.declared.marks.Role.TheVariants.{Local}
 use Rattle.au_again.specs.Marks.{arm_marks, block_marks, bound_mark, branch_marks, enclosed, statement_marks}
 use Rattle.au_again.specs.Said.{arms_said, binds_said, block_said, branches_said, statement_said, statements_said}

@@ -4,8 +4,6 @@ use Rattle.std.specs.Prelude.{ℕ, zero, suc, Bool, true, false, ◌&&◌, ◌||
 use Rattle.std.specs.List.{fold, list_any}
 use Rattle.std.specs.Option.{option_map, option_or}
 use Rattle.std.specs.Str.{bytes_eq}
-use Rattle.au_base.specs.declared.places.Pos.{Pos}
-use Rattle.au_syntax.specs.declared.modules.Part.{Part}
 use Rattle.au_syntax.specs.declared.modules.Part.TheVariants.{Interface, Body}
 use Rattle.au_syntax.specs.Plain.{Bytes, PlainDeclaration}
 use Rattle.au_types.specs.declared.types.DeclAt.{DeclAt}

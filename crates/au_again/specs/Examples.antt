@@ -1,17 +1,16 @@
 -- A few small modules, and the names that they declare again, by hand.
-use Rattle.std.specs.Prelude.{ℕ, Bool, false, List, [], ◌∷◌, Option, None, Some, codes, map}
+use Rattle.std.specs.Prelude.{ℕ, Bool, false, List, [], ◌∷◌, Option, None, Some, codes}
 use Rattle.std.specs.Str.{bytes_eq}
 use Rattle.au_base.specs.declared.places.Pos.{Pos}
-use Rattle.au_syntax.specs.declared.declarations.Universe.{Universe}
 use Rattle.au_syntax.specs.declared.declarations.Universe.TheVariants as universes
 use Rattle.au_syntax.specs.declared.statements.Binding.TheVariants as bindings
 use Rattle.au_syntax.specs.declared.types.Access.TheVariants as accesses
 use Rattle.au_syntax.specs.Expressions.{nil}
 use Rattle.au_syntax.specs.Modules.{Constrained, Header, InUniverse, Variant, class, constant, constant_body, function, function_body, instance_body, opaque_type, record_type, union_type}
-use Rattle.au_syntax.specs.Names.{Placed, Renaming}
-use Rattle.au_syntax.specs.Plain.{Bytes, PlainDeclaration, PlainExpression, PlainMethod, PlainStatement, PlainStatements}
-use Rattle.au_syntax.specs.Statements.{arms, borrow_in, branches, case_of, conditional, conditional_else, declare, for_loop, no_arms, no_branches, no_statements, statements}
-use Rattle.au_syntax.specs.Types.{Bound, Labelled, WrittenType, named, no_types}
+use Rattle.au_syntax.specs.Names.{Placed}
+use Rattle.au_syntax.specs.Plain.{Bytes, PlainDeclaration, PlainExpression, PlainStatement, PlainStatements}
+use Rattle.au_syntax.specs.Statements.{arms, borrow_in, branches, case_of, conditional_else, declare, for_loop, no_arms, no_branches, no_statements, statements}
+use Rattle.au_syntax.specs.Types.{Labelled, WrittenType, named, no_types}
 use Rattle.au_again.specs.declared.doubles.Double.{Double}
 use Rattle.au_again.specs.declared.marks.Kind.{Kind}
 use Rattle.au_again.specs.declared.marks.Kind.TheVariants.{Values, Callables, Types, Fields}

@@ -27,12 +27,7 @@ use au_syntax::{Decl, Parsed, Part};
 use std::alloc::Global;
 
 /// A name as a double, where it is one.
-fn double_if(
-    alloc: Global,
-    again: bool,
-    name: &Name,
-    at: Pos,
-) -> Result<Option<Double>, Memory>
+fn double_if(alloc: Global, again: bool, name: &Name, at: Pos) -> Result<Option<Double>, Memory>
     ensures { IfOk result (λ found. found ≡ (if again then Some (record { name = name.now; at = at }) else None)) }
 {
     if again {

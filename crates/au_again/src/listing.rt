@@ -175,11 +175,7 @@ fn push_methods(
 }
 
 /// Puts the marks of a method of a class.
-fn push_method(
-    alloc: Global,
-    list: &mut Vec<Mark>,
-    one: &Signature<Parsed>,
-) -> Result<(), Memory>
+fn push_method(alloc: Global, list: &mut Vec<Mark>, one: &Signature<Parsed>) -> Result<(), Memory>
     ensures { OnOk result (list.new.items ≡ list.old.items ++ method_marks (header_said one.now)) }
 {
     push_declared(alloc, list, Role::Whole, Kind::Callables, &one.name)?;
@@ -243,11 +239,7 @@ fn push_method_bodies(
 }
 
 /// Puts the marks of a method of an instance.
-fn push_method_body(
-    alloc: Global,
-    list: &mut Vec<Mark>,
-    one: &Method<Parsed>,
-) -> Result<(), Memory>
+fn push_method_body(alloc: Global, list: &mut Vec<Mark>, one: &Method<Parsed>) -> Result<(), Memory>
     ensures { OnOk result (list.new.items ≡ list.old.items ++ method_body_marks (plain_method parsed.name_bytes (method_body parsed one.now))) }
 {
     push_opens(list)?;

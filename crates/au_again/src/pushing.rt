@@ -83,13 +83,7 @@ pub fn push_generics(
     ensures { OnOk result (list.new.items ≡ list.old.items ++ map generic_mark (generics_said generics.now.items)) }
 {
     for one in generics {
-        push_declared(
-            alloc,
-            list,
-            Role::Local,
-            Kind::Types,
-            &one.parameter.name,
-        )?;
+        push_declared(alloc, list, Role::Local, Kind::Types, &one.parameter.name)?;
     }
     Ok(())
 }

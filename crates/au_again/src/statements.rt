@@ -11,11 +11,7 @@ use au_syntax::{Arm, Bind, Block, Branch, Ident, Parsed, Stmt};
 use std::alloc::Global;
 
 /// Puts the beginning of a block with a variable.
-fn push_variable(
-    alloc: Global,
-    list: &mut Vec<Mark>,
-    name: &Ident<Parsed>,
-) -> Result<(), Memory>
+fn push_variable(alloc: Global, list: &mut Vec<Mark>, name: &Ident<Parsed>) -> Result<(), Memory>
     ensures { OnOk result (list.new.items ≡ list.old.items ++ Mark.Opens ∷ Mark.Declares Role.Local Kind.Values name.now.name name.now.at ∷ []) }
 {
     push_opens(list)?;
@@ -36,11 +32,7 @@ fn push_reference(
 }
 
 /// Puts the beginning of a block with bound fields.
-fn push_bound(
-    alloc: Global,
-    list: &mut Vec<Mark>,
-    binds: &Vec<Bind<Parsed>>,
-) -> Result<(), Memory>
+fn push_bound(alloc: Global, list: &mut Vec<Mark>, binds: &Vec<Bind<Parsed>>) -> Result<(), Memory>
     ensures { OnOk result (list.new.items ≡ list.old.items ++ Mark.Opens ∷ map bound_mark (binds_said binds.now.items)) }
 {
     push_opens(list)?;
@@ -49,11 +41,7 @@ fn push_bound(
 
 /// Puts the marks of a statement.
 #[cycle(push_statement)]
-fn push_statement(
-    alloc: Global,
-    list: &mut Vec<Mark>,
-    stmt: &Stmt<Parsed>,
-) -> Result<(), Memory>
+fn push_statement(alloc: Global, list: &mut Vec<Mark>, stmt: &Stmt<Parsed>) -> Result<(), Memory>
     ensures { OnOk result (list.new.items ≡ list.old.items ++ statement_marks (statement_said stmt.now)) }
 {
     match stmt {
@@ -90,11 +78,7 @@ fn push_statement(
 
 /// Puts a block.
 #[cycle(push_statement)]
-fn push_block(
-    alloc: Global,
-    list: &mut Vec<Mark>,
-    body: &Block<Parsed>,
-) -> Result<(), Memory>
+fn push_block(alloc: Global, list: &mut Vec<Mark>, body: &Block<Parsed>) -> Result<(), Memory>
     ensures { OnOk result (list.new.items ≡ list.old.items ++ enclosed (block_marks (block_said body.now))) }
 {
     push_opens(list)?;
@@ -103,11 +87,7 @@ fn push_block(
 
 /// Puts the statements of a block, and its end.
 #[cycle(push_statement)]
-pub fn push_closed(
-    alloc: Global,
-    list: &mut Vec<Mark>,
-    body: &Block<Parsed>,
-) -> Result<(), Memory>
+pub fn push_closed(alloc: Global, list: &mut Vec<Mark>, body: &Block<Parsed>) -> Result<(), Memory>
     ensures { OnOk result (list.new.items ≡ list.old.items ++ (block_marks (block_said body.now) ++ Mark.Closes ∷ [])) }
 {
     for one in &body.statements {
@@ -133,11 +113,7 @@ fn push_branches(
 
 /// Puts a branch of a conditional.
 #[cycle(push_statement)]
-fn push_branch(
-    alloc: Global,
-    list: &mut Vec<Mark>,
-    branch: &Branch<Parsed>,
-) -> Result<(), Memory>
+fn push_branch(alloc: Global, list: &mut Vec<Mark>, branch: &Branch<Parsed>) -> Result<(), Memory>
     ensures { OnOk result (list.new.items ≡ list.old.items ++ enclosed (block_marks (block_said branch.now.block))) }
 {
     push_block(alloc, list, &branch.block)
@@ -145,11 +121,7 @@ fn push_branch(
 
 /// Puts the arms of a case.
 #[cycle(push_statement)]
-fn push_arms(
-    alloc: Global,
-    list: &mut Vec<Mark>,
-    arms: &Vec<Arm<Parsed>>,
-) -> Result<(), Memory>
+fn push_arms(alloc: Global, list: &mut Vec<Mark>, arms: &Vec<Arm<Parsed>>) -> Result<(), Memory>
     ensures { OnOk result (list.new.items ≡ list.old.items ++ arm_marks (arms_said arms.now.items)) }
 {
     for one in arms {

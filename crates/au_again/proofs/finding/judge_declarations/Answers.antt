@@ -29,14 +29,15 @@ loop-decl-preserved c =
     let said = λ (xs : List _). map (marks c.args.part) (map (plain_declaration parsed.name_bytes) (map (declaration parsed) xs)) in
     let one = marks c.args.part (plain_declaration parsed.name_bytes (declaration parsed item)) in
     let next = listed_next (declaration parsed) (plain_declaration parsed.name_bytes) (marks c.args.part) items i item c.loop-decl-test.true c.decl-item.is in
-    let found = c.in_ok-found.ensures.found ∙ ap (λ t. first_in foreign t one) before.1 in
-    (c.in_ok-push.ensures.items
-        ∙ ap (λ r. r ++ c.in_ok-found.found ∷ []) before.0
-        ∙ ap (λ x. (start ++ doubles_in foreign s (said (take i items))) ++ x ∷ []) found
-        ∙ append_assoc start (doubles_in foreign s (said (take i items))) (first_in foreign (fold after_all s (said (take i items))) one ∷ [])
-        ∙ ap (λ r. start ++ r) (sym (doubles_push foreign s (said (take i items)) one))
-        ∙ ap (λ ds. start ++ doubles_in foreign s ds) (sym next),
+    let found = c.in_ok-found.ensures.found ∙ ap (λ t. first_in foreign t one) before.1 in (
+      c.in_ok-push.ensures.items
+          ∙ ap (λ r. r ++ c.in_ok-found.found ∷ []) before.0
+          ∙ ap (λ x. (start ++ doubles_in foreign s (said (take i items))) ++ x ∷ []) found
+          ∙ append_assoc start (doubles_in foreign s (said (take i items))) (first_in foreign (fold after_all s (said (take i items))) one ∷ [])
+          ∙ ap (λ r. start ++ r) (sym (doubles_push foreign s (said (take i items)) one))
+          ∙ ap (λ ds. start ++ doubles_in foreign s ds) (sym next),
       c.in_ok-found.ensures.noted
-        ∙ ap (λ t. after_all t one) before.1
-        ∙ sym (fold_push after_all s (said (take i items)) one)
-        ∙ ap (fold after_all s) (sym next))
+          ∙ ap (λ t. after_all t one) before.1
+          ∙ sym (fold_push after_all s (said (take i items)) one)
+          ∙ ap (fold after_all s) (sym next),
+    )

@@ -1,6 +1,6 @@
-use Rattle.std.proofs.Common.{◌++◌, ◌∷◌, [], take, sym, ap, ◌∙◌, append_assoc, arith}
+use Rattle.std.proofs.Common.{◌++◌, take, sym, ap, ◌∙◌, append_assoc, arith}
 use Rattle.std.proofs.lemmas.Grind.{common_steps}
-use Rattle.std.proofs.lemmas.List.{append-nil, take_all}
+use Rattle.std.proofs.lemmas.List.{append-nil}
 use Rattle.au_syntax.specs.declared.statements.Arm.{size-Arm}
 use Rattle.au_syntax.specs.declared.statements.Branch.{size-Branch}
 use Rattle.au_syntax.proofs.DepthLemmas.{item_falls}
@@ -112,4 +112,3 @@ push_arms-push_arm-requires t c = (
       c.decreases c.deref-one-items.ensures.value c.loop-one-test.true c.one-item.is,
   tt,
 )
-

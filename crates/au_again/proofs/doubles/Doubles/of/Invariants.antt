@@ -1,4 +1,3 @@
-use Rattle.std.proofs.Common.{◌≡◌}
 use Rattle.au_modules.specs.Slots as slots
 use Rattle.au_again.proofs.PlaceLemmas.{AreDoublesBelow}
 use Rattle.au_again.proofs.doubles.Doubles.of.Given as goal
