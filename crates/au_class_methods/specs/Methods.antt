@@ -1,7 +1,8 @@
 -- Whether the methods of an instance are exactly those of its class, each with the signature that the class's
 -- method has where the head of the instance stands for the class's parameter. Names of parameters count, the
 -- order of methods doesn't. Types are the same that mean one type, or that both mean none.
-use Rattle.std.specs.Prelude.{◌≡◌, ◌&&◌, ◌||◌, List, [], ◌∷◌, ◌++◌, Bool, false, not, Option, None, Some, Contains}
+use Rattle.std.specs.Prelude.{◌≡◌, ◌&&◌, ◌||◌, List, [], ◌∷◌, ◌++◌, Bool, false, not, Option, None, Some}
+use Rattle.std.specs.Prelude.{Contains}
 use Rattle.std.specs.List.{find, list_all, list_any}
 use Rattle.std.specs.Str.{bytes_eq}
 use Rattle.au_syntax.specs.Modules.{Header}
@@ -35,16 +36,21 @@ module _ (wanted given : WrittenType → Option Meaning) where
   -- Methods are those of a class: each of the class is defined with its signature, none is added, and no two
   -- have one name.
   pub record AreMethods (class : List (Header Bytes)) (methods : List PlainMethod) : Type 0 where
-    pub defined : (h : Header Bytes) → Contains class h → (m : PlainMethod) × Contains methods m × (h.name.name ≡ m.header.name.name) × SameSignature h m.header
-    pub declared : (m : PlainMethod) → Contains methods m → (h : Header Bytes) × Contains class h × (m.header.name.name ≡ h.name.name)
-    pub once : (before after : List PlainMethod) (m other : PlainMethod) → methods ≡ before ++ m ∷ after → Contains before other → ¬ (m.header.name.name ≡ other.header.name.name)
+    pub defined : (h : Header Bytes) → Contains class h
+        → (m : PlainMethod) × Contains methods m × (h.name.name ≡ m.header.name.name)
+        × SameSignature h m.header
+    pub declared : (m : PlainMethod) → Contains methods m
+        → (h : Header Bytes) × Contains class h × (m.header.name.name ≡ h.name.name)
+    pub once : (before after : List PlainMethod) (m other : PlainMethod) → methods ≡ before ++ m ∷ after
+        → Contains before other → ¬ (m.header.name.name ≡ other.header.name.name)
 
 -- ---- the same as a test
 
 -- a method of this name stands among those before another or is one of these, each after those before it
 abbrev pub doubled_from : List PlainMethod → List PlainMethod → Bool
 doubled_from before [] = false
-doubled_from before (m ∷ rest) = list_any (is_named m.header.name.name) before || doubled_from (before ++ m ∷ []) rest
+doubled_from before (m ∷ rest) =
+    list_any (is_named m.header.name.name) before || doubled_from (before ++ m ∷ []) rest
 
 -- two methods have one name
 abbrev pub is_doubled : List PlainMethod → Bool

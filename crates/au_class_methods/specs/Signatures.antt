@@ -26,9 +26,10 @@ module _ (heads : List (DeclAt × Head)) where
   -- what a type that is written in a class means, with the head of an instance in the place of the class's
   -- parameter
   abbrev pub wanted : ClassText → Meaning → WrittenType → Option Meaning
-  wanted class head t = option_map (substituted (head_for class head)) (meant [] (class.parameter ∷ []) class.visible heads t)
+  wanted class head t =
+      option_map (substituted (head_for class head)) (meant [] (class.parameter ∷ []) class.visible heads t)
 
-  -- what a type that is written in an instance means, with the type parameters of the instance in scope, where
-  -- these names are seen
+  -- what a type that is written in an instance means, with the type parameters of the instance in scope,
+  -- where these names are seen
   abbrev pub given : List (Bytes × DeclAt) → List Parameter → WrittenType → Option Meaning
   given names params t = meant [] params names heads t

@@ -46,7 +46,8 @@ method_of one = plain_method parsed.name_bytes (method_body parsed one)
 
 -- a method behind a reference, if there is one
 abbrev pub method_seen : Option (Bor (Method Parsed (List ℕ) (Unit {0}) (Unit {0}))) → Option PlainMethod
-method_seen found = option_map (λ (b : Bor (Method Parsed (List ℕ) (Unit {0}) (Unit {0}))). method_of b.now) found
+method_seen found =
+    option_map (λ (b : Bor (Method Parsed (List ℕ) (Unit {0}) (Unit {0}))). method_of b.now) found
 
 -- the name by which a method of an instance is found, and that of a method of a class
 abbrev pub named_by : PlainMethod → Option Bytes

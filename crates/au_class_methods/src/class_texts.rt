@@ -58,7 +58,8 @@ fn class_with<'a>(visible: &'a Table<DeclAt>, decl: &'a Decl<Parsed>) -> Option<
 
 /// A declaration, where these names are seen, if they are known and it is a class.
 fn class_in<'a>(visible: Option<&'a Table<DeclAt>>, decl: &'a Decl<Parsed>) -> Option<ClassText<'a>>
-    ensures { option_map class_said result ≡ spec.class_in (option_copied visible.entry) (declared_of decl.now) }
+    ensures { option_map class_said result ≡ spec.class_in (option_copied visible.entry)
+        (declared_of decl.now) }
 {
     match visible {
         None => None,

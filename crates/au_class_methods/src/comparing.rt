@@ -70,7 +70,8 @@ fn same_type(
 ) -> Result<bool, Memory>
     requires { AlwaysSuits class.now s.now }
     ensures { IfOk result (λ same. same
-        ≡ spec.same_type (wanted_in class.now s.now) (meant_in own.now) (written one.now) (written other.now)) }
+        ≡ spec.same_type (wanted_in class.now s.now) (meant_in own.now) (written one.now)
+        (written other.now)) }
 {
     let of = wanted(alloc, class, s, one)?;
     let its = type_meant(alloc, own, other)?;
@@ -88,7 +89,8 @@ fn same_labelled(
 ) -> Result<bool, Memory>
     requires { AlwaysSuits class.now s.now }
     ensures { IfOk result (λ same. same
-        ≡ spec.same_labelled (wanted_in class.now s.now) (meant_in own.now) (labelled_of one.now) (labelled_of other.now)) }
+        ≡ spec.same_labelled (wanted_in class.now s.now) (meant_in own.now) (labelled_of one.now)
+        (labelled_of other.now)) }
 {
     if same_name(&one.name, &other.name) {
         same_type(alloc, class, s, &one.of, own, &other.of)
@@ -138,7 +140,8 @@ pub(crate) fn same_signature(
 ) -> Result<bool, Memory>
     requires { AlwaysSuits class.now s.now }
     ensures { IfOk result (λ same. same
-        ≡ spec.same_signature (wanted_in class.now s.now) (meant_in own.now) (header_of one.now) (header_of other.now)) }
+        ≡ spec.same_signature (wanted_in class.now s.now) (meant_in own.now) (header_of one.now)
+        (header_of other.now)) }
 {
     if same_labels(alloc, class, s, &one.parameters, own, &other.parameters)? {
         same_type(alloc, class, s, &one.result, own, &other.result)

@@ -9,5 +9,7 @@ ghost use Rattle.au_types.specs.Types.{Meaning};
 
 /// The test for methods says yes exactly where the rule on them holds.
 pub fn the_test_decides_the_rule()
-    ensures { (wanted given : WrittenType → Option Meaning) (class : List (Header Bytes)) (methods : List PlainMethod) → (are_methods wanted given class methods ≡ true) ↔ AreMethods wanted given class methods }
+    ensures { (wanted given : WrittenType → Option Meaning) (class : List (Header Bytes))
+        (methods : List PlainMethod)
+        → (are_methods wanted given class methods ≡ true) ↔ AreMethods wanted given class methods }
 {}

@@ -3,7 +3,8 @@
 ghost use Rattle.std.specs.Prelude.{◌≡◌, false, true, IfOk, MatchOption, find};
 ghost use Rattle.std.specs.List.{list_all};
 ghost use Rattle.au_class_methods.specs.Methods as spec;
-ghost use Rattle.au_class_methods.specs.Views.{AlwaysSuits, called_by, headers_of, method_of, method_seen, named_by, wanted_in};
+ghost use Rattle.au_class_methods.specs.Views.{AlwaysSuits, called_by, headers_of, method_of, method_seen};
+ghost use Rattle.au_class_methods.specs.Views.{named_by, wanted_in};
 ghost use Rattle.au_instance_texts.specs.Indices.{FindsFirst};
 ghost use Rattle.au_instance_texts.specs.Views.{methods_of};
 ghost use Rattle.au_promises.specs.Written.{header_of};
@@ -23,7 +24,8 @@ fn methods_by_name(
     methods: &Vec<Method<Parsed>>,
 ) -> Result<Option<Table<usize>>, Memory>
     ensures { IfOk result (λ found. MatchOption found (spec.is_doubled (methods_of methods.now.items) ≡ true)
-        (λ table. (spec.is_doubled (methods_of methods.now.items) ≡ false) × FindsFirst named_by (methods_of methods.now.items) table)) }
+        (λ table. (spec.is_doubled (methods_of methods.now.items) ≡ false)
+        × FindsFirst named_by (methods_of methods.now.items) table)) }
 {
     let mut table = Table::new(alloc);
     for (index, one) in methods.iter().enumerate() {
@@ -57,7 +59,8 @@ fn has_signature(
 ) -> Result<bool, Memory>
     requires { AlwaysSuits class.now s.now }
     ensures { IfOk result (λ has. has
-        ≡ spec.has_signature (wanted_in class.now s.now) (meant_in own.now) (header_of one.now) (method_seen found.entry)) }
+        ≡ spec.has_signature (wanted_in class.now s.now) (meant_in own.now) (header_of one.now)
+        (method_seen found.entry)) }
 {
     match found {
         None => Ok(false),
@@ -93,7 +96,8 @@ fn all_defined(
     requires suits { AlwaysSuits class.now s.now }
     requires named { FindsFirst named_by (methods_of methods.now.items) by_name.now }
     ensures { IfOk result (λ all. all
-        ≡ list_all (spec.is_defined (wanted_in class.now s.now) (meant_in own.now) (methods_of methods.now.items)) (headers_of list.now.items)) }
+        ≡ list_all (spec.is_defined (wanted_in class.now s.now) (meant_in own.now)
+        (methods_of methods.now.items)) (headers_of list.now.items)) }
 {
     for one in list {
         let found = method_named(methods, by_name, &one.name.name);
@@ -119,7 +123,8 @@ fn all_declared(
     methods: &Vec<Method<Parsed>>,
 ) -> bool
     requires { FindsFirst called_by (headers_of list.now.items) by_name.now }
-    ensures { result ≡ list_all (spec.is_declared (headers_of list.now.items)) (methods_of methods.now.items) }
+    ensures { result ≡ list_all (spec.is_declared (headers_of list.now.items))
+        (methods_of methods.now.items) }
 {
     for one in methods {
         if !is_declared(list, by_name, one) {
@@ -158,7 +163,8 @@ pub(crate) fn are_defined(
 ) -> Result<bool, Memory>
     requires { AlwaysSuits class.now s.now }
     ensures { IfOk result (λ are. are
-        ≡ spec.are_methods (wanted_in class.now s.now) (meant_in own.now) (headers_of list.now.items) (methods_of methods.now.items)) }
+        ≡ spec.are_methods (wanted_in class.now s.now) (meant_in own.now) (headers_of list.now.items)
+        (methods_of methods.now.items)) }
 {
     let Some(by_name) = methods_by_name(alloc, methods)? else {
         return Ok(false);

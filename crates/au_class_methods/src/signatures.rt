@@ -41,10 +41,10 @@ fn substitution_of(alloc: Global, class: &ClassText, head: &Ty) -> Result<Substi
     Ok(s)
 }
 
-/// Whether methods are exactly those of a class, in any order: none is missing, none is added, and each has the
-/// signature, names of parameters included, that the class's method has with the head of the instance in the
-/// place of the class's parameter. Types are compared by what they mean, those of the instance with its type
-/// parameters where these names are seen.
+/// Whether methods are exactly those of a class, in any order: none is missing, none is added, and each has
+/// the signature, names of parameters included, that the class's method has with the head of the instance
+/// in the place of the class's parameter. Types are compared by what they mean, those of the instance with
+/// its type parameters where these names are seen.
 ///
 /// The class's parameter is no region.
 ///
@@ -62,7 +62,8 @@ pub fn are_methods(
 ) -> Result<bool, Memory>
     requires { IsOfTypes (class_said class.now) }
     ensures { IfOk result (λ are. are
-        ≡ spec.are_methods (wanted heads.now (class_said class.now) (meaning head.now)) (given heads.now names.now params.now)
+        ≡ spec.are_methods (wanted heads.now (class_said class.now) (meaning head.now))
+        (given heads.now names.now params.now)
         (headers_of class.now.methods.now.items) (methods_of methods.now.items)) }
 {
     let parameter = params_of(alloc, class.parameter)?;

@@ -37,7 +37,9 @@ const PROGRAMS: [(&[u8], &[u8], Told); 30] = [
 typeclass K(T: Type) is method k(x: T): T; end;
 record P[A: Type, R: Region]: Type is a: A; end;
 generic [S: Region, T: Type] instance K(P[T, S]) is method k(x: P[T, S]): P[T, S] is return x; end; end;
-instance K(Option[&[Nat8, Static]]) is method k(x: Option[&[Nat8, Static]]): Option[&[Nat8, Static]] is return x; end; end;
+instance K(Option[&[Nat8, Static]]) is
+method k(x: Option[&[Nat8, Static]]): Option[&[Nat8, Static]] is return x; end;
+end;
 instance K(Span[Nat8, Static]) is method k(x: Span[Nat8, Static]): Span[Nat8, Static] is return x; end; end;
 end module body.",
         Told::Good(3),
@@ -70,7 +72,9 @@ end module body.",
         b"",
         b"module body M is
 typeclass K(T: Type) is method k(x: T): T; end;
-generic [T: Free] instance K(Either[T, Nat8]) is method k(x: Either[T, Nat8]): Either[T, Nat8] is return x; end; end;
+generic [T: Free] instance K(Either[T, Nat8]) is
+method k(x: Either[T, Nat8]): Either[T, Nat8] is return x; end;
+end;
 end module body.",
         Told::BadHead(1, 3),
     ),
@@ -235,7 +239,9 @@ end module body.",
         b"",
         b"module body M is
 typeclass K(T: Type) is method k(x: T): Option[T]; end;
-generic [T: Type] instance K(Option[T]) is method k(x: Option[T]): Option[Option[T]] is return Some(x); end; end;
+generic [T: Type] instance K(Option[T]) is
+method k(x: Option[T]): Option[Option[T]] is return Some(x); end;
+end;
 end module body.",
         Told::Good(1),
     ),

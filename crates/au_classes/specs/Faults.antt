@@ -2,7 +2,8 @@
 -- head isn't one, which stands in another module than its class and its head type do, which is for the class
 -- and the head constructor of an earlier one, or whose methods aren't those of its class; and of one instance
 -- the first of these.
-use Rattle.std.specs.Prelude.{◌&&◌, ◌||◌, ◌==◌, ℕ, List, [], ◌∷◌, ◌++◌, Bool, false, true, Option, None, Some, if◌then◌else◌, slice_get}
+use Rattle.std.specs.Prelude.{◌&&◌, ◌||◌, ◌==◌, ℕ, List, [], ◌∷◌, ◌++◌, Bool, false, true, Option, None}
+use Rattle.std.specs.Prelude.{Some, if◌then◌else◌, slice_get}
 use Rattle.std.specs.List.{find}
 use Rattle.std.specs.Option.{option_map, option_or}
 use Rattle.au_base.specs.declared.places.Pos.{Pos}
@@ -71,10 +72,12 @@ first_like known row = find (is_like row.class (constructor_of row.head)) known
 -- ---- methods
 
 -- methods, if any are written, are those of the class of a row
-abbrev pub are_written : List (DeclAt × Head) → List (Bytes × DeclAt) → ClassText → Row → Option (List PlainMethod) → Bool
+abbrev pub are_written : List (DeclAt × Head) → List (Bytes × DeclAt) → ClassText → Row →
+    Option (List PlainMethod) → Bool
 are_written heads names class row None = true
 are_written heads names class row (Some methods) =
-    are_methods (wanted heads class row.head) (given heads names (parameters row.generics)) class.methods methods
+    are_methods (wanted heads class row.head) (given heads names (parameters row.generics))
+    class.methods methods
 
 -- ---- one instance
 
@@ -98,7 +101,8 @@ module _ (heads : List (DeclAt × Head)) (known : List Known) (text : InstanceTe
   row_fault names row class =
       option_or (unless (is_head heads class row) (BadHead text.at))
       (option_or (unless (is_home text.number.«module» row) (Orphan text.at))
-      (option_or (overlap text.at (option_map place_of (first_like known row))) (methods_fault names row class)))
+      (option_or (overlap text.at (option_map place_of (first_like known row)))
+      (methods_fault names row class)))
 
   -- its row, and its class if that's there
   abbrev pub class_fault : List (Bytes × DeclAt) → Row → Option ClassText → Option ClassFault
@@ -111,7 +115,8 @@ module _ (heads : List (DeclAt × Head)) (known : List Known) (text : InstanceTe
   read_fault program names (Some row) = class_fault names row (class_at program row.class)
 
 -- an instance in its module, if that's there, after those that are known
-abbrev pub module_fault : List ModuleParts → List Known → InstanceText → Option ModuleParts → Option ClassFault
+abbrev pub module_fault : List ModuleParts → List Known → InstanceText → Option ModuleParts →
+    Option ClassFault
 module_fault program known text None = Some (BadHead text.at)
 module_fault program known text (Some m) =
     read_fault (heads_of program) known text program (visible program text.number.«module» m Body)

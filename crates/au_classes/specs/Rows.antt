@@ -1,5 +1,6 @@
--- The row of an instance as it is written. There is none where its class, its type parameters or its type mean
--- nothing, or where the type isn't well formed; the judging of declarations has seen such an instance before.
+-- The row of an instance as it is written. There is none where its class, its type parameters or its type
+-- mean nothing, or where the type isn't well formed; the judging of declarations has seen such an instance
+-- before.
 use Rattle.std.specs.Prelude.{ℕ, List, [], Option, None, Some, flat_map, slice_get}
 use Rattle.std.specs.Option.{option_to_list}
 use Rattle.au_syntax.specs.Plain.{Bytes}

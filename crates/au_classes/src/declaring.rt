@@ -50,7 +50,8 @@ fn admit_in(
 ) -> Result<Option<ClassFault>, Memory>
     requires { StandsOver heads.now (parameters row.generics) (meaning row.head) }
     ensures fault { IfOk result (λ fault. fault
-        ≡ spec.row_fault heads.now (known_said known.old) (text_said text.now) names.now (row_said row) (class_said class.now)) }
+        ≡ spec.row_fault heads.now (known_said known.old) (text_said text.now) names.now (row_said row)
+        (class_said class.now)) }
     ensures known { IfOk result (λ fault. fault ≡ None
         → known_said known.new ≡ known_said known.old ++ spec.known_of text.now.at (Some (row_said row))) }
 {
@@ -72,7 +73,8 @@ fn admit(
     names: &Table<DeclAt>,
     row: Row,
 ) -> Result<Option<ClassFault>, Memory>
-    requires { StandsOver (heads_of (slots.modules program.now)) (parameters row.generics) (meaning row.head) }
+    requires { StandsOver (heads_of (slots.modules program.now)) (parameters row.generics)
+        (meaning row.head) }
     ensures fault { IfOk result (λ fault. fault
         ≡ spec.read_fault (heads_of (slots.modules program.now)) (known_said known.old) (text_said text.now)
         (slots.modules program.now) names.now (Some (row_said row))) }
@@ -95,7 +97,8 @@ fn admit_text(
     ensures fault { IfOk result (λ fault. fault
         ≡ spec.fault_of (slots.modules program.now) (known_said known.old) (text_said text.now)) }
     ensures known { IfOk result (λ fault. fault ≡ None
-        → known_said known.new ≡ spec.with_text (slots.modules program.now) (known_said known.old) (text_said text.now)) }
+        → known_said known.new ≡ spec.with_text (slots.modules program.now) (known_said known.old)
+        (text_said text.now)) }
 {
     let place = text.number.module as usize;
     if place >= program.modules().len() {
@@ -122,7 +125,8 @@ fn admit_all(
     ensures fault { IfOk result (λ fault. fault
         ≡ spec.first_fault (slots.modules program.now) (known_said known.old) (texts_said texts.now.items)) }
     ensures known { IfOk result (λ fault. fault ≡ None
-        → known_said known.new ≡ spec.with_texts (slots.modules program.now) (known_said known.old) (texts_said texts.now.items)) }
+        → known_said known.new ≡ spec.with_texts (slots.modules program.now) (known_said known.old)
+        (texts_said texts.now.items)) }
 {
     for text in texts {
         if let Some(found) = admit_text(alloc, program, known, text)? {
@@ -141,13 +145,14 @@ fn classes_of(alloc: Global, program: &Resolved, instances: Instances) -> Result
     Ok(Classes { instances, heads })
 }
 
-/// The table of a program's instances, with the rows of its declared types: of each that is given is known that
-/// it is good. Each instance has a head of the form of a head, which fits the universe of its class's parameter;
-/// it stands in the module of its class or of its head type, where what is built in belongs to the first module;
-/// no other one is of its class with its head constructor; and its methods are exactly those of its class.
+/// The table of a program's instances, with the rows of its declared types: of each that is given is known
+/// that it is good. Each instance has a head of the form of a head, which fits the universe of its class's
+/// parameter; it stands in the module of its class or of its head type, where what is built in belongs to
+/// the first module; no other one is of its class with its head constructor; and its methods are exactly
+/// those of its class.
 ///
-/// The names and the declarations of the program are good already. An instance whose class, type parameters or
-/// type mean nothing, or whose type isn't well formed, has a bad head.
+/// The names and the declarations of the program are good already. An instance whose class, type parameters
+/// or type mean nothing, or whose type isn't well formed, has a bad head.
 ///
 /// # Errors
 ///

@@ -6,8 +6,8 @@ ghost use Rattle.au_classes.specs.declared.faults.ClassFault.TheVariants as faul
 use au_base::{Memory, Pos};
 use thiserror::Error;
 
-/// Why the table of a program's instances isn't good. An instance stands at its first token: in the interface,
-/// where it's declared there.
+/// Why the table of a program's instances isn't good. An instance stands at its first token: in the
+/// interface, where it's declared there.
 #[derive(Debug, Drop, Error)]
 pub enum ClassFault {
     /// The instance at the first place is for the class and the head constructor of an earlier one, at the

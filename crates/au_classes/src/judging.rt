@@ -76,7 +76,8 @@ fn are_written(
 ) -> Result<bool, Memory>
     requires { IsOfTypes (class_said class.now) }
     ensures { IfOk result (λ are. are
-        ≡ spec.are_written heads.now names.now (class_said class.now) (row_said row.now) (methods_seen methods.entry)) }
+        ≡ spec.are_written heads.now names.now (class_said class.now) (row_said row.now)
+        (methods_seen methods.entry)) }
 {
     match methods {
         None => Ok(true),
@@ -98,7 +99,8 @@ fn methods_fault(
 ) -> Result<Option<ClassFault>, Memory>
     requires { IsOfTypes (class_said class.now) }
     ensures { IfOk result (λ fault. fault
-        ≡ spec.methods_fault heads.now [] (text_said text.now) names.now (row_said row.now) (class_said class.now)) }
+        ≡ spec.methods_fault heads.now [] (text_said text.now) names.now (row_said row.now)
+        (class_said class.now)) }
 {
     let are = are_written(alloc, heads, names, class, row, text.methods)?;
     Ok(unless(are, ClassFault::MethodDiffers(text.at)))
@@ -106,7 +108,8 @@ fn methods_fault(
 
 /// What an instance is refused for that overlaps one that is known, if there is one.
 fn overlap_fault(known: &Known, text: &InstanceText, row: &Row) -> Option<ClassFault>
-    ensures { result ≡ spec.overlap text.now.at (option_map spec.place_of (spec.first_like (known_said known.now) (row_said row.now))) }
+    ensures { result ≡ spec.overlap text.now.at
+        (option_map spec.place_of (spec.first_like (known_said known.now) (row_said row.now))) }
 {
     match known.place_like(row) {
         None => None,
@@ -126,7 +129,8 @@ pub(crate) fn row_fault(
 ) -> Result<Option<ClassFault>, Memory>
     requires { StandsOver heads.now (parameters row.now.generics) (meaning row.now.head) }
     ensures { IfOk result (λ fault. fault
-        ≡ spec.row_fault heads.now (known_said known.now) (text_said text.now) names.now (row_said row.now) (class_said class.now)) }
+        ≡ spec.row_fault heads.now (known_said known.now) (text_said text.now) names.now (row_said row.now)
+        (class_said class.now)) }
 {
     if !is_head(heads, class, row) {
         return Ok(Some(ClassFault::BadHead(text.at)));

@@ -75,7 +75,8 @@ impl Known {
         }
     }
 
-    /// The place of the first that is of the class of a row and has a head of its constructor, if there is one.
+    /// The place of the first that is of the class of a row and has a head of its constructor, if there is
+    /// one.
     pub fn place_like(&self, row: &Row) -> Option<Pos>
         ensures { result ≡ option_map spec.place_of
             (spec.first_like (known_rows self.now.places.items self.now.rows) (row_said row.now)) }
@@ -94,7 +95,8 @@ impl Known {
     /// Only for want of memory.
     pub fn add(&mut self, at: Pos, row: Row) -> Result<(), Memory>
         requires form { HasForm row.generics (meaning row.head) }
-        requires apart { spec.first_like (known_rows self.old.places.items self.old.rows) (row_said row) ≡ None }
+        requires apart { spec.first_like (known_rows self.old.places.items self.old.rows) (row_said row)
+            ≡ None }
         ensures rows { OnOk result (self.new.rows ≡ self.old.rows ++ row_said row ∷ []) }
         ensures places { OnOk result (self.new.places.items ≡ self.old.places.items ++ at ∷ []) }
     {

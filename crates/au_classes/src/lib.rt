@@ -1,4 +1,5 @@
-//! The instances of a program's classes: whether their table is good, and which instance a class has at a type.
+//! The instances of a program's classes: whether their table is good, and which instance a class has at a
+//! type.
 #![tactic(auto)]
 
 pub mod declaring;

@@ -130,8 +130,8 @@ fn row_of_class(
     }
 }
 
-/// The row of an instance by the names that are seen where it is written and the rows of declared types, if it
-/// has one: its class, its type parameters and its type mean something, and the type is well formed.
+/// The row of an instance by the names that are seen where it is written and the rows of declared types, if
+/// it has one: its class, its type parameters and its type mean something, and the type is well formed.
 ///
 /// # Errors
 ///

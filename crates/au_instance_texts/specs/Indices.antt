@@ -40,7 +40,8 @@ with_mark marks (Some index) = slice_set marks index true
 
 -- of so many indices those are marked that are among some
 abbrev pub MarkAmong : List (Option ℕ) → ℕ → List Bool → Type 0
-MarkAmong some count marks = (index : ℕ) → index < count → slice_index_or marks index false ≡ is_among index some
+MarkAmong some count marks =
+    (index : ℕ) → index < count → slice_index_or marks index false ≡ is_among index some
 
 -- an item is there and passes a test
 abbrev pub passes : {A : Type 0} → (A → Bool) → Option A → Bool

@@ -20,7 +20,8 @@ methods_of all = map (plain_method parsed.name_bytes) (map (method_body parsed) 
 abbrev pub methods_seen : Option (Bor (Vec (Method Parsed (List ℕ) (Unit {0}) (Unit {0})) Global)) →
     Option (List PlainMethod)
 methods_seen found =
-    option_map (λ (b : Bor (Vec (Method Parsed (List ℕ) (Unit {0}) (Unit {0})) Global)). methods_of b.now.items)
+    option_map
+    (λ (b : Bor (Vec (Method Parsed (List ℕ) (Unit {0}) (Unit {0})) Global)). methods_of b.now.items)
     found
 
 -- an instance

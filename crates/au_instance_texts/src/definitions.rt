@@ -87,7 +87,8 @@ fn first_among(
     body: &[Decl<Parsed>],
 ) -> Result<Option<usize>, Memory>
     ensures { IfOk result (λ index. index
-        ≡ first_index (promises.instance_defined (sight_in sight.now) scope.now (name_of name.now) (written of.now))
+        ≡ first_index (promises.instance_defined (sight_in sight.now) scope.now (name_of name.now)
+        (written of.now))
         (declarations_of body.now)) }
 {
     for (index, one) in body.iter().enumerate() {
@@ -110,7 +111,8 @@ fn is_there(
     index: usize,
 ) -> Result<bool, Memory>
     ensures { IfOk result (λ is. is
-        ≡ at_index (promises.instance_defined (sight_in sight.now) scope.now (name_of name.now) (written of.now))
+        ≡ at_index (promises.instance_defined (sight_in sight.now) scope.now (name_of name.now)
+        (written of.now))
         (declarations_of body.now) index) }
 {
     match declaration_at(body, index) {
@@ -130,7 +132,8 @@ fn first_of_key(
     keyed: &Table<usize>,
 ) -> Result<Option<usize>, Memory>
     ensures { IfOk result (λ index. index
-        ≡ tables.find (defining.instance_key scope.now (sight_in sight.now).interface (sight_in sight.now).rows
+        ≡ tables.find (defining.instance_key scope.now (sight_in sight.now).interface
+        (sight_in sight.now).rows
         (name_of name.now) (written of.now)) keyed.now) }
 {
     let key = instance_key(alloc, scope, sight.interface, sight.heads, name, of)?;
@@ -150,10 +153,13 @@ fn first_by_key(
     body: &[Decl<Parsed>],
     keyed: &Table<usize>,
 ) -> Result<Option<usize>, Memory>
-    requires keyed { FindsFirst (defining.key_defined (sight_in sight.now)) (declarations_of body.now) keyed.now }
-    requires meant { is_none (meant [] scope.now (sight_in sight.now).interface (sight_in sight.now).rows (written of.now)) ≡ false }
+    requires keyed { FindsFirst (defining.key_defined (sight_in sight.now)) (declarations_of body.now)
+        keyed.now }
+    requires meant { is_none (meant [] scope.now (sight_in sight.now).interface (sight_in sight.now).rows
+        (written of.now)) ≡ false }
     ensures { IfOk result (λ index. index
-        ≡ first_index (promises.instance_defined (sight_in sight.now) scope.now (name_of name.now) (written of.now))
+        ≡ first_index (promises.instance_defined (sight_in sight.now) scope.now (name_of name.now)
+        (written of.now))
         (declarations_of body.now)) }
 {
     match first_of_key(alloc, sight, scope, name, of, keyed)? {
@@ -180,7 +186,8 @@ fn first_with(
 ) -> Result<Option<usize>, Memory>
     requires { FindsFirst (defining.key_defined (sight_in sight.now)) (declarations_of body.now) keyed.now }
     ensures { IfOk result (λ index. index
-        ≡ first_index (promises.instance_defined (sight_in sight.now) scope.now (name_of name.now) (written of.now))
+        ≡ first_index (promises.instance_defined (sight_in sight.now) scope.now (name_of name.now)
+        (written of.now))
         (declarations_of body.now)) }
 {
     if means_nothing(alloc, sight, scope, of)? {
@@ -202,7 +209,8 @@ fn instance_index(
 ) -> Result<Option<usize>, Memory>
     requires { FindsFirst (defining.key_defined (sight_in sight.now)) (declarations_of body.now) keyed.now }
     ensures { IfOk result (λ index. index
-        ≡ first_index (promises.instance_defined (sight_in sight.now) (agreeing.scope_of (generics_of list.now.items))
+        ≡ first_index (promises.instance_defined (sight_in sight.now)
+        (agreeing.scope_of (generics_of list.now.items))
         (name_of name.now) (written of.now)) (declarations_of body.now)) }
 {
     let scope = scope_of(alloc, list)?;
@@ -247,7 +255,8 @@ fn indices_by(
 ) -> Result<Vec<Option<usize>>, Memory>
     requires { FindsFirst (defining.key_defined (sight_in sight.now)) (declarations_of body.now) keyed.now }
     ensures { IfOk result (λ all. all.items
-        ≡ spec.definition_indices (sight_in sight.now) (declarations_of body.now) (declarations_of interface.now)) }
+        ≡ spec.definition_indices (sight_in sight.now) (declarations_of body.now)
+        (declarations_of interface.now)) }
 {
     let mut all = Vec::new(alloc);
     for one in interface {
@@ -257,8 +266,8 @@ fn indices_by(
     Ok(all)
 }
 
-/// The indices of the definitions of what an interface declares, in order: of each that is an instance and has
-/// one.
+/// The indices of the definitions of what an interface declares, in order: of each that is an instance and
+/// has one.
 ///
 /// # Errors
 ///
@@ -270,7 +279,8 @@ pub(crate) fn definition_indices(
     body: &[Decl<Parsed>],
 ) -> Result<Vec<Option<usize>>, Memory>
     ensures { IfOk result (λ all. all.items
-        ≡ spec.definition_indices (sight_in sight.now) (declarations_of body.now) (declarations_of interface.now)) }
+        ≡ spec.definition_indices (sight_in sight.now) (declarations_of body.now)
+        (declarations_of interface.now)) }
 {
     let keyed = first_keyed(alloc, sight, body)?;
     indices_by(alloc, sight, interface, body, &keyed)

@@ -1,6 +1,7 @@
 //! The instances of a program in the order of the text.
 
-ghost use Rattle.std.specs.Prelude.{◌≡◌, ◌+◌, ◌<◌, ◌++◌, [], IfOk, OnOk, None, Some, length, slice_get, unwrap_or};
+ghost use Rattle.std.specs.Prelude.{◌≡◌, ◌+◌, ◌<◌, ◌++◌, [], IfOk, OnOk, None, Some, length, slice_get};
+ghost use Rattle.std.specs.Prelude.{unwrap_or};
 ghost use Rattle.std.specs.Option.{option_map};
 ghost use Rattle.au_heads.specs.HeadsOf as heads;
 ghost use Rattle.au_instance_texts.specs.Texts as spec;
@@ -89,7 +90,8 @@ fn push_promised<'a>(
     list: &mut Vec<InstanceText<'a>>,
 ) -> Result<(), Memory>
     ensures { OnOk result (texts_said list.new.items
-        ≡ texts_said list.old.items ++ spec.promised_from (declarations_of body.now) definitions.now.items place 0
+        ≡ texts_said list.old.items ++ spec.promised_from (declarations_of body.now) definitions.now.items
+        place 0
         (declarations_of interface.now)) }
 {
     for (number, one) in interface.iter().enumerate() {
@@ -105,7 +107,8 @@ fn unless_promised<'a>(
     is_definition: bool,
     one: Option<InstanceText<'a>>,
 ) -> Option<InstanceText<'a>>
-    ensures { option_map text_said result ≡ spec.unless_promised is_definition (option_map text_said one.entry) }
+    ensures { option_map text_said result ≡ spec.unless_promised is_definition
+        (option_map text_said one.entry) }
 {
     if is_definition { None } else { one }
 }
@@ -121,7 +124,8 @@ fn push_defined<'a>(
     list: &mut Vec<InstanceText<'a>>,
 ) -> Result<(), Memory>
     ensures { OnOk result (texts_said list.new.items
-        ≡ texts_said list.old.items ++ spec.defined_from definitions.now.items place before 0 (declarations_of body.now)) }
+        ≡ texts_said list.old.items ++ spec.defined_from definitions.now.items place before 0
+        (declarations_of body.now)) }
 {
     let marks = marks_of(alloc, body.len(), definitions)?;
     for (index, one) in body.iter().enumerate() {
@@ -144,7 +148,8 @@ fn push_parts<'a>(
     list: &mut Vec<InstanceText<'a>>,
 ) -> Result<(), Memory>
     ensures { OnOk result (texts_said list.new.items
-        ≡ texts_said list.old.items ++ spec.instances_in (sight_in sight.now) place (declarations_of interface.now)
+        ≡ texts_said list.old.items ++ spec.instances_in (sight_in sight.now) place
+        (declarations_of interface.now)
         (declarations_of body.now)) }
 {
     let definitions = definition_indices(alloc, sight, interface, body)?;
@@ -170,7 +175,8 @@ fn push_module<'a>(
     list: &mut Vec<InstanceText<'a>>,
 ) -> Result<(), Memory>
     requires { place < length (slots.modules program.now) }
-    ensures { (m : ModuleParts) → slice_get (slots.modules program.now) place ≡ Some m → OnOk result (texts_said list.new.items
+    ensures { (m : ModuleParts) → slice_get (slots.modules program.now) place ≡ Some m
+        → OnOk result (texts_said list.new.items
         ≡ texts_said list.old.items ++ spec.module_instances (slots.modules program.now) place m) }
 {
     let modules = program.modules();

@@ -84,7 +84,8 @@ pub(crate) fn promised<'a>(
     methods: Option<&'a Vec<Method<Parsed>>>,
     decl: &'a Decl<Parsed>,
 ) -> Option<InstanceText<'a>>
-    ensures { option_map text_said result ≡ spec.promised number (methods_seen methods.entry) (declared_of decl.now) }
+    ensures { option_map text_said result ≡ spec.promised number (methods_seen methods.entry)
+        (declared_of decl.now) }
 {
     match decl {
         Decl::Constant(_, _, _) => None,

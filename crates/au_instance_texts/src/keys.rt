@@ -25,7 +25,8 @@ fn body_key(
     of: &TypeText,
 ) -> Result<Option<Vec<u8>>, Memory>
     ensures { IfOk result (λ key. option_map (λ k. k.items) key
-        ≡ defining.body_key (sight_in sight.now) (generics_of list.now.items) (name_of name.now) (written of.now)) }
+        ≡ defining.body_key (sight_in sight.now) (generics_of list.now.items) (name_of name.now)
+        (written of.now)) }
 {
     let scope = scope_of(alloc, list)?;
     let key = instance_key(alloc, &scope, sight.body, sight.heads, name, of)?;
