@@ -4,6 +4,7 @@
 
 pub mod declaring;
 pub mod faults;
+pub mod finding;
 pub mod judging;
 pub mod knowing;
 pub mod known;
