@@ -11,20 +11,39 @@ use Rattle.au_syntax.specs.declared.names.Ident.{Ident}
 use Rattle.au_syntax.specs.declared.expressions.BorrowMode.{BorrowMode}
 use Rattle.au_syntax.specs.declared.expressions.Expr.{Expr}
 use Rattle.au_syntax.specs.declared.statements.Block.{Block}
+use Rattle.au_syntax.specs.declared.statements.Branch.{Branch}
 use Rattle.au_syntax.specs.declared.statements.Stmt.{Stmt}
 use Rattle.au_syntax.specs.declared.statements.Stmt as code
 use Rattle.au_syntax.specs.declared.declarations.Generic.{Generic}
 use Rattle.au_syntax.specs.declared.declarations.Signature.{Signature}
 use Rattle.au_syntax.specs.declared.declarations.Decl.{Decl}
 use Rattle.au_syntax.specs.declared.declarations.Decl.TheVariants as decl
-use Rattle.au_syntax.specs.Statements.{for_loop, borrow_in, borrow_typed}
+use Rattle.au_syntax.specs.Statements.{conditional_else, while_loop, for_loop, borrow_in, borrow_typed}
 use Rattle.au_syntax.specs.Modules.{function_body}
-use Rattle.au_syntax.specs.Views.{written, placed, expression, statement, block, constrained, header, declaration}
-use Rattle.au_syntax.proofs.StatementLemmas.{for_says, borrow_says, borrow_typed_says}
+use Rattle.au_syntax.specs.Views.{written, placed, expression, statement, block, branch_all, constrained, header, declaration}
+use Rattle.au_syntax.proofs.StatementLemmas.{if_else_says, while_says, for_says, borrow_says, borrow_typed_says}
 use Rattle.au_syntax.proofs.DeclarationLemmas.{function_body_says}
 
 -- statements and declarations with a block say the same where their parts do
 module _ {X N T C : Type 0} (g : Ghosts X N T C) (old : Stmt X N T C) where
+  pub if_else_copied : (at : Pos) (bs bs' : Vec (Branch X N T C) Global) (b b' : Block X N T C) →
+      old ≡ code.IfElse at bs b → branch_all g bs'.items ≡ branch_all g bs.items → block g b' ≡ block g b →
+      statement g (code.IfElse at bs' b') ≡ statement g old
+  if_else_copied at bs bs' b b' is branches same =
+      if_else_says g at bs' b'
+      ∙ ap (λ rest. conditional_else at rest (block g b')) branches
+      ∙ ap (conditional_else at (branch_all g bs.items)) same
+      ∙ sym (ap (statement g) is ∙ if_else_says g at bs b)
+
+  pub while_copied : (at : Pos) (e e' : Box (Expr X N T C) Global) (b b' : Block X N T C) →
+      old ≡ code.While at e b → expression g e'.value ≡ expression g e.value → block g b' ≡ block g b →
+      statement g (code.While at e' b') ≡ statement g old
+  while_copied at e e' b b' is test same =
+      while_says g at e' b'
+      ∙ ap (λ x. while_loop at x (block g b')) test
+      ∙ ap (while_loop at (expression g e.value)) same
+      ∙ sym (ap (statement g) is ∙ while_says g at e b)
+
   pub for_copied : (at : Pos) (n n' : Ident X N T C) (a a' z z' : Box (Expr X N T C) Global) (b b' : Block X N T C) →
       old ≡ code.For at n a z b → placed g n' ≡ placed g n → expression g a'.value ≡ expression g a.value → expression g z'.value ≡ expression g z.value → block g b' ≡ block g b →
       statement g (code.For at n' a' z' b') ≡ statement g old

@@ -3,7 +3,7 @@ use Rattle.au_syntax.specs.declared.statements.Arm.{size-Arm}
 use Rattle.au_syntax.specs.Views.{expression, statement, statement_all, branch_all, arm_all}
 use Rattle.au_syntax.proofs.StatementLemmas.{snoc_statements, snoc_branches, snoc_arms, statements_push, branches_push, arms_push, one_branch, one_arm, let_says, destructure_says, assign_says, assign_through_says, if_says, if_else_says, case_says, while_says, call_says, return_says}
 use Rattle.au_copying.proofs.CopyLemmas.{item_falls, all_copied, copied_more, branch_copied, arm_copied}
-use Rattle.au_copying.proofs.BlockLemmas.{for_copied, borrow_copied, borrow_typed_copied}
+use Rattle.au_copying.proofs.BlockLemmas.{if_else_copied, while_copied, for_copied, borrow_copied, borrow_typed_copied}
 use Rattle.au_copying.proofs.statements.+copy_statement.Goals as goal
 
 pub copy_statement-returns-in_ok-name-in-Let : goal.copy_statement-returns-in_ok-name-in-Let
@@ -22,13 +22,22 @@ pub copy_statement-returns-in_ok-copy_branches-in-If : goal.copy_statement-retur
 copy_statement-returns-in_ok-copy_branches-in-If g t c = grind (arith, if_says)
 
 pub copy_statement-returns-in_ok-copy_block-in-IfElse : goal.copy_statement-returns-in_ok-copy_block-in-IfElse
-copy_statement-returns-in_ok-copy_block-in-IfElse g t c = grind (arith, if_else_says)
+copy_statement-returns-in_ok-copy_block-in-IfElse g t c =
+    if_else_copied g.P.Phase c.args.of.now c.in-IfElse.at
+    c.in-IfElse.branches c.in_ok-branches-in-IfElse.branches
+    c.in-IfElse.last c.in_ok-copy_block-in-IfElse.field-0
+    c.in-IfElse.is c.in_ok-branches-in-IfElse.ensures c.in_ok-copy_block-in-IfElse.ensures
 
 pub copy_statement-returns-in_ok-copy_arms-in-Case : goal.copy_statement-returns-in_ok-copy_arms-in-Case
 copy_statement-returns-in_ok-copy_arms-in-Case g t c = grind (arith, case_says)
 
 pub copy_statement-returns-in_ok-copy_block-in-While : goal.copy_statement-returns-in_ok-copy_block-in-While
-copy_statement-returns-in_ok-copy_block-in-While g t c = grind (arith, while_says)
+copy_statement-returns-in_ok-copy_block-in-While g t c =
+    while_copied g.P.Phase c.args.of.now c.in-While.at
+    c.in-While.test c.in_ok-test-in-While.test
+    c.in-While.body c.in_ok-copy_block-in-While.field-0
+    c.in-While.is (c.in_ok-test-in-While.ensures ∙ ap (expression g.P.Phase) c.deref-in-While.ensures)
+    c.in_ok-copy_block-in-While.ensures
 
 pub copy_statement-returns-in_ok-copy_block-in-For : goal.copy_statement-returns-in_ok-copy_block-in-For
 copy_statement-returns-in_ok-copy_block-in-For g t c =
