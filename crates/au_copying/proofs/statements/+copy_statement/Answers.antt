@@ -1,8 +1,10 @@
 use Rattle.std.proofs.Common.{ap, ◌∙◌, arith}
 use Rattle.au_syntax.specs.declared.statements.Arm.{size-Arm}
+use Rattle.au_syntax.specs.declared.statements.Stmt.{size-Stmt}
+use Rattle.au_syntax.specs.declared.statements.Block.{size-Block, size_is-Block}
 use Rattle.au_syntax.specs.Views.{expression, statement, statement_all, branch_all, arm_all}
-use Rattle.au_syntax.proofs.StatementLemmas.{snoc_statements, snoc_branches, snoc_arms, statements_push, branches_push, arms_push, one_branch, one_arm, let_says, destructure_says, assign_says, assign_through_says, if_says, if_else_says, case_says, while_says, call_says, return_says}
-use Rattle.au_copying.proofs.CopyLemmas.{item_falls, all_copied, copied_more, branch_copied, arm_copied}
+use Rattle.au_syntax.proofs.StatementLemmas.{snoc_statements, snoc_branches, snoc_arms, statements_push, branches_push, arms_push, one_branch, one_arm, let_says, destructure_says, assign_says, assign_through_says, if_says, case_says, call_says, return_says}
+use Rattle.au_copying.proofs.CopyLemmas.{item_falls, block_item_falls, all_copied, copied_more, branch_copied, arm_copied}
 use Rattle.au_copying.proofs.BlockLemmas.{if_else_copied, while_copied, for_copied, borrow_copied, borrow_typed_copied}
 use Rattle.au_copying.proofs.statements.+copy_statement.Goals as goal
 
@@ -96,5 +98,13 @@ pub copy_arms-copy_arm-requires : goal.copy_arms-copy_arm-requires
 copy_arms-copy_arm-requires g t c κs within = (
   item_falls 2 0 1 (omega arith) (size-Arm _ _ _ _) c.deref-one-items.result.now c.args.arms.now.items c.loop-one.one-index c.one-item.result t
       c.decreases c.deref-one-items.ensures.value c.loop-one-test.true c.one-item.is,
+  within,
+)
+
+pub copy_block-copy_statement-requires : goal.copy_block-copy_statement-requires
+copy_block-copy_statement-requires g t c κs within = (
+  block_item_falls (size-Stmt _ _ _ _) c.deref-one-items.result.now c.args.of.now.statements.items c.loop-one.one-index c.one-item.result
+      (size-Block _ _ _ _ c.args.of.now) t c.decreases (size_is-Block _ _ _ _ c.args.of.now)
+      c.deref-one-items.ensures.value c.loop-one-test.true c.one-item.is,
   within,
 )
