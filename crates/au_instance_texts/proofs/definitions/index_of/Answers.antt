@@ -1,4 +1,7 @@
-use Rattle.std.proofs.Common.{◌≡◌, ap, ◌∙◌}
+use Rattle.std.proofs.Common.{◌≡◌, List, ap, ◌∙◌}
+use Rattle.std.specs.Prelude.{position}
+use Rattle.std.proofs.lemmas.Iterator.Adapters.{position_from-zero}
+use Rattle.au_types.specs.declared.parameters.Parameter.{Parameter}
 use Rattle.std.proofs.lemmas.Result.{IfOk-weaker}
 use Rattle.au_syntax.specs.Views.{written}
 use Rattle.au_promises.specs.Agreeing.{scope_of}
@@ -12,8 +15,10 @@ returns c = λ all are.
     let sight = sight_in c.args.sight.now in
     let name = name_of c.args.name.now in
     let t = written c.args.of.now in
+    let defined = λ (s : List Parameter). instance_defined sight s name t in
     IfOk-weaker c.instance_index.result
-    (λ index. index ≡ first_index (instance_defined sight c.in_ok-scope.scope name t) all)
-    (λ index. index ≡ first_index (instance_defined sight (scope_of (generics_of c.args.list.now.items)) name t) all)
-    (λ index is. is ∙ ap (λ s. first_index (instance_defined sight s name t) all) c.in_ok-scope.ensures)
+    (λ index. index ≡ position (defined c.in_ok-scope.scope) all)
+    (λ index. index ≡ first_index (defined (scope_of (generics_of c.args.list.now.items))) all)
+    (λ index is. is ∙ ap (λ s. position (defined s) all) c.in_ok-scope.ensures
+    ∙ position_from-zero (defined (scope_of (generics_of c.args.list.now.items))) all)
     (c.instance_index.ensures all are)
