@@ -1,7 +1,6 @@
 -- Marks of indices.
 use Rattle.std.proofs.Common.{◌≡◌, ℕ, ◌+◌, ◌<◌, ◌≤◌, ◌⊎◌, inl, inr, Bool, true, false, List, [], ◌∷◌, ◌++◌, length, take, get_or, set, Option, None, Some, replicate, refl, sym, ap, ◌∙◌, subst, arith}
 use Rattle.std.specs.Prelude.{◌||◌, slice_index_or, slice_set}
-use Rattle.std.specs.List.{list_any}
 use lib.Dec.{eqb}
 use Rattle.std.proofs.lemmas.Bool.Decides.{eqb_tells}
 use Rattle.std.proofs.lemmas.List.{take_more, take_all, get_or-replicate, get_or-set_same, get_or-set_other, length-replicate, length-set}

@@ -4,7 +4,6 @@ use Rattle.std.proofs.lemmas.Result.{on_ok_weaker}
 use Rattle.au_modules.specs.Seen.{interface_tree, body_tree}
 use Rattle.au_modules.specs.Slots as slots
 use Rattle.au_names.specs.Exporting as exporting
-use Rattle.au_names.specs.HeadsOf as heads
 use Rattle.au_promises.specs.Written.{declarations_of}
 use Rattle.au_instance_texts.specs.Views.{texts_said}
 use Rattle.au_instance_texts.proofs.GatherLemmas.{parts_are}
