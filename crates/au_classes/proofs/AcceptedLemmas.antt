@@ -56,12 +56,14 @@ first_unwanted : (program : List ModuleParts) (known : List Known) (texts : List
 unfolding first_fault
 first_unwanted program known [] h = cc
 first_unwanted program known (text ∷ texts) h =
-    by (fault_of program known text) (module_unwanted program known text (slice_get program text.number.«module»)) h
+    by (fault_of program known text) (module_unwanted program known text (slice_get program text.number.«module»))
+    (first_unwanted program (with_text program known text) texts) h
   where
     by : (o : Option ClassFault) → (o ≡ Some fault.Memory → ⊥)
+        → (first_fault program (with_text program known text) texts ≡ Some fault.Memory → ⊥)
         → option_or o (first_fault program (with_text program known text) texts) ≡ Some fault.Memory → ⊥
-    by None one all = first_unwanted program (with_text program known text) texts all
-    by (Some x) one all = one all
+    by None one others all = others all
+    by (Some x) one others all = one all
 
 pub unwanted : (program : List ModuleParts) → instance_fault program ≡ Some fault.Memory → ⊥
 unwanted program h = first_unwanted program [] (instances_of program) h

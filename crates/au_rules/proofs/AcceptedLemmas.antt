@@ -56,11 +56,12 @@ first_unwanted : (f : Spot → Option DeclFault) (xs : List Spot) → ((s : Spot
     → first_of f xs ≡ Some fault.Memory → ⊥
 unfolding first_of
 first_unwanted f [] never h = cc
-first_unwanted f (s ∷ xs) never h = by (f s) (never s) h
+first_unwanted f (s ∷ xs) never h = by (f s) (never s) (first_unwanted f xs never) h
   where
-    by : (o : Option DeclFault) → (o ≡ Some fault.Memory → ⊥) → option_or o (first_of f xs) ≡ Some fault.Memory → ⊥
-    by None one all = first_unwanted f xs never all
-    by (Some x) one all = one all
+    by : (o : Option DeclFault) → (o ≡ Some fault.Memory → ⊥) → (first_of f xs ≡ Some fault.Memory → ⊥)
+        → option_or o (first_of f xs) ≡ Some fault.Memory → ⊥
+    by None one others all = others all
+    by (Some x) one others all = one all
 
 pub unwanted : (program : List ModuleParts) → decl_fault program ≡ Some fault.Memory → ⊥
 unwanted program h = first_unwanted (declaration_fault program) (text program) (spot_unwanted program) h
