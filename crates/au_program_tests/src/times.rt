@@ -150,8 +150,8 @@ fn time_grows_as_modules_do(rt: HostRuntime) -> Result<(), Fail> {
     grows(&rt, rt.alloc(), (2, 2_550), (2, 5_100))
 }
 
-/// 50 modules, and 100.
+/// 30 modules, and 60.
 #[test]
 fn time_grows_as_the_number_of_modules_does(rt: HostRuntime) -> Result<(), Fail> {
-    grows(&rt, rt.alloc(), (50, 100), (100, 100))
+    grows(&rt, rt.alloc(), (30, 100), (60, 100))
 }
