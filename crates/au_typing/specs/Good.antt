@@ -105,14 +105,19 @@ abbrev pub labels_of : {T C : Type 0} → Arguments Bytes T C → List Bytes
 labels_of no_arguments = []
 labels_of (arguments label e es) = label.name ∷ labels_of es
 
--- arguments as the rules of calls see them
-abbrev pub shown : NotedExpressions → List Shown
-shown no_expressions = []
-shown (expressions e es) = record { bare = is_bare e; note = note_of e } ∷ shown es
+-- arguments as a list
+abbrev pub items_of : {N T C : Type 0} → Expressions N T C → List (Expression N T C)
+items_of no_expressions = []
+items_of (expressions e es) = e ∷ items_of es
 
-abbrev pub shown_labelled : NotedArguments → List Shown
-shown_labelled no_arguments = []
-shown_labelled (arguments label e es) = record { bare = is_bare e; note = note_of e } ∷ shown_labelled es
+abbrev pub values_of : {N T C : Type 0} → Arguments N T C → List (Expression N T C)
+values_of no_arguments = []
+values_of (arguments label e es) = e ∷ values_of es
+
+-- arguments as the rules of calls see them
+abbrev pub shown : List NotedExpression → List Shown
+shown [] = []
+shown (e ∷ es) = record { bare = is_bare e; note = note_of e } ∷ shown es
 
 -- ---- the rule of each kind
 
@@ -128,8 +133,8 @@ module _ (scope : Scope) where
       (t : Meaning) × (value_type scope x.name ≡ Some t) × GoodPath scope t fields n.note.of
   Good (arrow n x fields) =
       (t : Meaning) × (target : Meaning) × (value_type scope x.name ≡ Some t) × (behind t ≡ Some target) × GoodPart scope target fields n.note.of
-  Good (call n f es c) = GoodCall scope n.note f.name (in_order (count_of es)) (shown es)
-  Good (named_call n f es c) = GoodCall scope n.note f.name (by_labels (labels_of es)) (shown_labelled es)
+  Good (call n f es c) = GoodCall scope n.note f.name (in_order (count_of es)) (shown (items_of es))
+  Good (named_call n f es c) = GoodCall scope n.note f.name (by_labels (labels_of es)) (shown (values_of es))
   Good (parenthesized n e) = (mode_of e ≡ n.note.mode) × (n.note.of ≡ type_of e)
   Good (dereference n e) =
       (mode_of e ≡ None) × (behind (type_of e) ≡ Some n.note.of) × (is_free_in scope n.note.of ≡ true)
