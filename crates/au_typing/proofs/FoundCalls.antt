@@ -1,15 +1,14 @@
 -- Good calls are what the search gives.
-use Rattle.std.proofs.Common.{◌≡◌, Bool, true, false, List, [], ◌∷◌, refl, sym, ap, ◌∙◌, Option, Some, None, Ok}
+use Rattle.std.proofs.Common.{◌≡◌, Bool, true, false, List, [], ◌∷◌, sym, ap, ◌∙◌, Option, Some, None, Ok}
 use Rattle.au_syntax.specs.Plain.{Bytes}
 use Rattle.au_types.specs.Types.{Meaning, unit, truth, integer, text, parameter, named, reads, writes, of_type}
 use Rattle.au_matching.specs.Bindings.{Bindings, with_pair}
 use Rattle.au_matching.specs.Fixed.{fixed}
-use Rattle.au_matching.specs.Matched.{matched}
 use Rattle.au_matching.specs.Substituted.{substituted}
 use Rattle.au_generics.specs.Bounds.{parameters}
 use Rattle.au_scopes.specs.Scopes.{Callable, Scope, Typed}
 use Rattle.au_typing.specs.Bare.{is_bare}
-use Rattle.au_typing.specs.Calls.{begun, first_lacking, first_left, first_misfit, types_of_call, wanted_of, FirstStep, GoodCall, Passes, SecondStep, Taken, TakenBare}
+use Rattle.au_typing.specs.Calls.{begun, first_lacking, first_misfit, types_of_call, wanted_of, FirstStep, GoodCall, Passes, SecondStep, Taken, TakenBare}
 use Rattle.au_typing.specs.Faults.{Noting, ◌>>=◌, Why, known_or, unknown, different, unfixed}
 use Rattle.au_typing.specs.Good.{shown}
 use Rattle.au_typing.specs.Limits.{within}
@@ -106,8 +105,10 @@ module _ (scope : Scope) where
     where
       hold : Noting Note
       hold = unless_why lacks (first_lacking scope g.ends (wanted_of g.called)) (Ok (call_note n.mode g.called g.ends))
+
       fit : Noting Note
       fit = unless_why (misfit g.ends) (first_misfit scope g.ends (parameters g.called.generics)) hold
+
       limited : Noting Note
       limited = within (types_of_call n.mode g.called g.ends) fit
 

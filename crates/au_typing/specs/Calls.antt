@@ -1,5 +1,5 @@
 -- The rules of a call, over what is called and the notes of its arguments.
-use Rattle.std.specs.Prelude.{◌≡◌, ℕ, ◌==◌, ◌++◌, option_to_list, List, [], ◌∷◌, Bool, true, false, Option, Some, None, is_none, is_some, length, map, option_map, option_and_then, if◌then◌else◌}
+use Rattle.std.specs.Prelude.{◌≡◌, ℕ, ◌==◌, ◌++◌, option_to_list, List, [], ◌∷◌, Bool, true, false, Option, Some, None, length, map, option_map, option_and_then, if◌then◌else◌}
 use Rattle.std.specs.List.{count_by, flat_map, list_all}
 use Rattle.std.specs.Option.{option_or}
 use Rattle.std.specs.Str.{bytes_eq}
@@ -8,13 +8,13 @@ use Rattle.au_syntax.specs.declared.declarations.Universe.TheVariants as univers
 use Rattle.au_syntax.specs.Plain.{Bytes}
 use Rattle.au_types.specs.declared.parameters.Parameter.{Parameter}
 use Rattle.au_types.specs.declared.types.DeclAt.{DeclAt}
-use Rattle.au_types.specs.Types.{Meaning, Argument, parameter, of_type, in_region}
+use Rattle.au_types.specs.Types.{Meaning, Argument, parameter, of_type}
 use Rattle.au_matching.specs.Bindings.{Bindings, value_of, with_pair}
 use Rattle.au_matching.specs.Fixed.{fixed, is_a_region, is_a_type}
 use Rattle.au_matching.specs.Matched.{matched}
 use Rattle.au_matching.specs.Substituted.{substituted}
 use Rattle.au_universes.specs.Forming.{fits}
-use Rattle.au_generics.specs.Bounds.{Bounded, parameters}
+use Rattle.au_generics.specs.Bounds.{parameters}
 use Rattle.au_instances.specs.Instances.{Known}
 use Rattle.au_instances.specs.Pairs.{Pair, constraints_of, lacking}
 use Rattle.au_scopes.specs.Scopes.{Callable, Scope, Typed}

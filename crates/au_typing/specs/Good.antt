@@ -1,7 +1,6 @@
 -- When a noted expression is good: one rule for each kind of expression, over the notes of the expression and
 -- of its direct children alone.
 use Rattle.std.specs.Prelude.{◌≡◌, ℕ, zero, suc, ℤ, neg_ℤ, List, [], ◌∷◌, Bool, true, false, Some, None}
-use Rattle.au_base.specs.declared.kinds.IntKind.{IntKind}
 use Rattle.au_ints.specs.Ranges.{is_of_kind}
 use Rattle.au_syntax.specs.declared.expressions.BinaryOperator.{BinaryOperator}
 use Rattle.au_syntax.specs.declared.expressions.BorrowMode.{BorrowMode}

@@ -4,7 +4,7 @@ use Rattle.au_syntax.specs.declared.declarations.Universe.{Universe}
 use Rattle.au_syntax.specs.declared.declarations.Universe.TheVariants as universes
 use Rattle.au_syntax.specs.Plain.{Bytes}
 use Rattle.au_types.specs.declared.parameters.Parameter.{Parameter}
-use Rattle.au_types.specs.Types.{Meaning, Argument, parameter, of_type, in_region}
+use Rattle.au_types.specs.Types.{Meaning, Argument, parameter, of_type}
 use Rattle.au_matching.specs.Bindings.{Bindings, value_of, with_pair}
 use Rattle.au_matching.specs.Fixed.{fixed}
 use Rattle.au_matching.specs.Matched.{matched}
@@ -13,7 +13,7 @@ use Rattle.au_generics.specs.Bounds.{parameters}
 use Rattle.au_instances.specs.Pairs.{Pair}
 use Rattle.au_scopes.specs.Scopes.{Callable, Scope, Typed}
 use Rattle.au_typing.specs.Calls.{begun, first_lacking, first_left, first_misfit, types_of_call, wanted_of}
-use Rattle.au_typing.specs.Faults.{Noting, ◌>>=◌, Why, Fault, why, known_or, unknown, different, unfixed, no_instance, not_free, shape, labels_wanted, linear_wanted, region_wanted}
+use Rattle.au_typing.specs.Faults.{Noting, ◌>>=◌, Why, why, known_or, unknown, different, unfixed, no_instance, not_free, shape, labels_wanted, linear_wanted, region_wanted}
 use Rattle.au_typing.specs.Limits.{within}
 use Rattle.au_typing.specs.Notes.{Mode, Note, NotedExpression, type_of}
 use Rattle.au_typing.specs.Operands.{Noter}
