@@ -47,13 +47,14 @@ beside_found e mode a s q f m h =
 taken_found : (b : Bool) (e : Noter) (a : NotedExpression) (p : Meaning) (s q : Bindings) → Finds e a → Taken b p (note_of a) s q → taken b e p s ≡ Ok (a, q)
 taken_found true e a p s q f h = beside_found e (Some (substituted s p)) a s q f h.0 h.1
 taken_found false e a p s q f h =
-    bind_found (taken_as p s) (ap e (sym h.0) ∙ f)
+    bind_found (λ (x : NotedExpression). taken_as p (type_of x) s x) (ap e (sym h.0) ∙ f)
     ∙ bind_found (λ (r : Bindings). Ok (a, r)) (known_found (different (substituted s p) (type_of a)) h.1)
 
 taken_bare_found : (b : Bool) (e : Noter) (a : NotedExpression) (p : Meaning) (s q : Bindings) → Finds e a → TakenBare b p (note_of a) s q → taken_bare b e p s ≡ Ok (a, q)
 taken_bare_found true e a p s q f h = beside_found e (Some (substituted s p)) a s q f h.0 h.1
 taken_bare_found false e a (parameter name) s q f h =
-    beside_found e None a (with_pair name (of_type int32) s) q f h.0 h.1
+    bind_found (taken_as (parameter name) int32 s) (ap e (sym h.0) ∙ f)
+    ∙ bind_found (λ (r : Bindings). Ok (a, r)) (known_found (different (substituted s (parameter name)) int32) h.1)
 taken_bare_found false e a unit s q f h = absurd h
 taken_bare_found false e a truth s q f h = absurd h
 taken_bare_found false e a (integer kind) s q f h = absurd h

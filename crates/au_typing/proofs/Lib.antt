@@ -5,3 +5,5 @@ pub mod Found
 pub mod SoundParts
 pub mod SoundCalls
 pub mod Sound
+pub mod Wanted
+pub mod Refused

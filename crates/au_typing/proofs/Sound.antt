@@ -10,7 +10,7 @@ use Rattle.au_scopes.specs.Scopes.{Scope}
 use Rattle.au_typing.specs.Bare.{is_arithmetic, is_bare}
 use Rattle.au_typing.specs.Calls.{GoodCall, by_labels, in_order}
 use Rattle.au_typing.specs.Faults.{◌>>=◌, unknown, known_or}
-use Rattle.au_typing.specs.Good.{AllGoodIn, AllGoodLabelled, ArePaired, GoodBinary, GoodBorrow, PairedModes, count_of, items_of, labels_of, shown, values_of}
+use Rattle.au_typing.specs.Good.{AllGoodIn, AllGoodLabelled, IsNoting, ArePaired, GoodBinary, GoodBorrow, PairedModes, count_of, items_of, labels_of, shown, values_of}
 use Rattle.au_typing.specs.Lookups.{value_type, variable_type, written_means, written_type}
 use Rattle.au_typing.specs.Notes.{Mode, Note, NotedExpression, erase, erase_all, erase_arguments, note_of, noted_at, type_of}
 use Rattle.au_typing.specs.Operands.{Noter, of_one_type, paired}
@@ -19,7 +19,7 @@ use Rattle.au_typing.specs.Search.{another_number, arithmetic_note, arrow_note, 
 use Rattle.au_typing.specs.SearchCalls.{call_noted}
 use Rattle.au_typing.proofs.Found.{bare_kept, count_kept, labels_kept}
 use Rattle.au_typing.proofs.SoundCalls.{AllSound, AreNotings, call_sound}
-use Rattle.au_typing.proofs.SoundParts.{IsNoting, IsPair, Sounds, arithmetic_sound, arrow_sound, borrow_part_sound, borrow_sound, comparison_sound, dereference_sound, literal_sound, one_type_sound, outcome_sound, paired_sound, path_sound}
+use Rattle.au_typing.proofs.SoundParts.{IsPair, Sounds, arithmetic_sound, arrow_sound, borrow_part_sound, borrow_sound, comparison_sound, dereference_sound, literal_sound, one_type_sound, outcome_sound, paired_sound, path_sound}
 use Rattle.au_typing.proofs.Steps.{bind_ok, known_ok, names_kept, noted_ok, ok_same}
 
 -- ---- arguments

@@ -11,7 +11,7 @@ use Rattle.au_scopes.specs.Scopes.{Callable, Scope, Typed}
 use Rattle.au_typing.specs.Bare.{is_bare}
 use Rattle.au_typing.specs.Calls.{begun, first_lacking, first_left, first_misfit, types_of_call, wanted_of, FirstStep, GoodCall, Passes, SecondStep, Taken, TakenBare}
 use Rattle.au_typing.specs.Faults.{◌>>=◌, Why, known_or, unknown, different, unfixed}
-use Rattle.au_typing.specs.Good.{AllGood, shown}
+use Rattle.au_typing.specs.Good.{AllGood, IsNoting, shown}
 use Rattle.au_typing.specs.Limits.{are_within, within}
 use Rattle.au_typing.specs.Notes.{Mode, Note, NotedExpression, erase, note_of, type_of}
 use Rattle.au_typing.specs.Operands.{Noter}
@@ -48,7 +48,7 @@ module _ (scope : Scope) where
       let i = f (Some (substituted s t)) a.0 a.1 in
       subst (IsTaken (Taken true t) p s) (ok_same (a.0, s) z a.2) (i.0, i.2, (i.1, refl))
   taken_sound false e p t s z f h =
-      let a = bind_ok (e None) (taken_as t s) z h in
+      let a = bind_ok (e None) (λ (x : NotedExpression). taken_as t (type_of x) s x) z h in
       let i = f None a.0 a.1 in
       let cause = different (substituted s t) (type_of a.0) in
       let m = bind_ok (known_or cause (matched t (type_of a.0) s)) (λ (r : Bindings). Ok (a.0, r)) z a.2 in
@@ -60,10 +60,12 @@ module _ (scope : Scope) where
       let i = f (Some (substituted s t)) a.0 a.1 in
       subst (IsTaken (TakenBare true t) p s) (ok_same (a.0, s) z a.2) (i.0, i.2, (i.1, refl))
   taken_bare_sound false e p (parameter name) s z f h =
-      let r = with_pair name (of_type int32) s in
-      let a = bind_ok (e None) (beside r) z h in
+      let t = parameter name in
+      let a = bind_ok (e None) (taken_as t int32 s) z h in
       let i = f None a.0 a.1 in
-      subst (IsTaken (TakenBare false (parameter name)) p s) (ok_same (a.0, r) z a.2) (i.0, i.2, (i.1, refl))
+      let cause = different (substituted s t) int32 in
+      let m = bind_ok (known_or cause (matched t int32 s)) (λ (r : Bindings). Ok (a.0, r)) z a.2 in
+      subst (IsTaken (TakenBare false t) p s) (ok_same (a.0, m.0) z m.2) (i.0, i.2, (i.1, known_ok cause (matched t int32 s) m.0 m.1))
   taken_bare_sound false e p t s z f h = absurd cc
 
   -- ---- the first pass

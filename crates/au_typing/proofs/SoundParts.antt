@@ -14,7 +14,7 @@ use Rattle.au_types.specs.Types.{Meaning}
 use Rattle.au_judged_types.specs.Reasons.{Outcome, means, fails}
 use Rattle.au_scopes.specs.Scopes.{Scope}
 use Rattle.au_typing.specs.Faults.{Noting, ◌>>=◌, check, known_or, unknown, different, not_free, shape, integer_wanted, range_wanted, record_wanted, reference_wanted}
-use Rattle.au_typing.specs.Good.{AllGood, GoodBorrow, GoodLiteral, GoodPart, GoodPath, Kept, PairedModes}
+use Rattle.au_typing.specs.Good.{AllGood, IsNoting, GoodBorrow, GoodLiteral, GoodPart, GoodPath, Kept, PairedModes}
 use Rattle.au_typing.specs.Limits.{types_noted}
 use Rattle.au_typing.specs.Lookups.{behind, field_type, is_free_in, is_record, IsPart, outcome_noted, part_type, record_part}
 use Rattle.au_typing.specs.Notes.{Mode, Note, NotedExpression, erase, mode_of, note_of, type_of}
@@ -104,10 +104,6 @@ outcome_sound (means u) t e = ap means (ok_same u t e)
 outcome_sound (fails reason) t e = absurd cc
 
 -- ---- operands
-
--- a good noting of a tree in a mode
-abbrev pub IsNoting : Scope → PlainExpression → Mode → NotedExpression → Type 0
-IsNoting scope e mode a = AllGood scope a × (mode_of a ≡ mode) × (erase a ≡ e)
 
 -- what is noted is good
 abbrev pub Sounds : Scope → Noter → PlainExpression → Type 0

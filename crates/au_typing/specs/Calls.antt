@@ -9,7 +9,7 @@ use Rattle.au_syntax.specs.Plain.{Bytes}
 use Rattle.au_types.specs.declared.parameters.Parameter.{Parameter}
 use Rattle.au_types.specs.declared.types.DeclAt.{DeclAt}
 use Rattle.au_types.specs.Types.{Meaning, Argument, parameter, of_type}
-use Rattle.au_matching.specs.Bindings.{Bindings, value_of, with_pair}
+use Rattle.au_matching.specs.Bindings.{Bindings, value_of}
 use Rattle.au_matching.specs.Fixed.{fixed, is_a_region, is_a_type}
 use Rattle.au_matching.specs.Matched.{matched}
 use Rattle.au_matching.specs.Substituted.{substituted}
@@ -33,7 +33,8 @@ in_order number params = if length params == number then Some (map (λ one. one.
 abbrev pub labelled_types : List Bytes → List Typed → Option (List Meaning)
 labelled_types [] params = Some []
 labelled_types (label ∷ labels) params =
-    option_and_then (λ t. option_map (λ types. t ∷ types) (labelled_types labels params)) (type_of_name label params)
+    option_and_then (λ t. option_map (λ types. t ∷ types) (labelled_types labels params))
+    (type_of_name label params)
 
 -- each parameter is named by exactly one label
 abbrev pub each_is_named_once : List Bytes → List Typed → Bool
@@ -67,7 +68,7 @@ Taken false p a s r = (a.mode ≡ None) × (matched p a.of s ≡ Some r)
 -- which gets Int32.
 abbrev pub TakenBare : Bool → Meaning → Note → Bindings → Bindings → Type 0
 TakenBare true p a s r = (a.mode ≡ Some (substituted s p)) × (r ≡ s)
-TakenBare false (parameter name) a s r = (a.mode ≡ None) × (r ≡ with_pair name (of_type int32) s)
+TakenBare false (parameter name) a s r = (a.mode ≡ None) × (matched (parameter name) int32 s ≡ Some r)
 TakenBare false p a s r = ⊥
 
 -- what a pass does at one argument: it takes those of its kind, and leaves the others
@@ -80,7 +81,8 @@ SecondStep true p a s r = TakenBare (fixed s p) p a s r
 SecondStep false p a s r = r ≡ s
 
 -- a pass over the arguments in textual order, from one substitution to another
-abbrev pub Passes : (Bool → Meaning → Note → Bindings → Bindings → Type 0) → List Meaning → List Shown → Bindings → Bindings → Type 0
+abbrev pub Passes : (Bool → Meaning → Note → Bindings → Bindings → Type 0) → List Meaning → List Shown →
+    Bindings → Bindings → Type 0
 Passes step [] [] s r = r ≡ s
 Passes step (p ∷ ps) (a ∷ args) s r = (q : Bindings) × step a.bare p a.note s q × Passes step ps args q r
 Passes step [] (a ∷ args) s r = ⊥
@@ -123,7 +125,8 @@ wanted_of called = constraints_of called.generics ++ option_to_list called.class
 -- what is lacking first of a class at a value
 abbrev pub lacking_at : Scope → DeclAt → Option Argument → Option Pair
 lacking_at scope class (Some (of_type t)) =
-    lacking scope.outside.instances scope.outside.heads (parameters_in scope) (constraints_of scope.generics) class t
+    lacking scope.outside.instances scope.outside.heads (parameters_in scope) (constraints_of scope.generics)
+    class t
 lacking_at scope class value = None
 
 -- the first pair of a class and a type that is lacking

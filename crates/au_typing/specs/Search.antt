@@ -99,7 +99,8 @@ module _ (scope : Scope) where
   borrow_part_note mode fields t = Err (why (shape reference_wanted))
 
   -- a binary operation, where the tests say which kind it is
-  abbrev pub binary_noted : Bool → Bool → Node (Unit {0}) → BinaryOperator → Bool → Bool → Noter → Noter → Mode → Noting NotedExpression
+  abbrev pub binary_noted : Bool → Bool → Node (Unit {0}) → BinaryOperator → Bool → Bool → Noter → Noter →
+      Mode → Noting NotedExpression
   binary_noted true logical u op x y a b mode =
       paired x y a b mode >>= λ z.
       of_one_type z.0 z.1 (arithmetic_note mode (type_of z.0)) >>= λ n. Ok (binary (noted_at u n) op z.0 z.1)
@@ -144,7 +145,8 @@ module _ (scope : Scope) where
         known_or (unknown x.name) (value_type scope x.name) >>= λ t.
         borrow_part_note mode fields t >>= λ n. Ok (borrow_part (noted_at u n) x fields)
     note_expression (binary u op a b) mode =
-        binary_noted (is_arithmetic op) (is_logical op) u op (is_bare a) (is_bare b) (note_expression a) (note_expression b) mode
+        binary_noted (is_arithmetic op) (is_logical op) u op (is_bare a) (is_bare b)
+        (note_expression a) (note_expression b) mode
     note_expression (negation u e) mode =
         note_expression e (Some mean.truth) >>= λ a.
         noted mode mean.truth >>= λ n. Ok (negation (noted_at u n) a)
