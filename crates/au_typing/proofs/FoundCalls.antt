@@ -1,8 +1,8 @@
 -- Good calls are what the search gives.
 use Rattle.std.proofs.Common.{◌≡◌, Bool, true, false, List, [], ◌∷◌, sym, ap, ◌∙◌, Option, Some, None, Ok}
 use Rattle.au_syntax.specs.Plain.{Bytes}
-use Rattle.au_types.specs.Types.{Meaning, unit, truth, integer, text, parameter, named, reads, writes, of_type}
-use Rattle.au_matching.specs.Bindings.{Bindings, with_pair}
+use Rattle.au_types.specs.Types.{Meaning, unit, truth, integer, text, parameter, named, reads, writes}
+use Rattle.au_matching.specs.Bindings.{Bindings}
 use Rattle.au_matching.specs.Fixed.{fixed}
 use Rattle.au_matching.specs.Substituted.{substituted}
 use Rattle.au_generics.specs.Bounds.{parameters}

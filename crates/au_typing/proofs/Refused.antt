@@ -3,7 +3,7 @@ use Rattle.std.proofs.Common.{◌≡◌, ◌↔◌, refl, sym, ap, ◌∙◌, Ok
 use Rattle.au_syntax.specs.Plain.{PlainExpression}
 use Rattle.au_scopes.specs.Scopes.{Scope}
 use Rattle.au_typing.specs.Faults.{Fault, Noting}
-use Rattle.au_typing.specs.Notes.{Mode, NotedExpression, erase, mode_of}
+use Rattle.au_typing.specs.Notes.{Mode, NotedExpression, erase}
 use Rattle.au_typing.specs.Search.{note}
 use Rattle.au_typing.proofs.Found.{found}
 use Rattle.au_typing.proofs.Sound.{sound}

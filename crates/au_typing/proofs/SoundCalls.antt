@@ -1,8 +1,8 @@
 -- What the search gives of calls is good.
 use Rattle.std.proofs.Common.{◌≡◌, Bool, true, false, List, [], ◌∷◌, refl, sym, ap, subst, ◌∙◌, Option, Some, None, Ok}
 use Rattle.au_syntax.specs.Plain.{Bytes, PlainExpression}
-use Rattle.au_types.specs.Types.{Meaning, parameter, of_type}
-use Rattle.au_matching.specs.Bindings.{Bindings, with_pair}
+use Rattle.au_types.specs.Types.{Meaning, parameter}
+use Rattle.au_matching.specs.Bindings.{Bindings}
 use Rattle.au_matching.specs.Fixed.{fixed}
 use Rattle.au_matching.specs.Matched.{matched}
 use Rattle.au_matching.specs.Substituted.{substituted}
@@ -11,7 +11,7 @@ use Rattle.au_scopes.specs.Scopes.{Callable, Scope, Typed}
 use Rattle.au_typing.specs.Bare.{is_bare}
 use Rattle.au_typing.specs.Calls.{begun, first_lacking, first_left, first_misfit, types_of_call, wanted_of, FirstStep, GoodCall, Passes, SecondStep, Taken, TakenBare}
 use Rattle.au_typing.specs.Faults.{◌>>=◌, Why, known_or, unknown, different, unfixed}
-use Rattle.au_typing.specs.Good.{AllGood, IsNoting, shown}
+use Rattle.au_typing.specs.Good.{AllGood, shown}
 use Rattle.au_typing.specs.Limits.{are_within, within}
 use Rattle.au_typing.specs.Notes.{Mode, Note, NotedExpression, erase, note_of, type_of}
 use Rattle.au_typing.specs.Operands.{Noter}

@@ -17,7 +17,7 @@ use Rattle.au_typing.specs.Faults.{Noting, ◌>>=◌, check, known_or, unknown, 
 use Rattle.au_typing.specs.Good.{AllGood, IsNoting, GoodBorrow, GoodLiteral, GoodPart, GoodPath, Kept, PairedModes}
 use Rattle.au_typing.specs.Limits.{types_noted}
 use Rattle.au_typing.specs.Lookups.{behind, field_type, is_free_in, is_record, IsPart, outcome_noted, part_type, record_part}
-use Rattle.au_typing.specs.Notes.{Mode, Note, NotedExpression, erase, mode_of, note_of, type_of}
+use Rattle.au_typing.specs.Notes.{Mode, Note, NotedExpression, erase, note_of, type_of}
 use Rattle.au_typing.specs.Operands.{Noter, before, behind_it, of_one_type, paired}
 use Rattle.au_typing.specs.Rules.{is_compared, is_integer, literal_kind, noted, wanted_note}
 use Rattle.au_typing.specs.Search.{arithmetic_note, arrow_note, borrow_part_note, borrowed, comparison_note, dereference_note, literal_note, part_note, path_note, read_note}

@@ -1,14 +1,13 @@
 -- Where a type is wanted of a good expression, its type is that.
-use Rattle.std.proofs.Common.{◌≡◌, Bool, true, false, List, [], ◌∷◌, refl, sym, ap, subst, ◌∙◌, Option, Some, None, Ok, Err}
+use Rattle.std.proofs.Common.{◌≡◌, Bool, true, false, List, [], ◌∷◌, refl, sym, ap, subst, ◌∙◌, Option, Some, None}
 use Rattle.au_syntax.specs.Expressions.{number, negative, text, truth, nil, path, arrow, call, named_call, parenthesized, dereference, borrow, borrow_part, binary, negation, typed, choice}
-use Rattle.au_syntax.specs.Plain.{Bytes, PlainExpression}
+use Rattle.au_syntax.specs.Plain.{Bytes}
 use Rattle.au_types.specs.Same.{same}
 use Rattle.au_types.specs.Types as mean
 use Rattle.au_types.specs.Types.{Meaning}
 use Rattle.au_types.proofs.SameLemmas.{same_self}
 use Rattle.au_matching.specs.Bindings.{Bindings, Extends}
 use Rattle.au_matching.specs.Fixed.{fixed}
-use Rattle.au_matching.specs.Matched.{matched, Makes}
 use Rattle.au_matching.specs.Substituted.{substituted}
 use Rattle.au_matching.proofs.BindingLemmas.{extends_on, extends_self}
 use Rattle.au_matching.proofs.MatchedLemmas.{matched_makes}
@@ -16,7 +15,7 @@ use Rattle.au_matching.proofs.SubstitutedLemmas.{fixed_stays}
 use Rattle.au_scopes.specs.Scopes.{Scope, Typed}
 use Rattle.au_typing.specs.Calls.{Shown, begun, FirstStep, GoodCall, Passes, SecondStep, Taken, TakenBare}
 use Rattle.au_typing.specs.Good.{AllGood}
-use Rattle.au_typing.specs.Notes.{Mode, Note, NotedExpression, erase, mode_of, type_of}
+use Rattle.au_typing.specs.Notes.{Mode, Note, NotedExpression, mode_of, type_of}
 use Rattle.au_typing.specs.Rules.{int32, meets}
 
 -- ---- no rule of a call takes anything out of the substitution

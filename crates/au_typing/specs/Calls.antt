@@ -151,8 +151,13 @@ types_of_call mode called s =
     types_noted mode (substituted s called.result) (type_values s (parameters called.generics))
 
 -- The call of a name is good, by its note, by which types the arguments get from the parameters, and by the
--- arguments. Constructors of opaque types are no callables outside of their own module.
-pub record GoodCall (scope : Scope) (note : Note) (name : Bytes) (takes : List Typed → Option (List Meaning)) (args : List Shown) : Type 0 where
+-- arguments: the name means what is called; every parameter gets one argument; the substitution begins with
+-- what makes the result equal the wanted type; it goes on over the arguments that aren't bare, and then over
+-- the bare ones; then every type parameter is fixed, the types of the note pass no limit, the type arguments
+-- fit, and the constraints and the method's class hold. Constructors of opaque types are nothing that is
+-- called outside of their own module.
+pub record GoodCall (scope : Scope) (note : Note) (name : Bytes)
+    (takes : List Typed → Option (List Meaning)) (args : List Shown) : Type 0 where
   pub called : Callable
   pub is_called : scope.outside.callable name ≡ Some called
   pub types : List Meaning

@@ -1,5 +1,5 @@
 -- Expressions in a scope, and by hand the type of each or the fault.
-use Rattle.std.specs.Prelude.{ℕ, zero, suc, pos, ◌==◌, List, [], ◌∷◌, Bool, true, false, Option, Some, None, Ok, Err, codes, find, option_map, if◌then◌else◌}
+use Rattle.std.specs.Prelude.{ℕ, zero, suc, pos, ◌==◌, List, [], ◌∷◌, true, false, Option, Some, None, Ok, Err, codes, find, option_map, if◌then◌else◌}
 use Rattle.std.specs.Str.{bytes_eq}
 use Rattle.au_base.specs.declared.kinds.IntKind.TheVariants as kinds
 use Rattle.au_base.specs.declared.limits.LimitKind.TheVariants.{TypeDepth}
@@ -7,23 +7,21 @@ use Rattle.au_syntax.specs.declared.declarations.Universe.{Universe}
 use Rattle.au_syntax.specs.declared.declarations.Universe.TheVariants as universes
 use Rattle.au_syntax.specs.declared.expressions.BinaryOperator.{BinaryOperator}
 use Rattle.au_syntax.specs.declared.expressions.BinaryOperator.TheVariants as operators
-use Rattle.au_syntax.specs.declared.expressions.BorrowMode.{BorrowMode}
 use Rattle.au_syntax.specs.declared.expressions.BorrowMode.TheVariants as borrows
 use Rattle.au_syntax.specs.Expressions.{Node, number, negative, text, truth, nil, path, arrow, call, named_call, parenthesized, dereference, borrow, borrow_part, binary, negation, typed, choice, no_expressions, expressions, no_arguments, arguments}
 use Rattle.au_syntax.specs.Names.{Placed}
 use Rattle.au_syntax.specs.Plain.{Bytes, PlainArguments, PlainExpression, PlainExpressions}
 use Rattle.au_syntax.specs.Types as written
 use Rattle.au_syntax.specs.Types.{WrittenType}
-use Rattle.au_types.specs.declared.headings.Head.{Head}
-use Rattle.au_types.specs.declared.types.DeclAt.{DeclAt}
 use Rattle.au_types.specs.declared.types.Region.TheVariants as regions
 use Rattle.au_types.specs.Types as mean
 use Rattle.au_types.specs.Types.{Meaning}
+use Rattle.au_matching.specs.Bindings.{Bindings}
 use Rattle.au_generics.specs.Bounds.{Bounded}
 use Rattle.au_instances.specs.Examples.{bounded_by, box, declared, headed, nat8, of_one, option, place, shown, table}
-use Rattle.au_scopes.specs.Scopes.{Callable, Case, Outside, Scope, Typed, Variable}
+use Rattle.au_scopes.specs.Scopes.{Callable, Outside, Scope, Typed, Variable}
 use Rattle.au_typing.specs.Faults.{Noting, Why, limit, why, unknown, different, unfixed, no_instance, not_free, shape, record_wanted, reference_wanted, write_reference_wanted, integer_wanted, linear_wanted, arguments_wanted, labels_wanted, range_wanted}
-use Rattle.au_typing.specs.Notes.{Mode, NotedExpression, type_of}
+use Rattle.au_typing.specs.Notes.{Mode, NotedExpression, note_of, type_of}
 use Rattle.au_typing.specs.Rules.{int32}
 
 -- ---- types
@@ -89,12 +87,15 @@ callables =
     ∷ (codes "some", called (over universes.AnyType) (x_of t) (of_one option t))
     ∷ (codes "from", called (over universes.AnyType) (x_of (of_one option t)) mean.unit)
     ∷ (codes "shown", called (bounded_by (codes "T") universes.Free (shown ∷ []) ∷ []) (x_of t) mean.unit)
-    ∷ (codes "show", record {
-      generics = over universes.Free;
-      parameters = x_of t;
-      result = mean.unit;
-      class = Some (codes "T", shown);
-    })
+    ∷ (
+      codes "show",
+      record {
+        generics = over universes.Free;
+        parameters = x_of t;
+        result = mean.unit;
+        class = Some (codes "T", shown);
+      },
+    )
     ∷ []
 
 abbrev pub of_name : {A : Type 0} → List (Bytes × A) → Bytes → Option A
@@ -182,6 +183,10 @@ calls_named name es = named_call here (named name) es tt
 abbrev pub alone : Bytes → WrittenType
 alone name = written.named (named name) written.no_types
 
+-- x twice, and y
+abbrev pub twice_x : PlainArguments
+twice_x = arguments (named (codes "x")) (whole 1) (labels (codes "x") (whole 1) (codes "y") (whole 2))
+
 -- ---- examples
 
 -- an expression, a mode, and the type that it has in that mode or its fault
@@ -247,6 +252,8 @@ names =
 abbrev pub operations : List Example
 operations =
     is (parenthesized here (whole 5)) (Some nat8) nat8
+    ∷ fails (parenthesized here (whole 256)) (Some nat8) (shape (range_wanted kinds.Nat8))
+    ∷ is (operation (parenthesized here (whole 1)) operators.Add (mention (codes "a"))) None nat8
     ∷ is (typed here (whole 5) (alone (codes "Nat8"))) None nat8
     ∷ fails (typed here (mention (codes "z")) (alone (codes "Foo"))) None (unknown (codes "Foo"))
     ∷ fails (typed here (whole 5) (alone (codes "Nat8"))) (Some int32) (different int32 nat8)
@@ -259,7 +266,7 @@ operations =
     ∷ fails (operation (whole 300) operators.Add (mention (codes "z"))) None (unknown (codes "z"))
     ∷ fails (operation (mention (codes "a")) operators.Add (mention (codes "i"))) None (different nat8 int32)
     ∷ fails (operation (mention (codes "b")) operators.Multiply (mention (codes "b"))) None (shape integer_wanted)
-    ∷ is (operation (whole 1) operators.Less (mention (codes "a"))) None mean.truth
+    ∷ is (operation (whole 1) operators.Less (mention (codes "a"))) (Some mean.truth) mean.truth
     ∷ is (operation (operation (whole 1) operators.Add (whole 2)) operators.Less (mention (codes "a"))) None mean.truth
     ∷ fails (operation (mention (codes "a")) operators.Less (whole 256)) None (shape (range_wanted kinds.Nat8))
     ∷ is (operation (mention (codes "b")) operators.Equal (mention (codes "c"))) None mean.truth
@@ -279,6 +286,7 @@ call_examples =
     ∷ is (calls_named (codes "plus") (labels (codes "y") (whole 1) (codes "x") (whole 2))) None nat8
     ∷ fails (calls_named (codes "plus") (labels (codes "x") (whole 1) (codes "x") (whole 2))) None (shape labels_wanted)
     ∷ fails (calls_named (codes "plus") (labels (codes "x") (whole 1) (codes "z") (whole 2))) None (shape labels_wanted)
+    ∷ fails (calls_named (codes "plus") twice_x) None (shape labels_wanted)
     ∷ fails (calls (codes "plus") (both (mention (codes "z")) (whole 1))) (Some mean.truth) (different mean.truth nat8)
     ∷ is (calls (codes "same") (one (whole 5))) None int32
     ∷ is (calls (codes "same") (one (whole 5))) (Some nat8) nat8
@@ -302,4 +310,30 @@ call_examples =
       mode = None;
       told = Err (limit (record { kind = TypeDepth; count = 25; most = 24 }));
     }
+    ∷ []
+
+-- ---- substitutions
+
+-- a call, and what stands for its type parameters in no mode
+pub record CallExample : Type 0 where
+  pub of : PlainExpression
+  pub gives : Option Bindings
+
+-- the substitution of an expression that was noted
+abbrev pub call_of : Noting NotedExpression → Option Bindings
+call_of (Ok a) = (note_of a).call
+call_of (Err fault) = None
+
+abbrev pub substitutions : List CallExample
+substitutions =
+    record {
+      of = calls (codes "two") (both (whole 1) (mention (codes "a")));
+      gives = Some ((codes "T", mean.of_type nat8) ∷ []);
+    }
+    ∷ record {
+      of = calls (codes "same") (one (whole 1));
+      gives = Some ((codes "T", mean.of_type int32) ∷ []);
+    }
+    ∷ record { of = calls (codes "plus") (both (whole 1) (whole 2)); gives = Some [] }
+    ∷ record { of = mention (codes "a"); gives = None }
     ∷ []

@@ -1,11 +1,12 @@
-//! The search finds what is good, and what it finds is good: so no expression has two good notings in one mode.
+//! The search finds what is good, and what it finds is good: so no expression has two good notings in one
+//! mode.
 
-ghost use Rattle.std.specs.Prelude.{◌≡◌, ◌↔◌, true, Ok, Err};
+ghost use Rattle.std.specs.Prelude.{◌≡◌, ◌↔◌, true, None, Ok, Err};
 ghost use Rattle.au_scopes.specs.Scopes.{Scope};
 ghost use Rattle.au_syntax.specs.Parts.{Each};
 ghost use Rattle.au_syntax.specs.Plain.{PlainExpression};
 ghost use Rattle.au_typing.specs.Examples as examples;
-ghost use Rattle.au_typing.specs.Examples.{told_of};
+ghost use Rattle.au_typing.specs.Examples.{call_of, told_of};
 ghost use Rattle.au_typing.specs.Faults.{Fault};
 ghost use Rattle.au_typing.specs.Good.{AllGood, IsNoting};
 ghost use Rattle.au_typing.specs.Notes.{Mode, NotedExpression, erase, mode_of, type_of};
@@ -60,4 +61,6 @@ pub fn examples_hold()
         examples.operations }
     ensures calls { Each (λ one. told_of (note examples.scope one.of one.mode) ≡ one.told)
         examples.call_examples }
+    ensures substitutions { Each (λ one. call_of (note examples.scope one.of None) ≡ one.gives)
+        examples.substitutions }
 {}

@@ -13,8 +13,12 @@ returns-clause-names c = (refl, (refl, (refl, (refl, (refl, (refl, (refl, (refl,
 
 pub returns-clause-operations : goal.returns-clause-operations
 unfolding universe_of argument_universe argument_universes judged judging.judged judging.all_given
-returns-clause-operations c = (refl, (refl, (refl, (refl, (refl, (refl, (refl, (refl, (refl, (refl, (refl, (refl, (refl, (refl, (refl, (refl, (refl, (refl, (refl, (refl, (refl, (refl, (refl, tt)))))))))))))))))))))))
+returns-clause-operations c = (refl, (refl, (refl, (refl, (refl, (refl, (refl, (refl, (refl, (refl, (refl, (refl, (refl, (refl, (refl, (refl, (refl, (refl, (refl, (refl, (refl, (refl, (refl, (refl, (refl, tt)))))))))))))))))))))))))
 
 pub returns-clause-calls : goal.returns-clause-calls
 unfolding universe_of argument_universe argument_universes judged judging.judged judging.all_given
-returns-clause-calls c = (refl, (refl, (refl, (refl, (refl, (refl, (refl, (refl, (refl, (refl, (refl, (refl, (refl, (refl, (refl, (refl, (refl, (refl, (refl, (refl, (refl, (refl, (refl, (refl, (refl, tt)))))))))))))))))))))))))
+returns-clause-calls c = (refl, (refl, (refl, (refl, (refl, (refl, (refl, (refl, (refl, (refl, (refl, (refl, (refl, (refl, (refl, (refl, (refl, (refl, (refl, (refl, (refl, (refl, (refl, (refl, (refl, (refl, tt))))))))))))))))))))))))))
+
+pub returns-clause-substitutions : goal.returns-clause-substitutions
+unfolding universe_of argument_universe argument_universes judged judging.judged judging.all_given
+returns-clause-substitutions c = (refl, (refl, (refl, (refl, tt))))
