@@ -1,0 +1,7 @@
+pub mod StepLemmas
+pub mod PartLemmas
+pub mod FoundLemmas
+pub mod SoundPartLemmas
+pub mod SoundLemmas
+pub mod ProgramLemmas
+pub mod PathLemmas
