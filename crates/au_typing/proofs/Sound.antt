@@ -26,7 +26,7 @@ use Rattle.au_typing.proofs.Steps.{bind_ok, known_ok, names_kept, noted_ok, ok_s
 -- ---- arguments
 
 -- notings of arguments in the place of these, and their erasure
-listed_is : (args : List NotedExpression) → items_of (listed as) ≡ as
+listed_is : (args : List NotedExpression) → items_of (listed args) ≡ args
 listed_is [] = refl
 listed_is (a ∷ args) = ap (λ (rest : List NotedExpression). a ∷ rest) (listed_is args)
 
@@ -130,7 +130,7 @@ module _ (scope : Scope) where
     sound (call u f es c) mode a h =
         let b = bind_ok (call_noted scope f.name (in_order (count_of es)) another_number mode (operands scope es)) (λ (z : Note × List NotedExpression). Ok (call (noted_at u z.0) f (listed z.1) tt)) a h in
         let k = call_sound scope f.name (in_order (count_of es)) another_number mode (operands scope es) (items_of es) b.0 (all_sound es) b.1 in
-        let l = listed_good scope es b.0.1 k.2 in
+        let l = listed_good es b.0.1 k.2 in
         let count : count_of es ≡ count_of (listed b.0.1) = ap count_of (sym l.1) ∙ count_kept (listed b.0.1) in
         let counted = subst (λ (n : ℕ). GoodCall scope b.0.0 f.name (in_order n) (shown b.0.1)) count k.0 in
         let good = subst (λ (args : List NotedExpression). GoodCall scope b.0.0 f.name (in_order (count_of (listed b.0.1))) (shown args)) (sym (listed_is b.0.1)) counted in
@@ -138,7 +138,7 @@ module _ (scope : Scope) where
     sound (named_call u f es c) mode a h =
         let b = bind_ok (call_noted scope f.name (by_labels (labels_of es)) other_labels mode (labelled_operands scope es)) (λ (z : Note × List NotedExpression). Ok (named_call (noted_at u z.0) f (labelled es z.1) tt)) a h in
         let k = call_sound scope f.name (by_labels (labels_of es)) other_labels mode (labelled_operands scope es) (values_of es) b.0 (all_labelled_sound es) b.1 in
-        let l = labelled_good scope es b.0.1 k.2 in
+        let l = labelled_good es b.0.1 k.2 in
         let labels : labels_of es ≡ labels_of (labelled es b.0.1) = ap labels_of (sym l.1) ∙ labels_kept (labelled es b.0.1) in
         let named = subst (λ (names : List Bytes). GoodCall scope b.0.0 f.name (by_labels names) (shown b.0.1)) labels k.0 in
         let good = subst (λ (args : List NotedExpression). GoodCall scope b.0.0 f.name (by_labels (labels_of (labelled es b.0.1))) (shown args)) (sym l.2) named in

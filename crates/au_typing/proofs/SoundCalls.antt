@@ -163,10 +163,27 @@ module _ (scope : Scope) where
   IsCall name takes mode ps z =
       GoodCall scope z.0 name takes (shown z.1) × (z.0.mode ≡ mode) × AreNotings ps z.1
 
-  -- a good call, told of the note that was given
-  given_sound : (name : Bytes) (takes : List Typed → Option (List Meaning)) (mode : Mode) (ps : List PlainExpression) (n m : Note) (args : List NotedExpression) (z : Note × List NotedExpression) → n ≡ m → (m, args) ≡ z → n.mode ≡ mode → GoodCall scope n name takes (shown args) → AreNotings ps args → IsCall name takes mode ps z
-  given_sound name takes mode ps n m args z is whole mode_is good notings =
-      subst (IsCall name takes mode ps) (ap (λ (note : Note). (note, args)) is ∙ whole) (good, mode_is, notings)
+  -- what every rule of a call says makes a good call
+  given_sound : (name : Bytes) (takes : List Typed → Option (List Meaning)) (mode : Mode) (ps : List PlainExpression) (called : Callable) (types : List Meaning) (begins goes_on s : Bindings) (m : Note) (args : List NotedExpression) (z : Note × List NotedExpression) → scope.outside.callable name ≡ Some called → takes called.parameters ≡ Some types → begun mode called.result ≡ Some begins → ArePassed ps types begins goes_on goes_on (args, s) → IsCallNote mode called s m → (m, args) ≡ z → IsCall name takes mode ps z
+  given_sound name takes mode ps called types begins goes_on s m args z is_called one_each from_result passed facts whole =
+      let good : GoodCall scope (call_note mode called s) name takes (shown args) = record {
+          called = called;
+          is_called = is_called;
+          types = types;
+          one_each = one_each;
+          begins = begins;
+          from_result = from_result;
+          goes_on = goes_on;
+          not_bare = passed.1;
+          ends = s;
+          bare = passed.2;
+          all_fixed = facts.0;
+          limited = facts.1;
+          all_fit = facts.2;
+          all_hold = facts.3;
+          is_noted = refl;
+      } in
+      subst (IsCall name takes mode ps) (ap (λ (note : Note). (note, args)) facts.4 ∙ whole) (good, refl, passed.0)
 
   pub call_sound : (name : Bytes) (takes : List Typed → Option (List Meaning)) (mistaken : List Typed → Why) (mode : Mode) (ops : List Operand) (ps : List PlainExpression) (z : Note × List NotedExpression) → AllSound ops ps → call_noted scope name takes mistaken mode ops ≡ Ok z → IsCall name takes mode ps z
   call_sound name takes mistaken mode ops ps z f h =
@@ -181,21 +198,4 @@ module _ (scope : Scope) where
       let n = bind_ok (called_note scope mode called e.0.1) (λ (m : Note). Ok (m, e.0.0)) z e.2 in
       let facts = note_sound mode called e.0.1 n.0 n.1 in
       let passed = second_sound ops ps d.0.0 types s d.0.1 d.0.1 e.0 f (first_sound ops ps types s d.0 f d.1) e.1 in
-      let good : GoodCall scope (call_note mode called e.0.1) name takes (shown e.0.0) = record {
-          called = called;
-          is_called = known_ok (unknown name) (scope.outside.callable name) called a.1;
-          types = types;
-          one_each = known_ok (mistaken called.parameters) (takes called.parameters) types b.1;
-          begins = s;
-          from_result = known_ok (result_differs mode called.result) (begun mode called.result) s c.1;
-          goes_on = d.0.1;
-          not_bare = passed.1;
-          ends = e.0.1;
-          bare = passed.2;
-          all_fixed = facts.0;
-          limited = facts.1;
-          all_fit = facts.2;
-          all_hold = facts.3;
-          is_noted = refl;
-      } in
-      given_sound name takes mode ps (call_note mode called e.0.1) n.0 e.0.0 z facts.4 (ok_same (n.0, e.0.0) z n.2) refl good passed.0
+      given_sound name takes mode ps called types s d.0.1 e.0.1 n.0 e.0.0 z (known_ok (unknown name) (scope.outside.callable name) called a.1) (known_ok (mistaken called.parameters) (takes called.parameters) types b.1) (known_ok (result_differs mode called.result) (begun mode called.result) s c.1) passed facts (ok_same (n.0, e.0.0) z n.2)
