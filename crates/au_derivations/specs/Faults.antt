@@ -4,8 +4,8 @@ use Rattle.au_base.specs.declared.limits.Limit.{Limit}
 use Rattle.au_base.specs.declared.places.Pos.{Pos}
 use Rattle.au_typing.specs.Faults.{Why, Fault, Noting, why, limit}
 
--- A statement at this place has no good notes, for this cause; or a type of a note passes a limit, which has no
--- place.
+-- A statement at this place has no good notes, for this cause; or a type of a note passes a limit, which has
+-- no place.
 pub data StatementFault : Type 0 where
   refused : Pos → Why → StatementFault
   too_large : Limit → StatementFault

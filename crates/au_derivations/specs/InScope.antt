@@ -31,7 +31,8 @@ is_var Var = true
 
 -- a variable with the type that is written with it, and none where that is no type
 abbrev pub with_typed : Bytes → Bool → Noting Meaning → Scope → Scope
-with_typed name assignable (Ok t) sc = with_variable (record { name = name; of = t; assignable = assignable }) sc
+with_typed name assignable (Ok t) sc =
+    with_variable (record { name = name; of = t; assignable = assignable }) sc
 with_typed name assignable (Err fault) sc = sc
 
 -- variables that are bound to fields, with the types that are written with them

@@ -41,7 +41,8 @@ noted_entry e ds = record {
 
 module _ (outside : Outside) where
   -- the body of a function or method that is declared at a place
-  abbrev pub note_body : Pos → List (Constrained Bytes) → Header Bytes → PlainStatements → Pos → Judged NotedStatements
+  abbrev pub note_body :
+      Pos → List (Constrained Bytes) → Header Bytes → PlainStatements → Pos → Judged NotedStatements
   note_body at generics header body stop =
       placed at (body_scope outside generics header)
       then λ sc. note_block body sc then λ noted. judge_end (block_returns body) stop then λ ends. Ok noted

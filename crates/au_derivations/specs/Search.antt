@@ -264,4 +264,5 @@ abbrev mutual
   pub note_arms : PlainArms → Scope → Judged NotedArms
   note_arms no_arms sc = Ok no_arms
   note_arms (arms at n binds block rest) sc =
-      note_block block (with_bound binds sc) then λ b. note_arms rest sc then λ all. Ok (arms at n binds b all)
+      note_block block (with_bound binds sc)
+      then λ b. note_arms rest sc then λ all. Ok (arms at n binds b all)

@@ -52,7 +52,8 @@ abbrev mutual
   erase_statement (case_of at e all) = case_of at (erase e) (erase_arms all)
   erase_statement (while_loop at e b) = while_loop at (erase e) (erase_block b)
   erase_statement (for_loop at n a z b) = for_loop at n (erase a) (erase z) (erase_block b)
-  erase_statement (borrow_in at access x r region b stop) = borrow_in at access x r region (erase_block b) stop
+  erase_statement (borrow_in at access x r region b stop) =
+      borrow_in at access x r region (erase_block b) stop
   erase_statement (borrow_typed at r t mode x b stop) = borrow_typed at r t mode x (erase_block b) stop
   erase_statement (discard at e) = discard at (erase e)
   erase_statement (return_of at e) = return_of at (erase e)

@@ -1,5 +1,5 @@
-//! Laws of the notes of statements, blocks, bodies and programs: the search finds whatever is good, whatever it
-//! finds is good, and no program has two derivations.
+//! Laws of the notes of statements, blocks, bodies and programs: the search finds whatever is good, whatever
+//! it finds is good, and no program has two derivations.
 
 ghost use Rattle.std.specs.Prelude.{◌≡◌, ℕ, true, false, List, Ok, Err};
 ghost use Rattle.au_syntax.specs.declared.modules.Part.{Part};
@@ -18,9 +18,9 @@ ghost use Rattle.au_derivations.specs.Statements.{GoodBlock, GoodStatement};
 ghost use Rattle.au_derivations.specs.Trees.{NotedParts, NotedStatement, NotedStatements, erase_block};
 ghost use Rattle.au_derivations.specs.Trees.{erase_statement};
 
-/// A statement that returns on every path is one behind which no path goes on, and of each other one some path
-/// goes on; a block that returns on every path is one whose end no path reaches, and of each other one some path
-/// reaches it.
+/// A statement that returns on every path is one behind which no path goes on, and behind each other one some
+/// path does; a block that returns on every path is one whose end no path reaches, and that of each other one
+/// some path does.
 pub fn paths_end_where_nothing_returns()
     ensures statement { (s : PlainStatement)
         → (returns s ≡ true → ¬ (GoesOn s)) × (returns s ≡ false → GoesOn s) }
@@ -73,7 +73,8 @@ pub fn no_body_has_two_notings()
         → a ≡ b }
 {}
 
-/// Whatever notes derive a program, the search finds them, so that it refuses no program that has a derivation.
+/// Whatever notes derive a program, the search finds them, so that it refuses no program that has a
+/// derivation.
 pub fn derivations_are_found()
     ensures found { (outside : ℕ → Part → Outside) (program : List ModuleParts) (noted : List NotedParts)
         → Derives outside program noted
