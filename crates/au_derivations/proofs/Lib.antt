@@ -5,3 +5,4 @@ pub mod SoundPartLemmas
 pub mod SoundLemmas
 pub mod ProgramLemmas
 pub mod PathLemmas
+pub mod ErasureLemmas

@@ -9,3 +9,4 @@ pub mod Bodies
 pub mod Derivations
 pub mod ProgramSearch
 pub mod Paths
+pub mod Examples

@@ -4,11 +4,13 @@
 ghost use Rattle.std.specs.Prelude.{◌≡◌, ℕ, true, false, List, Ok, Err};
 ghost use Rattle.au_syntax.specs.declared.modules.Part.{Part};
 ghost use Rattle.au_syntax.specs.Modules.{Constrained, Header};
-ghost use Rattle.au_syntax.specs.Plain.{Bytes, PlainStatement, PlainStatements};
+ghost use Rattle.au_syntax.specs.Parts.{Each};
+ghost use Rattle.au_syntax.specs.Plain.{Bytes, PlainStatement, PlainStatements, plain_module};
 ghost use Rattle.au_modules.specs.Programs.{ModuleParts};
 ghost use Rattle.au_scopes.specs.Scopes.{Outside, Scope};
 ghost use Rattle.au_derivations.specs.Bodies.{GoodBody};
 ghost use Rattle.au_derivations.specs.Derivations.{Derives};
+ghost use Rattle.au_derivations.specs.Examples.{body, examples, fault_of};
 ghost use Rattle.au_derivations.specs.Faults.{StatementFault};
 ghost use Rattle.au_derivations.specs.Paths.{GoesOn, ReachesEnd};
 ghost use Rattle.au_derivations.specs.ProgramSearch.{note_program};
@@ -16,7 +18,17 @@ ghost use Rattle.au_derivations.specs.Returns.{block_returns, returns};
 ghost use Rattle.au_derivations.specs.Search.{note_block, note_statement};
 ghost use Rattle.au_derivations.specs.Statements.{GoodBlock, GoodStatement};
 ghost use Rattle.au_derivations.specs.Trees.{NotedParts, NotedStatement, NotedStatements, erase_block};
-ghost use Rattle.au_derivations.specs.Trees.{erase_statement};
+ghost use Rattle.au_derivations.specs.Trees.{NotedModule, erase_module, erase_statement};
+
+/// A module without its notes is what is read plainly of it, with each name as it is.
+pub fn erasing_reads_plainly()
+    ensures { (m : NotedModule) → plain_module (λ (name : Bytes). name) m ≡ erase_module m }
+{}
+
+/// A few blocks are accepted or refused as is written beside them by hand.
+pub fn examples_hold()
+    ensures { Each (λ one. fault_of (note_block one.written body) ≡ one.fault) examples }
+{}
 
 /// A statement that returns on every path is one behind which no path goes on, and behind each other one some
 /// path does; a block that returns on every path is one whose end no path reaches, and that of each other one
