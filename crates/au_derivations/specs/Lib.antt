@@ -1,0 +1,12 @@
+pub mod Trees
+pub mod Returns
+pub mod InScope
+pub mod Parts
+pub mod Statements
+pub mod Faults
+pub mod Search
+pub mod Bodies
+pub mod Derivations
+pub mod ProgramSearch
+pub mod Paths
+pub mod Examples
