@@ -82,9 +82,9 @@ abbrev pub first_interface : List PlainDeclaration
 first_interface =
     union_type here (put (codes "Option")) t_type universes.AnyType
     (
-      a_case (codes "None") []
-      ∷ a_case (codes "Some") (labelled (codes "value") (plain (codes "T")) ∷ [])
-      ∷ []
+    a_case (codes "None") []
+    ∷ a_case (codes "Some") (labelled (codes "value") (plain (codes "T")) ∷ [])
+    ∷ []
     )
     ∷ class here (put (codes "Shown")) (in_universe (codes "T") universes.Free)
     (header (codes "show") (labelled (codes "t") (plain (codes "T")) ∷ []) (plain (codes "Unit")) ∷ [])
@@ -106,9 +106,9 @@ store_interface =
     opaque_type here (put (codes "Pair")) t_type universes.AnyType
     ∷ record_type here (put (codes "Point")) [] universes.Free
     (
-      labelled (codes "x") (plain (codes "Nat8"))
-      ∷ labelled (codes "y") (over (codes "Option") (plain (codes "Nat8")))
-      ∷ []
+    labelled (codes "x") (plain (codes "Nat8"))
+    ∷ labelled (codes "y") (over (codes "Option") (plain (codes "Nat8")))
+    ∷ []
     )
     ∷ constant here (put (codes "least")) (plain (codes "Nat16"))
     ∷ function here generics same_header
@@ -321,9 +321,9 @@ case_with name fields = record { target = a_target 0 0 name; fields = fields }
 abbrev pub cases_examples : List CasesExample
 cases_examples =
     cases_at 2 (option_of (pair_of t)) (Some (
-      case_with (codes "None") []
-      ∷ case_with (codes "Some") (typed (codes "value") (pair_of t) ∷ [])
-      ∷ []
+    case_with (codes "None") []
+    ∷ case_with (codes "Some") (typed (codes "value") (pair_of t) ∷ [])
+    ∷ []
     ))
     -- no union
     ∷ cases_at 1 (pair_of nat8) None
