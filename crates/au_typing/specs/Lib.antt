@@ -1,0 +1,11 @@
+pub mod Faults
+pub mod Notes
+pub mod Bare
+pub mod Limits
+pub mod Lookups
+pub mod Rules
+pub mod Calls
+pub mod Good
+pub mod Operands
+pub mod SearchCalls
+pub mod Search
