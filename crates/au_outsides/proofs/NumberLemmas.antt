@@ -14,7 +14,7 @@ use Rattle.au_outsides.specs.Insides.{number_in, number_of}
 -- ---- lists
 
 -- what is found in a list stands in it
-found_there : {X : Type 0} (p : X → Bool) (xs : List X) (x : X) → find p xs ≡ Some x → (k : ℕ) × (slice_get xs k ≡ Some x)
+pub found_there : {X : Type 0} (p : X → Bool) (xs : List X) (x : X) → find p xs ≡ Some x → (k : ℕ) × (slice_get xs k ≡ Some x)
 found_there p [] x h = absurd (none-some x h)
 found_there p (y ∷ xs) x h = by (p y) h (λ k. found_there p xs x k)
   where
@@ -23,7 +23,7 @@ found_there p (y ∷ xs) x h = by (p y) h (λ k. found_there p xs x k)
     by false k on = let r = on k in (suc r.0, r.1)
 
 -- what stands in one list before another stands in the one or the other
-in_either : {X : Type 0} (xs ys : List X) (k : ℕ) (x : X) → slice_get (xs ++ ys) k ≡ Some x
+pub in_either : {X : Type 0} (xs ys : List X) (k : ℕ) (x : X) → slice_get (xs ++ ys) k ≡ Some x
     → (slice_get xs k ≡ Some x) ⊎ ((j : ℕ) × (k ≡ length xs + j) × (slice_get ys j ≡ Some x))
 in_either [] ys k x h = let same : k ≡ 0 + k = omega arith in inr (k, same, h)
 in_either (y ∷ xs) ys zero x h = inl h
@@ -48,7 +48,7 @@ pub record StandsAt (in_module : ℕ) (in_part : Part) (number : ℕ) (s : Stand
   pub part : s.part ≡ in_part
   pub index : s.index ≡ number
 
-stands_at : (place first : ℕ) (part : Part) (ds : List PlainDeclaration) (k : ℕ) (s : Standing) → slice_get (standing_from place part first ds) k ≡ Some s → StandsAt place part (first + k) s
+pub stands_at : (place first : ℕ) (part : Part) (ds : List PlainDeclaration) (k : ℕ) (s : Standing) → slice_get (standing_from place part first ds) k ≡ Some s → StandsAt place part (first + k) s
 unfolding standing_from
 stands_at place first part [] k s h = absurd (none-some s h)
 stands_at place first part (d ∷ ds) zero s h =
@@ -64,7 +64,7 @@ stands_at place first part (d ∷ ds) (suc k) s h =
     let next : first + 1 + k ≡ first + suc k = omega arith in
     record { place = rest.place; part = rest.part; index = rest.index ∙ next }
 
-stands_count : (place first : ℕ) (part : Part) (ds : List PlainDeclaration) → length (standing_from place part first ds) ≡ length ds
+pub stands_count : (place first : ℕ) (part : Part) (ds : List PlainDeclaration) → length (standing_from place part first ds) ≡ length ds
 unfolding standing_from
 stands_count place first part [] = refl
 stands_count place first part (d ∷ ds) = ap suc (stands_count place (first + 1) part ds)
@@ -92,7 +92,7 @@ abbrev pub at_number : List ModuleParts → Standing → DeclAt
 at_number program s = record { «module» = s.place; decl = number_of program s }
 
 -- what stands in a module at a place is of that place
-of_place : (place : ℕ) (m : ModuleParts) (k : ℕ) (s : Standing) → slice_get (module_standing place m) k ≡ Some s → s.place ≡ place
+pub of_place : (place : ℕ) (m : ModuleParts) (k : ℕ) (s : Standing) → slice_get (module_standing place m) k ≡ Some s → s.place ≡ place
 of_place place m k s h = by (in_either (standing_from place Interface 0 (declarations_in m.interface)) (body_standing place m) k s h)
   where
     by : (slice_get (standing_from place Interface 0 (declarations_in m.interface)) k ≡ Some s) ⊎ ((j : ℕ) × (k ≡ length (standing_from place Interface 0 (declarations_in m.interface)) + j) × (slice_get (body_standing place m) j ≡ Some s))
@@ -113,7 +113,7 @@ stands_itself program place m k s here h =
 abbrev pub IsThere : List ModuleParts → ℕ → Standing → Type 0
 IsThere program place s = (m : ModuleParts) × (k : ℕ) × (slice_get program place ≡ Some m) × (slice_get (module_standing place m) k ≡ Some s)
 
-there : (program : List ModuleParts) (place number : ℕ) (s : Standing) (found : Option ModuleParts) → slice_get program place ≡ found → standing_in place number found ≡ Some s → IsThere program place s
+pub there : (program : List ModuleParts) (place number : ℕ) (s : Standing) (found : Option ModuleParts) → slice_get program place ≡ found → standing_in place number found ≡ Some s → IsThere program place s
 there program place number s None is h = absurd (none-some s h)
 there program place number s (Some m) is h = (m, number, is, h)
 

@@ -6,6 +6,7 @@ use Rattle.au_syntax.specs.declared.declarations.Universe.{Universe}
 use Rattle.au_syntax.specs.declared.declarations.Universe.TheVariants as universes
 use Rattle.au_syntax.specs.declared.modules.Part.{Part}
 use Rattle.au_syntax.specs.declared.modules.Part.TheVariants.{Interface, Body}
+use Rattle.au_syntax.specs.declared.types.Access.TheVariants as accesses
 use Rattle.au_syntax.specs.Expressions.{nil}
 use Rattle.au_syntax.specs.Modules.{Constrained, Header, Importing, InUniverse, Variant}
 use Rattle.au_syntax.specs.Modules.{class, constant, constant_body, function, function_body}
@@ -16,7 +17,10 @@ use Rattle.au_syntax.specs.Statements.{no_statements}
 use Rattle.au_syntax.specs.Types as written
 use Rattle.au_syntax.specs.Types.{Labelled, WrittenType, WrittenTypes}
 use Rattle.au_types.specs.declared.types.DeclAt.{DeclAt}
-use Rattle.au_types.specs.Types.{Meaning, integer, named, parameter, unit, of_type, arguments, no_arguments}
+use Rattle.au_types.specs.declared.types.Region.{Region}
+use Rattle.au_types.specs.declared.types.Region.TheVariants as regions
+use Rattle.au_types.specs.Types.{Meaning, integer, named, parameter, reads, unit}
+use Rattle.au_types.specs.Types.{arguments, in_region, no_arguments, of_type}
 use Rattle.au_modules.specs.Programs.{Entry, ModuleParts}
 use Rattle.au_names.specs.declared.targets.Target.{Target}
 use Rattle.au_generics.specs.Bounds.{Bounded}
@@ -36,6 +40,10 @@ plain name = written.named (put name) written.no_types
 
 abbrev pub over : Bytes → WrittenType → WrittenType
 over name one = written.named (put name) (written.types one written.no_types)
+
+-- a reference for reading
+abbrev pub read_of : WrittenType → Bytes → WrittenType
+read_of t region = written.reference here accesses.Read t (put region)
 
 abbrev pub labelled : Bytes → WrittenType → Labelled Bytes
 labelled name t = record { name = put name; of = t }
@@ -136,6 +144,13 @@ import_of_store = record {
       ∷ [];
 }
 
+-- a record over a region, which has the name of the type that isn't imported under its own
+abbrev pub main_body : List PlainDeclaration
+main_body =
+    record_type here (put (codes "Point")) (in_universe (codes "R") universes.Region ∷ []) universes.Free
+    (labelled (codes "behind") (read_of (plain (codes "Dot")) (codes "R")) ∷ [])
+    ∷ []
+
 abbrev pub program : List ModuleParts
 program =
     record {
@@ -151,7 +166,7 @@ program =
     ∷ record {
       name = codes "Main";
       interface = None;
-      body = Some (a_file Body (codes "Main") (import_of_store ∷ []) []);
+      body = Some (a_file Body (codes "Main") (import_of_store ∷ []) main_body);
     }
     ∷ []
 
@@ -175,6 +190,9 @@ pair_of one = named (place 1 0) (arguments (of_type one) no_arguments)
 
 abbrev pub point : Meaning
 point = named (place 1 1) no_arguments
+
+abbrev pub lent_point : Region → Meaning
+lent_point region = named (place 2 0) (arguments (in_region region) no_arguments)
 
 abbrev pub typed : Bytes → Meaning → Typed
 typed name of = record { name = name; of = of }
@@ -214,9 +232,27 @@ pair_maker = called any_type (typed (codes "left") t ∷ typed (codes "right") p
 abbrev pub point_maker : Option Callable
 point_maker = called [] (typed (codes "x") nat8 ∷ typed (codes "y") (option_of nat8) ∷ []) point None
 
+abbrev pub over_region : List Bounded
+over_region = record {
+  parameter = record { name = codes "R"; universe = universes.Region };
+  classes = [];
+} ∷ []
+
+-- its field
+abbrev pub behind : Region → List Typed
+behind region = typed (codes "behind") (reads point region) ∷ []
+
+abbrev pub lent_maker : Option Callable
+lent_maker =
+    called over_region (behind (regions.Named (codes "R"))) (lent_point (regions.Named (codes "R"))) None
+
 -- a parameter of the type of the type parameter
 abbrev pub one_t : List Typed
 one_t = typed (codes "t") t ∷ []
+
+-- the type parameter of the class and the class
+abbrev pub of_shown : Option (Bytes × DeclAt)
+of_shown = Some (codes "T", place 0 1)
 
 abbrev pub callable_examples : List CallableExample
 callable_examples =
@@ -227,12 +263,13 @@ callable_examples =
     -- that of a record, under the name that an import gives it
     ∷ call_of 1 Body (codes "Point") point_maker
     ∷ call_of 2 Body (codes "Dot") point_maker
-    ∷ call_of 2 Body (codes "Point") None
+    -- that of another record, over a region
+    ∷ call_of 2 Body (codes "Point") lent_maker
     -- the cases of a union
     ∷ call_of 2 Body (codes "None") (called any_type [] (option_of t) None)
     ∷ call_of 1 Interface (codes "Some") (called any_type (typed (codes "value") t ∷ []) (option_of t) None)
     -- a method
-    ∷ call_of 2 Body (codes "show") (called (bounded universes.Free []) one_t unit (Some (codes "T", place 0 1)))
+    ∷ call_of 2 Body (codes "show") (called (bounded universes.Free []) one_t unit of_shown)
     -- a function, with the class of its type parameter
     ∷ call_of 2 Body (codes "same") (called (bounded universes.Free (place 0 1 ∷ [])) one_t t None)
     -- a type alone, a constant, what means nothing, and a module that isn't there
@@ -302,6 +339,8 @@ field_examples =
     -- a record, also where its name isn't imported
     ∷ fields_at 2 point (Some (typed (codes "x") nat8 ∷ typed (codes "y") (option_of nat8) ∷ []))
     ∷ fields_at 0 point (Some (typed (codes "x") nat8 ∷ typed (codes "y") (option_of nat8) ∷ []))
+    -- a record over a region
+    ∷ fields_at 1 (lent_point regions.Static) (Some (behind regions.Static))
     -- no record
     ∷ fields_at 2 (option_of nat8) None
     ∷ fields_at 2 nat8 None

@@ -14,6 +14,7 @@ use Rattle.au_types.specs.Types.{Meaning, Arguments, named, no_arguments, argume
 use Rattle.au_matching.specs.Bindings.{Bindings, with_pair}
 use Rattle.au_matching.specs.Substituted.{substituted}
 use Rattle.au_modules.specs.Programs.{ModuleParts}
+use Rattle.au_names.specs.declared.targets.Target.{Target}
 use Rattle.au_names.specs.Owned.{declarations_in, target}
 use Rattle.au_names.specs.Standing.{Standing, definition_of, opaque_name, standing_at}
 use Rattle.au_generics.specs.Meanings.{parameter}
@@ -90,10 +91,14 @@ number_of program d = number_in (slice_get program d.place) d.part d.index
 
 -- in a declaration of a program
 module _ (program : List ModuleParts) (d : Standing) (params : List Parameter) (args : Arguments) where
-  -- a case, with the target that a name which means it has
+  -- what a name of a case means
+  abbrev pub case_target : Variant Bytes → Target
+  case_target v = target d.place v.name.name (number_of program d)
+
+  -- a case
   abbrev pub case_under : Variant Bytes → Option Case
   case_under v =
-      option_map (λ fields. record { target = target d.place v.name.name (number_of program d); fields = fields })
+      option_map (λ fields. record { target = case_target v; fields = fields })
       (fields_under program d params args v.fields)
 
   -- cases in order, where all types of fields mean something

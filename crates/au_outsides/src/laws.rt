@@ -5,13 +5,15 @@ ghost use Rattle.std.specs.Str.{bytes_eq};
 ghost use Rattle.au_generics.specs.Bounds.{parameters};
 ghost use Rattle.au_modules.specs.Programs.{ModuleParts};
 ghost use Rattle.au_names.specs.Owned.{own};
-ghost use Rattle.au_names.specs.Standing.{Standing, opaque_name, standing_at, whole_name};
+ghost use Rattle.au_names.specs.Standing.{Standing, definition_of, opaque_name, standing_at, whole_name};
 ghost use Rattle.au_names.specs.declared.targets.Target.{Target};
 ghost use Rattle.au_outsides.specs.Called.{as_arguments, callable_at};
 ghost use Rattle.au_outsides.specs.Examples.{callable_examples, cases_examples, constant_examples};
 ghost use Rattle.au_outsides.specs.Examples.{field_examples, program, target_examples};
-ghost use Rattle.au_outsides.specs.Insides.{cases_of, fields_of, known_definition, typed_under, with_arguments};
+ghost use Rattle.au_outsides.specs.Insides.{cases_of, fields_of, known_definition};
+ghost use Rattle.au_outsides.specs.Insides.{typed_under, with_arguments};
 ghost use Rattle.au_outsides.specs.Outsides.{outside_of};
+ghost use Rattle.au_outsides.specs.Written.{seen_at};
 ghost use Rattle.au_scopes.specs.Scopes.{Callable, Case, Outside, Typed};
 ghost use Rattle.au_syntax.specs.Parts.{Each};
 ghost use Rattle.au_syntax.specs.Plain.{Bytes};
@@ -19,6 +21,7 @@ ghost use Rattle.au_syntax.specs.declared.modules.Part.TheVariants.{Body};
 ghost use Rattle.au_syntax.specs.declared.modules.Part.{Part as ThePart};
 ghost use Rattle.au_tables.specs.Tables.{find};
 ghost use Rattle.au_tables.specs.declared.spaces.Space.TheVariants as spaces;
+ghost use Rattle.au_tables.specs.declared.spaces.Space.{Space as TheSpace};
 ghost use Rattle.au_types.specs.Types.{Arguments, named};
 ghost use Rattle.au_types.specs.declared.types.DeclAt.{DeclAt};
 
@@ -57,8 +60,8 @@ pub fn makers_make_the_types_of_their_names()
         → c.result ≡ named meaning.at (as_arguments (parameters c.generics)) }
 {}
 
-/// The fields of a record that is known are the parameters of what makes it, with the arguments of the type in
-/// the places of its type parameters.
+/// The fields of a record that is known are the parameters of what makes it, with the arguments of the type
+/// in the places of its type parameters.
 pub fn fields_are_the_parameters_of_makers()
     ensures { (program : List ModuleParts) (place : ℕ) (at : DeclAt) (args : Arguments) (d : Standing)
         (target : Target) (c : Callable) (fields : List Typed)
@@ -77,8 +80,8 @@ pub fn cases_lead_to_their_unions()
         → Each (λ one. standing_at program one.target.at ≡ Some d) cases }
 {}
 
-/// The fields of a case of a union that is known are the parameters of what makes it, with the arguments of the
-/// type in the places of its type parameters.
+/// The fields of a case of a union that is known are the parameters of what makes it, with the arguments of
+/// the type in the places of its type parameters.
 pub fn fields_of_cases_are_the_parameters_of_makers()
     ensures { (program : List ModuleParts) (place : ℕ) (at : DeclAt) (args : Arguments) (d : Standing)
         (target : Target) (c : Callable) (cases : List Case) (one : Case)
@@ -96,4 +99,23 @@ pub fn opaque_types_are_closed_elsewhere()
         → standing_at program at ≡ Some d → opaque_name d.says ≡ Some name → (place == d.place) ≡ false
         → (fields_of program place (named at args) ≡ None)
         × (cases_of program place (named at args) ≡ None) }
+{}
+
+/// What a name means that stands in the body of a module, and not in its interface, is of the module itself.
+pub fn bodies_are_hidden_elsewhere()
+    ensures { (program : List ModuleParts) (place : ℕ) (part : ThePart) (space : TheSpace) (name : Bytes)
+        (meaning : Target) (d : Standing)
+        → find name (seen_at space program place part) ≡ Some meaning
+        → standing_at program meaning.at ≡ Some d → d.part ≡ Body → d.place ≡ place }
+{}
+
+/// What makes the values of an opaque type is known in its module alone: the constructor of its record and
+/// the cases of its union.
+pub fn makers_of_opaque_types_are_hidden_elsewhere()
+    ensures { (program : List ModuleParts) (place : ℕ) (part : ThePart) (name owner : Bytes)
+        (meaning : Target) (at : DeclAt) (s d : Standing)
+        → standing_at program at ≡ Some s → opaque_name s.says ≡ Some owner
+        → definition_of program at ≡ Some d
+        → (outside_of program place part).target name ≡ Some meaning
+        → standing_at program meaning.at ≡ Some d → s.place ≡ place }
 {}

@@ -20,7 +20,7 @@ returns-clause-targets c = (refl, (refl, (refl, (refl, tt))))
 
 pub returns-clause-fields : goal.returns-clause-fields
 unfolding firsts numbered names_in rows_from meant all_given standing_from
-returns-clause-fields c = (refl, (refl, (refl, (refl, (refl, (refl, tt))))))
+returns-clause-fields c = (refl, (refl, (refl, (refl, (refl, (refl, (refl, tt)))))))
 
 pub returns-clause-cases : goal.returns-clause-cases
 unfolding firsts numbered names_in rows_from meant all_given standing_from
