@@ -1,0 +1,4 @@
+pub mod NumberLemmas
+pub mod MakerLemmas
+pub mod CaseLemmas
+pub mod OfferedLemmas

@@ -1,0 +1,5 @@
+pub mod Written
+pub mod Called
+pub mod Insides
+pub mod Outsides
+pub mod Examples
