@@ -1,1 +1,7 @@
+pub mod CallLemmas
+pub mod CloseLemmas
+pub mod FillLemmas
+pub mod FrameLemmas
+pub mod PartLemmas
+pub mod PutLemmas
 pub mod StoreLemmas

@@ -64,12 +64,13 @@ impl World {
     }
 }
 
-/// Puts what there is of a birth.
+/// Puts what there is of a birth, if it is there.
 pub(crate) fn put_held(births: &mut Vec<Held>, index: usize, held: Held)
-    requires { index < length births.old.items }
     ensures { map held_of births.new.items ≡ slice_set (map held_of births.old.items) index (held_of held) }
 {
-    births[index] = held;
+    if index < births.len() {
+        births[index] = held;
+    }
 }
 
 /// Takes the elements of a buffer, of which nothing is left then. Where there are none, nothing changes.

@@ -7,7 +7,7 @@ ghost use Rattle.au_effects.specs.Worlds as effect;
 ghost use Rattle.au_effects.specs.Calls as call;
 ghost use Rattle.au_cells.specs.Cells.{low, lows};
 ghost use Rattle.au_low.specs.Machines.{LowWorld};
-ghost use Rattle.au_stores.specs.Stores.{world_of, held_of, top_frame, reached_by, elements_of, held_elements, inserted};
+ghost use Rattle.au_stores.specs.Stores.{world_of, held_of, top_frame, reached_by, elements_of, held_elements, count_in, inserted};
 ghost use Rattle.au_stores.specs.Answers.{answer_of, given_or};
 ghost use Rattle.au_stores.specs.declared.answers.Answered.TheVariants.{NoRule};
 
@@ -202,7 +202,7 @@ impl World {
 
     /// How many elements the buffer of a birth has.
     fn element_count(&self, id: u64) -> Option<usize>
-        ensures { result ≡ option_map (λ (values : List Low). length values) (elements_of id (world_of self.now)) }
+        ensures { result ≡ count_in (elements_of id (world_of self.now)) }
     {
         let cells = self.elements(id)?;
         Some(cells.len())

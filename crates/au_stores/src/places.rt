@@ -1,6 +1,6 @@
 //! Places, and what they hold.
 
-ghost use Rattle.std.specs.Prelude.{◌≡◌, ◌<◌, ◌++◌, ◌↔◌, IsNone, IsTrue, IsFalse, IfOk, OnOk};
+ghost use Rattle.std.specs.Prelude.{◌≡◌, ◌<◌, [], nat_lt, IsNone, IsFalse, IfOk, OnOk};
 ghost use Rattle.std.specs.Option.{option_map, option_copied};
 ghost use Rattle.au_effects.specs.Values.{content_of};
 ghost use Rattle.au_effects.specs.Places as effect;
@@ -126,7 +126,7 @@ impl World {
 
     /// Whether the frame of a number has a slot.
     fn has_name(&self, frame: usize, slot: u32) -> bool
-        ensures { IsTrue result ↔ (slot < slot_count frame (world_of self.now)) }
+        ensures { result ≡ nat_lt slot (slot_count frame (world_of self.now)) }
     {
         let depth = self.slots.depth();
         if frame == depth {
