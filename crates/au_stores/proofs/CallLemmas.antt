@@ -1,10 +1,11 @@
 -- Shipped calls on boxes and buffers, by what their references reach.
-use Rattle.std.proofs.Common.{◌≡◌, ℕ, zero, suc, ◌+◌, ◌-◌, ◌<◌, true, List, [], ◌∷◌, ◌++◌, length, take, get_or, Option, Some, None, is_some, pos, slice_get, slice_set, refl, sym, ap, ◌∙◌, arith}
+use Rattle.std.proofs.Common.{◌≡◌, ℕ, zero, suc, ◌+◌, ◌-◌, ◌<◌, true, List, [], ◌∷◌, ◌++◌, length, take, get_or, Option, Some, None, is_some, IsSome, codes, pos, slice_get, slice_set, refl, sym, ap, ◌∙◌, arith}
 use Rattle.std.specs.Option.{option_map}
 use Rattle.std.proofs.lemmas.Option.{slice_get-get_or}
+use Rattle.std.proofs.lemmas.List.{length-map}
 use Rattle.au_base.specs.declared.kinds.IntKind.TheVariants.{Index}
 use Rattle.au_shipped.specs.declared.prims.AbortKind.TheVariants as kind
-use Rattle.au_effects.specs.Values.{Place, unit, number}
+use Rattle.au_effects.specs.Values.{Place, unit, number, terminal}
 use Rattle.au_effects.specs.Parts.{along}
 use Rattle.au_effects.specs.Worlds as effect
 use Rattle.au_effects.specs.Places.{at}
@@ -12,7 +13,8 @@ use Rattle.au_effects.specs.Answers as answer
 use Rattle.au_effects.specs.Calls as call
 use Rattle.au_low.specs.Machines.{Low, LowWorld}
 use Rattle.au_cells.specs.declared.cells.Cell.{Cell}
-use Rattle.au_cells.specs.Cells.{low}
+use Rattle.au_cells.specs.Cells.{low, lows}
+use Rattle.au_cells.proofs.PartLemmas.{get_low}
 use Rattle.au_stores.specs.Stores.{reached_by, held_elements, elements_of, count_in, with_more}
 use Rattle.au_stores.specs.Answers.{answer_of, given_or}
 
@@ -23,18 +25,18 @@ Comes = answer.Answer ℕ ℕ
 -- a use of a reference that reaches a value of a form
 module _ {A : Type 0} (form : Low → Option A) (w : LowWorld) (go : ℕ → A → Comes) where
   reached_found : (borrow : ℕ) (found : Option A)
-      → call.given (along found (λ one. Some (borrow, one))) (λ one. go one.0 one.1) ≡ call.given found (go borrow)
+      → call.given {A = ℕ × A} (along found (λ one. Some (borrow, one))) (λ one. go one.0 one.1) ≡ call.given found (go borrow)
   reached_found borrow None = refl
   reached_found borrow (Some one) = refl
 
   reached_held : (borrow : ℕ) (found : Option Low)
-      → call.given (along found (λ held. along (form held) (λ one. Some (borrow, one)))) (λ one. go one.0 one.1)
+      → call.given {A = ℕ × A} (along found (λ held. along (form held) (λ one. Some (borrow, one)))) (λ one. go one.0 one.1)
       ≡ call.given found (λ held. call.given (form held) (go borrow))
   reached_held borrow None = refl
   reached_held borrow (Some held) = reached_found borrow (form held)
 
   reached_lent : (found : Option (ℕ × Place))
-      → call.given (along found (λ one. along (at one.1 w) (λ held. along (form held) (λ x. Some (one.0, x))))) (λ one. go one.0 one.1)
+      → call.given {A = ℕ × A} (along found (λ one. along (at one.1 w) (λ held. along (form held) (λ x. Some (one.0, x))))) (λ one. go one.0 one.1)
       ≡ call.given found (λ one. call.given (at one.1 w) (λ held. call.given (form held) (go one.0)))
   reached_lent None = refl
   reached_lent (Some one) = reached_held one.0 (at one.1 w)
@@ -89,16 +91,6 @@ length_is value w after borrow id n h is told =
     ap (answer.gives (number Index (pos n))) told
     ∙ ap (λ m. answer.gives (number Index (pos m)) (effect.tells (effect.used borrow) w)) found.2
     ∙ buffer_some value w (λ id values told. answer.gives (number Index (pos (length values))) told) borrow id found.0 h found.1
-
-no_count : (found : Option (List Low)) → None ≡ count_in found → None ≡ found
-no_count None h = refl
-no_count (Some values) h = cc
-
-pub length_none : (value : Low) (w : LowWorld) (borrow id : ℕ)
-    → Some (borrow, id) ≡ reached_by call.buffer_in value w → None ≡ count_in (elements_of id w)
-    → answer.none ≡ call.length_call w value
-length_none value w borrow id h is =
-    elements_none value w (λ id values told. answer.gives (number Index (pos (length values))) told) borrow id h (no_count (elements_of id w) is)
 
 -- an element behind the others
 pub insert_is : (value new : Low) (w after : LowWorld) (borrow id : ℕ) (births : List (effect.Held ℕ)) (found : Option (List Low))
@@ -189,17 +181,52 @@ destroyed_if w after id n (Some []) is none ended = ap (answer.gives unit) ended
 destroyed_if w after id n (Some (value ∷ values)) is none ended =
     let size : n ≡ length (value ∷ values) = cc in absurd (omega (arith, size, none))
 
-kept_if : (w : LowWorld) (id n : ℕ) (found : Option (List Low)) → Some n ≡ count_in found → 0 < n
-    → answer.aborts answer.not_empty w ≡ call.given found (λ values. call.buffer_ended id values w)
-kept_if w id n None is some = cc
-kept_if w id n (Some []) is some = let size : n ≡ 0 = cc in absurd (omega (arith, size, some))
-kept_if w id n (Some (value ∷ values)) is some = refl
-
 pub destroyed : (w after : LowWorld) (id n : ℕ) → Some n ≡ count_in (elements_of id w) → n ≡ 0
     → after ≡ effect.ends id w
     → answer.gives unit after ≡ call.given (elements_of id w) (λ values. call.buffer_ended id values w)
 destroyed w after id n is none ended = destroyed_if w after id n (elements_of id w) is none ended
 
-pub not_destroyed : (w : LowWorld) (id n : ℕ) → Some n ≡ count_in (elements_of id w) → 0 < n
-    → answer.aborts answer.not_empty w ≡ call.given (elements_of id w) (λ values. call.buffer_ended id values w)
-not_destroyed w id n is some = kept_if w id n (elements_of id w) is some
+-- the first of the values
+lows_take : (n : ℕ) (cells : List Cell) → lows (take n cells) ≡ take n (lows cells)
+lows_take zero cells = refl
+lows_take (suc n) [] = refl
+lows_take (suc n) (cell ∷ cells) = ap (λ (values : List Low). low cell ∷ values) (lows_take n cells)
+
+-- the last cell
+pub popped_last : (before : List Cell) (last : Option Cell) (n : ℕ) → n ≡ length before
+    → ((d : Cell) → 0 < n → last ≡ Some (get_or before (n - 1) d)) → (IsSome last → 0 < n)
+    → option_map low last ≡ slice_get (lows before) (length (lows before) - 1)
+popped_last [] None n size is some = refl
+popped_last [] (Some cell) n size is some = absurd (omega (arith, size, some refl))
+popped_last (one ∷ before) last n size is some =
+    let cells = one ∷ before in
+    let within : n - 1 < length cells = omega (arith, size) in
+    ap (option_map low) (is one (omega (arith, size)))
+    ∙ ap (option_map low) (sym (slice_get-get_or cells (n - 1) one within))
+    ∙ sym (get_low cells (n - 1))
+    ∙ ap (λ m. slice_get (lows cells) (m - 1)) (size ∙ sym (length-map cells low))
+
+pub popped_rest : (before after : List Cell) (n : ℕ) → n ≡ length before → after ≡ take (n - 1) before
+    → lows after ≡ take (length (lows before) - 1) (lows before)
+popped_rest before after n size is =
+    ap lows is ∙ lows_take (n - 1) before
+    ∙ ap (λ m. take (m - 1) (lows before)) (size ∙ sym (length-map before low))
+
+-- a copy of an element, or an abort, is an answer
+pub copied_rule : (found : Option Low) (w : LowWorld) → answer.none ≡ call.element_copied found w → ⊥
+copied_rule None w h = cc
+copied_rule (Some value) w h = cc
+
+-- a terminal is born
+pub terminal_is : (value : Low) (w mid after : LowWorld) (of borrow id n : ℕ)
+    → Some (borrow, id) ≡ reached_by call.root_in value w → mid ≡ effect.tells (effect.used borrow) w
+    → n ≡ length mid.births → after ≡ effect.bears of (codes "Standard.IO.Terminal") effect.nothing mid
+    → answer.gives (terminal n) after ≡ call.acquire_terminal (Some of) w value
+terminal_is value w mid after of borrow id n h told size born =
+    let gives : ℕ → Comes = λ b. answer.gives (terminal (length w.births))
+    (effect.bears of (codes "Standard.IO.Terminal") effect.nothing (effect.tells (effect.used b) w)) in
+    ap (λ m. answer.gives (terminal m) after) (size ∙ ap (λ (v : LowWorld). length v.births) told)
+    ∙ ap (answer.gives (terminal (length w.births)))
+    (born ∙ ap (effect.bears of (codes "Standard.IO.Terminal") effect.nothing) told)
+    ∙ ap (λ (found : Option (ℕ × ℕ)). call.given found (λ one. gives one.0)) h
+    ∙ use_is call.root_in w (λ b root. gives b) value

@@ -44,12 +44,11 @@ fn fill_given(piles: &mut Piles<Option<Cell>>, values: &mut Vec<Cell>) -> Result
     Ok(())
 }
 
-/// Puts empty slots upon a pile, until it has so many.
-fn fill_empty(piles: &mut Piles<Option<Cell>>, slots: usize) -> Result<(), Memory>
-    ensures { OnOk result (piles.new
-        ≡ (piles.old.0 ++ replicate (slots - length piles.old.0) None, piles.old.1)) }
+/// Puts so many empty slots upon a pile.
+fn fill_empty(piles: &mut Piles<Option<Cell>>, count: usize) -> Result<(), Memory>
+    ensures { OnOk result (piles.new ≡ (piles.old.0 ++ replicate count None, piles.old.1)) }
 {
-    for _slot in piles.top().len()..slots {
+    for _slot in 0..count {
         piles.push(None)?;
     }
     Ok(())
@@ -100,8 +99,11 @@ impl World {
         ensures kept { IsFalse result → world_of self.new ≡ world_of self.old }
         ensures frame { top_frame self.new ≡ top_frame self.old }
     {
+        if values.is_empty() {
+            return true;
+        }
         let from = slot as usize;
-        if !values.is_empty() && self.slots.top().len() < from + values.len() {
+        if self.slots.top().len() < from + values.len() {
             return false;
         }
         let mut at = from;
@@ -149,8 +151,10 @@ impl World {
         ensures frame { OnOk result (top_frame self.new ≡ top_frame self.old + 1) }
     {
         self.slots.begin()?;
+        let count = arguments.len();
         fill_given(&mut self.slots, arguments)?;
-        fill_empty(&mut self.slots, slots as usize)
+        fill_empty(&mut self.slots, (slots as usize).saturating_sub(count))?;
+        Ok(())
     }
 
     /// Ends the running frame, and drops what its slots hold.
