@@ -1,7 +1,7 @@
 -- Borrows that are closed, the newest first.
-use Rattle.std.proofs.Common.{◌≡◌, ℕ, suc, ◌+◌, ◌-◌, ◌<◌, ◌≤◌, List, [], ◌∷◌, ◌++◌, length, reverse, take, drop, refl, sym, ap, subst, ◌∙◌, arith}
+use Rattle.std.proofs.Common.{◌≡◌, ℕ, suc, ◌-◌, ◌<◌, ◌≤◌, List, [], ◌∷◌, ◌++◌, length, reverse, take, drop, sym, ap, subst, ◌∙◌, arith}
 use Rattle.std.proofs.lemmas.List.{reverse-append, length-append}
-use Rattle.au_effects.specs.Worlds.{tells, closed, closes}
+use Rattle.au_effects.specs.Worlds.{closes}
 use Rattle.au_low.specs.Machines.{LowWorld}
 
 newest : (items : List ℕ) (one : ℕ) → reverse (items ++ one ∷ []) ≡ one ∷ reverse items

@@ -1,6 +1,6 @@
 -- Parts that are missing, and parts behind others.
 use Rattle.std.proofs.Common.{◌≡◌, ℕ, zero, suc, List, [], ◌∷◌, ◌++◌, Option, Some, None, refl, ap}
-use Rattle.au_effects.specs.Values.{Value, Fields, made, no_fields, field_then}
+use Rattle.au_effects.specs.Values.{Fields, made, no_fields, field_then}
 use Rattle.au_effects.specs.Parts.{along, nth_field, field, part, with_nth, with_field, with_part}
 use Rattle.au_low.specs.Machines.{Low}
 

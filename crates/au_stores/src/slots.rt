@@ -99,11 +99,12 @@ impl World {
         ensures kept { IsFalse result → world_of self.new ≡ world_of self.old }
         ensures frame { top_frame self.new ≡ top_frame self.old }
     {
-        if values.is_empty() {
+        let count = values.len();
+        if count == 0 {
             return true;
         }
         let from = slot as usize;
-        if self.slots.top().len() < from + values.len() {
+        if self.slots.top().len() < from + count {
             return false;
         }
         let mut at = from;

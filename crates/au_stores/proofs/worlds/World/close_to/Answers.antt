@@ -1,5 +1,5 @@
 -- The newest borrow is closed first.
-use Rattle.std.proofs.Common.{◌≡◌, ◌<◌, List, length, arith, ap, ◌∙◌}
+use Rattle.std.proofs.Common.{◌<◌, List, length, arith, ap, ◌∙◌}
 use Rattle.au_stores.specs.Stores.{world_of}
 use Rattle.au_stores.proofs.CloseLemmas.{closed_first, left_same}
 use Rattle.au_stores.proofs.worlds.World.close_to.Goals as goal

@@ -1,10 +1,8 @@
 -- The slot is emptied, and gets what it held, with the part that was put.
-use Rattle.std.proofs.Common.{◌≡◌, ◌<◌, Option, Some, None, true, nat_lt, arith, ap, sym, ◌∙◌}
+use Rattle.std.proofs.Common.{Some, None, arith, ap, sym, ◌∙◌}
 use Rattle.std.proofs.lemmas.Bool.{ltb-true}
-use Rattle.std.specs.Option.{option_map}
-use Rattle.au_effects.specs.Parts.{with_part}
 use Rattle.au_effects.specs.Places.{name_set}
-use Rattle.au_low.specs.Machines.{Low, LowWorld}
+use Rattle.au_low.specs.Machines.{Low}
 use Rattle.au_cells.specs.Cells.{low}
 use Rattle.au_stores.specs.Stores.{world_of, slot_place, slot_count}
 use Rattle.au_stores.proofs.FillLemmas.{count_set}

@@ -1,5 +1,5 @@
 -- The frame of a number is so far below the running one.
-use Rattle.std.proofs.Common.{◌≡◌, ◌<◌, ◌≤◌, ◌-◌, List, Option, nat_lt, length, slice_get, arith, ap, sym, ◌∙◌}
+use Rattle.std.proofs.Common.{◌<◌, ◌-◌, nat_lt, slice_get, arith, ap, sym, ◌∙◌}
 use Rattle.std.proofs.lemmas.Bool.{le-ltb}
 use Rattle.au_stores.specs.Stores.{top_frame}
 use Rattle.au_stores.proofs.FrameLemmas.{count_none, count_found, count_missing}

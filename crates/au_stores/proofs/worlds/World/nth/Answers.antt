@@ -1,4 +1,4 @@
-use Rattle.std.proofs.Common.{◌≡◌, slice_get, ap, sym, ◌∙◌}
+use Rattle.std.proofs.Common.{slice_get, ap, sym, ◌∙◌}
 use Rattle.au_cells.specs.Cells.{lows}
 use Rattle.au_stores.specs.declared.answers.Answered.{Answered}
 use Rattle.au_stores.specs.Stores.{world_of}

@@ -1,6 +1,5 @@
 -- The last element is taken of the elements, and the others are put back.
-use Rattle.std.proofs.Common.{◌≡◌, length, map, arith, ap, ◌∙◌}
-use Rattle.au_shipped.specs.declared.prims.AbortKind.TheVariants as kind
+use Rattle.std.proofs.Common.{◌≡◌, length, map, ap, ◌∙◌}
 use Rattle.au_effects.specs.Worlds as effect
 use Rattle.au_cells.specs.Cells.{low, lows}
 use Rattle.au_stores.specs.declared.answers.Answered.{Answered}

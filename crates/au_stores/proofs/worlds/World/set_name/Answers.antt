@@ -1,5 +1,5 @@
 -- The frame of a number is so far below the running one.
-use Rattle.std.proofs.Common.{◌≡◌, ◌<◌, ◌≤◌, ◌-◌, List, Option, length, slice_get, arith, ap, sym, ◌∙◌}
+use Rattle.std.proofs.Common.{◌≡◌, ◌<◌, ◌-◌, List, Option, length, slice_get, arith, ap, sym, ◌∙◌}
 use Rattle.au_cells.specs.declared.cells.Cell.{Cell}
 use Rattle.au_stores.specs.Stores.{world_of, frames_of, top_frame, slot_count}
 use Rattle.au_piles.specs.Piles.{pile_at, with_below}
