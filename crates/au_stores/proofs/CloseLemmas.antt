@@ -1,5 +1,5 @@
 -- Borrows that are closed, the newest first.
-use Rattle.std.proofs.Common.{◌≡◌, ℕ, suc, ◌-◌, ◌<◌, ◌≤◌, List, [], ◌∷◌, ◌++◌, length, reverse, take, drop, sym, ap, subst, ◌∙◌, arith}
+use Rattle.std.proofs.Common.{◌≡◌, ℕ, suc, ◌-◌, ◌<◌, List, [], ◌∷◌, ◌++◌, length, reverse, take, drop, sym, ap, subst, ◌∙◌, arith}
 use Rattle.std.proofs.lemmas.List.{reverse-append, length-append}
 use Rattle.au_effects.specs.Worlds.{closes}
 use Rattle.au_low.specs.Machines.{LowWorld}
@@ -30,13 +30,3 @@ left_same before items one count is h =
     ap (drop (suc (length items - count))) (sym (newest items one))
     ∙ ap (λ n. drop n (reverse (items ++ one ∷ []))) (sym size)
     ∙ ap (λ (xs : List ℕ). drop (length xs - count) (reverse xs)) (sym is)
-
--- where none is too many
-pub none_over : (items : List ℕ) (count : ℕ) (w : LowWorld) → length items ≤ count
-    → closes (take (length items - count) (reverse items)) w ≡ w
-none_over items count w h = let size : length items - count ≡ 0 = omega (arith, h) in
-    ap (λ n. closes (take n (reverse items)) w) size
-
-pub all_left : (items : List ℕ) (count : ℕ) → length items ≤ count
-    → drop (length items - count) (reverse items) ≡ reverse items
-all_left items count h = let size : length items - count ≡ 0 = omega (arith, h) in ap (λ n. drop n (reverse items)) size

@@ -1,18 +1,17 @@
 -- Places into which values are put.
 use Rattle.std.proofs.Common.{◌≡◌, ℕ, zero, suc, false, List, [], ◌∷◌, Option, Some, None, is_some, slice_get, slice_set, refl, sym, ap, ◌∙◌}
 use Rattle.std.specs.Option.{option_map}
-use Rattle.au_effects.specs.Values.{Base, Place, name_of, content_of}
+use Rattle.au_effects.specs.Values.{Place}
 use Rattle.au_effects.specs.Parts.{along, part, with_part}
 use Rattle.au_effects.specs.Worlds as effect
 use Rattle.au_effects.specs.Places.{content_in, name_at, with_name, name_set, base_at, base_set, set_over, exchanged}
-use Rattle.au_effects.specs.Calls.{reference_in}
 use Rattle.au_low.specs.Machines.{Low, LowWorld}
-use Rattle.au_low.specs.Instructions.{behind}
 use Rattle.au_cells.specs.declared.cells.Cell.{Cell}
 use Rattle.au_cells.specs.Cells.{low}
 use Rattle.au_stores.specs.declared.worlds.World.{World}
-use Rattle.au_stores.specs.Stores.{world_of, came_out, put_through}
+use Rattle.au_stores.specs.Stores.{world_of, came_out}
 use Rattle.au_stores.proofs.PartLemmas.{part_missing}
+use Rattle.au_stores.proofs.StoreLemmas.{set_twice}
 
 -- a slot that gets what it holds
 slots_same : (names : List (Option Low)) (slot : ℕ) (held : Option Low)
@@ -30,12 +29,6 @@ frames_same (names ∷ frames) (suc frame) slot held h =
     ap (λ (more : List (List (Option Low))). names ∷ more) (frames_same frames frame slot held h)
 
 -- a slot that is set twice
-set_twice : {X : Type 0} (xs : List X) (i : ℕ) (x y : X)
-    → slice_set (slice_set xs i x) i y ≡ slice_set xs i y
-set_twice [] i x y = refl
-set_twice (z ∷ xs) zero x y = refl
-set_twice (z ∷ xs) (suc i) x y = ap (λ (ys : List _). z ∷ ys) (set_twice xs i x y)
-
 frames_twice : (frames : List (List (Option Low))) (frame slot : ℕ) (first second : Option Low)
     → slice_set (slice_set frames frame (with_name slot first (slice_get frames frame))) frame
     (with_name slot second (slice_get (slice_set frames frame (with_name slot first (slice_get frames frame))) frame))
@@ -80,11 +73,6 @@ exchanged_is place new base old w after there is set =
     ∙ ap (λ (found : Option Low). along {B = Low × LowWorld} found (λ one. Some (one, world_of after))) is
     ∙ ap (λ (v : LowWorld). along {B = Low × LowWorld} (part place.path base) (λ one. Some (one, v))) set
     ∙ ap (set_over place new w) (sym there)
-
--- where the beginning of a place isn't there
-pub exchanged_none : (place : Place) (new : Low) (w : LowWorld) (after : World) → base_at place.base w ≡ None
-    → came_out None after ≡ exchanged place new w
-exchanged_none place new w after there = ap (set_over place new w) (sym there)
 
 low_none : (old : Option Cell) (found : Option Low) → option_map low old ≡ found → is_some old ≡ false → found ≡ None
 low_none None found is h = sym is
@@ -132,58 +120,3 @@ content_kept id path new base old births after there is missing set =
     set
     ∙ ap (λ (v : Low). slice_set births id (effect.content v)) (part_missing path new base (low_none old (part path base) is missing))
     ∙ births_same births id base there
-
--- what is told before a value is put into a place may be told after
-base_told : (deed : effect.Deed ℕ) (base : Base) (w : LowWorld) → base_at base (effect.tells deed w) ≡ base_at base w
-base_told deed (name_of frame name) w = refl
-base_told deed (content_of birth) w = refl
-
-set_told : (deed : effect.Deed ℕ) (base : Base) (value : Low) (w : LowWorld)
-    → base_set base value (effect.tells deed w) ≡ effect.tells deed (base_set base value w)
-set_told deed (name_of frame name) value w = refl
-set_told deed (content_of birth) value w = refl
-
-told_out : effect.Deed ℕ → Low × LowWorld → Low × LowWorld
-told_out deed pair = (pair.0, effect.tells deed pair.1)
-
-part_told : (deed : effect.Deed ℕ) (w : LowWorld) (found : Option Low)
-    → along {B = Low × LowWorld} found (λ one. Some (one, effect.tells deed w))
-    ≡ option_map (told_out deed) (along {B = Low × LowWorld} found (λ one. Some (one, w)))
-unfolding told_out
-part_told deed w None = refl
-part_told deed w (Some one) = refl
-
-over_told : (deed : effect.Deed ℕ) (place : Place) (value : Low) (w : LowWorld) (found : Option Low)
-    → set_over place value (effect.tells deed w) found ≡ option_map (told_out deed) (set_over place value w found)
-over_told deed place value w None = refl
-over_told deed place value w (Some base) =
-    ap (λ (v : LowWorld). along {B = Low × LowWorld} (part place.path base) (λ one. Some (one, v)))
-    (set_told deed place.base (with_part place.path value base) w)
-    ∙ part_told deed (base_set place.base (with_part place.path value base) w) (part place.path base)
-
-exchanged_told : (deed : effect.Deed ℕ) (place : Place) (value : Low) (w : LowWorld)
-    → exchanged place value (effect.tells deed w) ≡ option_map (told_out deed) (exchanged place value w)
-exchanged_told deed place value w =
-    ap (set_over place value (effect.tells deed w)) (base_told deed place.base w)
-    ∙ over_told deed place value w (base_at place.base w)
-
--- the world that is left
-left_told : (deed : effect.Deed ℕ) (found : Option (Low × LowWorld))
-    → option_map (λ (pair : Low × LowWorld). effect.tells deed pair.1) found
-    ≡ along (option_map (told_out deed) found) (λ pair. Some pair.1)
-unfolding told_out
-left_told deed None = refl
-left_told deed (Some pair) = refl
-
-pub put_through_is : (frame slot : ℕ) (path : List ℕ) (value held : Low) (w : LowWorld) (one : ℕ × Place)
-    → Some held ≡ name_at frame slot w → Some one ≡ reference_in held
-    → option_map (λ (pair : Low × LowWorld). effect.tells (effect.used one.0) pair.1) (exchanged (behind one.1 path) value w)
-    ≡ put_through frame slot path value w
-put_through_is frame slot path value held w one there is =
-    let put : ℕ × Place → Option LowWorld = λ lent. along
-    (exchanged (behind lent.1 path) value (effect.tells (effect.used lent.0) w)) (λ pair. Some pair.1) in
-    left_told (effect.used one.0) (exchanged (behind one.1 path) value w)
-    ∙ ap (λ (found : Option (Low × LowWorld)). along found (λ pair. Some pair.1))
-    (sym (exchanged_told (effect.used one.0) (behind one.1 path) value w))
-    ∙ ap (λ (found : Option (ℕ × Place)). along found put) is
-    ∙ ap (λ (found : Option Low). along (along found reference_in) put) there

@@ -1,5 +1,5 @@
 -- What shipped calls come to, as the stores answer them.
-use Rattle.std.specs.Prelude.{ℕ, Option, Some, None}
+use Rattle.std.specs.Prelude.{ℕ, Bool, true, false, [], ◌∷◌, Option, Some, None}
 use Rattle.au_shipped.specs.declared.prims.AbortKind.{AbortKind}
 use Rattle.au_shipped.specs.declared.prims.AbortKind.TheVariants as kind
 use Rattle.au_effects.specs.Answers as answer
@@ -27,3 +27,13 @@ answer_of NoRule world = answer.none
 abbrev pub given_or : Option Cell → AbortKind → Answered
 given_or None why = Aborts why
 given_or (Some cell) why = Gives cell
+
+-- whether a call waits for the next byte of the input
+abbrev pub waiting : Bool → answer.Answer ℕ ℕ
+waiting true = answer.waits
+waiting false = answer.none
+
+-- the byte that a call writes
+abbrev pub writing : Option ℕ → LowWorld → answer.Answer ℕ ℕ
+writing None world = answer.none
+writing (Some byte) world = answer.writes (byte ∷ []) world

@@ -1,4 +1,4 @@
-//! The shipped calls on places, on boxes and on the root.
+//! The shipped calls on places and on boxes.
 
 ghost use Rattle.std.specs.Prelude.{◌≡◌, [], Some, IfOk, OnOk};
 ghost use Rattle.au_effects.specs.Values.{reference, content_of};
@@ -11,7 +11,7 @@ ghost use Rattle.au_stores.specs.declared.answers.Answered.TheVariants.{NoRule};
 use crate::answers::Answered;
 use crate::worlds::{Held, World};
 use au_base::{Memory, Sequence};
-use au_cells::forms::{box_in, make_reference, reference_in, root_in};
+use au_cells::forms::{box_in, make_reference, reference_in};
 use au_cells::{Borrowed, Cell, Start};
 use std::alloc::Global;
 
@@ -93,30 +93,6 @@ impl World {
         Ok(Answered::Gives(content))
     }
 
-    /// `acquireTerminal`: the root that a reference reaches is used, and a terminal of a type is born.
-    ///
-    /// # Errors
-    ///
-    /// `Memory` when memory runs out.
-    pub fn acquire_terminal(
-        &mut self,
-        alloc: Global,
-        of: u32,
-        reference: &Cell,
-    ) -> Result<Answered, Memory>
-        ensures does { IfOk result (λ one. answer_of one (world_of self.new)
-            ≡ call.acquire_terminal (Some of) (world_of self.old) (low reference.now)) }
-        ensures stays { IfOk result (λ one. one ≡ NoRule → world_of self.new ≡ world_of self.old) }
-        ensures frame { OnOk result (top_frame self.new ≡ top_frame self.old) }
-    {
-        let Some((borrow, _root)) = self.root_reached(reference) else {
-            return Ok(Answered::NoRule);
-        };
-        self.tell_use(borrow)?;
-        let id = self.bear(alloc, of, b"Standard.IO.Terminal", Held::Nothing)?;
-        Ok(Answered::Gives(Cell::Terminal(id)))
-    }
-
     /// The borrow of a reference to a box, and the box's birth.
     fn box_reached(&self, reference: &Cell) -> Option<(u64, u64)>
         ensures { result ≡ reached_by call.box_in (low reference.now) (world_of self.now) }
@@ -124,16 +100,6 @@ impl World {
         let one = reference_in(reference)?;
         let held = self.at(one)?;
         let id = box_in(held)?;
-        Some((one.borrow, id))
-    }
-
-    /// The borrow of a reference to the root, and the root's birth.
-    fn root_reached(&self, reference: &Cell) -> Option<(u64, u64)>
-        ensures { result ≡ reached_by call.root_in (low reference.now) (world_of self.now) }
-    {
-        let one = reference_in(reference)?;
-        let held = self.at(one)?;
-        let id = root_in(held)?;
         Some((one.borrow, id))
     }
 }

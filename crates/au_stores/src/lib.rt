@@ -8,8 +8,10 @@ pub mod births;
 pub mod borrows;
 pub mod boxes;
 pub mod buffers;
+pub mod laws;
 pub mod places;
 pub mod slots;
+pub mod terminals;
 pub mod worlds;
 
 pub use answers::Answered;

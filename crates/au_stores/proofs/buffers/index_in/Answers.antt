@@ -2,7 +2,7 @@ use Rattle.std.proofs.Common.{ap, sym, ◌∙◌}
 use Rattle.au_effects.specs.Calls as call
 use Rattle.au_cells.specs.declared.cells.Cell.{Cell}
 use Rattle.au_cells.specs.Cells.{low}
-use Rattle.au_stores.proofs.IndexLemmas.{index_is, not_index}
+use Rattle.au_stores.proofs.FormLemmas.{index_is, not_index}
 use Rattle.au_stores.proofs.buffers.index_in.Goals as goal
 
 pub returns-in-Index : goal.returns-in-Index
