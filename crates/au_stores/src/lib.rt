@@ -3,9 +3,16 @@
 //! that the stores are (`specs/Stores.antt`).
 #![tactic(auto)]
 
+pub mod answers;
 pub mod births;
+pub mod borrows;
+pub mod boxes;
+pub mod buffers;
+pub mod laws;
 pub mod places;
 pub mod slots;
+pub mod terminals;
 pub mod worlds;
 
+pub use answers::Answered;
 pub use worlds::{Held, World};

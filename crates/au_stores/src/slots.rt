@@ -1,11 +1,13 @@
 //! The slots of the running frame.
 
-ghost use Rattle.std.specs.Prelude.{◌≡◌, ◌<◌, [], length, replicate, slice_get, IsTrue, ◌↔◌, OnOk, None};
+ghost use Rattle.std.specs.Prelude.{◌≡◌, ◌<◌, ◌+◌, ◌-◌, ◌++◌, [], length, map, reverse, replicate, nat_lt, slice_get, IsTrue, IsFalse, ◌↔◌, IfOk, OnOk, Some, None};
 ghost use Rattle.std.specs.Option.{option_map, option_copied};
 ghost use Rattle.au_effects.specs.Parts.{along};
+ghost use Rattle.au_effects.specs.Worlds as effect;
 ghost use Rattle.au_effects.specs.Places.{at, name_at, name_set};
-ghost use Rattle.au_cells.specs.Cells.{low};
-ghost use Rattle.au_stores.specs.Stores.{world_of, slots_of, top_frame, slot_place, with_frame, without_frames};
+ghost use Rattle.au_low.specs.Machines.{new_slots};
+ghost use Rattle.au_cells.specs.Cells.{low, lows};
+ghost use Rattle.au_stores.specs.Stores.{world_of, slots_of, top_frame, slot_place, slot_count, with_frame, without_frames, given_slots, filled, done_in};
 
 use crate::worlds::World;
 use au_base::Memory;
@@ -30,12 +32,23 @@ pub(crate) fn held(slots: &[Option<Cell>], slot: u32) -> Option<&Cell>
     }
 }
 
-/// Puts empty slots upon an empty pile.
-fn fill(piles: &mut Piles<Option<Cell>>, slots: u32) -> Result<(), Memory>
+/// Puts values into the first slots of an empty pile. They come last first, and all are taken.
+fn fill_given(piles: &mut Piles<Option<Cell>>, values: &mut Vec<Cell>) -> Result<(), Memory>
     requires { piles.old.0 ≡ [] }
-    ensures { OnOk result (piles.new ≡ (replicate slots None, piles.old.1)) }
+    ensures piles { OnOk result (piles.new ≡ (given_slots (reverse values.old.items), piles.old.1)) }
+    ensures taken { OnOk result (values.new.items ≡ []) }
 {
-    for _slot in 0..slots {
+    while let Some(value) = values.pop() {
+        piles.push(Some(value))?;
+    }
+    Ok(())
+}
+
+/// Puts so many empty slots upon a pile.
+fn fill_empty(piles: &mut Piles<Option<Cell>>, count: usize) -> Result<(), Memory>
+    ensures { OnOk result (piles.new ≡ (piles.old.0 ++ replicate count None, piles.old.1)) }
+{
+    for _slot in 0..count {
         piles.push(None)?;
     }
     Ok(())
@@ -44,7 +57,8 @@ fn fill(piles: &mut Piles<Option<Cell>>, slots: u32) -> Result<(), Memory>
 impl World {
     /// Whether the running frame has a slot.
     pub fn has_slot(&self, slot: u32) -> bool
-        ensures { IsTrue result ↔ (slot < length self.now.slots.0) }
+        ensures is { IsTrue result ↔ (slot < length self.now.slots.0) }
+        ensures world { result ≡ nat_lt slot (slot_count (top_frame self.now) (world_of self.now)) }
     {
         (slot as usize) < self.slots.top().len()
     }
@@ -77,23 +91,78 @@ impl World {
         part(self.in_slot(slot)?, path)
     }
 
-    /// Begins a frame of so many empty slots, which is then the running one.
+    /// Puts values into slots of the running frame, from one on. Where one of the slots isn't there, nothing
+    /// changes, and the values are gone.
+    pub fn fill_slots(&mut self, slot: u32, values: Vec<Cell>) -> bool
+        ensures world { done_in result self.new
+            ≡ filled (top_frame self.old) slot (lows values.items) (world_of self.old) }
+        ensures kept { IsFalse result → world_of self.new ≡ world_of self.old }
+        ensures frame { top_frame self.new ≡ top_frame self.old }
+    {
+        let count = values.len();
+        if count == 0 {
+            return true;
+        }
+        let from = slot as usize;
+        if self.slots.top().len() < from + count {
+            return false;
+        }
+        let mut at = from;
+        for value in values {
+            self.slots.put(at, Some(value));
+            at += 1;
+        }
+        true
+    }
+
+    /// Takes a value apart whose birth, if it has one, is consumed by it: its fields go to slots of the
+    /// running frame, from one on. Where one of the slots isn't there, nothing changes.
     ///
     /// # Errors
     ///
     /// `Memory` when memory runs out.
-    pub fn begin_frame(&mut self, slots: u32) -> Result<(), Memory>
-        ensures { OnOk result (world_of self.new ≡ with_frame (replicate slots None) (world_of self.old)) }
+    pub fn take_apart(
+        &mut self,
+        slot: u32,
+        birth: Option<u64>,
+        fields: Vec<Cell>,
+    ) -> Result<bool, Memory>
+        ensures world { IfOk result (λ done. done_in done self.new
+            ≡ filled (top_frame self.old) slot (lows fields.items) (effect.spends birth (world_of self.old))) }
+        ensures kept { IfOk result (λ done. IsFalse done → world_of self.new ≡ world_of self.old) }
+        ensures frame { OnOk result (top_frame self.new ≡ top_frame self.old) }
+    {
+        if !self.fill_slots(slot, fields) {
+            return Ok(false);
+        }
+        self.spend(birth)?;
+        Ok(true)
+    }
+
+    /// Begins a frame of so many slots, which is then the running one: the arguments are in the first slots,
+    /// and the others are empty. The arguments come last first, as they are popped, and all are taken.
+    ///
+    /// # Errors
+    ///
+    /// `Memory` when memory runs out.
+    pub fn begin_frame(&mut self, slots: u32, arguments: &mut Vec<Cell>) -> Result<(), Memory>
+        ensures world { OnOk result (world_of self.new
+            ≡ with_frame (new_slots slots (reverse (lows arguments.old.items))) (world_of self.old)) }
+        ensures taken { OnOk result (arguments.new.items ≡ []) }
+        ensures frame { OnOk result (top_frame self.new ≡ top_frame self.old + 1) }
     {
         self.slots.begin()?;
-        fill(&mut self.slots, slots)?;
+        let count = arguments.len();
+        fill_given(&mut self.slots, arguments)?;
+        fill_empty(&mut self.slots, (slots as usize).saturating_sub(count))?;
         Ok(())
     }
 
     /// Ends the running frame, and drops what its slots hold.
     pub fn end_frame(&mut self)
         requires { 0 < top_frame self.old }
-        ensures { world_of self.new ≡ without_frames (top_frame self.old) (world_of self.old) }
+        ensures world { world_of self.new ≡ without_frames (top_frame self.old) (world_of self.old) }
+        ensures frame { top_frame self.new + 1 ≡ top_frame self.old }
     {
         self.slots.end();
     }

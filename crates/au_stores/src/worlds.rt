@@ -4,7 +4,7 @@ ghost use Rattle.std.specs.Prelude.{◌≡◌, ◌<◌, ◌≤◌, ◌∷◌, []
 ghost use Rattle.au_base.specs.Limits.{most_name_bytes};
 ghost use Rattle.au_effects.specs.Worlds as effect;
 ghost use Rattle.au_low.specs.Runs.{first_world};
-ghost use Rattle.au_stores.specs.Stores.{world_of, held_of, deed_of};
+ghost use Rattle.au_stores.specs.Stores.{world_of, held_of, deed_of, top_frame};
 
 use au_base::{Memory, Name};
 use au_cells::Cell;
@@ -58,7 +58,8 @@ impl World {
     ///
     /// `Memory` when memory runs out.
     pub fn tell(&mut self, event: Event) -> Result<(), Memory>
-        ensures { OnOk result (world_of self.new ≡ effect.tells (deed_of event) (world_of self.old)) }
+        ensures world { OnOk result (world_of self.new ≡ effect.tells (deed_of event) (world_of self.old)) }
+        ensures frame { OnOk result (top_frame self.new ≡ top_frame self.old) }
     {
         if self.keeps {
             self.events.push(event)?;
@@ -72,7 +73,8 @@ impl World {
     ///
     /// `Memory` when memory runs out.
     pub fn spend(&mut self, birth: Option<u64>) -> Result<(), Memory>
-        ensures { OnOk result (world_of self.new ≡ effect.spends birth (world_of self.old)) }
+        ensures world { OnOk result (world_of self.new ≡ effect.spends birth (world_of self.old)) }
+        ensures frame { OnOk result (top_frame self.new ≡ top_frame self.old) }
     {
         match birth {
             None => Ok(()),
@@ -86,7 +88,8 @@ impl World {
     ///
     /// `Memory` when memory runs out.
     pub fn tell_use(&mut self, borrow: u64) -> Result<(), Memory>
-        ensures { OnOk result (world_of self.new ≡ effect.tells (effect.used borrow) (world_of self.old)) }
+        ensures world { OnOk result (world_of self.new ≡ effect.tells (effect.used borrow) (world_of self.old)) }
+        ensures frame { OnOk result (top_frame self.new ≡ top_frame self.old) }
     {
         self.tell(Event::Used(borrow))
     }
@@ -97,7 +100,8 @@ impl World {
     ///
     /// `Memory` when memory runs out.
     pub fn tell_close(&mut self, borrow: u64) -> Result<(), Memory>
-        ensures { OnOk result (world_of self.new ≡ effect.closes (borrow ∷ []) (world_of self.old)) }
+        ensures world { OnOk result (world_of self.new ≡ effect.closes (borrow ∷ []) (world_of self.old)) }
+        ensures frame { OnOk result (top_frame self.new ≡ top_frame self.old) }
     {
         self.tell(Event::Closed(borrow))
     }
@@ -110,6 +114,7 @@ impl World {
     pub fn open(&mut self) -> Result<u64, Memory>
         ensures borrow { IfOk result (λ borrow. borrow ≡ self.old.borrows) }
         ensures world { OnOk result (world_of self.new ≡ effect.opens (world_of self.old)) }
+        ensures frame { OnOk result (top_frame self.new ≡ top_frame self.old) }
     {
         let borrow = self.borrows;
         self.borrows = borrow.checked_add(1).ok_or(Memory)?;
@@ -129,6 +134,7 @@ impl World {
         ensures id { IfOk result (λ id. id ≡ length self.old.births.items) }
         ensures world { OnOk result
             (world_of self.new ≡ effect.bears of home.now (held_of held) (world_of self.old)) }
+        ensures frame { OnOk result (top_frame self.new ≡ top_frame self.old) }
     {
         let id = self.births.len() as u64;
         if self.keeps {

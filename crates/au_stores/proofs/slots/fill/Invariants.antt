@@ -1,6 +1,0 @@
-use Rattle.std.proofs.Common.{◌≡◌, replicate, None}
-use Rattle.au_stores.proofs.slots.fill.Given as goal
-
--- so many slots stand on the pile, and the piles below are as before
-abbrev pub invariant-loop-slot : goal.invariant-loop-slot
-invariant-loop-slot l = l.piles ≡ (replicate l._slot None, l.fn.piles.1)
