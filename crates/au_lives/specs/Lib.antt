@@ -1,0 +1,5 @@
+pub mod Mentions
+pub mod Paths
+pub mod Scopes
+pub mod Lives
+pub mod Examples
