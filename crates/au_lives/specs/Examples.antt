@@ -1,5 +1,5 @@
 -- Expressions with their mentions of x, and three bodies with their paths, all written by hand.
-use Rattle.std.specs.Prelude.{ℕ, Bool, true, false, List, [], ◌∷◌, map, codes}
+use Rattle.std.specs.Prelude.{ℕ, true, false, List, [], ◌∷◌, map, codes}
 use Rattle.au_syntax.specs.declared.expressions.BinaryOperator.TheVariants as operators
 use Rattle.au_syntax.specs.declared.expressions.BorrowMode.TheVariants as modes
 use Rattle.au_syntax.specs.declared.types.Access.TheVariants as access
@@ -10,7 +10,7 @@ use Rattle.au_syntax.specs.Plain.{Bytes, PlainExpression, PlainStatement, PlainS
 use Rattle.au_syntax.specs.Examples.{here, name, spot, x}
 use Rattle.au_lives.specs.declared.lives.LifeKind.TheVariants as kinds
 use Rattle.au_lives.specs.Mentions.{Counts, counts}
-use Rattle.au_lives.specs.Paths.{Met, whole, opening, Step, follow_block, turns}
+use Rattle.au_lives.specs.Paths.{Met, whole, opening, Step}
 use Rattle.au_lives.specs.Lives.{Fate, going, broken}
 
 -- `f(e)`

@@ -1,5 +1,5 @@
 -- When the life of a variable is good, and how one is broken.
-use Rattle.std.specs.Prelude.{◌≡◌, ◌≢◌, ℕ, ◌+◌, ◌-◌, ◌≤◌, ◌==◌, Bool, true, false, not, ◌||◌, ◌&&◌, List, [], ◌∷◌, ◌++◌, length, get_or, if◌then◌else◌, IsTrue}
+use Rattle.std.specs.Prelude.{◌≡◌, ◌≢◌, ℕ, ◌+◌, ◌≤◌, ◌==◌, Bool, true, false, not, ◌||◌, ◌&&◌, List, [], ◌∷◌, ◌++◌, if◌then◌else◌, IsTrue}
 use Rattle.std.specs.List.{All}
 use Rattle.std.specs.Str.{bytes_eq}
 use Rattle.au_syntax.specs.declared.types.Access.{Access}
@@ -10,7 +10,7 @@ use Rattle.au_lives.specs.declared.lives.LifeKind.{LifeKind}
 use Rattle.au_lives.specs.declared.lives.LifeKind.TheVariants as kinds
 use Rattle.au_lives.specs.declared.lives.Sort.{Sort}
 use Rattle.au_lives.specs.declared.lives.Sort.TheVariants as sorts
-use Rattle.au_lives.specs.Mentions.{Counts, counts, unmentioned, one_write_borrow, one_read_borrow, one_look, where_named, counts_in, is_kept, keeps_parts}
+use Rattle.au_lives.specs.Mentions.{Counts, counts, unmentioned, one_write_borrow, one_read_borrow, one_look, where_named, counts_in, keeps_parts}
 use Rattle.au_lives.specs.Paths.{Met, whole, opening, assignment, assignment_behind, Around, lent, declared, Step, follow_block, declared_by, bound_names, access_of}
 
 abbrev pub is_free : Sort → Bool
@@ -259,9 +259,11 @@ module _ (x : Bytes) (sort : Sort) where
   abbrev pub fate : List Step → Fate
   fate ss = onward (at_end sort) (judge (going false) ss)
 
--- no zero at the end
+-- the last number isn't 0
 abbrev pub EndsWell : List ℕ → Type 0
-EndsWell cs = length cs ≢ 0 → get_or cs (length cs - 1) 0 ≢ 0
+EndsWell [] = Unit {0}
+EndsWell (n ∷ []) = n ≢ 0
+EndsWell (n ∷ m ∷ ms) = EndsWell (m ∷ ms)
 
 -- A path that breaks the life of x, in that way first. Its numbers are read, each is the least that takes the same
 -- way, and the last isn't 0.
