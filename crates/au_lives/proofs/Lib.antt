@@ -1,0 +1,10 @@
+pub mod Summaries
+pub mod ChoosingLemmas
+pub mod TurnLemmas
+pub mod KeepingLemmas
+pub mod WalkLemmas
+pub mod JudgingLemmas
+pub mod FreeLemmas
+pub mod GoodLemmas
+pub mod TrimLemmas
+pub mod WholeLemmas
