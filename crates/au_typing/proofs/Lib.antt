@@ -7,3 +7,4 @@ pub mod SoundCalls
 pub mod Sound
 pub mod Wanted
 pub mod Refused
+pub mod Arguments

@@ -36,16 +36,16 @@ taken_bare_extends false (mean.named at args) a s r h = absurd h
 taken_bare_extends false (mean.reads t region) a s r h = absurd h
 taken_bare_extends false (mean.writes t region) a s r h = absurd h
 
-first_extends : (x : Bool) (p : Meaning) (a : Note) (s r : Bindings) → FirstStep x p a s r → Extends s r
+pub first_extends : (x : Bool) (p : Meaning) (a : Note) (s r : Bindings) → FirstStep x p a s r → Extends s r
 first_extends true p a s r h = subst (Extends s) (sym h) (extends_self s)
 first_extends false p a s r h = taken_extends (fixed s p) p a s r h
 
-second_extends : (x : Bool) (p : Meaning) (a : Note) (s r : Bindings) → SecondStep x p a s r → Extends s r
+pub second_extends : (x : Bool) (p : Meaning) (a : Note) (s r : Bindings) → SecondStep x p a s r → Extends s r
 second_extends true p a s r h = taken_bare_extends (fixed s p) p a s r h
 second_extends false p a s r h = subst (Extends s) (sym h) (extends_self s)
 
 module _ (step : Bool → Meaning → Note → Bindings → Bindings → Type 0) (extends : (x : Bool) (p : Meaning) (a : Note) (s r : Bindings) → step x p a s r → Extends s r) where
-  pass_extends : (ps : List Meaning) (args : List Shown) (s r : Bindings) → Passes step ps args s r → Extends s r
+  pub pass_extends : (ps : List Meaning) (args : List Shown) (s r : Bindings) → Passes step ps args s r → Extends s r
   pass_extends [] [] s r h = subst (Extends s) (sym h) (extends_self s)
   pass_extends (p ∷ ps) (a ∷ args) s r h =
       extends_on s h.0 r (extends a.bare p a.note s h.0 h.1) (pass_extends ps args h.0 r h.2)

@@ -13,8 +13,10 @@ use Rattle.au_types.specs.declared.types.Region.TheVariants.{Anonymous}
 use Rattle.au_types.specs.Same.{same}
 use Rattle.au_types.specs.Types as mean
 use Rattle.au_types.specs.Types.{Meaning}
+use Rattle.au_matching.specs.Bindings.{Bindings}
+use Rattle.au_matching.specs.Substituted.{substituted}
 use Rattle.au_judged_types.specs.Reasons.{means}
-use Rattle.au_scopes.specs.Scopes.{Scope}
+use Rattle.au_scopes.specs.Scopes.{Callable, Scope}
 use Rattle.au_typing.specs.Bare.{is_arithmetic, is_bare}
 use Rattle.au_typing.specs.Calls.{Shown, GoodCall, in_order, by_labels}
 use Rattle.au_typing.specs.Limits.{are_within, types_noted}
@@ -185,3 +187,18 @@ module _ (scope : Scope) where
 -- notes it is the expression
 abbrev pub IsNoting : Scope → PlainExpression → Mode → NotedExpression → Type 0
 IsNoting scope e mode a = AllGood scope a × (mode_of a ≡ mode) × (erase a ≡ e)
+
+-- arguments have the types of their parameters, with a substitution put in
+abbrev pub HaveTypes : Bindings → List Meaning → List NotedExpression → Type 0
+HaveTypes s [] [] = Unit {0}
+HaveTypes s (p ∷ params) (a ∷ args) = (type_of a ≡ substituted s p) × HaveTypes s params args
+HaveTypes s [] (a ∷ args) = ⊥
+HaveTypes s (p ∷ params) [] = ⊥
+
+-- what a good call comes to: its type is that of the result with its substitution put in, which the note
+-- tells, and its arguments have the types of their parameters
+pub record CallFits (note : Note) (called : Callable) (types : List Meaning) (args : List NotedExpression) : Type 0 where
+  pub s : Bindings
+  pub told : note.call ≡ Some s
+  pub result : note.of ≡ substituted s called.result
+  pub arguments_fit : HaveTypes s types args

@@ -1,16 +1,18 @@
 //! The search finds what is good, and what it finds is good: so no expression has two good notings in one
 //! mode.
 
-ghost use Rattle.std.specs.Prelude.{◌≡◌, ◌↔◌, true, None, Ok, Err};
+ghost use Rattle.std.specs.Prelude.{◌≡◌, ◌↔◌, ℕ, List, true, None, Ok, Err};
 ghost use Rattle.au_scopes.specs.Scopes.{Scope};
 ghost use Rattle.au_syntax.specs.Parts.{Each};
-ghost use Rattle.au_syntax.specs.Plain.{PlainExpression};
+ghost use Rattle.au_syntax.specs.Plain.{Bytes, PlainExpression};
+ghost use Rattle.au_typing.specs.Bare.{is_bare};
+ghost use Rattle.au_typing.specs.Calls.{GoodCall, by_labels, in_order};
 ghost use Rattle.au_typing.specs.Examples as examples;
 ghost use Rattle.au_typing.specs.Examples.{call_of, told_of};
 ghost use Rattle.au_typing.specs.Faults.{Fault};
-ghost use Rattle.au_typing.specs.Good.{AllGood, IsNoting};
-ghost use Rattle.au_typing.specs.Notes.{Mode, NotedExpression, erase, mode_of, type_of};
-ghost use Rattle.au_typing.specs.Rules.{meets};
+ghost use Rattle.au_typing.specs.Good.{AllGood, AllGoodIn, AllGoodLabelled, CallFits, IsNoting, items_of, shown, values_of};
+ghost use Rattle.au_typing.specs.Notes.{Mode, Note, NotedArguments, NotedExpression, NotedExpressions, erase, mode_of, type_of};
+ghost use Rattle.au_typing.specs.Rules.{int32, meets};
 ghost use Rattle.au_typing.specs.Search.{note};
 
 /// Whatever is good is found: the search for the notes of its erased tree in its mode gives it.
@@ -63,4 +65,26 @@ pub fn examples_hold()
         examples.call_examples }
     ensures substitutions { Each (λ one. call_of (note examples.scope one.of None) ≡ one.gives)
         examples.substitutions }
+{}
+
+/// In a good call each argument has the type of its parameter, and the call that of the result, with the
+/// noted substitution put in: by position, and by labels.
+pub fn arguments_fit()
+    ensures positional { (scope : Scope) (n : Note) (name : Bytes) (number : ℕ) (es : NotedExpressions)
+        → (good : GoodCall scope n name (in_order number) (shown (items_of es)))
+        → AllGoodIn scope es
+        → CallFits n good.called good.types (items_of es) }
+    ensures labelled { (scope : Scope) (n : Note) (name : Bytes) (labels : List Bytes) (es : NotedArguments)
+        → (good : GoodCall scope n name (by_labels labels) (shown (values_of es)))
+        → AllGoodLabelled scope es
+        → CallFits n good.called good.types (values_of es) }
+{}
+
+/// A good bare expression of which nothing is wanted has Int32.
+pub fn bare_ones_have_int32()
+    ensures { (scope : Scope) (a : NotedExpression)
+        → AllGood scope a
+        → is_bare a ≡ true
+        → mode_of a ≡ None
+        → type_of a ≡ int32 }
 {}
