@@ -1,7 +1,8 @@
 use Rattle.std.proofs.Common.{refl}
 use Rattle.au_judged_types.specs.Judging.{judged}
+use Rattle.au_universes.specs.Universes.{universe_of}
 use Rattle.au_derivations.proofs.laws.examples_hold.Goals as goal
 
 pub returns : goal.returns
-unfolding judged
+unfolding judged universe_of
 returns c = (refl, (refl, (refl, (refl, (refl, (refl, (refl, (refl, (refl, (refl, (refl, (refl, (refl, (refl, (refl, (refl, (refl, tt)))))))))))))))))
