@@ -175,6 +175,13 @@ program =
 abbrev pub place : ℕ → ℕ → DeclAt
 place «module» decl = record { «module» = «module»; decl = decl }
 
+-- the class, and a type
+abbrev pub shown : DeclAt
+shown = place 0 1
+
+abbrev pub some_type : DeclAt
+some_type = place 1 1
+
 abbrev pub nat8 : Meaning
 nat8 = integer kinds.Nat8
 

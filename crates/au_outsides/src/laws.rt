@@ -1,15 +1,16 @@
 //! Laws on what a part of a module sees.
 
-ghost use Rattle.std.specs.Prelude.{◌≡◌, ◌==◌, ℕ, List, None, Some, false, find as first, map, slice_get};
+ghost use Rattle.std.specs.Prelude.{◌≡◌, ◌==◌, [], ℕ, List, None, Some, codes, false, find as first, map, slice_get};
 ghost use Rattle.std.specs.Str.{bytes_eq};
 ghost use Rattle.au_generics.specs.Bounds.{parameters};
 ghost use Rattle.au_modules.specs.Programs.{ModuleParts};
 ghost use Rattle.au_names.specs.Owned.{own};
 ghost use Rattle.au_names.specs.Standing.{Standing, definition_of, opaque_name, standing_at, whole_name};
 ghost use Rattle.au_names.specs.declared.targets.Target.{Target};
+ghost use Rattle.au_outsides.specs.ClassTexts.{class_text};
 ghost use Rattle.au_outsides.specs.Called.{as_arguments, callable_at};
 ghost use Rattle.au_outsides.specs.Examples.{callable_examples, cases_examples, constant_examples};
-ghost use Rattle.au_outsides.specs.Examples.{field_examples, program, target_examples};
+ghost use Rattle.au_outsides.specs.Examples.{field_examples, program, shown, some_type, target_examples};
 ghost use Rattle.au_outsides.specs.Insides.{cases_of, fields_of, known_definition};
 ghost use Rattle.au_outsides.specs.Insides.{typed_under, with_arguments};
 ghost use Rattle.au_outsides.specs.Outsides.{outside_of};
@@ -47,6 +48,8 @@ pub fn examples_hold()
         target_examples }
     ensures fields { Each (λ one. (outside_of program one.place Body).fields one.of ≡ one.is) field_examples }
     ensures cases { Each (λ one. (outside_of program one.place Body).cases one.of ≡ one.is) cases_examples }
+    ensures class { class_text program shown ≡ codes "Austral.Pervasive:Shown" }
+    ensures no_class { class_text program some_type ≡ [] }
 {}
 
 /// What makes values of a type makes them of the type that the name of the record or the union means in its

@@ -25,3 +25,11 @@ returns-clause-fields c = (refl, (refl, (refl, (refl, (refl, (refl, (refl, tt)))
 pub returns-clause-cases : goal.returns-clause-cases
 unfolding firsts numbered names_in rows_from meant all_given standing_from
 returns-clause-cases c = (refl, (refl, (refl, (refl, tt))))
+
+pub returns-clause-class : goal.returns-clause-class
+unfolding firsts numbered names_in rows_from meant all_given standing_from
+returns-clause-class c = refl
+
+pub returns-clause-no_class : goal.returns-clause-no_class
+unfolding firsts numbered names_in rows_from meant all_given standing_from
+returns-clause-no_class c = refl
