@@ -25,18 +25,21 @@ Comes = answer.Answer ℕ ℕ
 -- a use of a reference that reaches a value of a form
 module _ {A : Type 0} (form : Low → Option A) (w : LowWorld) (go : ℕ → A → Comes) where
   reached_found : (borrow : ℕ) (found : Option A)
-      → call.given {A = ℕ × A} (along found (λ one. Some (borrow, one))) (λ one. go one.0 one.1) ≡ call.given found (go borrow)
+      → call.given {A = ℕ × A} (along found (λ one. Some (borrow, one))) (λ one. go one.0 one.1)
+      ≡ call.given found (go borrow)
   reached_found borrow None = refl
   reached_found borrow (Some one) = refl
 
   reached_held : (borrow : ℕ) (found : Option Low)
-      → call.given {A = ℕ × A} (along found (λ held. along (form held) (λ one. Some (borrow, one)))) (λ one. go one.0 one.1)
+      → call.given {A = ℕ × A} (along found (λ held. along (form held) (λ one. Some (borrow, one))))
+      (λ one. go one.0 one.1)
       ≡ call.given found (λ held. call.given (form held) (go borrow))
   reached_held borrow None = refl
   reached_held borrow (Some held) = reached_found borrow (form held)
 
   reached_lent : (found : Option (ℕ × Place))
-      → call.given {A = ℕ × A} (along found (λ one. along (at one.1 w) (λ held. along (form held) (λ x. Some (one.0, x))))) (λ one. go one.0 one.1)
+      → call.given {A = ℕ × A} (along found
+      (λ one. along (at one.1 w) (λ held. along (form held) (λ x. Some (one.0, x))))) (λ one. go one.0 one.1)
       ≡ call.given found (λ one. call.given (at one.1 w) (λ held. call.given (form held) (go one.0)))
   reached_lent None = refl
   reached_lent (Some one) = reached_held one.0 (at one.1 w)
@@ -50,27 +53,34 @@ module _ (value : Low) (w : LowWorld) (go : ℕ → List Low → LowWorld → Co
   used_with : ℕ → ℕ → List Low → Comes
   used_with borrow id values = go id values (effect.tells (effect.used borrow) w)
 
-  buffer_use_is : call.given (reached_by call.buffer_in value w) (λ one. call.given (elements_of one.1 w) (used_with one.0 one.1))
+  buffer_use_is : call.given (reached_by call.buffer_in value w)
+      (λ one. call.given (elements_of one.1 w) (used_with one.0 one.1))
       ≡ call.buffer_use value w go
   unfolding used_with
-  buffer_use_is = use_is call.buffer_in w (λ borrow id. call.given (elements_of id w) (used_with borrow id)) value
+  buffer_use_is = use_is call.buffer_in w (λ borrow id. call.given (elements_of id w) (used_with borrow id))
+      value
 
   pub buffer_none : None ≡ reached_by call.buffer_in value w → answer.none ≡ call.buffer_use value w go
-  buffer_none h = ap (λ (found : Option (ℕ × ℕ)). call.given found (λ one. call.given (elements_of one.1 w) (used_with one.0 one.1))) h
+  buffer_none h = ap (λ (found : Option (ℕ × ℕ)). call.given found
+      (λ one. call.given (elements_of one.1 w) (used_with one.0 one.1))) h
       ∙ buffer_use_is
 
   pub elements_none : (borrow id : ℕ) → Some (borrow, id) ≡ reached_by call.buffer_in value w
       → None ≡ elements_of id w → answer.none ≡ call.buffer_use value w go
   elements_none borrow id h is = ap (λ (found : Option (List Low)). call.given found (used_with borrow id)) is
-      ∙ ap (λ (found : Option (ℕ × ℕ)). call.given found (λ one. call.given (elements_of one.1 w) (used_with one.0 one.1))) h
+      ∙ ap (λ (found : Option (ℕ × ℕ)). call.given found
+      (λ one. call.given (elements_of one.1 w) (used_with one.0 one.1))) h
       ∙ buffer_use_is
 
-  pub buffer_some : (borrow id : ℕ) (values : List Low) → Some (borrow, id) ≡ reached_by call.buffer_in value w
+  pub buffer_some : (borrow id : ℕ) (values : List Low)
+      → Some (borrow, id) ≡ reached_by call.buffer_in value w
       → Some values ≡ elements_of id w
       → go id values (effect.tells (effect.used borrow) w) ≡ call.buffer_use value w go
   unfolding used_with
-  buffer_some borrow id values h is = ap (λ (found : Option (List Low)). call.given found (used_with borrow id)) is
-      ∙ ap (λ (found : Option (ℕ × ℕ)). call.given found (λ one. call.given (elements_of one.1 w) (used_with one.0 one.1))) h
+  buffer_some borrow id values h is =
+      ap (λ (found : Option (List Low)). call.given found (used_with borrow id)) is
+      ∙ ap (λ (found : Option (ℕ × ℕ)). call.given found
+      (λ one. call.given (elements_of one.1 w) (used_with one.0 one.1))) h
       ∙ buffer_use_is
 
 -- a world with other births, in which a use is told
@@ -78,7 +88,8 @@ abbrev pub used_births : ℕ → List (effect.Held ℕ) → LowWorld → LowWorl
 used_births borrow births w = effect.tells (effect.used borrow) (record w { births = births })
 
 -- elements that are counted
-counted : (found : Option (List Low)) (n : ℕ) → Some n ≡ count_in found → (values : List Low) × (Some values ≡ found) × (n ≡ length values)
+counted : (found : Option (List Low)) (n : ℕ) → Some n ≡ count_in found
+    → (values : List Low) × (Some values ≡ found) × (n ≡ length values)
 counted None n h = cc
 counted (Some values) n h = (values, refl, cc)
 
@@ -90,20 +101,24 @@ length_is value w after borrow id n h is told =
     let found = counted (elements_of id w) n is in
     ap (answer.gives (number Index (pos n))) told
     ∙ ap (λ m. answer.gives (number Index (pos m)) (effect.tells (effect.used borrow) w)) found.2
-    ∙ buffer_some value w (λ id values told. answer.gives (number Index (pos (length values))) told) borrow id found.0 h found.1
+    ∙ buffer_some value w (λ id values told. answer.gives (number Index (pos (length values))) told) borrow id
+    found.0 h found.1
 
 -- an element behind the others
-pub insert_is : (value new : Low) (w after : LowWorld) (borrow id : ℕ) (births : List (effect.Held ℕ)) (found : Option (List Low))
+pub insert_is : (value new : Low) (w after : LowWorld) (borrow id : ℕ) (births : List (effect.Held ℕ))
+    (found : Option (List Low))
     → Some (borrow, id) ≡ reached_by call.buffer_in value w → found ≡ elements_of id w → true ≡ is_some found
     → births ≡ with_more id new found w.births → after ≡ used_births borrow births w
     → answer.gives unit after ≡ call.insert_back w value new
 insert_is value new w after borrow id births None h is there more told = cc
 insert_is value new w after borrow id births (Some values) h is there more told =
     ap (answer.gives unit) (told ∙ ap (λ (ones : List (effect.Held ℕ)). used_births borrow ones w) more)
-    ∙ buffer_some value w (λ id values told. answer.gives unit (call.with_elements id (values ++ new ∷ []) told)) borrow id values h is
+    ∙ buffer_some value w (λ id values told. answer.gives unit
+    (call.with_elements id (values ++ new ∷ []) told)) borrow id values h is
 
 -- births of which one gets what it has
-elements_held : (held : effect.Held ℕ) (values : List Low) → Some values ≡ call.elements_in held → effect.elements values ≡ held
+elements_held : (held : effect.Held ℕ) (values : List Low) → Some values ≡ call.elements_in held
+    → effect.elements values ≡ held
 elements_held effect.nothing values h = cc
 elements_held (effect.content value) values h = cc
 elements_held (effect.elements others) values h = cc
@@ -111,12 +126,14 @@ elements_held (effect.elements others) values h = cc
 pub elements_same : (births : List (effect.Held ℕ)) (id : ℕ) (values : List Low)
     → Some values ≡ held_elements id births → slice_set births id (effect.elements values) ≡ births
 elements_same [] id values h = refl
-elements_same (held ∷ births) zero values h = ap (λ (one : effect.Held ℕ). one ∷ births) (elements_held held values h)
+elements_same (held ∷ births) zero values h =
+    ap (λ (one : effect.Held ℕ). one ∷ births) (elements_held held values h)
 elements_same (held ∷ births) (suc id) values h =
     ap (λ (more : List (effect.Held ℕ)). held ∷ more) (elements_same births id values h)
 
 -- a list of which nothing is last
-no_last : (values : List Low) → None ≡ slice_get values (length values - 1) → take (length values - 1) values ≡ values
+no_last : (values : List Low) → None ≡ slice_get values (length values - 1)
+    → take (length values - 1) values ≡ values
 no_last [] h = refl
 no_last (value ∷ values) h =
     let within : length (value ∷ values) - 1 < length (value ∷ values) = omega arith in
@@ -124,13 +141,16 @@ no_last (value ∷ values) h =
     absurd cc
 
 -- a list of which an item is put that isn't there
-not_there : (values : List Low) (index : ℕ) (new : Low) → None ≡ slice_get values index → slice_set values index new ≡ values
+not_there : (values : List Low) (index : ℕ) (new : Low) → None ≡ slice_get values index
+    → slice_set values index new ≡ values
 not_there [] index new h = refl
 not_there (value ∷ values) zero new h = cc
-not_there (value ∷ values) (suc index) new h = ap (λ (more : List Low). value ∷ more) (not_there values index new h)
+not_there (value ∷ values) (suc index) new h =
+    ap (λ (more : List Low). value ∷ more) (not_there values index new h)
 
 -- the last element is taken
-pub remove_is : (value : Low) (w after : LowWorld) (borrow id : ℕ) (values rest : List Low) (last : Option Cell)
+pub remove_is : (value : Low) (w after : LowWorld) (borrow id : ℕ) (values rest : List Low)
+    (last : Option Cell)
     (births : List (effect.Held ℕ)) → Some (borrow, id) ≡ reached_by call.buffer_in value w
     → Some values ≡ elements_of id w → option_map low last ≡ slice_get values (length values - 1)
     → rest ≡ take (length values - 1) values → births ≡ slice_set w.births id (effect.elements rest)
@@ -142,35 +162,44 @@ remove_is value w after borrow id values rest None births h is last front set to
     (set ∙ ap (λ (vs : List Low). slice_set w.births id (effect.elements vs)) (front ∙ no_last values last)
     ∙ elements_same w.births id values is))
     ∙ ap (λ (found : Option Low). call.last_taken id values found (effect.tells (effect.used borrow) w)) last
-    ∙ buffer_some value w (λ id values told. call.last_taken id values (slice_get values (length values - 1)) told) borrow id values h is
+    ∙ buffer_some value w (λ id values told. call.last_taken id values (slice_get values (length values - 1))
+    told) borrow id values h is
 remove_is value w after borrow id values rest (Some cell) births h is last front set told =
     ap (answer.gives (low cell))
     (told ∙ ap (λ (ones : List (effect.Held ℕ)). used_births borrow ones w)
     (set ∙ ap (λ (vs : List Low). slice_set w.births id (effect.elements vs)) front))
     ∙ ap (λ (found : Option Low). call.last_taken id values found (effect.tells (effect.used borrow) w)) last
-    ∙ buffer_some value w (λ id values told. call.last_taken id values (slice_get values (length values - 1)) told) borrow id values h is
+    ∙ buffer_some value w (λ id values told. call.last_taken id values (slice_get values (length values - 1))
+    told) borrow id values h is
 
 -- an element is replaced
 pub replace_is : (value new : Low) (index : ℕ) (w after : LowWorld) (borrow id : ℕ) (values next : List Low)
-    (old : Option Cell) (births : List (effect.Held ℕ)) → Some (borrow, id) ≡ reached_by call.buffer_in value w
+    (old : Option Cell) (births : List (effect.Held ℕ))
+    → Some (borrow, id) ≡ reached_by call.buffer_in value w
     → Some values ≡ elements_of id w → option_map low old ≡ slice_get values index
     → next ≡ slice_set values index new → births ≡ slice_set w.births id (effect.elements next)
     → after ≡ used_births borrow births w
     → answer_of (given_or old kind.OutOfRange) after
-    ≡ call.buffer_use value w (λ id values told. call.element_replaced id values index new (slice_get values index) told)
+    ≡ call.buffer_use value w (λ id values told. call.element_replaced id values index new
+    (slice_get values index) told)
 replace_is value new index w after borrow id values next None births h is old put set told =
     ap (answer.aborts answer.out_of_range)
     (told ∙ ap (λ (ones : List (effect.Held ℕ)). used_births borrow ones w)
-    (set ∙ ap (λ (vs : List Low). slice_set w.births id (effect.elements vs)) (put ∙ not_there values index new old)
+    (set ∙ ap (λ (vs : List Low). slice_set w.births id (effect.elements vs))
+    (put ∙ not_there values index new old)
     ∙ elements_same w.births id values is))
-    ∙ ap (λ (found : Option Low). call.element_replaced id values index new found (effect.tells (effect.used borrow) w)) old
-    ∙ buffer_some value w (λ id values told. call.element_replaced id values index new (slice_get values index) told) borrow id values h is
+    ∙ ap (λ (found : Option Low). call.element_replaced id values index new found
+    (effect.tells (effect.used borrow) w)) old
+    ∙ buffer_some value w (λ id values told. call.element_replaced id values index new
+    (slice_get values index) told) borrow id values h is
 replace_is value new index w after borrow id values next (Some cell) births h is old put set told =
     ap (answer.gives (low cell))
     (told ∙ ap (λ (ones : List (effect.Held ℕ)). used_births borrow ones w)
     (set ∙ ap (λ (vs : List Low). slice_set w.births id (effect.elements vs)) put))
-    ∙ ap (λ (found : Option Low). call.element_replaced id values index new found (effect.tells (effect.used borrow) w)) old
-    ∙ buffer_some value w (λ id values told. call.element_replaced id values index new (slice_get values index) told) borrow id values h is
+    ∙ ap (λ (found : Option Low). call.element_replaced id values index new found
+    (effect.tells (effect.used borrow) w)) old
+    ∙ buffer_some value w (λ id values told. call.element_replaced id values index new
+    (slice_get values index) told) borrow id values h is
 
 -- a buffer is consumed
 destroyed_if : (w after : LowWorld) (id n : ℕ) (found : Option (List Low)) → Some n ≡ count_in found → n ≡ 0

@@ -18,20 +18,23 @@ slots_same : (names : List (Option Low)) (slot : ℕ) (held : Option Low)
     → along (slice_get names slot) (λ value. value) ≡ held → slice_set names slot held ≡ names
 slots_same [] slot held h = refl
 slots_same (one ∷ names) zero held h = ap (λ (o : Option Low). o ∷ names) (sym h)
-slots_same (one ∷ names) (suc slot) held h = ap (λ (more : List (Option Low)). one ∷ more) (slots_same names slot held h)
+slots_same (one ∷ names) (suc slot) held h =
+    ap (λ (more : List (Option Low)). one ∷ more) (slots_same names slot held h)
 
 frames_same : (frames : List (List (Option Low))) (frame slot : ℕ) (held : Option Low)
     → along (slice_get frames frame) (λ names. along (slice_get names slot) (λ value. value)) ≡ held
     → slice_set frames frame (with_name slot held (slice_get frames frame)) ≡ frames
 frames_same [] frame slot held h = refl
-frames_same (names ∷ frames) zero slot held h = ap (λ (ns : List (Option Low)). ns ∷ frames) (slots_same names slot held h)
+frames_same (names ∷ frames) zero slot held h =
+    ap (λ (ns : List (Option Low)). ns ∷ frames) (slots_same names slot held h)
 frames_same (names ∷ frames) (suc frame) slot held h =
     ap (λ (more : List (List (Option Low))). names ∷ more) (frames_same frames frame slot held h)
 
 -- a slot that is set twice
 frames_twice : (frames : List (List (Option Low))) (frame slot : ℕ) (first second : Option Low)
     → slice_set (slice_set frames frame (with_name slot first (slice_get frames frame))) frame
-    (with_name slot second (slice_get (slice_set frames frame (with_name slot first (slice_get frames frame))) frame))
+    (with_name slot second (slice_get (slice_set frames frame (with_name slot first (slice_get frames frame)))
+    frame))
     ≡ slice_set frames frame (with_name slot second (slice_get frames frame))
 frames_twice [] frame slot first second = refl
 frames_twice (names ∷ frames) zero slot first second =
@@ -74,7 +77,8 @@ exchanged_is place new base old w after there is set =
     ∙ ap (λ (v : LowWorld). along {B = Low × LowWorld} (part place.path base) (λ one. Some (one, v))) set
     ∙ ap (set_over place new w) (sym there)
 
-low_none : (old : Option Cell) (found : Option Low) → option_map low old ≡ found → is_some old ≡ false → found ≡ None
+low_none : (old : Option Cell) (found : Option Low) → option_map low old ≡ found → is_some old ≡ false
+    → found ≡ None
 low_none None found is h = sym is
 low_none (Some one) found is h = cc
 
@@ -84,11 +88,13 @@ pub slot_kept : (frame slot : ℕ) (path : List ℕ) (new base : Low) (old : Opt
     → after ≡ name_set frame slot (Some (with_part path new base)) w → after ≡ w
 slot_kept frame slot path new base old w after there is missing set =
     set
-    ∙ ap (λ (v : Low). name_set frame slot (Some v) w) (part_missing path new base (low_none old (part path base) is missing))
+    ∙ ap (λ (v : Low). name_set frame slot (Some v) w)
+    (part_missing path new base (low_none old (part path base) is missing))
     ∙ name_same frame slot (Some base) w there
 
 -- what a slot gets that was emptied before
-pub slot_put : (frame slot : ℕ) (value : Option Low) (w mid after : LowWorld) → mid ≡ name_set frame slot None w
+pub slot_put : (frame slot : ℕ) (value : Option Low) (w mid after : LowWorld)
+    → mid ≡ name_set frame slot None w
     → after ≡ name_set frame slot value mid → after ≡ name_set frame slot value w
 slot_put frame slot value w mid after first second =
     second ∙ ap (name_set frame slot value) first ∙ name_twice frame slot None value w
@@ -102,21 +108,26 @@ held_content (effect.elements values) base h = cc
 births_same : (births : List (effect.Held ℕ)) (id : ℕ) (base : Low)
     → along (slice_get births id) content_in ≡ Some base → slice_set births id (effect.content base) ≡ births
 births_same [] id base h = refl
-births_same (held ∷ births) zero base h = ap (λ (one : effect.Held ℕ). one ∷ births) (held_content held base h)
+births_same (held ∷ births) zero base h =
+    ap (λ (one : effect.Held ℕ). one ∷ births) (held_content held base h)
 births_same (held ∷ births) (suc id) base h =
     ap (λ (more : List (effect.Held ℕ)). held ∷ more) (births_same births id base h)
 
 pub held_put : (births mid after : List (effect.Held ℕ)) (id : ℕ) (held : effect.Held ℕ)
-    → mid ≡ slice_set births id effect.nothing → after ≡ slice_set mid id held → after ≡ slice_set births id held
+    → mid ≡ slice_set births id effect.nothing → after ≡ slice_set mid id held
+    → after ≡ slice_set births id held
 held_put births mid after id held first second =
     second
     ∙ ap (λ (ones : List (effect.Held ℕ)). slice_set ones id held) first
     ∙ set_twice births id effect.nothing held
 
-pub content_kept : (id : ℕ) (path : List ℕ) (new base : Low) (old : Option Cell) (births after : List (effect.Held ℕ))
+pub content_kept : (id : ℕ) (path : List ℕ) (new base : Low) (old : Option Cell)
+    (births after : List (effect.Held ℕ))
     → along (slice_get births id) content_in ≡ Some base → option_map low old ≡ part path base
-    → is_some old ≡ false → after ≡ slice_set births id (effect.content (with_part path new base)) → after ≡ births
+    → is_some old ≡ false → after ≡ slice_set births id (effect.content (with_part path new base))
+    → after ≡ births
 content_kept id path new base old births after there is missing set =
     set
-    ∙ ap (λ (v : Low). slice_set births id (effect.content v)) (part_missing path new base (low_none old (part path base) is missing))
+    ∙ ap (λ (v : Low). slice_set births id (effect.content v))
+    (part_missing path new base (low_none old (part path base) is missing))
     ∙ births_same births id base there

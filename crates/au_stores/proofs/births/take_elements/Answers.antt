@@ -27,6 +27,7 @@ returns-in_default c =
     ∙ ap (get_or births.items c.args.index) (sym c.replace-held.ensures.value) in
     record {
       elements = sym (ap (λ (found : Option (effect.Held _)). along found elements_in)
-          (held_there births.items c.args.index held within is) ∙ not_elements held c.in_default.not-Elements);
+          (held_there births.items c.args.index held within is)
+          ∙ not_elements held c.in_default.not-Elements);
       births = ap (map held_of) (put_back births.items c.args.index held c.replace-held.new.dest is);
     }

@@ -15,6 +15,9 @@ returns-clause-births c =
     let cells = c.in-Some.cells.items in
     held_put births (map held_of c.take_elements.new.births.items) (map held_of c.put_held.new.births.items)
     c.args.index (effect.elements (lows c.push.new.self.items)) c.in-Some.ensures.births c.put_held.ensures
-    ∙ ap (λ (ones : List Cell). slice_set births c.args.index (effect.elements (lows ones))) c.in_ok-push.ensures.items
-    ∙ ap (λ (values : List Low). slice_set births c.args.index (effect.elements values)) (lows_push cells c.args.new)
-    ∙ ap (λ (found : Option (List Low)). with_more c.args.index (low c.args.new) found births) c.in-Some.ensures.elements
+    ∙ ap (λ (ones : List Cell). slice_set births c.args.index (effect.elements (lows ones)))
+    c.in_ok-push.ensures.items
+    ∙ ap (λ (values : List Low). slice_set births c.args.index (effect.elements values))
+    (lows_push cells c.args.new)
+    ∙ ap (λ (found : Option (List Low)). with_more c.args.index (low c.args.new) found births)
+    c.in-Some.ensures.elements

@@ -16,4 +16,5 @@ returns-clause-world c =
     frame_given w cells.items c.args.slots count c.fill_empty.new.piles size
     (c.in_ok-fill_empty.ensures
     ∙ ap (λ (piles : Piles). (piles.0 ++ replicate c.saturating_sub.result None, piles.1)) given
-    ∙ ap (λ n. (given_slots (reverse cells.items) ++ replicate n None, w.slots.0 ∷ w.slots.1)) c.saturating_sub.ensures)
+    ∙ ap (λ n. (given_slots (reverse cells.items) ++ replicate n None, w.slots.0 ∷ w.slots.1))
+    c.saturating_sub.ensures)

@@ -5,7 +5,8 @@ use Rattle.au_stores.proofs.worlds.World.close_to.Given as goal
 
 -- what is left decides what is closed and what stays
 abbrev pub invariant-loop-opened : goal.invariant-loop-opened
-invariant-loop-opened l = (effect.closes (take (length l.opened.0 - l.count) (reverse l.opened.0)) (world_of l.self)
+invariant-loop-opened l = (effect.closes (take (length l.opened.0 - l.count) (reverse l.opened.0))
+    (world_of l.self)
     ≡ effect.closes (take (length l.fn.opened.0 - l.count) (reverse l.fn.opened.0)) (world_of l.fn.self))
     × (drop (length l.opened.0 - l.count) (reverse l.opened.0)
     ≡ drop (length l.fn.opened.0 - l.count) (reverse l.fn.opened.0))

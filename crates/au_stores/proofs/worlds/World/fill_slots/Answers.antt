@@ -72,6 +72,7 @@ loop-value-preserved c =
           ∙ ap (λ (cells : List Cell). filled (top_frame w) at (lows cells) (world_of w)) (sym is)
           ∙ kept.0,
       omega (arith, left, kept.1),
-      ap (λ (piles : Piles). length piles.0) c.put.ensures.new ∙ length-set w.slots.0 at (Some value) ∙ kept.2,
+      ap (λ (piles : Piles). length piles.0) c.put.ensures.new ∙ length-set w.slots.0 at (Some value)
+          ∙ kept.2,
       top ∙ kept.3,
     )

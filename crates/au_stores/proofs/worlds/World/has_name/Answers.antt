@@ -27,4 +27,5 @@ returns-in-None c =
     (arith, c.depth-depth.ensures, c.if-depth-frame.false, c.if-frame-depth.false) in
     let found = ap (λ n. slice_get w.slots.1 (n - 1 - c.args.frame)) (sym c.depth-depth.ensures)
     ∙ sym c.in-None.ensures in
-    sym (ap (nat_lt c.args.slot) (count_missing w c.args.frame below found) ∙ le-ltb c.args.slot 0 (omega arith))
+    sym (ap (nat_lt c.args.slot) (count_missing w c.args.frame below found)
+    ∙ le-ltb c.args.slot 0 (omega arith))

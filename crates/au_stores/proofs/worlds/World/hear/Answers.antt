@@ -13,7 +13,10 @@ pub returns-clause-does : goal.returns-clause-does
 returns-clause-does c =
     let w = world_of c.args.self.now in
     let given = values.optional (call.byte_value c.args.byte) in
-    ap (λ (value : Low). answer.gives value (world_of c.tell_use.new.self)) (c.in_ok-given.ensures ∙ ap values.optional c.byte_held.ensures)
+    ap (λ (value : Low). answer.gives value (world_of c.tell_use.new.self))
+    (c.in_ok-given.ensures ∙ ap values.optional c.byte_held.ensures)
     ∙ ap (answer.gives given) c.in_ok-tell_use.ensures.world
-    ∙ ap (λ (found : Option (ℕ × ℕ)). call.given found (λ one. answer.gives given (effect.tells (effect.used one.0) w))) c.in-Some.ensures
-    ∙ use_is call.terminal_in w (λ borrow id. answer.gives given (effect.tells (effect.used borrow) w)) (low c.args.reference.now)
+    ∙ ap (λ (found : Option (ℕ × ℕ)). call.given found
+    (λ one. answer.gives given (effect.tells (effect.used one.0) w))) c.in-Some.ensures
+    ∙ use_is call.terminal_in w (λ borrow id. answer.gives given (effect.tells (effect.used borrow) w))
+    (low c.args.reference.now)

@@ -12,5 +12,6 @@ returns-clause-does c =
     let after = world_of c.tell_use.new.self in
     let count = c.in-Some-element_count.count in
     ap (λ (value : Low). answer.gives value after) (index_is count)
-    ∙ length_is (low c.args.reference.now) (world_of c.args.self.now) after c.in-Some.borrow c.in-Some.id count
+    ∙ length_is (low c.args.reference.now) (world_of c.args.self.now) after c.in-Some.borrow c.in-Some.id
+    count
     c.in-Some.ensures c.in-Some-element_count.ensures c.in_ok-tell_use.ensures.world

@@ -22,7 +22,8 @@ pub put_below-requires-clause-index : goal.put_below-requires-clause-index
 put_below-requires-clause-index c =
     let w = c.args.self.now in
     let low = not_above w c.args.frame c.args.slot c.requires in
-    let below : c.args.frame < top_frame w = omega (arith, low, c.depth-depth.ensures, c.if-frame-depth.false) in
+    let below : c.args.frame < top_frame w =
+    omega (arith, low, c.depth-depth.ensures, c.if-frame-depth.false) in
     let count = count_below w c.args.frame below
     ∙ ap (λ n. length (pile_at w.slots.1 (n - 1 - c.args.frame))) (sym c.depth-depth.ensures) in
     omega (arith, count, c.requires)
@@ -31,16 +32,20 @@ pub returns-clause-world : goal.returns-clause-world
 returns-clause-world c =
     let w = c.args.self.now in
     let low = not_above w c.args.frame c.args.slot c.requires in
-    let below : c.args.frame < top_frame w = omega (arith, low, c.depth-depth.ensures, c.if-frame-depth.false) in
-    ap (λ (piles : List (Option Cell) × List (List (Option Cell))). record (world_of w) { frames = frames_of piles })
-    (c.put_below.ensures.new ∙ ap (λ n. with_below w.slots (n - 1 - c.args.frame) c.args.slot c.args.held) c.depth-depth.ensures)
+    let below : c.args.frame < top_frame w =
+    omega (arith, low, c.depth-depth.ensures, c.if-frame-depth.false) in
+    ap (λ (piles : List (Option Cell) × List (List (Option Cell))). record (world_of w)
+    { frames = frames_of piles })
+    (c.put_below.ensures.new ∙ ap (λ n. with_below w.slots (n - 1 - c.args.frame) c.args.slot c.args.held)
+    c.depth-depth.ensures)
     ∙ name_put w c.args.frame c.args.slot c.args.held below
 
 pub returns-clause-old : goal.returns-clause-old
 returns-clause-old c =
     let w = c.args.self.now in
     let low = not_above w c.args.frame c.args.slot c.requires in
-    let below : c.args.frame < top_frame w = omega (arith, low, c.depth-depth.ensures, c.if-frame-depth.false) in
+    let below : c.args.frame < top_frame w =
+    omega (arith, low, c.depth-depth.ensures, c.if-frame-depth.false) in
     name_below w c.args.frame c.args.slot c.put_below.result below
     (ap (λ n. slice_get (pile_at w.slots.1 (n - 1 - c.args.frame)) c.args.slot) (sym c.depth-depth.ensures)
     ∙ c.put_below.ensures.old)

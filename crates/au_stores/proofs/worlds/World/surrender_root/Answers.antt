@@ -14,4 +14,5 @@ returns-clause-does c =
     let after = world_of c.tell.new.self in
     ap (λ (value : Low). answer.gives value after) unit_is
     ∙ ap (answer.gives unit) c.in_ok-tell.ensures.world
-    ∙ ap (λ (found : Option ℕ). call.given found (λ id. answer.gives unit (effect.spends (Some id) w))) c.in-Some.ensures
+    ∙ ap (λ (found : Option ℕ). call.given found (λ id. answer.gives unit (effect.spends (Some id) w)))
+    c.in-Some.ensures
