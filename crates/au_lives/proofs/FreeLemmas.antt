@@ -47,28 +47,36 @@ module _ (x : Bytes) where
     none_in (text node bytes) = refl
     none_in (truth node value) = refl
     none_in (nil node) = refl
-    none_in (path node name fields) = none_named (bytes_eq name.name x) (mentioned_with true fields) (none_looked fields)
+    none_in (path node name fields) =
+        none_named (bytes_eq name.name x) (mentioned_with true fields) (none_looked fields)
     none_in (arrow node name fields) = none_named (bytes_eq name.name x) one_look refl
     none_in (call node name args note) = none_in_all args
     none_in (named_call node name args note) = none_in_arguments args
     none_in (parenthesized node e) = none_in e
     none_in (dereference node e) = none_in e
-    none_in (borrow node mode name) = none_named (bytes_eq name.name x) (borrowed_by mode) (none_borrowed mode)
+    none_in (borrow node mode name) =
+        none_named (bytes_eq name.name x) (borrowed_by mode) (none_borrowed mode)
     none_in (borrow_part node name fields) = none_named (bytes_eq name.name x) one_look refl
-    none_in (binary node operator a b) = none_both (counts_in x true a).consumed (counts_in x true b).consumed (none_in a) (none_in b)
+    none_in (binary node operator a b) =
+        none_both (counts_in x true a).consumed (counts_in x true b).consumed (none_in a) (none_in b)
     none_in (negation node e) = none_in e
     none_in (typed node e t) = none_in e
     none_in (choice node c a b) =
-        none_both (counts_in x true c).consumed ((counts_in x true a).consumed + (counts_in x true b).consumed) (none_in c)
+        none_both (counts_in x true c).consumed
+        ((counts_in x true a).consumed + (counts_in x true b).consumed) (none_in c)
         (none_both (counts_in x true a).consumed (counts_in x true b).consumed (none_in a) (none_in b))
 
     none_in_all : (es : PlainExpressions) → (counts_in_all x true es).consumed ≡ 0
     none_in_all no_expressions = refl
-    none_in_all (expressions e rest) = none_both (counts_in x true e).consumed (counts_in_all x true rest).consumed (none_in e) (none_in_all rest)
+    none_in_all (expressions e rest) =
+        none_both (counts_in x true e).consumed (counts_in_all x true rest).consumed (none_in e)
+        (none_in_all rest)
 
     none_in_arguments : (es : PlainArguments) → (counts_in_arguments x true es).consumed ≡ 0
     none_in_arguments no_arguments = refl
-    none_in_arguments (arguments label e rest) = none_both (counts_in x true e).consumed (counts_in_arguments x true rest).consumed (none_in e) (none_in_arguments rest)
+    none_in_arguments (arguments label e rest) =
+        none_both (counts_in x true e).consumed (counts_in_arguments x true rest).consumed (none_in e)
+        (none_in_arguments rest)
 
   none_met : (m : Met) → (met_counts x true m).consumed ≡ 0
   none_met (whole e) = none_in e
@@ -79,5 +87,6 @@ module _ (x : Bytes) where
   pub none_consumed : (ss : List Step) → consumptions x sorts.Free ss ≡ 0
   none_consumed [] = refl
   none_consumed (s ∷ ss) =
-      none_both (unless_hidden (held x s.around) (met_counts x true s.what)).consumed (consumptions x sorts.Free ss)
+      none_both (unless_hidden (held x s.around) (met_counts x true s.what)).consumed
+      (consumptions x sorts.Free ss)
       (none_seen (held x s.around) (met_counts x true s.what) (none_met s.what)) (none_consumed ss)

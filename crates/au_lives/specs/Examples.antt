@@ -20,7 +20,8 @@ f_of e = call spot (name (codes "f")) (expressions e no_expressions) tt
 abbrev pub field : List (Placed Bytes)
 field = name (codes "a") ∷ []
 
--- expressions, and how often each consumes x, write-borrows it, read-borrows it and looks at it, where x isn't Free
+-- expressions, and how often each consumes x, write-borrows it, read-borrows it and looks at it, where x
+-- isn't Free
 abbrev pub mentions : List (PlainExpression × Counts)
 mentions =
     (x, counts 1 0 0 0)
@@ -34,7 +35,10 @@ mentions =
     ∷ (dereference spot (parenthesized spot (parenthesized spot x)), counts 0 0 0 1)
     ∷ (dereference spot (f_of x), counts 1 0 0 0)
     ∷ (path spot (name (codes "y")) [], counts 0 0 0 0)
-    ∷ (call spot (name (codes "x")) (expressions x (expressions (dereference spot x) no_expressions)) tt, counts 1 0 0 1)
+    ∷ (
+      call spot (name (codes "x")) (expressions x (expressions (dereference spot x) no_expressions)) tt,
+      counts 1 0 0 1,
+    )
     ∷ (binary spot operators.Add x (f_of x), counts 2 0 0 0)
     ∷ (choice spot (truth spot true) x (borrow spot modes.Write (name (codes "x"))), counts 1 1 0 0)
     ∷ []
@@ -69,32 +73,63 @@ three_ways =
 
 -- while true do f(!x); end while; return x;
 abbrev pub some_turns : PlainStatements
-some_turns = block_of (while_loop here yes (block_of (does (dereference spot x) ∷ [])) ∷ return_of here x ∷ [])
+some_turns =
+    block_of (while_loop here yes (block_of (does (dereference spot x) ∷ [])) ∷ return_of here x ∷ [])
 
 -- borrow! x as r in R do case true of when A do return r; when B do f(x); end case; end borrow; return x;
 abbrev pub lent_and_left : PlainStatements
 lent_and_left =
-    block_of
-    (
-    borrow_in here access.Write (name (codes "x")) (name (codes "r")) (name (codes "R")) (block_of (case_of here yes (
-    arms here (name (codes "A")) [] (block_of (return_of here (path spot (name (codes "r")) []) ∷ [])) (
-    arms here (name (codes "B")) [] (block_of (does x ∷ [])) no_arms)) ∷ [])) here
-    ∷ return_of here x
-    ∷ []
-    )
+    let leaves = block_of (return_of here (path spot (name (codes "r")) []) ∷ []) in
+    let uses = block_of (does x ∷ []) in
+    let ways = arms here (name (codes "A")) [] leaves (arms here (name (codes "B")) [] uses no_arms) in
+    let inner = block_of (case_of here yes ways ∷ []) in
+    let lent = borrow_in here access.Write (name (codes "x")) (name (codes "r")) (name (codes "R")) inner here in
+    block_of (lent ∷ return_of here x ∷ [])
 
 -- Bodies, choices, what is met, and what becomes of x, which isn't Free.
 abbrev pub ways : List (PlainStatements × List ℕ × List Met × Fate)
 ways =
     (three_ways, [], whole yes ∷ whole (f_of x) ∷ whole yes ∷ [], going true)
     ∷ (three_ways, 1 ∷ [], whole yes ∷ whole no ∷ whole yes ∷ [], broken kinds.Unused)
-    ∷ (three_ways, 2 ∷ [], whole yes ∷ whole no ∷ whole (f_of x) ∷ whole (f_of x) ∷ whole yes ∷ [], broken kinds.Again)
-    ∷ (three_ways, 9 ∷ [], whole yes ∷ whole no ∷ whole (f_of x) ∷ whole (f_of x) ∷ whole yes ∷ [], broken kinds.Again)
+    ∷ (
+      three_ways,
+      2 ∷ [],
+      whole yes ∷ whole no ∷ whole (f_of x) ∷ whole (f_of x) ∷ whole yes ∷ [],
+      broken kinds.Again,
+    )
+    ∷ (
+      three_ways,
+      9 ∷ [],
+      whole yes ∷ whole no ∷ whole (f_of x) ∷ whole (f_of x) ∷ whole yes ∷ [],
+      broken kinds.Again,
+    )
     ∷ (some_turns, [], whole yes ∷ whole x ∷ [], going true)
-    ∷ (some_turns, 5 ∷ [], whole yes ∷ whole (f_of (dereference spot x)) ∷ whole yes ∷ whole x ∷ [], going true)
-    ∷ (some_turns, 1 ∷ 1 ∷ [], whole yes ∷ whole (f_of (dereference spot x)) ∷ whole yes ∷ whole (f_of (dereference spot x)) ∷ whole yes ∷ whole x ∷ [], going true)
-    ∷ (lent_and_left, [], opening access.Write (codes "x") ∷ whole yes ∷ whole (path spot (name (codes "r")) []) ∷ [], broken kinds.Unused)
-    ∷ (lent_and_left, 1 ∷ [], opening access.Write (codes "x") ∷ whole yes ∷ whole (f_of x) ∷ whole x ∷ [], broken kinds.Borrowed)
+    ∷ (
+      some_turns,
+      5 ∷ [],
+      whole yes ∷ whole (f_of (dereference spot x)) ∷ whole yes ∷ whole x ∷ [],
+      going true,
+    )
+    ∷ (
+      some_turns,
+      1 ∷ 1 ∷ [],
+      whole yes ∷ whole (f_of (dereference spot x)) ∷ whole yes ∷
+          whole (f_of (dereference spot x)) ∷ whole yes ∷ whole x ∷ [],
+      going true,
+    )
+    ∷ (
+      lent_and_left,
+      [],
+      opening access.Write (codes "x") ∷ whole yes ∷
+          whole (path spot (name (codes "r")) []) ∷ [],
+      broken kinds.Unused,
+    )
+    ∷ (
+      lent_and_left,
+      1 ∷ [],
+      opening access.Write (codes "x") ∷ whole yes ∷ whole (f_of x) ∷ whole x ∷ [],
+      broken kinds.Borrowed,
+    )
     ∷ []
 
 -- what the steps are, without what stands round them

@@ -18,8 +18,8 @@ is_free sorts.Free = true
 is_free sorts.WriteReference = false
 is_free sorts.Other = false
 
--- How the open borrow statements on a variable hold it: not at all, for reading or for writing. Or its name is that
--- of another variable there.
+-- How the open borrow statements on a variable hold it: not at all, for reading or for writing. Or its name
+-- is that of another variable there.
 pub data Hold : Type 0 where
   unlent : Hold
   read_lent : Hold
@@ -74,7 +74,8 @@ is_quiet k = (k.consumed == 0) && (k.written == 0)
 
 abbrev pub is_exactly : Counts → Counts → Bool
 is_exactly one k =
-    (k.consumed == one.consumed) && ((k.written == one.written) && ((k.read == one.read) && (k.looked == one.looked)))
+    (k.consumed == one.consumed)
+    && ((k.written == one.written) && ((k.read == one.read) && (k.looked == one.looked)))
 
 abbrev pub is_untouched : Counts → Bool
 is_untouched k = is_exactly unmentioned k
@@ -83,15 +84,16 @@ is_untouched k = is_exactly unmentioned k
 abbrev pub is_ordinary : Counts → Bool
 is_ordinary k = is_quiet k || (is_exactly (counts 0 1 0 0) k || is_exactly (counts 1 0 0 0) k)
 
--- While it is lent for reading, it is only read-borrowed and looked at; while it is lent for writing, it isn't met.
+-- While it is lent for reading, it is only read-borrowed and looked at; while it is lent for writing, it
+-- isn't met.
 abbrev pub is_allowed : Hold → Counts → Bool
 is_allowed unlent k = true
 is_allowed read_lent k = is_quiet k
 is_allowed write_lent k = is_untouched k
 is_allowed hidden k = true
 
--- how often a variable is consumed on a whole path: once, or at most once where it is a write reference, or never
--- where it is Free
+-- how often a variable is consumed on a whole path: once, or at most once where it is a write reference, or
+-- never where it is Free
 abbrev pub IsSpent : Sort → ℕ → Type 0
 IsSpent sorts.Free n = n ≡ 0
 IsSpent sorts.WriteReference n = n ≤ 1
@@ -104,7 +106,9 @@ module _ (x : Bytes) (sort : Sort) where
   -- after a step that consumes it, the variable isn't met
   abbrev pub UntouchedAfterwards : List Step → Type 0
   UntouchedAfterwards [] = Unit {0}
-  UntouchedAfterwards (s ∷ ss) = ((counts_at s).consumed ≢ 0 → All (λ t. IsTrue (is_untouched (counts_at t))) ss) × UntouchedAfterwards ss
+  UntouchedAfterwards (s ∷ ss) =
+      ((counts_at s).consumed ≢ 0 → All (λ t. IsTrue (is_untouched (counts_at t))) ss)
+      × UntouchedAfterwards ss
 
   abbrev pub consumptions : List Step → ℕ
   consumptions [] = 0
@@ -143,8 +147,10 @@ module _ (x : Bytes) (test : Hold → PlainExpression → Bool) where
     each_in (conditional_else at bs b) h = each_in_branches bs h && each_in_block b h
     each_in (case_of at e rest) h = test h e && each_in_arms rest h
     each_in (while_loop at e b) h = test h e && each_in_block b h
-    each_in (for_loop at name a z b) h = test h a && (test h z && each_in_block b (held_from x (declared name.name ∷ []) h))
-    each_in (borrow_in at access y r region b stop) h = each_in_block b (held_from x (declared r.name ∷ lent access y.name ∷ []) h)
+    each_in (for_loop at name a z b) h =
+        test h a && (test h z && each_in_block b (held_from x (declared name.name ∷ []) h))
+    each_in (borrow_in at access y r region b stop) h =
+        each_in_block b (held_from x (declared r.name ∷ lent access y.name ∷ []) h)
     each_in (borrow_typed at r t mode y b stop) h =
         each_in_block b (held_from x (declared r.name ∷ lent (access_of mode) y.name ∷ []) h)
     each_in (discard at e) h = test h e
@@ -163,8 +169,8 @@ module _ (x : Bytes) (test : Hold → PlainExpression → Bool) where
     each_in_arms (arms when' name binds b more) h =
         each_in_block b (held_from x (bound_names binds) h) && each_in_arms more h
 
--- each loop of a statement passes a test of its expressions; the test of a `while` stands in the loop, the bounds of
--- a `for` don't
+-- each loop of a statement passes a test of its expressions; the test of a `while` stands in the loop, the
+-- bounds of a `for` don't
 module _ (x : Bytes) (test : Hold → PlainExpression → Bool) where
   abbrev mutual
     pub each_loop : PlainStatement → Hold → Bool
@@ -178,8 +184,10 @@ module _ (x : Bytes) (test : Hold → PlainExpression → Bool) where
     each_loop (case_of at e rest) h = each_loop_of_arms rest h
     each_loop (while_loop at e b) h = test h e && (each_in_block x test b h && each_loop_of_block b h)
     each_loop (for_loop at name a z b) h =
-        each_in_block x test b (held_from x (declared name.name ∷ []) h) && each_loop_of_block b (held_from x (declared name.name ∷ []) h)
-    each_loop (borrow_in at access y r region b stop) h = each_loop_of_block b (held_from x (declared r.name ∷ lent access y.name ∷ []) h)
+        each_in_block x test b (held_from x (declared name.name ∷ []) h)
+        && each_loop_of_block b (held_from x (declared name.name ∷ []) h)
+    each_loop (borrow_in at access y r region b stop) h =
+        each_loop_of_block b (held_from x (declared r.name ∷ lent access y.name ∷ []) h)
     each_loop (borrow_typed at r t mode y b stop) h =
         each_loop_of_block b (held_from x (declared r.name ∷ lent (access_of mode) y.name ∷ []) h)
     each_loop (discard at e) h = true
@@ -187,7 +195,8 @@ module _ (x : Bytes) (test : Hold → PlainExpression → Bool) where
 
     pub each_loop_of_block : PlainStatements → Hold → Bool
     each_loop_of_block no_statements h = true
-    each_loop_of_block (statements s more) h = each_loop s h && each_loop_of_block more (held_from x (declared_by s) h)
+    each_loop_of_block (statements s more) h =
+        each_loop s h && each_loop_of_block more (held_from x (declared_by s) h)
 
     pub each_loop_of_branches : PlainBranches → Hold → Bool
     each_loop_of_branches no_branches h = true
@@ -211,8 +220,8 @@ module _ (x : Bytes) (sort : Sort) where
   abbrev pub GoodPaths : PlainStatements → Type 0
   GoodPaths b = (choices : List ℕ) → GoodPath x sort (follow_block b [] choices).steps
 
-  -- the life of x is good: on every path, and no consumption stands in a loop, or where an expression may leave out
-  -- to look
+  -- the life of x is good: on every path, and no consumption stands in a loop, or where an expression may
+  -- leave out to look
   pub record GoodLife (b : PlainStatements) : Type 0 where
     pub paths : GoodPaths b
     pub loops : IsTrue (keeps_loops b)
@@ -230,7 +239,8 @@ if_spent k = if is_untouched k then going true else broken kinds.Again
 -- a step that finds it alive
 abbrev pub if_live : Hold → Counts → Fate
 if_live h k =
-    if is_ordinary k then (if is_allowed h k then going (not (k.consumed == 0)) else broken kinds.Borrowed) else broken kinds.Clash
+    if is_ordinary k then (if is_allowed h k then going (not (k.consumed == 0)) else broken kinds.Borrowed)
+    else broken kinds.Clash
 
 -- what a step does
 abbrev pub verdict : Hold → Counts → Bool → Fate
@@ -265,9 +275,10 @@ EndsWell [] = Unit {0}
 EndsWell (n ∷ []) = n ≢ 0
 EndsWell (n ∷ m ∷ ms) = EndsWell (m ∷ ms)
 
--- A path that breaks the life of x, in that way first. Its numbers are read, each is the least that takes the same
--- way, and the last isn't 0.
-pub record BadPath (x : Bytes) (sort : Sort) (b : PlainStatements) (kind : LifeKind) (path : List ℕ) : Type 0 where
-  pub breaks : fate x sort (follow_block b [] path).steps ≡ broken kind
-  pub least : (more : List ℕ) × ((follow_block b [] path).taken ≡ path ++ more)
-  pub short : EndsWell path
+-- A path that breaks the life of x, in that way first. Its numbers are read, each is the least that takes the
+-- same way, and the last isn't 0.
+pub record BadPath (x : Bytes) (sort : Sort) (b : PlainStatements) (kind : LifeKind) (path : List ℕ) : Type 0
+  where
+    pub breaks : fate x sort (follow_block b [] path).steps ≡ broken kind
+    pub least : (more : List ℕ) × ((follow_block b [] path).taken ≡ path ++ more)
+    pub short : EndsWell path

@@ -68,8 +68,8 @@ module _ (x : Bytes) where
   where_named name one = if bytes_eq name x then one else unmentioned
 
   abbrev mutual
-    -- The mentions of x in an expression, by whether the type of x is Free. What `!` stands before is only looked
-    -- at where it is a variable, and so is what is Free.
+    -- The mentions of x in an expression, by whether the type of x is Free. What `!` stands before is only
+    -- looked at where it is a variable, and so is what is Free.
     pub counts_in : Bool → PlainExpression → Counts
     counts_in free (number node literal) = unmentioned
     counts_in free (negative node literal) = unmentioned
@@ -95,15 +95,16 @@ module _ (x : Bytes) where
 
     pub counts_in_arguments : Bool → PlainArguments → Counts
     counts_in_arguments free no_arguments = unmentioned
-    counts_in_arguments free (arguments label e rest) = plus (counts_in free e) (counts_in_arguments free rest)
+    counts_in_arguments free (arguments label e rest) =
+        plus (counts_in free e) (counts_in_arguments free rest)
 
   -- x isn't consumed in the expression
   abbrev pub is_kept : Bool → PlainExpression → Bool
   is_kept free e = (counts_in free e).consumed == 0
 
   abbrev mutual
-    -- x isn't consumed where the expression may leave out to look: in no branch of a conditional expression, and in
-    -- no right side of `and` or `or`
+    -- x isn't consumed where the expression may leave out to look: in no branch of a conditional expression,
+    -- and in no right side of `and` or `or`
     pub keeps_parts : Bool → PlainExpression → Bool
     keeps_parts free (number node literal) = true
     keeps_parts free (negative node literal) = true
@@ -130,4 +131,5 @@ module _ (x : Bytes) where
 
     pub keeps_parts_of_arguments : Bool → PlainArguments → Bool
     keeps_parts_of_arguments free no_arguments = true
-    keeps_parts_of_arguments free (arguments label e rest) = keeps_parts free e && keeps_parts_of_arguments free rest
+    keeps_parts_of_arguments free (arguments label e rest) =
+        keeps_parts free e && keeps_parts_of_arguments free rest

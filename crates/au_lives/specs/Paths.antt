@@ -31,8 +31,8 @@ pub record Step : Type 0 where
 abbrev pub step : Met → List Around → Step
 step m os = record { what = m; around = os }
 
--- What a path through a part met, the numbers that it read, each the least that takes the same way, the choices
--- that are left, and whether it returned.
+-- What a path through a part met, the numbers that it read, each the least that takes the same way, the
+-- choices that are left, and whether it returned.
 pub record Run : Type 0 where
   pub steps : List Step
   pub taken : List ℕ
@@ -56,7 +56,12 @@ chose n r = record { steps = r.steps; taken = n ∷ r.taken; rest = r.rest; retu
 
 -- one part and then another
 abbrev pub followed : Run → Run → Run
-followed r s = record { steps = r.steps ++ s.steps; taken = r.taken ++ s.taken; rest = s.rest; returned = s.returned }
+followed r s = record {
+  steps = r.steps ++ s.steps;
+  taken = r.taken ++ s.taken;
+  rest = s.rest;
+  returned = s.returned;
+}
 
 -- one part and then another, unless the first returned
 abbrev pub and_then : Run → (List ℕ → Run) → Run
@@ -66,7 +71,11 @@ and_then r more = if r.returned then r else followed r (more r.rest)
 abbrev pub turns : List Step → (List ℕ → Run) → ℕ → List ℕ → Run
 turns tests body zero cs = with_steps tests (chose 0 (met [] (drop 1 cs)))
 turns tests body (suc n) cs =
-    with_steps tests (if first cs == 0 then chose 0 (met [] (drop 1 cs)) else and_then (chose 1 (body (drop 1 cs))) (turns tests body n))
+    with_steps tests
+    (
+    if first cs == 0 then chose 0 (met [] (drop 1 cs))
+    else and_then (chose 1 (body (drop 1 cs))) (turns tests body n)
+    )
 
 abbrev pub count_of_branches : PlainBranches → ℕ
 count_of_branches no_branches = 0
@@ -102,26 +111,31 @@ says e os = step (whole e) os
 
 abbrev mutual
   -- The path through a statement that the choices pick, and what is met on it: each conditional and each case
-  -- reads the number of its arm, one past the last takes the last, and each turn of a loop reads whether it is made.
+  -- reads the number of its arm, one past the last takes the last, and each turn of a loop reads whether it
+  -- is made.
   pub follow : PlainStatement → List Around → List ℕ → Run
   follow (skip at) os cs = met [] cs
   follow (declare at binding name t e) os cs = met (says e os ∷ []) cs
   follow (destructure at binds e) os cs = met (says e os ∷ []) cs
   follow (assign at name fields e) os cs = met (says e os ∷ step (assignment name.name) os ∷ []) cs
-  follow (assign_through at name fields e) os cs = met (says e os ∷ step (assignment_behind name.name) os ∷ []) cs
+  follow (assign_through at name fields e) os cs =
+      met (says e os ∷ step (assignment_behind name.name) os ∷ []) cs
   follow (conditional at bs) os cs =
       chose (min (first cs) (count_of_branches bs)) (follow_branches bs os (met []) (first cs) (drop 1 cs))
   follow (conditional_else at bs b) os cs =
-      chose (min (first cs) (count_of_branches bs)) (follow_branches bs os (follow_block b os) (first cs) (drop 1 cs))
+      chose (min (first cs) (count_of_branches bs))
+      (follow_branches bs os (follow_block b os) (first cs) (drop 1 cs))
   follow (case_of at e no_arms) os cs = with_steps (says e os ∷ []) (chose 0 (met [] (drop 1 cs)))
   follow (case_of at e (arms when' name binds b more)) os cs =
       with_steps (says e os ∷ []) (chose (min (first cs) (count_of_arms more))
       (follow_arms more os (follow_block b (bound_names binds ++ os)) (first cs) (drop 1 cs)))
   follow (while_loop at e b) os cs = turns (says e os ∷ []) (follow_block b os) (length cs) cs
   follow (for_loop at name a z b) os cs =
-      with_steps (says a os ∷ says z os ∷ []) (turns [] (follow_block b (declared name.name ∷ os)) (length cs) cs)
+      with_steps (says a os ∷ says z os ∷ [])
+      (turns [] (follow_block b (declared name.name ∷ os)) (length cs) cs)
   follow (borrow_in at access x r region b stop) os cs =
-      with_steps (step (opening access x.name) os ∷ []) (follow_block b (declared r.name ∷ lent access x.name ∷ os) cs)
+      with_steps (step (opening access x.name) os ∷ [])
+      (follow_block b (declared r.name ∷ lent access x.name ∷ os) cs)
   follow (borrow_typed at r t mode x b stop) os cs =
       with_steps (step (opening (access_of mode) x.name) os ∷ [])
       (follow_block b (declared r.name ∷ lent (access_of mode) x.name ∷ os) cs)
@@ -137,10 +151,12 @@ abbrev mutual
   pub follow_branches : PlainBranches → List Around → (List ℕ → Run) → ℕ → List ℕ → Run
   follow_branches no_branches os other n cs = other cs
   follow_branches (branches e b more) os other zero cs = with_steps (says e os ∷ []) (follow_block b os cs)
-  follow_branches (branches e b more) os other (suc n) cs = with_steps (says e os ∷ []) (follow_branches more os other n cs)
+  follow_branches (branches e b more) os other (suc n) cs =
+      with_steps (says e os ∷ []) (follow_branches more os other n cs)
 
   -- the arm of that number, counted from this one on, or the last
   pub follow_arms : PlainArms → List Around → (List ℕ → Run) → ℕ → List ℕ → Run
   follow_arms no_arms os this n cs = this cs
   follow_arms (arms when' name binds b more) os this zero cs = this cs
-  follow_arms (arms when' name binds b more) os this (suc n) cs = follow_arms more os (follow_block b (bound_names binds ++ os)) n cs
+  follow_arms (arms when' name binds b more) os this (suc n) cs =
+      follow_arms more os (follow_block b (bound_names binds ++ os)) n cs

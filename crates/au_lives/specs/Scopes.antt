@@ -25,8 +25,8 @@ scopes_after (destructure at binds e) more = bound_over binds more
 scopes_after s more = []
 
 abbrev mutual
-  -- The variables that are declared in a block. One of `let`, `var` and a `let` of fields has the rest of its block
-  -- after the declaration; one of an arm, of a `for` and of a borrow statement has the block there.
+  -- The variables that are declared in a block. One of `let`, `var` and a `let` of fields has the rest of its
+  -- block after the declaration; one of an arm, of a `for` and of a borrow statement has the block there.
   pub scopes : PlainStatements → List Scope
   scopes no_statements = []
   scopes (statements s more) = scopes_after s more ++ (scopes_inside s ++ scopes more)

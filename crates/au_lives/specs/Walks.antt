@@ -142,7 +142,8 @@ turning body v cs = picking 1 (body v (drop 1 cs))
 abbrev pub turns_by : Machine → Machine → ℕ → Machine
 turns_by test body zero v cs = onto (test v cs) leave
 turns_by test body (suc n) v cs =
-    onto (test v cs) (λ w ds. if first ds == 0 then leave w ds else onto (turning body w ds) (turns_by test body n))
+    onto (test v cs) (λ w ds.
+    if first ds == 0 then leave w ds else onto (turning body w ds) (turns_by test body n))
 
 abbrev pub looping : Machine → Machine → Machine
 looping test body v cs = turns_by test body (length cs) v cs
@@ -166,7 +167,8 @@ module _ (x : Bytes) (sort : Sort) where
     drive (skip at) h = step_by going
     drive (declare at binding name t e) h = step_by (does (whole e) h)
     drive (destructure at binds e) h = step_by (does (whole e) h)
-    drive (assign at name fields e) h = in_turn (step_by (does (whole e) h)) (step_by (does (assignment name.name) h))
+    drive (assign at name fields e) h =
+        in_turn (step_by (does (whole e) h)) (step_by (does (assignment name.name) h))
     drive (assign_through at name fields e) h =
         in_turn (step_by (does (whole e) h)) (step_by (does (assignment_behind name.name) h))
     drive (conditional at bs) h = chosen (count_of_branches bs) (drive_branches bs h (step_by going))
@@ -208,12 +210,14 @@ module _ (x : Bytes) (sort : Sort) where
     walk (skip at) h r = Ok r
     walk (declare at binding name t e) h r = walk_step (does (whole e) h) r
     walk (destructure at binds e) h r = walk_step (does (whole e) h) r
-    walk (assign at name fields e) h r = walk_step (does (whole e) h) r >>= walk_step (does (assignment name.name) h)
+    walk (assign at name fields e) h r =
+        walk_step (does (whole e) h) r >>= walk_step (does (assignment name.name) h)
     walk (assign_through at name fields e) h r =
         walk_step (does (whole e) h) r >>= walk_step (does (assignment_behind name.name) h)
     walk (conditional at bs) h r = walk_branches bs h Ok 0 r nowhere
     walk (conditional_else at bs b) h r = walk_branches bs h (walk_block b h) 0 r nowhere
-    walk (case_of at e no_arms) h r = walk_step (does (whole e) h) r >>= (λ q. Ok (choose 0 q) >>= joined nowhere)
+    walk (case_of at e no_arms) h r =
+        walk_step (does (whole e) h) r >>= (λ q. Ok (choose 0 q) >>= joined nowhere)
     walk (case_of at e (arms when' name binds b more)) h r =
         walk_step (does (whole e) h) r
         >>= (λ q. walk_arms more h (walk_block b (held_from x (bound_names binds) h)) 0 q nowhere)

@@ -18,7 +18,8 @@ pub fn mentions_are_counted()
     ensures { Each (λ row. counts_in (codes "x") false row.0 ≡ row.1) mentions }
 {}
 
-/// The paths of three small bodies meet the steps that are written by hand, and do to a variable what is said there.
+/// The paths of three small bodies meet the steps that are written by hand, and do to a variable what is said
+/// there.
 pub fn paths_are_followed()
     ensures met { Each (λ row. without_around (follow_block row.0 [] row.1).steps ≡ row.2) ways }
     ensures done { Each (λ row. fate (codes "x") sorts.Other (follow_block row.0 [] row.1).steps ≡ row.3) ways }
@@ -59,8 +60,8 @@ pub fn the_walk_decides_paths()
         → (o : Reach) × (checked x sort b ≡ Ok o) }
 {}
 
-/// Where the walk says no, its path without the zeros at the end breaks the life, in that way first; each of its
-/// numbers is read, and is the least that takes the same way.
+/// Where the walk says no, its path without the zeros at the end breaks the life, in that way first; each of
+/// its numbers is read, and is the least that takes the same way.
 pub fn a_no_keeps_a_bad_path()
     ensures { (x : List ℕ) (sort : Sort) (b : PlainStatements) (e : Breach)
         → IsTrue (keeps_loops x sort b)
@@ -76,8 +77,8 @@ pub fn bad_paths_break_good_lives()
         → ⊥ }
 {}
 
-/// A life is good exactly where no consumption stands in a loop, none stands where an expression may leave out to
-/// look, and the walk says yes.
+/// A life is good exactly where no consumption stands in a loop, none stands where an expression may leave
+/// out to look, and the walk says yes.
 pub fn good_lives_are_decided()
     ensures yes { (x : List ℕ) (sort : Sort) (b : PlainStatements) (o : Reach)
         → IsTrue (keeps_loops x sort b)

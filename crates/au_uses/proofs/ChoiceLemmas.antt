@@ -15,7 +15,8 @@ pub record Counting (sum rest all : ℕ) : Type 0 where
   pub small : sum ≡ counted sum
 
 -- one more part of a sum: what is left of it is less
-pub added : (sum part next all k l m : ℕ) → Counting sum m all → part ≡ counted k → m ≡ k + l → next ≡ counted (sum + part) → Counting next l all
+pub added : (sum part next all k l m : ℕ) → Counting sum m all → part ≡ counted k → m ≡ k + l → next
+    ≡ counted (sum + part) → Counting next l all
 added sum part next all k l m before p split n = record {
   total = omega (arith, before.total, p, split, n);
   small = omega (arith, n);
@@ -26,26 +27,34 @@ pub ended : (sum all m : ℕ) → counted (sum + m) ≡ counted all → m ≡ 0 
 ended sum all m h e small = omega (arith, h, e, small)
 
 module _ {X N T C : Type 0} (g : Ghosts X N T C) where
-  pub none_of_block : (xs : List (Stmt X N T C)) (i : ℕ) → length xs ≤ i → places_of_block (plain_statements g.name_bytes (statement_all g (drop i xs))) ≡ 0
-  none_of_block xs i h = ap (λ l. places_of_block (plain_statements g.name_bytes (statement_all g l))) (drop_all i xs h)
+  pub none_of_block : (xs : List (Stmt X N T C)) (i : ℕ) → length xs ≤ i →
+      places_of_block (plain_statements g.name_bytes (statement_all g (drop i xs))) ≡ 0
+  none_of_block xs i h =
+      ap (λ l. places_of_block (plain_statements g.name_bytes (statement_all g l))) (drop_all i xs h)
 
-  pub none_of_branches : (xs : List (Branch X N T C)) (i : ℕ) → length xs ≤ i → places_of_branches (plain_branches g.name_bytes (branch_all g (drop i xs))) ≡ 0
-  none_of_branches xs i h = ap (λ l. places_of_branches (plain_branches g.name_bytes (branch_all g l))) (drop_all i xs h)
+  pub none_of_branches : (xs : List (Branch X N T C)) (i : ℕ) → length xs ≤ i →
+      places_of_branches (plain_branches g.name_bytes (branch_all g (drop i xs))) ≡ 0
+  none_of_branches xs i h =
+      ap (λ l. places_of_branches (plain_branches g.name_bytes (branch_all g l))) (drop_all i xs h)
 
-  pub none_of_arms : (xs : List (Arm X N T C)) (i : ℕ) → length xs ≤ i → places_of_arms (plain_arms g.name_bytes (arm_all g (drop i xs))) ≡ 0
+  pub none_of_arms : (xs : List (Arm X N T C)) (i : ℕ) → length xs ≤ i →
+      places_of_arms (plain_arms g.name_bytes (arm_all g (drop i xs))) ≡ 0
   none_of_arms xs i h = ap (λ l. places_of_arms (plain_arms g.name_bytes (arm_all g l))) (drop_all i xs h)
 
   pub left_of_block : (xs : List (Stmt X N T C)) (i : ℕ) (d : Stmt X N T C) → i < length xs →
       places_of_block (plain_statements g.name_bytes (statement_all g (drop i xs)))
-      ≡ places (plain_statement g.name_bytes (statement g (get_or xs i d))) + places_of_block (plain_statements g.name_bytes (statement_all g (drop (i + 1) xs)))
+      ≡ places (plain_statement g.name_bytes (statement g (get_or xs i d))) + places_of_block
+      (plain_statements g.name_bytes (statement_all g (drop (i + 1) xs)))
   left_of_block xs i d h = rw (add-one, drop-cons xs i d h) refl
 
   pub left_of_branches : (xs : List (Branch X N T C)) (i : ℕ) (d : Branch X N T C) → i < length xs →
       places_of_branches (plain_branches g.name_bytes (branch_all g (drop i xs)))
-      ≡ places_of_block (plain_statements g.name_bytes (block g (get_or xs i d).block)) + places_of_branches (plain_branches g.name_bytes (branch_all g (drop (i + 1) xs)))
+      ≡ places_of_block (plain_statements g.name_bytes (block g (get_or xs i d).block)) + places_of_branches
+      (plain_branches g.name_bytes (branch_all g (drop (i + 1) xs)))
   left_of_branches xs i d h = rw (add-one, drop-cons xs i d h) refl
 
   pub left_of_arms : (xs : List (Arm X N T C)) (i : ℕ) (d : Arm X N T C) → i < length xs →
       places_of_arms (plain_arms g.name_bytes (arm_all g (drop i xs)))
-      ≡ places_of_block (plain_statements g.name_bytes (block g (get_or xs i d).block)) + places_of_arms (plain_arms g.name_bytes (arm_all g (drop (i + 1) xs)))
+      ≡ places_of_block (plain_statements g.name_bytes (block g (get_or xs i d).block)) + places_of_arms
+      (plain_arms g.name_bytes (arm_all g (drop (i + 1) xs)))
   left_of_arms xs i d h = rw (add-one, drop-cons xs i d h) refl

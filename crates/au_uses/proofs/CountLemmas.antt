@@ -20,7 +20,8 @@ few_plus : (m n : ℕ) → few (m + n) ≡ few_and (few m) (few n)
 few_plus zero n = ap few (omega arith)
 few_plus (suc zero) zero = refl
 few_plus (suc zero) (suc zero) = refl
-few_plus (suc zero) (suc (suc n)) = let e : suc zero + suc (suc n) ≡ suc (suc (suc n)) = omega arith in ap few e
+few_plus (suc zero) (suc (suc n)) = let e : suc zero + suc (suc n) ≡ suc (suc (suc n)) = omega arith in
+    ap few e
 few_plus (suc (suc m)) n = let e : suc (suc m) + n ≡ suc (suc (m + n)) = omega arith in ap few e
 
 few_assoc : (a b c : Few) → few_and (few_and a b) c ≡ few_and a (few_and b c)
@@ -45,23 +46,29 @@ tally_same p q r s = cc
 
 -- both parts together
 pub tally_plus : (k l : Counts) → tally_of (plus k l) ≡ tally_and (tally_of k) (tally_of l)
-tally_plus k l = tally_same (few_plus k.consumed l.consumed) (few_plus k.written l.written) (few_plus k.read l.read) (few_plus k.looked l.looked)
+tally_plus k l = tally_same (few_plus k.consumed l.consumed) (few_plus k.written l.written)
+    (few_plus k.read l.read) (few_plus k.looked l.looked)
 
 -- three parts together
-pub tally_plus_both : (k l m : Counts) → tally_of (plus k (plus l m)) ≡ tally_and (tally_of k) (tally_and (tally_of l) (tally_of m))
+pub tally_plus_both : (k l m : Counts) → tally_of (plus k (plus l m))
+    ≡ tally_and (tally_of k) (tally_and (tally_of l) (tally_of m))
 tally_plus_both k l m = tally_plus k (plus l m) ∙ ap (tally_and (tally_of k)) (tally_plus l m)
 
 pub tally_assoc : (a b c : Tally) → tally_and (tally_and a b) c ≡ tally_and a (tally_and b c)
-tally_assoc a b c = tally_same (few_assoc a.consumed b.consumed c.consumed) (few_assoc a.written b.written c.written) (few_assoc a.read b.read c.read) (few_assoc a.looked b.looked c.looked)
+tally_assoc a b c = tally_same (few_assoc a.consumed b.consumed c.consumed)
+    (few_assoc a.written b.written c.written) (few_assoc a.read b.read c.read)
+    (few_assoc a.looked b.looked c.looked)
 
 pub tally_none : (a : Tally) → tally_and a (tally_of unmentioned) ≡ a
 tally_none a = tally_same (few_none a.consumed) (few_none a.written) (few_none a.read) (few_none a.looked)
 
-pick : (b : Bool) (k : Counts) → tally_of (if b then k else unmentioned) ≡ (if b then tally_of k else tally_of unmentioned)
+pick : (b : Bool) (k : Counts) → tally_of (if b then k else unmentioned)
+    ≡ (if b then tally_of k else tally_of unmentioned)
 pick true k = refl
 pick false k = refl
 
-pub tally_named : (x name : Bytes) (k : Counts) → tally_of (where_named x name k) ≡ (if bytes_eq name x then tally_of k else tally_of unmentioned)
+pub tally_named : (x name : Bytes) (k : Counts) → tally_of (where_named x name k)
+    ≡ (if bytes_eq name x then tally_of k else tally_of unmentioned)
 tally_named x name k = pick (bytes_eq name x) k
 
 not_none : (n : ℕ) (b : Bool) → (suc n == 0) ≡ b → b ≡ false
@@ -72,20 +79,24 @@ some : (n : ℕ) → (suc n == 0) ≡ false
 some n = not_none n (suc n == 0) refl
 
 -- a path is a variable alone where it has no fields
-pub alone : {A B : Type 0} (g : A → B) (f : B → Placed Bytes) (node : Node (Unit {0})) (name : Placed Bytes) (fields : List A) →
+pub alone : {A B : Type 0} (g : A → B) (f : B → Placed Bytes) (node : Node (Unit {0})) (name : Placed Bytes)
+    (fields : List A) →
     is_variable (path node name (map f (map g fields))) ≡ (length fields == 0)
 alone g f node name [] = refl
 alone g f node name (field ∷ fields) = sym (some (length fields))
 
 pub with_fields : {A B : Type 0} (g : A → B) (f : B → Placed Bytes) (free : Bool) (fields : List A) →
-    mentioned_with free (map f (map g fields)) ≡ (if free || not (length fields == 0) then one_look else one_consumption)
+    mentioned_with free (map f (map g fields))
+    ≡ (if free || not (length fields == 0) then one_look else one_consumption)
 with_fields g f true [] = refl
 with_fields g f false [] = refl
 with_fields g f true (field ∷ fields) = refl
-with_fields g f false (field ∷ fields) = ap (λ (b : Bool). if not b then one_look else one_consumption) (sym (some (length fields)))
+with_fields g f false (field ∷ fields) =
+    ap (λ (b : Bool). if not b then one_look else one_consumption) (sym (some (length fields)))
 
 -- one more part of a sum: what is left of it is less
-pub added : (sum part next all : Tally) (k l m : Counts) → tally_and sum (tally_of m) ≡ all → part ≡ tally_of k → m ≡ plus k l → next ≡ tally_and sum part → tally_and next (tally_of l) ≡ all
+pub added : (sum part next all : Tally) (k l m : Counts) → tally_and sum (tally_of m) ≡ all → part
+    ≡ tally_of k → m ≡ plus k l → next ≡ tally_and sum part → tally_and next (tally_of l) ≡ all
 added sum part next all k l m before p split n =
     ap (λ t. tally_and t (tally_of l)) n
     ∙ tally_assoc sum part (tally_of l)
@@ -98,20 +109,26 @@ pub ended : (sum all : Tally) (m : Counts) → tally_and sum (tally_of m) ≡ al
 ended sum all m h e = sym (tally_none sum) ∙ ap (λ k. tally_and sum (tally_of k)) (sym e) ∙ h
 
 module _ {X N T C : Type 0} (g : Ghosts X N T C) (x : Bytes) (free : Bool) where
-  pub none_of_all : (xs : List (Expr X N T C)) (i : ℕ) → length xs ≤ i → counts_in_all x free (plain_expressions g.name_bytes (expression_all g (drop i xs))) ≡ unmentioned
-  none_of_all xs i h = ap (λ l. counts_in_all x free (plain_expressions g.name_bytes (expression_all g l))) (drop_all i xs h)
+  pub none_of_all : (xs : List (Expr X N T C)) (i : ℕ) → length xs ≤ i →
+      counts_in_all x free (plain_expressions g.name_bytes (expression_all g (drop i xs))) ≡ unmentioned
+  none_of_all xs i h = ap (λ l. counts_in_all x free (plain_expressions g.name_bytes (expression_all g l)))
+      (drop_all i xs h)
 
-  pub none_of_arguments : (xs : List (Argument X N T C)) (i : ℕ) → length xs ≤ i → counts_in_arguments x free (plain_arguments g.name_bytes (argument_all g (drop i xs))) ≡ unmentioned
-  none_of_arguments xs i h = ap (λ l. counts_in_arguments x free (plain_arguments g.name_bytes (argument_all g l))) (drop_all i xs h)
+  pub none_of_arguments : (xs : List (Argument X N T C)) (i : ℕ) → length xs ≤ i →
+      counts_in_arguments x free (plain_arguments g.name_bytes (argument_all g (drop i xs))) ≡ unmentioned
+  none_of_arguments xs i h =
+      ap (λ l. counts_in_arguments x free (plain_arguments g.name_bytes (argument_all g l))) (drop_all i xs h)
 
   pub left_of_all : (xs : List (Expr X N T C)) (i : ℕ) (d : Expr X N T C) → i < length xs →
       counts_in_all x free (plain_expressions g.name_bytes (expression_all g (drop i xs)))
-      ≡ plus (counts_in x free (plain_expression g.name_bytes (expression g (get_or xs i d)))) (counts_in_all x free (plain_expressions g.name_bytes (expression_all g (drop (i + 1) xs))))
+      ≡ plus (counts_in x free (plain_expression g.name_bytes (expression g (get_or xs i d))))
+      (counts_in_all x free (plain_expressions g.name_bytes (expression_all g (drop (i + 1) xs))))
   left_of_all xs i d h = rw (add-one, drop-cons xs i d h) refl
 
   pub left_of_arguments : (xs : List (Argument X N T C)) (i : ℕ) (d : Argument X N T C) → i < length xs →
       counts_in_arguments x free (plain_arguments g.name_bytes (argument_all g (drop i xs)))
-      ≡ plus (counts_in x free (plain_expression g.name_bytes (expression g (get_or xs i d).value))) (counts_in_arguments x free (plain_arguments g.name_bytes (argument_all g (drop (i + 1) xs))))
+      ≡ plus (counts_in x free (plain_expression g.name_bytes (expression g (get_or xs i d).value)))
+      (counts_in_arguments x free (plain_arguments g.name_bytes (argument_all g (drop (i + 1) xs))))
   left_of_arguments xs i d h = rw (add-one, drop-cons xs i d h) refl
 
 pub ruleset count_steps = (tally_plus, tally_plus_both, tally_named)

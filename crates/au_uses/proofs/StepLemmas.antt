@@ -50,7 +50,8 @@ abbrev untouched : Few → Few → Few → Few → Bool
 untouched c w r l = is_zero c && (is_zero w && (is_zero r && is_zero l))
 
 abbrev ruled : State → Few → Few → Few → Few → Verdict
-ruled Live c w r l = if quiet c w || (lent c w r l || spent c w r l) then (if is_zero c then Stay else Spend) else Bad
+ruled Live c w r l = if quiet c w
+    || (lent c w r l || spent c w r l) then (if is_zero c then Stay else Spend) else Bad
 ruled Read c w r l = if quiet c w then Stay else Bad
 ruled Shut c w r l = if untouched c w r l then Stay else Bad
 
@@ -85,11 +86,20 @@ rows Shut Zero More r l = refl
 rows Shut One w r l = refl
 rows Shut More w r l = refl
 
-agree : (s : State) (k : Counts) → ruled s (few k.consumed) (few k.written) (few k.read) (few k.looked) ≡ verdict_on s k
-agree Live k = rw (zero_few k.consumed, zero_few k.written, zero_few k.read, zero_few k.looked, one_few k.consumed, one_few k.written) refl
+agree : (s : State) (k : Counts) → ruled s (few k.consumed) (few k.written) (few k.read) (few k.looked)
+    ≡ verdict_on s k
+agree Live k = rw (
+  zero_few k.consumed,
+  zero_few k.written,
+  zero_few k.read,
+  zero_few k.looked,
+  one_few k.consumed,
+  one_few k.written,
+) refl
 agree Read k = rw (zero_few k.consumed, zero_few k.written) refl
 agree Shut k = rw (zero_few k.consumed, zero_few k.written, zero_few k.read, zero_few k.looked) refl
 
-pub step_rows : (s : State) (c : Tally) (v : Verdict) → v ≡ row s c → (k : Counts) → tally_of k ≡ c → v ≡ verdict_on s k
+pub step_rows : (s : State) (c : Tally) (v : Verdict) → v ≡ row s c → (k : Counts) → tally_of k ≡ c → v
+    ≡ verdict_on s k
 step_rows s c v h k e =
     h ∙ ap (row s) (sym e) ∙ rows s (few k.consumed) (few k.written) (few k.read) (few k.looked) ∙ agree s k

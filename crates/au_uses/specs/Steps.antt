@@ -10,8 +10,9 @@ use Rattle.au_uses.specs.declared.steps.State.TheVariants.{Live, Read, Shut}
 use Rattle.au_uses.specs.declared.steps.Verdict.{Verdict}
 use Rattle.au_uses.specs.declared.steps.Verdict.TheVariants.{Stay, Spend, Bad}
 
--- In one step a variable is read-borrowed and looked at, or write-borrowed once, or consumed once; while it is lent
--- for reading it is only read-borrowed and looked at; and where it is consumed or lent for writing it isn't met.
+-- In one step a variable is read-borrowed and looked at, or write-borrowed once, or consumed once; while it
+-- is lent for reading it is only read-borrowed and looked at; and where it is consumed or lent for writing it
+-- isn't met.
 abbrev pub verdict_on : State → Counts → Verdict
 verdict_on Live k = if is_ordinary k then (if k.consumed == 0 then Stay else Spend) else Bad
 verdict_on Read k = if is_quiet k then Stay else Bad

@@ -13,7 +13,13 @@ few (suc (suc n)) = More
 
 -- each count, up to two
 abbrev pub tally_of : Counts → Tally
-tally_of k = record { consumed = few k.consumed; written = few k.written; read = few k.read; looked = few k.looked }
+tally_of k = record {
+  consumed = few k.consumed;
+  written = few k.written;
+  read = few k.read;
+  looked =
+      few k.looked;
+}
 
 -- the sum, up to two
 abbrev pub few_and : Few → Few → Few

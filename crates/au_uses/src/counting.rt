@@ -23,7 +23,8 @@ const NONE: Tally = Tally {
 #[tactic(auto, using(crate::proofs::CountLemmas::count_steps, au_syntax::proofs::ExpressionLemmas::expression_steps))]
 #[cycle(counts)]
 pub fn counts<P: Phase>(x: &Name, free: bool, e: &Expr<P>) -> Tally
-    ensures { result ≡ tally_of (counts_in x.now free (plain_expression P.name_bytes (expression P.Phase e.now))) }
+    ensures { result ≡ tally_of
+        (counts_in x.now free (plain_expression P.name_bytes (expression P.Phase e.now))) }
 {
     match e {
         Expr::Number(_, _) => NONE,
@@ -54,7 +55,9 @@ pub fn counts<P: Phase>(x: &Name, free: bool, e: &Expr<P>) -> Tally
 /// How often some expressions mention a variable.
 #[cycle(counts)]
 fn counts_of_all<P: Phase>(x: &Name, free: bool, exprs: &Vec<Expr<P>>) -> Tally
-    ensures { result ≡ tally_of (counts_in_all x.now free (plain_expressions P.name_bytes (expression_all P.Phase exprs.now.items))) }
+    ensures { result ≡ tally_of
+        (counts_in_all x.now free
+        (plain_expressions P.name_bytes (expression_all P.Phase exprs.now.items))) }
 {
     let mut sum = NONE;
     for one in exprs {
@@ -67,7 +70,9 @@ fn counts_of_all<P: Phase>(x: &Name, free: bool, exprs: &Vec<Expr<P>>) -> Tally
 /// How often some named arguments mention a variable.
 #[cycle(counts)]
 fn counts_of_arguments<P: Phase>(x: &Name, free: bool, arguments: &Vec<Argument<P>>) -> Tally
-    ensures { result ≡ tally_of (counts_in_arguments x.now free (plain_arguments P.name_bytes (argument_all P.Phase arguments.now.items))) }
+    ensures { result ≡ tally_of
+        (counts_in_arguments x.now free
+        (plain_arguments P.name_bytes (argument_all P.Phase arguments.now.items))) }
 {
     let mut sum = NONE;
     for one in arguments {
@@ -80,7 +85,8 @@ fn counts_of_arguments<P: Phase>(x: &Name, free: bool, arguments: &Vec<Argument<
 /// How often a named argument mentions a variable.
 #[cycle(counts)]
 fn counts_of_argument<P: Phase>(x: &Name, free: bool, argument: &Argument<P>) -> Tally
-    ensures { result ≡ tally_of (counts_in x.now free (plain_expression P.name_bytes (expression P.Phase argument.now.value))) }
+    ensures { result ≡ tally_of
+        (counts_in x.now free (plain_expression P.name_bytes (expression P.Phase argument.now.value))) }
 {
     counts(x, free, &argument.value)
 }
@@ -126,7 +132,8 @@ fn where_named<P: Phase>(x: &Name, name: &Ident<P>, one: Tally) -> Tally
 /// What a variable or its part counts as.
 fn mentioned_with<P: Phase>(free: bool, fields: &Vec<Ident<P>>) -> Tally
     ensures { result
-        ≡ tally_of (mentioned_with free (map (plain_name P.name_bytes) (map (placed P.Phase) fields.now.items))) }
+        ≡ tally_of (mentioned_with free
+        (map (plain_name P.name_bytes) (map (placed P.Phase) fields.now.items))) }
 {
     let items = fields.as_slice();
     let whole = items.is_empty();

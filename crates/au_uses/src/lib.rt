@@ -1,4 +1,5 @@
-//! What one step does to a variable: how often it mentions it, and whether it may; and how many numbers a path reads.
+//! What one step does to a variable: how often it mentions it, and whether it may; and how many numbers a
+//! path reads.
 #![tactic(auto)]
 
 pub mod counting;

@@ -14,8 +14,8 @@ fn sum_of(one: u64, other: u64) -> u64
     one.saturating_add(other)
 }
 
-/// How many places of a block read a number: its conditionals, its cases and its loops. More than 2^64 - 1 count
-/// as so many.
+/// How many places of a block read a number: its conditionals, its cases and its loops. More than 2^64 - 1
+/// count as so many.
 #[cycle(choices)]
 pub fn choices<P: Phase>(b: &Block<P>) -> u64
     ensures { result ≡ counted (places_of_block (plain_statements P.name_bytes (block P.Phase b.now))) }
@@ -57,7 +57,8 @@ fn choices_of<P: Phase>(stmt: &Stmt<P>) -> u64
 /// How many places of some branches read a number.
 #[cycle(choices)]
 fn choices_of_branches<P: Phase>(branches: &Vec<Branch<P>>) -> u64
-    ensures { result ≡ counted (places_of_branches (plain_branches P.name_bytes (branch_all P.Phase branches.now.items))) }
+    ensures { result ≡ counted
+        (places_of_branches (plain_branches P.name_bytes (branch_all P.Phase branches.now.items))) }
 {
     let mut sum = 0;
     for one in branches {
@@ -83,7 +84,8 @@ fn choices_of_arms<P: Phase>(arms: &Vec<Arm<P>>) -> u64
 /// How many places of a branch read a number.
 #[cycle(choices)]
 fn choices_of_branch<P: Phase>(branch: &Branch<P>) -> u64
-    ensures { result ≡ counted (places_of_block (plain_statements P.name_bytes (block P.Phase branch.now.block))) }
+    ensures { result ≡ counted
+        (places_of_block (plain_statements P.name_bytes (block P.Phase branch.now.block))) }
 {
     choices(&branch.block)
 }
