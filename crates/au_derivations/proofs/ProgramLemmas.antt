@@ -5,13 +5,13 @@ use Rattle.std.specs.Option.{option_map}
 use Rattle.au_base.specs.declared.places.Pos.{Pos}
 use Rattle.au_syntax.specs.declared.modules.Part.{Part}
 use Rattle.au_syntax.specs.declared.modules.Part.TheVariants.{Interface, Body}
-use Rattle.au_syntax.specs.Expressions.{Expression, number, negative, text, truth, nil}
+use Rattle.au_syntax.specs.Expressions.{number}
 use Rattle.au_syntax.specs.Modules.{Constrained, Header, constant, opaque_type, record_type, union_type, function, class, instance, constant_body, function_body, instance_body}
 use Rattle.au_syntax.specs.Plain.{Bytes, PlainDeclaration, PlainExpression, PlainMethod, PlainStatements}
 use Rattle.au_syntax.specs.Types.{WrittenType}
 use Rattle.au_modules.specs.Programs.{Entry, ModuleParts}
 use Rattle.au_scopes.specs.Scopes.{Outside, Scope}
-use Rattle.au_typing.specs.Faults.{Noting, ◌>>=◌, check, shape, assignable_wanted}
+use Rattle.au_typing.specs.Faults.{check, shape, assignable_wanted}
 use Rattle.au_typing.specs.Lookups.{written_type}
 use Rattle.au_typing.specs.Notes.{NotedExpression, erase}
 use Rattle.au_typing.specs.Search.{note}
@@ -23,7 +23,7 @@ use Rattle.au_derivations.specs.Parts.{is_literal}
 use Rattle.au_derivations.specs.ProgramSearch.{judge_end, note_body, note_constant, note_declaration, note_declarations, note_methods, note_module, note_modules, note_part, note_program, noted_entry}
 use Rattle.au_derivations.specs.Returns.{block_returns}
 use Rattle.au_derivations.specs.Search.{note_block}
-use Rattle.au_derivations.specs.Statements.{GoodBlock, Wants}
+use Rattle.au_derivations.specs.Statements.{GoodBlock}
 use Rattle.au_derivations.specs.Trees.{NotedDeclaration, NotedEntry, NotedMethod, NotedParts, NotedStatements, erase_block, erase_declaration, erase_entry, erase_method, erase_parts, erase_program}
 use Rattle.au_derivations.proofs.FoundLemmas.{block_found, block_returns_erased, two_blocks}
 use Rattle.au_derivations.proofs.PartLemmas.{wants_found}

@@ -1,18 +1,18 @@
 -- Whatever is found of a statement or a block is good.
 use Rattle.std.proofs.Common.{◌≡◌, Bool, true, false, List, [], ◌∷◌, refl, sym, ap, subst, ◌∙◌}
-use Rattle.std.specs.Prelude.{Option, Some, None, Ok, Err}
+use Rattle.std.specs.Prelude.{Some, Ok}
 use Rattle.au_syntax.specs.Plain.{PlainArms, PlainBranches, PlainStatement, PlainStatements}
 use Rattle.au_syntax.specs.Statements.{skip, declare, destructure, assign, assign_through, conditional, conditional_else, case_of, while_loop, for_loop, borrow_in, borrow_typed, discard, return_of, no_statements, statements, no_branches, branches, no_arms, arms}
 use Rattle.au_scopes.specs.Scopes.{Scope}
 use Rattle.au_types.specs.Types as mean
 use Rattle.au_types.specs.Types.{Meaning}
-use Rattle.au_typing.specs.Faults.{Noting, ◌>>=◌}
+use Rattle.au_typing.specs.Faults.{◌>>=◌}
 use Rattle.au_typing.specs.Notes.{NotedExpression, erase, type_of}
 use Rattle.au_typing.specs.Search.{note}
 use Rattle.au_typing.proofs.Steps.{bind_ok, ok_same}
-use Rattle.au_derivations.specs.Faults.{Judged, ◌then◌, placed}
+use Rattle.au_derivations.specs.Faults.{◌then◌, placed}
 use Rattle.au_derivations.specs.InScope.{after, fixed_variable, with_bound, with_reference, with_variable}
-use Rattle.au_derivations.specs.Parts.{ArmHead, borrow_type, heads_of, mode_for}
+use Rattle.au_derivations.specs.Parts.{borrow_type, heads_of, mode_for}
 use Rattle.au_derivations.specs.Returns.{may_follow, returns}
 use Rattle.au_derivations.specs.Search.{judge_borrow, judge_lent, judge_next, note_arms, note_assigned, note_block, note_bounds, note_branches, note_case, note_declared, note_discarded, note_put, note_statement, note_taken, note_test, note_tests}
 use Rattle.au_derivations.specs.Statements.{GoodArmBlocks, GoodBlock, GoodBranches, GoodCase, GoodStatement, Wants}

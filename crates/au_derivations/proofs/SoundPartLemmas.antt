@@ -3,8 +3,7 @@ use Rattle.std.proofs.Common.{◌≡◌, Bool, true, false, not, List, [], ◌�
 use Rattle.std.specs.Prelude.{Option, Some, None, Ok, Err, is_some}
 use Rattle.au_syntax.specs.declared.expressions.BorrowMode.{BorrowMode}
 use Rattle.au_syntax.specs.Names.{Placed}
-use Rattle.au_syntax.specs.Plain.{Bytes, PlainBranches, PlainExpression}
-use Rattle.au_syntax.specs.Statements.{no_branches, branches}
+use Rattle.au_syntax.specs.Plain.{Bytes, PlainExpression}
 use Rattle.au_syntax.specs.Types.{Bound, WrittenType, named, reference}
 use Rattle.au_types.specs.declared.types.Region.{Region}
 use Rattle.au_types.specs.declared.types.Region.TheVariants as regions
@@ -14,11 +13,11 @@ use Rattle.au_types.specs.Types.{Meaning}
 use Rattle.au_judged_types.specs.Judging.{refers}
 use Rattle.au_scopes.specs.Scopes.{Case, Scope, Typed, Variable}
 use Rattle.au_typing.specs.Bare.{is_bare}
-use Rattle.au_typing.specs.Faults.{Noting, Why, ◌>>=◌, check, known_or, why, unknown, different, not_free, shape, record_wanted, union_wanted, reference_wanted, write_reference_wanted, integer_wanted, assignable_wanted, labels_wanted, arms_wanted}
-use Rattle.au_typing.specs.Good.{AllGood, ArePaired, PairedModes}
+use Rattle.au_typing.specs.Faults.{Noting, ◌>>=◌, check, known_or, why, unknown, different, not_free, shape, record_wanted, union_wanted, reference_wanted, write_reference_wanted, integer_wanted, assignable_wanted, labels_wanted, arms_wanted}
+use Rattle.au_typing.specs.Good.{PairedModes}
 use Rattle.au_typing.specs.Lookups.{IsPart, field_type, is_free_in, is_record, part_type, record_part, type_of_name, value_type, variable_of, written_type}
-use Rattle.au_typing.specs.Notes.{Mode, NotedExpression, erase, mode_of, note_of, type_of}
-use Rattle.au_typing.specs.Operands.{before, behind_it, of_one_type, paired}
+use Rattle.au_typing.specs.Notes.{Mode, NotedExpression, erase, note_of, type_of}
+use Rattle.au_typing.specs.Operands.{of_one_type, paired}
 use Rattle.au_typing.specs.Rules.{is_integer}
 use Rattle.au_typing.specs.Search.{note}
 use Rattle.au_typing.proofs.Steps.{bind_ok, check_ok, known_ok, ok_same}
@@ -26,7 +25,7 @@ use Rattle.au_typing.proofs.Found.{bare_kept}
 use Rattle.au_typing.proofs.Sound.{sound}
 use Rattle.au_typing.proofs.SoundParts.{paired_sound}
 use Rattle.au_derivations.specs.Parts.{ArmHead, arms_fit, binds_each, borrow_type, case_of_arm, is_borrowed_within, lent}
-use Rattle.au_derivations.specs.Search.{free_place, is_of_borrow, judge_all_bound, judge_arm, judge_arms, judge_assigned, judge_binds, judge_borrow, judge_bound, judge_heads, judge_lent, judge_names, judge_put, judge_reference, judge_union, not_assignable, not_writing, note_assigned, note_bounds, note_case, note_declared, note_discarded, note_put, note_taken, note_test, note_tests, place_type, written_through}
+use Rattle.au_derivations.specs.Search.{free_place, is_of_borrow, judge_all_bound, judge_arm, judge_arms, judge_assigned, judge_binds, judge_borrow, judge_bound, judge_heads, judge_lent, judge_names, judge_put, judge_reference, judge_union, not_assignable, not_writing, note_assigned, note_bounds, note_case, note_declared, note_discarded, note_put, note_taken, place_type, written_through}
 use Rattle.au_derivations.specs.Statements.{AreBound, GoodArm, GoodArms, GoodAssigned, GoodBorrow, GoodBounds, GoodCase, GoodDeclared, GoodPut, GoodTaken, IsBound, IsLent, IsReference, Wants}
 
 -- ---- parts of records
