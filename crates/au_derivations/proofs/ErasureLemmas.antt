@@ -46,7 +46,8 @@ mutual
   pub statement_plain : (s : NotedStatement) → plain_statement same_name s ≡ erase_statement s
   statement_plain (destructure at binds e) = ap (λ bs. destructure at bs (erase e)) (binds_kept binds)
   statement_plain (assign at n fields e) = ap (λ fs. assign at n fs (erase e)) (names_kept fields)
-  statement_plain (assign_through at n fields e) = ap (λ fs. assign_through at n fs (erase e)) (names_kept fields)
+  statement_plain (assign_through at n fields e) = ap (λ fs. assign_through at n fs (erase e))
+      (names_kept fields)
   statement_plain (conditional at tests) = ap (conditional at) (branches_plain tests)
   statement_plain (conditional_else at tests b) =
       λ i. conditional_else at (branches_plain tests i) (block_plain b i)
@@ -55,7 +56,8 @@ mutual
   statement_plain (for_loop at n a z b) = ap (for_loop at n (erase a) (erase z)) (block_plain b)
   statement_plain (borrow_in at access x r region b stop) =
       ap (λ c. borrow_in at access x r region c stop) (block_plain b)
-  statement_plain (borrow_typed at r t mode x b stop) = ap (λ c. borrow_typed at r t mode x c stop) (block_plain b)
+  statement_plain (borrow_typed at r t mode x b stop) = ap (λ c. borrow_typed at r t mode x c stop)
+      (block_plain b)
   statement_plain s = refl
 
   pub block_plain : (ss : NotedStatements) → plain_statements same_name ss ≡ erase_block ss
@@ -68,7 +70,8 @@ mutual
 
   arms_plain : (all : NotedArms) → plain_arms same_name all ≡ erase_arms all
   arms_plain no_arms = refl
-  arms_plain (arms at n binds b rest) = λ i. arms at n (binds_kept binds i) (block_plain b i) (arms_plain rest i)
+  arms_plain (arms at n binds b rest) = λ i. arms at n (binds_kept binds i) (block_plain b i)
+      (arms_plain rest i)
 
 -- ---- declarations
 

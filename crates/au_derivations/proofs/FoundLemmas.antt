@@ -119,7 +119,8 @@ mutual
       then λ b. Ok (borrow_in at kind x r region b stop))
       (placed_from at (lent_found sc (mode_for kind) x.name g.0 g.1))
       (then_from (λ b. Ok (borrow_in at kind x r region b stop))
-      (block_found block (with_reference r.name region.name (borrow_type (mode_for kind) region.name g.0) sc) g.2)
+      (block_found block (with_reference r.name region.name (borrow_type
+      (mode_for kind) region.name g.0) sc) g.2)
       refl)
   statement_found (borrow_typed at r t mode x block stop) sc g =
       then_from

@@ -67,7 +67,8 @@ all_bound_found sc fields (b ∷ rest) g =
 binds_found : (sc : Scope) (fields : List Typed) (binds : List (Bound Bytes)) → binds_each fields binds ≡ true
     → AreBound sc fields binds → judge_binds sc fields binds ≡ Ok tt
 binds_found sc fields binds each g =
-    check_from (shape labels_wanted) (judge_all_bound sc fields binds) each (all_bound_found sc fields binds g)
+    check_from (shape labels_wanted) (judge_all_bound sc fields binds) each
+    (all_bound_found sc fields binds g)
 
 -- ---- the arms of a case
 
@@ -87,7 +88,8 @@ names_found sc cases (head ∷ rest) g =
 arm_found : (sc : Scope) (cases : List Case) (head : ArmHead) → GoodArm sc cases head
     → judge_arm sc cases head ≡ Ok tt
 arm_found sc cases head g =
-    bind_from (λ (one : Case). judge_binds sc one.fields head.binds) (known_found (shape arms_wanted) g.is_for)
+    bind_from (λ (one : Case). judge_binds sc one.fields head.binds) (known_found
+    (shape arms_wanted) g.is_for)
     (binds_found sc g.one.fields head.binds g.each g.bound)
 
 arms_found : (sc : Scope) (cases : List Case) (heads : List ArmHead) → GoodArms sc cases heads

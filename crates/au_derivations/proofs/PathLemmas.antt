@@ -74,7 +74,8 @@ module _ {N T C : Type 0} where
     pub never_ends : (ss : Statements N T C) → block_returns ss ≡ true → ReachesEnd ss → ⊥
     never_ends no_statements h g = absurd cc
     never_ends (statements s rest) h g =
-        either (λ k. stays s k g.0) (λ k. never_ends rest k g.1) (one_holds (returns s) (block_returns rest) h)
+        either (λ k. stays s k g.0) (λ k. never_ends rest k g.1) (one_holds (returns s)
+        (block_returns rest) h)
 
     branches_stay : (all : Branches N T C) → branches_return all ≡ true → SomeBranchEnds all → ⊥
     branches_stay no_branches h g = g

@@ -217,7 +217,8 @@ declaration_sound : (outside : Outside) (d : PlainDeclaration) (t : NotedDeclara
 declaration_sound outside (constant at name of) t h =
     subst (IsDeclaration outside (constant at name of)) (judged_is (constant at name of) t h) (tt, refl)
 declaration_sound outside (opaque_type at name ps u) t h =
-    subst (IsDeclaration outside (opaque_type at name ps u)) (judged_is (opaque_type at name ps u) t h) (tt, refl)
+    subst (IsDeclaration outside (opaque_type at name ps u)) (judged_is (opaque_type at name ps u) t h)
+    (tt, refl)
 declaration_sound outside (record_type at name ps u fields) t h =
     subst (IsDeclaration outside (record_type at name ps u fields))
     (judged_is (record_type at name ps u fields) t h) (tt, refl)
@@ -228,12 +229,14 @@ declaration_sound outside (function at generics header) t h =
     subst (IsDeclaration outside (function at generics header))
     (judged_is (function at generics header) t h) (tt, refl)
 declaration_sound outside (class at name p headers) t h =
-    subst (IsDeclaration outside (class at name p headers)) (judged_is (class at name p headers) t h) (tt, refl)
+    subst (IsDeclaration outside (class at name p headers)) (judged_is (class at name p headers) t h)
+    (tt, refl)
 declaration_sound outside (instance at generics name of) t h =
     subst (IsDeclaration outside (instance at generics name of))
     (judged_is (instance at generics name of) t h) (tt, refl)
 declaration_sound outside (constant_body at name of e) t h =
-    let step = then_gave (placed at (note_constant outside of e)) (λ a. Ok (constant_body at name of a)) t h in
+    let step = then_gave (placed at (note_constant outside of e)) (λ a. Ok
+    (constant_body at name of a)) t h in
     let good = constant_sound outside of e step.0
     (placed_gave at (note_constant outside of e) step.0 step.1) in
     subst (IsDeclaration outside (constant_body at name of e))
@@ -256,7 +259,8 @@ declaration_sound outside (instance_body at generics name of methods) t h =
 declarations_sound : (outside : Outside) (ds : List PlainDeclaration) (t : List NotedDeclaration)
     → note_declarations outside ds ≡ Ok t → GoodDeclarations outside t × (map erase_declaration t ≡ ds)
 declarations_sound outside [] t h =
-    subst (λ all. GoodDeclarations outside all × (map erase_declaration all ≡ [])) (judged_is [] t h) (tt, refl)
+    subst (λ all. GoodDeclarations outside all × (map erase_declaration all ≡ [])) (judged_is [] t h)
+    (tt, refl)
 declarations_sound outside (d ∷ rest) t h =
     let first = then_gave (note_declaration outside d)
     (λ noted. note_declarations outside rest then λ all. Ok (noted ∷ all)) t h in

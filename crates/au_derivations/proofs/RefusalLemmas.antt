@@ -72,7 +72,8 @@ before_refused s rest sc f a u noted next r =
         (subst (λ t. judge_next (returns s) t ≡ Ok u) r.splits next))
 
     cause_of : ((block_returns r.front ≡ true) × (f ≡ refused (place_of r.first) after_return))
-        ⊎ ((block_returns r.front ≡ false) × (note_statement r.first (after_all r.front (after s sc)) ≡ Err f))
+        ⊎ ((block_returns r.front ≡ false) × (note_statement r.first (after_all r.front
+        (after s sc)) ≡ Err f))
         → ((returns a || block_returns r.front ≡ true) × (f ≡ refused (place_of r.first) after_return))
         ⊎ ((returns a || block_returns r.front ≡ false)
         × (note_statement r.first (after_all r.front (after a sc)) ≡ Err f))

@@ -34,7 +34,8 @@ is_some_gave : {A : Type 0} (o : Option A) → is_some o ≡ true → (x : A) ×
 is_some_gave None e = absurd cc
 is_some_gave (Some x) e = (x, refl)
 
-part_sound : (sc : Scope) (t : Meaning) (path : List (Placed Bytes)) (of : Meaning) → part_type sc t path ≡ Ok of
+part_sound : (sc : Scope) (t : Meaning) (path : List (Placed Bytes)) (of : Meaning)
+    → part_type sc t path ≡ Ok of
     → IsPart sc t path of
 part_sound sc t [] of e = sym (ok_same t of e)
 part_sound sc t (field ∷ path) of e =
@@ -45,7 +46,8 @@ part_sound sc t (field ∷ path) of e =
       part_sound sc step.0 path of step.2,
     )
 
-place_sound : (sc : Scope) (t : Meaning) (path : List (Placed Bytes)) (of : Meaning) → place_type sc t path ≡ Ok of
+place_sound : (sc : Scope) (t : Meaning) (path : List (Placed Bytes)) (of : Meaning)
+    → place_type sc t path ≡ Ok of
     → IsPart sc t path of
 place_sound sc t [] of e = sym (ok_same t of e)
 place_sound sc t (field ∷ path) of e =
@@ -60,7 +62,8 @@ free_sound sc t of e =
 
 -- ---- fields that are bound
 
-bound_sound : (sc : Scope) (fields : List Typed) (b : Bound Bytes) (of : Meaning) → judge_bound sc fields b ≡ Ok of
+bound_sound : (sc : Scope) (fields : List Typed) (b : Bound Bytes) (of : Meaning)
+    → judge_bound sc fields b ≡ Ok of
     → IsBound sc fields b
 bound_sound sc fields b of e =
     let has = bind_ok (known_or (shape labels_wanted) (type_of_name b.name.name.name fields))
@@ -82,10 +85,12 @@ all_bound_sound sc fields (b ∷ rest) e =
     let step = bind_ok (judge_bound sc fields b) (λ of. judge_all_bound sc fields rest) tt e in
     (bound_sound sc fields b step.0 step.1, all_bound_sound sc fields rest step.2)
 
-binds_sound : (sc : Scope) (fields : List Typed) (binds : List (Bound Bytes)) → judge_binds sc fields binds ≡ Ok tt
+binds_sound : (sc : Scope) (fields : List Typed) (binds : List (Bound Bytes))
+    → judge_binds sc fields binds ≡ Ok tt
     → (binds_each fields binds ≡ true) × AreBound sc fields binds
 binds_sound sc fields binds e =
-    let step = check_ok (binds_each fields binds) (shape labels_wanted) (judge_all_bound sc fields binds) tt e in
+    let step = check_ok (binds_each fields binds) (shape labels_wanted)
+    (judge_all_bound sc fields binds) tt e in
     (step.0, all_bound_sound sc fields binds step.1)
 
 -- ---- the arms of a case
@@ -115,7 +120,8 @@ heads_sound : (sc : Scope) (cases : List Case) (heads : List ArmHead) → judge_
 heads_sound sc cases heads e =
     let named = bind_ok (judge_names sc heads)
     (λ z. check (arms_fit sc cases heads) (shape arms_wanted) (judge_arms sc cases heads)) tt e in
-    let step = check_ok (arms_fit sc cases heads) (shape arms_wanted) (judge_arms sc cases heads) tt named.2 in
+    let step = check_ok (arms_fit sc cases heads) (shape arms_wanted)
+    (judge_arms sc cases heads) tt named.2 in
     (step.0, arms_sound sc cases heads step.1)
 
 not_true : (b : Bool) → not b ≡ true → b ≡ false
@@ -215,7 +221,8 @@ module _ (sc : Scope) where
       ) in
       subst (λ c. GoodTaken sc binds c × (erase c ≡ e)) is good
     where
-      judged : (fields : List Typed) (z : Unit {0}) → judge_binds sc fields binds ≡ Ok z → judge_binds sc fields binds ≡ Ok tt
+      judged : (fields : List Typed) (z : Unit {0}) → judge_binds sc fields binds ≡ Ok z
+          → judge_binds sc fields binds ≡ Ok tt
       judged fields z p = p
 
   pub assigned_sound : (x : Bytes) (path : List (Placed Bytes)) (e : PlainExpression) (a : NotedExpression)
@@ -228,7 +235,8 @@ module _ (sc : Scope) where
       let one : Variable = known.0 in
       let part = bind_ok (check one.assignable (shape assignable_wanted) (place_type sc one.of path))
       (λ of. free_place sc of) place.0 known.2 in
-      let test = check_ok one.assignable (shape assignable_wanted) (place_type sc one.of path) part.0 part.1 in
+      let test = check_ok one.assignable (shape assignable_wanted)
+      (place_type sc one.of path) part.0 part.1 in
       let free = free_sound sc part.0 place.0 part.2 in
       let wants = wants_sound e (Some place.0) a place.2 in (
         record {
@@ -280,7 +288,8 @@ module _ (sc : Scope) where
       same_some : (t u : Meaning) → Some t ≡ Some u → t ≡ u
       same_some t u p = cc
 
-      writes_to : (t to : Meaning) → written_through t ≡ Some to → (region : Region) × (t ≡ mean.writes to region)
+      writes_to : (t to : Meaning) → written_through t ≡ Some to → (region : Region) ×
+          (t ≡ mean.writes to region)
       writes_to (mean.writes t region) to p = (region, ap (λ u. mean.writes u region) (same_some t to p))
       writes_to t to p = absurd cc
 
@@ -320,7 +329,8 @@ module _ (sc : Scope) where
       (check (is_integer (type_of y.0)) (shape integer_wanted) (Ok y)) z both.2 in
       let whole = check_ok (is_integer (type_of y.0)) (shape integer_wanted) (Ok y) z one.1 in
       let is : y ≡ z = ok_same y z whole.1 in
-      let found = paired_sound sc (is_bare e) (is_bare d) (note sc e) (note sc d) e d None y (sound sc e) (sound sc d) both.1 in
+      let found = paired_sound sc (is_bare e) (is_bare d) (note sc e) (note sc d) e d None y (sound sc e)
+      (sound sc d) both.1 in
       let e_bare : is_bare e ≡ is_bare y.0 = ap is_bare (sym found.2) ∙ bare_kept y.0 in
       let d_bare : is_bare d ≡ is_bare y.1 = ap is_bare (sym found.3) ∙ bare_kept y.1 in
       let modes : PairedModes (is_bare y.0) (is_bare y.1) None (note_of y.0) (note_of y.1) =
@@ -336,7 +346,8 @@ module _ (sc : Scope) where
         found.2,
         found.3,
       ) in
-      subst (λ (w : NotedExpression × NotedExpression). GoodBounds sc w.0 w.1 × (erase w.0 ≡ e) × (erase w.1 ≡ d)) is good
+      subst (λ (w : NotedExpression × NotedExpression). GoodBounds sc w.0 w.1 × (erase w.0 ≡ e) ×
+      (erase w.1 ≡ d)) is good
 
   pub discarded_sound : (e : PlainExpression) (a : NotedExpression) → note_discarded sc e ≡ Ok a
       → Wants sc a None × (is_free_in sc (type_of a) ≡ true) × (erase a ≡ e)
