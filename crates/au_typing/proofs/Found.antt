@@ -1,23 +1,21 @@
 -- Whatever is good is found.
-use Rattle.std.proofs.Common.{◌≡◌, ℕ, suc, Bool, true, false, ◌&&◌, List, [], ◌∷◌, refl, sym, ap, ◌∙◌, Some, None, Ok, neg_ℤ}
-use Rattle.au_syntax.specs.declared.expressions.BinaryOperator.{BinaryOperator}
-use Rattle.au_syntax.specs.Expressions.{Node, Expression, Expressions, Arguments, number, negative, text, truth, nil, path, arrow, call, named_call, parenthesized, dereference, borrow, borrow_part, binary, negation, typed, choice, no_expressions, expressions, no_arguments, arguments}
+use Rattle.std.proofs.Common.{◌≡◌, ℕ, suc, Bool, ◌&&◌, List, ◌∷◌, refl, sym, ap, ◌∙◌, Some, Ok, neg_ℤ}
+use Rattle.au_syntax.specs.Expressions.{number, negative, text, truth, nil, path, arrow, call, named_call, parenthesized, dereference, borrow, borrow_part, binary, negation, typed, choice, no_expressions, expressions, no_arguments, arguments}
 use Rattle.au_syntax.specs.Names.{Placed}
 use Rattle.au_syntax.specs.Plain.{Bytes, plain_node}
 use Rattle.au_types.specs.Types as mean
 use Rattle.au_types.specs.Types.{Meaning}
-use Rattle.au_judged_types.specs.Reasons.{means}
 use Rattle.au_scopes.specs.Scopes.{Scope}
 use Rattle.au_typing.specs.Bare.{is_arithmetic, is_bare}
 use Rattle.au_typing.specs.Calls.{by_labels, in_order}
-use Rattle.au_typing.specs.Faults.{Noting, ◌>>=◌, unknown, known_or}
+use Rattle.au_typing.specs.Faults.{◌>>=◌, unknown}
 use Rattle.au_typing.specs.Good.{AllGood, AllGoodIn, AllGoodLabelled, count_of, items_of, labels_of, values_of}
-use Rattle.au_typing.specs.Lookups.{outcome_noted, value_type, variable_type, written_type}
-use Rattle.au_typing.specs.Notes.{Mode, Note, NotedArguments, NotedExpression, NotedExpressions, erase, erase_all, erase_arguments, mode_of, note_of, noted_at, type_of}
+use Rattle.au_typing.specs.Lookups.{outcome_noted}
+use Rattle.au_typing.specs.Notes.{Mode, Note, NotedArguments, NotedExpression, NotedExpressions, erase, erase_all, erase_arguments, mode_of, noted_at, type_of}
 use Rattle.au_typing.specs.Operands.{of_one_type, paired}
 use Rattle.au_typing.specs.Rules.{is_logical, noted}
-use Rattle.au_typing.specs.Search.{another_number, arrow_note, binary_noted, borrow_part_note, borrowed, dereference_note, labelled, labelled_operands, listed, literal_note, note_expression, operands, other_labels, path_note}
-use Rattle.au_typing.specs.SearchCalls.{Operand, call_noted}
+use Rattle.au_typing.specs.Search.{another_number, arrow_note, binary_noted, borrow_part_note, borrowed, dereference_note, labelled, labelled_operands, listed, note_expression, operands, other_labels, path_note}
+use Rattle.au_typing.specs.SearchCalls.{call_noted}
 use Rattle.au_typing.proofs.FoundCalls.{AllFind, call_found}
 use Rattle.au_typing.proofs.FoundParts.{arrow_found, binary_found, borrow_found, borrow_part_found, dereference_found, literal_found, one_type_found, paired_found, path_found}
 use Rattle.au_typing.proofs.Steps.{bind_found, known_found, names_kept, noted_found, ok_same}

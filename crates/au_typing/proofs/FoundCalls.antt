@@ -1,15 +1,14 @@
 -- Good calls are what the search gives.
-use Rattle.std.proofs.Common.{◌≡◌, Bool, true, false, List, [], ◌∷◌, refl, sym, ap, ◌∙◌, Option, Some, None, Ok}
+use Rattle.std.proofs.Common.{◌≡◌, Bool, true, false, List, [], ◌∷◌, sym, ap, ◌∙◌, Option, Some, None, Ok}
 use Rattle.au_syntax.specs.Plain.{Bytes}
-use Rattle.au_types.specs.Types.{Meaning, unit, truth, integer, text, parameter, named, reads, writes, of_type}
-use Rattle.au_matching.specs.Bindings.{Bindings, with_pair}
+use Rattle.au_types.specs.Types.{Meaning, unit, truth, integer, text, parameter, named, reads, writes}
+use Rattle.au_matching.specs.Bindings.{Bindings}
 use Rattle.au_matching.specs.Fixed.{fixed}
-use Rattle.au_matching.specs.Matched.{matched}
 use Rattle.au_matching.specs.Substituted.{substituted}
 use Rattle.au_generics.specs.Bounds.{parameters}
 use Rattle.au_scopes.specs.Scopes.{Callable, Scope, Typed}
 use Rattle.au_typing.specs.Bare.{is_bare}
-use Rattle.au_typing.specs.Calls.{begun, first_lacking, first_left, first_misfit, types_of_call, wanted_of, FirstStep, GoodCall, Passes, SecondStep, Taken, TakenBare}
+use Rattle.au_typing.specs.Calls.{begun, first_lacking, first_misfit, types_of_call, wanted_of, FirstStep, GoodCall, Passes, SecondStep, Taken, TakenBare}
 use Rattle.au_typing.specs.Faults.{Noting, ◌>>=◌, Why, known_or, unknown, different, unfixed}
 use Rattle.au_typing.specs.Good.{shown}
 use Rattle.au_typing.specs.Limits.{within}
@@ -48,13 +47,14 @@ beside_found e mode a s q f m h =
 taken_found : (b : Bool) (e : Noter) (a : NotedExpression) (p : Meaning) (s q : Bindings) → Finds e a → Taken b p (note_of a) s q → taken b e p s ≡ Ok (a, q)
 taken_found true e a p s q f h = beside_found e (Some (substituted s p)) a s q f h.0 h.1
 taken_found false e a p s q f h =
-    bind_found (taken_as p s) (ap e (sym h.0) ∙ f)
+    bind_found (λ (x : NotedExpression). taken_as p (type_of x) s x) (ap e (sym h.0) ∙ f)
     ∙ bind_found (λ (r : Bindings). Ok (a, r)) (known_found (different (substituted s p) (type_of a)) h.1)
 
 taken_bare_found : (b : Bool) (e : Noter) (a : NotedExpression) (p : Meaning) (s q : Bindings) → Finds e a → TakenBare b p (note_of a) s q → taken_bare b e p s ≡ Ok (a, q)
 taken_bare_found true e a p s q f h = beside_found e (Some (substituted s p)) a s q f h.0 h.1
 taken_bare_found false e a (parameter name) s q f h =
-    beside_found e None a (with_pair name (of_type int32) s) q f h.0 h.1
+    bind_found (taken_as (parameter name) int32 s) (ap e (sym h.0) ∙ f)
+    ∙ bind_found (λ (r : Bindings). Ok (a, r)) (known_found (different (substituted s (parameter name)) int32) h.1)
 taken_bare_found false e a unit s q f h = absurd h
 taken_bare_found false e a truth s q f h = absurd h
 taken_bare_found false e a (integer kind) s q f h = absurd h
@@ -106,8 +106,10 @@ module _ (scope : Scope) where
     where
       hold : Noting Note
       hold = unless_why lacks (first_lacking scope g.ends (wanted_of g.called)) (Ok (call_note n.mode g.called g.ends))
+
       fit : Noting Note
       fit = unless_why (misfit g.ends) (first_misfit scope g.ends (parameters g.called.generics)) hold
+
       limited : Noting Note
       limited = within (types_of_call n.mode g.called g.ends) fit
 

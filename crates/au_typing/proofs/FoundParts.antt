@@ -1,6 +1,5 @@
 -- Good notes of literals, parts, operands and operations are what the search gives.
-use Rattle.std.proofs.Common.{◌≡◌, ℤ, Bool, true, false, List, [], ◌∷◌, refl, sym, ap, ◌∙◌, Option, Some, None, Ok}
-use Rattle.au_base.specs.declared.kinds.IntKind.{IntKind}
+use Rattle.std.proofs.Common.{◌≡◌, ℤ, Bool, true, false, List, [], ◌∷◌, sym, ap, ◌∙◌, Some, None, Ok}
 use Rattle.au_ints.specs.Ranges.{is_of_kind}
 use Rattle.au_syntax.specs.declared.expressions.BinaryOperator.{BinaryOperator}
 use Rattle.au_syntax.specs.declared.expressions.BorrowMode.{BorrowMode}
@@ -9,16 +8,15 @@ use Rattle.au_syntax.specs.Expressions.{Node, binary}
 use Rattle.au_syntax.specs.Names.{Placed}
 use Rattle.au_syntax.specs.Plain.{Bytes}
 use Rattle.au_types.specs.declared.types.Region.{Region}
-use Rattle.au_types.specs.declared.types.Region.TheVariants.{Anonymous}
 use Rattle.au_types.specs.Same.{same}
 use Rattle.au_types.specs.Types as mean
 use Rattle.au_types.specs.Types.{Meaning}
 use Rattle.au_scopes.specs.Scopes.{Scope}
-use Rattle.au_typing.specs.Faults.{Noting, ◌>>=◌, Why, check, known_or, unknown, different, not_free, shape, integer_wanted, range_wanted, record_wanted, reference_wanted}
-use Rattle.au_typing.specs.Good.{ArePaired, GoodArithmetic, GoodBinary, GoodBorrow, GoodComparison, GoodLiteral, GoodLogical, GoodPart, GoodPath, Kept, PairedModes}
+use Rattle.au_typing.specs.Faults.{Noting, ◌>>=◌, check, unknown, different, not_free, shape, integer_wanted, range_wanted, record_wanted, reference_wanted}
+use Rattle.au_typing.specs.Good.{GoodBinary, GoodBorrow, GoodLiteral, GoodPart, GoodPath, Kept, PairedModes}
 use Rattle.au_typing.specs.Bare.{is_bare}
-use Rattle.au_typing.specs.Limits.{are_within, types_noted, within}
-use Rattle.au_typing.specs.Lookups.{behind, field_type, is_free_in, is_record, IsPart, part_type, record_part}
+use Rattle.au_typing.specs.Limits.{are_within, types_noted}
+use Rattle.au_typing.specs.Lookups.{behind, is_free_in, is_record, IsPart, part_type, record_part}
 use Rattle.au_typing.specs.Notes.{Mode, Note, NotedExpression, mode_of, note_of, noted_at, type_of}
 use Rattle.au_typing.specs.Operands.{Noter, before, behind_it, of_one_type, paired}
 use Rattle.au_typing.specs.Rules.{is_compared, is_integer, literal_kind, noted, wanted_note}
@@ -109,6 +107,7 @@ comparison_found n op a b k one is of =
   where
     rest : Noting Note
     rest = check (is_compared op (type_of a)) (shape integer_wanted) (wanted_note n.mode mean.truth)
+
     one_type_step : comparison_note op n.mode a b ≡ rest
     one_type_step =
         within_found (types_noted n.mode mean.truth []) (of_one_type a b rest) (ap (λ (t : Meaning). are_within (types_noted n.mode t [])) (sym of) ∙ k.limited)

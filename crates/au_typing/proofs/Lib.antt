@@ -5,3 +5,6 @@ pub mod Found
 pub mod SoundParts
 pub mod SoundCalls
 pub mod Sound
+pub mod Wanted
+pub mod Refused
+pub mod Arguments

@@ -1,8 +1,7 @@
 -- What is found is good.
 use Rattle.std.proofs.Common.{◌≡◌, ℕ, Bool, true, false, List, [], ◌∷◌, refl, sym, ap, subst, ◌∙◌, Some, None, Ok, neg_ℤ}
 use Rattle.au_syntax.specs.declared.expressions.BinaryOperator.{BinaryOperator}
-use Rattle.au_syntax.specs.Expressions.{Node, Expression, Expressions, Arguments, number, negative, text, truth, nil, path, arrow, call, named_call, parenthesized, dereference, borrow, borrow_part, binary, negation, typed, choice, no_expressions, expressions, no_arguments, arguments}
-use Rattle.au_syntax.specs.Names.{Placed}
+use Rattle.au_syntax.specs.Expressions.{Node, number, negative, text, truth, nil, path, arrow, call, named_call, parenthesized, dereference, borrow, borrow_part, binary, negation, typed, choice, no_expressions, expressions, no_arguments, arguments}
 use Rattle.au_syntax.specs.Plain.{Bytes, PlainArguments, PlainExpression, PlainExpressions}
 use Rattle.au_types.specs.Types as mean
 use Rattle.au_types.specs.Types.{Meaning}
@@ -10,17 +9,17 @@ use Rattle.au_judged_types.specs.Reasons.{means}
 use Rattle.au_scopes.specs.Scopes.{Scope}
 use Rattle.au_typing.specs.Bare.{is_arithmetic, is_bare}
 use Rattle.au_typing.specs.Calls.{GoodCall, by_labels, in_order}
-use Rattle.au_typing.specs.Faults.{Noting, ◌>>=◌, unknown, known_or}
-use Rattle.au_typing.specs.Good.{AllGood, AllGoodIn, AllGoodLabelled, ArePaired, GoodBinary, GoodBorrow, Kept, PairedModes, count_of, items_of, labels_of, shown, values_of}
+use Rattle.au_typing.specs.Faults.{◌>>=◌, unknown, known_or}
+use Rattle.au_typing.specs.Good.{AllGoodIn, AllGoodLabelled, IsNoting, ArePaired, GoodBinary, GoodBorrow, PairedModes, count_of, items_of, labels_of, shown, values_of}
 use Rattle.au_typing.specs.Lookups.{value_type, variable_type, written_means, written_type}
-use Rattle.au_typing.specs.Notes.{Mode, Note, NotedArguments, NotedExpression, NotedExpressions, erase, erase_all, erase_arguments, mode_of, note_of, noted_at, type_of}
+use Rattle.au_typing.specs.Notes.{Mode, Note, NotedExpression, erase, erase_all, erase_arguments, note_of, noted_at, type_of}
 use Rattle.au_typing.specs.Operands.{Noter, of_one_type, paired}
 use Rattle.au_typing.specs.Rules.{is_logical, noted}
 use Rattle.au_typing.specs.Search.{another_number, arithmetic_note, arrow_note, binary_noted, borrow_part_note, borrowed, comparison_note, dereference_note, labelled, labelled_operands, listed, literal_note, note_expression, operands, other_labels, path_note}
-use Rattle.au_typing.specs.SearchCalls.{Operand, call_noted}
+use Rattle.au_typing.specs.SearchCalls.{call_noted}
 use Rattle.au_typing.proofs.Found.{bare_kept, count_kept, labels_kept}
-use Rattle.au_typing.proofs.SoundCalls.{AllSound, AreNotings, IsCall, call_sound}
-use Rattle.au_typing.proofs.SoundParts.{IsNoting, IsPair, Sounds, arithmetic_sound, arrow_sound, borrow_part_sound, borrow_sound, comparison_sound, dereference_sound, literal_sound, one_type_sound, outcome_sound, paired_sound, path_sound}
+use Rattle.au_typing.proofs.SoundCalls.{AllSound, AreNotings, call_sound}
+use Rattle.au_typing.proofs.SoundParts.{IsPair, Sounds, arithmetic_sound, arrow_sound, borrow_part_sound, borrow_sound, comparison_sound, dereference_sound, literal_sound, one_type_sound, outcome_sound, paired_sound, path_sound}
 use Rattle.au_typing.proofs.Steps.{bind_ok, known_ok, names_kept, noted_ok, ok_same}
 
 -- ---- arguments

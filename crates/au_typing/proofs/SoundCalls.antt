@@ -1,8 +1,8 @@
 -- What the search gives of calls is good.
-use Rattle.std.proofs.Common.{◌≡◌, Bool, true, false, List, [], ◌∷◌, refl, sym, ap, subst, subst₂, ◌∙◌, Option, Some, None, Ok}
+use Rattle.std.proofs.Common.{◌≡◌, Bool, true, false, List, [], ◌∷◌, refl, sym, ap, subst, ◌∙◌, Option, Some, None, Ok}
 use Rattle.au_syntax.specs.Plain.{Bytes, PlainExpression}
-use Rattle.au_types.specs.Types.{Meaning, unit, truth, integer, text, parameter, named, reads, writes, of_type}
-use Rattle.au_matching.specs.Bindings.{Bindings, with_pair}
+use Rattle.au_types.specs.Types.{Meaning, parameter}
+use Rattle.au_matching.specs.Bindings.{Bindings}
 use Rattle.au_matching.specs.Fixed.{fixed}
 use Rattle.au_matching.specs.Matched.{matched}
 use Rattle.au_matching.specs.Substituted.{substituted}
@@ -10,15 +10,15 @@ use Rattle.au_generics.specs.Bounds.{parameters}
 use Rattle.au_scopes.specs.Scopes.{Callable, Scope, Typed}
 use Rattle.au_typing.specs.Bare.{is_bare}
 use Rattle.au_typing.specs.Calls.{begun, first_lacking, first_left, first_misfit, types_of_call, wanted_of, FirstStep, GoodCall, Passes, SecondStep, Taken, TakenBare}
-use Rattle.au_typing.specs.Faults.{Noting, ◌>>=◌, Why, known_or, unknown, different, unfixed}
+use Rattle.au_typing.specs.Faults.{◌>>=◌, Why, known_or, unknown, different, unfixed}
 use Rattle.au_typing.specs.Good.{AllGood, shown}
 use Rattle.au_typing.specs.Limits.{are_within, within}
-use Rattle.au_typing.specs.Notes.{Mode, Note, NotedExpression, erase, mode_of, note_of, type_of}
+use Rattle.au_typing.specs.Notes.{Mode, Note, NotedExpression, erase, note_of, type_of}
 use Rattle.au_typing.specs.Operands.{Noter}
 use Rattle.au_typing.specs.Rules.{int32}
 use Rattle.au_typing.specs.SearchCalls.{Half, Operand, beside, call_note, call_noted, called_note, first, first_step, half_of, lacks, misfit, put_before, result_differs, second, second_step, taken, taken_as, taken_bare, unless_why, with_arguments}
 use Rattle.au_typing.proofs.Steps.{bind_ok, known_ok, ok_same, unless_ok, within_ok}
-use Rattle.au_typing.proofs.SoundParts.{IsNoting, Sounds}
+use Rattle.au_typing.proofs.SoundParts.{Sounds}
 use Rattle.au_typing.proofs.Found.{bare_kept}
 
 module _ (scope : Scope) where
@@ -48,7 +48,7 @@ module _ (scope : Scope) where
       let i = f (Some (substituted s t)) a.0 a.1 in
       subst (IsTaken (Taken true t) p s) (ok_same (a.0, s) z a.2) (i.0, i.2, (i.1, refl))
   taken_sound false e p t s z f h =
-      let a = bind_ok (e None) (taken_as t s) z h in
+      let a = bind_ok (e None) (λ (x : NotedExpression). taken_as t (type_of x) s x) z h in
       let i = f None a.0 a.1 in
       let cause = different (substituted s t) (type_of a.0) in
       let m = bind_ok (known_or cause (matched t (type_of a.0) s)) (λ (r : Bindings). Ok (a.0, r)) z a.2 in
@@ -60,10 +60,12 @@ module _ (scope : Scope) where
       let i = f (Some (substituted s t)) a.0 a.1 in
       subst (IsTaken (TakenBare true t) p s) (ok_same (a.0, s) z a.2) (i.0, i.2, (i.1, refl))
   taken_bare_sound false e p (parameter name) s z f h =
-      let r = with_pair name (of_type int32) s in
-      let a = bind_ok (e None) (beside r) z h in
+      let t = parameter name in
+      let a = bind_ok (e None) (taken_as t int32 s) z h in
       let i = f None a.0 a.1 in
-      subst (IsTaken (TakenBare false (parameter name)) p s) (ok_same (a.0, r) z a.2) (i.0, i.2, (i.1, refl))
+      let cause = different (substituted s t) int32 in
+      let m = bind_ok (known_or cause (matched t int32 s)) (λ (r : Bindings). Ok (a.0, r)) z a.2 in
+      subst (IsTaken (TakenBare false t) p s) (ok_same (a.0, m.0) z m.2) (i.0, i.2, (i.1, known_ok cause (matched t int32 s) m.0 m.1))
   taken_bare_sound false e p t s z f h = absurd cc
 
   -- ---- the first pass
@@ -167,21 +169,21 @@ module _ (scope : Scope) where
   given_sound : (name : Bytes) (takes : List Typed → Option (List Meaning)) (mode : Mode) (ps : List PlainExpression) (called : Callable) (types : List Meaning) (begins goes_on s : Bindings) (m : Note) (args : List NotedExpression) (z : Note × List NotedExpression) → scope.outside.callable name ≡ Some called → takes called.parameters ≡ Some types → begun mode called.result ≡ Some begins → ArePassed ps types begins goes_on goes_on (args, s) → IsCallNote mode called s m → (m, args) ≡ z → IsCall name takes mode ps z
   given_sound name takes mode ps called types begins goes_on s m args z is_called one_each from_result passed facts whole =
       let good : GoodCall scope (call_note mode called s) name takes (shown args) = record {
-          called = called;
-          is_called = is_called;
-          types = types;
-          one_each = one_each;
-          begins = begins;
-          from_result = from_result;
-          goes_on = goes_on;
-          not_bare = passed.1;
-          ends = s;
-          bare = passed.2;
-          all_fixed = facts.0;
-          limited = facts.1;
-          all_fit = facts.2;
-          all_hold = facts.3;
-          is_noted = refl;
+        called = called;
+        is_called = is_called;
+        types = types;
+        one_each = one_each;
+        begins = begins;
+        from_result = from_result;
+        goes_on = goes_on;
+        not_bare = passed.1;
+        ends = s;
+        bare = passed.2;
+        all_fixed = facts.0;
+        limited = facts.1;
+        all_fit = facts.2;
+        all_hold = facts.3;
+        is_noted = refl;
       } in
       subst (IsCall name takes mode ps) (ap (λ (note : Note). (note, args)) facts.4 ∙ whole) (good, refl, passed.0)
 

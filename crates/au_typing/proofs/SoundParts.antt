@@ -1,5 +1,5 @@
 -- What the search gives of literals, parts, operands and operations is good.
-use Rattle.std.proofs.Common.{◌≡◌, ℤ, Bool, true, false, List, [], ◌∷◌, refl, sym, ap, subst, ◌∙◌, Option, Some, None, Ok}
+use Rattle.std.proofs.Common.{◌≡◌, ℤ, Bool, true, false, List, [], ◌∷◌, refl, sym, ap, subst, ◌∙◌, Some, Ok}
 use Rattle.au_ints.specs.Ranges.{is_of_kind}
 use Rattle.au_syntax.specs.declared.expressions.BinaryOperator.{BinaryOperator}
 use Rattle.au_syntax.specs.declared.expressions.BorrowMode.{BorrowMode}
@@ -13,16 +13,15 @@ use Rattle.au_types.specs.Types as mean
 use Rattle.au_types.specs.Types.{Meaning}
 use Rattle.au_judged_types.specs.Reasons.{Outcome, means, fails}
 use Rattle.au_scopes.specs.Scopes.{Scope}
-use Rattle.au_typing.specs.Bare.{is_bare}
-use Rattle.au_typing.specs.Faults.{Noting, ◌>>=◌, Why, check, known_or, unknown, different, not_free, shape, integer_wanted, range_wanted, record_wanted, reference_wanted}
-use Rattle.au_typing.specs.Good.{AllGood, GoodBorrow, GoodLiteral, GoodPart, GoodPath, Kept, PairedModes}
-use Rattle.au_typing.specs.Limits.{types_noted, within}
+use Rattle.au_typing.specs.Faults.{Noting, ◌>>=◌, check, known_or, unknown, different, not_free, shape, integer_wanted, range_wanted, record_wanted, reference_wanted}
+use Rattle.au_typing.specs.Good.{AllGood, IsNoting, GoodBorrow, GoodLiteral, GoodPart, GoodPath, Kept, PairedModes}
+use Rattle.au_typing.specs.Limits.{types_noted}
 use Rattle.au_typing.specs.Lookups.{behind, field_type, is_free_in, is_record, IsPart, outcome_noted, part_type, record_part}
-use Rattle.au_typing.specs.Notes.{Mode, Note, NotedExpression, erase, mode_of, note_of, type_of}
+use Rattle.au_typing.specs.Notes.{Mode, Note, NotedExpression, erase, note_of, type_of}
 use Rattle.au_typing.specs.Operands.{Noter, before, behind_it, of_one_type, paired}
 use Rattle.au_typing.specs.Rules.{is_compared, is_integer, literal_kind, noted, wanted_note}
 use Rattle.au_typing.specs.Search.{arithmetic_note, arrow_note, borrow_part_note, borrowed, comparison_note, dereference_note, literal_note, part_note, path_note, read_note}
-use Rattle.au_typing.proofs.Steps.{IsNote, bind_ok, check_ok, is_note, known_ok, noted_ok, ok_same, within_ok}
+use Rattle.au_typing.proofs.Steps.{bind_ok, check_ok, is_note, known_ok, noted_ok, ok_same, within_ok}
 
 -- a note is kept, has this mode, and its type meets P
 abbrev pub HasNote : Mode → (Meaning → Type 0) → Note → Type 0
@@ -105,10 +104,6 @@ outcome_sound (means u) t e = ap means (ok_same u t e)
 outcome_sound (fails reason) t e = absurd cc
 
 -- ---- operands
-
--- a good noting of a tree in a mode
-abbrev pub IsNoting : Scope → PlainExpression → Mode → NotedExpression → Type 0
-IsNoting scope e mode a = AllGood scope a × (mode_of a ≡ mode) × (erase a ≡ e)
 
 -- what is noted is good
 abbrev pub Sounds : Scope → Noter → PlainExpression → Type 0
