@@ -1,14 +1,14 @@
 -- A tree without its notes is what is read plainly of it.
-use Rattle.std.proofs.Common.{◌≡◌, List, [], ◌∷◌, map, refl, ap, ◌∙◌}
+use Rattle.std.proofs.Common.{◌≡◌, List, [], ◌∷◌, map, refl, ap}
 use Rattle.std.specs.Prelude.{Option, Some, None}
 use Rattle.std.specs.Option.{option_map}
-use Rattle.au_syntax.specs.Modules.{Constrained, Declaration, Header, Importing, MethodBody, ModuleTree, Variant, constant, opaque_type, record_type, union_type, function, class, instance, constant_body, function_body, instance_body}
+use Rattle.au_syntax.specs.Modules.{Constrained, Header, Importing, Variant, constant, opaque_type, record_type, union_type, function, class, instance, constant_body, function_body, instance_body}
 use Rattle.au_syntax.specs.Names.{Placed, Renaming}
-use Rattle.au_syntax.specs.Plain.{Bytes, PlainMethod, plain_arms, plain_bound, plain_branches, plain_constrained, plain_declaration, plain_header, plain_importing, plain_in_universe, plain_labelled, plain_method, plain_module, plain_name, plain_renaming, plain_statement, plain_statements, plain_variant}
-use Rattle.au_syntax.specs.Statements.{skip, declare, destructure, assign, assign_through, conditional, conditional_else, case_of, while_loop, for_loop, borrow_in, borrow_typed, discard, return_of, no_statements, statements, no_branches, branches, no_arms, arms}
+use Rattle.au_syntax.specs.Plain.{Bytes, plain_arms, plain_bound, plain_branches, plain_constrained, plain_declaration, plain_header, plain_importing, plain_in_universe, plain_labelled, plain_method, plain_module, plain_name, plain_renaming, plain_statement, plain_statements, plain_variant}
+use Rattle.au_syntax.specs.Statements.{destructure, assign, assign_through, conditional, conditional_else, case_of, while_loop, for_loop, borrow_in, borrow_typed, no_statements, statements, no_branches, branches, no_arms, arms}
 use Rattle.au_syntax.specs.Types.{Bound, Labelled}
 use Rattle.au_typing.proofs.Steps.{names_kept}
-use Rattle.au_typing.specs.Notes.{Note, erase}
+use Rattle.au_typing.specs.Notes.{erase}
 use Rattle.au_derivations.specs.Trees.{NotedArms, NotedBranches, NotedDeclaration, NotedMethod, NotedModule, NotedStatement, NotedStatements, erase_arms, erase_block, erase_branches, erase_declaration, erase_method, erase_module, erase_statement}
 
 -- names stay as they are
@@ -46,7 +46,8 @@ mutual
   pub statement_plain : (s : NotedStatement) → plain_statement same_name s ≡ erase_statement s
   statement_plain (destructure at binds e) = ap (λ bs. destructure at bs (erase e)) (binds_kept binds)
   statement_plain (assign at n fields e) = ap (λ fs. assign at n fs (erase e)) (names_kept fields)
-  statement_plain (assign_through at n fields e) = ap (λ fs. assign_through at n fs (erase e)) (names_kept fields)
+  statement_plain (assign_through at n fields e) = ap (λ fs. assign_through at n fs (erase e))
+      (names_kept fields)
   statement_plain (conditional at tests) = ap (conditional at) (branches_plain tests)
   statement_plain (conditional_else at tests b) =
       λ i. conditional_else at (branches_plain tests i) (block_plain b i)
@@ -55,7 +56,8 @@ mutual
   statement_plain (for_loop at n a z b) = ap (for_loop at n (erase a) (erase z)) (block_plain b)
   statement_plain (borrow_in at access x r region b stop) =
       ap (λ c. borrow_in at access x r region c stop) (block_plain b)
-  statement_plain (borrow_typed at r t mode x b stop) = ap (λ c. borrow_typed at r t mode x c stop) (block_plain b)
+  statement_plain (borrow_typed at r t mode x b stop) = ap (λ c. borrow_typed at r t mode x c stop)
+      (block_plain b)
   statement_plain s = refl
 
   pub block_plain : (ss : NotedStatements) → plain_statements same_name ss ≡ erase_block ss
@@ -68,7 +70,8 @@ mutual
 
   arms_plain : (all : NotedArms) → plain_arms same_name all ≡ erase_arms all
   arms_plain no_arms = refl
-  arms_plain (arms at n binds b rest) = λ i. arms at n (binds_kept binds i) (block_plain b i) (arms_plain rest i)
+  arms_plain (arms at n binds b rest) = λ i. arms at n (binds_kept binds i) (block_plain b i)
+      (arms_plain rest i)
 
 -- ---- declarations
 

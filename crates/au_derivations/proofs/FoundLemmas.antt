@@ -1,13 +1,13 @@
 -- Whatever is good of a statement or a block is found.
-use Rattle.std.proofs.Common.{◌≡◌, Bool, true, false, ◌&&◌, ◌||◌, List, [], ◌∷◌, refl, sym, ap, ◌∙◌}
-use Rattle.std.specs.Prelude.{Option, Some, None, Ok}
+use Rattle.std.proofs.Common.{◌≡◌, Bool, true, false, ◌&&◌, ◌||◌, ◌∷◌, refl, sym, ap, ◌∙◌}
+use Rattle.std.specs.Prelude.{Some, Ok}
 use Rattle.au_syntax.specs.Statements.{skip, declare, destructure, assign, assign_through, conditional, conditional_else, case_of, while_loop, for_loop, borrow_in, borrow_typed, discard, return_of, no_statements, statements, no_branches, branches, no_arms, arms}
 use Rattle.au_scopes.specs.Scopes.{Scope}
 use Rattle.au_types.specs.Types as mean
 use Rattle.au_typing.specs.Notes.{erase, type_of}
-use Rattle.au_derivations.specs.Faults.{Judged, ◌then◌, placed}
+use Rattle.au_derivations.specs.Faults.{◌then◌}
 use Rattle.au_derivations.specs.InScope.{after, fixed_variable, with_bound, with_reference, with_variable}
-use Rattle.au_derivations.specs.Parts.{ArmHead, borrow_type, heads_of, mode_for}
+use Rattle.au_derivations.specs.Parts.{borrow_type, heads_of, mode_for}
 use Rattle.au_derivations.specs.Returns.{arms_return, block_returns, branches_return, may_follow, returns}
 use Rattle.au_derivations.specs.Search.{judge_next, note_arms, note_block, note_branches, note_case, note_statement}
 use Rattle.au_derivations.specs.Statements.{GoodArmBlocks, GoodBlock, GoodBranches, GoodStatement}
@@ -119,7 +119,8 @@ mutual
       then λ b. Ok (borrow_in at kind x r region b stop))
       (placed_from at (lent_found sc (mode_for kind) x.name g.0 g.1))
       (then_from (λ b. Ok (borrow_in at kind x r region b stop))
-      (block_found block (with_reference r.name region.name (borrow_type (mode_for kind) region.name g.0) sc) g.2)
+      (block_found block (with_reference r.name region.name (borrow_type
+      (mode_for kind) region.name g.0) sc) g.2)
       refl)
   statement_found (borrow_typed at r t mode x block stop) sc g =
       then_from

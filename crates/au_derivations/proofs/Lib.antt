@@ -6,3 +6,4 @@ pub mod SoundLemmas
 pub mod ProgramLemmas
 pub mod PathLemmas
 pub mod ErasureLemmas
+pub mod RefusalLemmas

@@ -1,10 +1,10 @@
 -- Whatever is good of a statement's own parts is found.
-use Rattle.std.proofs.Common.{◌≡◌, Bool, true, false, not, List, [], ◌∷◌, refl, sym, ap, ◌∙◌}
+use Rattle.std.proofs.Common.{◌≡◌, true, false, not, List, [], ◌∷◌, refl, sym, ap, ◌∙◌}
 use Rattle.std.specs.Prelude.{Option, Some, None, Ok, is_some, option_and_then}
 use Rattle.au_syntax.specs.declared.expressions.BorrowMode.{BorrowMode}
 use Rattle.au_syntax.specs.Names.{Placed}
 use Rattle.au_syntax.specs.Plain.{Bytes}
-use Rattle.au_syntax.specs.Statements.{Arms, no_branches, branches, no_arms, arms}
+use Rattle.au_syntax.specs.Statements.{no_branches, branches}
 use Rattle.au_syntax.specs.Types.{Bound, WrittenType, named, reference}
 use Rattle.au_types.specs.declared.types.Region.TheVariants as regions
 use Rattle.au_types.specs.Same.{same}
@@ -14,19 +14,18 @@ use Rattle.au_judged_types.specs.Judging.{refers}
 use Rattle.au_names.specs.declared.targets.Target.{Target}
 use Rattle.au_scopes.specs.Scopes.{Case, Scope, Typed, Variable}
 use Rattle.au_typing.specs.Bare.{is_bare}
-use Rattle.au_typing.specs.Faults.{Noting, ◌>>=◌, check, known_or, why, unknown, different, not_free, shape, record_wanted, union_wanted, reference_wanted, write_reference_wanted, integer_wanted, assignable_wanted, labels_wanted, arms_wanted}
-use Rattle.au_typing.specs.Good.{AllGood, ArePaired, PairedModes}
-use Rattle.au_typing.specs.Lookups.{IsPart, field_type, is_free_in, is_record, part_type, record_part, type_of_name, value_type, variable_of, written_type}
-use Rattle.au_typing.specs.Notes.{Mode, NotedExpression, erase, mode_of, note_of, type_of}
-use Rattle.au_typing.specs.Operands.{before, behind_it, of_one_type, paired}
+use Rattle.au_typing.specs.Faults.{◌>>=◌, check, known_or, unknown, different, not_free, shape, record_wanted, union_wanted, write_reference_wanted, integer_wanted, assignable_wanted, labels_wanted, arms_wanted}
+use Rattle.au_typing.specs.Lookups.{IsPart, is_free_in, part_type, record_part, type_of_name, value_type, written_type}
+use Rattle.au_typing.specs.Notes.{Mode, NotedExpression, erase, type_of}
+use Rattle.au_typing.specs.Operands.{of_one_type, paired}
 use Rattle.au_typing.specs.Rules.{is_integer}
 use Rattle.au_typing.specs.Search.{note}
 use Rattle.au_typing.proofs.Steps.{known_found}
 use Rattle.au_typing.proofs.Found.{bare_kept, found}
 use Rattle.au_typing.proofs.FoundParts.{paired_found, part_found}
-use Rattle.au_derivations.specs.Parts.{ArmHead, arms_fit, binds_each, borrow_type, case_meant, case_of_arm, heads_of, is_borrowed_within, lent}
-use Rattle.au_derivations.specs.Search.{free_place, is_of_borrow, judge_all_bound, judge_arm, judge_arms, judge_assigned, judge_binds, judge_borrow, judge_bound, judge_heads, judge_lent, judge_names, judge_put, judge_reference, judge_union, not_assignable, not_writing, note_assigned, note_bounds, note_case, note_declared, note_discarded, note_put, note_taken, note_test, note_tests, place_type, written_through}
-use Rattle.au_derivations.specs.Statements.{AreBound, GoodArm, GoodArms, GoodAssigned, GoodBlock, GoodBorrow, GoodBounds, GoodBranches, GoodCase, GoodDeclared, GoodPut, GoodTaken, IsBound, IsLent, IsReference, Wants}
+use Rattle.au_derivations.specs.Parts.{ArmHead, arms_fit, binds_each, borrow_type, case_meant, is_borrowed_within, lent}
+use Rattle.au_derivations.specs.Search.{free_place, is_of_borrow, judge_all_bound, judge_arm, judge_arms, judge_assigned, judge_binds, judge_borrow, judge_bound, judge_heads, judge_lent, judge_names, judge_put, judge_reference, judge_union, not_assignable, not_writing, note_assigned, note_bounds, note_case, note_declared, note_discarded, note_put, note_taken, note_tests, place_type, written_through}
+use Rattle.au_derivations.specs.Statements.{AreBound, GoodArm, GoodArms, GoodAssigned, GoodBorrow, GoodBounds, GoodBranches, GoodCase, GoodDeclared, GoodPut, GoodTaken, IsBound, IsLent, IsReference, Wants}
 use Rattle.au_derivations.specs.Trees.{NotedBranches, erase_branches}
 use Rattle.au_derivations.proofs.StepLemmas.{bind_from, check_from}
 
@@ -68,7 +67,8 @@ all_bound_found sc fields (b ∷ rest) g =
 binds_found : (sc : Scope) (fields : List Typed) (binds : List (Bound Bytes)) → binds_each fields binds ≡ true
     → AreBound sc fields binds → judge_binds sc fields binds ≡ Ok tt
 binds_found sc fields binds each g =
-    check_from (shape labels_wanted) (judge_all_bound sc fields binds) each (all_bound_found sc fields binds g)
+    check_from (shape labels_wanted) (judge_all_bound sc fields binds) each
+    (all_bound_found sc fields binds g)
 
 -- ---- the arms of a case
 
@@ -88,7 +88,8 @@ names_found sc cases (head ∷ rest) g =
 arm_found : (sc : Scope) (cases : List Case) (head : ArmHead) → GoodArm sc cases head
     → judge_arm sc cases head ≡ Ok tt
 arm_found sc cases head g =
-    bind_from (λ (one : Case). judge_binds sc one.fields head.binds) (known_found (shape arms_wanted) g.is_for)
+    bind_from (λ (one : Case). judge_binds sc one.fields head.binds) (known_found
+    (shape arms_wanted) g.is_for)
     (binds_found sc g.one.fields head.binds g.each g.bound)
 
 arms_found : (sc : Scope) (cases : List Case) (heads : List ArmHead) → GoodArms sc cases heads

@@ -1,6 +1,6 @@
 -- A statement returns on every path exactly where no path goes on behind it.
 use Rattle.std.proofs.Common.{◌≡◌, Bool, true, false, ◌&&◌, ◌||◌, ◌⊎◌, inl, inr, refl}
-use Rattle.au_syntax.specs.Statements.{Statement, Statements, Branches, Arms, skip, declare, destructure, assign, assign_through, conditional, conditional_else, case_of, while_loop, for_loop, borrow_in, borrow_typed, discard, return_of, no_statements, statements, no_branches, branches, no_arms, arms}
+use Rattle.au_syntax.specs.Statements.{Statement, Statements, Branches, Arms, conditional_else, case_of, borrow_in, borrow_typed, return_of, no_statements, statements, no_branches, branches, no_arms, arms}
 use Rattle.au_derivations.specs.Paths.{GoesOn, ReachesEnd, SomeArmEnds, SomeBranchEnds}
 use Rattle.au_derivations.specs.Returns.{arms_return, block_returns, branches_return, returns}
 
@@ -74,7 +74,8 @@ module _ {N T C : Type 0} where
     pub never_ends : (ss : Statements N T C) → block_returns ss ≡ true → ReachesEnd ss → ⊥
     never_ends no_statements h g = absurd cc
     never_ends (statements s rest) h g =
-        either (λ k. stays s k g.0) (λ k. never_ends rest k g.1) (one_holds (returns s) (block_returns rest) h)
+        either (λ k. stays s k g.0) (λ k. never_ends rest k g.1) (one_holds (returns s)
+        (block_returns rest) h)
 
     branches_stay : (all : Branches N T C) → branches_return all ≡ true → SomeBranchEnds all → ⊥
     branches_stay no_branches h g = g

@@ -5,13 +5,13 @@ use Rattle.std.specs.Option.{option_map}
 use Rattle.au_base.specs.declared.places.Pos.{Pos}
 use Rattle.au_syntax.specs.declared.modules.Part.{Part}
 use Rattle.au_syntax.specs.declared.modules.Part.TheVariants.{Interface, Body}
-use Rattle.au_syntax.specs.Expressions.{Expression, number, negative, text, truth, nil}
+use Rattle.au_syntax.specs.Expressions.{number}
 use Rattle.au_syntax.specs.Modules.{Constrained, Header, constant, opaque_type, record_type, union_type, function, class, instance, constant_body, function_body, instance_body}
 use Rattle.au_syntax.specs.Plain.{Bytes, PlainDeclaration, PlainExpression, PlainMethod, PlainStatements}
 use Rattle.au_syntax.specs.Types.{WrittenType}
 use Rattle.au_modules.specs.Programs.{Entry, ModuleParts}
 use Rattle.au_scopes.specs.Scopes.{Outside, Scope}
-use Rattle.au_typing.specs.Faults.{Noting, ◌>>=◌, check, shape, assignable_wanted}
+use Rattle.au_typing.specs.Faults.{check, shape, assignable_wanted}
 use Rattle.au_typing.specs.Lookups.{written_type}
 use Rattle.au_typing.specs.Notes.{NotedExpression, erase}
 use Rattle.au_typing.specs.Search.{note}
@@ -23,7 +23,7 @@ use Rattle.au_derivations.specs.Parts.{is_literal}
 use Rattle.au_derivations.specs.ProgramSearch.{judge_end, note_body, note_constant, note_declaration, note_declarations, note_methods, note_module, note_modules, note_part, note_program, noted_entry}
 use Rattle.au_derivations.specs.Returns.{block_returns}
 use Rattle.au_derivations.specs.Search.{note_block}
-use Rattle.au_derivations.specs.Statements.{GoodBlock, Wants}
+use Rattle.au_derivations.specs.Statements.{GoodBlock}
 use Rattle.au_derivations.specs.Trees.{NotedDeclaration, NotedEntry, NotedMethod, NotedParts, NotedStatements, erase_block, erase_declaration, erase_entry, erase_method, erase_parts, erase_program}
 use Rattle.au_derivations.proofs.FoundLemmas.{block_found, block_returns_erased, two_blocks}
 use Rattle.au_derivations.proofs.PartLemmas.{wants_found}
@@ -217,7 +217,8 @@ declaration_sound : (outside : Outside) (d : PlainDeclaration) (t : NotedDeclara
 declaration_sound outside (constant at name of) t h =
     subst (IsDeclaration outside (constant at name of)) (judged_is (constant at name of) t h) (tt, refl)
 declaration_sound outside (opaque_type at name ps u) t h =
-    subst (IsDeclaration outside (opaque_type at name ps u)) (judged_is (opaque_type at name ps u) t h) (tt, refl)
+    subst (IsDeclaration outside (opaque_type at name ps u)) (judged_is (opaque_type at name ps u) t h)
+    (tt, refl)
 declaration_sound outside (record_type at name ps u fields) t h =
     subst (IsDeclaration outside (record_type at name ps u fields))
     (judged_is (record_type at name ps u fields) t h) (tt, refl)
@@ -228,12 +229,14 @@ declaration_sound outside (function at generics header) t h =
     subst (IsDeclaration outside (function at generics header))
     (judged_is (function at generics header) t h) (tt, refl)
 declaration_sound outside (class at name p headers) t h =
-    subst (IsDeclaration outside (class at name p headers)) (judged_is (class at name p headers) t h) (tt, refl)
+    subst (IsDeclaration outside (class at name p headers)) (judged_is (class at name p headers) t h)
+    (tt, refl)
 declaration_sound outside (instance at generics name of) t h =
     subst (IsDeclaration outside (instance at generics name of))
     (judged_is (instance at generics name of) t h) (tt, refl)
 declaration_sound outside (constant_body at name of e) t h =
-    let step = then_gave (placed at (note_constant outside of e)) (λ a. Ok (constant_body at name of a)) t h in
+    let step = then_gave (placed at (note_constant outside of e)) (λ a. Ok
+    (constant_body at name of a)) t h in
     let good = constant_sound outside of e step.0
     (placed_gave at (note_constant outside of e) step.0 step.1) in
     subst (IsDeclaration outside (constant_body at name of e))
@@ -256,7 +259,8 @@ declaration_sound outside (instance_body at generics name of methods) t h =
 declarations_sound : (outside : Outside) (ds : List PlainDeclaration) (t : List NotedDeclaration)
     → note_declarations outside ds ≡ Ok t → GoodDeclarations outside t × (map erase_declaration t ≡ ds)
 declarations_sound outside [] t h =
-    subst (λ all. GoodDeclarations outside all × (map erase_declaration all ≡ [])) (judged_is [] t h) (tt, refl)
+    subst (λ all. GoodDeclarations outside all × (map erase_declaration all ≡ [])) (judged_is [] t h)
+    (tt, refl)
 declarations_sound outside (d ∷ rest) t h =
     let first = then_gave (note_declaration outside d)
     (λ noted. note_declarations outside rest then λ all. Ok (noted ∷ all)) t h in

@@ -1,18 +1,18 @@
 -- Whatever is found of a statement or a block is good.
 use Rattle.std.proofs.Common.{◌≡◌, Bool, true, false, List, [], ◌∷◌, refl, sym, ap, subst, ◌∙◌}
-use Rattle.std.specs.Prelude.{Option, Some, None, Ok, Err}
+use Rattle.std.specs.Prelude.{Some, Ok}
 use Rattle.au_syntax.specs.Plain.{PlainArms, PlainBranches, PlainStatement, PlainStatements}
 use Rattle.au_syntax.specs.Statements.{skip, declare, destructure, assign, assign_through, conditional, conditional_else, case_of, while_loop, for_loop, borrow_in, borrow_typed, discard, return_of, no_statements, statements, no_branches, branches, no_arms, arms}
 use Rattle.au_scopes.specs.Scopes.{Scope}
 use Rattle.au_types.specs.Types as mean
 use Rattle.au_types.specs.Types.{Meaning}
-use Rattle.au_typing.specs.Faults.{Noting, ◌>>=◌}
+use Rattle.au_typing.specs.Faults.{◌>>=◌}
 use Rattle.au_typing.specs.Notes.{NotedExpression, erase, type_of}
 use Rattle.au_typing.specs.Search.{note}
 use Rattle.au_typing.proofs.Steps.{bind_ok, ok_same}
-use Rattle.au_derivations.specs.Faults.{Judged, ◌then◌, placed}
+use Rattle.au_derivations.specs.Faults.{◌then◌, placed}
 use Rattle.au_derivations.specs.InScope.{after, fixed_variable, with_bound, with_reference, with_variable}
-use Rattle.au_derivations.specs.Parts.{ArmHead, borrow_type, heads_of, mode_for}
+use Rattle.au_derivations.specs.Parts.{borrow_type, heads_of, mode_for}
 use Rattle.au_derivations.specs.Returns.{may_follow, returns}
 use Rattle.au_derivations.specs.Search.{judge_borrow, judge_lent, judge_next, note_arms, note_assigned, note_block, note_bounds, note_branches, note_case, note_declared, note_discarded, note_put, note_statement, note_taken, note_test, note_tests}
 use Rattle.au_derivations.specs.Statements.{GoodArmBlocks, GoodBlock, GoodBranches, GoodCase, GoodStatement, Wants}
@@ -78,7 +78,8 @@ mutual
       let step = then_gave (placed at (note_declared sc of e)) (λ a. Ok (declare at binding name of a)) t h in
       let good = declared_sound sc of e step.0
       (placed_gave at (note_declared sc of e) step.0 step.1) in
-      subst (IsStatement (declare at binding name of e) sc) (judged_is (declare at binding name of step.0) t step.2)
+      subst (IsStatement (declare at binding name of e) sc) (judged_is
+      (declare at binding name of step.0) t step.2)
       (good.0, ap (declare at binding name of) good.1)
   statement_sound (destructure at binds e) sc t h =
       let step = then_gave (placed at (note_taken sc binds e)) (λ a. Ok (destructure at binds a)) t h in
@@ -92,10 +93,12 @@ mutual
       subst (IsStatement (assign at x path e) sc) (judged_is (assign at x path step.0) t step.2)
       (good.0, ap (assign at x path) good.1)
   statement_sound (assign_through at r path e) sc t h =
-      let step = then_gave (placed at (note_put sc r.name path e)) (λ a. Ok (assign_through at r path a)) t h in
+      let step = then_gave (placed at (note_put sc r.name path e)) (λ a. Ok
+      (assign_through at r path a)) t h in
       let good = put_sound sc r.name path e step.0
       (placed_gave at (note_put sc r.name path e) step.0 step.1) in
-      subst (IsStatement (assign_through at r path e) sc) (judged_is (assign_through at r path step.0) t step.2)
+      subst (IsStatement (assign_through at r path e) sc) (judged_is
+      (assign_through at r path step.0) t step.2)
       (good.0, ap (assign_through at r path) good.1)
   statement_sound (conditional at tests) sc t h =
       let first = then_gave (placed at (note_tests sc tests))
@@ -157,7 +160,8 @@ mutual
       then λ b. Ok (borrow_in at kind x r region b stop)) t h in
       let inner : Scope =
       with_reference r.name region.name (borrow_type (mode_for kind) region.name first.0) sc in
-      let second = then_gave (note_block block inner) (λ b. Ok (borrow_in at kind x r region b stop)) t first.2 in
+      let second = then_gave (note_block block inner) (λ b. Ok
+      (borrow_in at kind x r region b stop)) t first.2 in
       let lent = lent_sound sc (mode_for kind) x.name first.0
       (placed_gave at (judge_lent sc (mode_for kind) x.name) first.0 first.1) in
       let good = block_sound block inner second.0 second.1 in
@@ -169,7 +173,8 @@ mutual
       (λ y. note_block block (with_reference r.name y.0 y.1 sc)
       then λ b. Ok (borrow_typed at r of mode x b stop)) t h in
       let inner : Scope = with_reference r.name (first.0).0 (first.0).1 sc in
-      let second = then_gave (note_block block inner) (λ b. Ok (borrow_typed at r of mode x b stop)) t first.2 in
+      let second = then_gave (note_block block inner) (λ b. Ok
+      (borrow_typed at r of mode x b stop)) t first.2 in
       let borrow = borrow_sound sc of mode x.name first.0
       (placed_gave at (judge_borrow sc of mode x.name) first.0 first.1) in
       let good = block_sound block inner second.0 second.1 in
@@ -228,5 +233,6 @@ mutual
       let second = then_gave (note_arms rest sc) (λ all. Ok (arms at n binds first.0 all)) t first.2 in
       let good = block_sound block (with_bound binds sc) first.0 first.1 in
       let goods = arms_sound rest sc second.0 second.1 in
-      subst (AreArms (arms at n binds block rest) sc) (judged_is (arms at n binds first.0 second.0) t second.2)
+      subst (AreArms (arms at n binds block rest) sc) (judged_is
+      (arms at n binds first.0 second.0) t second.2)
       ((good.0, goods.0), λ i. arms at n binds (good.1 i) (goods.1 i))

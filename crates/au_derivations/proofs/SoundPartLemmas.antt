@@ -3,8 +3,7 @@ use Rattle.std.proofs.Common.{◌≡◌, Bool, true, false, not, List, [], ◌�
 use Rattle.std.specs.Prelude.{Option, Some, None, Ok, Err, is_some}
 use Rattle.au_syntax.specs.declared.expressions.BorrowMode.{BorrowMode}
 use Rattle.au_syntax.specs.Names.{Placed}
-use Rattle.au_syntax.specs.Plain.{Bytes, PlainBranches, PlainExpression}
-use Rattle.au_syntax.specs.Statements.{no_branches, branches}
+use Rattle.au_syntax.specs.Plain.{Bytes, PlainExpression}
 use Rattle.au_syntax.specs.Types.{Bound, WrittenType, named, reference}
 use Rattle.au_types.specs.declared.types.Region.{Region}
 use Rattle.au_types.specs.declared.types.Region.TheVariants as regions
@@ -14,11 +13,11 @@ use Rattle.au_types.specs.Types.{Meaning}
 use Rattle.au_judged_types.specs.Judging.{refers}
 use Rattle.au_scopes.specs.Scopes.{Case, Scope, Typed, Variable}
 use Rattle.au_typing.specs.Bare.{is_bare}
-use Rattle.au_typing.specs.Faults.{Noting, Why, ◌>>=◌, check, known_or, why, unknown, different, not_free, shape, record_wanted, union_wanted, reference_wanted, write_reference_wanted, integer_wanted, assignable_wanted, labels_wanted, arms_wanted}
-use Rattle.au_typing.specs.Good.{AllGood, ArePaired, PairedModes}
+use Rattle.au_typing.specs.Faults.{Noting, ◌>>=◌, check, known_or, why, unknown, different, not_free, shape, record_wanted, union_wanted, reference_wanted, write_reference_wanted, integer_wanted, assignable_wanted, labels_wanted, arms_wanted}
+use Rattle.au_typing.specs.Good.{PairedModes}
 use Rattle.au_typing.specs.Lookups.{IsPart, field_type, is_free_in, is_record, part_type, record_part, type_of_name, value_type, variable_of, written_type}
-use Rattle.au_typing.specs.Notes.{Mode, NotedExpression, erase, mode_of, note_of, type_of}
-use Rattle.au_typing.specs.Operands.{before, behind_it, of_one_type, paired}
+use Rattle.au_typing.specs.Notes.{Mode, NotedExpression, erase, note_of, type_of}
+use Rattle.au_typing.specs.Operands.{of_one_type, paired}
 use Rattle.au_typing.specs.Rules.{is_integer}
 use Rattle.au_typing.specs.Search.{note}
 use Rattle.au_typing.proofs.Steps.{bind_ok, check_ok, known_ok, ok_same}
@@ -26,7 +25,7 @@ use Rattle.au_typing.proofs.Found.{bare_kept}
 use Rattle.au_typing.proofs.Sound.{sound}
 use Rattle.au_typing.proofs.SoundParts.{paired_sound}
 use Rattle.au_derivations.specs.Parts.{ArmHead, arms_fit, binds_each, borrow_type, case_of_arm, is_borrowed_within, lent}
-use Rattle.au_derivations.specs.Search.{free_place, is_of_borrow, judge_all_bound, judge_arm, judge_arms, judge_assigned, judge_binds, judge_borrow, judge_bound, judge_heads, judge_lent, judge_names, judge_put, judge_reference, judge_union, not_assignable, not_writing, note_assigned, note_bounds, note_case, note_declared, note_discarded, note_put, note_taken, note_test, note_tests, place_type, written_through}
+use Rattle.au_derivations.specs.Search.{free_place, is_of_borrow, judge_all_bound, judge_arm, judge_arms, judge_assigned, judge_binds, judge_borrow, judge_bound, judge_heads, judge_lent, judge_names, judge_put, judge_reference, judge_union, not_assignable, not_writing, note_assigned, note_bounds, note_case, note_declared, note_discarded, note_put, note_taken, place_type, written_through}
 use Rattle.au_derivations.specs.Statements.{AreBound, GoodArm, GoodArms, GoodAssigned, GoodBorrow, GoodBounds, GoodCase, GoodDeclared, GoodPut, GoodTaken, IsBound, IsLent, IsReference, Wants}
 
 -- ---- parts of records
@@ -35,7 +34,8 @@ is_some_gave : {A : Type 0} (o : Option A) → is_some o ≡ true → (x : A) ×
 is_some_gave None e = absurd cc
 is_some_gave (Some x) e = (x, refl)
 
-part_sound : (sc : Scope) (t : Meaning) (path : List (Placed Bytes)) (of : Meaning) → part_type sc t path ≡ Ok of
+part_sound : (sc : Scope) (t : Meaning) (path : List (Placed Bytes)) (of : Meaning)
+    → part_type sc t path ≡ Ok of
     → IsPart sc t path of
 part_sound sc t [] of e = sym (ok_same t of e)
 part_sound sc t (field ∷ path) of e =
@@ -46,7 +46,8 @@ part_sound sc t (field ∷ path) of e =
       part_sound sc step.0 path of step.2,
     )
 
-place_sound : (sc : Scope) (t : Meaning) (path : List (Placed Bytes)) (of : Meaning) → place_type sc t path ≡ Ok of
+place_sound : (sc : Scope) (t : Meaning) (path : List (Placed Bytes)) (of : Meaning)
+    → place_type sc t path ≡ Ok of
     → IsPart sc t path of
 place_sound sc t [] of e = sym (ok_same t of e)
 place_sound sc t (field ∷ path) of e =
@@ -61,7 +62,8 @@ free_sound sc t of e =
 
 -- ---- fields that are bound
 
-bound_sound : (sc : Scope) (fields : List Typed) (b : Bound Bytes) (of : Meaning) → judge_bound sc fields b ≡ Ok of
+bound_sound : (sc : Scope) (fields : List Typed) (b : Bound Bytes) (of : Meaning)
+    → judge_bound sc fields b ≡ Ok of
     → IsBound sc fields b
 bound_sound sc fields b of e =
     let has = bind_ok (known_or (shape labels_wanted) (type_of_name b.name.name.name fields))
@@ -83,10 +85,12 @@ all_bound_sound sc fields (b ∷ rest) e =
     let step = bind_ok (judge_bound sc fields b) (λ of. judge_all_bound sc fields rest) tt e in
     (bound_sound sc fields b step.0 step.1, all_bound_sound sc fields rest step.2)
 
-binds_sound : (sc : Scope) (fields : List Typed) (binds : List (Bound Bytes)) → judge_binds sc fields binds ≡ Ok tt
+binds_sound : (sc : Scope) (fields : List Typed) (binds : List (Bound Bytes))
+    → judge_binds sc fields binds ≡ Ok tt
     → (binds_each fields binds ≡ true) × AreBound sc fields binds
 binds_sound sc fields binds e =
-    let step = check_ok (binds_each fields binds) (shape labels_wanted) (judge_all_bound sc fields binds) tt e in
+    let step = check_ok (binds_each fields binds) (shape labels_wanted)
+    (judge_all_bound sc fields binds) tt e in
     (step.0, all_bound_sound sc fields binds step.1)
 
 -- ---- the arms of a case
@@ -116,7 +120,8 @@ heads_sound : (sc : Scope) (cases : List Case) (heads : List ArmHead) → judge_
 heads_sound sc cases heads e =
     let named = bind_ok (judge_names sc heads)
     (λ z. check (arms_fit sc cases heads) (shape arms_wanted) (judge_arms sc cases heads)) tt e in
-    let step = check_ok (arms_fit sc cases heads) (shape arms_wanted) (judge_arms sc cases heads) tt named.2 in
+    let step = check_ok (arms_fit sc cases heads) (shape arms_wanted)
+    (judge_arms sc cases heads) tt named.2 in
     (step.0, arms_sound sc cases heads step.1)
 
 not_true : (b : Bool) → not b ≡ true → b ≡ false
@@ -216,7 +221,8 @@ module _ (sc : Scope) where
       ) in
       subst (λ c. GoodTaken sc binds c × (erase c ≡ e)) is good
     where
-      judged : (fields : List Typed) (z : Unit {0}) → judge_binds sc fields binds ≡ Ok z → judge_binds sc fields binds ≡ Ok tt
+      judged : (fields : List Typed) (z : Unit {0}) → judge_binds sc fields binds ≡ Ok z
+          → judge_binds sc fields binds ≡ Ok tt
       judged fields z p = p
 
   pub assigned_sound : (x : Bytes) (path : List (Placed Bytes)) (e : PlainExpression) (a : NotedExpression)
@@ -229,7 +235,8 @@ module _ (sc : Scope) where
       let one : Variable = known.0 in
       let part = bind_ok (check one.assignable (shape assignable_wanted) (place_type sc one.of path))
       (λ of. free_place sc of) place.0 known.2 in
-      let test = check_ok one.assignable (shape assignable_wanted) (place_type sc one.of path) part.0 part.1 in
+      let test = check_ok one.assignable (shape assignable_wanted)
+      (place_type sc one.of path) part.0 part.1 in
       let free = free_sound sc part.0 place.0 part.2 in
       let wants = wants_sound e (Some place.0) a place.2 in (
         record {
@@ -281,7 +288,8 @@ module _ (sc : Scope) where
       same_some : (t u : Meaning) → Some t ≡ Some u → t ≡ u
       same_some t u p = cc
 
-      writes_to : (t to : Meaning) → written_through t ≡ Some to → (region : Region) × (t ≡ mean.writes to region)
+      writes_to : (t to : Meaning) → written_through t ≡ Some to → (region : Region) ×
+          (t ≡ mean.writes to region)
       writes_to (mean.writes t region) to p = (region, ap (λ u. mean.writes u region) (same_some t to p))
       writes_to t to p = absurd cc
 
@@ -321,7 +329,8 @@ module _ (sc : Scope) where
       (check (is_integer (type_of y.0)) (shape integer_wanted) (Ok y)) z both.2 in
       let whole = check_ok (is_integer (type_of y.0)) (shape integer_wanted) (Ok y) z one.1 in
       let is : y ≡ z = ok_same y z whole.1 in
-      let found = paired_sound sc (is_bare e) (is_bare d) (note sc e) (note sc d) e d None y (sound sc e) (sound sc d) both.1 in
+      let found = paired_sound sc (is_bare e) (is_bare d) (note sc e) (note sc d) e d None y (sound sc e)
+      (sound sc d) both.1 in
       let e_bare : is_bare e ≡ is_bare y.0 = ap is_bare (sym found.2) ∙ bare_kept y.0 in
       let d_bare : is_bare d ≡ is_bare y.1 = ap is_bare (sym found.3) ∙ bare_kept y.1 in
       let modes : PairedModes (is_bare y.0) (is_bare y.1) None (note_of y.0) (note_of y.1) =
@@ -337,7 +346,8 @@ module _ (sc : Scope) where
         found.2,
         found.3,
       ) in
-      subst (λ (w : NotedExpression × NotedExpression). GoodBounds sc w.0 w.1 × (erase w.0 ≡ e) × (erase w.1 ≡ d)) is good
+      subst (λ (w : NotedExpression × NotedExpression). GoodBounds sc w.0 w.1 × (erase w.0 ≡ e) ×
+      (erase w.1 ≡ d)) is good
 
   pub discarded_sound : (e : PlainExpression) (a : NotedExpression) → note_discarded sc e ≡ Ok a
       → Wants sc a None × (is_free_in sc (type_of a) ≡ true) × (erase a ≡ e)

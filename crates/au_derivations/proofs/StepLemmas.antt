@@ -1,9 +1,9 @@
 -- Steps of noting: what comes of them where each part gives something, and what each part gave.
-use Rattle.std.proofs.Common.{◌≡◌, Bool, true, false, refl, ap, ◌∙◌}
-use Rattle.std.specs.Prelude.{Option, Some, None, Result, Ok, Err, if◌then◌else◌}
+use Rattle.std.proofs.Common.{◌≡◌, Bool, true, refl, ap, ◌∙◌}
+use Rattle.std.specs.Prelude.{Ok, Err, if◌then◌else◌}
 use Rattle.au_base.specs.declared.places.Pos.{Pos}
-use Rattle.au_typing.specs.Faults.{Noting, Fault, Why, ◌>>=◌, check, known_or, why}
-use Rattle.au_derivations.specs.Faults.{Judged, ◌then◌, placed, StatementFault}
+use Rattle.au_typing.specs.Faults.{Noting, Why, ◌>>=◌, check}
+use Rattle.au_derivations.specs.Faults.{Judged, ◌then◌, placed}
 
 -- ---- where each part gives something
 

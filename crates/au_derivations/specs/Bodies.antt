@@ -1,5 +1,5 @@
 -- When the bodies of functions and methods, and the values of constants, are good with their notes.
-use Rattle.std.specs.Prelude.{◌≡◌, Bool, true, List, [], ◌∷◌, map, Option, None, Some, Ok}
+use Rattle.std.specs.Prelude.{◌≡◌, true, List, [], ◌∷◌, map, Some, Ok}
 use Rattle.au_syntax.specs.Modules.{Constrained, Header}
 use Rattle.au_syntax.specs.Plain.{Bytes}
 use Rattle.au_syntax.specs.Types.{Labelled, WrittenType}

@@ -1,7 +1,7 @@
--- A few blocks where nothing is declared outside of them and the result is Unit, and what each is refused for.
-use Rattle.std.specs.Prelude.{ℕ, Bool, true, false, List, [], ◌∷◌, codes, Option, None, Some, Ok, Err}
+-- A few blocks where nothing is declared outside of them and the result is Unit, and what each is refused
+-- for.
+use Rattle.std.specs.Prelude.{ℕ, true, List, [], ◌∷◌, codes, Option, None, Some, Ok, Err}
 use Rattle.au_base.specs.declared.places.Pos.{Pos}
-use Rattle.au_syntax.specs.declared.expressions.BorrowMode.{BorrowMode}
 use Rattle.au_syntax.specs.declared.expressions.BorrowMode.TheVariants as modes
 use Rattle.au_syntax.specs.declared.statements.Binding.TheVariants.{Let, Var}
 use Rattle.au_syntax.specs.declared.types.Access.TheVariants as access
@@ -113,10 +113,10 @@ abbrev pub bad : List PlainStatement → ℕ → Why → Example
 bad written line cause = record { written = block written; fault = Some (refused (at_line line) cause) }
 
 -- A `return`; an assignment to a `var`, and one to a `let`; a value of another type; a type that means
--- nothing, before the expression; a statement behind a `return`, and one behind a conditional with `else` that
--- returns on both paths, but none behind one without `else`; the second test of a conditional before its first
--- block; a loop whose test is no Bool, and one over what is no integer; and borrow statements without and with
--- a written type, where that is no reference, has another access, or holds the region.
+-- nothing, before the expression; a statement behind a `return`, and one behind a conditional with `else`
+-- that returns on both paths, but none behind one without `else`; the second test of a conditional before
+-- its first block; a loop whose test is no Bool, and one over what is no integer; and borrow statements
+-- without and with a written type, where that is no reference, has another access, or holds the region.
 abbrev pub examples : List Example
 examples =
     good (returns_at 1 ∷ [])
@@ -124,7 +124,8 @@ examples =
     ∷ bad (let_at 1 ∷ assigns_at 2 yes_value ∷ returns_at 3 ∷ []) 2 (shape assignable_wanted)
     ∷ bad (var_at 1 ∷ assigns_at 2 unit_value ∷ returns_at 3 ∷ []) 2 (different mean.truth mean.unit)
     ∷ bad
-    (declare (at_line 1) Let (put (codes "b")) (a_type (codes "Foo")) (a_variable (codes "c")) ∷ returns_at 2 ∷ [])
+    (declare (at_line 1) Let (put (codes "b")) (a_type (codes "Foo")) (a_variable (codes "c"))
+    ∷ returns_at 2 ∷ [])
     1 (unknown (codes "Foo"))
     ∷ bad (returns_at 1 ∷ assigns_at 2 yes_value ∷ []) 2 after_return
     ∷ bad
@@ -142,13 +143,15 @@ examples =
     ∷ returns_at 3 ∷ [])
     1 (different mean.truth mean.unit)
     ∷ bad (while_loop (at_line 1) unit_value (block []) ∷ []) 1 (different mean.truth mean.unit)
-    ∷ bad (for_loop (at_line 1) (put (codes "i")) yes_value yes_value (block []) ∷ []) 1 (shape integer_wanted)
+    ∷ bad (for_loop (at_line 1) (put (codes "i")) yes_value yes_value (block []) ∷ []) 1
+    (shape integer_wanted)
     ∷ good (let_at 1 ∷ borrows_at 2 (returns_at 3 ∷ []) ∷ [])
     ∷ bad (borrows_at 1 (returns_at 2 ∷ []) ∷ []) 1 (unknown (codes "b"))
     ∷ good (let_at 1 ∷ borrows_typed_at 2 reads_bool ∷ [])
     ∷ bad (let_at 1 ∷ borrows_typed_at 2 (a_type (codes "Bool")) ∷ []) 2 (shape reference_wanted)
     ∷ bad (let_at 1 ∷ borrows_typed_at 2 writes_bool ∷ []) 2
-    (different (mean.reads mean.truth (regions.Named (codes "R"))) (mean.writes mean.truth (regions.Named (codes "R"))))
+    (different (mean.reads mean.truth (regions.Named (codes "R"))) (mean.writes mean.truth (regions.Named
+    (codes "R"))))
     ∷ bad
     (let_at 1
     ∷ borrows_typed_at 2 (reference (at_line 0) access.Read reads_bool (put (codes "R")))

@@ -1,10 +1,10 @@
 -- What is in scope after a statement and inside of its blocks.
-use Rattle.std.specs.Prelude.{Bool, true, false, List, [], ◌∷◌, Result, Ok, Err}
+use Rattle.std.specs.Prelude.{Bool, true, false, List, [], ◌∷◌, Ok, Err}
 use Rattle.au_syntax.specs.declared.statements.Binding.{Binding}
 use Rattle.au_syntax.specs.declared.statements.Binding.TheVariants.{Let, Var}
 use Rattle.au_syntax.specs.Plain.{Bytes}
-use Rattle.au_syntax.specs.Statements.{Statement, skip, declare, destructure, assign, assign_through, conditional, conditional_else, case_of, while_loop, for_loop, borrow_in, borrow_typed, discard, return_of}
-use Rattle.au_syntax.specs.Types.{Bound, WrittenType}
+use Rattle.au_syntax.specs.Statements.{Statement, declare, destructure}
+use Rattle.au_syntax.specs.Types.{Bound}
 use Rattle.au_types.specs.Types.{Meaning}
 use Rattle.au_names.specs.Importing.{given_name}
 use Rattle.au_scopes.specs.Scopes.{Scope, Variable}

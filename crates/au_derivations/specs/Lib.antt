@@ -10,3 +10,4 @@ pub mod Derivations
 pub mod ProgramSearch
 pub mod Paths
 pub mod Examples
+pub mod Refusals

@@ -1,14 +1,12 @@
 -- The tests and the parts of the rules on statements.
-use Rattle.std.specs.Prelude.{◌≡◌, ◌==◌, ◌&&◌, ◌||◌, Bool, true, false, List, [], ◌∷◌, map, flat_map, is_some, Option, None, Some}
+use Rattle.std.specs.Prelude.{◌==◌, ◌&&◌, ◌||◌, Bool, true, false, List, [], ◌∷◌, map, is_some, Option, None, Some}
 use Rattle.std.specs.List.{count_by, find, list_all, list_any}
-use Rattle.std.specs.Option.{option_map, option_to_list}
 use Rattle.std.specs.Str.{bytes_eq}
 use Rattle.au_syntax.specs.declared.expressions.BorrowMode.{BorrowMode}
 use Rattle.au_syntax.specs.declared.expressions.BorrowMode.TheVariants as modes
 use Rattle.au_syntax.specs.declared.types.Access.{Access}
 use Rattle.au_syntax.specs.declared.types.Access.TheVariants as access
 use Rattle.au_syntax.specs.Expressions.{Expression, number, negative, text, truth, nil}
-use Rattle.au_syntax.specs.Names.{Placed}
 use Rattle.au_syntax.specs.Plain.{Bytes}
 use Rattle.au_syntax.specs.Statements.{Arms, no_arms, arms}
 use Rattle.au_syntax.specs.Types.{Bound}

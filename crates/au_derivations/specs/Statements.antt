@@ -1,9 +1,8 @@
 -- When a statement with its notes is good: one record for each form, over the notes of its own expressions
 -- and the types and names that it writes. Names are new where they are declared by the rules on declarations,
 -- of which nothing is said here.
-use Rattle.std.specs.Prelude.{◌≡◌, Bool, true, false, List, [], ◌∷◌, Option, None, Some, Ok}
+use Rattle.std.specs.Prelude.{◌≡◌, true, false, List, [], ◌∷◌, None, Some, Ok}
 use Rattle.au_syntax.specs.declared.expressions.BorrowMode.{BorrowMode}
-use Rattle.au_syntax.specs.declared.types.Access.{Access}
 use Rattle.au_syntax.specs.Names.{Placed}
 use Rattle.au_syntax.specs.Plain.{Bytes}
 use Rattle.au_syntax.specs.Statements.{skip, declare, destructure, assign, assign_through, conditional, conditional_else, case_of, while_loop, for_loop, borrow_in, borrow_typed, discard, return_of, no_statements, statements, no_branches, branches, no_arms, arms}

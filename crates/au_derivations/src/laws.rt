@@ -14,6 +14,7 @@ ghost use Rattle.au_derivations.specs.Examples.{body, examples, fault_of};
 ghost use Rattle.au_derivations.specs.Faults.{StatementFault};
 ghost use Rattle.au_derivations.specs.Paths.{GoesOn, ReachesEnd};
 ghost use Rattle.au_derivations.specs.ProgramSearch.{note_program};
+ghost use Rattle.au_derivations.specs.Refusals.{IsRefused};
 ghost use Rattle.au_derivations.specs.Returns.{block_returns, returns};
 ghost use Rattle.au_derivations.specs.Search.{note_block, note_statement};
 ghost use Rattle.au_derivations.specs.Statements.{GoodBlock, GoodStatement};
@@ -59,6 +60,14 @@ pub fn found_blocks_are_good()
     ensures block { (ss : PlainStatements) (sc : Scope) (found : NotedStatements)
         → note_block ss sc ≡ Ok found
         → GoodBlock found sc × (erase_block found ≡ ss) }
+{}
+
+/// A block that the search refuses is refused at the first of its statements that isn't good where it stands:
+/// those in front of it are good, and it follows what returns on every path, or is refused itself.
+pub fn blocks_are_refused_at_their_first_fault()
+    ensures { (ss : PlainStatements) (sc : Scope) (fault : StatementFault)
+        → note_block ss sc ≡ Err fault
+        → IsRefused ss sc fault }
 {}
 
 /// No statement and no block has two notings that are good in one scope.
