@@ -10,7 +10,7 @@ use Rattle.au_lives.specs.declared.lives.Sort.{Sort}
 use Rattle.au_lives.specs.declared.lives.Sort.TheVariants as sorts
 use Rattle.au_lives.specs.Mentions.{Counts, unmentioned, one_write_borrow, one_look, counts_in}
 use Rattle.au_lives.specs.Paths.{whole, opening, assignment, assignment_behind, lent, declared, count_of_branches, count_of_arms, declared_by, bound_names, access_of}
-use Rattle.au_lives.specs.Lives.{is_free, Hold, unlent, read_lent, write_lent, hidden, unless_hidden, opening_counts, held_from, is_untouched, is_ordinary, is_allowed, keeps, each_in, each_in_block, each_in_branches, each_in_arms, going, broken, verdict, at_end}
+use Rattle.au_lives.specs.Lives.{is_free, Hold, unlent, read_lent, write_lent, hidden, unless_hidden, opening_counts, held_from, is_untouched, is_ordinary, is_allowed, keeps, each_in, each_in_block, each_in_branches, each_in_arms, going, broken, verdict, at_end, each_loop, each_loop_of_block, each_loop_of_branches, each_loop_of_arms}
 use Rattle.au_lives.specs.Walks.{Machine, step_by, in_turn, ending, looping, chosen, does, drive, drive_block, drive_branches, drive_arms}
 use Rattle.au_lives.proofs.Summaries.{Absorbs}
 use Rattle.au_lives.proofs.TurnLemmas.{Keeps, going_same, broken_going, absorbs_onto, absorbs_step, absorbs_looping, absorbs_armed, absorbs_chosen, keeps_onto, keeps_going, keeps_looping, keeps_armed, keeps_chosen}
@@ -18,6 +18,10 @@ use Rattle.au_lives.proofs.TurnLemmas.{Keeps, going_same, broken_going, absorbs_
 pub and_true : (a b : Bool) → (a && b) ≡ true → (a ≡ true) × (b ≡ true)
 and_true true b h = (refl, h)
 and_true false b h = let wrong : false ≡ true = h in absurd (cc)
+
+both_true : (a b : Bool) → a ≡ true → b ≡ true → (a && b) ≡ true
+both_true true b g h = h
+both_true false b g h = g
 
 spent_if : (b t : Bool) → (if b then going true else broken kinds.Again) ≡ going t → t ≡ true
 spent_if true t h = sym (going_same true t h)
@@ -244,3 +248,58 @@ module _ (x : Bytes) (sort : Sort) where
         keeps_armed going this (drive_arms x sort more h next) keeps_going a c
         (keeps_arms more h next w.1 (keeps_block b inner w.0) (absorbs_block b inner))
         (absorbs_arms more h next (absorbs_block b inner)) n
+
+-- What holds of each expression holds of those in loops.
+module _ (x : Bytes) (test : Hold → PlainExpression → Bool) where
+  mutual
+    pub loops_of : (s : PlainStatement) (h : Hold) → each_in x test s h ≡ true → each_loop x test s h ≡ true
+    loops_of (skip at) h k = refl
+    loops_of (declare at binding name t e) h k = refl
+    loops_of (destructure at binds e) h k = refl
+    loops_of (assign at name fields e) h k = refl
+    loops_of (assign_through at name fields e) h k = refl
+    loops_of (conditional at bs) h k = loops_of_branches bs h k
+    loops_of (conditional_else at bs b) h k =
+        let w = and_true (each_in_branches x test bs h) (each_in_block x test b h) k in
+        both_true (each_loop_of_branches x test bs h) (each_loop_of_block x test b h)
+        (loops_of_branches bs h w.0) (loops_of_block b h w.1)
+    loops_of (case_of at e rest) h k =
+        loops_of_arms rest h (and_true (test h e) (each_in_arms x test rest h) k).1
+    loops_of (while_loop at e b) h k = k
+    loops_of (for_loop at name a z b) h k =
+        let inner = held_from x (declared name.name ∷ []) h in
+        let w = and_true (test h a) (test h z && each_in_block x test b inner) k in
+        (and_true (test h z) (each_in_block x test b inner) w.1).1
+    loops_of (borrow_in at access y r region b stop) h k =
+        loops_of_block b (held_from x (declared r.name ∷ lent access y.name ∷ []) h) k
+    loops_of (borrow_typed at r t mode y b stop) h k =
+        loops_of_block b (held_from x (declared r.name ∷ lent (access_of mode) y.name ∷ []) h) k
+    loops_of (discard at e) h k = refl
+    loops_of (return_of at e) h k = refl
+
+    pub loops_of_block : (b : PlainStatements) (h : Hold) → each_in_block x test b h ≡ true →
+        each_loop_of_block x test b h ≡ true
+    loops_of_block no_statements h k = refl
+    loops_of_block (statements s more) h k =
+        let inner = held_from x (declared_by s) h in
+        let w = and_true (each_in x test s h) (each_in_block x test more inner) k in
+        both_true (each_loop x test s h) (each_loop_of_block x test more inner) (loops_of s h w.0)
+        (loops_of_block more inner w.1)
+
+    loops_of_branches : (bs : PlainBranches) (h : Hold) → each_in_branches x test bs h ≡ true →
+        each_loop_of_branches x test bs h ≡ true
+    loops_of_branches no_branches h k = refl
+    loops_of_branches (branches e b more) h k =
+        let w = and_true (test h e) (each_in_block x test b h && each_in_branches x test more h) k in
+        let u = and_true (each_in_block x test b h) (each_in_branches x test more h) w.1 in
+        both_true (each_loop_of_block x test b h) (each_loop_of_branches x test more h)
+        (loops_of_block b h u.0) (loops_of_branches more h u.1)
+
+    loops_of_arms : (rest : PlainArms) (h : Hold) → each_in_arms x test rest h ≡ true →
+        each_loop_of_arms x test rest h ≡ true
+    loops_of_arms no_arms h k = refl
+    loops_of_arms (arms when' name binds b more) h k =
+        let inner = held_from x (bound_names binds) h in
+        let w = and_true (each_in_block x test b inner) (each_in_arms x test more h) k in
+        both_true (each_loop_of_block x test b inner) (each_loop_of_arms x test more h)
+        (loops_of_block b inner w.0) (loops_of_arms more h w.1)

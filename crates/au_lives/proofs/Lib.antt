@@ -8,3 +8,5 @@ pub mod FreeLemmas
 pub mod GoodLemmas
 pub mod TrimLemmas
 pub mod WholeLemmas
+pub mod PlaceLemmas
+pub mod RefusalLemmas

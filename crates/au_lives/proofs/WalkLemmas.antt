@@ -1,5 +1,5 @@
 -- What the walk says of each block.
-use Rattle.std.proofs.Common.{◌≡◌, ℕ, ◌+◌, Bool, true, [], ◌∷◌, Ok, ◌&&◌, refl}
+use Rattle.std.proofs.Common.{◌≡◌, ℕ, ◌+◌, Bool, true, [], ◌∷◌, Ok, refl}
 use Rattle.au_syntax.specs.Statements.{skip, declare, destructure, assign, assign_through, conditional, conditional_else, case_of, while_loop, for_loop, borrow_in, borrow_typed, discard, return_of, no_statements, statements, no_branches, branches, no_arms, arms}
 use Rattle.au_syntax.specs.Plain.{Bytes, PlainExpression, PlainStatement, PlainStatements, PlainBranches, PlainArms}
 use Rattle.au_lives.specs.declared.lives.Sort.{Sort}
@@ -10,7 +10,7 @@ use Rattle.au_lives.specs.Walks.{Reach, Walk, ◌>>=◌, nowhere, merge, choose,
 use Rattle.au_lives.proofs.Summaries.{Summed, Absorbs, seq_sum, step_sum, end_sum, going_sums}
 use Rattle.au_lives.proofs.ChoosingLemmas.{ArmsSummed, arms_base, arms_step, chosen_sum}
 use Rattle.au_lives.proofs.TurnLemmas.{keeps_going, absorbs_step, absorbs_chosen, absorbs_looping, loop_sum, test_sum}
-use Rattle.au_lives.proofs.KeepingLemmas.{and_true, verdict_kept, absorbs_block, absorbs_arms, keeps_block}
+use Rattle.au_lives.proofs.KeepingLemmas.{and_true, verdict_kept, absorbs_block, absorbs_arms, keeps_block, loops_of_block}
 
 module _ (x : Bytes) (sort : Sort) where
   abbrev kept : Hold → PlainExpression → Bool
@@ -70,25 +70,23 @@ module _ (x : Bytes) (sort : Sort) where
         (sum_arms more h this (walk_block x sort b inner) w.1 (absorbs_block x sort b inner)
         (sum_block b inner w.0) 0 q nowhere))
     sum (while_loop at e b) h k r =
-        let w = and_true (kept h e) (each_in_block x kept b h && each_loop_of_block x kept b h) k in
-        let u = and_true (each_in_block x kept b h) (each_loop_of_block x kept b h) w.1 in
+        let w = and_true (kept h e) (each_in_block x kept b h) k in
         test_sum (on e h) (drive_block x sort b h) r (walk_step (on e h) r) (turned (walk_block x sort b h))
         (absorbs_block x sort b h) (step_sum (on e h) r)
         (λ q t. loop_sum (on e h) (drive_block x sort b h) r q
-        (verdict_kept h (unless_hidden h (counts_in x (is_free sort) e)) w.0) (keeps_block x sort b h u.0)
+        (verdict_kept h (unless_hidden h (counts_in x (is_free sort) e)) w.0) (keeps_block x sort b h w.1)
         (absorbs_block x sort b h) t (walk_block x sort b h (choose 1 q))
-        (sum_block b h u.1 (choose 1 q)))
+        (sum_block b h (loops_of_block x kept b h w.1) (choose 1 q)))
     sum (for_loop at name a z b) h k r =
         let inner = held_from x (declared name.name ∷ []) h in
-        let u = and_true (each_in_block x kept b inner) (each_loop_of_block x kept b inner) k in
         seq_sum (in_turn (step_by (on a h)) (step_by (on z h)))
         (looping (step_by going) (drive_block x sort b inner)) r
         (walk_step (on a h) r >>= walk_step (on z h)) (turned (walk_block x sort b inner))
         (absorbs_looping going (drive_block x sort b inner) (absorbs_block x sort b inner))
         (two_sum (on a h) (on z h) r)
-        (λ o. loop_sum going (drive_block x sort b inner) o o keeps_going (keeps_block x sort b inner u.0)
+        (λ o. loop_sum going (drive_block x sort b inner) o o keeps_going (keeps_block x sort b inner k)
         (absorbs_block x sort b inner) (going_sums o) (walk_block x sort b inner (choose 1 o))
-        (sum_block b inner u.1 (choose 1 o)))
+        (sum_block b inner (loops_of_block x kept b inner k) (choose 1 o)))
     sum (borrow_in at access y r' region b stop) h k r =
         let inner = held_from x (declared r'.name ∷ lent access y.name ∷ []) h in
         lending_sum (does x sort (opening access y.name) h) b inner r (sum_block b inner k)

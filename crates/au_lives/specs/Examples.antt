@@ -1,16 +1,19 @@
 -- Expressions with their mentions of x, and three bodies with their paths, all written by hand.
-use Rattle.std.specs.Prelude.{ℕ, true, false, List, [], ◌∷◌, map, codes}
+use Rattle.std.specs.Prelude.{ℕ, true, false, List, [], ◌∷◌, map, Some, None, codes}
 use Rattle.au_syntax.specs.declared.expressions.BinaryOperator.TheVariants as operators
 use Rattle.au_syntax.specs.declared.expressions.BorrowMode.TheVariants as modes
+use Rattle.au_syntax.specs.declared.statements.Binding.TheVariants as bindings
 use Rattle.au_syntax.specs.declared.types.Access.TheVariants as access
 use Rattle.au_syntax.specs.Names.{Placed}
+use Rattle.au_syntax.specs.Types.{Bound}
 use Rattle.au_syntax.specs.Expressions.{truth, path, arrow, call, parenthesized, dereference, borrow, borrow_part, binary, choice, no_expressions, expressions}
-use Rattle.au_syntax.specs.Statements.{skip, conditional_else, case_of, while_loop, borrow_in, discard, return_of, no_statements, statements, no_branches, branches, no_arms, arms}
+use Rattle.au_syntax.specs.Statements.{declare, destructure, for_loop, skip, conditional_else, case_of, while_loop, borrow_in, discard, return_of, no_statements, statements, no_branches, branches, no_arms, arms}
 use Rattle.au_syntax.specs.Plain.{Bytes, PlainExpression, PlainStatement, PlainStatements}
-use Rattle.au_syntax.specs.Examples.{here, name, spot, x}
+use Rattle.au_syntax.specs.Examples.{here, name, spot, x, T}
 use Rattle.au_lives.specs.declared.lives.LifeKind.TheVariants as kinds
 use Rattle.au_lives.specs.Mentions.{Counts, counts}
 use Rattle.au_lives.specs.Paths.{Met, whole, opening, Step}
+use Rattle.au_lives.specs.Scopes.{Scope}
 use Rattle.au_lives.specs.Lives.{Fate, going, broken}
 
 -- `f(e)`
@@ -83,8 +86,14 @@ lent_and_left =
     let uses = block_of (does x ∷ []) in
     let ways = arms here (name (codes "A")) [] leaves (arms here (name (codes "B")) [] uses no_arms) in
     let inner = block_of (case_of here yes ways ∷ []) in
-    let lent = borrow_in here access.Write (name (codes "x")) (name (codes "r")) (name (codes "R")) inner here in
+    let lent = borrow_in here access.Write (name (codes "x")) (name (codes "r")) (name (codes "R")) inner here
+    in
     block_of (lent ∷ return_of here x ∷ [])
+
+-- let x: T := f(x); return f(x);
+abbrev pub named_again : PlainStatements
+named_again =
+    block_of (declare here bindings.Let (name (codes "x")) T (f_of x) ∷ return_of here (f_of x) ∷ [])
 
 -- Bodies, choices, what is met, and what becomes of x, which isn't Free.
 abbrev pub ways : List (PlainStatements × List ℕ × List Met × Fate)
@@ -130,8 +139,30 @@ ways =
       opening access.Write (codes "x") ∷ whole yes ∷ whole (f_of x) ∷ whole x ∷ [],
       broken kinds.Borrowed,
     )
+    ∷ (named_again, [], whole (f_of x) ∷ whole (f_of x) ∷ [], going true)
     ∷ []
 
 -- what the steps are, without what stands round them
 abbrev pub without_around : List Step → List Met
 without_around ss = map (λ s. s.what) ss
+
+-- for i from true to true do let { a: T, b as c: T } := x; end for; return true;
+abbrev pub some_names : PlainStatements
+some_names =
+    let of_a : Bound Bytes = record { name = record { name = name (codes "a"); alias = None }; of = T } in
+    let of_b : Bound Bytes =
+    record { name = record { name = name (codes "b"); alias = Some (name (codes "c")) }; of = T } in
+    let inner = block_of (destructure here (of_a ∷ of_b ∷ []) x ∷ []) in
+    block_of (for_loop here (name (codes "i")) yes yes inner ∷ return_of here yes ∷ [])
+
+-- the names of the variables of bodies, in text order
+abbrev pub names : List (PlainStatements × List Bytes)
+names =
+    (three_ways, [])
+    ∷ (lent_and_left, codes "r" ∷ [])
+    ∷ (named_again, codes "x" ∷ [])
+    ∷ (some_names, codes "i" ∷ codes "a" ∷ codes "c" ∷ [])
+    ∷ []
+
+abbrev pub names_of : List Scope → List Bytes
+names_of scopes = map (λ s. s.name.name) scopes

@@ -3,5 +3,7 @@ pub mod Paths
 pub mod Scopes
 pub mod Lives
 pub mod Walks
+pub mod Places
+pub mod Refusals
 pub mod Trimming
 pub mod Examples

@@ -182,10 +182,8 @@ module _ (x : Bytes) (test : Hold → PlainExpression → Bool) where
     each_loop (conditional at bs) h = each_loop_of_branches bs h
     each_loop (conditional_else at bs b) h = each_loop_of_branches bs h && each_loop_of_block b h
     each_loop (case_of at e rest) h = each_loop_of_arms rest h
-    each_loop (while_loop at e b) h = test h e && (each_in_block x test b h && each_loop_of_block b h)
-    each_loop (for_loop at name a z b) h =
-        each_in_block x test b (held_from x (declared name.name ∷ []) h)
-        && each_loop_of_block b (held_from x (declared name.name ∷ []) h)
+    each_loop (while_loop at e b) h = test h e && each_in_block x test b h
+    each_loop (for_loop at name a z b) h = each_in_block x test b (held_from x (declared name.name ∷ []) h)
     each_loop (borrow_in at access y r region b stop) h =
         each_loop_of_block b (held_from x (declared r.name ∷ lent access y.name ∷ []) h)
     each_loop (borrow_typed at r t mode y b stop) h =

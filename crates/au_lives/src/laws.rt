@@ -1,6 +1,6 @@
 //! Laws of the definitions.
 
-ghost use Rattle.std.specs.Prelude.{◌≡◌, ℕ, List, Bool, false, [], codes, IsTrue, Ok, Err};
+ghost use Rattle.std.specs.Prelude.{◌≡◌, ℕ, List, Bool, false, [], codes, IsTrue, Ok, Err, None, Some, ◌↔◌};
 ghost use Rattle.au_syntax.specs.Parts.{Each};
 ghost use Rattle.au_syntax.specs.Plain.{PlainStatements};
 ghost use Rattle.au_lives.specs.declared.lives.LifeKind.{LifeKind};
@@ -8,10 +8,13 @@ ghost use Rattle.au_lives.specs.declared.lives.Sort.{Sort};
 ghost use Rattle.au_lives.specs.declared.lives.Sort.TheVariants as sorts;
 ghost use Rattle.au_lives.specs.Mentions.{counts_in};
 ghost use Rattle.au_lives.specs.Paths.{Step, follow_block};
+ghost use Rattle.au_lives.specs.Scopes.{scopes};
 ghost use Rattle.au_lives.specs.Lives.{fate, going, consumptions, keeps_loops, keeps_all_parts, GoodPath, GoodPaths, GoodLife, BadPath};
 ghost use Rattle.au_lives.specs.Walks.{Reach, Breach, checked};
+ghost use Rattle.au_lives.specs.Places.{loop_places, part_places};
+ghost use Rattle.au_lives.specs.Refusals.{Refusal, Refuses, Refused, Variable, GoodLives, IsFirstRefused, refusal, first_refused};
 ghost use Rattle.au_lives.specs.Trimming.{without_zeros};
-ghost use Rattle.au_lives.specs.Examples.{mentions, ways, without_around};
+ghost use Rattle.au_lives.specs.Examples.{mentions, ways, names, names_of, without_around};
 
 /// The mentions of some expressions are those that are counted by hand.
 pub fn mentions_are_counted()
@@ -23,6 +26,11 @@ pub fn mentions_are_counted()
 pub fn paths_are_followed()
     ensures met { Each (λ row. without_around (follow_block row.0 [] row.1).steps ≡ row.2) ways }
     ensures done { Each (λ row. fate (codes "x") sorts.Other (follow_block row.0 [] row.1).steps ≡ row.3) ways }
+{}
+
+/// The variables of some bodies are those that are listed by hand, in text order.
+pub fn variables_are_listed()
+    ensures { Each (λ row. names_of (scopes row.0) ≡ row.1) names }
 {}
 
 /// A variable whose type is Free is never consumed.
@@ -90,4 +98,32 @@ pub fn good_lives_are_decided()
         → IsTrue (keeps_loops x sort b)
         × IsTrue (keeps_all_parts x sort b)
         × ((o : Reach) × (checked x sort b ≡ Ok o)) }
+{}
+
+/// No consumption stands in a loop, or where an expression may leave out to look, exactly where none has a
+/// place there.
+pub fn places_are_the_consumptions()
+    ensures loops { (x : List ℕ) (sort : Sort) (b : PlainStatements)
+        → IsTrue (keeps_loops x sort b) ↔ (loop_places x sort b ≡ []) }
+    ensures parts { (x : List ℕ) (sort : Sort) (b : PlainStatements)
+        → IsTrue (keeps_all_parts x sort b) ↔ (part_places x sort b ≡ []) }
+{}
+
+/// What is told of a variable is right, and nothing is told exactly where its life is good.
+pub fn refusals_are_right()
+    ensures none { (x : List ℕ) (sort : Sort) (b : PlainStatements)
+        → (refusal x sort b ≡ None) ↔ GoodLife x sort b }
+    ensures some { (x : List ℕ) (sort : Sort) (b : PlainStatements) (why : Refusal)
+        → refusal x sort b ≡ Some why
+        → Refuses x sort b why }
+    ensures bad { (x : List ℕ) (sort : Sort) (b : PlainStatements) (why : Refusal)
+        → Refuses x sort b why
+        → GoodLife x sort b
+        → ⊥ }
+{}
+
+/// Of some variables the first that has no good life is refused, and none exactly where each life is good.
+pub fn the_first_bad_life_is_refused()
+    ensures none { (vs : List Variable) → (first_refused vs ≡ None) ↔ GoodLives vs }
+    ensures some { (vs : List Variable) (r : Refused) → first_refused vs ≡ Some r → IsFirstRefused vs r }
 {}

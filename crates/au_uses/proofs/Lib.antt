@@ -1,3 +1,4 @@
 pub mod CountLemmas
 pub mod StepLemmas
 pub mod ChoiceLemmas
+pub mod JudgingLemmas

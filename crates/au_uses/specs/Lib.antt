@@ -1,3 +1,4 @@
 pub mod Tallies
 pub mod Steps
 pub mod Choices
+pub mod Judging

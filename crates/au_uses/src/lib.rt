@@ -3,6 +3,7 @@
 #![tactic(auto)]
 
 pub mod counting;
+pub mod laws;
 pub mod readings;
 pub mod steps;
 pub mod tallies;
