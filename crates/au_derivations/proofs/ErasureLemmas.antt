@@ -122,7 +122,8 @@ module_plain m =
       part = m.part;
       name = names_kept m.name i;
       pragma = m.pragma;
-      declarations = all_kept (plain_declaration same_name) erase_declaration declaration_plain m.declarations i;
+      declarations =
+          all_kept (plain_declaration same_name) erase_declaration declaration_plain m.declarations i;
     }
   where
     importing_kept : (one : Importing Bytes) → plain_importing same_name one ≡ one

@@ -168,7 +168,8 @@ reference_sound sc (reference at access target name) region of e =
 pub borrow_sound : (sc : Scope) (t : WrittenType) (mode : BorrowMode) (x : Bytes) (y : Bytes × Meaning)
     → judge_borrow sc t mode x ≡ Ok y → GoodBorrow sc t mode x y.0 y.1
 borrow_sound sc t mode x y e =
-    let lends = bind_ok (judge_lent sc mode x) (λ of. judge_reference sc t >>= λ z. is_of_borrow mode of z) y e in
+    let lends = bind_ok (judge_lent sc mode x)
+    (λ of. judge_reference sc t >>= λ z. is_of_borrow mode of z) y e in
     let reads = bind_ok (judge_reference sc t) (λ z. is_of_borrow mode lends.0 z) y lends.2 in
     let z : Bytes × Meaning = reads.0 in
     let step = check_ok (same (borrow_type mode z.0 lends.0) z.1)
