@@ -12,6 +12,7 @@ ghost use Rattle.au_typing.specs.Examples.{call_of, told_of};
 ghost use Rattle.au_typing.specs.Faults.{Fault};
 ghost use Rattle.au_typing.specs.Good.{AllGood, AllGoodIn, AllGoodLabelled, CallFits, IsNoting, items_of, shown, values_of};
 ghost use Rattle.au_typing.specs.Notes.{Mode, Note, NotedArguments, NotedExpression, NotedExpressions, erase, mode_of, type_of};
+ghost use Rattle.au_typing.specs.Order.{JudgedNext};
 ghost use Rattle.au_typing.specs.Rules.{int32, meets};
 ghost use Rattle.au_typing.specs.Search.{note};
 
@@ -87,4 +88,14 @@ pub fn bare_ones_have_int32()
         → is_bare a ≡ true
         → mode_of a ≡ None
         → type_of a ≡ int32 }
+{}
+
+/// The fault of the part that is judged next, where all parts before it have good notings, is the fault of the
+/// whole: so what is wrong of the whole itself, and of the parts after it, isn't told. Of the arguments of a call
+/// the two passes say the order.
+pub fn faults_come_in_order()
+    ensures { (scope : Scope) (e part : PlainExpression) (mode own : Mode) (fault : Fault)
+        → JudgedNext scope e mode part own
+        → note scope part own ≡ Err fault
+        → note scope e mode ≡ Err fault }
 {}
