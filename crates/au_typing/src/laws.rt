@@ -94,8 +94,8 @@ pub fn bare_ones_have_int32()
 {}
 
 /// The fault of the part that is judged next, where all parts before it have good notings, is the fault of
-/// the whole: so what is wrong of the whole itself, and of the parts after it, isn't told. Of the arguments of
-/// a call the two passes say the order.
+/// the whole: so what is wrong of the whole itself, and of the parts after it, isn't told. Of the arguments
+/// of a call the two passes say the order.
 pub fn faults_come_in_order()
     ensures { (scope : Scope) (e part : PlainExpression) (mode own : Mode) (fault : Fault)
         → JudgedNext scope e mode part own
