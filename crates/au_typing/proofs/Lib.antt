@@ -8,3 +8,4 @@ pub mod Sound
 pub mod Wanted
 pub mod Refused
 pub mod Arguments
+pub mod OrderLemmas

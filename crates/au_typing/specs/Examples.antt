@@ -118,7 +118,8 @@ outside = record {
 abbrev pub variable : Bytes → Meaning → Variable
 variable name of = record { name = name; of = of; assignable = false }
 
--- a, b and i are Free, k and l Linear; r and w refer to what k is, s to a number; d is as deep as a type may be
+-- a, b and i are Free, k and l Linear; r and w refer to what k is, s to a number; d is as deep as a type
+-- may be
 abbrev pub scope : Scope
 scope = record {
   outside = outside;
@@ -233,7 +234,8 @@ names =
     ∷ fails (part (codes "k") (codes "m")) None (unknown (codes "m"))
     ∷ fails (part (codes "k") (codes "l")) (Some nat8) (not_free boxed)
     ∷ fails (part (codes "a") (codes "n")) None (shape record_wanted)
-    ∷ fails (path here (named (codes "k")) (named (codes "n") ∷ named (codes "n") ∷ [])) None (unknown (codes "n"))
+    ∷ fails (path here (named (codes "k")) (named (codes "n") ∷ named (codes "n") ∷ []))
+    None (unknown (codes "n"))
     ∷ is (behind (codes "w") (codes "n")) None nat8
     ∷ fails (behind (codes "k") (codes "n")) None (shape reference_wanted)
     ∷ fails (behind (codes "s") (codes "n")) None (shape record_wanted)
@@ -265,17 +267,22 @@ operations =
     ∷ is (operation (whole 1) operators.Add (whole 2)) (Some nat8) nat8
     ∷ fails (operation (whole 300) operators.Add (mention (codes "z"))) None (unknown (codes "z"))
     ∷ fails (operation (mention (codes "a")) operators.Add (mention (codes "i"))) None (different nat8 int32)
-    ∷ fails (operation (mention (codes "b")) operators.Multiply (mention (codes "b"))) None (shape integer_wanted)
+    ∷ fails (operation (mention (codes "b")) operators.Multiply (mention (codes "b")))
+    None (shape integer_wanted)
     ∷ is (operation (whole 1) operators.Less (mention (codes "a"))) (Some mean.truth) mean.truth
-    ∷ is (operation (operation (whole 1) operators.Add (whole 2)) operators.Less (mention (codes "a"))) None mean.truth
-    ∷ fails (operation (mention (codes "a")) operators.Less (whole 256)) None (shape (range_wanted kinds.Nat8))
+    ∷ is (operation (operation (whole 1) operators.Add (whole 2)) operators.Less (mention (codes "a")))
+    None mean.truth
+    ∷ fails (operation (mention (codes "a")) operators.Less (whole 256))
+    None (shape (range_wanted kinds.Nat8))
     ∷ is (operation (mention (codes "b")) operators.Equal (mention (codes "c"))) None mean.truth
     ∷ fails (operation (mention (codes "b")) operators.Less (mention (codes "c"))) None (shape integer_wanted)
     ∷ is (operation (mention (codes "b")) operators.And (mention (codes "c"))) None mean.truth
     ∷ fails (operation (mention (codes "b")) operators.Or (whole 1)) None (different mean.truth int32)
     ∷ is (choice here (mention (codes "b")) (whole 1) (mention (codes "a"))) None nat8
-    ∷ fails (choice here (mention (codes "b")) (mention (codes "a")) (mention (codes "b"))) None (different nat8 mean.truth)
-    ∷ fails (choice here (mention (codes "a")) (mention (codes "z")) (mention (codes "b"))) None (different mean.truth nat8)
+    ∷ fails (choice here (mention (codes "b")) (mention (codes "a")) (mention (codes "b")))
+    None (different nat8 mean.truth)
+    ∷ fails (choice here (mention (codes "a")) (mention (codes "z")) (mention (codes "b")))
+    None (different mean.truth nat8)
     ∷ []
 
 abbrev pub call_examples : List Example
@@ -284,16 +291,22 @@ call_examples =
     ∷ fails (calls (codes "minus") (one (mention (codes "z")))) None (unknown (codes "minus"))
     ∷ fails (calls (codes "plus") (one (mention (codes "z")))) None (shape (arguments_wanted 2))
     ∷ is (calls_named (codes "plus") (labels (codes "y") (whole 1) (codes "x") (whole 2))) None nat8
-    ∷ fails (calls_named (codes "plus") (labels (codes "x") (whole 1) (codes "x") (whole 2))) None (shape labels_wanted)
-    ∷ fails (calls_named (codes "plus") (labels (codes "x") (whole 1) (codes "z") (whole 2))) None (shape labels_wanted)
+    ∷ fails (calls_named (codes "plus") (labels (codes "x") (whole 1) (codes "x") (whole 2)))
+    None (shape labels_wanted)
+    ∷ fails (calls_named (codes "plus") (labels (codes "x") (whole 1) (codes "z") (whole 2)))
+    None (shape labels_wanted)
     ∷ fails (calls_named (codes "plus") twice_x) None (shape labels_wanted)
-    ∷ fails (calls (codes "plus") (both (mention (codes "z")) (whole 1))) (Some mean.truth) (different mean.truth nat8)
+    ∷ fails (calls (codes "plus") (both (mention (codes "z")) (whole 1)))
+    (Some mean.truth) (different mean.truth nat8)
     ∷ is (calls (codes "same") (one (whole 5))) None int32
     ∷ is (calls (codes "same") (one (whole 5))) (Some nat8) nat8
     ∷ is (calls (codes "two") (both (whole 1) (mention (codes "a")))) None nat8
-    ∷ is (calls_named (codes "two") (labels (codes "y") (whole 1) (codes "x") (mention (codes "a")))) None nat8
-    ∷ fails (calls (codes "two") (both (whole 256) (mention (codes "a")))) None (shape (range_wanted kinds.Nat8))
-    ∷ fails (calls (codes "two") (both (mention (codes "a")) (mention (codes "i")))) None (different nat8 int32)
+    ∷ is (calls_named (codes "two") (labels (codes "y") (whole 1) (codes "x") (mention (codes "a"))))
+    None nat8
+    ∷ fails (calls (codes "two") (both (whole 256) (mention (codes "a"))))
+    None (shape (range_wanted kinds.Nat8))
+    ∷ fails (calls (codes "two") (both (mention (codes "a")) (mention (codes "i"))))
+    None (different nat8 int32)
     ∷ fails (calls (codes "from") (one (mention (codes "a")))) None (different (of_one option t) nat8)
     ∷ fails (calls (codes "from") (one (whole 5))) None (different (of_one option t) int32)
     ∷ is (calls (codes "none") no_expressions) (Some (of_one option boxed)) (of_one option boxed)

@@ -197,7 +197,8 @@ HaveTypes s (p ∷ params) [] = ⊥
 
 -- what a good call comes to: its type is that of the result with its substitution put in, which the note
 -- tells, and its arguments have the types of their parameters
-pub record CallFits (note : Note) (called : Callable) (types : List Meaning) (args : List NotedExpression) : Type 0 where
+pub record CallFits (note : Note) (called : Callable) (types : List Meaning)
+    (args : List NotedExpression) : Type 0 where
   pub s : Bindings
   pub told : note.call ≡ Some s
   pub result : note.of ≡ substituted s called.result

@@ -10,3 +10,4 @@ pub mod Operands
 pub mod SearchCalls
 pub mod Search
 pub mod Examples
+pub mod Order

@@ -10,8 +10,11 @@ ghost use Rattle.au_typing.specs.Calls.{GoodCall, by_labels, in_order};
 ghost use Rattle.au_typing.specs.Examples as examples;
 ghost use Rattle.au_typing.specs.Examples.{call_of, told_of};
 ghost use Rattle.au_typing.specs.Faults.{Fault};
-ghost use Rattle.au_typing.specs.Good.{AllGood, AllGoodIn, AllGoodLabelled, CallFits, IsNoting, items_of, shown, values_of};
-ghost use Rattle.au_typing.specs.Notes.{Mode, Note, NotedArguments, NotedExpression, NotedExpressions, erase, mode_of, type_of};
+ghost use Rattle.au_typing.specs.Good.{AllGood, AllGoodIn, AllGoodLabelled, CallFits, IsNoting};
+ghost use Rattle.au_typing.specs.Good.{items_of, shown, values_of};
+ghost use Rattle.au_typing.specs.Notes.{Mode, Note, NotedArguments, NotedExpression, NotedExpressions};
+ghost use Rattle.au_typing.specs.Notes.{erase, mode_of, type_of};
+ghost use Rattle.au_typing.specs.Order.{JudgedNext};
 ghost use Rattle.au_typing.specs.Rules.{int32, meets};
 ghost use Rattle.au_typing.specs.Search.{note};
 
@@ -57,7 +60,8 @@ pub fn wanted_types_are_had()
 
 /// Expressions have the types, or the faults, that are written beside them by hand.
 pub fn examples_hold()
-    ensures literals { Each (λ one. told_of (note examples.scope one.of one.mode) ≡ one.told) examples.literals }
+    ensures literals { Each (λ one. told_of (note examples.scope one.of one.mode) ≡ one.told)
+        examples.literals }
     ensures names { Each (λ one. told_of (note examples.scope one.of one.mode) ≡ one.told) examples.names }
     ensures operations { Each (λ one. told_of (note examples.scope one.of one.mode) ≡ one.told)
         examples.operations }
@@ -87,4 +91,14 @@ pub fn bare_ones_have_int32()
         → is_bare a ≡ true
         → mode_of a ≡ None
         → type_of a ≡ int32 }
+{}
+
+/// The fault of the part that is judged next, where all parts before it have good notings, is the fault of
+/// the whole: so what is wrong of the whole itself, and of the parts after it, isn't told. Of the arguments
+/// of a call the two passes say the order.
+pub fn faults_come_in_order()
+    ensures { (scope : Scope) (e part : PlainExpression) (mode own : Mode) (fault : Fault)
+        → JudgedNext scope e mode part own
+        → note scope part own ≡ Err fault
+        → note scope e mode ≡ Err fault }
 {}
