@@ -1,0 +1,11 @@
+pub mod Steps
+pub mod FoundParts
+pub mod FoundCalls
+pub mod Found
+pub mod SoundParts
+pub mod SoundCalls
+pub mod Sound
+pub mod Wanted
+pub mod Refused
+pub mod Arguments
+pub mod OrderLemmas

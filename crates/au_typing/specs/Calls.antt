@@ -1,5 +1,5 @@
 -- The rules of a call, over what is called and the notes of its arguments.
-use Rattle.std.specs.Prelude.{◌≡◌, ℕ, ◌==◌, ◌++◌, option_to_list, List, [], ◌∷◌, Bool, true, false, Option, Some, None, is_none, is_some, length, map, option_map, option_and_then, if◌then◌else◌}
+use Rattle.std.specs.Prelude.{◌≡◌, ℕ, ◌==◌, ◌++◌, option_to_list, List, [], ◌∷◌, Bool, true, false, Option, Some, None, length, map, option_map, option_and_then, if◌then◌else◌}
 use Rattle.std.specs.List.{count_by, flat_map, list_all}
 use Rattle.std.specs.Option.{option_or}
 use Rattle.std.specs.Str.{bytes_eq}
@@ -8,13 +8,13 @@ use Rattle.au_syntax.specs.declared.declarations.Universe.TheVariants as univers
 use Rattle.au_syntax.specs.Plain.{Bytes}
 use Rattle.au_types.specs.declared.parameters.Parameter.{Parameter}
 use Rattle.au_types.specs.declared.types.DeclAt.{DeclAt}
-use Rattle.au_types.specs.Types.{Meaning, Argument, parameter, of_type, in_region}
-use Rattle.au_matching.specs.Bindings.{Bindings, value_of, with_pair}
+use Rattle.au_types.specs.Types.{Meaning, Argument, parameter, of_type}
+use Rattle.au_matching.specs.Bindings.{Bindings, value_of}
 use Rattle.au_matching.specs.Fixed.{fixed, is_a_region, is_a_type}
 use Rattle.au_matching.specs.Matched.{matched}
 use Rattle.au_matching.specs.Substituted.{substituted}
 use Rattle.au_universes.specs.Forming.{fits}
-use Rattle.au_generics.specs.Bounds.{Bounded, parameters}
+use Rattle.au_generics.specs.Bounds.{parameters}
 use Rattle.au_instances.specs.Instances.{Known}
 use Rattle.au_instances.specs.Pairs.{Pair, constraints_of, lacking}
 use Rattle.au_scopes.specs.Scopes.{Callable, Scope, Typed}
@@ -33,7 +33,8 @@ in_order number params = if length params == number then Some (map (λ one. one.
 abbrev pub labelled_types : List Bytes → List Typed → Option (List Meaning)
 labelled_types [] params = Some []
 labelled_types (label ∷ labels) params =
-    option_and_then (λ t. option_map (λ types. t ∷ types) (labelled_types labels params)) (type_of_name label params)
+    option_and_then (λ t. option_map (λ types. t ∷ types) (labelled_types labels params))
+    (type_of_name label params)
 
 -- each parameter is named by exactly one label
 abbrev pub each_is_named_once : List Bytes → List Typed → Bool
@@ -67,7 +68,7 @@ Taken false p a s r = (a.mode ≡ None) × (matched p a.of s ≡ Some r)
 -- which gets Int32.
 abbrev pub TakenBare : Bool → Meaning → Note → Bindings → Bindings → Type 0
 TakenBare true p a s r = (a.mode ≡ Some (substituted s p)) × (r ≡ s)
-TakenBare false (parameter name) a s r = (a.mode ≡ None) × (r ≡ with_pair name (of_type int32) s)
+TakenBare false (parameter name) a s r = (a.mode ≡ None) × (matched (parameter name) int32 s ≡ Some r)
 TakenBare false p a s r = ⊥
 
 -- what a pass does at one argument: it takes those of its kind, and leaves the others
@@ -80,7 +81,8 @@ SecondStep true p a s r = TakenBare (fixed s p) p a s r
 SecondStep false p a s r = r ≡ s
 
 -- a pass over the arguments in textual order, from one substitution to another
-abbrev pub Passes : (Bool → Meaning → Note → Bindings → Bindings → Type 0) → List Meaning → List Shown → Bindings → Bindings → Type 0
+abbrev pub Passes : (Bool → Meaning → Note → Bindings → Bindings → Type 0) → List Meaning → List Shown →
+    Bindings → Bindings → Type 0
 Passes step [] [] s r = r ≡ s
 Passes step (p ∷ ps) (a ∷ args) s r = (q : Bindings) × step a.bare p a.note s q × Passes step ps args q r
 Passes step [] (a ∷ args) s r = ⊥
@@ -123,7 +125,8 @@ wanted_of called = constraints_of called.generics ++ option_to_list called.class
 -- what is lacking first of a class at a value
 abbrev pub lacking_at : Scope → DeclAt → Option Argument → Option Pair
 lacking_at scope class (Some (of_type t)) =
-    lacking scope.outside.instances scope.outside.heads (parameters_in scope) (constraints_of scope.generics) class t
+    lacking scope.outside.instances scope.outside.heads (parameters_in scope) (constraints_of scope.generics)
+    class t
 lacking_at scope class value = None
 
 -- the first pair of a class and a type that is lacking
@@ -148,8 +151,13 @@ types_of_call mode called s =
     types_noted mode (substituted s called.result) (type_values s (parameters called.generics))
 
 -- The call of a name is good, by its note, by which types the arguments get from the parameters, and by the
--- arguments. Constructors of opaque types are no callables outside of their own module.
-pub record GoodCall (scope : Scope) (note : Note) (name : Bytes) (takes : List Typed → Option (List Meaning)) (args : List Shown) : Type 0 where
+-- arguments: the name means what is called; every parameter gets one argument; the substitution begins with
+-- what makes the result equal the wanted type; it goes on over the arguments that aren't bare, and then over
+-- the bare ones; then every type parameter is fixed, the types of the note pass no limit, the type arguments
+-- fit, and the constraints and the method's class hold. Constructors of opaque types are nothing that is
+-- called outside of their own module.
+pub record GoodCall (scope : Scope) (note : Note) (name : Bytes)
+    (takes : List Typed → Option (List Meaning)) (args : List Shown) : Type 0 where
   pub called : Callable
   pub is_called : scope.outside.callable name ≡ Some called
   pub types : List Meaning

@@ -1,26 +1,27 @@
 -- When a noted expression is good: one rule for each kind of expression, over the notes of the expression and
 -- of its direct children alone.
-use Rattle.std.specs.Prelude.{◌≡◌, ℕ, zero, suc, List, [], ◌∷◌, Bool, true, false, Option, Some, None, is_some, neg_ℤ}
-use Rattle.au_base.specs.declared.kinds.IntKind.{IntKind}
+use Rattle.std.specs.Prelude.{◌≡◌, ℕ, zero, suc, ℤ, neg_ℤ, List, [], ◌∷◌, Bool, true, false, Some, None}
 use Rattle.au_ints.specs.Ranges.{is_of_kind}
 use Rattle.au_syntax.specs.declared.expressions.BinaryOperator.{BinaryOperator}
 use Rattle.au_syntax.specs.declared.expressions.BorrowMode.{BorrowMode}
 use Rattle.au_syntax.specs.declared.expressions.BorrowMode.TheVariants.{Read, Write, Reborrow}
 use Rattle.au_syntax.specs.Expressions.{Expression, Expressions, Arguments, number, negative, text, truth, nil, path, arrow, call, named_call, parenthesized, dereference, borrow, borrow_part, binary, negation, typed, choice, no_expressions, expressions, no_arguments, arguments}
 use Rattle.au_syntax.specs.Names.{Placed}
-use Rattle.au_syntax.specs.Plain.{Bytes}
+use Rattle.au_syntax.specs.Plain.{Bytes, PlainExpression}
 use Rattle.au_types.specs.declared.types.Region.{Region}
 use Rattle.au_types.specs.declared.types.Region.TheVariants.{Anonymous}
 use Rattle.au_types.specs.Same.{same}
 use Rattle.au_types.specs.Types as mean
 use Rattle.au_types.specs.Types.{Meaning}
+use Rattle.au_matching.specs.Bindings.{Bindings}
+use Rattle.au_matching.specs.Substituted.{substituted}
 use Rattle.au_judged_types.specs.Reasons.{means}
-use Rattle.au_scopes.specs.Scopes.{Scope}
+use Rattle.au_scopes.specs.Scopes.{Callable, Scope}
 use Rattle.au_typing.specs.Bare.{is_arithmetic, is_bare}
 use Rattle.au_typing.specs.Calls.{Shown, GoodCall, in_order, by_labels}
 use Rattle.au_typing.specs.Limits.{are_within, types_noted}
 use Rattle.au_typing.specs.Lookups.{behind, is_free_in, is_record, IsPart, value_type, variable_type, written_means}
-use Rattle.au_typing.specs.Notes.{Mode, Note, NotedArguments, NotedExpression, NotedExpressions, mode_of, note_of, type_of}
+use Rattle.au_typing.specs.Notes.{Mode, Note, NotedArguments, NotedExpression, NotedExpressions, erase, mode_of, note_of, type_of}
 use Rattle.au_typing.specs.Rules.{is_compared, is_integer, is_logical, literal_kind, meets}
 
 -- A note of an expression that calls nothing: its types pass no limit, the type is the wanted one, and there
@@ -67,7 +68,8 @@ abbrev pub GoodBorrow : BorrowMode → Meaning → Meaning → Type 0
 GoodBorrow Read t of = of ≡ mean.reads t Anonymous
 GoodBorrow Write t of = of ≡ mean.writes t Anonymous
 GoodBorrow Reborrow t of =
-    (target : Meaning) × (region : Region) × (t ≡ mean.writes target region) × (of ≡ mean.writes target Anonymous)
+    (target : Meaning) × (region : Region) × (t ≡ mean.writes target region)
+    × (of ≡ mean.writes target Anonymous)
 
 -- `+ - * /` are paired in the mode and have an integer kind
 pub record GoodArithmetic (n : Note) (a b : NotedExpression) : Type 0 where
@@ -105,14 +107,19 @@ abbrev pub labels_of : {T C : Type 0} → Arguments Bytes T C → List Bytes
 labels_of no_arguments = []
 labels_of (arguments label e es) = label.name ∷ labels_of es
 
--- arguments as the rules of calls see them
-abbrev pub shown : NotedExpressions → List Shown
-shown no_expressions = []
-shown (expressions e es) = record { bare = is_bare e; note = note_of e } ∷ shown es
+-- arguments as a list
+abbrev pub items_of : {N T C : Type 0} → Expressions N T C → List (Expression N T C)
+items_of no_expressions = []
+items_of (expressions e es) = e ∷ items_of es
 
-abbrev pub shown_labelled : NotedArguments → List Shown
-shown_labelled no_arguments = []
-shown_labelled (arguments label e es) = record { bare = is_bare e; note = note_of e } ∷ shown_labelled es
+abbrev pub values_of : {N T C : Type 0} → Arguments N T C → List (Expression N T C)
+values_of no_arguments = []
+values_of (arguments label e es) = e ∷ values_of es
+
+-- arguments as the rules of calls see them
+abbrev pub shown : List NotedExpression → List Shown
+shown [] = []
+shown (e ∷ es) = record { bare = is_bare e; note = note_of e } ∷ shown es
 
 -- ---- the rule of each kind
 
@@ -127,15 +134,20 @@ module _ (scope : Scope) where
   Good (path n x fields) =
       (t : Meaning) × (value_type scope x.name ≡ Some t) × GoodPath scope t fields n.note.of
   Good (arrow n x fields) =
-      (t : Meaning) × (target : Meaning) × (value_type scope x.name ≡ Some t) × (behind t ≡ Some target) × GoodPart scope target fields n.note.of
-  Good (call n f es c) = GoodCall scope n.note f.name (in_order (count_of es)) (shown es)
-  Good (named_call n f es c) = GoodCall scope n.note f.name (by_labels (labels_of es)) (shown_labelled es)
+      (t : Meaning) × (target : Meaning) × (value_type scope x.name ≡ Some t) × (behind t ≡ Some target)
+      × GoodPart scope target fields n.note.of
+  Good (call n f es c) = GoodCall scope n.note f.name (in_order (count_of es)) (shown (items_of es))
+  Good (named_call n f es c) = GoodCall scope n.note f.name (by_labels (labels_of es)) (shown (values_of es))
   Good (parenthesized n e) = (mode_of e ≡ n.note.mode) × (n.note.of ≡ type_of e)
   Good (dereference n e) =
       (mode_of e ≡ None) × (behind (type_of e) ≡ Some n.note.of) × (is_free_in scope n.note.of ≡ true)
   Good (borrow n m x) = (t : Meaning) × (variable_type scope x.name ≡ Some t) × GoodBorrow m t n.note.of
   Good (borrow_part n x fields) =
-      (target : Meaning) × (region : Region) × (part : Meaning) × (value_type scope x.name ≡ Some (mean.reads target region)) × (is_record scope target ≡ true) × IsPart scope target fields part × (n.note.of ≡ mean.reads part region)
+      (target : Meaning) × (region : Region) × (part : Meaning)
+      × (value_type scope x.name ≡ Some (mean.reads target region))
+      × (is_record scope target ≡ true)
+      × IsPart scope target fields part
+      × (n.note.of ≡ mean.reads part region)
   Good (binary n op a b) = GoodBinary (is_arithmetic op) (is_logical op) op n.note a b
   Good (negation n e) = (mode_of e ≡ Some mean.truth) × (n.note.of ≡ mean.truth)
   Good (typed n e t) = (written_means scope t ≡ means n.note.of) × (mode_of e ≡ Some n.note.of)
@@ -170,3 +182,23 @@ module _ (scope : Scope) where
     pub AllGoodLabelled : NotedArguments → Type 0
     AllGoodLabelled no_arguments = Unit {0}
     AllGoodLabelled (arguments label e es) = AllGood e × AllGoodLabelled es
+
+-- a good noting of an expression in a mode: every expression in it is good, it has the mode, and without its
+-- notes it is the expression
+abbrev pub IsNoting : Scope → PlainExpression → Mode → NotedExpression → Type 0
+IsNoting scope e mode a = AllGood scope a × (mode_of a ≡ mode) × (erase a ≡ e)
+
+-- arguments have the types of their parameters, with a substitution put in
+abbrev pub HaveTypes : Bindings → List Meaning → List NotedExpression → Type 0
+HaveTypes s [] [] = Unit {0}
+HaveTypes s (p ∷ params) (a ∷ args) = (type_of a ≡ substituted s p) × HaveTypes s params args
+HaveTypes s [] (a ∷ args) = ⊥
+HaveTypes s (p ∷ params) [] = ⊥
+
+-- what a good call comes to: its type is that of the result with its substitution put in, which the note
+-- tells, and its arguments have the types of their parameters
+pub record CallFits (note : Note) (called : Callable) (types : List Meaning) (args : List NotedExpression) : Type 0 where
+  pub s : Bindings
+  pub told : note.call ≡ Some s
+  pub result : note.of ≡ substituted s called.result
+  pub arguments_fit : HaveTypes s types args

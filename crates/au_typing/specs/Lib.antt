@@ -9,3 +9,5 @@ pub mod Good
 pub mod Operands
 pub mod SearchCalls
 pub mod Search
+pub mod Examples
+pub mod Order

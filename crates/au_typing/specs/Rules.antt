@@ -6,7 +6,6 @@ use Rattle.au_syntax.specs.declared.expressions.BinaryOperator.{BinaryOperator}
 use Rattle.au_syntax.specs.declared.expressions.BinaryOperator.TheVariants.{Equal, NotEqual, And, Or}
 use Rattle.au_types.specs.Same.{same}
 use Rattle.au_types.specs.Types.{Meaning, integer, truth}
-use Rattle.au_typing.specs.Bare.{is_arithmetic}
 use Rattle.au_typing.specs.Faults.{Noting, check, different}
 use Rattle.au_typing.specs.Limits.{within, types_noted}
 use Rattle.au_typing.specs.Notes.{Mode, Note, plain_note}

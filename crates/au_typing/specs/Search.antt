@@ -1,11 +1,11 @@
 -- The search for the notes of an expression: what they are, or the first fault. Operands are noted before
 -- their operation, from left to right, but those that aren't bare before those that are.
-use Rattle.std.specs.Prelude.{◌≡◌, ℤ, List, [], ◌∷◌, Bool, true, false, Option, Some, None, Ok, Err, length, neg_ℤ}
+use Rattle.std.specs.Prelude.{ℤ, List, [], ◌∷◌, Bool, true, false, Some, None, Ok, Err, length, neg_ℤ}
 use Rattle.au_ints.specs.Ranges.{is_of_kind}
 use Rattle.au_syntax.specs.declared.expressions.BinaryOperator.{BinaryOperator}
 use Rattle.au_syntax.specs.declared.expressions.BorrowMode.{BorrowMode}
 use Rattle.au_syntax.specs.declared.expressions.BorrowMode.TheVariants.{Read, Write, Reborrow}
-use Rattle.au_syntax.specs.Expressions.{Node, Expression, Expressions, Arguments, number, negative, text, truth, nil, path, arrow, call, named_call, parenthesized, dereference, borrow, borrow_part, binary, negation, typed, choice, no_expressions, expressions, no_arguments, arguments}
+use Rattle.au_syntax.specs.Expressions.{Node, Arguments, number, negative, text, truth, nil, path, arrow, call, named_call, parenthesized, dereference, borrow, borrow_part, binary, negation, typed, choice, no_expressions, expressions, no_arguments, arguments}
 use Rattle.au_syntax.specs.Names.{Placed}
 use Rattle.au_syntax.specs.Plain.{Bytes, PlainArguments, PlainExpression, PlainExpressions}
 use Rattle.au_types.specs.declared.types.Region.TheVariants.{Anonymous}
@@ -14,11 +14,11 @@ use Rattle.au_types.specs.Types.{Meaning}
 use Rattle.au_scopes.specs.Scopes.{Scope, Typed}
 use Rattle.au_typing.specs.Bare.{is_arithmetic, is_bare}
 use Rattle.au_typing.specs.Calls.{by_labels, in_order}
-use Rattle.au_typing.specs.Faults.{Noting, ◌>>=◌, Why, Fault, why, check, known_or, unknown, different, not_free, shape, integer_wanted, range_wanted, reference_wanted, write_reference_wanted, arguments_wanted, labels_wanted}
+use Rattle.au_typing.specs.Faults.{Noting, ◌>>=◌, Why, why, check, known_or, unknown, not_free, shape, integer_wanted, range_wanted, reference_wanted, write_reference_wanted, arguments_wanted, labels_wanted}
 use Rattle.au_typing.specs.Good.{count_of, labels_of}
 use Rattle.au_typing.specs.Limits.{within, types_noted}
 use Rattle.au_typing.specs.Lookups.{behind, is_free_in, record_part, value_type, variable_type, written_type}
-use Rattle.au_typing.specs.Notes.{Mode, Note, NotedArguments, NotedExpression, NotedExpressions, note_of, noted_at, type_of}
+use Rattle.au_typing.specs.Notes.{Mode, Note, NotedArguments, NotedExpression, NotedExpressions, noted_at, type_of}
 use Rattle.au_typing.specs.Operands.{Noter, of_one_type, paired}
 use Rattle.au_typing.specs.Rules.{is_compared, is_integer, is_logical, literal_kind, noted, wanted_note}
 use Rattle.au_typing.specs.SearchCalls.{Operand, call_noted}
@@ -99,7 +99,8 @@ module _ (scope : Scope) where
   borrow_part_note mode fields t = Err (why (shape reference_wanted))
 
   -- a binary operation, where the tests say which kind it is
-  abbrev pub binary_noted : Bool → Bool → Node (Unit {0}) → BinaryOperator → Bool → Bool → Noter → Noter → Mode → Noting NotedExpression
+  abbrev pub binary_noted : Bool → Bool → Node (Unit {0}) → BinaryOperator → Bool → Bool → Noter → Noter →
+      Mode → Noting NotedExpression
   binary_noted true logical u op x y a b mode =
       paired x y a b mode >>= λ z.
       of_one_type z.0 z.1 (arithmetic_note mode (type_of z.0)) >>= λ n. Ok (binary (noted_at u n) op z.0 z.1)
@@ -144,7 +145,8 @@ module _ (scope : Scope) where
         known_or (unknown x.name) (value_type scope x.name) >>= λ t.
         borrow_part_note mode fields t >>= λ n. Ok (borrow_part (noted_at u n) x fields)
     note_expression (binary u op a b) mode =
-        binary_noted (is_arithmetic op) (is_logical op) u op (is_bare a) (is_bare b) (note_expression a) (note_expression b) mode
+        binary_noted (is_arithmetic op) (is_logical op) u op (is_bare a) (is_bare b)
+        (note_expression a) (note_expression b) mode
     note_expression (negation u e) mode =
         note_expression e (Some mean.truth) >>= λ a.
         noted mode mean.truth >>= λ n. Ok (negation (noted_at u n) a)

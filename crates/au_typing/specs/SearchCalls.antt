@@ -4,8 +4,8 @@ use Rattle.au_syntax.specs.declared.declarations.Universe.{Universe}
 use Rattle.au_syntax.specs.declared.declarations.Universe.TheVariants as universes
 use Rattle.au_syntax.specs.Plain.{Bytes}
 use Rattle.au_types.specs.declared.parameters.Parameter.{Parameter}
-use Rattle.au_types.specs.Types.{Meaning, Argument, parameter, of_type, in_region}
-use Rattle.au_matching.specs.Bindings.{Bindings, value_of, with_pair}
+use Rattle.au_types.specs.Types.{Meaning, Argument, parameter, of_type}
+use Rattle.au_matching.specs.Bindings.{Bindings, value_of}
 use Rattle.au_matching.specs.Fixed.{fixed}
 use Rattle.au_matching.specs.Matched.{matched}
 use Rattle.au_matching.specs.Substituted.{substituted}
@@ -13,7 +13,7 @@ use Rattle.au_generics.specs.Bounds.{parameters}
 use Rattle.au_instances.specs.Pairs.{Pair}
 use Rattle.au_scopes.specs.Scopes.{Callable, Scope, Typed}
 use Rattle.au_typing.specs.Calls.{begun, first_lacking, first_left, first_misfit, types_of_call, wanted_of}
-use Rattle.au_typing.specs.Faults.{Noting, ◌>>=◌, Why, Fault, why, known_or, unknown, different, unfixed, no_instance, not_free, shape, labels_wanted, linear_wanted, region_wanted}
+use Rattle.au_typing.specs.Faults.{Noting, ◌>>=◌, Why, why, known_or, unknown, different, unfixed, no_instance, not_free, shape, labels_wanted, linear_wanted, region_wanted}
 use Rattle.au_typing.specs.Limits.{within}
 use Rattle.au_typing.specs.Notes.{Mode, Note, NotedExpression, type_of}
 use Rattle.au_typing.specs.Operands.{Noter}
@@ -41,20 +41,19 @@ result_differs (Some wanted) result = different wanted result
 
 -- ---- rules 3 and 4
 
--- the substitution with which a parameter's type becomes that of its argument
-abbrev pub taken_as : Meaning → Bindings → NotedExpression → Noting (NotedExpression × Bindings)
-taken_as p s a =
-    known_or (different (substituted s p) (type_of a)) (matched p (type_of a) s) >>= λ r. Ok (a, r)
+-- an argument with the substitution in which its parameter's type becomes this type
+abbrev pub taken_as : Meaning → Meaning → Bindings → NotedExpression → Noting (NotedExpression × Bindings)
+taken_as p t s a = known_or (different (substituted s p) t) (matched p t s) >>= λ r. Ok (a, r)
 
 -- an argument that isn't bare, where the test says whether the parameter's type is fixed
 abbrev pub taken : Bool → Noter → Meaning → Bindings → Noting (NotedExpression × Bindings)
 taken true e p s = e (Some (substituted s p)) >>= beside s
-taken false e p s = e None >>= taken_as p s
+taken false e p s = e None >>= λ a. taken_as p (type_of a) s a
 
 -- a bare argument, where the test says the same
 abbrev pub taken_bare : Bool → Noter → Meaning → Bindings → Noting (NotedExpression × Bindings)
 taken_bare true e p s = e (Some (substituted s p)) >>= beside s
-taken_bare false e (parameter name) s = e None >>= beside (with_pair name (of_type int32) s)
+taken_bare false e (parameter name) s = e None >>= taken_as (parameter name) int32 s
 taken_bare false e p s = Err (why (different (substituted s p) int32))
 
 abbrev pub half_of : NotedExpression × Bindings → Noting (Half × Bindings)
@@ -87,7 +86,8 @@ first [] (p ∷ ps) s = uneven
 first (one ∷ rest) [] s = uneven
 
 -- the second pass, over the arguments and what the first pass left of each
-abbrev pub second : List Operand → List Half → List Meaning → Bindings → Noting (List NotedExpression × Bindings)
+abbrev pub second : List Operand → List Half → List Meaning → Bindings →
+    Noting (List NotedExpression × Bindings)
 second [] [] [] s = Ok ([], s)
 second (one ∷ rest) (half ∷ halves) (p ∷ ps) s =
     second_step half one.noter p s >>= λ y. second rest halves ps y.1 >>= put_before y.0
@@ -128,12 +128,14 @@ module _ (scope : Scope) where
       (unless_why (misfit s) (first_misfit scope s (parameters called.generics))
       (unless_why lacks (first_lacking scope s (wanted_of called)) (Ok (call_note mode called s)))))
 
-  abbrev pub with_arguments : Mode → Callable → List NotedExpression × Bindings → Noting (Note × List NotedExpression)
+  abbrev pub with_arguments : Mode → Callable → List NotedExpression × Bindings →
+      Noting (Note × List NotedExpression)
   with_arguments mode called z = called_note mode called z.1 >>= λ note. Ok (note, z.0)
 
   -- The call of a name in a mode: its note, and its arguments with their notes. It is given which types the
   -- arguments get from the parameters, and what is told where they can't get any.
-  abbrev pub call_noted : Bytes → (List Typed → Option (List Meaning)) → (List Typed → Why) → Mode → List Operand → Noting (Note × List NotedExpression)
+  abbrev pub call_noted : Bytes → (List Typed → Option (List Meaning)) → (List Typed → Why) → Mode →
+      List Operand → Noting (Note × List NotedExpression)
   call_noted name takes mistaken mode ops =
       known_or (unknown name) (scope.outside.callable name) >>= λ called.
       known_or (mistaken called.parameters) (takes called.parameters) >>= λ types.
