@@ -4,6 +4,7 @@
 #![tactic(auto)]
 
 pub mod answers;
+pub mod beginning;
 pub mod births;
 pub mod borrows;
 pub mod boxes;

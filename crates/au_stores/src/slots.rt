@@ -45,7 +45,7 @@ fn fill_given(piles: &mut Piles<Option<Cell>>, values: &mut Vec<Cell>) -> Result
 }
 
 /// Puts so many empty slots upon a pile.
-fn fill_empty(piles: &mut Piles<Option<Cell>>, count: usize) -> Result<(), Memory>
+pub(crate) fn fill_empty(piles: &mut Piles<Option<Cell>>, count: usize) -> Result<(), Memory>
     ensures { OnOk result (piles.new ≡ (piles.old.0 ++ replicate count None, piles.old.1)) }
 {
     for _slot in 0..count {

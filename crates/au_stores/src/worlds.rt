@@ -41,7 +41,8 @@ pub struct World {
 impl World {
     /// A world in which nothing has happened, with one frame that has no slot.
     pub fn new(alloc: Global, keeps: bool) -> World
-        ensures { world_of result ≡ first_world keeps [] }
+        ensures world { world_of result ≡ first_world keeps [] }
+        ensures slots { result.slots ≡ ([], []) }
     {
         World {
             slots: Piles::new(alloc),
