@@ -1,0 +1,3 @@
+pub mod ShippedLemmas
+pub mod StateLemmas
+pub mod WorldLemmas

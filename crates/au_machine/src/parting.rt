@@ -1,0 +1,80 @@
+//! The instructions that take values apart.
+
+ghost use Rattle.std.specs.Prelude.{◌≡◌, ◌<◌, IfOk, OnOk, slice_get, if◌then◌else◌, Some, None};
+ghost use Rattle.au_effects.specs.Worlds.{spends};
+ghost use Rattle.au_low.specs.Machines.{in_world, popping, slots_filled};
+ghost use Rattle.au_low.specs.Instructions.{apart, takes_record, goes_to_case};
+ghost use Rattle.au_cells.specs.Cells.{lows};
+ghost use Rattle.au_machine.specs.States.{machine_of, turned, most_place};
+
+use crate::states::{State, Turn};
+use au_base::Memory;
+use au_cells::forms::into_parts;
+use au_cells::{Cell, Parts};
+use au_low::Code;
+
+/// The label of a case.
+fn label_of(labels: &[u32], tag: u32) -> Option<u32>
+    ensures { result ≡ slice_get labels.now tag }
+{
+    labels.get(tag as usize).copied()
+}
+
+impl State {
+    /// Tells that a value was consumed that may have a birth, and puts its fields into slots from one on,
+    /// where all of these are there.
+    ///
+    /// # Errors
+    ///
+    /// `Memory` when memory runs out, as in the calls below.
+    fn spread(&mut self, slot: u32, birth: Option<u64>, fields: Vec<Cell>) -> Result<bool, Memory>
+        ensures is { IfOk result (λ done. (if done then Some (machine_of self.new) else None)
+            ≡ slots_filled slot (lows fields.items)
+            (in_world (spends birth (machine_of self.old).world) (machine_of self.old))) }
+        ensures place { OnOk result (self.new.place ≡ self.old.place) }
+    {
+        let done = self.world.take_apart(slot, birth, fields)?;
+        Ok(done)
+    }
+
+    /// Pops a record, and puts its fields into slots from one on.
+    pub fn take_record(&mut self, slot: u32) -> Result<Turn, Memory>
+        requires { self.now.place < most_place }
+        ensures { IfOk result (λ turn. turned turn self.new ≡ popping (machine_of self.old).operands
+            (machine_of self.old) (λ value m. apart value slot m takes_record)) }
+    {
+        let Some(cell) = self.pop() else {
+            return Ok(Turn::Stuck);
+        };
+        let Some(Parts { tag, birth, fields }) = into_parts(cell) else {
+            return Ok(Turn::Stuck);
+        };
+        if tag != 0 {
+            return Ok(Turn::Stuck);
+        }
+        if !self.spread(slot, birth, fields)? {
+            return Ok(Turn::Stuck);
+        }
+        Ok(self.go())
+    }
+
+    /// Pops a union's value, puts its fields into slots from one on, and goes to the label of its case.
+    pub fn take_case(&mut self, code: &Code, slot: u32, labels: &[u32]) -> Result<Turn, Memory>
+        ensures { IfOk result (λ turn. turned turn self.new ≡ popping (machine_of self.old).operands
+            (machine_of self.old) (λ value m. apart value slot m (goes_to_case code.now labels.now))) }
+    {
+        let Some(cell) = self.pop() else {
+            return Ok(Turn::Stuck);
+        };
+        let Some(Parts { tag, birth, fields }) = into_parts(cell) else {
+            return Ok(Turn::Stuck);
+        };
+        let Some(label) = label_of(labels, tag) else {
+            return Ok(Turn::Stuck);
+        };
+        if !self.spread(slot, birth, fields)? {
+            return Ok(Turn::Stuck);
+        }
+        Ok(self.jump(code, label))
+    }
+}
