@@ -8,8 +8,10 @@ pub mod buffering;
 pub mod jumping;
 pub mod operating;
 pub mod parting;
+pub mod printing;
 pub mod referring;
 pub mod slotting;
 pub mod states;
+pub mod terminals;
 
 pub use states::{State, Turn};
