@@ -1,0 +1,35 @@
+use Rattle.std.proofs.Common.{ap, sym, ◌∙◌, reverse, ℕ}
+use Rattle.au_low.specs.Machines.{Machine, pushes}
+use Rattle.au_low.specs.Instructions.{answered}
+use Rattle.au_cells.specs.Cells.{low}
+use Rattle.au_stores.specs.declared.answers.Answered.{Answered}
+use Rattle.au_stores.specs.Answers.{answer_of, fault_of}
+use Rattle.au_stores.specs.Stores.{world_of}
+use Rattle.au_low.specs.Machines as machine
+use Rattle.au_machine.specs.States.{machine_of}
+use Rattle.au_machine.proofs.ShippedLemmas.{own_world}
+use Rattle.au_machine.proofs.StateLemmas.{come_to}
+use Rattle.au_machine.proofs.states.State.answer.Goals as goal
+
+pub returns-in-Gives : goal.returns-in-Gives
+returns-in-Gives c =
+    let s = c.args.self.now in
+    let own = reverse s.backs.items in
+    let go : Answered → _ = λ one. answered (answer_of one (world_of s.world)) (machine_of s) in
+    come_to c.push.result c.push.new.self _ _
+    (ap (pushes (low c.in-Gives.cell)) (own_world s.function s.place s.operands s.borrows own s.world)
+    ∙ ap go (sym c.in-Gives.is)) c.push.ensures
+
+pub returns-in-Aborts : goal.returns-in-Aborts
+returns-in-Aborts c =
+    let s = c.args.self.now in
+    let own = reverse s.backs.items in
+    let go : Answered → _ = λ one. answered (answer_of one (world_of s.world)) (machine_of s) in
+    ap (machine.aborts (fault_of c.in-Aborts.why)) (own_world s.function s.place s.operands s.borrows own s.world)
+    ∙ ap go (sym c.in-Aborts.is)
+
+pub returns-in-NoRule : goal.returns-in-NoRule
+returns-in-NoRule c =
+    let s = c.args.self.now in
+    let go : Answered → _ = λ one. answered (answer_of one (world_of s.world)) (machine_of s) in
+    ap go (sym c.in-NoRule.is)

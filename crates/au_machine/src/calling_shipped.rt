@@ -1,0 +1,78 @@
+//! Shipped calls by their arguments.
+
+ghost use Rattle.std.specs.Prelude.{◌≡◌, ◌<◌, ◌∷◌, [], Some, None, IfOk};
+ghost use Rattle.au_effects.specs.Calls.{shipped};
+ghost use Rattle.au_low.specs.Instructions.{answered, text_bytes};
+ghost use Rattle.au_cells.specs.Cells.{low};
+ghost use Rattle.au_stores.specs.Stores.{world_of};
+ghost use Rattle.au_machine.specs.States.{machine_of, turned, most_place};
+
+use crate::states::{State, Turn};
+use au_base::Memory;
+use au_cells::Cell;
+use au_low::Code;
+use au_shipped::ShippedCall;
+use std::alloc::Global;
+
+impl State {
+    /// Does a shipped call of one argument, which makes no birth.
+    ///
+    /// # Errors
+    ///
+    /// `Memory` when memory runs out, as in the calls below.
+    pub fn call_with(&mut self, alloc: Global, code: &Code, call: ShippedCall, a: &Cell) -> Result<Turn, Memory>
+        requires { self.now.place < most_place }
+        ensures { IfOk result (λ turn. turned turn self.new
+            ≡ answered (shipped (text_bytes code.now) call None (world_of self.old.world) (low a.now ∷ []))
+            (machine_of self.old)) }
+    {
+        match call {
+            ShippedCall::PrintText => self.print_text(code, false, a),
+            ShippedCall::PrintInt => self.print_number(false, a),
+            ShippedCall::PrintBool => self.print_truth(false, a),
+            ShippedCall::PrintLnText => self.print_text(code, true, a),
+            ShippedCall::PrintLnInt => self.print_number(true, a),
+            ShippedCall::PrintLnBool => self.print_truth(true, a),
+            ShippedCall::SpanLength => self.span_length(code, a),
+            ShippedCall::Abort => Ok(self.abort(a)),
+            _ => self.call_on_stores(alloc, code, call, a),
+        }
+    }
+
+    /// The same of one that neither prints nor is on a text.
+    fn call_on_stores(&mut self, alloc: Global, code: &Code, call: ShippedCall, a: &Cell) -> Result<Turn, Memory>
+        requires { self.now.place < most_place }
+        ensures { IfOk result (λ turn. turned turn self.new
+            ≡ answered (shipped (text_bytes code.now) call None (world_of self.old.world) (low a.now ∷ []))
+            (machine_of self.old)) }
+    {
+        match call {
+            ShippedCall::SurrenderRoot => self.surrender_root(a),
+            ShippedCall::Unbox => self.unbox(a),
+            ShippedCall::BoxGet => self.box_get(alloc, a),
+            ShippedCall::BoxGetMut => self.box_get(alloc, a),
+            ShippedCall::DestroyEmpty => self.destroy_empty(a),
+            ShippedCall::Length => self.length(a),
+            ShippedCall::RemoveBack => self.remove_back(a),
+            ShippedCall::ReadByte => Ok(self.read_byte(a)),
+            ShippedCall::ReleaseTerminal => self.release_terminal(a),
+            _ => Ok(Turn::Stuck),
+        }
+    }
+
+    /// Does a shipped call of two arguments.
+    pub fn call_with_two(&mut self, alloc: Global, code: &Code, call: ShippedCall, a: Cell, b: Cell) -> Result<Turn, Memory>
+        requires { self.now.place < most_place }
+        ensures { IfOk result (λ turn. turned turn self.new
+            ≡ answered (shipped (text_bytes code.now) call None (world_of self.old.world) (low a ∷ low b ∷ []))
+            (machine_of self.old)) }
+    {
+        match call {
+            ShippedCall::Swap => self.swap(&a, b),
+            ShippedCall::InsertBack => self.insert_back(&a, b),
+            ShippedCall::Nth => self.nth(alloc, &a, &b),
+            ShippedCall::WriteByte => self.write_byte(&a, &b),
+            _ => Ok(Turn::Stuck),
+        }
+    }
+}
