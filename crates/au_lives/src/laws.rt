@@ -9,7 +9,8 @@ ghost use Rattle.au_lives.specs.declared.lives.Sort.TheVariants as sorts;
 ghost use Rattle.au_lives.specs.Mentions.{counts_in};
 ghost use Rattle.au_lives.specs.Paths.{Step, follow_block};
 ghost use Rattle.au_lives.specs.Scopes.{scopes};
-ghost use Rattle.au_lives.specs.Lives.{fate, going, consumptions, keeps_loops, keeps_all_parts, GoodPath, GoodPaths, GoodLife, BadPath};
+ghost use Rattle.au_lives.specs.Lives.{fate, going, broken, consumptions, keeps_loops, keeps_all_parts, GoodPath, GoodPaths, GoodLife, BadPath};
+ghost use Rattle.au_lives.specs.Breaches.{BreaksFirst};
 ghost use Rattle.au_lives.specs.Walks.{Reach, Breach, checked};
 ghost use Rattle.au_lives.specs.Places.{loop_places, part_places};
 ghost use Rattle.au_lives.specs.Refusals.{Refusal, Refuses, Refused, Variable, GoodLives, IsFirstRefused, refusal, first_refused};
@@ -126,4 +127,12 @@ pub fn refusals_are_right()
 pub fn the_first_bad_life_is_refused()
     ensures none { (vs : List Variable) → (first_refused vs ≡ None) ↔ GoodLives vs }
     ensures some { (vs : List Variable) (r : Refused) → first_refused vs ≡ Some r → IsFirstRefused vs r }
+{}
+
+/// A path that breaks the life of a variable does so at its first step that breaks it, in the way that is
+/// told, or where it ends.
+pub fn the_first_breach_is_told()
+    ensures { (x : List ℕ) (sort : Sort) (kind : LifeKind) (steps : List Step)
+        → fate x sort steps ≡ broken kind
+        → BreaksFirst x sort kind steps }
 {}
