@@ -22,7 +22,7 @@ pub fn mentions_are_counted()
     ensures { Each (λ row. counts_in (codes "x") false row.0 ≡ row.1) mentions }
 {}
 
-/// The paths of three small bodies meet the steps that are written by hand, and do to a variable what is said
+/// The paths of small bodies meet the steps that are written by hand, and do to a variable what is said
 /// there.
 pub fn paths_are_followed()
     ensures met { Each (λ row. without_around (follow_block row.0 [] row.1).steps ≡ row.2) ways }
