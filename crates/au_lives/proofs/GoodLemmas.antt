@@ -63,7 +63,7 @@ consumed_once k h c =
     ]
 
 -- how often it was consumed
-abbrev times : Bool → ℕ
+abbrev pub times : Bool → ℕ
 times true = 1
 times false = 0
 
@@ -73,10 +73,10 @@ end_going (going u) sort t h = (u, refl, h)
 end_going (broken k) sort t h = broken_going k t h
 
 module _ (x : Bytes) (sort : Sort) where
-  abbrev on : Step → Counts
+  abbrev pub on : Step → Counts
   on s = counts_at x sort s
 
-  judge_broken : (k : LifeKind) (ss : List Step) → judge x sort (broken k) ss ≡ broken k
+  pub judge_broken : (k : LifeKind) (ss : List Step) → judge x sort (broken k) ss ≡ broken k
   judge_broken k [] = refl
   judge_broken k (s ∷ ss) = judge_broken k ss
 
@@ -99,7 +99,7 @@ module _ (x : Bytes) (sort : Sort) where
   live_going false b c ss t h = broken_on kinds.Clash ss t h
 
   -- the rules on a path, and how often it consumes
-  record Rules (ss : List Step) (t : Bool) : Type 0 where
+  pub record Rules (ss : List Step) (t : Bool) : Type 0 where
     pub ordinary : All (λ s. IsTrue (is_ordinary (on s))) ss
     pub allowed : All (λ s. IsTrue (is_allowed (held x s.around) (on s))) ss
     pub afterwards : UntouchedAfterwards x sort ss
@@ -160,7 +160,7 @@ module _ (x : Bytes) (sort : Sort) where
         total = all ∙ ap times (sym c.state);
       }
 
-  rules : (ss : List Step) (t : Bool) → judge x sort (going false) ss ≡ going t → Rules ss t
+  pub rules : (ss : List Step) (t : Bool) → judge x sort (going false) ss ≡ going t → Rules ss t
   rules [] t h = record {
     ordinary = All-nil (λ s. IsTrue (is_ordinary (on s)));
     allowed = All-nil (λ s. IsTrue (is_allowed (held x s.around) (on s)));

@@ -10,3 +10,4 @@ pub mod TrimLemmas
 pub mod WholeLemmas
 pub mod PlaceLemmas
 pub mod RefusalLemmas
+pub mod BreachLemmas

@@ -1,4 +1,4 @@
--- Expressions with their mentions of x, and three bodies with their paths, all written by hand.
+-- Expressions with their mentions of x, and small bodies with their paths, all written by hand.
 use Rattle.std.specs.Prelude.{ℕ, true, false, List, [], ◌∷◌, map, Some, None, codes}
 use Rattle.au_syntax.specs.declared.expressions.BinaryOperator.TheVariants as operators
 use Rattle.au_syntax.specs.declared.expressions.BorrowMode.TheVariants as modes

@@ -7,3 +7,4 @@ pub mod Places
 pub mod Refusals
 pub mod Trimming
 pub mod Examples
+pub mod Breaches

@@ -121,7 +121,7 @@ module _ (x : Bytes) (sort : Sort) where
     pub afterwards : UntouchedAfterwards steps
     pub spent : IsSpent sort (consumptions steps)
 
--- Where x is held so, what its type is decides, and its name may be that of another variable.
+-- Tests of an expression at a place where x is held so. Where its name is hidden, nothing counts.
 module _ (x : Bytes) (free : Bool) where
   -- the expression doesn't consume the variable
   abbrev pub keeps : Hold → PlainExpression → Bool
@@ -134,7 +134,7 @@ module _ (x : Bytes) (free : Bool) where
   keeps_in_parts write_lent e = keeps_parts x free e
   keeps_in_parts hidden e = true
 
--- each expression of a statement passes a test; that of a name that is hidden is told
+-- each expression of a statement passes a test, which is told how x is held there
 module _ (x : Bytes) (test : Hold → PlainExpression → Bool) where
   abbrev mutual
     pub each_in : PlainStatement → Hold → Bool

@@ -9,7 +9,8 @@ ghost use Rattle.au_lives.specs.declared.lives.Sort.TheVariants as sorts;
 ghost use Rattle.au_lives.specs.Mentions.{counts_in};
 ghost use Rattle.au_lives.specs.Paths.{Step, follow_block};
 ghost use Rattle.au_lives.specs.Scopes.{scopes};
-ghost use Rattle.au_lives.specs.Lives.{fate, going, consumptions, keeps_loops, keeps_all_parts, GoodPath, GoodPaths, GoodLife, BadPath};
+ghost use Rattle.au_lives.specs.Lives.{fate, going, broken, consumptions, keeps_loops, keeps_all_parts, GoodPath, GoodPaths, GoodLife, BadPath};
+ghost use Rattle.au_lives.specs.Breaches.{BreaksFirst};
 ghost use Rattle.au_lives.specs.Walks.{Reach, Breach, checked};
 ghost use Rattle.au_lives.specs.Places.{loop_places, part_places};
 ghost use Rattle.au_lives.specs.Refusals.{Refusal, Refuses, Refused, Variable, GoodLives, IsFirstRefused, refusal, first_refused};
@@ -21,7 +22,7 @@ pub fn mentions_are_counted()
     ensures { Each (λ row. counts_in (codes "x") false row.0 ≡ row.1) mentions }
 {}
 
-/// The paths of three small bodies meet the steps that are written by hand, and do to a variable what is said
+/// The paths of small bodies meet the steps that are written by hand, and do to a variable what is said
 /// there.
 pub fn paths_are_followed()
     ensures met { Each (λ row. without_around (follow_block row.0 [] row.1).steps ≡ row.2) ways }
@@ -126,4 +127,12 @@ pub fn refusals_are_right()
 pub fn the_first_bad_life_is_refused()
     ensures none { (vs : List Variable) → (first_refused vs ≡ None) ↔ GoodLives vs }
     ensures some { (vs : List Variable) (r : Refused) → first_refused vs ≡ Some r → IsFirstRefused vs r }
+{}
+
+/// A path that breaks the life of a variable does so at its first step that breaks it, in the way that is
+/// told, or where it ends.
+pub fn the_first_breach_is_told()
+    ensures { (x : List ℕ) (sort : Sort) (kind : LifeKind) (steps : List Step)
+        → fate x sort steps ≡ broken kind
+        → BreaksFirst x sort kind steps }
 {}
