@@ -1,7 +1,6 @@
 -- In a good call each argument has the type of its parameter, with the call's substitution put in.
 use Rattle.std.proofs.Common.{◌≡◌, Bool, true, false, ◌&&◌, List, [], ◌∷◌, refl, sym, ap, subst, ◌∙◌, Option, Some, None}
-use Rattle.au_syntax.specs.declared.expressions.BinaryOperator.{BinaryOperator}
-use Rattle.au_syntax.specs.Expressions.{Node, number, negative, text, truth, nil, path, arrow, call, named_call, parenthesized, dereference, borrow, borrow_part, binary, negation, typed, choice, no_expressions, expressions, no_arguments, arguments}
+use Rattle.au_syntax.specs.Expressions.{number, negative, text, truth, nil, path, arrow, call, named_call, parenthesized, dereference, borrow, borrow_part, binary, negation, typed, choice, no_expressions, expressions, no_arguments, arguments}
 use Rattle.au_syntax.specs.Plain.{Bytes}
 use Rattle.au_types.specs.Same.{same}
 use Rattle.au_types.specs.Types as mean
@@ -9,8 +8,8 @@ use Rattle.au_types.specs.Types.{Meaning}
 use Rattle.au_types.proofs.SameLemmas.{same_is}
 use Rattle.au_matching.specs.Bindings.{Bindings, Extends}
 use Rattle.au_matching.specs.Fixed.{fixed}
-use Rattle.au_matching.specs.Matched.{matched, Makes}
-use Rattle.au_matching.specs.Substituted.{Fixes, substituted}
+use Rattle.au_matching.specs.Matched.{matched}
+use Rattle.au_matching.specs.Substituted.{substituted}
 use Rattle.au_matching.proofs.BindingLemmas.{extends_on}
 use Rattle.au_matching.proofs.FixedLemmas.{fixed_decides}
 use Rattle.au_matching.proofs.MatchedLemmas.{matched_makes}

@@ -23,7 +23,7 @@ use Rattle.au_typing.specs.Lookups.{parameters_in, type_of_name}
 use Rattle.au_typing.specs.Notes.{Mode, Note}
 use Rattle.au_typing.specs.Rules.{int32}
 
--- ---- rule 1: every parameter gets exactly one argument
+-- ---- every parameter gets exactly one argument
 
 -- the types of the parameters in the order of so many positional arguments, where there are as many
 abbrev pub in_order : ℕ → List Typed → Option (List Meaning)
@@ -45,13 +45,13 @@ each_is_named_once labels params = list_all (λ one. count_by (bytes_eq one.name
 abbrev pub by_labels : List Bytes → List Typed → Option (List Meaning)
 by_labels labels params = if each_is_named_once labels params then labelled_types labels params else None
 
--- ---- rule 2: what makes the result equal the wanted type
+-- ---- what makes the result equal the wanted type
 
 abbrev pub begun : Mode → Meaning → Option Bindings
 begun None result = Some []
 begun (Some wanted) result = matched result wanted []
 
--- ---- rules 3 and 4: the arguments in two passes
+-- ---- the arguments in two passes
 
 -- an argument as the rules see it: whether it is bare, and its note
 pub record Shown : Type 0 where
@@ -88,7 +88,7 @@ Passes step (p ∷ ps) (a ∷ args) s r = (q : Bindings) × step a.bare p a.note
 Passes step [] (a ∷ args) s r = ⊥
 Passes step (p ∷ ps) [] s r = ⊥
 
--- ---- rule 5: every type parameter is fixed
+-- ---- every type parameter is fixed
 
 -- a type parameter stands for something of its kind
 abbrev pub is_given : Bindings → Parameter → Bool
@@ -103,7 +103,7 @@ abbrev pub first_left : Bindings → List Parameter → Option Bytes
 first_left s [] = None
 first_left s (one ∷ params) = if is_given s one then first_left s params else Some one.name
 
--- ---- rule 6: the type arguments fit the universes
+-- ---- the type arguments fit the universes
 
 -- whether what a type parameter stands for, if it does, fits its universe
 abbrev pub value_fits : Scope → Universe → Option Argument → Bool
@@ -116,7 +116,7 @@ first_misfit scope s [] = None
 first_misfit scope s (one ∷ params) =
     if value_fits scope one.universe (value_of one.name s) then first_misfit scope s params else Some one
 
--- ---- rule 7: every constraint and the method's class hold
+-- ---- every constraint and the method's class hold
 
 -- the constraints of what is called in declared order, and then the class of a method
 abbrev pub wanted_of : Callable → Known

@@ -32,14 +32,14 @@ Half = Option NotedExpression
 abbrev pub beside : Bindings → NotedExpression → Noting (NotedExpression × Bindings)
 beside s a = Ok (a, s)
 
--- ---- rule 2
+-- ---- the result
 
 -- the type that is wanted of a call, against its result: told where the two can't be made equal
 abbrev pub result_differs : Mode → Meaning → Why
 result_differs None result = different result result
 result_differs (Some wanted) result = different wanted result
 
--- ---- rules 3 and 4
+-- ---- the arguments
 
 -- an argument with the substitution in which its parameter's type becomes this type
 abbrev pub taken_as : Meaning → Meaning → Bindings → NotedExpression → Noting (NotedExpression × Bindings)
@@ -93,7 +93,7 @@ second (one ∷ rest) (half ∷ halves) (p ∷ ps) s =
     second_step half one.noter p s >>= λ y. second rest halves ps y.1 >>= put_before y.0
 second ops halves ps s = uneven
 
--- ---- rules 5 to 7
+-- ---- the note
 
 -- what follows, where there is nothing against it
 abbrev pub unless_why : {A X : Type 0} → (X → Why) → Option X → Noting A → Noting A
