@@ -35,7 +35,8 @@ impl World {
     pub fn with_root(alloc: Global, keeps: bool, slots: u32) -> Result<World, Memory>
         requires { 0 < slots }
         ensures world { IfOk result (λ w. world_of w
-            ≡ effect.bears 0 (codes "Austral.Pervasive") effect.nothing (first_world keeps (root_slots slots))) }
+            ≡ effect.bears 0 (codes "Austral.Pervasive") effect.nothing
+            (first_world keeps (root_slots slots))) }
         ensures frame { IfOk result (λ w. top_frame w ≡ 0) }
     {
         let mut world = World::with_slots(alloc, keeps, slots)?;

@@ -65,7 +65,8 @@ impl World {
     /// part isn't there, nothing changes, and the new value is gone.
     pub fn exchange(&mut self, start: Start, path: &[u32], new: Cell) -> Option<Cell>
         ensures world { came_out result self.new
-            ≡ effect.exchanged (record { base = base_of start; path = path.now }) (low new) (world_of self.old) }
+            ≡ effect.exchanged (record { base = base_of start; path = path.now }) (low new)
+            (world_of self.old) }
         ensures kept { IsNone result → world_of self.new ≡ world_of self.old }
         ensures frame { top_frame self.new ≡ top_frame self.old }
     {
@@ -173,7 +174,8 @@ impl World {
 
     fn exchange_in_box(&mut self, id: u64, path: &[u32], new: Cell) -> Option<Cell>
         ensures world { came_out result self.new
-            ≡ effect.exchanged (record { base = content_of id; path = path.now }) (low new) (world_of self.old) }
+            ≡ effect.exchanged (record { base = content_of id; path = path.now }) (low new)
+            (world_of self.old) }
         ensures kept { IsNone result → world_of self.new ≡ world_of self.old }
         ensures frame { top_frame self.new ≡ top_frame self.old }
     {

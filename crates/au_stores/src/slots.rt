@@ -128,7 +128,8 @@ impl World {
         fields: Vec<Cell>,
     ) -> Result<bool, Memory>
         ensures world { IfOk result (λ done. done_in done self.new
-            ≡ filled (top_frame self.old) slot (lows fields.items) (effect.spends birth (world_of self.old))) }
+            ≡ filled (top_frame self.old) slot (lows fields.items)
+            (effect.spends birth (world_of self.old))) }
         ensures kept { IfOk result (λ done. IsFalse done → world_of self.new ≡ world_of self.old) }
         ensures frame { OnOk result (top_frame self.new ≡ top_frame self.old) }
     {

@@ -111,8 +111,8 @@ impl World {
         Ok(Answered::Gives(given))
     }
 
-    /// `writeByte`: the terminal is used; gives the byte that is to be written. Where no rule applies there is
-    /// none, and nothing changes.
+    /// `writeByte`: the terminal is used; gives the byte that is to be written. Where no rule applies there
+    /// is none, and nothing changes.
     ///
     /// # Errors
     ///

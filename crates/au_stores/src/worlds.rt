@@ -89,7 +89,8 @@ impl World {
     ///
     /// `Memory` when memory runs out.
     pub fn tell_use(&mut self, borrow: u64) -> Result<(), Memory>
-        ensures world { OnOk result (world_of self.new ≡ effect.tells (effect.used borrow) (world_of self.old)) }
+        ensures world { OnOk result
+            (world_of self.new ≡ effect.tells (effect.used borrow) (world_of self.old)) }
         ensures frame { OnOk result (top_frame self.new ≡ top_frame self.old) }
     {
         self.tell(Event::Used(borrow))
