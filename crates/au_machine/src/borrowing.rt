@@ -5,7 +5,16 @@ ghost use Rattle.std.specs.Option.{option_map};
 ghost use Rattle.au_effects.specs.Parts.{along};
 ghost use Rattle.au_effects.specs.Values.{Place};
 ghost use Rattle.au_low.specs.Machines.{goes, onward, pushes, having, where_true, has_slot};
-ghost use Rattle.au_low.specs.Instructions.{borrowed, borrowed_place, is_of_slot, new_reference, reference_at, slot_part, stores, closes_to};
+ghost use Rattle.au_low.specs.Instructions.{
+  borrowed,
+  borrowed_place,
+  is_of_slot,
+  new_reference,
+  reference_at,
+  slot_part,
+  stores,
+  closes_to,
+};
 ghost use Rattle.au_cells.specs.Cells.{low, base_of};
 ghost use Rattle.au_machine.specs.States.{machine_of, turned, most_place, place_in};
 
@@ -121,7 +130,8 @@ impl State {
         requires { self.now.place < most_place }
         ensures { IfOk result (λ turn. turned turn self.new
             ≡ having (borrowed_place mode from (machine_of self.old))
-            (λ place. stores into (new_reference place (machine_of self.old)) (borrowed (machine_of self.old)))) }
+            (λ place. stores into (new_reference place (machine_of self.old)) (borrowed
+            (machine_of self.old)))) }
     {
         let Some((start, path)) = self.place_at(alloc, mode, from)? else {
             return Ok(Turn::Stuck);

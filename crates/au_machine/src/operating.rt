@@ -6,7 +6,18 @@ ghost use Rattle.au_ints.specs.Ranges.{is_of_kind};
 ghost use Rattle.au_ints.specs.Operations.{converted};
 ghost use Rattle.au_effects.specs.Values.{unit, truth, number, text};
 ghost use Rattle.au_effects.specs.Numbers.{computed, compared, negated, at_kind, converted_value};
-ghost use Rattle.au_low.specs.Machines.{Low, Machine, Next, goes, stuck, onward, pushes, popping, popping_two, where_true};
+ghost use Rattle.au_low.specs.Machines.{
+  Low,
+  Machine,
+  Next,
+  goes,
+  stuck,
+  onward,
+  pushes,
+  popping,
+  popping_two,
+  where_true,
+};
 ghost use Rattle.au_low.specs.Instructions.{comes};
 ghost use Rattle.au_cells.specs.Cells.{low};
 ghost use Rattle.au_machine.specs.States.{machine_of, turned, most_place};
@@ -59,7 +70,8 @@ impl State {
     pub fn push_text(&mut self, code: &Code, number: u32) -> Result<Turn, Memory>
         requires { self.now.place < most_place }
         ensures { IfOk result (λ turn. turned turn self.new
-            ≡ where_true (nat_lt number (length code.now.texts)) (pushes (text number) (machine_of self.old))) }
+            ≡ where_true (nat_lt number (length code.now.texts)) (pushes (text number)
+            (machine_of self.old))) }
     {
         if code.texts.len() <= number as usize {
             return Ok(Turn::Stuck);

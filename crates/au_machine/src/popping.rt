@@ -1,8 +1,30 @@
 //! Operands that are popped together, and put into declared order.
 
-ghost use Rattle.std.specs.Prelude.{◌≡◌, List, map, reverse, slice_get, slice_set, IfOk, OnOk, IfSome, MatchOption, Some, None};
+ghost use Rattle.std.specs.Prelude.{
+  ◌≡◌,
+  List,
+  map,
+  reverse,
+  slice_get,
+  slice_set,
+  IfOk,
+  OnOk,
+  IfSome,
+  MatchOption,
+  Some,
+  None,
+};
 ghost use Rattle.std.specs.Option.{option_map};
-ghost use Rattle.au_low.specs.Machines.{Low, Machine, Next, stuck, popping_all, still_there, arguments_at, ordered};
+ghost use Rattle.au_low.specs.Machines.{
+  Low,
+  Machine,
+  Next,
+  stuck,
+  popping_all,
+  still_there,
+  arguments_at,
+  ordered,
+};
 ghost use Rattle.au_cells.specs.Cells.{low, lows};
 ghost use Rattle.au_stores.specs.Stores.{slots_of, cells_of};
 ghost use Rattle.au_machine.specs.States.{machine_of, standing};
@@ -45,7 +67,8 @@ fn picked(
     order: &[u32],
     left: Vec<Option<Cell>>,
 ) -> Result<Option<Vec<Cell>>, Memory>
-    ensures { IfOk result (λ found. option_map cells_of found ≡ arguments_at order.now (slots_of left.items)) }
+    ensures { IfOk result (λ found. option_map cells_of found
+        ≡ arguments_at order.now (slots_of left.items)) }
 {
     let mut left = left;
     let mut cells = Vec::new(alloc);
@@ -68,7 +91,8 @@ pub fn in_order(
     order: &[u32],
     values: Vec<Cell>,
 ) -> Result<Option<Vec<Cell>>, Memory>
-    ensures { IfOk result (λ found. option_map cells_of found ≡ ordered order.now (reverse (lows values.items))) }
+    ensures { IfOk result (λ found. option_map cells_of found
+        ≡ ordered order.now (reverse (lows values.items))) }
 {
     if order.len() != values.len() {
         return Ok(None);

@@ -100,7 +100,8 @@ impl State {
     /// `Memory` when memory runs out.
     pub fn come(&mut self, computed: Computed) -> Result<Turn, Memory>
         requires { self.now.place < most_place }
-        ensures { IfOk result (λ turn. turned turn self.new ≡ comes (result_of computed) (machine_of self.old)) }
+        ensures { IfOk result (λ turn. turned turn self.new
+            ≡ comes (result_of computed) (machine_of self.old)) }
     {
         match computed {
             Computed::Value(cell) => self.push(cell),

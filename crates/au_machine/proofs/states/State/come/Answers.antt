@@ -1,9 +1,7 @@
-use Rattle.std.proofs.Common.{ap, sym, ◌∙◌, reverse, Some, None, List, Option}
-use Rattle.au_stores.specs.Stores.{world_of, top_frame}
+use Rattle.std.proofs.Common.{ap, sym, reverse}
 use Rattle.au_machine.specs.States.{machine_of}
-use Rattle.au_low.specs.Machines.{Low, Machine, Next, goes, onward, in_world, pushed, pushes, popping, having, where_true, slot_set, in_slot, has_slot}
-use Rattle.au_low.specs.Instructions.{comes, stores, puts, slot_part}
-use Rattle.au_cells.specs.Cells.{low, result_of}
+use Rattle.au_low.specs.Instructions.{comes}
+use Rattle.au_cells.specs.Cells.{result_of}
 use Rattle.au_cells.specs.declared.cells.Computed.{Computed}
 use Rattle.au_machine.proofs.StateLemmas.{come_to}
 use Rattle.au_machine.proofs.states.State.come.Goals as goal
@@ -12,7 +10,8 @@ pub returns-in-Value : goal.returns-in-Value
 returns-in-Value c =
     let s = c.args.self.now in
     let back = reverse s.backs.items in
-    come_to c.push.result c.push.new.self _ _ (ap (λ (d : Computed). comes (result_of d) (machine_of s)) (sym c.in-Value.is)) c.push.ensures
+    come_to c.push.result c.push.new.self _ _ (ap (λ (d : Computed). comes (result_of d) (machine_of s))
+    (sym c.in-Value.is)) c.push.ensures
 
 pub returns-in-Fault : goal.returns-in-Fault
 returns-in-Fault c =

@@ -1,11 +1,8 @@
-use Rattle.std.proofs.Common.{ap, sym, ◌∙◌, reverse, Some, None, List, Option}
-use Rattle.au_stores.specs.Stores.{world_of, top_frame}
+use Rattle.std.proofs.Common.{ap, sym, ◌∙◌, reverse}
 use Rattle.au_machine.specs.States.{machine_of}
-use Rattle.au_low.specs.Machines.{Low, Machine, Next, goes, onward, in_world, pushed, pushes, popping, having, where_true, slot_set, in_slot, has_slot}
-use Rattle.au_low.specs.Instructions.{comes, stores, puts, slot_part}
-use Rattle.au_cells.specs.Cells.{low, result_of}
-use Rattle.au_cells.specs.declared.cells.Computed.{Computed}
-use Rattle.au_effects.specs.Numbers.{negated, converted_value}
+use Rattle.au_low.specs.Machines.{Low, Machine, Next}
+use Rattle.au_low.specs.Instructions.{comes}
+use Rattle.au_effects.specs.Numbers.{converted_value}
 use Rattle.au_effects.specs.Answers.{Result}
 use Rattle.au_machine.proofs.StateLemmas.{come_to, popped_one, popped_none}
 use Rattle.au_machine.proofs.states.State.convert.Goals as goal
@@ -16,7 +13,8 @@ returns-in_ok-convert_cell-in-Some c =
     let back = reverse s.backs.items in
     let go : Low → Machine → Next = λ a m. comes (converted_value c.args.kind a) m in
     come_to c.come.result c.come.new.self _ _
-    (ap (λ (r : Result _). comes r (machine_of c.pop.new.self)) c.in_ok-convert_cell-in-Some.ensures ∙ sym (popped_one (machine_of s) (machine_of c.pop.new.self) _ go c.in-Some.ensures.is)) c.come.ensures
+    (ap (λ (r : Result _). comes r (machine_of c.pop.new.self)) c.in_ok-convert_cell-in-Some.ensures
+    ∙ sym (popped_one (machine_of s) (machine_of c.pop.new.self) _ go c.in-Some.ensures.is)) c.come.ensures
 
 pub returns-in-None : goal.returns-in-None
 returns-in-None c =

@@ -1,12 +1,8 @@
-use Rattle.std.proofs.Common.{ap, sym, ◌∙◌, refl, reverse, Some, None, List, Option, ℕ, ◌≡◌}
-use Rattle.std.specs.Option.{option_map}
+use Rattle.std.proofs.Common.{ap, sym, ◌∙◌, reverse, Option, ℕ}
 use Rattle.au_effects.specs.Values.{Place}
-use Rattle.au_stores.specs.Stores.{world_of, top_frame}
-use Rattle.au_cells.specs.Cells.{low, lows, result_of, place_of}
-use Rattle.au_low.specs.Machines.{Low, LowWorld, Machine, Next, goes, onward, in_world, pushed, pushes, popping, having, where_true, slot_set, in_slot, has_slot}
-use Rattle.au_low.specs.Instructions.{comes, stores, puts, slot_part, jumps, jumps_unless, reads_at, reference_at, behind, uses, borrowed, new_reference, borrowed_place}
+use Rattle.au_low.specs.Machines.{Low, Machine, Next, having}
+use Rattle.au_low.specs.Instructions.{reads_at}
 use Rattle.au_effects.specs.Calls.{reference_in}
-use Rattle.au_effects.specs.Parts.{along}
 use Rattle.au_machine.specs.States.{machine_of}
 use Rattle.au_machine.proofs.StateLemmas.{come_to, popped_one}
 use Rattle.au_machine.proofs.WorldLemmas.{reads_is, reads_none}
@@ -20,7 +16,8 @@ returns-in_default-at c =
     let own = reverse m.backs.items in
     let go : Low → Machine → Next = λ value m. having (reference_in value) (λ one. reads_at one.0 one.1 m) in
     reads_none m.function m.place m.operands m.borrows own m.world _ _ c.in_default-at.ensures
-    ∙ ap (λ (found : Option (ℕ × Place)). having found (λ one. reads_at one.0 one.1 (machine_of m))) c.in-Some-reference_in.ensures
+    ∙ ap (λ (found : Option (ℕ × Place)). having found
+    (λ one. reads_at one.0 one.1 (machine_of m))) c.in-Some-reference_in.ensures
     ∙ sym (popped_one (machine_of s) (machine_of m) _ go c.in-Some.ensures.is)
 
 pub returns : goal.returns
@@ -31,6 +28,8 @@ returns c =
     let own = reverse m.backs.items in
     let go : Low → Machine → Next = λ value m. having (reference_in value) (λ one. reads_at one.0 one.1 m) in
     come_to c.push.result c.push.new.self _ _
-    (reads_is m.function m.place m.operands m.borrows own m.world c.tell_use.new.self _ _ _ _ c.in_ok-copy.ensures c.in_ok-tell_use.ensures.world c.in_ok-tell_use.ensures.frame c.in-Some-at.ensures
-    ∙ ap (λ (found : Option (ℕ × Place)). having found (λ one. reads_at one.0 one.1 (machine_of m))) c.in-Some-reference_in.ensures
+    (reads_is m.function m.place m.operands m.borrows own m.world c.tell_use.new.self _ _ _ _
+    c.in_ok-copy.ensures c.in_ok-tell_use.ensures.world c.in_ok-tell_use.ensures.frame c.in-Some-at.ensures
+    ∙ ap (λ (found : Option (ℕ × Place)). having found
+    (λ one. reads_at one.0 one.1 (machine_of m))) c.in-Some-reference_in.ensures
     ∙ sym (popped_one (machine_of s) (machine_of m) _ go c.in-Some.ensures.is)) c.push.ensures

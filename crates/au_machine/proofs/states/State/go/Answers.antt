@@ -1,6 +1,5 @@
-use Rattle.std.proofs.Common.{ap, sym, ◌∙◌, reverse, Some, None, List, Option}
+use Rattle.std.proofs.Common.{ap, reverse}
 use Rattle.au_stores.specs.Stores.{world_of, top_frame}
-use Rattle.au_machine.specs.States.{machine_of}
 use Rattle.au_low.specs.Machines.{goes}
 use Rattle.au_machine.proofs.StateLemmas.{gone_on}
 use Rattle.au_machine.proofs.states.State.go.Goals as goal

@@ -1,6 +1,4 @@
-use Rattle.std.proofs.Common.{ap, sym, ◌∙◌, reverse, Some, None, List, Option}
-use Rattle.au_stores.specs.Stores.{world_of, top_frame}
-use Rattle.au_machine.specs.States.{machine_of}
+use Rattle.std.proofs.Common.{◌∙◌, reverse}
 use Rattle.au_machine.proofs.StateLemmas.{has_slot_is}
 use Rattle.au_machine.proofs.states.State.has.Goals as goal
 

@@ -1,13 +1,6 @@
-use Rattle.std.proofs.Common.{ap, sym, ◌∙◌, refl, reverse, Some, None, List, Option, ℕ, ◌≡◌}
-use Rattle.std.specs.Option.{option_map}
-use Rattle.au_effects.specs.Values.{Place}
+use Rattle.std.proofs.Common.{ap, sym, ◌∙◌, reverse}
 use Rattle.au_stores.specs.Stores.{world_of, top_frame}
-use Rattle.au_cells.specs.Cells.{low, lows, result_of, place_of}
-use Rattle.au_low.specs.Machines.{Low, LowWorld, Machine, Next, goes, onward, in_world, pushed, pushes, popping, having, where_true, slot_set, in_slot, has_slot}
-use Rattle.au_low.specs.Instructions.{comes, stores, puts, slot_part, jumps, jumps_unless, reads_at, reference_at, behind, uses, borrowed, new_reference, borrowed_place}
-use Rattle.au_effects.specs.Calls.{reference_in}
-use Rattle.au_effects.specs.Parts.{along}
-use Rattle.au_machine.specs.States.{machine_of}
+use Rattle.au_low.specs.Machines.{goes, where_true}
 use Rattle.au_machine.specs.States.{machine_with}
 use Rattle.au_machine.proofs.StateLemmas.{jumps_to}
 use Rattle.au_machine.proofs.states.State.jump.Goals as goal
@@ -16,12 +9,14 @@ pub returns-then-not-has_label : goal.returns-then-not-has_label
 returns-then-not-has_label c =
     let s = c.args.self.now in
     let back = reverse s.backs.items in
-    ap (λ b. where_true b (goes (machine_with s.function c.args.label s.operands s.borrows back (top_frame s.world) (world_of s.world)))) (sym c.if-not-has_label.true ∙ c.has_label.ensures)
+    ap (λ b. where_true b (goes (machine_with s.function c.args.label s.operands s.borrows back
+    (top_frame s.world) (world_of s.world)))) (sym c.if-not-has_label.true ∙ c.has_label.ensures)
     ∙ jumps_to s.function s.place s.operands s.borrows back s.world c.args.code.now c.args.label
 
 pub returns : goal.returns
 returns c =
     let s = c.args.self.now in
     let back = reverse s.backs.items in
-    ap (λ b. where_true b (goes (machine_with s.function c.args.label s.operands s.borrows back (top_frame s.world) (world_of s.world)))) (sym c.if-not-has_label.false ∙ c.has_label.ensures)
+    ap (λ b. where_true b (goes (machine_with s.function c.args.label s.operands s.borrows back
+    (top_frame s.world) (world_of s.world)))) (sym c.if-not-has_label.false ∙ c.has_label.ensures)
     ∙ jumps_to s.function s.place s.operands s.borrows back s.world c.args.code.now c.args.label

@@ -1,12 +1,6 @@
-use Rattle.std.proofs.Common.{ap, sym, ◌∙◌, refl, reverse, Some, None, List, Option, ℕ, ◌≡◌}
-use Rattle.std.specs.Option.{option_map}
-use Rattle.au_effects.specs.Values.{Place}
-use Rattle.au_stores.specs.Stores.{world_of, top_frame}
-use Rattle.au_cells.specs.Cells.{low, lows, result_of, place_of}
-use Rattle.au_low.specs.Machines.{Low, LowWorld, Machine, Next, goes, onward, in_world, pushed, pushes, popping, having, where_true, slot_set, in_slot, has_slot}
-use Rattle.au_low.specs.Instructions.{comes, stores, puts, slot_part, jumps, jumps_unless, reads_at, reference_at, behind, uses, borrowed, new_reference, borrowed_place}
-use Rattle.au_effects.specs.Calls.{reference_in}
-use Rattle.au_effects.specs.Parts.{along}
+use Rattle.std.proofs.Common.{ap, sym, ◌∙◌, reverse, Option}
+use Rattle.au_low.specs.Machines.{Low, Machine, Next, having}
+use Rattle.au_low.specs.Instructions.{jumps_unless}
 use Rattle.au_machine.specs.States.{machine_of}
 use Rattle.au_effects.specs.Numbers.{truth_in}
 use Rattle.au_machine.proofs.StateLemmas.{popped_one}
@@ -17,6 +11,8 @@ returns c =
     let s = c.args.self.now in
     let back = reverse s.backs.items in
     let m = c.pop.new.self in
-    let go : Low → Machine → Next = λ value m. having (truth_in value) (jumps_unless c.args.code.now c.args.label m) in
-    c.jump_unless.ensures ∙ ap (λ (found : Option _). having found (jumps_unless c.args.code.now c.args.label (machine_of m))) c.in-Some-truth_in.ensures
+    let go : Low → Machine → Next = λ value m. having (truth_in value)
+    (jumps_unless c.args.code.now c.args.label m) in
+    c.jump_unless.ensures ∙ ap (λ (found : Option _). having found (jumps_unless c.args.code.now c.args.label
+    (machine_of m))) c.in-Some-truth_in.ensures
     ∙ sym (popped_one (machine_of s) (machine_of m) _ go c.in-Some.ensures.is)

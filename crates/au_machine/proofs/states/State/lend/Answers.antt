@@ -1,13 +1,4 @@
-use Rattle.std.proofs.Common.{ap, sym, ◌∙◌, refl, reverse, Some, None, List, Option, ℕ, ◌≡◌}
-use Rattle.std.specs.Option.{option_map}
-use Rattle.au_effects.specs.Values.{Place}
-use Rattle.au_stores.specs.Stores.{world_of, top_frame}
-use Rattle.au_cells.specs.Cells.{low, lows, result_of, place_of}
-use Rattle.au_low.specs.Machines.{Low, LowWorld, Machine, Next, goes, onward, in_world, pushed, pushes, popping, having, where_true, slot_set, in_slot, has_slot}
-use Rattle.au_low.specs.Instructions.{comes, stores, puts, slot_part, jumps, jumps_unless, reads_at, reference_at, behind, uses, borrowed, new_reference, borrowed_place}
-use Rattle.au_effects.specs.Calls.{reference_in}
-use Rattle.au_effects.specs.Parts.{along}
-use Rattle.au_machine.specs.States.{machine_of}
+use Rattle.std.proofs.Common.{◌∙◌, reverse}
 use Rattle.au_machine.proofs.WorldLemmas.{opened_is, lent_is}
 use Rattle.au_machine.proofs.states.State.lend.Goals as goal
 
@@ -15,10 +6,13 @@ pub returns-clause-new : goal.returns-clause-new
 returns-clause-new c =
     let s = c.args.self.now in
     let back = reverse s.backs.items in
-    opened_is s.function s.place s.operands s.borrows back s.world c.open.new.self _ c.in_ok-borrow.borrow c.in_ok-borrow.ensures.borrow c.in_ok-borrow.ensures.world c.in_ok-borrow.ensures.frame c.in_ok-push.ensures.ok
+    opened_is s.function s.place s.operands s.borrows back s.world c.open.new.self _ c.in_ok-borrow.borrow
+    c.in_ok-borrow.ensures.borrow c.in_ok-borrow.ensures.world c.in_ok-borrow.ensures.frame
+    c.in_ok-push.ensures.ok
 
 pub returns-clause-cell : goal.returns-clause-cell
 returns-clause-cell c =
     let s = c.args.self.now in
     let back = reverse s.backs.items in
-    c.in_ok-cell.ensures ∙ lent_is s.function s.place s.operands s.borrows back s.world _ _ c.in_ok-borrow.ensures.borrow
+    c.in_ok-cell.ensures ∙ lent_is s.function s.place s.operands s.borrows back s.world _ _
+    c.in_ok-borrow.ensures.borrow

@@ -1,10 +1,6 @@
-use Rattle.std.proofs.Common.{ap, sym, ◌∙◌, reverse, Some, None, List, Option}
-use Rattle.au_stores.specs.Stores.{world_of, top_frame}
+use Rattle.std.proofs.Common.{ap, ◌∙◌, reverse, Option}
 use Rattle.au_machine.specs.States.{machine_of}
-use Rattle.au_low.specs.Machines.{Low, Machine, Next, goes, onward, in_world, pushed, pushes, popping, having, where_true, slot_set, in_slot, has_slot}
-use Rattle.au_low.specs.Instructions.{comes, stores, puts, slot_part}
-use Rattle.au_cells.specs.Cells.{low, result_of}
-use Rattle.au_cells.specs.declared.cells.Computed.{Computed}
+use Rattle.au_low.specs.Machines.{Low, Next, pushes, having}
 use Rattle.au_machine.proofs.StateLemmas.{come_to}
 use Rattle.au_machine.proofs.states.State.look.Goals as goal
 
@@ -13,7 +9,8 @@ returns-in_ok-copy-in-Some c =
     let s = c.args.self.now in
     let back = reverse s.backs.items in
     let go : Low → Next = λ value. pushes value (machine_of s) in
-    come_to c.push.result c.push.new.self _ _ (ap go c.in_ok-copy-in-Some.ensures ∙ ap (λ (found : Option Low). having found go) c.in-Some.ensures) c.push.ensures
+    come_to c.push.result c.push.new.self _ _ (ap go c.in_ok-copy-in-Some.ensures ∙ ap
+    (λ (found : Option Low). having found go) c.in-Some.ensures) c.push.ensures
 
 pub returns-in-None : goal.returns-in-None
 returns-in-None c =

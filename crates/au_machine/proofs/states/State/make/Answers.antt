@@ -1,15 +1,10 @@
-use Rattle.std.proofs.Common.{ap, sym, ◌∙◌, refl, reverse, Some, None, List, Option, ℕ, ◌≡◌}
+use Rattle.std.proofs.Common.{ap, sym, ◌∙◌, reverse, List, Option}
 use Rattle.std.specs.Option.{option_map}
-use Rattle.au_effects.specs.Values.{Place}
-use Rattle.au_stores.specs.Stores.{world_of, top_frame}
-use Rattle.au_cells.specs.Cells.{low, lows, result_of, place_of}
-use Rattle.au_low.specs.Machines.{Low, LowWorld, Machine, Next, goes, onward, in_world, pushed, pushes, popping, having, where_true, slot_set, in_slot, has_slot}
-use Rattle.au_low.specs.Instructions.{comes, stores, puts, slot_part, jumps, jumps_unless, reads_at, reference_at, behind, uses, borrowed, new_reference, borrowed_place}
-use Rattle.au_effects.specs.Calls.{reference_in}
-use Rattle.au_effects.specs.Parts.{along}
+use Rattle.au_cells.specs.Cells.{lows}
+use Rattle.au_low.specs.Machines.{Low, Machine, Next, having}
 use Rattle.au_machine.specs.States.{machine_of}
 use Rattle.std.proofs.Common.{slice_get}
-use Rattle.au_low.specs.Machines.{ordered, popping_all}
+use Rattle.au_low.specs.Machines.{ordered}
 use Rattle.au_low.specs.Instructions.{makes}
 use Rattle.au_low.specs.declared.code.LowType.{LowType}
 use Rattle.au_stores.specs.Stores.{cells_of}
@@ -22,20 +17,29 @@ returns c =
     let s = c.args.self.now in
     let back = reverse s.backs.items in
     let m = machine_of c.pop_all.new.self in
-    let made_if : List Low → Option LowType → Next = λ values found. having found (λ type. makes c.args.of c.args.tag c.args.home.now values type m) in
-    let go : List Low → Machine → Next = λ values m. having (ordered c.args.order.now values) (λ values. having (slice_get c.args.code.now.types c.args.of) (λ type. makes c.args.of c.args.tag c.args.home.now values type m)) in
+    let made_if : List Low → Option LowType → Next = λ values found. having found
+    (λ type. makes c.args.of c.args.tag c.args.home.now values type m) in
+    let go : List Low → Machine → Next = λ values m. having (ordered c.args.order.now values)
+    (λ values. having (slice_get c.args.code.now.types c.args.of)
+    (λ type. makes c.args.of c.args.tag c.args.home.now values type m)) in
     come_to c.make_of.result c.make_of.new.self _ _
     (ap (made_if (lows c.in-Some-2.fields.items)) c.in-Some-type_at.ensures
-    ∙ ap (λ (found : Option (List Low)). having found (λ values. made_if values (slice_get c.args.code.now.types c.args.of))) (ap (option_map cells_of) (sym c.in-Some-2.is) ∙ c.in_ok-fields.ensures)
-    ∙ sym (some_of _ _ c.in_ok-cells.field-0 c.in-Some.cells c.in-Some.is c.in_ok-cells.ensures.is go)) c.make_of.ensures
+    ∙ ap (λ (found : Option (List Low)). having found
+    (λ values. made_if values (slice_get c.args.code.now.types c.args.of))) (ap (option_map cells_of)
+    (sym c.in-Some-2.is) ∙ c.in_ok-fields.ensures)
+    ∙ sym (some_of _ _ c.in_ok-cells.field-0 c.in-Some.cells c.in-Some.is c.in_ok-cells.ensures.is go))
+    c.make_of.ensures
 
 pub returns-in_default : goal.returns-in_default
 returns-in_default c =
     let s = c.args.self.now in
     let back = reverse s.backs.items in
     let m = machine_of c.pop_all.new.self in
-    let made_if : List Low → Option LowType → Next = λ values found. having found (λ type. makes c.args.of c.args.tag c.args.home.now values type m) in
-    let go : List Low → Machine → Next = λ values m. having (ordered c.args.order.now values) (λ values. having (slice_get c.args.code.now.types c.args.of) (λ type. makes c.args.of c.args.tag c.args.home.now values type m)) in
+    let made_if : List Low → Option LowType → Next = λ values found. having found
+    (λ type. makes c.args.of c.args.tag c.args.home.now values type m) in
+    let go : List Low → Machine → Next = λ values m. having (ordered c.args.order.now values)
+    (λ values. having (slice_get c.args.code.now.types c.args.of)
+    (λ type. makes c.args.of c.args.tag c.args.home.now values type m)) in
     sym (none_of _ _ c.in_ok-cells.field-0 c.in_default.is c.in_ok-cells.ensures.is go)
 
 pub returns-in_default-type_at : goal.returns-in_default-type_at
@@ -43,10 +47,15 @@ returns-in_default-type_at c =
     let s = c.args.self.now in
     let back = reverse s.backs.items in
     let m = machine_of c.pop_all.new.self in
-    let made_if : List Low → Option LowType → Next = λ values found. having found (λ type. makes c.args.of c.args.tag c.args.home.now values type m) in
-    let go : List Low → Machine → Next = λ values m. having (ordered c.args.order.now values) (λ values. having (slice_get c.args.code.now.types c.args.of) (λ type. makes c.args.of c.args.tag c.args.home.now values type m)) in
+    let made_if : List Low → Option LowType → Next = λ values found. having found
+    (λ type. makes c.args.of c.args.tag c.args.home.now values type m) in
+    let go : List Low → Machine → Next = λ values m. having (ordered c.args.order.now values)
+    (λ values. having (slice_get c.args.code.now.types c.args.of)
+    (λ type. makes c.args.of c.args.tag c.args.home.now values type m)) in
     ap (made_if (lows c.in-Some-2.fields.items)) c.in_default-type_at.ensures
-    ∙ ap (λ (found : Option (List Low)). having found (λ values. made_if values (slice_get c.args.code.now.types c.args.of))) (ap (option_map cells_of) (sym c.in-Some-2.is) ∙ c.in_ok-fields.ensures)
+    ∙ ap (λ (found : Option (List Low)). having found
+    (λ values. made_if values (slice_get c.args.code.now.types c.args.of))) (ap (option_map cells_of)
+    (sym c.in-Some-2.is) ∙ c.in_ok-fields.ensures)
     ∙ sym (some_of _ _ c.in_ok-cells.field-0 c.in-Some.cells c.in-Some.is c.in_ok-cells.ensures.is go)
 
 pub returns-in_default-2 : goal.returns-in_default-2
@@ -54,7 +63,12 @@ returns-in_default-2 c =
     let s = c.args.self.now in
     let back = reverse s.backs.items in
     let m = machine_of c.pop_all.new.self in
-    let made_if : List Low → Option LowType → Next = λ values found. having found (λ type. makes c.args.of c.args.tag c.args.home.now values type m) in
-    let go : List Low → Machine → Next = λ values m. having (ordered c.args.order.now values) (λ values. having (slice_get c.args.code.now.types c.args.of) (λ type. makes c.args.of c.args.tag c.args.home.now values type m)) in
-    ap (λ (found : Option (List Low)). having found (λ values. made_if values (slice_get c.args.code.now.types c.args.of))) (ap (option_map cells_of) (sym c.in_default-2.is) ∙ c.in_ok-fields.ensures)
+    let made_if : List Low → Option LowType → Next = λ values found. having found
+    (λ type. makes c.args.of c.args.tag c.args.home.now values type m) in
+    let go : List Low → Machine → Next = λ values m. having (ordered c.args.order.now values)
+    (λ values. having (slice_get c.args.code.now.types c.args.of)
+    (λ type. makes c.args.of c.args.tag c.args.home.now values type m)) in
+    ap (λ (found : Option (List Low)). having found
+    (λ values. made_if values (slice_get c.args.code.now.types c.args.of))) (ap (option_map cells_of)
+    (sym c.in_default-2.is) ∙ c.in_ok-fields.ensures)
     ∙ sym (some_of _ _ c.in_ok-cells.field-0 c.in-Some.cells c.in-Some.is c.in_ok-cells.ensures.is go)

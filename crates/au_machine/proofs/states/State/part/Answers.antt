@@ -1,6 +1,4 @@
-use Rattle.std.proofs.Common.{ap, sym, ◌∙◌, reverse, Some, None, List, Option}
-use Rattle.au_stores.specs.Stores.{world_of, top_frame}
-use Rattle.au_machine.specs.States.{machine_of}
+use Rattle.std.proofs.Common.{◌∙◌, reverse}
 use Rattle.au_machine.proofs.StateLemmas.{part_at_is}
 use Rattle.au_machine.proofs.states.State.part.Goals as goal
 
@@ -8,4 +6,5 @@ pub returns : goal.returns
 returns c =
     let s = c.args.self.now in
     let back = reverse s.backs.items in
-    c.slot_part.ensures ∙ part_at_is s.function s.place s.operands s.borrows back s.world c.args.slot c.args.path.now
+    c.slot_part.ensures ∙ part_at_is s.function s.place s.operands s.borrows back s.world c.args.slot
+    c.args.path.now

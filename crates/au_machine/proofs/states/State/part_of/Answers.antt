@@ -1,10 +1,8 @@
-use Rattle.std.proofs.Common.{ap, sym, ◌∙◌, refl, reverse, Some, None, List, Option, ℕ, ◌≡◌}
-use Rattle.std.specs.Option.{option_map}
+use Rattle.std.proofs.Common.{ap, ◌∙◌, reverse, Option, ℕ}
 use Rattle.au_effects.specs.Values.{Place}
-use Rattle.au_stores.specs.Stores.{world_of, top_frame}
-use Rattle.au_cells.specs.Cells.{low, lows, result_of, place_of}
-use Rattle.au_low.specs.Machines.{Low, LowWorld, Machine, Next, goes, onward, in_world, pushed, pushes, popping, having, where_true, slot_set, in_slot, has_slot}
-use Rattle.au_low.specs.Instructions.{comes, stores, puts, slot_part, jumps, jumps_unless, reads_at, reference_at, behind, uses, borrowed, new_reference, borrowed_place}
+use Rattle.au_cells.specs.Cells.{place_of}
+use Rattle.au_low.specs.Machines.{Low, pushes, having}
+use Rattle.au_low.specs.Instructions.{behind}
 use Rattle.au_effects.specs.Calls.{reference_in}
 use Rattle.au_effects.specs.Parts.{along}
 use Rattle.au_machine.specs.States.{machine_of}
@@ -16,17 +14,29 @@ pub returns-in_default : goal.returns-in_default
 returns-in_default c =
     let s = c.args.self.now in
     let back = reverse s.backs.items in
-    ap (λ (found : Option Low). having (along found reference_in) (λ one. pushes (reference one.0 (behind one.1 c.args.path.now)) (machine_of s))) c.in_default.ensures.is
+    ap (λ (found : Option Low). having (along found reference_in)
+    (λ one. pushes (reference one.0 (behind one.1 c.args.path.now)) (machine_of s))) c.in_default.ensures.is
 
 pub returns-in_default-reference_in : goal.returns-in_default-reference_in
 returns-in_default-reference_in c =
     let s = c.args.self.now in
     let back = reverse s.backs.items in
-    ap (λ (found : Option (ℕ × Place)). having found (λ one. pushes (reference one.0 (behind one.1 c.args.path.now)) (machine_of s))) c.in_default-reference_in.ensures ∙ ap (λ (found : Option Low). having (along found reference_in) (λ one. pushes (reference one.0 (behind one.1 c.args.path.now)) (machine_of s))) c.in-Some.ensures.is
+    ap (λ (found : Option (ℕ × Place)). having found
+    (λ one. pushes (reference one.0 (behind one.1 c.args.path.now))
+    (machine_of s))) c.in_default-reference_in.ensures ∙ ap
+    (λ (found : Option Low). having (along found reference_in)
+    (λ one. pushes (reference one.0 (behind one.1 c.args.path.now)) (machine_of s))) c.in-Some.ensures.is
 
 pub returns : goal.returns
 returns c =
     let s = c.args.self.now in
     let back = reverse s.backs.items in
     come_to c.push.result c.push.new.self _ _ (ap (λ (v : Low). pushes v (machine_of s)) (c.in_ok-cell.ensures
-    ∙ ap (λ n. reference n (place_of c.in_ok-more.more)) c.in_ok-more.ensures.borrow ∙ ap (λ (p : Place). reference c.in-Some-reference_in.one.now.borrow p) c.in_ok-more.ensures.place) ∙ (ap (λ (found : Option (ℕ × Place)). having found (λ one. pushes (reference one.0 (behind one.1 c.args.path.now)) (machine_of s))) c.in-Some-reference_in.ensures ∙ ap (λ (found : Option Low). having (along found reference_in) (λ one. pushes (reference one.0 (behind one.1 c.args.path.now)) (machine_of s))) c.in-Some.ensures.is)) c.push.ensures
+    ∙ ap (λ n. reference n (place_of c.in_ok-more.more)) c.in_ok-more.ensures.borrow ∙ ap
+    (λ (p : Place). reference c.in-Some-reference_in.one.now.borrow p) c.in_ok-more.ensures.place) ∙ (ap
+    (λ (found : Option (ℕ × Place)). having found
+    (λ one. pushes (reference one.0 (behind one.1 c.args.path.now))
+    (machine_of s))) c.in-Some-reference_in.ensures ∙ ap
+    (λ (found : Option Low). having (along found reference_in)
+    (λ one. pushes (reference one.0 (behind one.1 c.args.path.now))
+    (machine_of s))) c.in-Some.ensures.is)) c.push.ensures

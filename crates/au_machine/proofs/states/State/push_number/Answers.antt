@@ -2,13 +2,9 @@ use Rattle.std.specs.Int.{w128}
 use Rattle.std.proofs.lemmas.Int.{to_z-of_z}
 use Rattle.au_effects.specs.Numbers.{at_kind}
 use Rattle.au_ints.specs.Operations.{converted}
-use Rattle.std.proofs.Common.{ap, sym, ◌∙◌, reverse, Some, None, List, Option}
-use Rattle.au_stores.specs.Stores.{world_of, top_frame}
+use Rattle.std.proofs.Common.{ap, ◌∙◌}
 use Rattle.au_machine.specs.States.{machine_of}
-use Rattle.au_low.specs.Machines.{Low, Machine, Next, goes, onward, in_world, pushed, pushes, popping, having, where_true, slot_set, in_slot, has_slot}
-use Rattle.au_low.specs.Instructions.{comes, stores, puts, slot_part}
-use Rattle.au_cells.specs.Cells.{low, result_of}
-use Rattle.au_cells.specs.declared.cells.Computed.{Computed}
+use Rattle.au_cells.specs.Cells.{low}
 use Rattle.au_machine.proofs.StateLemmas.{come_to, in_range, out_of_range}
 use Rattle.au_machine.proofs.states.State.push_number.Goals as goal
 
@@ -17,8 +13,10 @@ returns-in-Some c =
     let m = machine_of c.args.self.now in
     come_to c.push.result c.push.new.self _ _
     (in_range c.args.kind c.args.value (low c.in-Some.cell) m
-    (c.in-Some.ensures ∙ ap (λ z. at_kind c.args.kind (converted c.args.kind z)) (to_z-of_z w128 c.args.value c.ranges.value))) c.push.ensures
+    (c.in-Some.ensures ∙ ap (λ z. at_kind c.args.kind (converted c.args.kind z))
+    (to_z-of_z w128 c.args.value c.ranges.value))) c.push.ensures
 
 pub returns-in-None : goal.returns-in-None
 returns-in-None c = out_of_range c.args.kind c.args.value _
-    (c.in-None.ensures ∙ ap (λ z. at_kind c.args.kind (converted c.args.kind z)) (to_z-of_z w128 c.args.value c.ranges.value))
+    (c.in-None.ensures ∙ ap (λ z. at_kind c.args.kind (converted c.args.kind z))
+    (to_z-of_z w128 c.args.value c.ranges.value))

@@ -1,12 +1,5 @@
-use Rattle.std.proofs.Common.{ap, sym, ◌∙◌, refl, reverse, Some, None, List, Option, ℕ, ◌≡◌}
-use Rattle.std.specs.Option.{option_map}
-use Rattle.au_effects.specs.Values.{Place}
-use Rattle.au_stores.specs.Stores.{world_of, top_frame}
-use Rattle.au_cells.specs.Cells.{low, lows, result_of, place_of}
-use Rattle.au_low.specs.Machines.{Low, LowWorld, Machine, Next, goes, onward, in_world, pushed, pushes, popping, having, where_true, slot_set, in_slot, has_slot}
-use Rattle.au_low.specs.Instructions.{comes, stores, puts, slot_part, jumps, jumps_unless, reads_at, reference_at, behind, uses, borrowed, new_reference, borrowed_place}
-use Rattle.au_effects.specs.Calls.{reference_in}
-use Rattle.au_effects.specs.Parts.{along}
+use Rattle.std.proofs.Common.{ap, sym, ◌∙◌, reverse}
+use Rattle.au_low.specs.Machines.{Low, pushes, where_true}
 use Rattle.au_machine.specs.States.{machine_of}
 use Rattle.std.proofs.Common.{arith, length}
 use Rattle.std.proofs.lemmas.Bool.{le-ltb, lt-ltb}
@@ -19,11 +12,16 @@ pub returns-then-len-number : goal.returns-then-len-number
 returns-then-len-number c =
     let s = c.args.self.now in
     let back = reverse s.backs.items in
-    ap (λ b. where_true b (pushes (text c.args.number) (machine_of s))) (sym (le-ltb c.args.number (length c.args.code.now.texts) (omega (arith, c.len.ensures, c.if-len-number.true))))
+    ap (λ b. where_true b (pushes (text c.args.number) (machine_of s)))
+    (sym (le-ltb c.args.number (length c.args.code.now.texts) (omega
+    (arith, c.len.ensures, c.if-len-number.true))))
 
 pub returns : goal.returns
 returns c =
     let s = c.args.self.now in
     let back = reverse s.backs.items in
-    come_to c.push.result c.push.new.self _ _ (ap (λ (v : Low). pushes v (machine_of s)) (text_is c.args.number)
-    ∙ ap (λ b. where_true b (pushes (text c.args.number) (machine_of s))) (sym (lt-ltb c.args.number (length c.args.code.now.texts) (omega (arith, c.len.ensures, c.if-len-number.false))))) c.push.ensures
+    come_to c.push.result c.push.new.self _ _ (ap
+    (λ (v : Low). pushes v (machine_of s)) (text_is c.args.number)
+    ∙ ap (λ b. where_true b (pushes (text c.args.number) (machine_of s)))
+    (sym (lt-ltb c.args.number (length c.args.code.now.texts) (omega
+    (arith, c.len.ensures, c.if-len-number.false))))) c.push.ensures

@@ -1,10 +1,7 @@
-use Rattle.std.proofs.Common.{ap, sym, ◌∙◌, refl, reverse, Some, None, List, Option}
-use Rattle.au_stores.specs.Stores.{world_of, top_frame}
+use Rattle.std.proofs.Common.{ap, ◌∙◌, refl, reverse, Option}
 use Rattle.au_machine.specs.States.{machine_of}
-use Rattle.au_low.specs.Machines.{Low, Machine, Next, goes, onward, in_world, pushed, pushes, popping, having, where_true, slot_set, in_slot, has_slot}
-use Rattle.au_low.specs.Instructions.{comes, stores, puts, slot_part}
-use Rattle.au_cells.specs.Cells.{low, result_of}
-use Rattle.au_cells.specs.declared.cells.Computed.{Computed}
+use Rattle.au_low.specs.Machines.{Low, Machine, goes, onward, in_world, having}
+use Rattle.au_cells.specs.Cells.{low}
 use Rattle.au_low.specs.Machines.{LowWorld}
 use Rattle.au_machine.proofs.StateLemmas.{world_changed, puts_is}
 use Rattle.au_machine.proofs.states.State.put.Goals as goal
@@ -13,13 +10,19 @@ pub returns-in-Some : goal.returns-in-Some
 returns-in-Some c =
     let s = c.args.self.now in
     let back = reverse s.backs.items in
-    c.go.ensures ∙ ap (λ (m : Machine). goes (onward m)) (world_changed s.function s.place s.operands s.borrows back s.world c.put_part.new.self _ refl c.in-Some.ensures.frame)
-    ∙ ap (λ (found : Option (Low × LowWorld)). having found (λ pair. goes (onward (in_world pair.1 (machine_of s))))) c.in-Some.ensures.world
-    ∙ puts_is s.function s.place s.operands s.borrows back s.world c.args.slot c.args.path.now (low c.args.cell)
+    c.go.ensures ∙ ap (λ (m : Machine). goes (onward m))
+    (world_changed s.function s.place s.operands s.borrows back s.world c.put_part.new.self _ refl
+    c.in-Some.ensures.frame)
+    ∙ ap (λ (found : Option (Low × LowWorld)). having found
+    (λ pair. goes (onward (in_world pair.1 (machine_of s))))) c.in-Some.ensures.world
+    ∙ puts_is s.function s.place s.operands s.borrows back s.world c.args.slot c.args.path.now
+    (low c.args.cell)
 
 pub returns-in-None : goal.returns-in-None
 returns-in-None c =
     let s = c.args.self.now in
     let back = reverse s.backs.items in
-    ap (λ (found : Option (Low × LowWorld)). having found (λ pair. goes (onward (in_world pair.1 (machine_of s))))) c.in-None.ensures.world
-    ∙ puts_is s.function s.place s.operands s.borrows back s.world c.args.slot c.args.path.now (low c.args.cell)
+    ap (λ (found : Option (Low × LowWorld)). having found
+    (λ pair. goes (onward (in_world pair.1 (machine_of s))))) c.in-None.ensures.world
+    ∙ puts_is s.function s.place s.operands s.borrows back s.world c.args.slot c.args.path.now
+    (low c.args.cell)

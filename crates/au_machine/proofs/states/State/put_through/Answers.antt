@@ -1,12 +1,6 @@
-use Rattle.std.proofs.Common.{ap, sym, ◌∙◌, refl, reverse, Some, None, List, Option, ℕ, ◌≡◌}
-use Rattle.std.specs.Option.{option_map}
-use Rattle.au_effects.specs.Values.{Place}
-use Rattle.au_stores.specs.Stores.{world_of, top_frame}
-use Rattle.au_cells.specs.Cells.{low, lows, result_of, place_of}
-use Rattle.au_low.specs.Machines.{Low, LowWorld, Machine, Next, goes, onward, in_world, pushed, pushes, popping, having, where_true, slot_set, in_slot, has_slot}
-use Rattle.au_low.specs.Instructions.{comes, stores, puts, slot_part, jumps, jumps_unless, reads_at, reference_at, behind, uses, borrowed, new_reference, borrowed_place}
-use Rattle.au_effects.specs.Calls.{reference_in}
-use Rattle.au_effects.specs.Parts.{along}
+use Rattle.std.proofs.Common.{ap, sym, ◌∙◌, refl, reverse, Option}
+use Rattle.au_cells.specs.Cells.{low}
+use Rattle.au_low.specs.Machines.{LowWorld, Machine, goes, onward, in_world, having}
 use Rattle.au_machine.specs.States.{machine_of}
 use Rattle.au_stores.specs.Stores.{done_in}
 use Rattle.au_machine.proofs.StateLemmas.{world_changed}
@@ -25,9 +19,12 @@ returns-then-not-branch c =
     let back = reverse s.backs.items in
     let m = c.pop.new.self in
     let own = reverse m.backs.items in
-    ap (λ (found : Option LowWorld). having found (λ new. goes (onward (in_world new (machine_of m))))) (ap (λ b. done_in b c.put_behind.new.self) (sym c.if-not-branch.true) ∙ c.in_ok-put_behind.ensures.world)
-    ∙ puts_in m.function m.place m.operands m.borrows own m.world c.args.slot c.args.path.now (low c.in-Some.cell)
-    ∙ popped_behind (machine_of s) (machine_of m) c.args.slot c.args.path.now (low c.in-Some.cell) c.in-Some.ensures.is
+    ap (λ (found : Option LowWorld). having found (λ new. goes (onward (in_world new (machine_of m))))) (ap
+    (λ b. done_in b c.put_behind.new.self) (sym c.if-not-branch.true) ∙ c.in_ok-put_behind.ensures.world)
+    ∙ puts_in m.function m.place m.operands m.borrows own m.world c.args.slot c.args.path.now
+    (low c.in-Some.cell)
+    ∙ popped_behind (machine_of s) (machine_of m) c.args.slot c.args.path.now
+    (low c.in-Some.cell) c.in-Some.ensures.is
 
 pub returns : goal.returns
 returns c =
@@ -35,7 +32,12 @@ returns c =
     let back = reverse s.backs.items in
     let m = c.pop.new.self in
     let own = reverse m.backs.items in
-    c.go.ensures ∙ ap (λ (all : Machine). goes (onward all)) (world_changed m.function m.place m.operands m.borrows own m.world c.put_behind.new.self _ refl c.in_ok-put_behind.ensures.frame)
-    ∙ ap (λ (found : Option LowWorld). having found (λ new. goes (onward (in_world new (machine_of m))))) (ap (λ b. done_in b c.put_behind.new.self) (sym c.if-not-branch.false) ∙ c.in_ok-put_behind.ensures.world)
-    ∙ puts_in m.function m.place m.operands m.borrows own m.world c.args.slot c.args.path.now (low c.in-Some.cell)
-    ∙ popped_behind (machine_of s) (machine_of m) c.args.slot c.args.path.now (low c.in-Some.cell) c.in-Some.ensures.is
+    c.go.ensures ∙ ap (λ (all : Machine). goes (onward all))
+    (world_changed m.function m.place m.operands m.borrows own m.world c.put_behind.new.self _ refl
+    c.in_ok-put_behind.ensures.frame)
+    ∙ ap (λ (found : Option LowWorld). having found (λ new. goes (onward (in_world new (machine_of m))))) (ap
+    (λ b. done_in b c.put_behind.new.self) (sym c.if-not-branch.false) ∙ c.in_ok-put_behind.ensures.world)
+    ∙ puts_in m.function m.place m.operands m.borrows own m.world c.args.slot c.args.path.now
+    (low c.in-Some.cell)
+    ∙ popped_behind (machine_of s) (machine_of m) c.args.slot c.args.path.now
+    (low c.in-Some.cell) c.in-Some.ensures.is

@@ -1,13 +1,8 @@
-use Rattle.std.proofs.Common.{ap, sym, ◌∙◌, refl, reverse, Some, None, List, Option, ℕ, ◌≡◌}
-use Rattle.std.specs.Option.{option_map}
+use Rattle.std.proofs.Common.{ap, ◌∙◌, reverse, Some, List, Option, ℕ}
 use Rattle.au_effects.specs.Values.{Place}
-use Rattle.au_stores.specs.Stores.{world_of, top_frame}
-use Rattle.au_cells.specs.Cells.{low, lows, result_of, place_of}
-use Rattle.au_low.specs.Machines.{Low, LowWorld, Machine, Next, goes, onward, in_world, pushed, pushes, popping, having, where_true, slot_set, in_slot, has_slot}
-use Rattle.au_low.specs.Instructions.{comes, stores, puts, slot_part, jumps, jumps_unless, reads_at, reference_at, behind, uses, borrowed, new_reference, borrowed_place}
+use Rattle.au_low.specs.Machines.{Low}
 use Rattle.au_effects.specs.Calls.{reference_in}
 use Rattle.au_effects.specs.Parts.{along}
-use Rattle.au_machine.specs.States.{machine_of}
 use Rattle.au_cells.specs.Cells.{base_of}
 use Rattle.au_machine.proofs.states.State.reached_place.Goals as goal
 
@@ -15,16 +10,24 @@ pub returns-in_default : goal.returns-in_default
 returns-in_default c =
     let s = c.args.self.now in
     let back = reverse s.backs.items in
-    ap (λ (found : Option Low). along (along found reference_in) (λ (one : ℕ × Place). Some one.1)) c.in_default.ensures.is
+    ap (λ (found : Option Low). along (along found reference_in) (λ (one : ℕ
+    × Place). Some one.1)) c.in_default.ensures.is
 
 pub returns-in_default-reference_in : goal.returns-in_default-reference_in
 returns-in_default-reference_in c =
     let s = c.args.self.now in
     let back = reverse s.backs.items in
-    ap (λ (found : Option (ℕ × Place)). along found (λ (one : ℕ × Place). Some one.1)) c.in_default-reference_in.ensures ∙ ap (λ (found : Option Low). along (along found reference_in) (λ (one : ℕ × Place). Some one.1)) c.in-Some.ensures.is
+    ap (λ (found : Option (ℕ × Place)). along found (λ (one : ℕ
+    × Place). Some one.1)) c.in_default-reference_in.ensures ∙ ap
+    (λ (found : Option Low). along (along found reference_in) (λ (one : ℕ
+    × Place). Some one.1)) c.in-Some.ensures.is
 
 pub returns : goal.returns
 returns c =
     let s = c.args.self.now in
     let back = reverse s.backs.items in
-    ap (λ (path : List ℕ). Some (record { base = base_of c.in-Some-reference_in.one.now.start; path = path })) (c.in_ok-path.ensures ∙ c.as_slice.ensures) ∙ ap (λ (found : Option (ℕ × Place)). along found (λ (one : ℕ × Place). Some one.1)) c.in-Some-reference_in.ensures ∙ ap (λ (found : Option Low). along (along found reference_in) (λ (one : ℕ × Place). Some one.1)) c.in-Some.ensures.is
+    ap (λ (path : List ℕ). Some (record { base = base_of c.in-Some-reference_in.one.now.start; path = path }))
+    (c.in_ok-path.ensures ∙ c.as_slice.ensures) ∙ ap (λ (found : Option (ℕ × Place)). along found (λ (one : ℕ
+    × Place). Some one.1)) c.in-Some-reference_in.ensures ∙ ap
+    (λ (found : Option Low). along (along found reference_in) (λ (one : ℕ
+    × Place). Some one.1)) c.in-Some.ensures.is

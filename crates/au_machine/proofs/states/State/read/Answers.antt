@@ -1,10 +1,7 @@
-use Rattle.std.proofs.Common.{ap, sym, ◌∙◌, refl, reverse, Some, None, List, Option, ℕ, ◌≡◌}
-use Rattle.std.specs.Option.{option_map}
+use Rattle.std.proofs.Common.{ap, ◌∙◌, reverse, Option, ℕ}
 use Rattle.au_effects.specs.Values.{Place}
-use Rattle.au_stores.specs.Stores.{world_of, top_frame}
-use Rattle.au_cells.specs.Cells.{low, lows, result_of, place_of}
-use Rattle.au_low.specs.Machines.{Low, LowWorld, Machine, Next, goes, onward, in_world, pushed, pushes, popping, having, where_true, slot_set, in_slot, has_slot}
-use Rattle.au_low.specs.Instructions.{comes, stores, puts, slot_part, jumps, jumps_unless, reads_at, reference_at, behind, uses, borrowed, new_reference, borrowed_place}
+use Rattle.au_low.specs.Machines.{Low, having}
+use Rattle.au_low.specs.Instructions.{reads_at, behind}
 use Rattle.au_effects.specs.Calls.{reference_in}
 use Rattle.au_effects.specs.Parts.{along}
 use Rattle.au_machine.specs.States.{machine_of}
@@ -16,22 +13,37 @@ pub returns-in_default : goal.returns-in_default
 returns-in_default c =
     let s = c.args.self.now in
     let back = reverse s.backs.items in
-    ap (λ (found : Option Low). having (along found reference_in) (λ one. reads_at one.0 (behind one.1 c.args.path.now) (machine_of s))) c.in_default.ensures.is
+    ap (λ (found : Option Low). having (along found reference_in)
+    (λ one. reads_at one.0 (behind one.1 c.args.path.now) (machine_of s))) c.in_default.ensures.is
 
 pub returns-in_default-reference_in : goal.returns-in_default-reference_in
 returns-in_default-reference_in c =
     let s = c.args.self.now in
     let back = reverse s.backs.items in
-    ap (λ (found : Option (ℕ × Place)). having found (λ one. reads_at one.0 (behind one.1 c.args.path.now) (machine_of s))) c.in_default-reference_in.ensures ∙ ap (λ (found : Option Low). having (along found reference_in) (λ one. reads_at one.0 (behind one.1 c.args.path.now) (machine_of s))) c.in-Some.ensures.is
+    ap (λ (found : Option (ℕ × Place)). having found
+    (λ one. reads_at one.0 (behind one.1 c.args.path.now) (machine_of s))) c.in_default-reference_in.ensures
+    ∙ ap (λ (found : Option Low). having (along found reference_in)
+    (λ one. reads_at one.0 (behind one.1 c.args.path.now) (machine_of s))) c.in-Some.ensures.is
 
 pub returns-in_default-at_behind : goal.returns-in_default-at_behind
 returns-in_default-at_behind c =
     let s = c.args.self.now in
     let back = reverse s.backs.items in
-    reads_none s.function s.place s.operands s.borrows back s.world _ _ c.in_default-at_behind.ensures ∙ (ap (λ (found : Option (ℕ × Place)). having found (λ one. reads_at one.0 (behind one.1 c.args.path.now) (machine_of s))) c.in-Some-reference_in.ensures ∙ ap (λ (found : Option Low). having (along found reference_in) (λ one. reads_at one.0 (behind one.1 c.args.path.now) (machine_of s))) c.in-Some.ensures.is)
+    reads_none s.function s.place s.operands s.borrows back s.world _ _ c.in_default-at_behind.ensures ∙ (ap
+    (λ (found : Option (ℕ × Place)). having found
+    (λ one. reads_at one.0 (behind one.1 c.args.path.now) (machine_of s))) c.in-Some-reference_in.ensures ∙ ap
+    (λ (found : Option Low). having (along found reference_in)
+    (λ one. reads_at one.0 (behind one.1 c.args.path.now) (machine_of s))) c.in-Some.ensures.is)
 
 pub returns : goal.returns
 returns c =
     let s = c.args.self.now in
     let back = reverse s.backs.items in
-    come_to c.push.result c.push.new.self _ _ (reads_is s.function s.place s.operands s.borrows back s.world c.tell_use.new.self _ _ _ _ c.in_ok-copy.ensures c.in_ok-tell_use.ensures.world c.in_ok-tell_use.ensures.frame c.in-Some-at_behind.ensures ∙ (ap (λ (found : Option (ℕ × Place)). having found (λ one. reads_at one.0 (behind one.1 c.args.path.now) (machine_of s))) c.in-Some-reference_in.ensures ∙ ap (λ (found : Option Low). having (along found reference_in) (λ one. reads_at one.0 (behind one.1 c.args.path.now) (machine_of s))) c.in-Some.ensures.is)) c.push.ensures
+    come_to c.push.result c.push.new.self _ _
+    (reads_is s.function s.place s.operands s.borrows back s.world c.tell_use.new.self _ _ _ _
+    c.in_ok-copy.ensures c.in_ok-tell_use.ensures.world c.in_ok-tell_use.ensures.frame
+    c.in-Some-at_behind.ensures ∙ (ap (λ (found : Option (ℕ × Place)). having found
+    (λ one. reads_at one.0 (behind one.1 c.args.path.now) (machine_of s))) c.in-Some-reference_in.ensures ∙ ap
+    (λ (found : Option Low). having (along found reference_in)
+    (λ one. reads_at one.0 (behind one.1 c.args.path.now)
+    (machine_of s))) c.in-Some.ensures.is)) c.push.ensures

@@ -1,12 +1,6 @@
-use Rattle.std.proofs.Common.{ap, sym, ◌∙◌, refl, reverse, Some, None, List, Option, ℕ, ◌≡◌}
-use Rattle.std.specs.Option.{option_map}
-use Rattle.au_effects.specs.Values.{Place}
-use Rattle.au_stores.specs.Stores.{world_of, top_frame}
-use Rattle.au_cells.specs.Cells.{low, lows, result_of, place_of}
-use Rattle.au_low.specs.Machines.{Low, LowWorld, Machine, Next, goes, onward, in_world, pushed, pushes, popping, having, where_true, slot_set, in_slot, has_slot}
+use Rattle.std.proofs.Common.{sym, reverse}
+use Rattle.au_cells.specs.Cells.{low}
 use Rattle.au_low.specs.Instructions.{comes, stores, puts, slot_part, jumps, jumps_unless, reads_at, reference_at, behind, uses, borrowed, new_reference, borrowed_place}
-use Rattle.au_effects.specs.Calls.{reference_in}
-use Rattle.au_effects.specs.Parts.{along}
 use Rattle.au_machine.specs.States.{machine_of}
 use Rattle.au_low.specs.Instructions as instruction
 use Rattle.au_machine.proofs.StateLemmas.{came_to, came_from, popped_one}
@@ -16,10 +10,14 @@ pub returns-then-depth-eq0 : goal.returns-then-depth-eq0
 returns-then-depth-eq0 c =
     let s = c.args.self.now in
     let back = reverse s.backs.items in
-    came_to c.leave.result c.leave.new.self _ _ (sym (popped_one (machine_of s) (machine_of c.pop.new.self) (low c.in-Some.cell) (λ result m. instruction.returns m.waiting result m) c.in-Some.ensures.is)) c.leave.ensures
+    came_to c.leave.result c.leave.new.self _ _
+    (sym (popped_one (machine_of s) (machine_of c.pop.new.self) (low c.in-Some.cell)
+    (λ result m. instruction.returns m.waiting result m) c.in-Some.ensures.is)) c.leave.ensures
 
 pub returns : goal.returns
 returns c =
     let s = c.args.self.now in
     let back = reverse s.backs.items in
-    came_from c.come_back.result c.come_back.new.self _ _ (sym (popped_one (machine_of s) (machine_of c.pop.new.self) (low c.in-Some.cell) (λ result m. instruction.returns m.waiting result m) c.in-Some.ensures.is)) c.come_back.ensures
+    came_from c.come_back.result c.come_back.new.self _ _
+    (sym (popped_one (machine_of s) (machine_of c.pop.new.self) (low c.in-Some.cell)
+    (λ result m. instruction.returns m.waiting result m) c.in-Some.ensures.is)) c.come_back.ensures

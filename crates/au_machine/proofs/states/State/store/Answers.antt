@@ -1,22 +1,20 @@
-use Rattle.std.proofs.Common.{ap, sym, ◌∙◌, reverse, Some, None, List, Option}
-use Rattle.au_stores.specs.Stores.{world_of, top_frame}
+use Rattle.std.proofs.Common.{ap, sym, ◌∙◌, reverse, Some}
 use Rattle.au_machine.specs.States.{machine_of}
-use Rattle.au_low.specs.Machines.{Low, Machine, Next, goes, onward, in_world, pushed, pushes, popping, having, where_true, slot_set, in_slot, has_slot}
-use Rattle.au_low.specs.Instructions.{comes, stores, puts, slot_part}
-use Rattle.au_cells.specs.Cells.{low, result_of}
-use Rattle.au_cells.specs.declared.cells.Computed.{Computed}
-use Rattle.au_machine.proofs.StateLemmas.{come_to}
+use Rattle.au_low.specs.Machines.{Machine, goes, onward, where_true, slot_set}
+use Rattle.au_cells.specs.Cells.{low}
 use Rattle.au_machine.proofs.states.State.store.Goals as goal
 
 pub returns-then-not-has : goal.returns-then-not-has
 returns-then-not-has c =
     let s = c.args.self.now in
     let back = reverse s.backs.items in
-    ap (λ b. where_true b (goes (onward (slot_set c.args.slot (Some (low c.args.cell)) (machine_of s))))) (sym c.if-not-has.true ∙ c.has.ensures.is)
+    ap (λ b. where_true b (goes (onward (slot_set c.args.slot (Some (low c.args.cell)) (machine_of s)))))
+    (sym c.if-not-has.true ∙ c.has.ensures.is)
 
 pub returns : goal.returns
 returns c =
     let s = c.args.self.now in
     let back = reverse s.backs.items in
     c.go.ensures ∙ ap (λ (m : Machine). goes (onward m)) c.fill.ensures.new
-    ∙ ap (λ b. where_true b (goes (onward (slot_set c.args.slot (Some (low c.args.cell)) (machine_of s))))) (sym c.if-not-has.false ∙ c.has.ensures.is)
+    ∙ ap (λ b. where_true b (goes (onward (slot_set c.args.slot (Some (low c.args.cell)) (machine_of s)))))
+    (sym c.if-not-has.false ∙ c.has.ensures.is)

@@ -1,10 +1,6 @@
-use Rattle.std.proofs.Common.{ap, sym, ◌∙◌, reverse, Some, None, List, Option}
-use Rattle.au_stores.specs.Stores.{world_of, top_frame}
+use Rattle.std.proofs.Common.{sym, ◌∙◌, reverse}
 use Rattle.au_machine.specs.States.{machine_of}
-use Rattle.au_low.specs.Machines.{Low, Machine, Next, goes, onward, in_world, pushed, pushes, popping, having, where_true, slot_set, in_slot, has_slot}
-use Rattle.au_low.specs.Instructions.{comes, stores, puts, slot_part}
-use Rattle.au_cells.specs.Cells.{low, result_of}
-use Rattle.au_cells.specs.declared.cells.Computed.{Computed}
+use Rattle.au_low.specs.Instructions.{stores}
 use Rattle.au_machine.proofs.StateLemmas.{popped_one, popped_none}
 use Rattle.au_machine.proofs.states.State.store_top.Goals as goal
 
@@ -12,7 +8,8 @@ pub returns-in-Some : goal.returns-in-Some
 returns-in-Some c =
     let s = c.args.self.now in
     let back = reverse s.backs.items in
-    c.store.ensures ∙ sym (popped_one (machine_of s) (machine_of c.pop.new.self) _ (λ value m. stores c.args.slot value m) c.in-Some.ensures.is)
+    c.store.ensures ∙ sym (popped_one (machine_of s) (machine_of c.pop.new.self) _
+    (λ value m. stores c.args.slot value m) c.in-Some.ensures.is)
 
 pub returns-in-None : goal.returns-in-None
 returns-in-None c =

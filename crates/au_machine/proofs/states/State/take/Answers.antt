@@ -1,10 +1,7 @@
-use Rattle.std.proofs.Common.{ap, sym, ◌∙◌, reverse, Some, None, List, Option}
-use Rattle.au_stores.specs.Stores.{world_of, top_frame}
+use Rattle.std.proofs.Common.{ap, sym, ◌∙◌, reverse, None, Option}
 use Rattle.au_machine.specs.States.{machine_of}
-use Rattle.au_low.specs.Machines.{Low, Machine, Next, goes, onward, in_world, pushed, pushes, popping, having, where_true, slot_set, in_slot, has_slot}
-use Rattle.au_low.specs.Instructions.{comes, stores, puts, slot_part}
-use Rattle.au_cells.specs.Cells.{low, result_of}
-use Rattle.au_cells.specs.declared.cells.Computed.{Computed}
+use Rattle.au_low.specs.Machines.{Low, Machine, Next, pushes, having, slot_set}
+use Rattle.au_cells.specs.Cells.{low}
 use Rattle.au_machine.proofs.StateLemmas.{come_to, past_of, nothing_past, slot_is, has_slot_is}
 use Rattle.au_machine.proofs.states.State.take.Goals as goal
 
@@ -12,9 +9,12 @@ pub returns-then-not-has : goal.returns-then-not-has
 returns-then-not-has c =
     let s = c.args.self.now in
     let back = reverse s.backs.items in
-    let past = past_of s.world c.args.slot c.has.result (c.has.ensures.is ∙ sym (has_slot_is s.function s.place s.operands s.borrows back s.world c.args.slot)) c.if-not-has.true in
-    ap (λ (found : Option Low). having found (λ value. pushes value (slot_set c.args.slot None (machine_of s))))
-    (sym (nothing_past s.world c.args.slot past) ∙ slot_is s.function s.place s.operands s.borrows back s.world c.args.slot)
+    let past = past_of s.world c.args.slot c.has.result (c.has.ensures.is
+    ∙ sym (has_slot_is s.function s.place s.operands s.borrows back s.world c.args.slot)) c.if-not-has.true in
+    ap (λ (found : Option Low). having found
+    (λ value. pushes value (slot_set c.args.slot None (machine_of s))))
+    (sym (nothing_past s.world c.args.slot past)
+    ∙ slot_is s.function s.place s.operands s.borrows back s.world c.args.slot)
 
 pub returns-in-Some : goal.returns-in-Some
 returns-in-Some c =
@@ -22,10 +22,12 @@ returns-in-Some c =
     let back = reverse s.backs.items in
     let go : Low → Next = λ value. pushes value (slot_set c.args.slot None (machine_of s)) in
     come_to c.push.result c.push.new.self _ _
-    (ap (λ (m : Machine). pushes (low c.in-Some.cell) m) c.in-Some.ensures.new ∙ ap (λ (found : Option Low). having found go) c.in-Some.ensures.old) c.push.ensures
+    (ap (λ (m : Machine). pushes (low c.in-Some.cell) m) c.in-Some.ensures.new ∙ ap
+    (λ (found : Option Low). having found go) c.in-Some.ensures.old) c.push.ensures
 
 pub returns-in-None : goal.returns-in-None
 returns-in-None c =
     let s = c.args.self.now in
     let back = reverse s.backs.items in
-    ap (λ (found : Option Low). having found (λ value. pushes value (slot_set c.args.slot None (machine_of s)))) c.in-None.ensures.old
+    ap (λ (found : Option Low). having found
+    (λ value. pushes value (slot_set c.args.slot None (machine_of s)))) c.in-None.ensures.old

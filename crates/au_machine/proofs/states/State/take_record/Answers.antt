@@ -1,16 +1,9 @@
-use Rattle.std.proofs.Common.{ap, sym, ◌∙◌, refl, reverse, Some, None, List, Option, ℕ, ◌≡◌}
-use Rattle.std.specs.Option.{option_map}
-use Rattle.au_effects.specs.Values.{Place}
-use Rattle.au_stores.specs.Stores.{world_of, top_frame}
-use Rattle.au_cells.specs.Cells.{low, lows, result_of, place_of}
-use Rattle.au_low.specs.Machines.{Low, LowWorld, Machine, Next, goes, onward, in_world, pushed, pushes, popping, having, where_true, slot_set, in_slot, has_slot}
-use Rattle.au_low.specs.Instructions.{comes, stores, puts, slot_part, jumps, jumps_unless, reads_at, reference_at, behind, uses, borrowed, new_reference, borrowed_place}
-use Rattle.au_effects.specs.Calls.{reference_in}
-use Rattle.au_effects.specs.Parts.{along}
+use Rattle.std.proofs.Common.{ap, sym, ◌∙◌, reverse, Some, None, Option}
+use Rattle.au_cells.specs.Cells.{low, lows}
+use Rattle.au_low.specs.Machines.{Machine, goes, onward, in_world, having, where_true}
 use Rattle.au_machine.specs.States.{machine_of}
-use Rattle.std.proofs.Common.{◌==◌}
 use Rattle.std.specs.Prelude.{if◌then◌else◌}
-use Rattle.au_low.specs.Instructions.{takes_record, goes_to_case}
+use Rattle.au_low.specs.Instructions.{takes_record}
 use Rattle.au_low.specs.Machines.{slots_filled}
 use Rattle.au_effects.specs.Worlds.{spends}
 use Rattle.au_cells.specs.Cells.{apart_of}
@@ -22,7 +15,8 @@ returns-in_default-into_parts c =
     let s = c.args.self.now in
     let back = reverse s.backs.items in
     let m = machine_of c.pop.new.self in
-    not_taken (machine_of s) m (low c.in-Some.cell) c.args.slot takes_record c.in-Some.ensures.is c.in_default-into_parts.ensures
+    not_taken (machine_of s) m (low c.in-Some.cell) c.args.slot takes_record c.in-Some.ensures.is
+    c.in_default-into_parts.ensures
 
 pub returns-then-not-branch : goal.returns-then-not-branch
 returns-then-not-branch c =
@@ -31,8 +25,11 @@ returns-then-not-branch c =
     let m = machine_of c.pop.new.self in
     let parts = c.in-Some-into_parts.field-0 in
     let old = machine_of s in
-    ap (λ (found : Option Machine). having found (takes_record parts.tag)) (ap (λ b. if b then Some (machine_of c.spread.new.self) else None) (sym c.if-not-branch.true) ∙ c.in_ok-spread.ensures.is)
-    ∙ taken old m (low c.in-Some.cell) (apart_of parts) c.args.slot takes_record c.in-Some.ensures.is c.in-Some-into_parts.ensures
+    ap (λ (found : Option Machine). having found (takes_record parts.tag)) (ap
+    (λ b. if b then Some (machine_of c.spread.new.self) else None) (sym c.if-not-branch.true)
+    ∙ c.in_ok-spread.ensures.is)
+    ∙ taken old m (low c.in-Some.cell)
+    (apart_of parts) c.args.slot takes_record c.in-Some.ensures.is c.in-Some-into_parts.ensures
 
 pub returns-then-tag-ne0 : goal.returns-then-tag-ne0
 returns-then-tag-ne0 c =
@@ -41,9 +38,12 @@ returns-then-tag-ne0 c =
     let m = machine_of c.pop.new.self in
     let parts = c.in-Some-into_parts.field-0 in
     let old = machine_of s in
-    let filled = slots_filled c.args.slot (lows parts.fields.items) (in_world (spends parts.birth m.world) m) in
-    stuck_then filled (takes_record parts.tag) (λ (m : Machine). ap (λ b. where_true b (goes (onward m))) (not_zero parts.tag c.if-tag-ne0.true))
-    ∙ taken old m (low c.in-Some.cell) (apart_of parts) c.args.slot takes_record c.in-Some.ensures.is c.in-Some-into_parts.ensures
+    let filled = slots_filled c.args.slot (lows parts.fields.items) (in_world
+    (spends parts.birth m.world) m) in
+    stuck_then filled (takes_record parts.tag) (λ (m : Machine). ap
+    (λ b. where_true b (goes (onward m))) (not_zero parts.tag c.if-tag-ne0.true))
+    ∙ taken old m (low c.in-Some.cell)
+    (apart_of parts) c.args.slot takes_record c.in-Some.ensures.is c.in-Some-into_parts.ensures
 
 pub returns : goal.returns
 returns c =
@@ -53,5 +53,8 @@ returns c =
     let parts = c.in-Some-into_parts.field-0 in
     let old = machine_of s in
     c.go.ensures ∙ ap (λ n. takes_record n (machine_of c.spread.new.self)) (sym c.if-tag-ne0.false)
-    ∙ ap (λ (found : Option Machine). having found (takes_record parts.tag)) (ap (λ b. if b then Some (machine_of c.spread.new.self) else None) (sym c.if-not-branch.false) ∙ c.in_ok-spread.ensures.is)
-    ∙ taken old m (low c.in-Some.cell) (apart_of parts) c.args.slot takes_record c.in-Some.ensures.is c.in-Some-into_parts.ensures
+    ∙ ap (λ (found : Option Machine). having found (takes_record parts.tag)) (ap
+    (λ b. if b then Some (machine_of c.spread.new.self) else None) (sym c.if-not-branch.false)
+    ∙ c.in_ok-spread.ensures.is)
+    ∙ taken old m (low c.in-Some.cell)
+    (apart_of parts) c.args.slot takes_record c.in-Some.ensures.is c.in-Some-into_parts.ensures
