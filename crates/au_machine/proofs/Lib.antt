@@ -1,3 +1,4 @@
+pub mod CallingLemmas
 pub mod ShippedLemmas
 pub mod StateLemmas
 pub mod WorldLemmas

@@ -5,6 +5,7 @@ pub mod answering;
 pub mod borrowing;
 pub mod boxing;
 pub mod buffering;
+pub mod calling_shipped;
 pub mod jumping;
 pub mod operating;
 pub mod parting;
