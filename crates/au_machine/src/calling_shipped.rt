@@ -81,7 +81,8 @@ impl State {
     ) -> Result<Turn, Memory>
         requires { self.now.place < most_place }
         ensures { IfOk result (λ turn. turned turn self.new
-            ≡ answered (shipped (text_bytes code.now) call None (world_of self.old.world) (low a ∷ low b ∷ []))
+            ≡ answered (shipped (text_bytes code.now) call None
+            (world_of self.old.world) (low a ∷ low b ∷ []))
             (machine_of self.old)) }
     {
         match call {
@@ -104,7 +105,8 @@ impl State {
     ) -> Result<Turn, Memory>
         requires { self.now.place < most_place }
         ensures { IfOk result (λ turn. turned turn self.new
-            ≡ answered (shipped (text_bytes code.now) call None (world_of self.old.world) (low a ∷ low b ∷ low c ∷ []))
+            ≡ answered (shipped (text_bytes code.now) call None
+            (world_of self.old.world) (low a ∷ low b ∷ low c ∷ []))
             (machine_of self.old)) }
     {
         match call {

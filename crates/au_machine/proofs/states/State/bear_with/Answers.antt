@@ -36,7 +36,8 @@ returns-in-AcquireTerminal c =
 pub returns-in_default : goal.returns-in_default
 returns-in_default c =
     let s = c.args.self.now in
-    not_bearing (text_bytes c.args.code.now) c.args.of (world_of s.world) (low c.args.a) (machine_of s) c.args.call
+    not_bearing (text_bytes c.args.code.now) c.args.of (world_of s.world) (low c.args.a)
+    (machine_of s) c.args.call
     (record {
       not_make_box = c.in_default.not-MakeBox;
       not_acquire_terminal = c.in_default.not-AcquireTerminal;

@@ -18,14 +18,16 @@ returns-in-ReplaceNth c =
     let bytes_of = text_bytes c.args.code.now in
     let w = world_of s.world in
     let go : ShippedCall → Next =
-    λ call. answered (shipped bytes_of call None w (low c.args.a ∷ low c.args.b ∷ low c.args.c ∷ [])) (machine_of s) in
+    λ call. answered (shipped bytes_of call None w (low c.args.a ∷ low c.args.b ∷ low c.args.c ∷ []))
+    (machine_of s) in
     come_to c.replace_nth.result c.replace_nth.new.self _ _
     (ap go (sym c.in-ReplaceNth.is)) c.replace_nth.ensures
 
 pub returns : goal.returns
 returns c =
     let s = c.args.self.now in
-    not_of_three (text_bytes c.args.code.now) (world_of s.world) (low c.args.a) (low c.args.b) (low c.args.c) (machine_of s) c.args.call
+    not_of_three (text_bytes c.args.code.now) (world_of s.world) (low c.args.a) (low c.args.b)
+    (low c.args.c) (machine_of s) c.args.call
     (record {
       not_replace_nth = c.in_default.not-ReplaceNth;
     })

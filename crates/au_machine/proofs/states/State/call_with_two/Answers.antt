@@ -58,7 +58,8 @@ returns-in-WriteByte c =
 pub returns : goal.returns
 returns c =
     let s = c.args.self.now in
-    not_of_two (text_bytes c.args.code.now) (world_of s.world) (low c.args.a) (low c.args.b) (machine_of s) c.args.call
+    not_of_two (text_bytes c.args.code.now) (world_of s.world) (low c.args.a) (low c.args.b)
+    (machine_of s) c.args.call
     (record {
       not_swap = c.in_default.not-Swap;
       not_insert_back = c.in_default.not-InsertBack;
