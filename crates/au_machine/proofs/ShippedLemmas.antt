@@ -21,14 +21,16 @@ use Rattle.au_machine.specs.States.{machine_with, machine_of}
 use Rattle.au_machine.proofs.StateLemmas.{world_changed, pushed_on, gone_on}
 
 -- an answer has its own world, whatever the machine's is
-from_other_world : (one : Answer ℕ ℕ) (w : LowWorld) (m : Machine) → answered one (in_world w m) ≡ answered one m
+from_other_world : (one : Answer ℕ ℕ) (w : LowWorld) (m : Machine)
+    → answered one (in_world w m) ≡ answered one m
 from_other_world (gives value world) w m = refl
 from_other_world (writes bytes world) w m = refl
 from_other_world waits w m = refl
 from_other_world (aborts fault world) w m = refl
 from_other_world none w m = refl
 
-module _ (function place : ℕ) (operands : List Cell × List (List Cell)) (borrows : List ℕ × List (List ℕ)) (backs : List Back) where
+module _ (function place : ℕ) (operands : List Cell × List (List Cell)) (borrows : List ℕ × List (List ℕ))
+    (backs : List Back) where
   abbrev In : World → Machine
   In w = machine_with function place operands borrows backs (top_frame w) (world_of w)
 
@@ -52,7 +54,8 @@ module _ (function place : ℕ) (operands : List Cell × List (List Cell)) (borr
       (world_changed function place operands borrows backs w new world told frame)
 
 -- what a call comes to by something that is found, or isn't there
-pub from_found : {A : Type 0} (found : Option A) (one : A) (go : A → Answer ℕ ℕ) (m : Machine) → Some one ≡ found
+pub from_found : {A : Type 0} (found : Option A) (one : A) (go : A → Answer ℕ ℕ) (m : Machine)
+    → Some one ≡ found
     → answered (go one) m ≡ answered (given found go) m
 from_found found one go m is = ap (λ (it : Option _). answered (given it go) m) is
 
@@ -61,7 +64,8 @@ pub from_none : {A : Type 0} (found : Option A) (go : A → Answer ℕ ℕ) (m :
 from_none found go m is = ap (λ (it : Option _). answered (given it go) m) is
 
 -- what a call comes to by a reference that reaches a value of a form, or doesn't
-module _ {A : Type 0} (form : Low → Option A) (w : LowWorld) (go : ℕ → A → Answer ℕ ℕ) (value : Low) (m : Machine) where
+module _ {A : Type 0} (form : Low → Option A) (w : LowWorld) (go : ℕ → A → Answer ℕ ℕ)
+    (value : Low) (m : Machine) where
   pub use_found : (borrow : ℕ) (one : A) → Some (borrow, one) ≡ reached_by form value w
       → answered (go borrow one) m ≡ answered (use_of value w (λ b place held. given (form held) (go b))) m
   use_found borrow one is =
@@ -87,13 +91,16 @@ not_byte c differs = refl
 -- bytes are written, with Unit pushed
 pub writes_on : (s : State) (bytes all : List ℕ) (operands : List Cell × List (List Cell)) → bytes ≡ all
     → operands ≡ (s.operands.0 ++ cell.Unit ∷ [], s.operands.1)
-    → machine.writes bytes (machine_with s.function (s.place + 1) operands s.borrows (reverse s.backs.items) (top_frame s.world) (world_of s.world))
+    → machine.writes bytes (machine_with s.function (s.place + 1) operands s.borrows
+    (reverse s.backs.items) (top_frame s.world) (world_of s.world))
     ≡ machine.writes all (onward (pushed unit (machine_of s)))
 writes_on s bytes all operands same is =
     let back = reverse s.backs.items in
     let w = world_of s.world in
-    ap (λ (b : List ℕ). machine.writes b (machine_with s.function (s.place + 1) operands s.borrows back (top_frame s.world) w)) same
+    ap (λ (b : List ℕ). machine.writes b (machine_with s.function (s.place + 1) operands s.borrows back
+    (top_frame s.world) w)) same
     ∙ ap (machine.writes all) (gone_on s.function s.place operands s.borrows back (top_frame s.world) w
-    ∙ ap onward (pushed_on s.function s.place s.borrows back (top_frame s.world) w s.operands operands cell.Unit
+    ∙ ap onward (pushed_on s.function s.place s.borrows back
+    (top_frame s.world) w s.operands operands cell.Unit
     (ap (λ (p : List Cell × List (List Cell)). p.0) is) (ap (λ (p : List Cell × List (List Cell)). p.1) is)
     ∙ ap (λ value. pushed value (machine_of s)) unit_is))

@@ -21,7 +21,8 @@ impl State {
     pub fn swap(&mut self, place: &Cell, new: Cell) -> Result<Turn, Memory>
         requires { self.now.place < most_place }
         ensures { IfOk result (λ turn. turned turn self.new
-            ≡ answered (call.swap_call (world_of self.old.world) (low place.now) (low new)) (machine_of self.old)) }
+            ≡ answered (call.swap_call (world_of self.old.world) (low place.now) (low new))
+            (machine_of self.old)) }
     {
         let one = self.world.swap(place, new)?;
         self.answer(one)
@@ -31,7 +32,8 @@ impl State {
     pub fn make_box(&mut self, alloc: Global, of: u32, content: Cell) -> Result<Turn, Memory>
         requires { self.now.place < most_place }
         ensures { IfOk result (λ turn. turned turn self.new
-            ≡ answered (call.make_box (Some of) (world_of self.old.world) (low content)) (machine_of self.old)) }
+            ≡ answered (call.make_box (Some of) (world_of self.old.world) (low content))
+            (machine_of self.old)) }
     {
         let one = self.world.make_box(alloc, of, content)?;
         self.answer(one)

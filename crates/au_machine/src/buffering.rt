@@ -31,7 +31,8 @@ impl State {
     pub fn destroy_empty(&mut self, buffer: &Cell) -> Result<Turn, Memory>
         requires { self.now.place < most_place }
         ensures { IfOk result (λ turn. turned turn self.new
-            ≡ answered (call.destroy_empty (world_of self.old.world) (low buffer.now)) (machine_of self.old)) }
+            ≡ answered (call.destroy_empty (world_of self.old.world) (low buffer.now))
+            (machine_of self.old)) }
     {
         let one = self.world.destroy_empty(buffer)?;
         self.answer(one)
@@ -41,7 +42,8 @@ impl State {
     pub fn length(&mut self, reference: &Cell) -> Result<Turn, Memory>
         requires { self.now.place < most_place }
         ensures { IfOk result (λ turn. turned turn self.new
-            ≡ answered (call.length_call (world_of self.old.world) (low reference.now)) (machine_of self.old)) }
+            ≡ answered (call.length_call (world_of self.old.world) (low reference.now))
+            (machine_of self.old)) }
     {
         let one = self.world.length(reference)?;
         self.answer(one)
@@ -51,7 +53,8 @@ impl State {
     pub fn insert_back(&mut self, reference: &Cell, new: Cell) -> Result<Turn, Memory>
         requires { self.now.place < most_place }
         ensures { IfOk result (λ turn. turned turn self.new
-            ≡ answered (call.insert_back (world_of self.old.world) (low reference.now) (low new)) (machine_of self.old)) }
+            ≡ answered (call.insert_back (world_of self.old.world) (low reference.now) (low new))
+            (machine_of self.old)) }
     {
         let one = self.world.insert_back(reference, new)?;
         self.answer(one)
@@ -61,7 +64,8 @@ impl State {
     pub fn remove_back(&mut self, reference: &Cell) -> Result<Turn, Memory>
         requires { self.now.place < most_place }
         ensures { IfOk result (λ turn. turned turn self.new
-            ≡ answered (call.remove_back (world_of self.old.world) (low reference.now)) (machine_of self.old)) }
+            ≡ answered (call.remove_back (world_of self.old.world) (low reference.now))
+            (machine_of self.old)) }
     {
         let one = self.world.remove_back(reference)?;
         self.answer(one)
@@ -71,7 +75,8 @@ impl State {
     pub fn nth(&mut self, alloc: Global, reference: &Cell, index: &Cell) -> Result<Turn, Memory>
         requires { self.now.place < most_place }
         ensures { IfOk result (λ turn. turned turn self.new
-            ≡ answered (call.nth_call (world_of self.old.world) (low reference.now) (low index.now)) (machine_of self.old)) }
+            ≡ answered (call.nth_call (world_of self.old.world) (low reference.now) (low index.now))
+            (machine_of self.old)) }
     {
         let one = self.world.nth(alloc, reference, index)?;
         self.answer(one)
@@ -82,7 +87,8 @@ impl State {
     pub fn replace_nth(&mut self, reference: &Cell, index: &Cell, new: Cell) -> Result<Turn, Memory>
         requires { self.now.place < most_place }
         ensures { IfOk result (λ turn. turned turn self.new
-            ≡ answered (call.replace_nth (world_of self.old.world) (low reference.now) (low index.now) (low new)) (machine_of self.old)) }
+            ≡ answered (call.replace_nth (world_of self.old.world)
+            (low reference.now) (low index.now) (low new)) (machine_of self.old)) }
     {
         let one = self.world.replace_nth(reference, index, new)?;
         self.answer(one)

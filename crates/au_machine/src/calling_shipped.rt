@@ -1,7 +1,7 @@
 //! Shipped calls by their arguments.
 
 ghost use Rattle.std.specs.Prelude.{◌≡◌, ◌<◌, ◌∷◌, [], Some, None, IfOk};
-ghost use Rattle.au_effects.specs.Calls.{shipped};
+ghost use Rattle.au_effects.specs.Calls.{arity, shipped};
 ghost use Rattle.au_low.specs.Instructions.{answered, text_bytes};
 ghost use Rattle.au_cells.specs.Cells.{low};
 ghost use Rattle.au_stores.specs.Stores.{world_of};
@@ -14,13 +14,35 @@ use au_low::Code;
 use au_shipped::ShippedCall;
 use std::alloc::Global;
 
+/// How many arguments a shipped call has.
+pub fn arity(call: ShippedCall) -> usize
+    ensures { result ≡ arity call }
+{
+    match call {
+        ShippedCall::MakeEmpty => 0,
+        ShippedCall::Swap => 2,
+        ShippedCall::InsertBack => 2,
+        ShippedCall::Nth => 2,
+        ShippedCall::WriteByte => 2,
+        ShippedCall::Wrap(_, _) => 2,
+        ShippedCall::ReplaceNth => 3,
+        _ => 1,
+    }
+}
+
 impl State {
     /// Does a shipped call of one argument, which makes no birth.
     ///
     /// # Errors
     ///
     /// `Memory` when memory runs out, as in the calls below.
-    pub fn call_with(&mut self, alloc: Global, code: &Code, call: ShippedCall, a: &Cell) -> Result<Turn, Memory>
+    pub fn call_with(
+        &mut self,
+        alloc: Global,
+        code: &Code,
+        call: ShippedCall,
+        a: &Cell,
+    ) -> Result<Turn, Memory>
         requires { self.now.place < most_place }
         ensures { IfOk result (λ turn. turned turn self.new
             ≡ answered (shipped (text_bytes code.now) call None (world_of self.old.world) (low a.now ∷ []))
@@ -35,18 +57,6 @@ impl State {
             ShippedCall::PrintLnBool => self.print_truth(true, a),
             ShippedCall::SpanLength => self.span_length(code, a),
             ShippedCall::Abort => Ok(self.abort(a)),
-            _ => self.call_on_stores(alloc, code, call, a),
-        }
-    }
-
-    /// The same of one that neither prints nor is on a text.
-    fn call_on_stores(&mut self, alloc: Global, code: &Code, call: ShippedCall, a: &Cell) -> Result<Turn, Memory>
-        requires { self.now.place < most_place }
-        ensures { IfOk result (λ turn. turned turn self.new
-            ≡ answered (shipped (text_bytes code.now) call None (world_of self.old.world) (low a.now ∷ []))
-            (machine_of self.old)) }
-    {
-        match call {
             ShippedCall::SurrenderRoot => self.surrender_root(a),
             ShippedCall::Unbox => self.unbox(a),
             ShippedCall::BoxGet => self.box_get(alloc, a),
@@ -61,10 +71,18 @@ impl State {
     }
 
     /// Does a shipped call of two arguments.
-    pub fn call_with_two(&mut self, alloc: Global, code: &Code, call: ShippedCall, a: Cell, b: Cell) -> Result<Turn, Memory>
+    pub fn call_with_two(
+        &mut self,
+        alloc: Global,
+        code: &Code,
+        call: ShippedCall,
+        a: Cell,
+        b: Cell,
+    ) -> Result<Turn, Memory>
         requires { self.now.place < most_place }
         ensures { IfOk result (λ turn. turned turn self.new
-            ≡ answered (shipped (text_bytes code.now) call None (world_of self.old.world) (low a ∷ low b ∷ []))
+            ≡ answered (shipped (text_bytes code.now) call None
+            (world_of self.old.world) (low a ∷ low b ∷ []))
             (machine_of self.old)) }
     {
         match call {
@@ -72,6 +90,48 @@ impl State {
             ShippedCall::InsertBack => self.insert_back(&a, b),
             ShippedCall::Nth => self.nth(alloc, &a, &b),
             ShippedCall::WriteByte => self.write_byte(&a, &b),
+            _ => Ok(Turn::Stuck),
+        }
+    }
+
+    /// Does a shipped call of three arguments.
+    pub fn call_with_three(
+        &mut self,
+        code: &Code,
+        call: ShippedCall,
+        a: Cell,
+        b: Cell,
+        c: Cell,
+    ) -> Result<Turn, Memory>
+        requires { self.now.place < most_place }
+        ensures { IfOk result (λ turn. turned turn self.new
+            ≡ answered (shipped (text_bytes code.now) call None
+            (world_of self.old.world) (low a ∷ low b ∷ low c ∷ []))
+            (machine_of self.old)) }
+    {
+        match call {
+            ShippedCall::ReplaceNth => self.replace_nth(&a, &b, c),
+            _ => Ok(Turn::Stuck),
+        }
+    }
+
+    /// Does a shipped call of one argument that makes a birth of a type.
+    pub fn bear_with(
+        &mut self,
+        alloc: Global,
+        code: &Code,
+        call: ShippedCall,
+        of: u32,
+        a: Cell,
+    ) -> Result<Turn, Memory>
+        requires { self.now.place < most_place }
+        ensures { IfOk result (λ turn. turned turn self.new
+            ≡ answered (shipped (text_bytes code.now) call (Some of) (world_of self.old.world) (low a ∷ []))
+            (machine_of self.old)) }
+    {
+        match call {
+            ShippedCall::MakeBox => self.make_box(alloc, of, a),
+            ShippedCall::AcquireTerminal => self.acquire_terminal(alloc, of, &a),
             _ => Ok(Turn::Stuck),
         }
     }

@@ -56,7 +56,8 @@ impl State {
     pub fn print_number(&mut self, line: bool, number: &Cell) -> Result<Turn, Memory>
         requires { self.now.place < most_place }
         ensures { IfOk result (λ turn. turned turn self.new
-            ≡ answered (call.print_number line (world_of self.old.world) (low number.now)) (machine_of self.old)) }
+            ≡ answered (call.print_number line (world_of self.old.world) (low number.now))
+            (machine_of self.old)) }
     {
         match number_in(number) {
             Some((_kind, z)) => {
@@ -71,7 +72,8 @@ impl State {
     pub fn print_truth(&mut self, line: bool, truth: &Cell) -> Result<Turn, Memory>
         requires { self.now.place < most_place }
         ensures { IfOk result (λ turn. turned turn self.new
-            ≡ answered (call.print_truth line (world_of self.old.world) (low truth.now)) (machine_of self.old)) }
+            ≡ answered (call.print_truth line (world_of self.old.world) (low truth.now))
+            (machine_of self.old)) }
     {
         match truth_in(truth) {
             Some(truth) => self.write_out(line, word_of(truth)),

@@ -94,7 +94,8 @@ impl State {
     pub fn release_terminal(&mut self, terminal: &Cell) -> Result<Turn, Memory>
         requires { self.now.place < most_place }
         ensures { IfOk result (λ turn. turned turn self.new
-            ≡ answered (call.release_terminal (world_of self.old.world) (low terminal.now)) (machine_of self.old)) }
+            ≡ answered (call.release_terminal (world_of self.old.world) (low terminal.now))
+            (machine_of self.old)) }
     {
         let Some(id) = terminal_in(terminal) else {
             return Ok(Turn::Stuck);
@@ -140,7 +141,8 @@ impl State {
     ) -> Result<Turn, Memory>
         requires { self.now.place < most_place }
         ensures { IfOk result (λ turn. turned turn self.new
-            ≡ answered (call.byte_read byte (world_of self.old.world) (low reference.now)) (machine_of self.old)) }
+            ≡ answered (call.byte_read byte (world_of self.old.world) (low reference.now))
+            (machine_of self.old)) }
     {
         let Some((borrow, _id)) = terminal_reached(&self.world, reference) else {
             return Ok(Turn::Stuck);

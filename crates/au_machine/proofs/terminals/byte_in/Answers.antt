@@ -20,7 +20,8 @@ use Rattle.au_machine.proofs.ShippedLemmas.{answered_in, own_world, written_in, 
 use Rattle.au_machine.proofs.terminals.byte_in.Goals as goal
 
 pub returns-in-Nat8 : goal.returns-in-Nat8
-returns-in-Nat8 c = sym (ap (λ (one : Cell). natural_in (number_of Nat8 (low one))) c.in-Nat8.is ∙ byte_is c.in-Nat8.n)
+returns-in-Nat8 c = sym (ap (λ (one : Cell). natural_in (number_of Nat8 (low one))) c.in-Nat8.is
+    ∙ byte_is c.in-Nat8.n)
 
 pub returns-in_default : goal.returns-in_default
 returns-in_default c = sym (not_byte c.args.cell.now c.in_default.not-Nat8)

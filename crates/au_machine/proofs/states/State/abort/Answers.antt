@@ -25,7 +25,8 @@ returns-in-Some c =
     let own = reverse s.backs.items in
     let w = world_of s.world in
     let go : ℕ → Answer ℕ ℕ = λ t. aborts (called t) w in
-    ap (machine.aborts (called c.in-Some.number)) (own_world s.function s.place s.operands s.borrows own s.world)
+    ap (machine.aborts (called c.in-Some.number))
+    (own_world s.function s.place s.operands s.borrows own s.world)
     ∙ from_found _ _ go (machine_of s) c.in-Some.ensures
 
 pub returns-in-None : goal.returns-in-None

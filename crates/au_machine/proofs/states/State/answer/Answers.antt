@@ -25,7 +25,8 @@ returns-in-Aborts c =
     let s = c.args.self.now in
     let own = reverse s.backs.items in
     let go : Answered → _ = λ one. answered (answer_of one (world_of s.world)) (machine_of s) in
-    ap (machine.aborts (fault_of c.in-Aborts.why)) (own_world s.function s.place s.operands s.borrows own s.world)
+    ap (machine.aborts (fault_of c.in-Aborts.why))
+    (own_world s.function s.place s.operands s.borrows own s.world)
     ∙ ap go (sym c.in-Aborts.is)
 
 pub returns-in-NoRule : goal.returns-in-NoRule

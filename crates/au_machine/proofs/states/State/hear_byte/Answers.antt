@@ -38,5 +38,6 @@ returns c =
     (ap (λ (v : Low). gives v (world_of c.tell_use.new.self)) c.in_ok-cell.ensures
     ∙ ap (gives (optional (byte_value c.args.byte))) c.in_ok-tell_use.ensures.world)
     c.in_ok-tell_use.ensures.frame
-    ∙ use_found terminal_in w go (low c.args.reference.now) (machine_of s) c.in-Some.borrow c.in-Some._id c.in-Some.ensures)
+    ∙ use_found terminal_in w go (low c.args.reference.now)
+    (machine_of s) c.in-Some.borrow c.in-Some._id c.in-Some.ensures)
     c.answer.ensures

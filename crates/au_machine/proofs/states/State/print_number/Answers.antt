@@ -1,4 +1,6 @@
-use Rattle.std.proofs.Common.{ap, sym, ◌∙◌, refl, reverse, Some, None, List, [], ◌∷◌, Option, ℕ, ℤ, pos, length, Bool}
+use Rattle.std.specs.Fmt.{signed_decimal}
+use Rattle.std.specs.Int.{w128}
+use Rattle.std.proofs.Common.{rules, FitsSigned, to_z-of_z, ap, sym, ◌∙◌, refl, reverse, Some, None, List, [], ◌∷◌, Option, ℕ, ℤ, pos, length, Bool}
 use Rattle.au_base.specs.declared.kinds.IntKind.{IntKind}
 use Rattle.au_base.specs.declared.kinds.IntKind.TheVariants.{Nat8, Index}
 use Rattle.au_effects.specs.Values.{unit, number, optional}
@@ -25,8 +27,10 @@ returns-in-Some c =
     let own = reverse s.backs.items in
     let w = world_of s.world in
     let go : List ℕ → Answer ℕ ℕ = λ bytes. writes (in_line c.args.line bytes) w in
+    let fits : FitsSigned w128 c.in-Some.z = search rules in
     come_to c.write_out.result c.write_out.new.self _ _
-    (ap (λ (b : List ℕ). machine.writes (in_line c.args.line b) (onward (pushed unit (machine_of s)))) (c.as_bytes.ensures ∙ c.format.ensures.text)
+    (ap (λ (b : List ℕ). machine.writes (in_line c.args.line b) (onward (pushed unit (machine_of s))))
+    (c.as_bytes.ensures.value ∙ c.format.ensures.text ∙ ap signed_decimal (to_z-of_z fits))
     ∙ written_in s.function s.place s.operands s.borrows own s.world s.world _ _ refl refl
     ∙ from_found _ _ go (machine_of s) (ap number_bytes c.in-Some.ensures.is)) c.write_out.ensures
 

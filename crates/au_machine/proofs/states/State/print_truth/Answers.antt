@@ -26,7 +26,8 @@ returns-in-Some c =
     let w = world_of s.world in
     let go : List ℕ → Answer ℕ ℕ = λ bytes. writes (in_line c.args.line bytes) w in
     come_to c.write_out.result c.write_out.new.self _ _
-    (ap (λ (b : List ℕ). machine.writes (in_line c.args.line b) (onward (pushed unit (machine_of s)))) c.word_of.ensures
+    (ap (λ (b : List ℕ). machine.writes (in_line c.args.line b) (onward (pushed unit
+    (machine_of s)))) c.word_of.ensures
     ∙ written_in s.function s.place s.operands s.borrows own s.world s.world _ _ refl refl
     ∙ from_found _ _ go (machine_of s) (ap truth_bytes c.in-Some.ensures)) c.write_out.ensures
 

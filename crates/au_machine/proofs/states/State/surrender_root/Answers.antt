@@ -35,6 +35,7 @@ returns c =
     let go : ℕ → Answer ℕ ℕ = λ id. gives unit (spends (Some id) w) in
     come_to c.answer.result c.answer.new.self _ _
     (answered_in s.function s.place s.operands s.borrows own s.world c.spend.new.self _ _
-    (ap (λ (v : Low). gives v (world_of c.spend.new.self)) unit_is ∙ ap (gives unit) c.in_ok-spend.ensures.world)
+    (ap (λ (v : Low). gives v (world_of c.spend.new.self)) unit_is
+    ∙ ap (gives unit) c.in_ok-spend.ensures.world)
     c.in_ok-spend.ensures.frame
     ∙ from_found _ _ go (machine_of s) c.in-Some.ensures) c.answer.ensures

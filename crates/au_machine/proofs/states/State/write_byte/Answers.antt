@@ -24,7 +24,8 @@ returns-in_default c =
     let s = c.args.self.now in
     let own = reverse s.backs.items in
     let w = world_of s.world in
-    let go : ℕ → ℕ → Answer ℕ ℕ = λ b id. given (natural_in (number_of Nat8 (low c.args.byte.now))) (λ n. writes (n ∷ []) (tells (used b) w)) in
+    let go : ℕ → ℕ → Answer ℕ ℕ = λ b id. given (natural_in (number_of Nat8 (low c.args.byte.now)))
+    (λ n. writes (n ∷ []) (tells (used b) w)) in
     use_none terminal_in w go (low c.args.reference.now) (machine_of s) c.in_default.ensures
 
 pub returns-in_default-byte_in : goal.returns-in_default-byte_in
@@ -32,18 +33,25 @@ returns-in_default-byte_in c =
     let s = c.args.self.now in
     let own = reverse s.backs.items in
     let w = world_of s.world in
-    let go : ℕ → ℕ → Answer ℕ ℕ = λ b id. given (natural_in (number_of Nat8 (low c.args.byte.now))) (λ n. writes (n ∷ []) (tells (used b) w)) in
-    from_none _ (λ n. writes (n ∷ []) (tells (used c.in-Some.borrow) w)) (machine_of s) c.in_default-byte_in.ensures
-    ∙ use_found terminal_in w go (low c.args.reference.now) (machine_of s) c.in-Some.borrow c.in-Some._id c.in-Some.ensures
+    let go : ℕ → ℕ → Answer ℕ ℕ = λ b id. given (natural_in (number_of Nat8 (low c.args.byte.now)))
+    (λ n. writes (n ∷ []) (tells (used b) w)) in
+    from_none _ (λ n. writes (n ∷ []) (tells (used c.in-Some.borrow) w))
+    (machine_of s) c.in_default-byte_in.ensures
+    ∙ use_found terminal_in w go (low c.args.reference.now)
+    (machine_of s) c.in-Some.borrow c.in-Some._id c.in-Some.ensures
 
 pub returns : goal.returns
 returns c =
     let s = c.args.self.now in
     let own = reverse s.backs.items in
     let w = world_of s.world in
-    let go : ℕ → ℕ → Answer ℕ ℕ = λ b id. given (natural_in (number_of Nat8 (low c.args.byte.now))) (λ n. writes (n ∷ []) (tells (used b) w)) in
+    let go : ℕ → ℕ → Answer ℕ ℕ = λ b id. given (natural_in (number_of Nat8 (low c.args.byte.now)))
+    (λ n. writes (n ∷ []) (tells (used b) w)) in
     come_to c.write_out.result c.write_out.new.self _ _
-    (written_in s.function s.place s.operands s.borrows own s.world c.tell_use.new.self _ _ c.in_ok-tell_use.ensures.world c.in_ok-tell_use.ensures.frame
-    ∙ from_found _ _ (λ n. writes (n ∷ []) (tells (used c.in-Some.borrow) w)) (machine_of s) c.in-Some-byte_in.ensures
-    ∙ use_found terminal_in w go (low c.args.reference.now) (machine_of s) c.in-Some.borrow c.in-Some._id c.in-Some.ensures)
+    (written_in s.function s.place s.operands s.borrows own s.world c.tell_use.new.self _ _
+    c.in_ok-tell_use.ensures.world c.in_ok-tell_use.ensures.frame
+    ∙ from_found _ _ (λ n. writes (n ∷ []) (tells (used c.in-Some.borrow) w))
+    (machine_of s) c.in-Some-byte_in.ensures
+    ∙ use_found terminal_in w go (low c.args.reference.now)
+    (machine_of s) c.in-Some.borrow c.in-Some._id c.in-Some.ensures)
     c.write_out.ensures

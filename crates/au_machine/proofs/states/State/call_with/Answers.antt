@@ -1,0 +1,221 @@
+use Rattle.std.proofs.Common.{◌≡◌, ap, sym, ◌∙◌, refl, reverse, Some, None, List, [], ◌∷◌, Option, ℕ}
+use Rattle.au_shipped.specs.declared.prims.ShippedCall.{ShippedCall}
+use Rattle.au_shipped.specs.declared.prims.ShippedCall.TheVariants as prim
+use Rattle.au_effects.specs.Calls.{shipped}
+use Rattle.au_low.specs.Machines.{Next}
+use Rattle.au_low.specs.Instructions.{answered, text_bytes}
+use Rattle.au_cells.specs.Cells.{low}
+use Rattle.au_stores.specs.Stores.{world_of}
+use Rattle.au_machine.specs.States.{machine_of}
+use Rattle.au_machine.proofs.StateLemmas.{come_to}
+use Rattle.au_machine.proofs.CallingLemmas.{not_of_one}
+use Rattle.au_machine.proofs.states.State.call_with.Goals as goal
+
+pub returns-in-PrintText : goal.returns-in-PrintText
+unfolding shipped
+returns-in-PrintText c =
+    let s = c.args.self.now in
+    let bytes_of = text_bytes c.args.code.now in
+    let w = world_of s.world in
+    let go : ShippedCall → Next =
+    λ call. answered (shipped bytes_of call None w (low c.args.a.now ∷ [])) (machine_of s) in
+    come_to c.print_text.result c.print_text.new.self _ _
+    (ap go (sym c.in-PrintText.is)) c.print_text.ensures
+
+pub returns-in-PrintInt : goal.returns-in-PrintInt
+unfolding shipped
+returns-in-PrintInt c =
+    let s = c.args.self.now in
+    let bytes_of = text_bytes c.args.code.now in
+    let w = world_of s.world in
+    let go : ShippedCall → Next =
+    λ call. answered (shipped bytes_of call None w (low c.args.a.now ∷ [])) (machine_of s) in
+    come_to c.print_number.result c.print_number.new.self _ _
+    (ap go (sym c.in-PrintInt.is)) c.print_number.ensures
+
+pub returns-in-PrintBool : goal.returns-in-PrintBool
+unfolding shipped
+returns-in-PrintBool c =
+    let s = c.args.self.now in
+    let bytes_of = text_bytes c.args.code.now in
+    let w = world_of s.world in
+    let go : ShippedCall → Next =
+    λ call. answered (shipped bytes_of call None w (low c.args.a.now ∷ [])) (machine_of s) in
+    come_to c.print_truth.result c.print_truth.new.self _ _
+    (ap go (sym c.in-PrintBool.is)) c.print_truth.ensures
+
+pub returns-in-PrintLnText : goal.returns-in-PrintLnText
+unfolding shipped
+returns-in-PrintLnText c =
+    let s = c.args.self.now in
+    let bytes_of = text_bytes c.args.code.now in
+    let w = world_of s.world in
+    let go : ShippedCall → Next =
+    λ call. answered (shipped bytes_of call None w (low c.args.a.now ∷ [])) (machine_of s) in
+    come_to c.print_text-in-PrintLnText.result c.print_text-in-PrintLnText.new.self _ _
+    (ap go (sym c.in-PrintLnText.is)) c.print_text-in-PrintLnText.ensures
+
+pub returns-in-PrintLnInt : goal.returns-in-PrintLnInt
+unfolding shipped
+returns-in-PrintLnInt c =
+    let s = c.args.self.now in
+    let bytes_of = text_bytes c.args.code.now in
+    let w = world_of s.world in
+    let go : ShippedCall → Next =
+    λ call. answered (shipped bytes_of call None w (low c.args.a.now ∷ [])) (machine_of s) in
+    come_to c.print_number-in-PrintLnInt.result c.print_number-in-PrintLnInt.new.self _ _
+    (ap go (sym c.in-PrintLnInt.is)) c.print_number-in-PrintLnInt.ensures
+
+pub returns-in-PrintLnBool : goal.returns-in-PrintLnBool
+unfolding shipped
+returns-in-PrintLnBool c =
+    let s = c.args.self.now in
+    let bytes_of = text_bytes c.args.code.now in
+    let w = world_of s.world in
+    let go : ShippedCall → Next =
+    λ call. answered (shipped bytes_of call None w (low c.args.a.now ∷ [])) (machine_of s) in
+    come_to c.print_truth-in-PrintLnBool.result c.print_truth-in-PrintLnBool.new.self _ _
+    (ap go (sym c.in-PrintLnBool.is)) c.print_truth-in-PrintLnBool.ensures
+
+pub returns-in-SpanLength : goal.returns-in-SpanLength
+unfolding shipped
+returns-in-SpanLength c =
+    let s = c.args.self.now in
+    let bytes_of = text_bytes c.args.code.now in
+    let w = world_of s.world in
+    let go : ShippedCall → Next =
+    λ call. answered (shipped bytes_of call None w (low c.args.a.now ∷ [])) (machine_of s) in
+    come_to c.span_length.result c.span_length.new.self _ _
+    (ap go (sym c.in-SpanLength.is)) c.span_length.ensures
+
+pub returns-in-Abort : goal.returns-in-Abort
+unfolding shipped
+returns-in-Abort c =
+    let s = c.args.self.now in
+    let bytes_of = text_bytes c.args.code.now in
+    let w = world_of s.world in
+    let go : ShippedCall → Next =
+    λ call. answered (shipped bytes_of call None w (low c.args.a.now ∷ [])) (machine_of s) in
+    c.abort.ensures ∙ ap go (sym c.in-Abort.is)
+
+pub returns-in-SurrenderRoot : goal.returns-in-SurrenderRoot
+unfolding shipped
+returns-in-SurrenderRoot c =
+    let s = c.args.self.now in
+    let bytes_of = text_bytes c.args.code.now in
+    let w = world_of s.world in
+    let go : ShippedCall → Next =
+    λ call. answered (shipped bytes_of call None w (low c.args.a.now ∷ [])) (machine_of s) in
+    come_to c.surrender_root.result c.surrender_root.new.self _ _
+    (ap go (sym c.in-SurrenderRoot.is)) c.surrender_root.ensures
+
+pub returns-in-Unbox : goal.returns-in-Unbox
+unfolding shipped
+returns-in-Unbox c =
+    let s = c.args.self.now in
+    let bytes_of = text_bytes c.args.code.now in
+    let w = world_of s.world in
+    let go : ShippedCall → Next =
+    λ call. answered (shipped bytes_of call None w (low c.args.a.now ∷ [])) (machine_of s) in
+    come_to c.unbox.result c.unbox.new.self _ _
+    (ap go (sym c.in-Unbox.is)) c.unbox.ensures
+
+pub returns-in-BoxGet : goal.returns-in-BoxGet
+unfolding shipped
+returns-in-BoxGet c =
+    let s = c.args.self.now in
+    let bytes_of = text_bytes c.args.code.now in
+    let w = world_of s.world in
+    let go : ShippedCall → Next =
+    λ call. answered (shipped bytes_of call None w (low c.args.a.now ∷ [])) (machine_of s) in
+    come_to c.box_get.result c.box_get.new.self _ _
+    (ap go (sym c.in-BoxGet.is)) c.box_get.ensures
+
+pub returns-in-BoxGetMut : goal.returns-in-BoxGetMut
+unfolding shipped
+returns-in-BoxGetMut c =
+    let s = c.args.self.now in
+    let bytes_of = text_bytes c.args.code.now in
+    let w = world_of s.world in
+    let go : ShippedCall → Next =
+    λ call. answered (shipped bytes_of call None w (low c.args.a.now ∷ [])) (machine_of s) in
+    come_to c.box_get-in-BoxGetMut.result c.box_get-in-BoxGetMut.new.self _ _
+    (ap go (sym c.in-BoxGetMut.is)) c.box_get-in-BoxGetMut.ensures
+
+pub returns-in-DestroyEmpty : goal.returns-in-DestroyEmpty
+unfolding shipped
+returns-in-DestroyEmpty c =
+    let s = c.args.self.now in
+    let bytes_of = text_bytes c.args.code.now in
+    let w = world_of s.world in
+    let go : ShippedCall → Next =
+    λ call. answered (shipped bytes_of call None w (low c.args.a.now ∷ [])) (machine_of s) in
+    come_to c.destroy_empty.result c.destroy_empty.new.self _ _
+    (ap go (sym c.in-DestroyEmpty.is)) c.destroy_empty.ensures
+
+pub returns-in-Length : goal.returns-in-Length
+unfolding shipped
+returns-in-Length c =
+    let s = c.args.self.now in
+    let bytes_of = text_bytes c.args.code.now in
+    let w = world_of s.world in
+    let go : ShippedCall → Next =
+    λ call. answered (shipped bytes_of call None w (low c.args.a.now ∷ [])) (machine_of s) in
+    come_to c.length.result c.length.new.self _ _
+    (ap go (sym c.in-Length.is)) c.length.ensures
+
+pub returns-in-RemoveBack : goal.returns-in-RemoveBack
+unfolding shipped
+returns-in-RemoveBack c =
+    let s = c.args.self.now in
+    let bytes_of = text_bytes c.args.code.now in
+    let w = world_of s.world in
+    let go : ShippedCall → Next =
+    λ call. answered (shipped bytes_of call None w (low c.args.a.now ∷ [])) (machine_of s) in
+    come_to c.remove_back.result c.remove_back.new.self _ _
+    (ap go (sym c.in-RemoveBack.is)) c.remove_back.ensures
+
+pub returns-in-ReadByte : goal.returns-in-ReadByte
+unfolding shipped
+returns-in-ReadByte c =
+    let s = c.args.self.now in
+    let bytes_of = text_bytes c.args.code.now in
+    let w = world_of s.world in
+    let go : ShippedCall → Next =
+    λ call. answered (shipped bytes_of call None w (low c.args.a.now ∷ [])) (machine_of s) in
+    c.read_byte.ensures ∙ ap go (sym c.in-ReadByte.is)
+
+pub returns-in-ReleaseTerminal : goal.returns-in-ReleaseTerminal
+unfolding shipped
+returns-in-ReleaseTerminal c =
+    let s = c.args.self.now in
+    let bytes_of = text_bytes c.args.code.now in
+    let w = world_of s.world in
+    let go : ShippedCall → Next =
+    λ call. answered (shipped bytes_of call None w (low c.args.a.now ∷ [])) (machine_of s) in
+    come_to c.release_terminal.result c.release_terminal.new.self _ _
+    (ap go (sym c.in-ReleaseTerminal.is)) c.release_terminal.ensures
+
+pub returns-in_default : goal.returns-in_default
+returns-in_default c =
+    let s = c.args.self.now in
+    not_of_one (text_bytes c.args.code.now) (world_of s.world) (low c.args.a.now) (machine_of s) c.args.call
+    (record {
+      not_print_text = c.in_default.not-PrintText;
+      not_print_int = c.in_default.not-PrintInt;
+      not_print_bool = c.in_default.not-PrintBool;
+      not_print_ln_text = c.in_default.not-PrintLnText;
+      not_print_ln_int = c.in_default.not-PrintLnInt;
+      not_print_ln_bool = c.in_default.not-PrintLnBool;
+      not_span_length = c.in_default.not-SpanLength;
+      not_abort = c.in_default.not-Abort;
+      not_surrender_root = c.in_default.not-SurrenderRoot;
+      not_unbox = c.in_default.not-Unbox;
+      not_box_get = c.in_default.not-BoxGet;
+      not_box_get_mut = c.in_default.not-BoxGetMut;
+      not_destroy_empty = c.in_default.not-DestroyEmpty;
+      not_length = c.in_default.not-Length;
+      not_remove_back = c.in_default.not-RemoveBack;
+      not_read_byte = c.in_default.not-ReadByte;
+      not_release_terminal = c.in_default.not-ReleaseTerminal;
+    })
