@@ -1,3 +1,5 @@
+pub mod CallingLemmas
+pub mod PoppingLemmas
+pub mod ShippedLemmas
 pub mod StateLemmas
 pub mod WorldLemmas
-pub mod PoppingLemmas

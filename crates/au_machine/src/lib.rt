@@ -8,15 +8,21 @@
 //! - Where no rule applies, the answer is `Stuck`, and the state isn't used again.
 #![tactic(auto)]
 
+pub mod answering;
 pub mod borrowing;
+pub mod boxing;
+pub mod buffering;
+pub mod calling_shipped;
 pub mod jumping;
 pub mod making;
 pub mod operating;
 pub mod parting;
 pub mod popping;
+pub mod printing;
 pub mod referring;
 pub mod returning;
 pub mod slotting;
 pub mod states;
+pub mod terminals;
 
 pub use states::{State, Turn};
