@@ -176,4 +176,25 @@ impl State {
             None => self.call_with_two(alloc, code, call, a, b),
         }
     }
+
+    /// Does a shipped call with three arguments.
+    pub fn shipped_with_three(
+        &mut self,
+        code: &Code,
+        call: ShippedCall,
+        of: Option<u32>,
+        a: Cell,
+        b: Cell,
+        c: Cell,
+    ) -> Result<Turn, Memory>
+        requires { self.now.place < most_place }
+        ensures { IfOk result (λ turn. turned turn self.new
+            ≡ answered (shipped (text_bytes code.now) call of (world_of self.old.world)
+            (low a ∷ low b ∷ low c ∷ [])) (machine_of self.old)) }
+    {
+        match of {
+            Some(_) => Ok(Turn::Stuck),
+            None => self.call_with_three(code, call, a, b, c),
+        }
+    }
 }
