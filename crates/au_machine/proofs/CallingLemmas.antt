@@ -225,3 +225,67 @@ other_arity prim.RemoveBack others = refl
 other_arity prim.AcquireTerminal others = refl
 other_arity prim.ReadByte others = refl
 other_arity prim.ReleaseTerminal others = refl
+
+-- no call of two arguments has a type
+pub typed_two : (bytes_of : ℕ → List ℕ) (of : ℕ) (w : LowWorld) (a b : Low) (m : Machine) (call : ShippedCall)
+    → stuck ≡ answered (shipped bytes_of call (Some of) w (a ∷ b ∷ [])) m
+unfolding shipped
+typed_two bytes_of of w a b m prim.PrintText = refl
+typed_two bytes_of of w a b m prim.PrintInt = refl
+typed_two bytes_of of w a b m prim.PrintBool = refl
+typed_two bytes_of of w a b m prim.PrintLnText = refl
+typed_two bytes_of of w a b m prim.PrintLnInt = refl
+typed_two bytes_of of w a b m prim.PrintLnBool = refl
+typed_two bytes_of of w a b m (prim.Wrap op kind) = refl
+typed_two bytes_of of w a b m (prim.Convert kind) = refl
+typed_two bytes_of of w a b m prim.SurrenderRoot = refl
+typed_two bytes_of of w a b m prim.Abort = refl
+typed_two bytes_of of w a b m prim.SpanLength = refl
+typed_two bytes_of of w a b m prim.Swap = refl
+typed_two bytes_of of w a b m prim.MakeBox = refl
+typed_two bytes_of of w a b m prim.Unbox = refl
+typed_two bytes_of of w a b m prim.BoxGet = refl
+typed_two bytes_of of w a b m prim.BoxGetMut = refl
+typed_two bytes_of of w a b m prim.MakeEmpty = refl
+typed_two bytes_of of w a b m prim.DestroyEmpty = refl
+typed_two bytes_of of w a b m prim.Length = refl
+typed_two bytes_of of w a b m prim.InsertBack = refl
+typed_two bytes_of of w a b m prim.RemoveBack = refl
+typed_two bytes_of of w a b m prim.Nth = refl
+typed_two bytes_of of w a b m prim.ReplaceNth = refl
+typed_two bytes_of of w a b m prim.AcquireTerminal = refl
+typed_two bytes_of of w a b m prim.ReadByte = refl
+typed_two bytes_of of w a b m prim.WriteByte = refl
+typed_two bytes_of of w a b m prim.ReleaseTerminal = refl
+
+-- nor has one of three
+pub typed_three : (bytes_of : ℕ → List ℕ) (of : ℕ) (w : LowWorld) (a b c : Low) (m : Machine)
+    (call : ShippedCall) → stuck ≡ answered (shipped bytes_of call (Some of) w (a ∷ b ∷ c ∷ [])) m
+unfolding shipped
+typed_three bytes_of of w a b c m prim.PrintText = refl
+typed_three bytes_of of w a b c m prim.PrintInt = refl
+typed_three bytes_of of w a b c m prim.PrintBool = refl
+typed_three bytes_of of w a b c m prim.PrintLnText = refl
+typed_three bytes_of of w a b c m prim.PrintLnInt = refl
+typed_three bytes_of of w a b c m prim.PrintLnBool = refl
+typed_three bytes_of of w a b c m (prim.Wrap op kind) = refl
+typed_three bytes_of of w a b c m (prim.Convert kind) = refl
+typed_three bytes_of of w a b c m prim.SurrenderRoot = refl
+typed_three bytes_of of w a b c m prim.Abort = refl
+typed_three bytes_of of w a b c m prim.SpanLength = refl
+typed_three bytes_of of w a b c m prim.Swap = refl
+typed_three bytes_of of w a b c m prim.MakeBox = refl
+typed_three bytes_of of w a b c m prim.Unbox = refl
+typed_three bytes_of of w a b c m prim.BoxGet = refl
+typed_three bytes_of of w a b c m prim.BoxGetMut = refl
+typed_three bytes_of of w a b c m prim.MakeEmpty = refl
+typed_three bytes_of of w a b c m prim.DestroyEmpty = refl
+typed_three bytes_of of w a b c m prim.Length = refl
+typed_three bytes_of of w a b c m prim.InsertBack = refl
+typed_three bytes_of of w a b c m prim.RemoveBack = refl
+typed_three bytes_of of w a b c m prim.Nth = refl
+typed_three bytes_of of w a b c m prim.ReplaceNth = refl
+typed_three bytes_of of w a b c m prim.AcquireTerminal = refl
+typed_three bytes_of of w a b c m prim.ReadByte = refl
+typed_three bytes_of of w a b c m prim.WriteByte = refl
+typed_three bytes_of of w a b c m prim.ReleaseTerminal = refl

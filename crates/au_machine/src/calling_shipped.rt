@@ -135,4 +135,66 @@ impl State {
             _ => Ok(Turn::Stuck),
         }
     }
+
+    /// Does a shipped call with one argument.
+    pub fn shipped_with(
+        &mut self,
+        alloc: Global,
+        code: &Code,
+        call: ShippedCall,
+        of: Option<u32>,
+        a: Cell,
+    ) -> Result<Turn, Memory>
+        requires { self.now.place < most_place }
+        ensures { IfOk result (λ turn. turned turn self.new
+            ≡ answered (shipped (text_bytes code.now) call of (world_of self.old.world) (low a ∷ []))
+            (machine_of self.old)) }
+    {
+        match of {
+            Some(of) => self.bear_with(alloc, code, call, of, a),
+            None => self.call_with(alloc, code, call, &a),
+        }
+    }
+
+    /// Does a shipped call with two arguments.
+    pub fn shipped_with_two(
+        &mut self,
+        alloc: Global,
+        code: &Code,
+        call: ShippedCall,
+        of: Option<u32>,
+        a: Cell,
+        b: Cell,
+    ) -> Result<Turn, Memory>
+        requires { self.now.place < most_place }
+        ensures { IfOk result (λ turn. turned turn self.new
+            ≡ answered (shipped (text_bytes code.now) call of (world_of self.old.world)
+            (low a ∷ low b ∷ [])) (machine_of self.old)) }
+    {
+        match of {
+            Some(_) => Ok(Turn::Stuck),
+            None => self.call_with_two(alloc, code, call, a, b),
+        }
+    }
+
+    /// Does a shipped call with three arguments.
+    pub fn shipped_with_three(
+        &mut self,
+        code: &Code,
+        call: ShippedCall,
+        of: Option<u32>,
+        a: Cell,
+        b: Cell,
+        c: Cell,
+    ) -> Result<Turn, Memory>
+        requires { self.now.place < most_place }
+        ensures { IfOk result (λ turn. turned turn self.new
+            ≡ answered (shipped (text_bytes code.now) call of (world_of self.old.world)
+            (low a ∷ low b ∷ low c ∷ [])) (machine_of self.old)) }
+    {
+        match of {
+            Some(_) => Ok(Turn::Stuck),
+            None => self.call_with_three(code, call, a, b, c),
+        }
+    }
 }

@@ -1,0 +1,27 @@
+use Rattle.std.proofs.Common.{◌≡◌, ap, sym, ◌∙◌, refl, reverse, Some, None, List, [], ◌∷◌, Option, ℕ}
+use Rattle.au_effects.specs.Calls.{shipped}
+use Rattle.au_low.specs.Machines.{Next}
+use Rattle.au_low.specs.Instructions.{answered, text_bytes}
+use Rattle.au_cells.specs.Cells.{low}
+use Rattle.au_stores.specs.Stores.{world_of}
+use Rattle.au_machine.specs.States.{machine_of}
+use Rattle.au_machine.proofs.StateLemmas.{come_to}
+use Rattle.au_machine.proofs.states.State.shipped_with.Goals as goal
+
+pub returns-in-Some : goal.returns-in-Some
+returns-in-Some c =
+    let s = c.args.self.now in
+    let bytes_of = text_bytes c.args.code.now in
+    let w = world_of s.world in
+    let go : Option ℕ → Next =
+    λ of. answered (shipped bytes_of c.args.call of w (low c.args.a ∷ [])) (machine_of s) in
+    come_to c.bear_with.result c.bear_with.new.self _ _ (ap go (sym c.in-Some.is)) c.bear_with.ensures
+
+pub returns-in-None : goal.returns-in-None
+returns-in-None c =
+    let s = c.args.self.now in
+    let bytes_of = text_bytes c.args.code.now in
+    let w = world_of s.world in
+    let go : Option ℕ → Next =
+    λ of. answered (shipped bytes_of c.args.call of w (low c.args.a ∷ [])) (machine_of s) in
+    come_to c.call_with.result c.call_with.new.self _ _ (ap go (sym c.in-None.is)) c.call_with.ensures
