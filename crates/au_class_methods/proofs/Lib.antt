@@ -1,4 +1,4 @@
 pub mod ListLemmas
 pub mod MethodLemmas
 pub mod RuleLemmas
-pub mod SuitLemmas
+pub mod PuttingLemmas

@@ -1,7 +1,6 @@
 -- What the types mean that are written in the methods of a class and in those of an instance.
-use Rattle.std.specs.Prelude.{◌≡◌, List, [], ◌∷◌, Option}
+use Rattle.std.specs.Prelude.{List, [], ◌∷◌, Option}
 use Rattle.std.specs.Option.{option_map}
-use Rattle.au_syntax.specs.declared.declarations.Universe.TheVariants as universes
 use Rattle.au_syntax.specs.Plain.{Bytes}
 use Rattle.au_syntax.specs.Types.{WrittenType}
 use Rattle.au_types.specs.declared.headings.Head.{Head}
@@ -12,10 +11,6 @@ use Rattle.au_matching.specs.Bindings.{Bindings}
 use Rattle.au_matching.specs.Substituted.{substituted}
 use Rattle.au_written_types.specs.Meant.{meant}
 use Rattle.au_class_methods.specs.Classes.{ClassText}
-
--- the type parameter of a class is no region
-abbrev pub IsOfTypes : ClassText → Type 0
-IsOfTypes class = ¬ (class.parameter.universe ≡ universes.Region)
 
 -- a type for the parameter of a class
 abbrev pub head_for : ClassText → Meaning → Bindings

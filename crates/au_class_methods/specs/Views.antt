@@ -12,7 +12,7 @@ use Rattle.au_syntax.specs.Types.{WrittenType}
 use Rattle.au_syntax.specs.Views.{header, method_body}
 use Rattle.au_types.specs.Types.{Meaning}
 use Rattle.au_matching.specs.Bindings.{Bindings}
-use Rattle.au_matching.specs.Substituted.{Suits, substituted}
+use Rattle.au_matching.specs.Substituted.{substituted}
 use Rattle.au_written_types.specs.declared.scopes.Scope.{Scope}
 use Rattle.au_written_types.specs.Views.{meant_in}
 use Rattle.au_generics.specs.Meanings.{parameter}
@@ -35,10 +35,6 @@ class_said class = record {
 -- what a written type means in a scope, under a substitution
 abbrev pub wanted_in : Scope → Bindings → WrittenType → Option Meaning
 wanted_in scope s t = option_map (substituted s) (meant_in scope t)
-
--- a substitution may be put into each type that is written in a scope
-abbrev pub AlwaysSuits : Scope → Bindings → Type 0
-AlwaysSuits scope s = (w : WrittenType) (t : Meaning) → meant_in scope w ≡ Some t → Suits s t
 
 -- a method of an instance
 abbrev pub method_of : Method Parsed (List ℕ) (Unit {0}) (Unit {0}) → PlainMethod

@@ -3,7 +3,7 @@
 ghost use Rattle.std.specs.Prelude.{◌≡◌, IfOk};
 ghost use Rattle.std.specs.Option.{option_map};
 ghost use Rattle.au_class_methods.specs.Methods as spec;
-ghost use Rattle.au_class_methods.specs.Views.{AlwaysSuits, wanted_in};
+ghost use Rattle.au_class_methods.specs.Views.{wanted_in};
 ghost use Rattle.au_promises.specs.Agreeing as agreeing;
 ghost use Rattle.au_promises.specs.Written.{header_of, labelled_of, labels_of, name_of};
 ghost use Rattle.au_syntax.specs.Views.{written};
@@ -24,7 +24,6 @@ fn wanted(
     s: &Substitution,
     node: &TypeText,
 ) -> Result<Option<Ty>, Memory>
-    requires { AlwaysSuits class.now s.now }
     ensures { IfOk result (λ found. option_map meaning found ≡ wanted_in class.now s.now (written node.now)) }
 {
     match type_meant(alloc, class, node)? {
@@ -68,7 +67,6 @@ fn same_type(
     own: &Scope,
     other: &TypeText,
 ) -> Result<bool, Memory>
-    requires { AlwaysSuits class.now s.now }
     ensures { IfOk result (λ same. same
         ≡ spec.same_type (wanted_in class.now s.now) (meant_in own.now) (written one.now)
         (written other.now)) }
@@ -87,7 +85,6 @@ fn same_labelled(
     own: &Scope,
     other: &Field<Parsed>,
 ) -> Result<bool, Memory>
-    requires { AlwaysSuits class.now s.now }
     ensures { IfOk result (λ same. same
         ≡ spec.same_labelled (wanted_in class.now s.now) (meant_in own.now) (labelled_of one.now)
         (labelled_of other.now)) }
@@ -108,7 +105,6 @@ fn same_labels(
     own: &Scope,
     others: &Vec<Field<Parsed>>,
 ) -> Result<bool, Memory>
-    requires { AlwaysSuits class.now s.now }
     ensures { IfOk result (λ same. same
         ≡ agreeing.all_agree (spec.same_labelled (wanted_in class.now s.now) (meant_in own.now))
         (labels_of list.now.items) (labels_of others.now.items)) }
@@ -138,7 +134,6 @@ pub(crate) fn same_signature(
     own: &Scope,
     other: &Signature<Parsed>,
 ) -> Result<bool, Memory>
-    requires { AlwaysSuits class.now s.now }
     ensures { IfOk result (λ same. same
         ≡ spec.same_signature (wanted_in class.now s.now) (meant_in own.now) (header_of one.now)
         (header_of other.now)) }

@@ -3,7 +3,7 @@
 ghost use Rattle.std.specs.Prelude.{◌≡◌, false, true, IfOk, MatchOption, find};
 ghost use Rattle.std.specs.List.{list_all};
 ghost use Rattle.au_class_methods.specs.Methods as spec;
-ghost use Rattle.au_class_methods.specs.Views.{AlwaysSuits, called_by, headers_of, method_of, method_seen};
+ghost use Rattle.au_class_methods.specs.Views.{called_by, headers_of, method_of, method_seen};
 ghost use Rattle.au_class_methods.specs.Views.{named_by, wanted_in};
 ghost use Rattle.au_instance_texts.specs.Indices.{FindsFirst};
 ghost use Rattle.au_instance_texts.specs.Views.{methods_of};
@@ -57,7 +57,6 @@ fn has_signature(
     one: &Signature<Parsed>,
     found: Option<&Method<Parsed>>,
 ) -> Result<bool, Memory>
-    requires { AlwaysSuits class.now s.now }
     ensures { IfOk result (λ has. has
         ≡ spec.has_signature (wanted_in class.now s.now) (meant_in own.now) (header_of one.now)
         (method_seen found.entry)) }
@@ -93,7 +92,6 @@ fn all_defined(
     methods: &Vec<Method<Parsed>>,
     by_name: &Table<usize>,
 ) -> Result<bool, Memory>
-    requires suits { AlwaysSuits class.now s.now }
     requires named { FindsFirst named_by (methods_of methods.now.items) by_name.now }
     ensures { IfOk result (λ all. all
         ≡ list_all (spec.is_defined (wanted_in class.now s.now) (meant_in own.now)
@@ -161,7 +159,6 @@ pub(crate) fn are_defined(
     list: &Vec<Signature<Parsed>>,
     methods: &Vec<Method<Parsed>>,
 ) -> Result<bool, Memory>
-    requires { AlwaysSuits class.now s.now }
     ensures { IfOk result (λ are. are
         ≡ spec.are_methods (wanted_in class.now s.now) (meant_in own.now) (headers_of list.now.items)
         (methods_of methods.now.items)) }

@@ -2,7 +2,7 @@
 
 ghost use Rattle.std.specs.Prelude.{◌≡◌, ◌∷◌, [], IfOk};
 ghost use Rattle.au_class_methods.specs.Methods as spec;
-ghost use Rattle.au_class_methods.specs.Signatures.{IsOfTypes, given, head_for, wanted};
+ghost use Rattle.au_class_methods.specs.Signatures.{given, head_for, wanted};
 ghost use Rattle.au_class_methods.specs.Views.{class_said, headers_of};
 ghost use Rattle.au_generics.specs.Meanings as generics;
 ghost use Rattle.au_instance_texts.specs.Views.{methods_of};
@@ -46,8 +46,6 @@ fn substitution_of(alloc: Global, class: &ClassText, head: &Ty) -> Result<Substi
 /// in the place of the class's parameter. Types are compared by what they mean, those of the instance with
 /// its type parameters where these names are seen.
 ///
-/// The class's parameter is no region.
-///
 /// # Errors
 ///
 /// Only for want of memory.
@@ -60,7 +58,6 @@ pub fn are_methods(
     params: &Params,
     methods: &Vec<Method<Parsed>>,
 ) -> Result<bool, Memory>
-    requires { IsOfTypes (class_said class.now) }
     ensures { IfOk result (λ are. are
         ≡ spec.are_methods (wanted heads.now (class_said class.now) (meaning head.now))
         (given heads.now names.now params.now)

@@ -9,7 +9,6 @@ ghost use Rattle.au_instances.specs.Instances.{Holds};
 ghost use Rattle.au_instances.specs.Pairs as pairs;
 ghost use Rattle.au_instances.specs.Rows.{Row as InstanceRow};
 ghost use Rattle.au_types.specs.Views.{meaning};
-ghost use Rattle.au_universes.specs.Forming.{StandsOver};
 
 use crate::declaring::Classes;
 use au_base::{Memory, Name};
@@ -37,9 +36,8 @@ impl Classes {
     /// The one instance of a class whose head becomes a type under some substitution that fits the universes
     /// of its parameters, and `None` exactly where there is none. Whether its constraints hold is not asked.
     ///
-    /// The type stands over the rows of declared types and the type parameters in scope. It takes no memory.
+    /// It takes no memory.
     pub fn row_for(&self, scope: &Params, class: ClassAt, of: &Ty) -> Option<InstanceAt>
-        requires { StandsOver self.now.heads scope.now (meaning of.now) }
         ensures found { IfSome result (λ at.
             (row : InstanceRow)
             × IsRowFor self.now.heads scope.now self.now.instances class (meaning of.now) row
@@ -55,8 +53,7 @@ impl Classes {
     /// where the class holds there: where the type is a type parameter that is known to have it, or an
     /// instance of the class is given at it, with all its constraints.
     ///
-    /// The type stands over the rows of declared types and the type parameters in scope; `known` lists the
-    /// constraints of these.
+    /// `known` lists the constraints of the type parameters in scope.
     ///
     /// # Errors
     ///
@@ -69,7 +66,6 @@ impl Classes {
         class: ClassAt,
         of: &Ty,
     ) -> Result<Option<(ClassAt, Ty)>, Memory>
-        requires { StandsOver self.now.heads scope.now (meaning of.now) }
         ensures first { IfOk result (λ found. option_map pairs.told found
             ≡ pairs.lacking self.now.instances self.now.heads scope.now known.now class (meaning of.now)) }
         ensures holds { IfOk result (λ found. (found ≡ None)

@@ -2,7 +2,6 @@
 
 ghost use Rattle.std.specs.Prelude.{◌≡◌, [], IfOk};
 ghost use Rattle.std.specs.Option.{option_map};
-ghost use Rattle.au_class_methods.specs.Signatures.{IsOfTypes};
 ghost use Rattle.au_class_methods.specs.Views.{class_said};
 ghost use Rattle.au_classes.specs.Faults as spec;
 ghost use Rattle.au_classes.specs.Views.{known_said};
@@ -74,7 +73,6 @@ fn are_written(
     row: &Row,
     methods: Option<&Vec<Method<Parsed>>>,
 ) -> Result<bool, Memory>
-    requires { IsOfTypes (class_said class.now) }
     ensures { IfOk result (λ are. are
         ≡ spec.are_written heads.now names.now (class_said class.now) (row_said row.now)
         (methods_seen methods.entry)) }
@@ -97,7 +95,6 @@ fn methods_fault(
     row: &Row,
     class: &ClassText,
 ) -> Result<Option<ClassFault>, Memory>
-    requires { IsOfTypes (class_said class.now) }
     ensures { IfOk result (λ fault. fault
         ≡ spec.methods_fault heads.now [] (text_said text.now) names.now (row_said row.now)
         (class_said class.now)) }

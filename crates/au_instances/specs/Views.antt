@@ -4,21 +4,10 @@ use Rattle.std.specs.List.{find, flat_map}
 use Rattle.au_syntax.specs.Plain.{Bytes}
 use Rattle.au_types.specs.declared.types.DeclAt.{DeclAt}
 use Rattle.au_types.specs.Types.{Meaning, Argument, Arguments}
-use Rattle.au_universes.specs.Forming.{ArgumentStandsOver, StandsOver, all_formed, fits_in_kind}
 use Rattle.au_generics.specs.Bounds.{Bounded}
 use Rattle.au_instances.specs.declared.lacking.Sight.{Sight}
 use Rattle.au_instances.specs.Forms.{arguments_of}
 use Rattle.au_instances.specs.Pairs.{Pair, Parts, constraints_of, is_lacking, lacking, named_with, part_for, part_of, parts_of}
-
--- what stands over the rows and the type parameters that are seen: a type, an argument and arguments
-abbrev pub StandsIn : Sight → Meaning → Type 0
-StandsIn sight t = StandsOver sight.heads.now sight.scope.now t
-
-abbrev pub ArgumentStandsIn : Sight → Argument → Type 0
-ArgumentStandsIn sight one = ArgumentStandsOver sight.heads.now sight.scope.now one
-
-abbrev pub AllStandIn : Sight → Arguments → Type 0
-AllStandIn sight args = all_formed fits_in_kind sight.heads.now sight.scope.now args ≡ true
 
 -- the first lacking one of these pairs
 abbrev pub first_in : Sight → List Pair → Option Pair

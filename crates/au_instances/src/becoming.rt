@@ -1,9 +1,8 @@
 //! Which types the head of a row becomes.
 
-ghost use Rattle.std.specs.Prelude.{◌≡◌, true};
+ghost use Rattle.std.specs.Prelude.{◌≡◌};
 ghost use Rattle.au_types.specs.Universes as universes;
 ghost use Rattle.au_types.specs.Views.{argument, argument_all, meaning};
-ghost use Rattle.au_universes.specs.Forming.{ArgumentStandsOver, StandsOver, all_formed, fits_in_kind};
 ghost use Rattle.au_instances.specs.Becoming as spec;
 ghost use Rattle.au_instances.specs.Forms as forms;
 
@@ -16,7 +15,6 @@ use au_universes::fits;
 /// Whether the head of a row becomes a type: without type parameters itself alone, and else what has its
 /// constructor and arguments that fit the parameters in their places.
 pub(crate) fn becomes(heads: &Heads, scope: &Params, row: &Row, of: &Ty) -> bool
-    requires { StandsOver heads.now scope.now (meaning of.now) }
     ensures { result
         ≡ spec.becomes heads.now scope.now row.now.generics (meaning row.now.head) (meaning of.now) }
 {
@@ -29,7 +27,6 @@ pub(crate) fn becomes(heads: &Heads, scope: &Params, row: &Row, of: &Ty) -> bool
 /// Whether a head over these type parameters becomes a type.
 #[tactic(auto, using(au_types::proofs::TypeLemmas::type_steps))]
 fn applies(heads: &Heads, scope: &Params, params: &Params, head: &Ty, of: &Ty) -> bool
-    requires { StandsOver heads.now scope.now (meaning of.now) }
     ensures { result ≡ spec.applies heads.now scope.now params.now (meaning head.now) (meaning of.now) }
 {
     let Ty::Named {
@@ -53,7 +50,6 @@ fn all_stand_for(
     names: &Vec<Arg>,
     args: &Vec<Arg>,
 ) -> bool
-    requires { all_formed fits_in_kind heads.now scope.now (argument_all args.now.items) ≡ true }
     ensures { result
         ≡ spec.all_stand_for heads.now scope.now params.now
         (argument_all names.now.items) (argument_all args.now.items) }
@@ -71,7 +67,6 @@ fn all_stand_for(
 
 /// Whether an argument may stand for another, which is a name of these parameters.
 fn stands_for(heads: &Heads, scope: &Params, params: &Params, name: &Arg, one: &Arg) -> bool
-    requires { ArgumentStandsOver heads.now scope.now (argument one.now) }
     ensures { result
         ≡ spec.stands_for heads.now scope.now params.now
         (forms.name_of (argument name.now)) (argument one.now) }
@@ -84,7 +79,6 @@ fn stands_for(heads: &Heads, scope: &Params, params: &Params, name: &Arg, one: &
 
 /// Whether the parameter of a name takes an argument.
 fn is_taken(heads: &Heads, scope: &Params, params: &Params, name: &Name, one: &Arg) -> bool
-    requires { ArgumentStandsOver heads.now scope.now (argument one.now) }
     ensures { result
         ≡ spec.taken_by heads.now scope.now (universes.universe_in params.now name.now) (argument one.now) }
 {

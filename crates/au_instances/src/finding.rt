@@ -3,7 +3,6 @@
 ghost use Rattle.std.specs.Prelude.{◌≡◌, ◌↔◌, IfOk, IfSome, None, Some, option_copied};
 ghost use Rattle.std.specs.Option.{option_map};
 ghost use Rattle.au_types.specs.Views.{meaning};
-ghost use Rattle.au_universes.specs.Forming.{StandsOver};
 ghost use Rattle.au_closed_types.specs.Views.{closed_meaning};
 ghost use Rattle.au_instances.specs.Becoming.{IsRowFor};
 ghost use Rattle.au_instances.specs.ClosedInstances.{ClosedInstance};
@@ -28,7 +27,7 @@ impl Instances {
     /// the row's parameters, and `None` exactly where there is none. Whether the row's constraints hold is
     /// not asked.
     ///
-    /// The type stands over the rows of declared types and the type parameters in scope. It takes no memory.
+    /// It takes no memory.
     pub fn row_for(
         &self,
         heads: &Heads,
@@ -36,7 +35,6 @@ impl Instances {
         class: ClassAt,
         of: &Ty,
     ) -> Option<InstanceAt>
-        requires { StandsOver heads.now scope.now (meaning of.now) }
         ensures found { IfSome result (λ at.
             (row : InstanceRow)
             × IsRowFor heads.now scope.now self.now class (meaning of.now) row
@@ -86,8 +84,7 @@ impl Instances {
     /// parameter that isn't known to have the class, and where no row of the class has a head that becomes
     /// its type.
     ///
-    /// The type stands over the rows of declared types and the type parameters in scope; `known` lists the
-    /// constraints of these.
+    /// `known` lists the constraints of the type parameters in scope.
     ///
     /// # Errors
     ///
@@ -101,7 +98,6 @@ impl Instances {
         class: ClassAt,
         of: &Ty,
     ) -> Result<Option<(ClassAt, Ty)>, Memory>
-        requires { StandsOver heads.now scope.now (meaning of.now) }
         ensures first { IfOk result (λ found. option_map pairs.told found
             ≡ pairs.lacking self.now heads.now scope.now known.now class (meaning of.now)) }
         ensures holds { IfOk result (λ found. (found ≡ None)
@@ -129,7 +125,6 @@ pub(crate) fn row_in<'a>(
     class: ClassAt,
     of: &Ty,
 ) -> Option<&'a Row>
-    requires { StandsOver heads.now scope.now (meaning of.now) }
     ensures { option_map row_said (option_copied result)
         ≡ tables.row_for heads.now scope.now instances.now class (meaning of.now) }
 {

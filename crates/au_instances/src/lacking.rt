@@ -6,7 +6,6 @@ ghost use Rattle.au_types.specs.Views.{argument, argument_all, meaning};
 ghost use Rattle.au_instances.specs.Forms as forms;
 ghost use Rattle.au_instances.specs.Instances as rule;
 ghost use Rattle.au_instances.specs.Pairs.{wanted};
-ghost use Rattle.au_instances.specs.Views.{AllStandIn, ArgumentStandsIn, StandsIn};
 ghost use Rattle.au_instances.specs.Views.{lacking_among, lacking_at, lacking_below};
 ghost use Rattle.au_instances.specs.Views.{lacking_from, lacking_in, lacking_of};
 
@@ -34,7 +33,6 @@ pub(crate) struct Sight<'a> {
 #[tactic(auto, using(au_types::proofs::TypeLemmas::type_steps))]
 #[cycle(lacking)]
 pub(crate) fn lacking_in<'a>(of: &'a Ty, sight: &Sight, class: ClassAt) -> Option<(ClassAt, &'a Ty)>
-    requires stands { StandsIn sight.now (meaning of.now) }
     ensures { option_map wanted result ≡ lacking_in sight.now class (meaning of.now) }
 {
     if let Ty::Param(name) = of {
@@ -54,7 +52,6 @@ pub(crate) fn lacking_in<'a>(of: &'a Ty, sight: &Sight, class: ClassAt) -> Optio
 #[tactic(auto, using(au_types::proofs::TypeLemmas::type_steps))]
 #[cycle(lacking)]
 fn lacking_below<'a>(of: &'a Ty, sight: &Sight, row: &Row) -> Option<(ClassAt, &'a Ty)>
-    requires stands { StandsIn sight.now (meaning of.now) }
     ensures { option_map wanted result
         ≡ lacking_below sight.now row.now.generics (meaning row.now.head) (meaning of.now) }
 {
@@ -68,7 +65,6 @@ fn lacking_below<'a>(of: &'a Ty, sight: &Sight, row: &Row) -> Option<(ClassAt, &
 /// arguments.
 #[cycle(lacking)]
 fn lacking_among<'a>(args: &'a Vec<Arg>, sight: &Sight, row: &Row) -> Option<(ClassAt, &'a Ty)>
-    requires stands { AllStandIn sight.now (argument_all args.now.items) }
     ensures { option_map wanted result
         ≡ lacking_among sight.now row.now.generics
         (forms.arguments_of (meaning row.now.head)) (argument_all args.now.items) }
@@ -95,7 +91,6 @@ fn lacking_from<'a>(
     name: &Name,
     classes: &[ClassAt],
 ) -> Option<(ClassAt, &'a Ty)>
-    requires stands { AllStandIn sight.now (argument_all args.now.items) }
     ensures { option_map wanted result
         ≡ lacking_from sight.now name.now classes.now
         (argument_all names.now) (argument_all args.now.items) }
@@ -117,7 +112,6 @@ fn lacking_at<'a>(
     name: &Name,
     class: ClassAt,
 ) -> Option<(ClassAt, &'a Ty)>
-    requires stands { AllStandIn sight.now (argument_all args.now.items) }
     ensures { option_map wanted result
         ≡ lacking_at sight.now name.now class (argument_all names.now) (argument_all args.now.items) }
 {
@@ -133,7 +127,6 @@ fn lacking_at<'a>(
 #[tactic(auto, using(au_types::proofs::TypeLemmas::type_steps))]
 #[cycle(lacking)]
 fn lacking_of<'a>(one: &'a Arg, sight: &Sight, class: ClassAt) -> Option<(ClassAt, &'a Ty)>
-    requires stands { ArgumentStandsIn sight.now (argument one.now) }
     ensures { option_map wanted result ≡ lacking_of sight.now class (argument one.now) }
 {
     match one {

@@ -3,7 +3,7 @@
 ghost use Rattle.std.specs.Prelude.{◌≡◌, IfOk, Some};
 ghost use Rattle.au_types.specs.Views.{argument, argument_all, meaning};
 ghost use Rattle.au_matching.specs.Bindings.{value_of};
-ghost use Rattle.au_matching.specs.Substituted.{Suits, all_substituted, argument_substituted, region_for, region_substituted, substituted, type_for};
+ghost use Rattle.au_matching.specs.Substituted.{all_substituted, argument_substituted, region_for, region_substituted, substituted, type_for};
 
 use crate::substitutions::Substitution;
 use au_base::{Memory, Name};
@@ -13,14 +13,12 @@ use std::alloc::Global;
 /// The type in which each type parameter and each named region that the substitution lists is replaced by
 /// what it stands for, all at once: what is put in is not looked at again. A name that isn't listed stays,
 /// as do all other parts.
-///
-/// No type parameter of the type may stand for a region, and none of its regions for a type.
+/// A type parameter for which a region is listed stays too, and so does a region for which a type is.
 ///
 /// # Errors
 ///
 /// `Memory` when memory runs out.
 pub fn substitute(alloc: Global, t: &Ty, s: &Substitution) -> Result<Ty, Memory>
-    requires { Suits s.now (meaning t.now) }
     ensures { IfOk result (λ outcome. meaning outcome ≡ substituted s.now (meaning t.now)) }
 {
     type_substituted(alloc, t, s)

@@ -8,7 +8,7 @@ ghost use Rattle.au_types.specs.Views.{argument, argument_all, meaning};
 ghost use Rattle.au_universes.specs.Fits.{argument_found, arguments_found, type_found};
 ghost use Rattle.au_universes.specs.Fits.{asked, taken_by, takes_by};
 ghost use Rattle.au_universes.specs.Forming as forming;
-ghost use Rattle.au_universes.specs.Forming.{ArgumentStandsOver, IsWellFormed, StandsOver};
+ghost use Rattle.au_universes.specs.Forming.{IsWellFormed, StandsOver};
 ghost use Rattle.au_universes.specs.Forming.{fits, fits_in_kind, is_formed};
 
 use crate::judging::{parameter_universe, type_universe};
@@ -39,12 +39,11 @@ pub fn is_well_formed(heads: &Heads, scope: &Params, of: &Ty) -> bool
     is_formed(heads, scope, Fit::InUniverse, of)
 }
 
-/// Whether a parameter of this universe takes an argument that stands over these rows and type parameters:
-/// `Free` takes a Free type, `Linear` a Linear one, `Type` any type, and a region parameter a region.
+/// Whether a parameter of this universe takes an argument, over these rows and type parameters: `Free` takes a
+/// Free type, `Linear` a Linear one, `Type` any type, and a region parameter a region.
 ///
 /// It takes no memory.
 pub fn fits(heads: &Heads, scope: &Params, wanted: Universe, one: &Arg) -> bool
-    requires { ArgumentStandsOver heads.now scope.now (argument one.now) }
     ensures { result ≡ fits heads.now scope.now wanted (argument one.now) }
 {
     match one {

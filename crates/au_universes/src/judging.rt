@@ -4,7 +4,6 @@ ghost use Rattle.std.specs.Prelude.{◌≡◌};
 ghost use Rattle.au_types.specs.Rows.{head_of};
 ghost use Rattle.au_types.specs.Universes.{universe_in};
 ghost use Rattle.au_types.specs.Views.{argument, argument_all, meaning};
-ghost use Rattle.au_universes.specs.Forming.{StandsOver};
 ghost use Rattle.au_universes.specs.Universes as universes;
 ghost use Rattle.au_universes.specs.Universes.{arguments_come};
 
@@ -13,14 +12,14 @@ use au_base::Name;
 use au_syntax::Universe;
 use au_types::{Arg, DeclAt, Heads, Params, Ty, universe_in};
 
-/// The universe of a type that stands over these rows of declared types and these type parameters. What is
+/// The universe of a type, over these rows of declared types and these type parameters. A name that isn't in
+/// scope and a declared type without a row count as `Type`. What is
 /// built in and what reads is Free, what writes is Linear, and a type parameter and a declared type have the
 /// universe that they are declared in; one that is declared `Type` is judged by its arguments.
 ///
 /// It takes no memory and looks at each part of the type at most once. Asked of every part of a type, it looks
 /// at a part once for each level above it, of which a written type has at most 24.
 pub fn universe_of(heads: &Heads, scope: &Params, of: &Ty) -> TypeUniverse
-    requires { StandsOver heads.now scope.now (meaning of.now) }
     ensures { result ≡ universes.universe_of heads.now scope.now (meaning of.now) }
 {
     type_universe(heads, scope, of)

@@ -4,19 +4,11 @@ use Rattle.std.proofs.lemmas.Result.{IfOk-weaker}
 use Rattle.au_types.specs.Views.{meaning}
 use Rattle.au_matching.specs.Substituted.{substituted}
 use Rattle.au_written_types.specs.Meant.{meant}
-use Rattle.au_generics.specs.Meanings.{parameter}
-use Rattle.au_promises.specs.Written.{parameter_of}
 use Rattle.au_instance_texts.specs.Views.{methods_of}
 use Rattle.au_class_methods.specs.Methods as spec
 use Rattle.au_class_methods.specs.Signatures.{given, head_for, wanted}
 use Rattle.au_class_methods.specs.Views.{class_said, headers_of}
-use Rattle.au_class_methods.proofs.SuitLemmas.{suits_there}
 use Rattle.au_class_methods.proofs.signatures.are_methods.Goals as goal
-
-pub are_defined-requires : goal.are_defined-requires
-are_defined-requires c =
-    suits_there (parameter (parameter_of c.args.class.now.parameter.now)) c.args.class.now.visible.now c.args.heads.now (meaning c.args.head.now) c.in_ok-parameter.parameter c.in_ok-s.s
-    c.requires c.in_ok-parameter.ensures c.in_ok-s.ensures
 
 pub returns : goal.returns
 returns c =

@@ -3,7 +3,7 @@ use Rattle.au_types.specs.Types.{of_type}
 use Rattle.au_types.specs.Views.{argument, meaning}
 use Rattle.au_types.specs.declared.types.Arg.{Of}
 use Rattle.au_types.proofs.TypeLemmas.{type_argument_means}
-use Rattle.au_class_methods.proofs.SuitLemmas.{put_alone}
+use Rattle.au_class_methods.proofs.PuttingLemmas.{put_alone}
 use Rattle.au_class_methods.proofs.signatures.substitution_of.Goals as goal
 
 pub returns : goal.returns

@@ -5,7 +5,6 @@ use Rattle.au_types.specs.declared.types.Arg.{Arg}
 use Rattle.au_types.specs.Views.{argument, argument_all}
 use Rattle.au_instances.specs.Becoming.{all_stand_for, stands_for}
 use Rattle.au_instances.specs.Forms.{name_of}
-use Rattle.au_instances.proofs.StandingLemmas.{left_stands}
 use Rattle.au_instances.proofs.WalkLemmas.{zip_step, zip_unequal}
 use Rattle.au_instances.proofs.becoming.all_stand_for.Goals as goal
 
@@ -18,10 +17,6 @@ returns-then-len c =
     let params = c.args.params.now in
     sym (zip_unequal (λ (ns xs : List Arg). all_stand_for heads scope params (argument_all ns) (argument_all xs)) (λ (n x : Arg). stands_for heads scope params (name_of (argument n)) (argument x)) (λ x xs y ys. refl)
     (λ y ys. refl) (λ x xs. refl) names.items args.items (λ e. c.if-len.true (c.len.ensures ∙ names.ok.0 ∙ e ∙ sym args.ok.0 ∙ sym c.len-2.ensures)))
-
-pub stands_for-requires : goal.stands_for-requires
-stands_for-requires c =
-    (left_stands c.args.heads.now c.args.scope.now c.args.args.now.items c.deref-one-items.result.now c.loop-index.index c.one-item.result c.loop-index.invariant.stand c.deref-one-items.ensures.value c.loop-index-test.true c.one-item.is).0
 
 pub loop-index-preserved : goal.loop-index-preserved
 loop-index-preserved c =
@@ -36,7 +31,6 @@ loop-index-preserved c =
     let here : slice_get names i ≡ Some c.index.result.now = slice_get_read names (length names) i c.index.result.now refl inside c.index.ensures in
     record {
       lengths = c.loop-index.invariant.lengths;
-      stand = (left_stands heads scope args items i c.one-item.result c.loop-index.invariant.stand c.deref-one-items.ensures.value c.loop-index-test.true c.one-item.is).1;
       rest =
           zip_step (λ (ns xs : List Arg). all_stand_for heads scope params (argument_all ns) (argument_all xs)) (λ (n x : Arg). stands_for heads scope params (name_of (argument n)) (argument x)) (λ x xs y ys. refl)
           names args items i c.index.result.now c.one-item.result c.loop-index.invariant.rest here c.deref-one-items.ensures.value c.loop-index-test.true c.one-item.is

@@ -1,10 +1,8 @@
-use Rattle.std.proofs.Common.{ap, subst, sym, ◌∙◌}
+use Rattle.std.proofs.Common.{ap, sym, ◌∙◌}
 use Rattle.au_types.specs.Views.{argument_all, meaning}
 use Rattle.au_types.proofs.TypeLemmas.{named_means}
-use Rattle.au_universes.specs.Forming.{StandsOver}
 use Rattle.au_instances.specs.Becoming.{applies}
 use Rattle.au_instances.proofs.RowLemmas.{applies_to_none, no_head_applies}
-use Rattle.au_instances.proofs.StandingLemmas.{arguments_stand}
 use Rattle.au_instances.proofs.becoming.applies.Goals as goal
 
 pub returns-in_default : goal.returns-in_default
@@ -17,10 +15,3 @@ returns-in_default-of c =
     let params = c.args.params.now in
     sym (ap (λ head. applies heads scope params head (meaning c.args.of.now)) (ap meaning c.in-Named.is ∙ named_means c.in-Named.at c.in-Named.names)
     ∙ applies_to_none heads scope params c.in-Named.at (argument_all c.in-Named.names.items) c.args.of.now c.in_default-of.not-Named)
-
-pub all_stand_for-requires : goal.all_stand_for-requires
-all_stand_for-requires c =
-    let heads = c.args.heads.now in
-    let scope = c.args.scope.now in
-    arguments_stand heads scope c.in-Named-of.other (argument_all c.in-Named-of.args.items)
-    (subst (StandsOver heads scope) (ap meaning c.in-Named-of.is ∙ named_means c.in-Named-of.other c.in-Named-of.args) c.requires)

@@ -11,13 +11,12 @@ use Rattle.au_instances.specs.Pairs.{named_with, wanted}
 use Rattle.au_instances.specs.Rows.{row_said}
 use Rattle.au_instances.proofs.LackingLemmas.{class_left, constraints_by, led_all, none_there, parameter_left, place_left}
 use Rattle.au_instances.proofs.PairLemmas.{lacking_with}
-use Rattle.au_instances.proofs.StandingLemmas.{left_stands}
 use Rattle.au_instances.proofs.lacking.+lacking.Goals as goal
 use Rattle.au_instances.proofs.lacking.+lacking.Goals.{lacking_at-else-index-names-via-then-index-names+else-is_called, lacking_at-else-index-names-via-else-index-names}
 use Rattle.std.proofs.Common.{get_or, if◌then◌else◌}
 use Rattle.std.proofs.lemmas.List.{get_or_default}
 use Rattle.au_instances.proofs.SizeLemmas.{item_size, named_size, of_size}
-use Rattle.au_instances.proofs.LackingLemmas.{args_past, at_left, arguments_of_stand, names_past, no_arguments_of, type_stands, nothing_known}
+use Rattle.au_instances.proofs.LackingLemmas.{args_past, at_left, names_past, no_arguments_of, nothing_known}
 use Rattle.au_instances.specs.Forms.{arguments_of}
 use Rattle.au_instances.specs.Views.{lacking_among, lacking_of}
 
@@ -48,22 +47,14 @@ lacking_from-loop-class-preserved t c =
     ∙ ap (λ o. option_or o rest) (sym c.lacking_at.ensures ∙ ap (option_map wanted) c.in_default.is)
 
 pub lacking_at-lacking_of-requires : goal.lacking_at-lacking_of-requires
-lacking_at-lacking_of-requires t c = (
-  omega (arith, item_size c.args.args.now.items c.deref-one-items.result.now c.loop-index.index c.one-item.result c.deref-one-items.ensures.value c.loop-index-test.true c.one-item.is),
-  (left_stands c.args.sight.now.heads.now c.args.sight.now.scope.now c.args.args.now.items c.deref-one-items.result.now c.loop-index.index c.one-item.result c.loop-index.invariant.stand c.deref-one-items.ensures.value c.loop-index-test.true c.one-item.is).0,
-)
+lacking_at-lacking_of-requires t c =
+    omega (arith, item_size c.args.args.now.items c.deref-one-items.result.now c.loop-index.index c.one-item.result c.deref-one-items.ensures.value c.loop-index-test.true c.one-item.is)
 
 pub lacking_below-lacking_among-requires : goal.lacking_below-lacking_among-requires
-lacking_below-lacking_among-requires t c = (
-  omega (arith, named_size c.args.of.now c.in-Named.of c.in-Named.args c.in-Named.is),
-  arguments_of_stand c.args.sight.now.heads.now c.args.sight.now.scope.now c.args.of.now c.in-Named.of c.in-Named.args c.in-Named.is c.requires.stands,
-)
+lacking_below-lacking_among-requires t c = omega (arith, named_size c.args.of.now c.in-Named.of c.in-Named.args c.in-Named.is)
 
 pub lacking_of-lacking_in-requires : goal.lacking_of-lacking_in-requires
-lacking_of-lacking_in-requires t c = (
-  omega (arith, of_size c.args.one.now c.in-Of.of c.in-Of.is),
-  type_stands c.args.sight.now.heads.now c.args.sight.now.scope.now c.args.one.now c.in-Of.of c.in-Of.is c.requires.stands,
-)
+lacking_of-lacking_in-requires t c = omega (arith, of_size c.args.one.now c.in-Of.of c.in-Of.is)
 
 pub lacking_at-loop-index-preserved : goal.lacking_at-loop-index-preserved
 lacking_at-loop-index-preserved t c =
@@ -74,24 +65,20 @@ lacking_at-loop-index-preserved t c =
     let args = c.args.args.now.items in
     let items = c.deref-one-items.result.now in
     let i = c.loop-index.index in
-    record {
-      stand = (left_stands sight.heads.now sight.scope.now args items i c.one-item.result c.loop-index.invariant.stand c.deref-one-items.ensures.value c.loop-index-test.true c.one-item.is).1;
-      rest =
-          elim c.else-index-names.branch [
-            | lacking_at-else-index-names-via-then-index-names+else-is_called w ↦
-                c.loop-index.invariant.rest
-                ∙ place_left sight name class names args items i w.index-names-index.result c.one-item.result w.if-index-names.true w.index-names-index.is c.deref-one-items.ensures.value c.loop-index-test.true c.one-item.is
-                ∙ ap (λ b. if b then lacking_of sight class (argument c.one-item.result) else at_left sight name class (drop (i + 1) names) (drop (i + 1) args)) (sym w.is_called.ensures ∙ w.if-is_called.false)
-            | lacking_at-else-index-names-via-else-index-names w ↦
-                c.loop-index.invariant.rest
-                ∙ names_past sight name class names (drop i args) i w.if-index-names.false
-                ∙ sym (names_past sight name class names (drop (i + 1) args) (i + 1) (omega arith))
-          ];
-    }
+    elim c.else-index-names.branch [
+      | lacking_at-else-index-names-via-then-index-names+else-is_called w ↦
+          c.loop-index.invariant
+          ∙ place_left sight name class names args items i w.index-names-index.result c.one-item.result w.if-index-names.true w.index-names-index.is c.deref-one-items.ensures.value c.loop-index-test.true c.one-item.is
+          ∙ ap (λ b. if b then lacking_of sight class (argument c.one-item.result) else at_left sight name class (drop (i + 1) names) (drop (i + 1) args)) (sym w.is_called.ensures ∙ w.if-is_called.false)
+      | lacking_at-else-index-names-via-else-index-names w ↦
+          c.loop-index.invariant
+          ∙ names_past sight name class names (drop i args) i w.if-index-names.false
+          ∙ sym (names_past sight name class names (drop (i + 1) args) (i + 1) (omega arith))
+    ]
 
 pub lacking_at-returns : goal.lacking_at-returns
 lacking_at-returns t c =
-    sym (c.loop-index.invariant.rest
+    sym (c.loop-index.invariant
     ∙ args_past c.args.sight.now c.args.name.now c.args.class c.args.names.now c.args.args.now.items c.deref-one-items.result.now c.loop-index.index c.deref-one-items.ensures.value c.loop-index-test.false)
 
 pub lacking_below-returns-in_default : goal.lacking_below-returns-in_default

@@ -1,7 +1,6 @@
-use Rattle.std.proofs.Common.{◌≡◌, ◌+◌, ◌*◌, true, drop}
+use Rattle.std.proofs.Common.{◌≡◌, ◌+◌, ◌*◌, drop}
 use Rattle.std.specs.List.{flat_map}
 use Rattle.au_types.specs.Views.{argument, argument_all, meaning}
-use Rattle.au_universes.specs.Forming.{all_formed, fits_in_kind}
 use Rattle.au_instances.specs.Pairs.{named_with}
 use Rattle.au_instances.specs.Views.{lacking_among, lacking_at, lacking_from}
 use Rattle.au_instances.proofs.LackingLemmas.{at_left, constraints_by, led_all}
@@ -34,10 +33,8 @@ invariant-lacking_among-loop-index l =
 
 -- the arguments so far stand in the places of other names, so those that are left decide
 abbrev pub invariant-lacking_at-loop-index : goal.invariant-lacking_at-loop-index
-invariant-lacking_at-loop-index l = record {
-  stand : all_formed fits_in_kind l.sight.heads.now l.sight.scope.now (argument_all (drop l.index l.args.items)) ≡ true;
-  rest : lacking_at l.sight l.name l.class (argument_all l.names) (argument_all l.args.items) ≡ at_left l.sight l.name l.class (drop l.index l.names) (drop l.index l.args.items);
-}
+invariant-lacking_at-loop-index l =
+    lacking_at l.sight l.name l.class (argument_all l.names) (argument_all l.args.items) ≡ at_left l.sight l.name l.class (drop l.index l.names) (drop l.index l.args.items)
 
 -- nothing is lacking for the classes so far, so those that are left decide
 abbrev pub invariant-lacking_from-loop-class : goal.invariant-lacking_from-loop-class
