@@ -26,7 +26,7 @@ pub enum Form {
     /// A region.
     Region,
     /// So many arguments.
-    Arguments(u32),
+    Arguments(usize),
     /// Each label once.
     Labels,
     /// Each case once.

@@ -95,7 +95,7 @@ fn add_form(text: &mut Vec<u8>, form: Form) -> Result<(), Memory>
 }
 
 /// Adds that so many arguments are wanted.
-fn add_arguments(text: &mut Vec<u8>, count: u32) -> Result<(), Memory>
+fn add_arguments(text: &mut Vec<u8>, count: usize) -> Result<(), Memory>
     ensures { OnOk result (text.new.items ≡ text.old.items
         ++ (codes "wanted " ++ decimal count ++ codes " arguments")) }
 {
