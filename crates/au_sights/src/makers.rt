@@ -79,8 +79,9 @@ fn no_classes(alloc: Global, params: &Params) -> Result<Vec<Sequence<DeclAt>>, M
     ensures { IfOk result (λ made. made.items ≡ map (λ p. []) params.now) }
 {
     let mut classes = Vec::new(alloc);
-    for _ in 0..params.len() {
-        classes.push(Sequence::new(alloc))?;
+    for index in 0..params.len() {
+        let none = Sequence::new(alloc);
+        classes.push(none)?;
     }
     Ok(classes)
 }

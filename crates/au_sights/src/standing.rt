@@ -2,7 +2,9 @@
 
 ghost use Rattle.std.specs.Prelude.{◌≡◌, ◌<◌, IfOk, Some, length, slice_get};
 ghost use Rattle.std.specs.Option.{option_map};
+ghost use Rattle.au_modules.specs.Seen.{tree_seen};
 ghost use Rattle.au_modules.specs.Slots as slots;
+ghost use Rattle.au_names.specs.Exporting.{declarations_seen};
 ghost use Rattle.au_names.specs.Standing.{standing};
 ghost use Rattle.au_outsides.specs.Insides as insides;
 ghost use Rattle.au_outsides.specs.Written.{meant_in, types_at};
@@ -13,7 +15,7 @@ ghost use Rattle.au_types.specs.Views.{meaning};
 use au_base::Memory;
 use au_imports::Resolved;
 use au_names::Declared;
-use au_syntax::{Part, TypeText};
+use au_syntax::{Parsed, Part, TypeText, Whole};
 use au_tables::Table;
 use au_types::{DeclAt, Params, Ty};
 use au_written_types::{Scope, type_meant};
@@ -56,15 +58,22 @@ pub(crate) fn type_there(
     type_meant(alloc, &scope, node)
 }
 
+/// How many declarations a file has, if it is there.
+fn count_in(file: Option<&Whole<Parsed>>) -> usize
+    ensures { result ≡ length (declarations_seen (tree_seen file.entry)) }
+{
+    match file {
+        None => 0,
+        Some(file) => file.tree().declarations.len(),
+    }
+}
+
 /// How many declarations the interface of the module at a place has.
 fn interface_count(program: &Resolved, place: u16) -> usize
     requires { place < length (slots.modules program.now) }
     ensures { result ≡ insides.interface_count (slice_get (slots.modules program.now) place) }
 {
-    match program.modules().interface(place as usize) {
-        None => 0,
-        Some(file) => file.tree().declarations.len(),
-    }
+    count_in(program.modules().interface(place as usize))
 }
 
 /// The number of a declaration in its module.

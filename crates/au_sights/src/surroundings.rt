@@ -1,6 +1,6 @@
 //! What a part of a module sees outside of its functions.
 
-ghost use Rattle.std.specs.Prelude.{◌≡◌, IfOk, map};
+ghost use Rattle.std.specs.Prelude.{◌≡◌, IfOk, Vec, map};
 ghost use Rattle.std.specs.Option.{option_copied, option_map};
 ghost use Rattle.au_sights.specs.Sights.{callable_said, case_said, outside_seen, typed_said};
 ghost use Rattle.au_types.specs.Views.{meaning};
