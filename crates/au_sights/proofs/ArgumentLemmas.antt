@@ -24,6 +24,7 @@ put_none params items s none = record {
   order = subst IsInOrder (sym none) refl;
   gives = λ name. ap (λ r. option_or (value_of name r) (value_of name (with_arguments params (argument_all items)))) (sym none);
 }
+
 -- the type parameter of an index before those behind it, or none
 from_index : (params : List Parameter) (i : ℕ)
     → ((drop i params ≡ []) × (drop (suc i) params ≡ []) × (slice_get params i ≡ None))
@@ -42,7 +43,7 @@ module _ (name own : List ℕ) (one : Argument) (s : Bindings) (rest : Option Ar
   put_gives = by (value_of own s) refl
     where
       same : (w : Option Argument) (b : Bool) → value_of own s ≡ w → bytes_eq name own ≡ b → b ≡ true → value_of name s ≡ w
-      same w b is eq yes = ap (λ n. value_of n s) ((bytes_eq-Decides name own).0 (eq ∙ yes)) ∙ is
+      same w b is eq holds = ap (λ n. value_of n s) ((bytes_eq-Decides name own).0 (eq ∙ holds)) ∙ is
 
       kept : (w : Argument) (b : Bool) → value_of own s ≡ Some w → bytes_eq name own ≡ b → option_or (value_of name s) (cond b (Some one) rest) ≡ option_or (value_of name s) rest
       kept w true is eq = ap (λ o. option_or o (Some one)) (same (Some w) true is eq refl) ∙ sym (ap (λ o. option_or o rest) (same (Some w) true is eq refl))

@@ -19,7 +19,7 @@ module _ {A B C X D : Type 0} (p : B → C) (v : A → B) (f : C → Option X) (
       by (Some xs) = refl
 
   module _ (more : (c : C) (cs : List C) → all (c ∷ cs) ≡ followed (f c) (all cs)) (items : List A) (i : ℕ) (x : A) (done : List D) (less : i < length items) (here : x ≡ get_or items i x) (so_far : SoFar items i done) where
-    tail : Option (List X)
+    abbrev tail : Option (List X)
     tail = all (map p (map v (drop (i + 1) items)))
 
     split : (o : Option X) → f (p (v x)) ≡ o → all (map p (map v items)) ≡ option_map (λ rest. map s done ++ rest) (followed o tail)

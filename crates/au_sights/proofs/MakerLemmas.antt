@@ -9,9 +9,8 @@ use Rattle.au_syntax.specs.Plain.{Bytes}
 use Rattle.au_types.specs.declared.parameters.Parameter.{Parameter}
 use Rattle.au_types.specs.declared.types.Arg.{Arg}
 use Rattle.au_types.specs.declared.types.DeclAt.{DeclAt}
-use Rattle.au_types.specs.Types.{Arguments, arguments}
+use Rattle.au_types.specs.Types.{Argument, Arguments, no_arguments, arguments}
 use Rattle.au_types.specs.Views.{argument, argument_all}
-use Rattle.au_types.proofs.TypeLemmas.{arguments_push, snoc_arguments}
 use Rattle.au_modules.specs.Programs.{ModuleParts}
 use Rattle.au_names.specs.Standing.{Standing}
 use Rattle.au_generics.specs.Bounds.{Bounded, bounded}
@@ -21,10 +20,20 @@ use Rattle.au_outsides.specs.Insides.{case_under, cases_under, number_of, with_a
 use Rattle.au_outsides.specs.Written.{followed}
 use Rattle.au_sights.specs.Steps.{cases_by}
 
-arguments_snoc : (ps : List Parameter) (p : Parameter) → as_arguments (ps ++ p ∷ []) ≡ snoc_arguments (as_arguments ps) (as_argument p)
-unfolding snoc_arguments
-arguments_snoc [] p = refl
-arguments_snoc (q ∷ ps) p = ap (arguments (as_argument q)) (arguments_snoc ps p)
+-- arguments with one behind them
+behind : Arguments → Argument → Arguments
+behind no_arguments one = arguments one no_arguments
+behind (arguments first rest) one = arguments first (behind rest one)
+
+arguments_behind : (xs : List Arg) (x : Arg) → argument_all (xs ++ x ∷ []) ≡ behind (argument_all xs) (argument x)
+unfolding behind
+arguments_behind [] x = refl
+arguments_behind (y ∷ xs) x = ap (arguments (argument y)) (arguments_behind xs x)
+
+parameters_behind : (ps : List Parameter) (p : Parameter) → as_arguments (ps ++ p ∷ []) ≡ behind (as_arguments ps) (as_argument p)
+unfolding behind
+parameters_behind [] p = refl
+parameters_behind (q ∷ ps) p = ap (arguments (as_argument q)) (parameters_behind ps p)
 
 taken : (ps : List Parameter) (i : ℕ) (p : Parameter) → slice_get ps i ≡ Some p → take (i + 1) ps ≡ take i ps ++ p ∷ []
 taken ps i p is = take_more ps i p (slice_get_within ps i p is) ∙ ap (λ q. take i ps ++ q ∷ []) (get_or_from_slice_get ps i p p is)
@@ -34,10 +43,10 @@ pub arguments_next : (ps : List Parameter) (i : ℕ) (p : Parameter) (done after
     → argument_all done ≡ as_arguments (take i ps) → argument_all after ≡ as_arguments (take (i + 1) ps)
 arguments_next ps i p done after one is made pushed so_far =
     ap argument_all pushed
-    ∙ arguments_push done one
-    ∙ ap (λ args. snoc_arguments args (argument one)) so_far
-    ∙ ap (snoc_arguments (as_arguments (take i ps))) made
-    ∙ sym (arguments_snoc (take i ps) p)
+    ∙ arguments_behind done one
+    ∙ ap (λ args. behind args (argument one)) so_far
+    ∙ ap (behind (as_arguments (take i ps))) made
+    ∙ sym (parameters_behind (take i ps) p)
     ∙ ap as_arguments (sym (taken ps i p is))
 
 any_parameter : Parameter

@@ -166,8 +166,9 @@ named_here place first name names rest is =
     let one = target place name first in (
       one,
       ap (λ ns. find name (targets place (given first ns ++ rest))) is
-      ∙ ap (λ b. cond b (Some one) (find name (targets place rest))) ((bytes_eq-Decides name name).1 refl),
+          ∙ ap (λ b. cond b (Some one) (find name (targets place rest))) ((bytes_eq-Decides name name).1 refl),
     )
+
 in_names : (place first : ℕ) (name : Bytes) (ds : List PlainDeclaration) (k : ℕ) (d : PlainDeclaration) → slice_get ds k ≡ Some d → type_names d ≡ name ∷ []
     → Found name (targets place (names_in Types (numbered first ds)))
 unfolding names_in numbered

@@ -101,8 +101,9 @@ fn method_named<'a>(
 fn class_generics(alloc: Global, one: &TypeParameter<Parsed>) -> Result<Generics, Memory>
     ensures { IfOk result (λ made. made ≡ spec.unconstrained (parameter (written_parameter one.now)) ∷ []) }
 {
+    let param = parameter_of(alloc, one)?;
     let mut params = Params::new(alloc);
-    params.push(parameter_of(alloc, one)?)?;
+    params.push(param)?;
     unconstrained(alloc, params)
 }
 

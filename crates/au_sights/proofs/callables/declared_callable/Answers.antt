@@ -31,3 +31,9 @@ returns-in-FunctionBody c = grind (arith, function_body_says)
 
 pub returns-in-InstanceBody : goal.returns-in-InstanceBody
 returns-in-InstanceBody c = grind (arith, instance_body_says)
+
+pub maker-requires-clause-named : goal.maker-requires-clause-named
+maker-requires-clause-named c = grind (arith, record_says)
+
+pub case_called-requires-clause-named : goal.case_called-requires-clause-named
+case_called-requires-clause-named c = grind (arith, union_says)
