@@ -63,7 +63,8 @@ abbrev pub methods_of : List (Signature Parsed (List ℕ) (Unit {0}) (Unit {0}))
 methods_of all = map (plain_header parsed.name_bytes) (map (header parsed) all)
 
 -- a method behind a reference, if there is one
-abbrev pub method_seen : Option (Bor (Signature Parsed (List ℕ) (Unit {0}) (Unit {0}))) → Option (Header Bytes)
+abbrev pub method_seen : Option (Bor (Signature Parsed (List ℕ) (Unit {0}) (Unit {0})))
+    → Option (Header Bytes)
 method_seen found =
     option_map (λ (b : Bor (Signature Parsed (List ℕ) (Unit {0}) (Unit {0}))). method_of b.now) found
 
