@@ -1,5 +1,5 @@
 -- Type parameters as arguments and without constraints, and cases under the arguments of a type.
-use Rattle.std.proofs.Common.{◌≡◌, ℕ, ◌+◌, ◌<◌, List, [], ◌∷◌, ◌++◌, length, map, take, get_or, Option, None, Some, refl, sym, ap, ◌∙◌}
+use Rattle.std.proofs.Common.{◌≡◌, ℕ, ◌+◌, ◌<◌, List, [], ◌∷◌, ◌++◌, length, map, take, Some, refl, sym, ap, ◌∙◌}
 use Rattle.std.specs.Prelude.{slice_get}
 use Rattle.std.proofs.lemmas.List.{map_more, take_more}
 use Rattle.std.proofs.lemmas.Option.{get_or_from_slice_get, slice_get_within}
@@ -13,8 +13,7 @@ use Rattle.au_types.specs.Types.{Argument, Arguments, no_arguments, arguments}
 use Rattle.au_types.specs.Views.{argument, argument_all}
 use Rattle.au_modules.specs.Programs.{ModuleParts}
 use Rattle.au_names.specs.Standing.{Standing}
-use Rattle.au_generics.specs.Bounds.{Bounded, bounded}
-use Rattle.au_scopes.specs.Scopes as scopes
+use Rattle.au_generics.specs.Bounds.{bounded}
 use Rattle.au_outsides.specs.Called.{as_argument, as_arguments, unconstrained}
 use Rattle.au_outsides.specs.Insides.{case_under, cases_under, number_of, with_arguments}
 use Rattle.au_outsides.specs.Written.{followed}

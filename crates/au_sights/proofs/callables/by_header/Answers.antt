@@ -8,7 +8,6 @@ use Rattle.au_generics.specs.Bounds.{parameters}
 use Rattle.au_outsides.specs.Called.{callable}
 use Rattle.au_outsides.specs.Written.{all_typed, meant_in}
 use Rattle.au_promises.specs.Written.{labels_of}
-use Rattle.au_sights.specs.Steps.{all_said}
 use Rattle.au_sights.proofs.callables.by_header.Goals as goal
 
 pub returns : goal.returns

@@ -2,7 +2,7 @@ use Rattle.au_syntax.specs.contracts.parsed.ParsedPhase.TheImpl.{ghosts as parse
 use Rattle.au_syntax.specs.Plain.{plain_header}
 use Rattle.au_syntax.specs.Views.{header}
 use Rattle.au_outsides.specs.Called.{is_method}
-use Rattle.au_sights.proofs.FollowedLemmas.{found_here, found_nowhere, not_here}
+use Rattle.au_sights.proofs.FollowedLemmas.{found_nowhere}
 use Rattle.au_sights.proofs.callables.method_named.Goals as goal
 
 pub returns : goal.returns
