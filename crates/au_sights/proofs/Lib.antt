@@ -1,0 +1,4 @@
+pub mod StandingLemmas
+pub mod FollowedLemmas
+pub mod ArgumentLemmas
+pub mod MakerLemmas
