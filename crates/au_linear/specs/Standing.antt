@@ -61,6 +61,10 @@ abbrev pub Gives : Result Reached Stop → Walk → Type 0
 Gives (Ok r) w = w ≡ Ok (reach_of r)
 Gives (Err e) w = Stops e w
 
+-- one walk behind another
+abbrev pub then_on : Walk → (Reach → Walk) → Walk
+then_on w more = w >>= more
+
 -- the arms of a case from one on, each from the states behind the expression, with the states behind them
 abbrev pub walk_each : Bytes → Sort → PlainArms → Hold → ℕ → Reach → Reach → Walk
 walk_each x sort no_arms h i r out = Ok out

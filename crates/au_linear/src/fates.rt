@@ -13,7 +13,7 @@ use au_lives::lives::{LifeKind, Sort};
 use au_uses::{State, Tally, Verdict, step};
 
 /// What the steps of a path have done so far.
-#[derive(Clone, Copy, Debug, PartialEq, Eq)]
+#[derive(Clone, Copy)]
 pub enum Fate {
     /// The life goes on: whether the variable is consumed.
     Going(bool),
@@ -22,7 +22,7 @@ pub enum Fate {
 }
 
 /// What a step does to a variable, by whether it finds the variable consumed.
-#[derive(Clone, Copy, Debug, PartialEq, Eq)]
+#[derive(Clone, Copy)]
 pub struct Effect {
     /// Where it isn't consumed.
     pub live: Fate,

@@ -12,7 +12,7 @@ use au_base::Name;
 use au_syntax::{Access, Bind, BorrowMode, Ident, Phase, Stmt};
 
 /// How the open borrow statements on a variable hold it.
-#[derive(Clone, Copy, Debug, PartialEq, Eq)]
+#[derive(Clone, Copy)]
 pub enum Hold {
     /// Not at all.
     Unlent,

@@ -6,10 +6,10 @@ ghost use Rattle.au_lives.specs.Lives as lives;
 ghost use Rattle.au_lives.specs.Mentions as mentions;
 ghost use Rattle.au_lives.specs.Mentions.{Counts, where_named, counts_in};
 ghost use Rattle.au_lives.specs.Paths.{whole, opening, assignment, assignment_behind};
-ghost use Rattle.au_lives.specs.Walks.{walk_step, does, noted, returned, ◌>>=◌};
+ghost use Rattle.au_lives.specs.Walks.{walk_step, does, noted, returned};
 ghost use Rattle.au_uses.specs.Tallies.{tally_of};
 ghost use Rattle.au_linear.specs.Seen.{seen_name, seen_expression};
-ghost use Rattle.au_linear.specs.Standing.{hold_of, reach_of, Gives};
+ghost use Rattle.au_linear.specs.Standing.{hold_of, reach_of, Gives, then_on};
 
 use crate::fates::{effect_of, is_free};
 use crate::holds::{Hold, is_named};
@@ -147,8 +147,9 @@ pub(crate) fn meet_assignment<P: Phase>(
     reach: Reached,
 ) -> Result<Reached, Stop>
     ensures { Gives result
-        (walk_step (does x.now sort (whole (seen_expression P.Phase e.now)) (hold_of hold)) (reach_of reach)
-        >>= walk_step (does x.now sort (assignment (seen_name P.Phase name.now).name) (hold_of hold))) }
+        (then_on
+        (walk_step (does x.now sort (whole (seen_expression P.Phase e.now)) (hold_of hold)) (reach_of reach))
+        (walk_step (does x.now sort (assignment (seen_name P.Phase name.now).name) (hold_of hold)))) }
 {
     let behind = meet(x, sort, hold, e, reach)?;
     let tally = mention_at(x, hold, name, write_tally());
@@ -165,8 +166,9 @@ pub(crate) fn meet_assignment_through<P: Phase>(
     reach: Reached,
 ) -> Result<Reached, Stop>
     ensures { Gives result
-        (walk_step (does x.now sort (whole (seen_expression P.Phase e.now)) (hold_of hold)) (reach_of reach)
-        >>= walk_step (does x.now sort (assignment_behind (seen_name P.Phase name.now).name) (hold_of hold))) }
+        (then_on
+        (walk_step (does x.now sort (whole (seen_expression P.Phase e.now)) (hold_of hold)) (reach_of reach))
+        (walk_step (does x.now sort (assignment_behind (seen_name P.Phase name.now).name) (hold_of hold)))) }
 {
     let behind = meet(x, sort, hold, e, reach)?;
     let tally = mention_at(x, hold, name, look_tally());
@@ -199,8 +201,9 @@ pub(crate) fn meet_both<P: Phase>(
     reach: Reached,
 ) -> Result<Reached, Stop>
     ensures { Gives result
-        (walk_step (does x.now sort (whole (seen_expression P.Phase one.now)) (hold_of hold)) (reach_of reach)
-        >>= walk_step (does x.now sort (whole (seen_expression P.Phase other.now)) (hold_of hold))) }
+        (then_on
+        (walk_step (does x.now sort (whole (seen_expression P.Phase one.now)) (hold_of hold)) (reach_of reach))
+        (walk_step (does x.now sort (whole (seen_expression P.Phase other.now)) (hold_of hold)))) }
 {
     let behind = meet(x, sort, hold, one, reach)?;
     meet(x, sort, hold, other, behind)
@@ -215,8 +218,9 @@ pub(crate) fn meet_return<P: Phase>(
     reach: Reached,
 ) -> Result<Reached, Stop>
     ensures { Gives result
-        (walk_step (does x.now sort (whole (seen_expression P.Phase e.now)) (hold_of hold)) (reach_of reach)
-        >>= returned sort) }
+        (then_on
+        (walk_step (does x.now sort (whole (seen_expression P.Phase e.now)) (hold_of hold)) (reach_of reach))
+        (returned sort)) }
 {
     let behind = meet(x, sort, hold, e, reach)?;
     returned(sort, behind)

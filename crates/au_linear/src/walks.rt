@@ -2,11 +2,11 @@
 
 ghost use Rattle.std.specs.Prelude.{◌≡◌, ◌≤◌, drop, length, Ok, Some, None, []};
 ghost use Rattle.au_lives.specs.Walks as walks;
-ghost use Rattle.au_lives.specs.Walks.{walk, walk_block, walk_branches, turned, joined, checked, ◌>>=◌};
+ghost use Rattle.au_lives.specs.Walks.{walk, walk_block, walk_branches, turned, joined, checked};
 ghost use Rattle.au_lives.specs.Lives.{held_from, unlent};
 ghost use Rattle.au_lives.specs.Paths.{bound_names};
 ghost use Rattle.au_linear.specs.Seen.{seen_expression, seen_statement, seen_statements, seen_block, seen_branches, seen_arms, seen_binds};
-ghost use Rattle.au_linear.specs.Standing.{hold_of, reach_of, Gives, Forks, Branches, walk_case};
+ghost use Rattle.au_linear.specs.Standing.{hold_of, reach_of, Gives, Forks, Branches, walk_case, then_on};
 
 use crate::holds::{Hold, access_of, held_after, held_beside, held_beside_binds, held_in_borrow};
 use crate::meeting::{meet, meet_assignment, meet_assignment_through, meet_both, meet_opening, meet_return, meet_test};
@@ -186,8 +186,9 @@ fn walk_else<P: Phase>(
     fork: Fork,
 ) -> Result<Reached, Stop>
     ensures { Gives result
-        (walk_block x.now sort (seen_block P.Phase block.now) (hold_of hold) (walks.choose count (reach_of fork.at))
-        >>= joined (reach_of fork.out)) }
+        (then_on
+        (walk_block x.now sort (seen_block P.Phase block.now) (hold_of hold) (walks.choose count (reach_of fork.at)))
+        (joined (reach_of fork.out))) }
 {
     let Fork { at, out } = fork;
     let entry = choose(alloc, count, &at)?;
@@ -231,9 +232,11 @@ fn walk_arm<P: Phase>(
     out: Reached,
 ) -> Result<Reached, Stop>
     ensures { Gives result
+        (then_on
         (walk_block x.now sort (seen_block P.Phase arm.now.block)
         (held_from x.now (bound_names (seen_binds P.Phase arm.now.binds.items)) (hold_of hold))
-        (walks.choose number (reach_of reach.now)) >>= joined (reach_of out)) }
+        (walks.choose number (reach_of reach.now)))
+        (joined (reach_of out))) }
 {
     let inside = held_beside_binds(x, &arm.binds, hold);
     let entry = choose(alloc, number, reach)?;
