@@ -1,16 +1,24 @@
 -- Walks one after another, branches and arms.
-use Rattle.std.proofs.Common.{◌≡◌, ◌≢◌, ℕ, ◌+◌, List, [], ◌∷◌, length, drop, get_or, ◌<◌, ◌≤◌, refl, sym, ap, subst, ◌∙◌, arith, Ok, Err}
+use Rattle.std.proofs.Common.{◌≡◌, ◌≢◌, ℕ, ◌+◌, List, [], ◌∷◌, length, drop, get_or, ◌<◌, ◌≤◌, refl, sym, ap, subst, ◌∙◌, arith, Vec, Result, Ok, Err}
+use Rattle.std.specs.Global.{Global}
+use Rattle.au_base.specs.declared.places.Pos.{Pos}
 use Rattle.au_syntax.specs.declared.phases.Phase.{Ghosts}
 use Rattle.std.proofs.lemmas.List.{drop_all}
 use Rattle.au_syntax.specs.declared.statements.Stmt.{Stmt}
+use Rattle.au_syntax.specs.declared.statements.Stmt as code
+use Rattle.std.specs.declared.boxed.Box.{Box}
+use Rattle.au_syntax.specs.declared.expressions.Expr.{Expr}
+use Rattle.au_syntax.specs.declared.statements.Block.{Block}
 use Rattle.au_syntax.specs.declared.statements.Branch.{Branch}
 use Rattle.au_syntax.specs.declared.statements.Arm.{Arm}
-use Rattle.au_syntax.specs.Plain.{Bytes, PlainArms, PlainExpression, PlainStatement, PlainStatements}
-use Rattle.au_syntax.specs.Statements.{no_arms, arms, statements}
+use Rattle.au_syntax.proofs.StatementLemmas.{if_says, if_else_says, case_says}
+use Rattle.au_syntax.specs.Plain.{plain_statement, Bytes, PlainBranches, PlainArms, PlainExpression, PlainStatement, PlainStatements}
+use Rattle.au_syntax.specs.Statements.{case_of, no_arms, arms, statements}
 use Rattle.au_lives.specs.declared.lives.Sort.{Sort}
 use Rattle.au_lives.specs.Lives.{Hold, held_from}
-use Rattle.au_lives.specs.Paths.{bound_names, declared_by}
-use Rattle.au_lives.specs.Walks.{Reach, Walk, nowhere, choose, merge, joined, walk, walk_block, walk_branches, walk_arms, ◌>>=◌}
+use Rattle.au_lives.specs.Paths.{whole, bound_names, declared_by}
+use Rattle.au_lives.specs.Walks.{Reach, Walk, nowhere, choose, merge, joined, walk, walk_block, walk_branches, walk_arms, walk_step, does, noted, ◌>>=◌}
+use Rattle.au_linear.specs.declared.reaches.Reached.{Reached}
 use Rattle.au_linear.specs.declared.reaches.Stop.{Stop}
 use Rattle.au_linear.specs.declared.reaches.Stop.TheVariants as stops
 use Rattle.au_linear.specs.declared.reaches.Fork.{Fork}
@@ -29,7 +37,7 @@ stops_at e p h = subst (Stops e) p h
 pub goes_on : (w : Walk) (k : Reach → Walk) (r : Reach) → w ≡ Ok r → (w >>= k) ≡ k r
 goes_on w k r h = ap (λ (v : Walk). v >>= k) h
 
-reached : Walk → Reach
+abbrev reached : Walk → Reach
 reached (Ok r) = r
 reached (Err e) = nowhere
 
@@ -77,6 +85,14 @@ module _ {X N T C : Type 0} (g : Ghosts X N T C) (x : Bytes) (sort : Sort) (h : 
   case_done xs i out n past before =
       case_some xs n ∙ sym before ∙ ap (λ l. walk_each x sort (seen_arms g l) h i q out) (drop_all i xs past)
 
+  -- behind all arms, or where there is none
+  pub case_ends : (xs : List (Arm X N T C)) (i : ℕ) (out : Reach) (r : Result Reached Stop) → length xs ≤ i →
+      walk_each x sort (seen_arms g (drop i xs)) h i q out ≡ walk_each x sort (seen_arms g xs) h 0 q nowhere →
+      (length xs ≡ 0 → Gives r (Ok (choose 0 q))) → (length xs ≢ 0 → Gives r (Ok out)) → Gives r (walk_case x sort (seen_arms g xs) h q)
+  case_ends [] i out r past before none some = none refl
+  case_ends (a ∷ rest) i out r past before none some =
+      subst (Gives r) (sym (case_done (a ∷ rest) i out (omega arith) past before)) (some (omega arith))
+
   pub arm_goes : (xs : List (Arm X N T C)) (i : ℕ) (a : Arm X N T C) → a ≡ get_or xs i a → i < length xs → (out more : Reach) (w : Walk) →
       walk_each x sort (seen_arms g (drop i xs)) h i q out ≡ w →
       (walk_block x sort (seen_block g a.block) (held_from x (bound_names (seen_binds g a.binds.items)) h) (choose i q) >>= joined out) ≡ Ok more →
@@ -87,13 +103,13 @@ module _ {X N T C : Type 0} (g : Ghosts X N T C) (x : Bytes) (sort : Sort) (h : 
       ∙ sym (ap (λ l. walk_each x sort (seen_arms g l) h i q out) (next_item xs i a is lt))
       ∙ before
 
-  pub arm_stops : (xs : List (Arm X N T C)) (i : ℕ) (a : Arm X N T C) → a ≡ get_or xs i a → i < length xs → length xs ≢ 0 → (out : Reach) (e : Stop) →
+  pub arm_stops : (xs : List (Arm X N T C)) (i : ℕ) (a : Arm X N T C) → a ≡ get_or xs i a → i < length xs → (out : Reach) (e : Stop) →
       walk_each x sort (seen_arms g (drop i xs)) h i q out ≡ walk_each x sort (seen_arms g xs) h 0 q nowhere →
       Stops e (walk_block x sort (seen_block g a.block) (held_from x (bound_names (seen_binds g a.binds.items)) h) (choose i q) >>= joined out) →
       Stops e (walk_case x sort (seen_arms g xs) h q)
-  arm_stops xs i a is lt n out e before one =
+  arm_stops xs i a is lt out e before one =
       stops_at e
-      (sym (ap (λ l. walk_each x sort (seen_arms g l) h i q out) (next_item xs i a is lt)) ∙ before ∙ sym (case_some xs n))
+      (sym (ap (λ l. walk_each x sort (seen_arms g l) h i q out) (next_item xs i a is lt)) ∙ before ∙ sym (case_some xs (omega (arith, lt))))
       (unmerged e (walk_block x sort (seen_block g a.block) (held_from x (bound_names (seen_binds g a.binds.items)) h) (choose i q))
       Ok (λ o. walk_each x sort (seen_arms g (drop (i + 1) xs)) h (i + 1) q (merge out o)) out one)
 
@@ -149,3 +165,63 @@ module _ {X N T C : Type 0} (g : Ghosts X N T C) (x : Bytes) (sort : Sort) where
       sym (before other)
       ∙ ap (λ l. walk_branches x sort (seen_branches g l) h other i (reach_of f.at) (reach_of f.out)) (drop_all i xs past)
       ∙ ap (λ n. other (choose n (reach_of f.at)) >>= joined (reach_of f.out)) e
+
+module _ {X N T C : Type 0} (g : Ghosts X N T C) (x : Bytes) (sort : Sort) (h : Hold) (r : Reach) where
+  pub if_walks : (stmt : Stmt X N T C) (at : Pos) (bs : Vec (Branch X N T C) Global) → stmt ≡ code.If at bs →
+      walk x sort (seen_statement g stmt) h r ≡ walk_branches x sort (seen_branches g bs.items) h Ok 0 r nowhere
+  if_walks stmt at bs is =
+      ap (λ s. walk x sort (seen_statement g s) h r) is
+      ∙ ap (λ s. walk x sort (plain_statement g.name_bytes s) h r) (if_says g at bs)
+
+  pub if_else_walks : (stmt : Stmt X N T C) (at : Pos) (bs : Vec (Branch X N T C) Global) (b : Block X N T C) → stmt ≡ code.IfElse at bs b →
+      walk x sort (seen_statement g stmt) h r
+      ≡ walk_branches x sort (seen_branches g bs.items) h (walk_block x sort (seen_block g b) h) 0 r nowhere
+  if_else_walks stmt at bs b is =
+      ap (λ s. walk x sort (seen_statement g s) h r) is
+      ∙ ap (λ s. walk x sort (plain_statement g.name_bytes s) h r) (if_else_says g at bs b)
+
+-- a case behind its expression
+case_behind : (x : Bytes) (sort : Sort) (h : Hold) (r : Reach) (at : Pos) (e : PlainExpression) (rest : PlainArms) →
+    walk x sort (case_of at e rest) h r ≡ (walk_step (does x sort (whole e) h) r >>= walk_case x sort rest h)
+case_behind x sort h r at e no_arms = refl
+case_behind x sort h r at e (arms when' name binds b more) = refl
+
+module _ {X N T C : Type 0} (g : Ghosts X N T C) (x : Bytes) (sort : Sort) (h : Hold) (r : Reach) where
+  pub case_walks : (stmt : Stmt X N T C) (at : Pos) (e : Box (Expr X N T C) Global) (rest : Vec (Arm X N T C) Global) → stmt ≡ code.Case at e rest →
+      (q : Reach) → walk_step (does x sort (whole (seen_expression g e.value)) h) r ≡ Ok q →
+      walk x sort (seen_statement g stmt) h r ≡ walk_case x sort (seen_arms g rest.items) h q
+  case_walks stmt at e rest is q test =
+      ap (λ s. walk x sort (seen_statement g s) h r) is
+      ∙ ap (λ s. walk x sort (plain_statement g.name_bytes s) h r) (case_says g at e rest)
+      ∙ case_behind x sort h r at (seen_expression g e.value) (seen_arms g rest.items)
+      ∙ goes_on (walk_step (does x sort (whole (seen_expression g e.value)) h) r) (walk_case x sort (seen_arms g rest.items) h) q test
+
+pub gives_at : (r : Result Reached Stop) {v w : Walk} → v ≡ w → Gives r v → Gives r w
+gives_at r p h = subst (Gives r) p h
+
+module _ (x : Bytes) (sort : Sort) (h : Hold) (i : ℕ) (e : PlainExpression) (b : PlainStatements) (f : Fork) where
+  tests : Walk
+  tests = noted i (walk_step (does x sort (whole e) h) (reach_of f.at))
+
+  later : PlainBranches → (Reach → Walk) → Reach → Reach → Walk
+  later more other q o = walk_branches x sort more h other (i + 1) q (merge (reach_of f.out) o)
+
+  pub test_stops : (s : Stop) → Stops s (noted i (walk_step (does x sort (whole e) h) (reach_of f.at))) → Branches x sort h (Err s) e b i f
+  unfolding tests later
+  test_stops s hyp more other = stops_on s tests (λ q. walk_block x sort b h (choose i q) >>= later more other q) hyp
+
+  pub part_stops : (s : Stop) (q entry : Reach) → noted i (walk_step (does x sort (whole e) h) (reach_of f.at)) ≡ Ok q → entry ≡ choose i q →
+      Stops s (walk_block x sort b h entry) → Branches x sort h (Err s) e b i f
+  unfolding tests later
+  part_stops s q entry t en hyp more other =
+      stops_at s (sym (goes_on tests (λ q. walk_block x sort b h (choose i q) >>= later more other q) q t))
+      (stops_on s (walk_block x sort b h (choose i q)) (later more other q) (subst (λ v. Stops s (walk_block x sort b h v)) en hyp))
+
+  pub branch_done : (q entry o : Reach) (next : Fork) → noted i (walk_step (does x sort (whole e) h) (reach_of f.at)) ≡ Ok q → entry ≡ choose i q →
+      walk_block x sort b h entry ≡ Ok o → reach_of next.at ≡ q → reach_of next.out ≡ merge (reach_of f.out) o → Branches x sort h (Ok next) e b i f
+  unfolding tests later
+  branch_done q entry o next t en one at out more other =
+      goes_on tests (λ q. walk_block x sort b h (choose i q) >>= later more other q) q t
+      ∙ goes_on (walk_block x sort b h (choose i q)) (later more other q) o (ap (walk_block x sort b h) (sym en) ∙ one)
+      ∙ ap (λ a. walk_branches x sort more h other (i + 1) a (merge (reach_of f.out) o)) (sym at)
+      ∙ ap (walk_branches x sort more h other (i + 1) (reach_of next.at)) (sym out)

@@ -3,3 +3,6 @@ pub mod BranchLemmas
 pub mod FirstLemmas
 pub mod PlaceLemmas
 pub mod TellingLemmas
+pub mod RefusalSteps
+pub mod DeclaringLemmas
+pub mod SizeLemmas

@@ -4,16 +4,15 @@ use Rattle.std.proofs.lemmas.List.{drop_all}
 use Rattle.au_lives.specs.declared.lives.Sort.{Sort}
 use Rattle.au_lives.specs.Scopes.{Scope}
 use Rattle.au_lives.specs.Refusals.{Refusal, Variable, Refused, refusal, or_later, first_refused}
+use Rattle.au_syntax.specs.Plain.{Bytes}
+use Rattle.au_linear.specs.declared.faults.Refused.{Refused as FaultRefused}
 use Rattle.au_linear.specs.declared.faults.LinearFault.{LinearFault}
 use Rattle.au_linear.specs.declared.faults.LinearFault.TheVariants as faults
-use Rattle.au_linear.specs.Telling.{asked, sorted, Tells, Sees}
+use Rattle.au_linear.specs.Telling.{asked, sorted, refusal_of, Tells, Sees}
 use Rattle.au_linear.proofs.SeenLemmas.{next_item}
 
-drop_none : {A : Type 0} (n : ℕ) → drop n ([] : List A) ≡ []
-drop_none {A} n = drop_all [] n (omega arith)
-
 drop_one_more : {A : Type 0} (n : ℕ) (xs : List A) → drop n (drop 1 xs) ≡ drop (suc n) xs
-drop_one_more n [] = drop_none n
+drop_one_more n [] = drop_all n [] (omega arith)
 drop_one_more n (x ∷ xs) = refl
 
 drop_both : {A : Type 0} (a b : List Scope) (xs : List A) → drop (length b) (drop (length a) xs) ≡ drop (length (a ++ b)) xs
@@ -58,6 +57,28 @@ tells_more faults.Memory o p more h = tt
 
 pub sees_none : (sorts : List Sort) (n : ℕ) → Sees (Ok n) [] sorts n
 sees_none sorts n = (refl, refl)
+
+abbrev variable : Scope → List Sort → ℕ → Variable
+variable v sorts n = record { scope = v; sort = asked (drop n sorts) }
+
+same_refusal : (v : Scope) (sorts : List Sort) (n : ℕ) (x : Bytes) (sort : Sort) → x ≡ v.name.name → sort ≡ asked (drop n sorts) →
+    refusal v.name.name (asked (drop n sorts)) v.block ≡ refusal x sort v.block
+same_refusal v sorts n x sort p q =
+    sym (ap (λ x. refusal x sort v.block) p ∙ ap (λ s. refusal v.name.name s v.block) q)
+
+-- one variable whose life is good
+pub one_good : (v : Scope) (sorts : List Sort) (n next : ℕ) (x : Bytes) (sort : Sort) → x ≡ v.name.name → sort ≡ asked (drop n sorts) →
+    refusal x sort v.block ≡ None → drop next sorts ≡ drop 1 (drop n sorts) → Sees (Ok next) (v ∷ []) sorts n
+one_good v sorts n next x sort p q h e =
+    (ap (λ o. or_later (variable v sorts n) o None) (same_refusal v sorts n x sort p q ∙ h), e)
+
+-- one that is refused
+pub one_refused : (v : Scope) (sorts : List Sort) (n : ℕ) (x : Bytes) (sort : Sort) (f : FaultRefused) → x ≡ v.name.name → sort ≡ asked (drop n sorts) →
+    refusal x sort v.block ≡ Some (refusal_of f.why) → v.name.name ≡ f.variable → v.name.at ≡ f.at → Sees (Err (faults.Refused f)) (v ∷ []) sorts n
+one_refused v sorts n x sort f p q h name at =
+    (record { variable = variable v sorts n; why = refusal_of f.why },
+    (ap (λ o. or_later (variable v sorts n) o None) (same_refusal v sorts n x sort p q ∙ h),
+    (name, (at, refl))))
 
 rest_first : (a b : List Scope) (sorts : List Sort) (m n : ℕ) → Sees (Ok m) a sorts n →
     first_refused (sorted (a ++ b) (drop n sorts)) ≡ first_refused (sorted b (drop m sorts))

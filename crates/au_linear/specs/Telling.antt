@@ -42,3 +42,8 @@ Sees (Ok next) scopes sorts from =
     (first_refused (sorted scopes (drop from sorts)) ≡ None)
     × (drop next sorts ≡ drop (length scopes) (drop from sorts))
 Sees (Err f) scopes sorts from = Tells f (first_refused (sorted scopes (drop from sorts)))
+
+-- Each of some variables has a good life; or a fault tells which is the first that has none, and why.
+abbrev pub Judges : Result (Unit {0}) LinearFault → List Variable → Type 0
+Judges (Ok done) variables = GoodLives variables
+Judges (Err f) variables = Tells f (first_refused variables)

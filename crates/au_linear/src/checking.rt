@@ -1,11 +1,10 @@
 //! Whether the life of each variable of a body is good.
 
-ghost use Rattle.std.specs.Prelude.{◌≡◌, ◌≤◌, ◌++◌, drop, length, map, ◌∷◌, [], IfOk, MatchResult};
+ghost use Rattle.std.specs.Prelude.{◌≡◌, ◌≤◌, ◌++◌, drop, length, map, ◌∷◌, [], IfOk};
 ghost use Rattle.au_lives.specs.Scopes.{scope, scopes, scopes_after, scopes_inside, scopes_of_branches, scopes_of_arms, bound_over, scopes_of};
 ghost use Rattle.au_lives.specs.Paths.{bound_name};
-ghost use Rattle.au_lives.specs.Refusals.{GoodLives, first_refused};
 ghost use Rattle.au_linear.specs.Seen.{seen_name, seen_bind, seen_binds, seen_parameters, seen_statement, seen_statements, seen_block, seen_branches, seen_arms};
-ghost use Rattle.au_linear.specs.Telling.{asked, sorted, Sees, Tells};
+ghost use Rattle.au_linear.specs.Telling.{asked, sorted, Sees, Judges};
 
 use crate::faults::{LinearFault, Refused, Why};
 use crate::judging::told;
@@ -178,8 +177,8 @@ fn check_block<P: Phase>(
 {
     let mut at = next;
     for (index, one) in block.statements.iter().enumerate() {
-        at = check_after(alloc, one, block, index + 1, sorts, at)?;
-        at = check_inside(alloc, one, sorts, at)?;
+        let behind = check_after(alloc, one, block, index + 1, sorts, at)?;
+        at = check_inside(alloc, one, sorts, behind)?;
     }
     Ok(at)
 }
@@ -203,17 +202,12 @@ fn check_inside<P: Phase>(
         }
         Stmt::Case(_, _, arms) => check_arms(alloc, arms, sorts, next),
         Stmt::While(_, _, block) => check_block(alloc, block, sorts, next),
-        Stmt::For(_, name, _, _, block) => {
-            let behind = check_variable(alloc, name, block, 0, sorts, next)?;
-            check_block(alloc, block, sorts, behind)
-        }
+        Stmt::For(_, name, _, _, block) => check_named(alloc, name, block, sorts, next),
         Stmt::Borrow(_, _, names, block, _) => {
-            let behind = check_variable(alloc, &names.reference, block, 0, sorts, next)?;
-            check_block(alloc, block, sorts, behind)
+            check_named(alloc, &names.reference, block, sorts, next)
         }
         Stmt::BorrowTyped(_, reference, _, _, _, block, _) => {
-            let behind = check_variable(alloc, reference, block, 0, sorts, next)?;
-            check_block(alloc, block, sorts, behind)
+            check_named(alloc, reference, block, sorts, next)
         }
         Stmt::Skip(_) => Ok(next),
         Stmt::Let(_, _, _, _, _) => Ok(next),
@@ -223,6 +217,23 @@ fn check_inside<P: Phase>(
         Stmt::Call(_, _) => Ok(next),
         Stmt::Return(_, _) => Ok(next),
     }
+}
+
+/// Whether the lives of this variable over a block and of the variables of the block are good.
+#[cycle(checking)]
+fn check_named<P: Phase>(
+    alloc: Global,
+    name: &Ident<P>,
+    block: &Block<P>,
+    sorts: &[Sort],
+    next: usize,
+) -> Result<usize, LinearFault>
+    ensures { Sees result
+        (scope (seen_name P.Phase name.now) (seen_block P.Phase block.now) ∷ scopes (seen_block P.Phase block.now))
+        sorts.now next }
+{
+    let behind = check_variable(alloc, name, block, 0, sorts, next)?;
+    check_block(alloc, block, sorts, behind)
 }
 
 /// Whether the lives of the variables of some branches are good.
@@ -289,6 +300,20 @@ fn check_arm<P: Phase>(
     check_block(alloc, &arm.block, sorts, behind)
 }
 
+/// Whether the lives of the parameters and of the variables of a body are good.
+fn check_all<P: Phase>(
+    alloc: Global,
+    parameters: &Vec<Field<P>>,
+    body: &Block<P>,
+    sorts: &[Sort],
+) -> Result<usize, LinearFault>
+    ensures { Sees result
+        (scopes_of (seen_parameters P.Phase parameters.now.items) (seen_block P.Phase body.now)) sorts.now 0 }
+{
+    let behind = check_parameters(alloc, parameters, body, sorts)?;
+    check_block(alloc, body, sorts, behind)
+}
+
 /// Whether the life of each variable of a function is good. The sorts say what the type of each variable asks, in
 /// text order with the parameters first; one that has none is to be consumed once.
 ///
@@ -300,12 +325,9 @@ pub fn check_body<P: Phase>(
     body: &Block<P>,
     sorts: &[Sort],
 ) -> Result<(), LinearFault>
-    ensures good { MatchResult result
-        (λ _. GoodLives (sorted (scopes_of (seen_parameters P.Phase parameters.now.items) (seen_block P.Phase body.now)) sorts.now))
-        (λ fault. Tells fault (first_refused
-        (sorted (scopes_of (seen_parameters P.Phase parameters.now.items) (seen_block P.Phase body.now)) sorts.now))) }
+    ensures { Judges result
+        (sorted (scopes_of (seen_parameters P.Phase parameters.now.items) (seen_block P.Phase body.now)) sorts.now) }
 {
-    let behind = check_parameters(alloc, parameters, body, sorts)?;
-    let _end = check_block(alloc, body, sorts, behind)?;
+    check_all(alloc, parameters, body, sorts)?;
     Ok(())
 }

@@ -1,6 +1,6 @@
 //! What is told of one variable.
 
-ghost use Rattle.std.specs.Prelude.{◌≡◌, ◌≤◌, IfOk, drop, length};
+ghost use Rattle.std.specs.Prelude.{◌≡◌, ◌≤◌, IfOk, drop, take, length};
 ghost use Rattle.std.specs.Option.{option_map};
 ghost use Rattle.au_lives.specs.Trimming.{without_zeros};
 ghost use Rattle.au_lives.specs.Walks.{checked};
@@ -17,15 +17,27 @@ use au_lives::lives::Sort;
 use au_syntax::{Block, Phase};
 use std::alloc::Global;
 
+/// How many numbers there are up to the last that isn't 0.
+#[tactic(auto, using(crate::proofs::RefusalSteps::zero_goes, crate::proofs::RefusalSteps::other_stays))]
+fn kept(path: &Vec<usize>) -> usize
+    ensures { without_zeros path.now.items ≡ take result path.now.items }
+{
+    let mut count = path.len();
+    while count > 0 {
+        if path[count - 1] != 0 {
+            return count;
+        }
+        count -= 1;
+    }
+    count
+}
+
 /// The numbers up to the last that isn't 0.
 fn trimmed(path: Vec<usize>) -> Vec<usize>
     ensures { result.items ≡ without_zeros path.items }
 {
     let mut left = path;
-    let mut count = left.len();
-    while count > 0 && left[count - 1] == 0 {
-        count -= 1;
-    }
+    let count = kept(&left);
     left.truncate(count);
     left
 }
@@ -50,6 +62,7 @@ fn told_by_walk<P: Phase>(
 }
 
 /// What is told of a variable that lives over the statements from this number on.
+#[tactic(auto, using(crate::proofs::RefusalSteps::by_firsts))]
 pub(crate) fn told<P: Phase>(
     alloc: Global,
     x: &Name,

@@ -7,6 +7,7 @@ pub mod fates;
 pub mod faults;
 pub mod holds;
 pub mod judging;
+pub mod laws;
 pub mod meeting;
 pub mod placing;
 pub mod reaches;

@@ -175,20 +175,34 @@ pub(crate) fn meet_assignment_through<P: Phase>(
     go_on(effect_of(hold, tally), behind)
 }
 
+/// An expression on the heap.
+pub(crate) fn meet_boxed<P: Phase>(
+    x: &Name,
+    sort: Sort,
+    hold: Hold,
+    e: &Box<Expr<P>>,
+    reach: Reached,
+) -> Result<Reached, Stop>
+    ensures { Gives result
+        (walk_step (does x.now sort (whole (seen_expression P.Phase e.now.value)) (hold_of hold)) (reach_of reach)) }
+{
+    meet(x, sort, hold, e, reach)
+}
+
 /// The test of a branch of this number.
 pub(crate) fn meet_test<P: Phase>(
     number: usize,
     x: &Name,
     sort: Sort,
     hold: Hold,
-    e: &Expr<P>,
+    e: &Box<Expr<P>>,
     reach: Reached,
 ) -> Result<Reached, Stop>
     ensures { Gives result
         (noted number
-        (walk_step (does x.now sort (whole (seen_expression P.Phase e.now)) (hold_of hold)) (reach_of reach))) }
+        (walk_step (does x.now sort (whole (seen_expression P.Phase e.now.value)) (hold_of hold)) (reach_of reach))) }
 {
-    noted(number, meet(x, sort, hold, e, reach))
+    noted(number, meet_boxed(x, sort, hold, e, reach))
 }
 
 /// Two expressions, one after the other.

@@ -1,6 +1,6 @@
 //! The walk over the block where a variable lives.
 
-ghost use Rattle.std.specs.Prelude.{◌≡◌, ◌≤◌, drop, length, Ok, Some, None, []};
+ghost use Rattle.std.specs.Prelude.{◌≡◌, ◌≢◌, ◌≤◌, drop, length, Ok, Some, None, []};
 ghost use Rattle.au_lives.specs.Walks as walks;
 ghost use Rattle.au_lives.specs.Walks.{walk, walk_block, walk_branches, turned, joined, checked};
 ghost use Rattle.au_lives.specs.Lives.{held_from, unlent};
@@ -9,7 +9,7 @@ ghost use Rattle.au_linear.specs.Seen.{seen_expression, seen_statement, seen_sta
 ghost use Rattle.au_linear.specs.Standing.{hold_of, reach_of, Gives, Forks, Branches, walk_case, then_on};
 
 use crate::holds::{Hold, access_of, held_after, held_beside, held_beside_binds, held_in_borrow};
-use crate::meeting::{meet, meet_assignment, meet_assignment_through, meet_both, meet_opening, meet_return, meet_test};
+use crate::meeting::{meet, meet_boxed, meet_assignment, meet_assignment_through, meet_both, meet_opening, meet_return, meet_test};
 use crate::reaches::{Fork, Reached, Stop, choose, finish, merge, nowhere};
 use au_base::Name;
 use au_lives::lives::Sort;
@@ -37,14 +37,14 @@ fn walk<P: Phase>(
         Stmt::AssignThrough(_, name, _, e) => meet_assignment_through(x, sort, hold, e, name, reach),
         Stmt::If(_, branches) => {
             let fork = walk_branches(alloc, x, sort, hold, branches, reach)?;
-            walk_past(alloc, branches.len(), fork)
+            walk_past(alloc, branches, fork)
         }
         Stmt::IfElse(_, branches, block) => {
             let fork = walk_branches(alloc, x, sort, hold, branches, reach)?;
-            walk_else(alloc, x, sort, hold, branches.len(), block, fork)
+            walk_else(alloc, x, sort, hold, block, branches, fork)
         }
         Stmt::Case(_, e, arms) => {
-            let behind = meet(x, sort, hold, e, reach)?;
+            let behind = meet_boxed(x, sort, hold, e, reach)?;
             walk_case(alloc, x, sort, hold, arms, behind)
         }
         Stmt::While(_, e, block) => {
@@ -166,32 +166,34 @@ fn walk_branch<P: Phase>(
     })
 }
 
-/// What is left of a conditional without an `else`, behind so many branches.
-fn walk_past(alloc: Global, count: usize, fork: Fork) -> Result<Reached, Stop>
-    ensures { Gives result (joined (reach_of fork.out) (walks.choose count (reach_of fork.at))) }
+/// What is left of a conditional without an `else`, behind its branches.
+fn walk_past<P: Phase>(alloc: Global, branches: &Vec<Branch<P>>, fork: Fork) -> Result<Reached, Stop>
+    ensures { Gives result
+        (joined (reach_of fork.out) (walks.choose (length branches.now.items) (reach_of fork.at))) }
 {
-    let past = choose(alloc, count, &fork.at)?;
+    let past = choose(alloc, branches.len(), &fork.at)?;
     Ok(merge(fork.out, past))
 }
 
-/// What is done where none of so many tests holds.
+/// What is done where no test of these branches holds.
 #[cycle(walk)]
 fn walk_else<P: Phase>(
     alloc: Global,
     x: &Name,
     sort: Sort,
     hold: Hold,
-    count: usize,
     block: &Block<P>,
+    branches: &Vec<Branch<P>>,
     fork: Fork,
 ) -> Result<Reached, Stop>
     ensures { Gives result
         (then_on
-        (walk_block x.now sort (seen_block P.Phase block.now) (hold_of hold) (walks.choose count (reach_of fork.at)))
+        (walk_block x.now sort (seen_block P.Phase block.now) (hold_of hold)
+        (walks.choose (length branches.now.items) (reach_of fork.at)))
         (joined (reach_of fork.out))) }
 {
     let Fork { at, out } = fork;
-    let entry = choose(alloc, count, &at)?;
+    let entry = choose(alloc, branches.len(), &at)?;
     let one = walk_block(alloc, x, sort, hold, block, entry)?;
     Ok(merge(out, one))
 }
@@ -209,14 +211,28 @@ fn walk_case<P: Phase>(
     ensures { Gives result
         (walk_case x.now sort (seen_arms P.Phase arms.now.items) (hold_of hold) (reach_of reach)) }
 {
-    if arms.is_empty() {
-        return leave(alloc, &reach);
-    }
     let mut out = nowhere();
     for (number, one) in arms.iter().enumerate() {
         out = walk_arm(alloc, x, sort, hold, number, one, &reach, out)?;
     }
-    Ok(out)
+    behind_arms(alloc, arms, &reach, out)
+}
+
+/// What is left of a case, behind its arms: where it has none, what is left is what stands before them.
+fn behind_arms<P: Phase>(
+    alloc: Global,
+    arms: &Vec<Arm<P>>,
+    reach: &Reached,
+    out: Reached,
+) -> Result<Reached, Stop>
+    ensures none { length arms.now.items ≡ 0 → Gives result (Ok (walks.choose 0 (reach_of reach.now))) }
+    ensures some { length arms.now.items ≢ 0 → Gives result (Ok (reach_of out)) }
+{
+    if arms.is_empty() {
+        leave(alloc, reach)
+    } else {
+        Ok(out)
+    }
 }
 
 /// One arm of a case.
