@@ -75,10 +75,13 @@ one_good v sorts n next x sort p q h e =
 -- one that is refused
 pub one_refused : (v : Scope) (sorts : List Sort) (n : ℕ) (x : Bytes) (sort : Sort) (f : FaultRefused) → x ≡ v.name.name → sort ≡ asked (drop n sorts) →
     refusal x sort v.block ≡ Some (refusal_of f.why) → v.name.name ≡ f.variable → v.name.at ≡ f.at → Sees (Err (faults.Refused f)) (v ∷ []) sorts n
-one_refused v sorts n x sort f p q h name at =
-    (record { variable = variable v sorts n; why = refusal_of f.why },
-    (ap (λ o. or_later (variable v sorts n) o None) (same_refusal v sorts n x sort p q ∙ h),
-    (name, (at, refl))))
+one_refused v sorts n x sort f p q h name at = (
+  record { variable = variable v sorts n; why = refusal_of f.why },
+  (
+    ap (λ o. or_later (variable v sorts n) o None) (same_refusal v sorts n x sort p q ∙ h),
+    (name, (at, refl)),
+  ),
+)
 
 rest_first : (a b : List Scope) (sorts : List Sort) (m n : ℕ) → Sees (Ok m) a sorts n →
     first_refused (sorted (a ++ b) (drop n sorts)) ≡ first_refused (sorted b (drop m sorts))
@@ -90,9 +93,10 @@ rest_first a b sorts m n h =
 -- some variables and then others
 pub sees_both : (a b : List Scope) (sorts : List Sort) (m n : ℕ) (r : Result ℕ LinearFault) → Sees (Ok m) a sorts n → Sees r b sorts m →
     Sees r (a ++ b) sorts n
-sees_both a b sorts m n (Ok k) h more =
-    (rest_first a b sorts m n h ∙ more.0,
-    more.1 ∙ ap (drop (length b)) h.1 ∙ drop_both a b (drop n sorts))
+sees_both a b sorts m n (Ok k) h more = (
+  rest_first a b sorts m n h ∙ more.0,
+  more.1 ∙ ap (drop (length b)) h.1 ∙ drop_both a b (drop n sorts),
+)
 sees_both a b sorts m n (Err f) h more =
     tells_more f (first_refused (sorted b (drop m sorts))) (first_refused (sorted (a ++ b) (drop n sorts)))
     (λ r e. rest_first a b sorts m n h ∙ e) more

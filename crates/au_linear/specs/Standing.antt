@@ -80,11 +80,13 @@ walk_case x sort (arms when' name binds b more) h q =
 
 -- The branches of a conditional: what is done where no test holds comes with the states of the fork.
 abbrev pub Forks : Result Fork Stop → ℕ → ((Reach → Walk) → Walk) → Type 0
-Forks (Ok f) n w = (other : Reach → Walk) → w other ≡ (other (choose n (reach_of f.at)) >>= joined (reach_of f.out))
+Forks (Ok f) n w =
+    (other : Reach → Walk) → w other ≡ (other (choose n (reach_of f.at)) >>= joined (reach_of f.out))
 Forks (Err e) n w = (other : Reach → Walk) → Stops e (w other)
 
 -- one branch more
-abbrev pub Branches : Bytes → Sort → Hold → Result Fork Stop → PlainExpression → PlainStatements → ℕ → Fork → Type 0
+abbrev pub Branches : Bytes → Sort → Hold → Result Fork Stop → PlainExpression → PlainStatements → ℕ →
+    Fork → Type 0
 Branches x sort h (Ok f) e b i before =
     (more : PlainBranches) (other : Reach → Walk)
     → walk_branches x sort (branches e b more) h other i (reach_of before.at) (reach_of before.out)

@@ -35,8 +35,8 @@ Tells (faults.Refused f) r =
     × ((refused.variable.scope.name.at ≡ f.at) × (refused.why ≡ refusal_of f.why))))
 Tells faults.Memory r = Unit {0}
 
--- Some variables whose sorts stand first in a list of sorts: none of them is refused, and the sorts behind are
--- left; or a fault tells which is.
+-- Some variables whose sorts stand first in a list of sorts: none of them is refused, and the sorts behind
+-- are left; or a fault tells which is.
 abbrev pub Sees : Result ℕ LinearFault → List Scope → List Sort → ℕ → Type 0
 Sees (Ok next) scopes sorts from =
     (first_refused (sorted scopes (drop from sorts)) ≡ None)

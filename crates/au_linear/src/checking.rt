@@ -28,11 +28,7 @@ fn sort_at(sorts: &[Sort], from: usize) -> Sort
 fn next_sort(sorts: &[Sort], from: usize) -> usize
     ensures { drop result sorts.now ≡ drop 1 (drop from sorts.now) }
 {
-    if from < sorts.len() {
-        from + 1
-    } else {
-        from
-    }
+    if from < sorts.len() { from + 1 } else { from }
 }
 
 /// The name of a variable.
@@ -54,7 +50,8 @@ fn check_variable<P: Phase>(
 ) -> Result<usize, LinearFault>
     requires { from ≤ length block.now.statements.items }
     ensures { Sees result
-        (scope (seen_name P.Phase name.now) (seen_statements P.Phase (drop from block.now.statements.items)) ∷ [])
+        (scope (seen_name P.Phase name.now)
+        (seen_statements P.Phase (drop from block.now.statements.items)) ∷ [])
         sorts.now next }
 {
     let variable = name_of(alloc, name)?;
@@ -131,7 +128,8 @@ fn check_parameters<P: Phase>(
     Ok(at)
 }
 
-/// Whether the lives of the variables are good that a statement declares for the statements from this number on.
+/// Whether the lives of the variables are good that a statement declares for the statements from this
+/// number on.
 #[tactic(auto, using(au_syntax::proofs::StatementLemmas::statement_steps))]
 fn check_after<P: Phase>(
     alloc: Global,
@@ -229,7 +227,8 @@ fn check_named<P: Phase>(
     next: usize,
 ) -> Result<usize, LinearFault>
     ensures { Sees result
-        (scope (seen_name P.Phase name.now) (seen_block P.Phase block.now) ∷ scopes (seen_block P.Phase block.now))
+        (scope (seen_name P.Phase name.now) (seen_block P.Phase block.now)
+        ∷ scopes (seen_block P.Phase block.now))
         sorts.now next }
 {
     let behind = check_variable(alloc, name, block, 0, sorts, next)?;
@@ -314,11 +313,12 @@ fn check_all<P: Phase>(
     check_block(alloc, body, sorts, behind)
 }
 
-/// Whether the life of each variable of a function is good. The sorts say what the type of each variable asks, in
-/// text order with the parameters first; one that has none is to be consumed once.
+/// Whether the life of each variable of a function is good. The sorts say what the type of each variable
+/// asks, in text order with the parameters first; one that has none is to be consumed once.
 ///
-/// Refused is the first variable in text order whose life isn't good: where it is consumed in a loop, else where
-/// an expression that may leave out to look consumes it, else how a path breaks its life, and which path.
+/// Refused is the first variable in text order whose life isn't good: where it is consumed in a loop, else
+/// where an expression that may leave out to look consumes it, else how a path breaks its life, and which
+/// path.
 pub fn check_body<P: Phase>(
     alloc: Global,
     parameters: &Vec<Field<P>>,
@@ -326,7 +326,8 @@ pub fn check_body<P: Phase>(
     sorts: &[Sort],
 ) -> Result<(), LinearFault>
     ensures { Judges result
-        (sorted (scopes_of (seen_parameters P.Phase parameters.now.items) (seen_block P.Phase body.now)) sorts.now) }
+        (sorted (scopes_of (seen_parameters P.Phase parameters.now.items) (seen_block P.Phase body.now))
+        sorts.now) }
 {
     check_all(alloc, parameters, body, sorts)?;
     Ok(())

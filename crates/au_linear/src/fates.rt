@@ -78,7 +78,8 @@ fn is_allowed(hold: Hold, tally: Tally) -> bool
 /// A step that is ordinary.
 fn if_allowed(hold: Hold, tally: Tally, spent: bool) -> Fate
     ensures { (k : Counts) → tally_of k ≡ tally
-        → fate_of result ≡ (if lives.is_allowed (hold_of hold) k then going spent else broken kinds.Borrowed) }
+        → fate_of result
+        ≡ (if lives.is_allowed (hold_of hold) k then going spent else broken kinds.Borrowed) }
 {
     if is_allowed(hold, tally) {
         Fate::Going(spent)

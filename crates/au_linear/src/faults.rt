@@ -14,8 +14,8 @@ pub enum Why {
     InLoop(Pos),
     /// It is consumed where an expression may leave out to look, at this place first.
     InPart(Pos),
-    /// A path breaks its life in this way first: the number of each choice that the path makes, up to the last
-    /// that isn't 0.
+    /// A path breaks its life in this way first: the number of each choice that the path makes, up to the
+    /// last that isn't 0.
     OnPath(LifeKind, Vec<usize>),
 }
 

@@ -58,7 +58,8 @@ fn tighter(access: Access, hold: Hold) -> Hold
 
 /// How the variable is held where this name is declared.
 pub(crate) fn held_beside<P: Phase>(x: &Name, name: &Ident<P>, hold: Hold) -> Hold
-    ensures { hold_of result ≡ held_from x.now (declared (seen_name P.Phase name.now).name ∷ []) (hold_of hold) }
+    ensures { hold_of result
+        ≡ held_from x.now (declared (seen_name P.Phase name.now).name ∷ []) (hold_of hold) }
 {
     if is_named(x, name) {
         Hold::Hidden

@@ -1,5 +1,5 @@
-//! The lives of the variables of a body: whether each is good, and of the first that isn't, how it is broken and
-//! on which path.
+//! The lives of the variables of a body: whether each is good, and of the first that isn't, how it is broken
+//! and on which path.
 #![tactic(auto)]
 
 pub mod checking;

@@ -29,7 +29,9 @@ const NONE: Tally = Tally {
 /// How often an expression mentions a variable that is held so.
 fn tally_at<P: Phase>(x: &Name, sort: Sort, hold: Hold, e: &Expr<P>) -> Tally
     ensures { result
-        ≡ tally_of (unless_hidden (hold_of hold) (met_counts x.now (lives.is_free sort) (whole (seen_expression P.Phase e.now)))) }
+        ≡ tally_of
+        (unless_hidden (hold_of hold)
+        (met_counts x.now (lives.is_free sort) (whole (seen_expression P.Phase e.now)))) }
 {
     match hold {
         Hold::Unlent => counts(x, is_free(sort), e),
@@ -42,7 +44,9 @@ fn tally_at<P: Phase>(x: &Name, sort: Sort, hold: Hold, e: &Expr<P>) -> Tally
 /// What a mention counts as, where it is one of the variable.
 fn mention_at<P: Phase>(x: &Name, hold: Hold, name: &Ident<P>, one: Tally) -> Tally
     ensures { (k : Counts) → tally_of k ≡ one
-        → result ≡ tally_of (unless_hidden (hold_of hold) (where_named x.now (seen_name P.Phase name.now).name k)) }
+        → result
+        ≡ tally_of
+        (unless_hidden (hold_of hold) (where_named x.now (seen_name P.Phase name.now).name k)) }
 {
     match hold {
         Hold::Unlent => where_named(x, name, one),
@@ -57,11 +61,7 @@ fn where_named<P: Phase>(x: &Name, name: &Ident<P>, one: Tally) -> Tally
     ensures { (k : Counts) → tally_of k ≡ one
         → result ≡ tally_of (where_named x.now (seen_name P.Phase name.now).name k) }
 {
-    if is_named(x, name) {
-        one
-    } else {
-        NONE
-    }
+    if is_named(x, name) { one } else { NONE }
 }
 
 /// The opening of a borrow statement.
@@ -114,7 +114,8 @@ pub(crate) fn meet<P: Phase>(
     reach: Reached,
 ) -> Result<Reached, Stop>
     ensures { Gives result
-        (walk_step (does x.now sort (whole (seen_expression P.Phase e.now)) (hold_of hold)) (reach_of reach)) }
+        (walk_step (does x.now sort (whole (seen_expression P.Phase e.now)) (hold_of hold))
+        (reach_of reach)) }
 {
     let tally = tally_at(x, sort, hold, e);
     go_on(effect_of(hold, tally), reach)
@@ -148,7 +149,8 @@ pub(crate) fn meet_assignment<P: Phase>(
 ) -> Result<Reached, Stop>
     ensures { Gives result
         (then_on
-        (walk_step (does x.now sort (whole (seen_expression P.Phase e.now)) (hold_of hold)) (reach_of reach))
+        (walk_step (does x.now sort (whole (seen_expression P.Phase e.now)) (hold_of hold))
+        (reach_of reach))
         (walk_step (does x.now sort (assignment (seen_name P.Phase name.now).name) (hold_of hold)))) }
 {
     let behind = meet(x, sort, hold, e, reach)?;
@@ -167,7 +169,8 @@ pub(crate) fn meet_assignment_through<P: Phase>(
 ) -> Result<Reached, Stop>
     ensures { Gives result
         (then_on
-        (walk_step (does x.now sort (whole (seen_expression P.Phase e.now)) (hold_of hold)) (reach_of reach))
+        (walk_step (does x.now sort (whole (seen_expression P.Phase e.now)) (hold_of hold))
+        (reach_of reach))
         (walk_step (does x.now sort (assignment_behind (seen_name P.Phase name.now).name) (hold_of hold)))) }
 {
     let behind = meet(x, sort, hold, e, reach)?;
@@ -184,7 +187,8 @@ pub(crate) fn meet_boxed<P: Phase>(
     reach: Reached,
 ) -> Result<Reached, Stop>
     ensures { Gives result
-        (walk_step (does x.now sort (whole (seen_expression P.Phase e.now.value)) (hold_of hold)) (reach_of reach)) }
+        (walk_step (does x.now sort (whole (seen_expression P.Phase e.now.value)) (hold_of hold))
+        (reach_of reach)) }
 {
     meet(x, sort, hold, e, reach)
 }
@@ -200,7 +204,8 @@ pub(crate) fn meet_test<P: Phase>(
 ) -> Result<Reached, Stop>
     ensures { Gives result
         (noted number
-        (walk_step (does x.now sort (whole (seen_expression P.Phase e.now.value)) (hold_of hold)) (reach_of reach))) }
+        (walk_step (does x.now sort (whole (seen_expression P.Phase e.now.value)) (hold_of hold))
+        (reach_of reach))) }
 {
     noted(number, meet_boxed(x, sort, hold, e, reach))
 }
@@ -216,7 +221,8 @@ pub(crate) fn meet_both<P: Phase>(
 ) -> Result<Reached, Stop>
     ensures { Gives result
         (then_on
-        (walk_step (does x.now sort (whole (seen_expression P.Phase one.now)) (hold_of hold)) (reach_of reach))
+        (walk_step (does x.now sort (whole (seen_expression P.Phase one.now)) (hold_of hold))
+        (reach_of reach))
         (walk_step (does x.now sort (whole (seen_expression P.Phase other.now)) (hold_of hold)))) }
 {
     let behind = meet(x, sort, hold, one, reach)?;
@@ -233,7 +239,8 @@ pub(crate) fn meet_return<P: Phase>(
 ) -> Result<Reached, Stop>
     ensures { Gives result
         (then_on
-        (walk_step (does x.now sort (whole (seen_expression P.Phase e.now)) (hold_of hold)) (reach_of reach))
+        (walk_step (does x.now sort (whole (seen_expression P.Phase e.now)) (hold_of hold))
+        (reach_of reach))
         (returned sort)) }
 {
     let behind = meet(x, sort, hold, e, reach)?;

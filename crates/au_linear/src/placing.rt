@@ -18,7 +18,13 @@ use au_syntax::{Arm, Block, Branch, Phase, Stmt};
 /// The first place that is sought, of a statement.
 #[tactic(auto, using(crate::proofs::FirstLemmas::first_steps, au_syntax::proofs::StatementLemmas::statement_steps))]
 #[cycle(gathered)]
-fn gathered<P: Phase>(sought: Sought, x: &Name, sort: Sort, hold: Hold, stmt: &Stmt<P>) -> Option<Pos>
+fn gathered<P: Phase>(
+    sought: Sought,
+    x: &Name,
+    sort: Sort,
+    hold: Hold,
+    stmt: &Stmt<P>,
+) -> Option<Pos>
     ensures { result ≡ first_of
         (gathered x.now (sought_at sought x.now sort) (seen_statement P.Phase stmt.now) (hold_of hold)) }
 {
@@ -73,7 +79,8 @@ fn gathered_in_block<P: Phase>(
     block: &Block<P>,
 ) -> Option<Pos>
     ensures { result ≡ first_of
-        (gathered_in_block x.now (sought_at sought x.now sort) (seen_block P.Phase block.now) (hold_of hold)) }
+        (gathered_in_block x.now (sought_at sought x.now sort) (seen_block P.Phase block.now)
+        (hold_of hold)) }
 {
     let mut held = hold;
     for one in &block.statements {
@@ -116,7 +123,8 @@ fn gathered_in_branch<P: Phase>(
     branch: &Branch<P>,
 ) -> Option<Pos>
     ensures { result ≡ or_else
-        (first_of (sought_at sought x.now sort (hold_of hold) (seen_expression P.Phase branch.now.test.value)))
+        (first_of
+        (sought_at sought x.now sort (hold_of hold) (seen_expression P.Phase branch.now.test.value)))
         (first_of (gathered_in_block x.now (sought_at sought x.now sort) (seen_block P.Phase branch.now.block)
         (hold_of hold))) }
 {
@@ -136,7 +144,8 @@ fn gathered_in_arms<P: Phase>(
     arms: &Vec<Arm<P>>,
 ) -> Option<Pos>
     ensures { result ≡ first_of
-        (gathered_in_arms x.now (sought_at sought x.now sort) (seen_arms P.Phase arms.now.items) (hold_of hold)) }
+        (gathered_in_arms x.now (sought_at sought x.now sort) (seen_arms P.Phase arms.now.items)
+        (hold_of hold)) }
 {
     for one in arms {
         if let Some(at) = gathered_in_arm(sought, x, sort, hold, one) {
@@ -168,7 +177,8 @@ fn gathered_in_arm<P: Phase>(
 #[cycle(looped)]
 fn looped<P: Phase>(x: &Name, sort: Sort, hold: Hold, stmt: &Stmt<P>) -> Option<Pos>
     ensures { result ≡ first_of
-        (looped x.now (sought_at soughts.Consumption x.now sort) (seen_statement P.Phase stmt.now) (hold_of hold)) }
+        (looped x.now (sought_at soughts.Consumption x.now sort) (seen_statement P.Phase stmt.now)
+        (hold_of hold)) }
 {
     match stmt {
         Stmt::If(_, branches) => looped_in_branches(x, sort, hold, branches),
@@ -222,7 +232,12 @@ fn looped_in_block<P: Phase>(x: &Name, sort: Sort, hold: Hold, block: &Block<P>)
 
 /// The same in some branches.
 #[cycle(looped)]
-fn looped_in_branches<P: Phase>(x: &Name, sort: Sort, hold: Hold, branches: &Vec<Branch<P>>) -> Option<Pos>
+fn looped_in_branches<P: Phase>(
+    x: &Name,
+    sort: Sort,
+    hold: Hold,
+    branches: &Vec<Branch<P>>,
+) -> Option<Pos>
     ensures { result ≡ first_of
         (looped_in_branches x.now (sought_at soughts.Consumption x.now sort)
         (seen_branches P.Phase branches.now.items) (hold_of hold)) }
@@ -239,8 +254,8 @@ fn looped_in_branches<P: Phase>(x: &Name, sort: Sort, hold: Hold, branches: &Vec
 #[cycle(looped)]
 fn looped_in_branch<P: Phase>(x: &Name, sort: Sort, hold: Hold, branch: &Branch<P>) -> Option<Pos>
     ensures { result ≡ first_of
-        (looped_in_block x.now (sought_at soughts.Consumption x.now sort) (seen_block P.Phase branch.now.block)
-        (hold_of hold)) }
+        (looped_in_block x.now (sought_at soughts.Consumption x.now sort)
+        (seen_block P.Phase branch.now.block) (hold_of hold)) }
 {
     looped_in_block(x, sort, hold, &branch.block)
 }
@@ -272,7 +287,12 @@ fn looped_in_arm<P: Phase>(x: &Name, sort: Sort, hold: Hold, arm: &Arm<P>) -> Op
 }
 
 /// The first place in a loop of the statements from this number on where the variable is consumed.
-pub(crate) fn first_in_loop<P: Phase>(x: &Name, sort: Sort, block: &Block<P>, from: usize) -> Option<Pos>
+pub(crate) fn first_in_loop<P: Phase>(
+    x: &Name,
+    sort: Sort,
+    block: &Block<P>,
+    from: usize,
+) -> Option<Pos>
     requires { from ≤ length block.now.statements.items }
     ensures { result ≡ first_of
         (loop_places x.now sort (seen_statements P.Phase (drop from block.now.statements.items))) }
@@ -290,7 +310,12 @@ pub(crate) fn first_in_loop<P: Phase>(x: &Name, sort: Sort, block: &Block<P>, fr
 
 /// The first place in the statements from this number on where the variable is consumed and an expression may
 /// leave out to look.
-pub(crate) fn first_in_part<P: Phase>(x: &Name, sort: Sort, block: &Block<P>, from: usize) -> Option<Pos>
+pub(crate) fn first_in_part<P: Phase>(
+    x: &Name,
+    sort: Sort,
+    block: &Block<P>,
+    from: usize,
+) -> Option<Pos>
     requires { from ≤ length block.now.statements.items }
     ensures { result ≡ first_of
         (part_places x.now sort (seen_statements P.Phase (drop from block.now.statements.items))) }

@@ -136,7 +136,11 @@ fn push_onto(path: Vec<usize>, number: usize) -> Result<Vec<usize>, Memory>
 }
 
 /// A copy of a path with one more number.
-fn pushed(alloc: Global, number: usize, path: &Option<Vec<usize>>) -> Result<Option<Vec<usize>>, Memory>
+fn pushed(
+    alloc: Global,
+    number: usize,
+    path: &Option<Vec<usize>>,
+) -> Result<Option<Vec<usize>>, Memory>
     ensures { IfOk result (λ longer. path_of longer ≡ push number (path_of path.now)) }
 {
     match path {

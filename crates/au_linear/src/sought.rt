@@ -109,7 +109,8 @@ fn place_of_path<P: Phase>(
     fields: &Vec<Ident<P>>,
 ) -> Option<Pos>
     ensures { result ≡ first_of (if bytes_eq (seen_name P.Phase name.now).name x.now
-        then place_of free at (map (plain_name P.name_bytes) (map (placed P.Phase) fields.now.items)) else []) }
+        then place_of free at (map (plain_name P.name_bytes) (map (placed P.Phase) fields.now.items))
+        else []) }
 {
     if !free && fields.is_empty() && is_named(x, name) {
         Some(at)
@@ -151,8 +152,8 @@ fn may_skip(operator: BinaryOperator) -> bool
     matches!(operator, BinaryOperator::And | BinaryOperator::Or)
 }
 
-/// The first place where an expression consumes a variable and may leave out to look, by whether the variable's
-/// type is Free.
+/// The first place where an expression consumes a variable and may leave out to look, by whether the
+/// variable's type is Free.
 #[tactic(auto, using(crate::proofs::FirstLemmas::first_steps, au_syntax::proofs::ExpressionLemmas::expression_steps))]
 #[cycle(parted)]
 fn first_parted<P: Phase>(x: &Name, free: bool, e: &Expr<P>) -> Option<Pos>
@@ -190,7 +191,12 @@ fn first_parted<P: Phase>(x: &Name, free: bool, e: &Expr<P>) -> Option<Pos>
 
 /// The same in the right side of an operator.
 #[cycle(parted)]
-fn first_on_right<P: Phase>(x: &Name, free: bool, operator: BinaryOperator, e: &Expr<P>) -> Option<Pos>
+fn first_on_right<P: Phase>(
+    x: &Name,
+    free: bool,
+    operator: BinaryOperator,
+    e: &Expr<P>,
+) -> Option<Pos>
     ensures { result ≡ first_of (if mentions.may_skip operator
         then consumed_at x.now free (seen_expression P.Phase e.now)
         else parted_at x.now free (seen_expression P.Phase e.now)) }

@@ -9,7 +9,10 @@ ghost use Rattle.au_linear.specs.Seen.{seen_expression, seen_statement, seen_sta
 ghost use Rattle.au_linear.specs.Standing.{hold_of, reach_of, Gives, Forks, Branches, walk_case, then_on};
 
 use crate::holds::{Hold, access_of, held_after, held_beside, held_beside_binds, held_in_borrow};
-use crate::meeting::{meet, meet_boxed, meet_assignment, meet_assignment_through, meet_both, meet_opening, meet_return, meet_test};
+use crate::meeting::{
+    meet, meet_assignment, meet_assignment_through, meet_both, meet_boxed, meet_opening,
+    meet_return, meet_test,
+};
 use crate::reaches::{Fork, Reached, Stop, choose, finish, merge, nowhere};
 use au_base::Name;
 use au_lives::lives::Sort;
@@ -27,14 +30,17 @@ fn walk<P: Phase>(
     stmt: &Stmt<P>,
     reach: Reached,
 ) -> Result<Reached, Stop>
-    ensures { Gives result (walk x.now sort (seen_statement P.Phase stmt.now) (hold_of hold) (reach_of reach)) }
+    ensures { Gives result
+        (walk x.now sort (seen_statement P.Phase stmt.now) (hold_of hold) (reach_of reach)) }
 {
     match stmt {
         Stmt::Skip(_) => Ok(reach),
         Stmt::Let(_, _, _, _, e) => meet(x, sort, hold, e, reach),
         Stmt::Destructure(_, _, e) => meet(x, sort, hold, e, reach),
         Stmt::Assign(_, name, _, e) => meet_assignment(x, sort, hold, e, name, reach),
-        Stmt::AssignThrough(_, name, _, e) => meet_assignment_through(x, sort, hold, e, name, reach),
+        Stmt::AssignThrough(_, name, _, e) => meet_assignment_through(
+            x, sort, hold, e, name, reach,
+        ),
         Stmt::If(_, branches) => {
             let fork = walk_branches(alloc, x, sort, hold, branches, reach)?;
             walk_past(alloc, branches, fork)
@@ -81,7 +87,8 @@ fn walk_block<P: Phase>(
     block: &Block<P>,
     reach: Reached,
 ) -> Result<Reached, Stop>
-    ensures { Gives result (walk_block x.now sort (seen_block P.Phase block.now) (hold_of hold) (reach_of reach)) }
+    ensures { Gives result
+        (walk_block x.now sort (seen_block P.Phase block.now) (hold_of hold) (reach_of reach)) }
 {
     let mut at = reach;
     let mut held = hold;
@@ -167,7 +174,11 @@ fn walk_branch<P: Phase>(
 }
 
 /// What is left of a conditional without an `else`, behind its branches.
-fn walk_past<P: Phase>(alloc: Global, branches: &Vec<Branch<P>>, fork: Fork) -> Result<Reached, Stop>
+fn walk_past<P: Phase>(
+    alloc: Global,
+    branches: &Vec<Branch<P>>,
+    fork: Fork,
+) -> Result<Reached, Stop>
     ensures { Gives result
         (joined (reach_of fork.out) (walks.choose (length branches.now.items) (reach_of fork.at))) }
 {

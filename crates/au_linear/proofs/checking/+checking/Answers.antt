@@ -1,4 +1,4 @@
-use Rattle.std.proofs.Common.{subst, sym, drop, ◌+◌, ◌∷◌, [], Ok, Err}
+use Rattle.std.proofs.Common.{subst, sym, ap, ◌∙◌, get_or, length, arith, drop, ◌+◌, ◌∷◌, [], Ok, Err}
 use Rattle.std.proofs.lemmas.Result.{err_from_is_err_and}
 use Rattle.au_lives.specs.Scopes.{scope, bound_over, scopes, scopes_after, scopes_inside, scopes_of_branches, scopes_of_arms}
 use Rattle.au_linear.specs.Seen.{seen_name, seen_binds, seen_statement, seen_statements, seen_block, seen_branches, seen_arms}
@@ -60,37 +60,41 @@ check_block-loop-index-init g t c = λ r h. h
 
 pub check_block-loop-index-preserved : goal.check_block-loop-index-preserved
 check_block-loop-index-preserved g t c =
-    telling.item_goes (statements_declare g.P.Phase) c.deref-one-items.result.now c.loop-index.index c.one-item.result c.one-item.is
-    c.loop-index-test.true (scopes (seen_statements g.P.Phase c.deref-one-items.result.now)) c.args.sorts.now c.loop-index.at c.args.next
+    telling.item_goes (statements_declare g.P.Phase) c.args.block.now.statements.items c.loop-index.index c.one-item.result
+    (c.one-item.is ∙ ap (λ l. get_or l c.loop-index.index c.one-item.result) c.deref-one-items.ensures.value)
+    (omega (arith, c.loop-index-test.true, ap length c.deref-one-items.ensures.value)) (scopes (seen_statements g.P.Phase c.args.block.now.statements.items)) c.args.sorts.now c.loop-index.at c.args.next
     c.loop-index.invariant c.in_ok-at.at
-    (telling.sees_both (scopes_after (seen_statement g.P.Phase c.one-item.result) (seen_statements g.P.Phase (drop (c.loop-index.index + 1) c.deref-one-items.result.now)))
+    (telling.sees_both (scopes_after (seen_statement g.P.Phase c.one-item.result) (seen_statements g.P.Phase (drop (c.loop-index.index + 1) c.args.block.now.statements.items)))
     (scopes_inside (seen_statement g.P.Phase c.one-item.result))
     c.args.sorts.now c.in_ok-behind.behind c.loop-index.at (Ok c.in_ok-at.at) c.in_ok-behind.ensures c.in_ok-at.ensures)
 
 pub check_block-returns-in_err-behind : goal.check_block-returns-in_err-behind
 check_block-returns-in_err-behind g t c =
     let p = err_from_is_err_and c.from_residual.result c.from_residual.ensures.1 in
-    rw (p.1, p.2) (telling.item_stops (statements_declare g.P.Phase) c.deref-one-items.result.now c.loop-index.index c.one-item.result c.one-item.is
-    c.loop-index-test.true (scopes (seen_statements g.P.Phase c.deref-one-items.result.now)) c.args.sorts.now c.loop-index.at c.args.next
+    rw (p.1, p.2) (telling.item_stops (statements_declare g.P.Phase) c.args.block.now.statements.items c.loop-index.index c.one-item.result
+    (c.one-item.is ∙ ap (λ l. get_or l c.loop-index.index c.one-item.result) c.deref-one-items.ensures.value)
+    (omega (arith, c.loop-index-test.true, ap length c.deref-one-items.ensures.value)) (scopes (seen_statements g.P.Phase c.args.block.now.statements.items)) c.args.sorts.now c.loop-index.at c.args.next
     c.loop-index.invariant c.in_err-behind.field-0.0
-    (telling.sees_stop (scopes_after (seen_statement g.P.Phase c.one-item.result) (seen_statements g.P.Phase (drop (c.loop-index.index + 1) c.deref-one-items.result.now)))
+    (telling.sees_stop (scopes_after (seen_statement g.P.Phase c.one-item.result) (seen_statements g.P.Phase (drop (c.loop-index.index + 1) c.args.block.now.statements.items)))
     (scopes_inside (seen_statement g.P.Phase c.one-item.result))
     c.args.sorts.now c.loop-index.at c.in_err-behind.field-0.0 c.in_err-behind.ensures))
 
 pub check_block-returns-in_err-at : goal.check_block-returns-in_err-at
 check_block-returns-in_err-at g t c =
     let p = err_from_is_err_and c.from_residual-in_err-at.result c.from_residual-in_err-at.ensures.1 in
-    rw (p.1, p.2) (telling.item_stops (statements_declare g.P.Phase) c.deref-one-items.result.now c.loop-index.index c.one-item.result c.one-item.is
-    c.loop-index-test.true (scopes (seen_statements g.P.Phase c.deref-one-items.result.now)) c.args.sorts.now c.loop-index.at c.args.next
+    rw (p.1, p.2) (telling.item_stops (statements_declare g.P.Phase) c.args.block.now.statements.items c.loop-index.index c.one-item.result
+    (c.one-item.is ∙ ap (λ l. get_or l c.loop-index.index c.one-item.result) c.deref-one-items.ensures.value)
+    (omega (arith, c.loop-index-test.true, ap length c.deref-one-items.ensures.value)) (scopes (seen_statements g.P.Phase c.args.block.now.statements.items)) c.args.sorts.now c.loop-index.at c.args.next
     c.loop-index.invariant c.in_err-at.field-0.0
-    (telling.sees_both (scopes_after (seen_statement g.P.Phase c.one-item.result) (seen_statements g.P.Phase (drop (c.loop-index.index + 1) c.deref-one-items.result.now)))
+    (telling.sees_both (scopes_after (seen_statement g.P.Phase c.one-item.result) (seen_statements g.P.Phase (drop (c.loop-index.index + 1) c.args.block.now.statements.items)))
     (scopes_inside (seen_statement g.P.Phase c.one-item.result))
     c.args.sorts.now c.in_ok-behind.behind c.loop-index.at (Err c.in_err-at.field-0.0) c.in_ok-behind.ensures c.in_err-at.ensures))
 
 pub check_block-returns : goal.check_block-returns
 check_block-returns g t c =
-    telling.items_done (statements_declare g.P.Phase) c.deref-one-items.result.now c.loop-index.index c.loop-index-test.false
-    (scopes (seen_statements g.P.Phase c.deref-one-items.result.now)) c.args.sorts.now c.loop-index.at c.args.next c.loop-index.invariant
+    telling.items_done (statements_declare g.P.Phase) c.args.block.now.statements.items c.loop-index.index
+    (omega (arith, c.loop-index-test.false, ap length c.deref-one-items.ensures.value))
+    (scopes (seen_statements g.P.Phase c.args.block.now.statements.items)) c.args.sorts.now c.loop-index.at c.args.next c.loop-index.invariant
 
 pub check_named-returns-in_err-behind : goal.check_named-returns-in_err-behind
 check_named-returns-in_err-behind g t c =

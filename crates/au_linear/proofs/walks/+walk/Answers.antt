@@ -79,8 +79,8 @@ walk_branch-returns g t c =
 pub walk_block-walk-requires : goal.walk_block-walk-requires
 walk_block-walk-requires g t c κs within = (
   block_item_falls (size-Stmt _ _ _ _) c.deref-one-items.result.now c.args.block.now.statements.items c.loop-one.one-index
-  c.one-item.result (size-Block _ _ _ _ c.args.block.now) t c.decreases (size_is-Block _ _ _ _ c.args.block.now)
-  c.deref-one-items.ensures.value c.loop-one-test.true c.one-item.is,
+      c.one-item.result (size-Block _ _ _ _ c.args.block.now) t c.decreases (size_is-Block _ _ _ _ c.args.block.now)
+      c.deref-one-items.ensures.value c.loop-one-test.true c.one-item.is,
   within,
 )
 
