@@ -12,8 +12,8 @@ use Rattle.au_syntax.specs.declared.statements.Block.{Block}
 use Rattle.au_syntax.specs.declared.statements.Branch.{Branch}
 use Rattle.au_syntax.specs.declared.statements.Arm.{Arm}
 use Rattle.au_syntax.proofs.StatementLemmas.{if_says, if_else_says, case_says}
-use Rattle.au_syntax.specs.Plain.{plain_statement, Bytes, PlainBranches, PlainArms, PlainExpression, PlainStatement, PlainStatements}
-use Rattle.au_syntax.specs.Statements.{case_of, no_arms, arms, statements}
+use Rattle.au_syntax.specs.Plain.{plain_statement, Bytes, PlainBranches, PlainArms, PlainExpression, PlainStatements}
+use Rattle.au_syntax.specs.Statements.{case_of, no_arms, arms}
 use Rattle.au_lives.specs.declared.lives.Sort.{Sort}
 use Rattle.au_lives.specs.Lives.{Hold, held_from}
 use Rattle.au_lives.specs.Paths.{whole, bound_names, declared_by}

@@ -1,5 +1,5 @@
 -- The variables that lists of items declare, item by item.
-use Rattle.std.proofs.Common.{◌≡◌, List, [], ◌∷◌, ◌++◌, append_assoc, map, Vec, ap, ◌∙◌, refl, sym}
+use Rattle.std.proofs.Common.{◌≡◌, [], ◌∷◌, ◌++◌, append_assoc, map, Vec, ap, ◌∙◌, refl, sym}
 use Rattle.std.specs.Global.{Global}
 use Rattle.au_base.specs.declared.places.Pos.{Pos}
 use Rattle.au_syntax.specs.declared.phases.Phase.{Ghosts}
@@ -13,7 +13,7 @@ use Rattle.au_syntax.specs.declared.statements.Arm.{Arm}
 use Rattle.au_syntax.specs.Plain.{PlainStatements, plain_statement}
 use Rattle.au_syntax.proofs.StatementLemmas.{if_else_says}
 use Rattle.au_lives.specs.Paths.{bound_name}
-use Rattle.au_lives.specs.Scopes.{Scope, scope, bound_over, scopes, scopes_after, scopes_inside, scopes_of_branches, scopes_of_arms}
+use Rattle.au_lives.specs.Scopes.{scope, bound_over, scopes, scopes_after, scopes_inside, scopes_of_branches, scopes_of_arms}
 use Rattle.au_linear.specs.Seen.{seen_name, seen_bind, seen_binds, seen_parameters, seen_statement, seen_statements, seen_block, seen_branches, seen_arms}
 use Rattle.au_linear.proofs.TellingLemmas.{Declaring}
 

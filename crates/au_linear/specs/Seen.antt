@@ -1,5 +1,5 @@
 -- What trees of the code say, as the trees over which lives are judged.
-use Rattle.std.specs.Prelude.{List, map, drop}
+use Rattle.std.specs.Prelude.{List, map}
 use Rattle.au_syntax.specs.declared.phases.Phase.{Ghosts}
 use Rattle.au_syntax.specs.declared.names.Ident.{Ident}
 use Rattle.au_syntax.specs.declared.names.Bind.{Bind}

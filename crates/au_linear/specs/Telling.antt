@@ -1,12 +1,9 @@
 -- What is told of the variables of a body.
-use Rattle.std.specs.Prelude.{◌≡◌, ℕ, List, [], ◌∷◌, Option, None, Some, Result, Ok, Err, map, length, drop}
-use Rattle.std.specs.Option.{option_map}
+use Rattle.std.specs.Prelude.{◌≡◌, ℕ, List, [], ◌∷◌, Option, None, Some, Result, Ok, Err, length, drop}
 use Rattle.au_lives.specs.declared.lives.Sort.{Sort}
 use Rattle.au_lives.specs.declared.lives.Sort.TheVariants as sorts
 use Rattle.au_lives.specs.Scopes.{Scope}
-use Rattle.au_lives.specs.Walks.{Walk}
-use Rattle.au_lives.specs.Refusals.{Refusal, in_loop, in_part, on_path, Variable, Refused, by_walk, first_refused, GoodLives, IsFirstRefused}
-use Rattle.au_linear.specs.declared.reaches.Reached.{Reached}
+use Rattle.au_lives.specs.Refusals.{Refusal, in_loop, in_part, on_path, Variable, Refused, first_refused, GoodLives}
 use Rattle.au_linear.specs.declared.faults.Why.{Why}
 use Rattle.au_linear.specs.declared.faults.Why.TheVariants as whys
 use Rattle.au_linear.specs.declared.faults.LinearFault.{LinearFault}

@@ -4,7 +4,7 @@ ghost use Rattle.std.specs.Prelude.{◌≡◌};
 ghost use Rattle.au_lives.specs.Lives.{unless_hidden, met_counts};
 ghost use Rattle.au_lives.specs.Lives as lives;
 ghost use Rattle.au_lives.specs.Mentions as mentions;
-ghost use Rattle.au_lives.specs.Mentions.{Counts, where_named, counts_in};
+ghost use Rattle.au_lives.specs.Mentions.{Counts, where_named};
 ghost use Rattle.au_lives.specs.Paths.{whole, opening, assignment, assignment_behind};
 ghost use Rattle.au_lives.specs.Walks.{walk_step, does, noted, returned};
 ghost use Rattle.au_uses.specs.Tallies.{tally_of};

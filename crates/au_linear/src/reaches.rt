@@ -1,7 +1,6 @@
 //! Which states of a variable are possible at a place, each with a path to it.
 
-ghost use Rattle.std.specs.Prelude.{◌≡◌, IfOk, None, Some, ℕ, ◌++◌, ◌∷◌, [], Ok};
-ghost use Rattle.au_lives.specs.Lives.{at_end};
+ghost use Rattle.std.specs.Prelude.{◌≡◌, IfOk, None, Some, ◌++◌, ◌∷◌, [], Ok};
 ghost use Rattle.au_lives.specs.Walks as walks;
 ghost use Rattle.au_lives.specs.Walks.{Walk, either, land, walk_by, push, noted, finish};
 ghost use Rattle.au_linear.specs.declared.reaches.Stop.TheVariants as stop;

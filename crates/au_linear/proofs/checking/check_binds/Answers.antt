@@ -1,4 +1,4 @@
-use Rattle.std.proofs.Common.{subst, drop, map, Ok, Err}
+use Rattle.std.proofs.Common.{subst, drop, Ok, Err}
 use Rattle.std.proofs.lemmas.Result.{err_from_is_err_and}
 use Rattle.au_lives.specs.Scopes.{bound_over}
 use Rattle.au_linear.specs.Seen.{seen_binds, seen_statements}

@@ -1,4 +1,4 @@
-use Rattle.std.proofs.Common.{subst, drop, map, Ok, Err}
+use Rattle.std.proofs.Common.{subst, map, Ok, Err}
 use Rattle.std.proofs.lemmas.Result.{err_from_is_err_and}
 use Rattle.au_lives.specs.Scopes.{scope}
 use Rattle.au_linear.specs.Seen.{seen_parameters, seen_block}

@@ -1,4 +1,4 @@
-use Rattle.std.proofs.Common.{sym, ◌∙◌, refl, arith}
+use Rattle.std.proofs.Common.{sym, ◌∙◌, arith}
 use Rattle.au_lives.specs.Places.{consumptions_at}
 use Rattle.au_linear.specs.Standing.{hold_of}
 use Rattle.au_linear.proofs.FirstLemmas as firsts

@@ -1,8 +1,8 @@
-use Rattle.std.proofs.Common.{◌≡◌, ap, sym, subst, ◌∙◌, drop, length, refl, arith, get_or, Ok, Err}
+use Rattle.std.proofs.Common.{ap, sym, ◌∙◌, length, refl, arith, get_or, Ok}
 use Rattle.std.proofs.lemmas.Result.{err_from_is_err_and}
-use Rattle.au_lives.specs.Walks.{walk_block, walk_branches, nowhere, choose, joined}
-use Rattle.au_linear.specs.Seen.{seen_expression, seen_statements, seen_block, seen_branches}
-use Rattle.au_linear.specs.Standing.{hold_of, reach_of, Forks}
+use Rattle.au_lives.specs.Walks.{walk_block}
+use Rattle.au_linear.specs.Seen.{seen_expression, seen_statements, seen_block}
+use Rattle.au_linear.specs.Standing.{hold_of, reach_of}
 use Rattle.au_syntax.specs.declared.statements.Stmt.{size-Stmt}
 use Rattle.au_syntax.specs.declared.statements.Block.{size-Block, size_is-Block}
 use Rattle.au_linear.proofs.BranchLemmas as lemmas

@@ -1,4 +1,4 @@
-use Rattle.std.proofs.Common.{◌≡◌, drop, length}
+use Rattle.std.proofs.Common.{◌≡◌, drop}
 use Rattle.au_lives.specs.Walks.{Reach, Walk, walk_block, walk_branches, nowhere}
 use Rattle.au_linear.specs.Seen.{seen_statements, seen_branches, seen_arms}
 use Rattle.au_linear.specs.Standing.{hold_of, reach_of, walk_each}
