@@ -1,0 +1,12 @@
+use Rattle.std.proofs.Common.{◌≡◌, drop}
+use Rattle.au_lives.specs.Places.{loop_places, looped_in_block, consumptions_at}
+use Rattle.au_linear.specs.Firsts.{first_of}
+use Rattle.au_linear.specs.Seen.{seen_statements}
+use Rattle.au_linear.specs.Standing.{hold_of}
+use Rattle.au_linear.proofs.placing.first_in_loop.Given as goal
+
+abbrev pub invariant-loop-index : goal.invariant-loop-index
+invariant-loop-index g l =
+    first_of (looped_in_block l.x (consumptions_at l.x l.sort)
+    (seen_statements g.P.Phase (drop l.index l.block.statements.items)) (hold_of l.held))
+    ≡ first_of (loop_places l.x l.sort (seen_statements g.P.Phase (drop l.from l.block.statements.items)))

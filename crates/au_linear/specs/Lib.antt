@@ -1,0 +1,4 @@
+pub mod Seen
+pub mod Standing
+pub mod Firsts
+pub mod Telling

@@ -1,0 +1,18 @@
+//! The lives of the variables of a body: whether each is good, and of the first that isn't, how it is broken
+//! and on which path.
+#![tactic(auto)]
+
+pub mod checking;
+pub mod fates;
+pub mod faults;
+pub mod holds;
+pub mod judging;
+pub mod laws;
+pub mod meeting;
+pub mod placing;
+pub mod reaches;
+pub mod sought;
+pub mod walks;
+
+pub use checking::check_body;
+pub use faults::{LinearFault, Refused, Why};

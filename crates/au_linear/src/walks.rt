@@ -1,0 +1,315 @@
+//! The walk over the block where a variable lives.
+
+ghost use Rattle.std.specs.Prelude.{◌≡◌, ◌≢◌, ◌≤◌, drop, length, Ok, Some, None, []};
+ghost use Rattle.au_lives.specs.Walks as walks;
+ghost use Rattle.au_lives.specs.Walks.{walk, walk_block, walk_branches, turned, joined, checked};
+ghost use Rattle.au_lives.specs.Lives.{held_from, unlent};
+ghost use Rattle.au_lives.specs.Paths.{bound_names};
+ghost use Rattle.au_linear.specs.Seen.{seen_expression, seen_statement, seen_statements, seen_block, seen_branches, seen_arms, seen_binds};
+ghost use Rattle.au_linear.specs.Standing.{hold_of, reach_of, Gives, Forks, Branches, walk_case, then_on};
+
+use crate::holds::{Hold, access_of, held_after, held_beside, held_beside_binds, held_in_borrow};
+use crate::meeting::{
+    meet, meet_assignment, meet_assignment_through, meet_both, meet_boxed, meet_opening,
+    meet_return, meet_test,
+};
+use crate::reaches::{Fork, Reached, Stop, choose, finish, merge, nowhere};
+use au_base::Name;
+use au_lives::lives::Sort;
+use au_syntax::{Arm, Block, Branch, Phase, Stmt};
+use std::alloc::Global;
+
+/// The walk over a statement.
+#[tactic(auto, using(au_syntax::proofs::StatementLemmas::statement_steps))]
+#[cycle(walk)]
+fn walk<P: Phase>(
+    alloc: Global,
+    x: &Name,
+    sort: Sort,
+    hold: Hold,
+    stmt: &Stmt<P>,
+    reach: Reached,
+) -> Result<Reached, Stop>
+    ensures { Gives result
+        (walk x.now sort (seen_statement P.Phase stmt.now) (hold_of hold) (reach_of reach)) }
+{
+    match stmt {
+        Stmt::Skip(_) => Ok(reach),
+        Stmt::Let(_, _, _, _, e) => meet(x, sort, hold, e, reach),
+        Stmt::Destructure(_, _, e) => meet(x, sort, hold, e, reach),
+        Stmt::Assign(_, name, _, e) => meet_assignment(x, sort, hold, e, name, reach),
+        Stmt::AssignThrough(_, name, _, e) => meet_assignment_through(
+            x, sort, hold, e, name, reach,
+        ),
+        Stmt::If(_, branches) => {
+            let fork = walk_branches(alloc, x, sort, hold, branches, reach)?;
+            walk_past(alloc, branches, fork)
+        }
+        Stmt::IfElse(_, branches, block) => {
+            let fork = walk_branches(alloc, x, sort, hold, branches, reach)?;
+            walk_else(alloc, x, sort, hold, block, branches, fork)
+        }
+        Stmt::Case(_, e, arms) => {
+            let behind = meet_boxed(x, sort, hold, e, reach)?;
+            walk_case(alloc, x, sort, hold, arms, behind)
+        }
+        Stmt::While(_, e, block) => {
+            let behind = meet(x, sort, hold, e, reach)?;
+            walk_turn(alloc, x, sort, hold, block, behind)
+        }
+        Stmt::For(_, name, start, end, block) => {
+            let behind = meet_both(x, sort, hold, start, end, reach)?;
+            walk_turn(alloc, x, sort, held_beside(x, name, hold), block, behind)
+        }
+        Stmt::Borrow(_, access, names, block, _) => {
+            let behind = meet_opening(x, sort, hold, *access, &names.variable, reach)?;
+            let inside = held_in_borrow(x, *access, &names.variable, &names.reference, hold);
+            walk_block(alloc, x, sort, inside, block, behind)
+        }
+        Stmt::BorrowTyped(_, reference, _, mode, variable, block, _) => {
+            let access = access_of(*mode);
+            let behind = meet_opening(x, sort, hold, access, variable, reach)?;
+            let inside = held_in_borrow(x, access, variable, reference, hold);
+            walk_block(alloc, x, sort, inside, block, behind)
+        }
+        Stmt::Call(_, e) => meet(x, sort, hold, e, reach),
+        Stmt::Return(_, e) => meet_return(x, sort, hold, e, reach),
+    }
+}
+
+/// The walk over the statements of a block.
+#[cycle(walk)]
+fn walk_block<P: Phase>(
+    alloc: Global,
+    x: &Name,
+    sort: Sort,
+    hold: Hold,
+    block: &Block<P>,
+    reach: Reached,
+) -> Result<Reached, Stop>
+    ensures { Gives result
+        (walk_block x.now sort (seen_block P.Phase block.now) (hold_of hold) (reach_of reach)) }
+{
+    let mut at = reach;
+    let mut held = hold;
+    for one in &block.statements {
+        at = walk(alloc, x, sort, held, one, at)?;
+        held = held_after(x, one, held);
+    }
+    Ok(at)
+}
+
+/// One turn of a loop, and the way out of it.
+#[cycle(walk)]
+fn walk_turn<P: Phase>(
+    alloc: Global,
+    x: &Name,
+    sort: Sort,
+    hold: Hold,
+    block: &Block<P>,
+    reach: Reached,
+) -> Result<Reached, Stop>
+    ensures { Gives result
+        (turned (walk_block x.now sort (seen_block P.Phase block.now) (hold_of hold)) (reach_of reach)) }
+{
+    let entry = choose(alloc, 1, &reach)?;
+    let _inside = walk_block(alloc, x, sort, hold, block, entry)?;
+    leave(alloc, &reach)
+}
+
+/// The way out of a loop.
+fn leave(alloc: Global, reach: &Reached) -> Result<Reached, Stop>
+    ensures { Gives result (Ok (walks.choose 0 (reach_of reach.now))) }
+{
+    let left = choose(alloc, 0, reach)?;
+    Ok(left)
+}
+
+/// The branches of a conditional.
+#[cycle(walk)]
+fn walk_branches<P: Phase>(
+    alloc: Global,
+    x: &Name,
+    sort: Sort,
+    hold: Hold,
+    branches: &Vec<Branch<P>>,
+    reach: Reached,
+) -> Result<Fork, Stop>
+    ensures { Forks result (length branches.now.items)
+        (λ other. walk_branches x.now sort (seen_branches P.Phase branches.now.items) (hold_of hold) other 0
+        (reach_of reach) walks.nowhere) }
+{
+    let mut fork = Fork {
+        at: reach,
+        out: nowhere(),
+    };
+    for (number, one) in branches.iter().enumerate() {
+        fork = walk_branch(alloc, x, sort, hold, number, one, fork)?;
+    }
+    Ok(fork)
+}
+
+/// One branch of a conditional.
+#[cycle(walk)]
+fn walk_branch<P: Phase>(
+    alloc: Global,
+    x: &Name,
+    sort: Sort,
+    hold: Hold,
+    number: usize,
+    branch: &Branch<P>,
+    fork: Fork,
+) -> Result<Fork, Stop>
+    ensures { Branches x.now sort (hold_of hold) result (seen_expression P.Phase branch.now.test.value)
+        (seen_block P.Phase branch.now.block) number fork }
+{
+    let Fork { at, out } = fork;
+    let tested = meet_test(number, x, sort, hold, &branch.test, at)?;
+    let entry = choose(alloc, number, &tested)?;
+    let one = walk_block(alloc, x, sort, hold, &branch.block, entry)?;
+    Ok(Fork {
+        at: tested,
+        out: merge(out, one),
+    })
+}
+
+/// What is left of a conditional without an `else`, behind its branches.
+fn walk_past<P: Phase>(
+    alloc: Global,
+    branches: &Vec<Branch<P>>,
+    fork: Fork,
+) -> Result<Reached, Stop>
+    ensures { Gives result
+        (joined (reach_of fork.out) (walks.choose (length branches.now.items) (reach_of fork.at))) }
+{
+    let past = choose(alloc, branches.len(), &fork.at)?;
+    Ok(merge(fork.out, past))
+}
+
+/// What is done where no test of these branches holds.
+#[cycle(walk)]
+fn walk_else<P: Phase>(
+    alloc: Global,
+    x: &Name,
+    sort: Sort,
+    hold: Hold,
+    block: &Block<P>,
+    branches: &Vec<Branch<P>>,
+    fork: Fork,
+) -> Result<Reached, Stop>
+    ensures { Gives result
+        (then_on
+        (walk_block x.now sort (seen_block P.Phase block.now) (hold_of hold)
+        (walks.choose (length branches.now.items) (reach_of fork.at)))
+        (joined (reach_of fork.out))) }
+{
+    let Fork { at, out } = fork;
+    let entry = choose(alloc, branches.len(), &at)?;
+    let one = walk_block(alloc, x, sort, hold, block, entry)?;
+    Ok(merge(out, one))
+}
+
+/// The arms of a case.
+#[cycle(walk)]
+fn walk_case<P: Phase>(
+    alloc: Global,
+    x: &Name,
+    sort: Sort,
+    hold: Hold,
+    arms: &Vec<Arm<P>>,
+    reach: Reached,
+) -> Result<Reached, Stop>
+    ensures { Gives result
+        (walk_case x.now sort (seen_arms P.Phase arms.now.items) (hold_of hold) (reach_of reach)) }
+{
+    let mut out = nowhere();
+    for (number, one) in arms.iter().enumerate() {
+        out = walk_arm(alloc, x, sort, hold, number, one, &reach, out)?;
+    }
+    behind_arms(alloc, arms, &reach, out)
+}
+
+/// What is left of a case, behind its arms: where it has none, what is left is what stands before them.
+fn behind_arms<P: Phase>(
+    alloc: Global,
+    arms: &Vec<Arm<P>>,
+    reach: &Reached,
+    out: Reached,
+) -> Result<Reached, Stop>
+    ensures none { length arms.now.items ≡ 0 → Gives result (Ok (walks.choose 0 (reach_of reach.now))) }
+    ensures some { length arms.now.items ≢ 0 → Gives result (Ok (reach_of out)) }
+{
+    if arms.is_empty() {
+        leave(alloc, reach)
+    } else {
+        Ok(out)
+    }
+}
+
+/// One arm of a case.
+#[cycle(walk)]
+fn walk_arm<P: Phase>(
+    alloc: Global,
+    x: &Name,
+    sort: Sort,
+    hold: Hold,
+    number: usize,
+    arm: &Arm<P>,
+    reach: &Reached,
+    out: Reached,
+) -> Result<Reached, Stop>
+    ensures { Gives result
+        (then_on
+        (walk_block x.now sort (seen_block P.Phase arm.now.block)
+        (held_from x.now (bound_names (seen_binds P.Phase arm.now.binds.items)) (hold_of hold))
+        (walks.choose number (reach_of reach.now)))
+        (joined (reach_of out))) }
+{
+    let inside = held_beside_binds(x, &arm.binds, hold);
+    let entry = choose(alloc, number, reach)?;
+    let one = walk_block(alloc, x, sort, inside, &arm.block, entry)?;
+    Ok(merge(out, one))
+}
+
+/// The walk over the block of a variable from the statement of this number on, where the variable isn't
+/// consumed.
+fn walk_rest<P: Phase>(
+    alloc: Global,
+    x: &Name,
+    sort: Sort,
+    block: &Block<P>,
+    from: usize,
+) -> Result<Reached, Stop>
+    requires { from ≤ length block.now.statements.items }
+    ensures { Gives result
+        (walk_block x.now sort (seen_statements P.Phase (drop from block.now.statements.items)) unlent
+        (walks.reach (Some []) None)) }
+{
+    let mut at = Reached {
+        live: Some(Vec::new(alloc)),
+        spent: None,
+    };
+    let mut held = Hold::Unlent;
+    for index in from..block.statements.len() {
+        let one = &block.statements[index];
+        at = walk(alloc, x, sort, held, one, at)?;
+        held = held_after(x, one, held);
+    }
+    Ok(at)
+}
+
+/// The walk over the whole block of a variable, from the statement of this number on.
+pub(crate) fn check_paths<P: Phase>(
+    alloc: Global,
+    x: &Name,
+    sort: Sort,
+    block: &Block<P>,
+    from: usize,
+) -> Result<Reached, Stop>
+    requires { from ≤ length block.now.statements.items }
+    ensures { Gives result
+        (checked x.now sort (seen_statements P.Phase (drop from block.now.statements.items))) }
+{
+    let end = walk_rest(alloc, x, sort, block, from)?;
+    finish(sort, end)
+}
