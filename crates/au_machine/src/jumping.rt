@@ -26,7 +26,7 @@ fn has_label(code: &Code, function: usize, label: u32) -> bool
 
 impl State {
     /// The number that a slot holds, with its kind.
-    pub fn slot_number(&self, slot: u32) -> Option<(IntKind, i128)>
+    fn slot_number(&self, slot: u32) -> Option<(IntKind, i128)>
         ensures is { result ≡ along (in_slot slot (machine_of self.now)) number_in }
         ensures within { IfSome result (λ one. IsOfKind one.0 one.1) }
         ensures slots { IfSome result (λ one. slot < length self.now.world.slots.0) }
@@ -38,7 +38,7 @@ impl State {
     }
 
     /// The number of a kind that a slot holds.
-    pub fn slot_number_of(&self, kind: IntKind, slot: u32) -> Option<i128>
+    fn slot_number_of(&self, kind: IntKind, slot: u32) -> Option<i128>
         ensures is { result ≡ along (in_slot slot (machine_of self.now)) (number_of kind) }
         ensures within { IfSome result (λ z. IsOfKind kind z) }
     {

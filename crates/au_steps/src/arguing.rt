@@ -1,11 +1,11 @@
 //! Arguments that are popped and put into declared order.
 
-ghost use Rattle.std.specs.Prelude.{◌≡◌, ◌∷◌, [], List, length, reverse, Some, None, IfOk, OnOk, MatchOption, IsTrue};
+ghost use Rattle.std.specs.Prelude.{◌≡◌, ◌∷◌, [], List, length, reverse, Some, None, IfOk, OnOk, MatchOption};
 ghost use Rattle.std.specs.Option.{option_map};
 ghost use Rattle.au_low.specs.Machines.{Low, Machine, Next, stuck, popping_all, ordered};
 ghost use Rattle.au_cells.specs.Cells.{low, lows};
 ghost use Rattle.au_machine.specs.States.{machine_of};
-ghost use Rattle.au_steps.specs.Orders.{arguments, counted, crossing, is_single, backwards_of};
+ghost use Rattle.au_steps.specs.Orders.{arguments, is_counted, crossing, is_single, backwards_of};
 
 use au_base::Memory;
 use au_cells::Cell;
@@ -34,7 +34,7 @@ fn crossing(order: &[u32]) -> Option<bool>
 
 /// Whether an order is the declared one.
 fn is_declared(order: &[u32]) -> bool
-    ensures { IsTrue result → order.now ≡ counted 0 (length order.now) }
+    ensures { result ≡ is_counted 0 order.now }
 {
     let mut at = 0;
     for index in order {
@@ -186,5 +186,6 @@ pub fn pop_three(
     if order.is_empty() {
         return Ok(Some((a, b, c)));
     }
-    in_order_of_three(alloc, order, a, b, c)
+    let found = in_order_of_three(alloc, order, a, b, c)?;
+    Ok(found)
 }

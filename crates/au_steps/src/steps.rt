@@ -1,16 +1,17 @@
 //! The steps of a machine: each instruction, the next one, and one that waited for a byte.
 
-ghost use Rattle.std.specs.Prelude.{◌≡◌, ◌<◌, IfOk, IfSome};
+ghost use Rattle.std.specs.Prelude.{◌≡◌, ◌<◌, slice_get, IfOk, IfSome};
 ghost use Rattle.std.specs.Option.{option_copied};
 ghost use Rattle.au_low.specs.Instructions.{act};
 ghost use Rattle.au_low.specs.Runs.{fetched, next, heard};
-ghost use Rattle.au_machine.specs.States.{machine_of, came, most_place};
+ghost use Rattle.au_machine.specs.States.{machine_of, turned, came, most_place};
+ghost use Rattle.au_steps.specs.Orders.{heard_by};
 
 use crate::calling::{call, function_at, wrap};
 use crate::looping::{for_step, for_test};
 use crate::shipping::{hear_call, ship};
 use au_base::Memory;
-use au_low::{Code, Instr, Mode};
+use au_low::{Code, Function, Instr, Mode};
 use au_machine::{State, Turn};
 use std::alloc::Global;
 
@@ -79,13 +80,21 @@ pub fn act(state: &mut State, alloc: Global, code: &Code, instr: &Instr) -> Resu
     }
 }
 
+/// The instruction of a number.
+fn instr_at(function: &Function, place: usize) -> Option<&Instr>
+    ensures is { option_copied result ≡ slice_get function.now.code place }
+    ensures place { IfSome result (λ instr. place < most_place) }
+{
+    function.code.as_slice().get(place)
+}
+
 /// The instruction at the place that a state has reached.
 fn fetched<'a>(state: &State, code: &'a Code) -> Option<&'a Instr>
     ensures is { option_copied result ≡ fetched code.now (machine_of state.now) }
     ensures place { IfSome result (λ instr. state.now.place < most_place) }
 {
     match function_at(code, state.function) {
-        Some(function) => function.code.as_slice().get(state.place),
+        Some(function) => instr_at(function, state.place),
         None => None,
     }
 }
@@ -104,6 +113,26 @@ pub fn next(state: &mut State, alloc: Global, code: &Code) -> Result<Turn, Memor
     }
 }
 
+/// Goes on with this instruction, which waits for a byte.
+fn hear_instr(
+    state: &mut State,
+    alloc: Global,
+    instr: &Instr,
+    byte: Option<u8>,
+) -> Result<Turn, Memory>
+    requires { state.now.place < most_place }
+    ensures { IfOk result (λ turn. turned turn state.new ≡ heard_by byte instr.now (machine_of state.old)) }
+{
+    match instr {
+        Instr::Shipped {
+            call,
+            of: _of,
+            order,
+        } => { hear_call(state, alloc, *call, byte, order.as_slice()) }
+        _ => Ok(Turn::Stuck),
+    }
+}
+
 /// Goes on with an instruction that waits for a byte of the input, once it has come, or none was left.
 ///
 /// # Errors
@@ -113,9 +142,7 @@ pub fn hear(state: &mut State, alloc: Global, code: &Code, byte: Option<u8>) -> 
     ensures { IfOk result (λ turn. came turn state.new (heard code.now byte (machine_of state.old))) }
 {
     match fetched(state, code) {
-        Some(Instr::Shipped { call, of: _, order }) => {
-            hear_call(state, alloc, *call, byte, order.as_slice())
-        }
-        _ => Ok(Turn::Stuck),
+        Some(instr) => hear_instr(state, alloc, instr, byte),
+        None => Ok(Turn::Stuck),
     }
 }
