@@ -1,6 +1,6 @@
-use Rattle.std.proofs.Common.{List, [], ◌∷◌, Option, sym, ap, ◌∙◌, eqb}
+use Rattle.std.proofs.Common.{List, [], ◌∷◌, Option, sym, ap, ◌∙◌}
 use Rattle.std.proofs.lemmas.Bool.{eqb-true}
-use Rattle.au_low.specs.Machines.{Low, Machine, Next, having, ordered_if}
+use Rattle.au_low.specs.Machines.{Low, having, ordered_if}
 use Rattle.au_cells.specs.Cells.{low}
 use Rattle.au_machine.specs.States.{machine_of}
 use Rattle.au_steps.proofs.ArgumentLemmas.{no_order, not_empty, reordered}

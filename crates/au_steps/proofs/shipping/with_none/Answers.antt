@@ -1,8 +1,6 @@
-use Rattle.std.proofs.Common.{Option, [], Some, None, List, ap, sym, ◌∙◌}
+use Rattle.std.proofs.Common.{Option, Some, ap, sym, ◌∙◌}
 use Rattle.std.proofs.lemmas.Bool.{eqb-true}
-use Rattle.au_effects.specs.Answers.{Answer}
-use Rattle.au_effects.specs.Calls.{make_empty, shipped}
-use Rattle.au_low.specs.Machines.{Low, LowWorld, Machine, Next}
+use Rattle.au_effects.specs.Calls.{make_empty}
 use Rattle.au_low.specs.Instructions.{answered, text_bytes}
 use Rattle.au_machine.specs.States.{machine_of}
 use Rattle.au_machine.proofs.StateLemmas.{come_to}

@@ -1,4 +1,7 @@
-use Rattle.std.proofs.Common.{ap, sym, ◌∙◌}
+use Rattle.std.proofs.Common.{◌≡◌, ap, sym, ◌∙◌, rules, to_z, of_z, w128}
+use Rattle.au_ints.specs.Ranges.{is_of_kind}
+use Rattle.au_effects.specs.Values.{number}
+use Rattle.au_low.specs.Machines.{where_true, pushes}
 use Rattle.au_low.specs.Instructions.{act}
 use Rattle.au_low.specs.declared.instructions.Instr.TheVariants as instr
 use Rattle.au_machine.specs.States.{machine_of}
@@ -9,8 +12,11 @@ pub returns-in-Push : goal.returns-in-Push
 unfolding act
 returns-in-Push c =
     let m = machine_of c.args.state.now in
+    let kind = c.in-Push.kind in
+    let same : to_z w128 (of_z w128 c.in-Push.value) ≡ c.in-Push.value = search rules in
     came_from c.push_number.result c.push_number.new.self _ _
-    (ap (λ one. act c.args.code.now one m) (sym c.in-Push.is))
+    (ap (λ z. where_true (is_of_kind kind z) (pushes (number kind z) m)) same
+    ∙ ap (λ one. act c.args.code.now one m) (sym c.in-Push.is))
     c.push_number.ensures
 
 pub returns-in-PushBool : goal.returns-in-PushBool
@@ -42,7 +48,7 @@ unfolding act
 returns-in-Look c =
     let m = machine_of c.args.state.now in
     came_from c.look.result c.look.new.self _ _
-    (ap (λ one. act c.args.code.now one m) (ap (λ path. instr.Look c.in-Look.slot path) c.as_slice-in-Look.ensures
+    (ap (λ one. act c.args.code.now one m) (ap (λ path. instr.Look c.in-Look.slot path) c.as_slice.ensures
     ∙ sym c.in-Look.is))
     c.look.ensures
 
