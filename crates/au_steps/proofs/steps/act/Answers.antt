@@ -1,4 +1,5 @@
-use Rattle.std.proofs.Common.{◌≡◌, ap, sym, ◌∙◌, rules, to_z, of_z, w128}
+use Rattle.std.proofs.Common.{◌≡◌, ap, sym, ◌∙◌, rules, to_z, of_z}
+use Rattle.std.specs.Int.{w128}
 use Rattle.au_ints.specs.Ranges.{is_of_kind}
 use Rattle.au_effects.specs.Values.{number}
 use Rattle.au_low.specs.Machines.{where_true, pushes}
