@@ -1,0 +1,3 @@
+pub mod StepLemmas
+pub mod BeginLemmas
+pub mod RunLemmas

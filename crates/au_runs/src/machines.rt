@@ -1,11 +1,10 @@
 //! A machine that is loaded with code and runs it once.
 
 ghost use Rattle.std.specs.Prelude.{◌≡◌, true, false, [], map, IsTrue, IfOk, OnErr};
-ghost use Rattle.au_base.specs.Outside.{Counts};
 ghost use Rattle.au_low.specs.Runs.{low_run};
 ghost use Rattle.au_stores.specs.Stores.{deed_of};
 ghost use Rattle.au_runs.specs.Loaded.{Loaded};
-ghost use Rattle.au_runs.specs.Calls.{Says, IsCut, is_read_fault, is_write_fault};
+ghost use Rattle.au_runs.specs.Calls.{Says, IsCut, Rose, is_read_fault, is_write_fault};
 
 use crate::beginning::begun;
 use crate::ends::End;
@@ -96,8 +95,8 @@ impl<'c> Machine<'c> {
         requires { IsTrue self.old.fresh }
         ensures says { IfOk result (λ end. Says end (low_run self.old.keeps self.old.code) steps
             (I.left input.old) (I.left input.new) (O.written out.old) (O.written out.new) self.new.events) }
-        ensures read { IfOk result (λ end. Counts (is_read_fault end) (I.faults input.old) (I.faults input.new)) }
-        ensures written { IfOk result (λ end. Counts (is_write_fault end) (O.faults out.old) (O.faults out.new)) }
+        ensures read { IfOk result (λ end. Rose (is_read_fault end) (I.faults input.old) (I.faults input.new)) }
+        ensures written { IfOk result (λ end. Rose (is_write_fault end) (O.faults out.old) (O.faults out.new)) }
         ensures cut { OnErr result (IsCut (low_run self.old.keeps self.old.code) steps
             (I.left input.old) (O.written out.old) (O.written out.new)) }
         ensures quiet { OnErr result
