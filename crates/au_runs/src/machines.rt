@@ -8,7 +8,7 @@ ghost use Rattle.au_runs.specs.Calls.{Says, IsCut, Rose, is_read_fault, is_write
 
 use crate::beginning::begun;
 use crate::ends::End;
-use crate::stepping::make_steps;
+use crate::stepping::run_state;
 use au_base::{Memory, Sink, Source};
 use au_low::{Code, Event};
 use au_machine::State;
@@ -105,10 +105,6 @@ impl<'c> Machine<'c> {
         ensures code { (self.new.code ≡ self.old.code) × (self.new.keeps ≡ self.old.keeps) }
     {
         self.fresh = false;
-        match &mut self.state {
-            Some(state) => make_steps(alloc, self.code, state, steps, input, out),
-            None if steps == 0 => Ok(End::Steps),
-            None => Ok(End::Stuck),
-        }
+        run_state(alloc, self.code, &mut self.state, steps, input, out)
     }
 }
