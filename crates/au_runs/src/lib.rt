@@ -10,6 +10,7 @@ pub mod ends;
 pub mod machines;
 pub mod stepping;
 pub mod steps;
+pub mod stubs;
 pub mod waiting;
 
 pub use ends::End;

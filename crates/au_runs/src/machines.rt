@@ -52,7 +52,11 @@ impl<'c> Machine<'c> {
     /// `Memory` when memory runs out.
     pub fn load(alloc: Global, code: &'c Code, keep: bool) -> Result<Machine<'c>, Memory>
         ensures { IfOk result (λ m. m ≡ record {
-            code = code.now; keeps = keep; fresh = true; events = (low_run keep code.now [] 0).events }) }
+          code = code.now;
+          keeps = keep;
+          fresh = true;
+          events = (low_run keep code.now [] 0).events;
+        }) }
     {
         let state = begun(alloc, code, keep)?;
         Ok(Machine {

@@ -10,5 +10,5 @@ pub returns : goal.returns
 returns c =
     let code = c.args.code.now in
     let With : List (Deed ℕ) → Loaded = λ events.
-      record { code = code; keeps = c.args.keep; fresh = true; events = events } in
+    record { code = code; keeps = c.args.keep; fresh = true; events = events } in
     ap With (begun_deeds code c.in_ok-state.state (first c.args.keep code) c.in_ok-state.ensures)
