@@ -99,8 +99,10 @@ impl<'c> Machine<'c> {
         requires { IsTrue self.old.fresh }
         ensures says { IfOk result (λ end. Says end (low_run self.old.keeps self.old.code) steps
             (I.left input.old) (I.left input.new) (O.written out.old) (O.written out.new) self.new.events) }
-        ensures read { IfOk result (λ end. Rose (is_read_fault end) (I.faults input.old) (I.faults input.new)) }
-        ensures written { IfOk result (λ end. Rose (is_write_fault end) (O.faults out.old) (O.faults out.new)) }
+        ensures read { IfOk result (λ end.
+            Rose (is_read_fault end) (I.faults input.old) (I.faults input.new)) }
+        ensures written { IfOk result (λ end.
+            Rose (is_write_fault end) (O.faults out.old) (O.faults out.new)) }
         ensures cut { OnErr result (IsCut (low_run self.old.keeps self.old.code) steps
             (I.left input.old) (O.written out.old) (O.written out.new)) }
         ensures quiet { OnErr result

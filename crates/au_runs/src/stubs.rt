@@ -15,9 +15,9 @@ use std::alloc::Global;
 /// # Errors
 ///
 /// `Memory` when memory runs out.
-pub fn act(_state: &mut State, _alloc: Global, _code: &Code, _instr: &Instr) -> Result<Turn, Memory>
-    requires { _state.now.place < most_place }
-    ensures { IfOk result (λ turn. came turn _state.new (act _code.now _instr.now (machine_of _state.old))) }
+pub fn act(state: &mut State, alloc: Global, code: &Code, instr: &Instr) -> Result<Turn, Memory>
+    requires { state.now.place < most_place }
+    ensures { IfOk result (λ turn. came turn state.new (act code.now instr.now (machine_of state.old))) }
 {
     Err(Memory)
 }
@@ -27,13 +27,8 @@ pub fn act(_state: &mut State, _alloc: Global, _code: &Code, _instr: &Instr) -> 
 /// # Errors
 ///
 /// `Memory` when memory runs out.
-pub fn hear(
-    _state: &mut State,
-    _alloc: Global,
-    _code: &Code,
-    _byte: Option<u8>,
-) -> Result<Turn, Memory>
-    ensures { IfOk result (λ turn. came turn _state.new (heard _code.now _byte (machine_of _state.old))) }
+pub fn hear(state: &mut State, alloc: Global, code: &Code, byte: Option<u8>) -> Result<Turn, Memory>
+    ensures { IfOk result (λ turn. came turn state.new (heard code.now byte (machine_of state.old))) }
 {
     Err(Memory)
 }

@@ -1,5 +1,5 @@
 -- Only calls that read a byte wait.
-use Rattle.std.proofs.Common.{◌≡◌, ℕ, List, false, sym, ap, ◌∙◌}
+use Rattle.std.proofs.Common.{ℕ, List, sym, ap, ◌∙◌}
 use Rattle.au_low.specs.declared.instructions.Instr.{Instr}
 use Rattle.au_low.specs.Instructions.{act}
 use Rattle.au_machine.specs.States.{machine_of}

@@ -1,6 +1,5 @@
 -- The newest operand stands last.
-use Rattle.std.proofs.Common.{◌≡◌, ◌<◌, ◌-◌, List, [], length, get_or, sym, subst, ◌∙◌, arith}
-use Rattle.std.proofs.lemmas.Bool.{eqb-true, eq-eqb}
+use Rattle.std.proofs.Common.{◌≡◌, ◌<◌, ◌-◌, List, length, get_or, subst, ◌∙◌, arith}
 use Rattle.au_cells.specs.declared.cells.Cell.{Cell}
 use Rattle.au_runs.proofs.WaitLemmas.{none_at_top, cell_at_top}
 use Rattle.au_runs.proofs.waiting.waits_at_top.Goals as goal
