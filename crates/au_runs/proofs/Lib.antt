@@ -1,0 +1,4 @@
+pub mod StepLemmas
+pub mod BeginLemmas
+pub mod RunLemmas
+pub mod WaitLemmas

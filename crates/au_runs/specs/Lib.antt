@@ -1,0 +1,4 @@
+pub mod Loaded
+pub mod Calls
+pub mod Steps
+pub mod Waits
