@@ -1,0 +1,4 @@
+pub mod ArgumentLemmas
+pub mod FrameLemmas
+pub mod ShipLemmas
+pub mod StepLemmas

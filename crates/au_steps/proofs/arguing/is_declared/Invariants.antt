@@ -1,0 +1,8 @@
+use Rattle.std.proofs.Common.{◌≡◌, drop}
+use Rattle.au_steps.specs.Orders.{is_counted}
+use Rattle.au_steps.proofs.arguing.is_declared.Given as goal
+
+-- what is left decides
+abbrev pub invariant-loop-index : goal.invariant-loop-index
+invariant-loop-index l = (is_counted l.at (drop l.index-index l.fn.order) ≡ is_counted 0 l.fn.order)
+    × (l.at ≡ l.index-index)
