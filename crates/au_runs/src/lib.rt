@@ -7,10 +7,9 @@
 
 pub mod beginning;
 pub mod ends;
+pub mod fetching;
 pub mod machines;
 pub mod stepping;
-pub mod steps;
-pub mod stubs;
 pub mod waiting;
 
 pub use ends::End;

@@ -1,7 +1,7 @@
 -- The instruction stands in the function that runs.
 use Rattle.std.proofs.Common.{◌∙◌}
 use Rattle.au_runs.proofs.WaitLemmas.{fetched_at, fetched_none}
-use Rattle.au_runs.proofs.steps.fetched.Goals as goal
+use Rattle.au_runs.proofs.fetching.fetched.Goals as goal
 
 pub returns-in-Some-clause-is : goal.returns-in-Some-clause-is
 returns-in-Some-clause-is c =

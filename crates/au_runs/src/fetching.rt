@@ -1,4 +1,4 @@
-//! One step of a state, after which it is as it was where it waits for a byte.
+//! The next instruction of a state, which stays as it is where the instruction waits for a byte.
 
 ghost use Rattle.std.specs.Prelude.{◌≡◌, ◌<◌, slice_get, IfOk, IfSome};
 ghost use Rattle.std.specs.Option.{option_copied};
@@ -6,11 +6,11 @@ ghost use Rattle.au_low.specs.Runs.{fetched, next};
 ghost use Rattle.au_machine.specs.States.{machine_of, came, most_place};
 ghost use Rattle.au_runs.specs.Steps.{WaitsAsBefore};
 
-use crate::stubs::act;
 use crate::waiting::waits;
 use au_base::Memory;
 use au_low::{Code, Function, Instr};
 use au_machine::{State, Turn};
+use au_steps::act;
 use std::alloc::Global;
 
 /// A function of a number.
