@@ -1,4 +1,4 @@
-use Rattle.std.proofs.Common.{List, Some, reverse, ap, sym, ◌∙◌, arith}
+use Rattle.std.proofs.Common.{List, Some, ap, sym, ◌∙◌, arith}
 use Rattle.au_low.specs.Machines.{Low}
 use Rattle.au_cells.specs.Cells.{lows}
 use Rattle.au_machine.proofs.OrderLemmas.{lows_reverse, stays_declared}
