@@ -1,4 +1,5 @@
 pub mod CallingLemmas
+pub mod OrderLemmas
 pub mod PoppingLemmas
 pub mod ShippedLemmas
 pub mod StateLemmas

@@ -1,5 +1,5 @@
 -- How a machine goes on after a shipped call.
-use Rattle.std.proofs.Common.{◌≡◌, ℕ, ◌+◌, List, [], ◌∷◌, ◌++◌, reverse, Option, Some, None, refl, sym, ap, ◌∙◌}
+use Rattle.std.proofs.Common.{◌≡◌, ℕ, ◌+◌, List, [], ◌∷◌, ◌++◌, reverse, Option, Some, None, refl, ap, ◌∙◌}
 use Rattle.au_effects.specs.Values.{unit}
 use Rattle.au_effects.specs.Answers.{Answer, gives, writes, waits, aborts, none}
 use Rattle.au_effects.specs.Calls.{given, use_of, natural_in}
@@ -10,7 +10,7 @@ use Rattle.au_low.specs.Machines.{Low, LowWorld, Machine, Next, onward, in_world
 use Rattle.au_low.specs.Instructions.{answered}
 use Rattle.au_cells.specs.declared.cells.Cell.{Cell}
 use Rattle.au_cells.specs.declared.cells.Cell as cell
-use Rattle.au_cells.specs.Cells.{low, lows}
+use Rattle.au_cells.specs.Cells.{low}
 use Rattle.au_cells.proofs.CellLemmas.{unit_is}
 use Rattle.au_stores.specs.declared.worlds.World.{World}
 use Rattle.au_stores.specs.Stores.{world_of, top_frame, reached_by}

@@ -1,17 +1,13 @@
 //! The instructions that go to labels.
 
-ghost use Rattle.std.specs.Prelude.{◌≡◌, ◌<◌, nat_lt, length, slice_get, IfSome};
-ghost use Rattle.au_ints.specs.Ranges.{IsOfKind};
-ghost use Rattle.au_effects.specs.Parts.{along};
-ghost use Rattle.au_effects.specs.Numbers.{number_in, number_of, truth_in};
-ghost use Rattle.au_low.specs.Machines.{popping, having, in_slot};
+ghost use Rattle.std.specs.Prelude.{◌≡◌, ◌<◌, nat_lt, length, slice_get};
+ghost use Rattle.au_effects.specs.Numbers.{truth_in};
+ghost use Rattle.au_low.specs.Machines.{popping, having};
 ghost use Rattle.au_low.specs.Instructions.{instructions, jumps, jumps_unless};
 ghost use Rattle.au_machine.specs.States.{machine_of, turned, most_place};
 
 use crate::states::{State, Turn};
-use au_base::IntKind;
 use au_cells::forms::truth_in;
-use au_cells::numbers::{number_in, number_of};
 use au_low::Code;
 
 /// Whether a function has an instruction of a number.
@@ -25,29 +21,6 @@ fn has_label(code: &Code, function: usize, label: u32) -> bool
 }
 
 impl State {
-    /// The number that a slot holds, with its kind.
-    fn slot_number(&self, slot: u32) -> Option<(IntKind, i128)>
-        ensures is { result ≡ along (in_slot slot (machine_of self.now)) number_in }
-        ensures within { IfSome result (λ one. IsOfKind one.0 one.1) }
-        ensures slots { IfSome result (λ one. slot < length self.now.world.slots.0) }
-    {
-        match self.held(slot) {
-            Some(cell) => number_in(cell),
-            None => None,
-        }
-    }
-
-    /// The number of a kind that a slot holds.
-    fn slot_number_of(&self, kind: IntKind, slot: u32) -> Option<i128>
-        ensures is { result ≡ along (in_slot slot (machine_of self.now)) (number_of kind) }
-        ensures within { IfSome result (λ z. IsOfKind kind z) }
-    {
-        match self.held(slot) {
-            Some(cell) => number_of(kind, cell),
-            None => None,
-        }
-    }
-
     /// Goes to a label.
     pub fn jump(&mut self, code: &Code, label: u32) -> Turn
         ensures { turned result self.new ≡ jumps code.now label (machine_of self.old) }

@@ -27,7 +27,7 @@ ghost use Rattle.au_low.specs.Machines.{
 };
 ghost use Rattle.au_cells.specs.Cells.{low, lows};
 ghost use Rattle.au_stores.specs.Stores.{slots_of, cells_of};
-ghost use Rattle.au_machine.specs.States.{machine_of, standing};
+ghost use Rattle.au_machine.specs.States.{machine_of, standing, is_counted};
 
 use crate::states::State;
 use au_base::Memory;
@@ -81,6 +81,20 @@ fn picked(
     Ok(Some(cells))
 }
 
+/// Whether an order is the declared one.
+pub fn is_declared(order: &[u32]) -> bool
+    ensures { result ≡ is_counted 0 order.now }
+{
+    let mut at = 0;
+    for index in order {
+        if *index as usize != at {
+            return false;
+        }
+        at += 1;
+    }
+    true
+}
+
 /// Arguments in declared order; they come last first.
 ///
 /// # Errors
@@ -96,6 +110,11 @@ pub fn in_order(
 {
     if order.len() != values.len() {
         return Ok(None);
+    }
+    if is_declared(order) {
+        let mut values = values;
+        values.reverse();
+        return Ok(Some(values));
     }
     let left = all_there(alloc, values)?;
     picked(alloc, order, left)

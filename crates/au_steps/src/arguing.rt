@@ -5,12 +5,12 @@ ghost use Rattle.std.specs.Option.{option_map};
 ghost use Rattle.au_low.specs.Machines.{Low, Machine, Next, stuck, popping_all, ordered};
 ghost use Rattle.au_cells.specs.Cells.{low, lows};
 ghost use Rattle.au_machine.specs.States.{machine_of};
-ghost use Rattle.au_steps.specs.Orders.{arguments, is_counted, crossing, is_single, backwards_of};
+ghost use Rattle.au_steps.specs.Orders.{arguments, crossing, is_single, backwards_of};
 
 use au_base::Memory;
 use au_cells::Cell;
 use au_machine::State;
-use au_machine::popping::in_order;
+use au_machine::popping::{in_order, is_declared};
 use std::alloc::Global;
 
 /// Whether the order of two arguments turns them round, if it is one.
@@ -30,20 +30,6 @@ fn crossing(order: &[u32]) -> Option<bool>
         return Some(true);
     }
     None
-}
-
-/// Whether an order is the declared one.
-fn is_declared(order: &[u32]) -> bool
-    ensures { result ≡ is_counted 0 order.now }
-{
-    let mut at = 0;
-    for index in order {
-        if *index as usize != at {
-            return false;
-        }
-        at += 1;
-    }
-    true
 }
 
 /// Arguments that come last first in the order of the text, last first in declared order.

@@ -89,7 +89,7 @@ fn instr_at(function: &Function, place: usize) -> Option<&Instr>
 }
 
 /// The instruction at the place that a state has reached.
-fn fetched<'a>(state: &State, code: &'a Code) -> Option<&'a Instr>
+pub fn fetched<'a>(state: &State, code: &'a Code) -> Option<&'a Instr>
     ensures is { option_copied result ≡ fetched code.now (machine_of state.now) }
     ensures place { IfSome result (λ instr. state.now.place < most_place) }
 {

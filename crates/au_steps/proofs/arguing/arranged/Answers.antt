@@ -2,7 +2,8 @@ use Rattle.std.proofs.Common.{List, Some, ap, sym, ◌∙◌, arith}
 use Rattle.std.specs.Option.{option_map}
 use Rattle.au_low.specs.Machines.{Low}
 use Rattle.au_stores.specs.Stores.{cells_of}
-use Rattle.au_steps.proofs.ArgumentLemmas.{stays_declared, twice_turned}
+use Rattle.au_machine.proofs.OrderLemmas.{stays_declared}
+use Rattle.au_steps.proofs.ArgumentLemmas.{twice_turned}
 use Rattle.au_steps.proofs.arguing.arranged.Goals as goal
 
 pub returns-then-is_declared : goal.returns-then-is_declared

@@ -1,4 +1,4 @@
-use Rattle.std.proofs.Common.{ap, sym, ◌∙◌, reverse, ℕ}
+use Rattle.std.proofs.Common.{ap, sym, ◌∙◌, reverse}
 use Rattle.au_low.specs.Machines.{Machine, pushes}
 use Rattle.au_low.specs.Instructions.{answered}
 use Rattle.au_cells.specs.Cells.{low}

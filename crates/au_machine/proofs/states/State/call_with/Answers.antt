@@ -1,6 +1,5 @@
-use Rattle.std.proofs.Common.{◌≡◌, ap, sym, ◌∙◌, refl, reverse, Some, None, List, [], ◌∷◌, Option, ℕ}
+use Rattle.std.proofs.Common.{ap, sym, ◌∙◌, None, [], ◌∷◌}
 use Rattle.au_shipped.specs.declared.prims.ShippedCall.{ShippedCall}
-use Rattle.au_shipped.specs.declared.prims.ShippedCall.TheVariants as prim
 use Rattle.au_effects.specs.Calls.{shipped}
 use Rattle.au_low.specs.Machines.{Next}
 use Rattle.au_low.specs.Instructions.{answered, text_bytes}

@@ -1,22 +1,10 @@
-use Rattle.std.proofs.Common.{ap, sym, ◌∙◌, refl, reverse, Some, None, List, [], ◌∷◌, Option, ℕ, ℤ, pos, length, Bool}
-use Rattle.au_base.specs.declared.kinds.IntKind.{IntKind}
-use Rattle.au_base.specs.declared.kinds.IntKind.TheVariants.{Nat8, Index}
-use Rattle.au_effects.specs.Values.{unit, number, optional}
-use Rattle.au_effects.specs.Worlds.{used, tells, spends}
-use Rattle.au_effects.specs.Answers.{Answer, gives, writes, waits, aborts, called}
-use Rattle.au_effects.specs.Numbers.{number_bytes, truth_bytes, number_in, truth_in, text_in, number_of}
-use Rattle.au_effects.specs.Calls.{given, in_line, natural_in, terminal_in, byte_value}
-use Rattle.au_low.specs.Machines as machine
-use Rattle.au_low.specs.Machines.{Low, Machine, onward, pushed, pushes}
-use Rattle.au_low.specs.Instructions.{answered, text_bytes}
+use Rattle.std.proofs.Common.{reverse, ℕ}
+use Rattle.au_effects.specs.Answers.{Answer, waits}
+use Rattle.au_effects.specs.Calls.{terminal_in}
 use Rattle.au_cells.specs.Cells.{low}
-use Rattle.au_cells.specs.declared.cells.Cell as cell
-use Rattle.au_cells.specs.declared.cells.Cell.{Cell}
-use Rattle.au_cells.proofs.CellLemmas.{unit_is, index_is}
 use Rattle.au_stores.specs.Stores.{world_of}
 use Rattle.au_machine.specs.States.{machine_of}
-use Rattle.au_machine.proofs.StateLemmas.{come_to}
-use Rattle.au_machine.proofs.ShippedLemmas.{answered_in, own_world, written_in, from_found, from_none, use_found, use_none, byte_is, not_byte}
+use Rattle.au_machine.proofs.ShippedLemmas.{use_found, use_none}
 use Rattle.au_machine.proofs.states.State.read_byte.Goals as goal
 
 pub returns-in-Some : goal.returns-in-Some

@@ -1,4 +1,4 @@
-use Rattle.std.proofs.Common.{◌≡◌, ap, sym, ◌∙◌, refl, reverse, Some, None, List, [], ◌∷◌, Option, ℕ}
+use Rattle.std.proofs.Common.{ap, sym, ◌∙◌, [], ◌∷◌, Option, ℕ}
 use Rattle.au_effects.specs.Calls.{shipped}
 use Rattle.au_low.specs.Machines.{Next}
 use Rattle.au_low.specs.Instructions.{answered, text_bytes}

@@ -1,8 +1,7 @@
-use Rattle.std.proofs.Common.{ap, sym, ◌∙◌, reverse}
+use Rattle.std.proofs.Common.{ap, ◌∙◌}
 use Rattle.au_low.specs.Machines.{Machine, writes, onward, pushed}
 use Rattle.au_effects.specs.Calls.{in_line}
 use Rattle.au_effects.specs.Values.{unit}
-use Rattle.au_machine.specs.States.{machine_of}
 use Rattle.au_machine.proofs.ShippedLemmas.{writes_on}
 use Rattle.au_machine.proofs.states.State.write_out.Goals as goal
 

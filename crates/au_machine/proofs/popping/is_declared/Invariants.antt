@@ -1,6 +1,6 @@
 use Rattle.std.proofs.Common.{◌≡◌, drop}
-use Rattle.au_steps.specs.Orders.{is_counted}
-use Rattle.au_steps.proofs.arguing.is_declared.Given as goal
+use Rattle.au_machine.specs.States.{is_counted}
+use Rattle.au_machine.proofs.popping.is_declared.Given as goal
 
 -- what is left decides
 abbrev pub invariant-loop-index : goal.invariant-loop-index
