@@ -1,0 +1,4 @@
+pub mod WalkLemmas
+pub mod RangeLemmas
+pub mod StepLemmas
+pub mod PathLemmas

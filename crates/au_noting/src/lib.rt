@@ -1,0 +1,19 @@
+//! What noting expressions and statements stands on: the scope at a place of a function, why noting stops,
+//! what names, parts and written types mean in a scope, and the notes of single nodes.
+//!
+//! - A call that may stop answers what the search of the rules gives (`specs/Giving.antt`, `Gives`), and is
+//!   named as its function of the search.
+#![tactic(auto)]
+
+pub mod called;
+pub mod calls;
+pub mod faults;
+pub mod lookups;
+pub mod nodes;
+pub mod rules;
+pub mod scopes;
+pub mod variables;
+
+pub use faults::{Cause, Fault};
+pub use scopes::{Bounds, Scope};
+pub use variables::{Variable, Variables};
