@@ -64,18 +64,30 @@ pub fn shipped(alloc: Global, call: ShippedCall, of: Option<u32>) -> Instr {
 }
 
 /// The declared order of one argument.
+///
+/// # Errors
+///
+/// `Memory` when memory runs out.
 pub fn one_argument(alloc: Global) -> Result<Sequence<u32>, Memory> {
     let order = vec![in alloc; 0]?;
     Ok(Sequence::from_vec(order))
 }
 
 /// The declared order of two arguments.
+///
+/// # Errors
+///
+/// `Memory` when memory runs out.
 pub fn two_arguments(alloc: Global) -> Result<Sequence<u32>, Memory> {
     let order = vec![in alloc; 0, 1]?;
     Ok(Sequence::from_vec(order))
 }
 
 /// Pops two fields, and pushes a record of a type.
+///
+/// # Errors
+///
+/// `Memory` when memory runs out.
 pub fn pair(alloc: Global, of: u32) -> Result<Instr, Memory> {
     let order = two_arguments(alloc)?;
     let module = Name::copy_of(alloc, b"Bench")?;
@@ -88,6 +100,10 @@ pub fn pair(alloc: Global, of: u32) -> Result<Instr, Memory> {
 }
 
 /// Pushes the exit code of success, whose type is the first one.
+///
+/// # Errors
+///
+/// `Memory` when memory runs out.
 pub fn success(alloc: Global) -> Result<Instr, Memory> {
     let module = Name::copy_of(alloc, b"Bench")?;
     Ok(Instr::Make {
@@ -99,11 +115,19 @@ pub fn success(alloc: Global) -> Result<Instr, Memory> {
 }
 
 /// The type of exit codes, which is the first type of each program.
+///
+/// # Errors
+///
+/// `Memory` when memory runs out.
 pub fn exit_code(alloc: Global) -> Result<LowType, Memory> {
     low_type(alloc, b"Austral.Pervasive:ExitCode", false)
 }
 
 /// A type of this text.
+///
+/// # Errors
+///
+/// `Memory` when memory runs out.
 pub fn low_type(alloc: Global, text: &[u8], linear: bool) -> Result<LowType, Memory> {
     let text = Text::copy_of(alloc, text)?;
     let module = Name::copy_of(alloc, b"Bench")?;
