@@ -6,10 +6,10 @@ ghost use Rattle.au_sorts.specs.Said.{arms_said, binds_said, block_said, branche
 ghost use Rattle.au_sorts.specs.Sorts as spec;
 ghost use Rattle.au_syntax.specs.Views.{placed, written};
 
+use crate::scopes::TypeScope;
 use crate::types::{borrow_sort, reference_sort, region_written, written_sort};
 use au_base::{Memory, Name};
 use au_lives::lives::Sort;
-use crate::scopes::TypeScope;
 use au_syntax::{Arm, Bind, Block, Branch, Field, Ident, Phase, Stmt, TypeText};
 use std::alloc::Global;
 
@@ -143,7 +143,7 @@ fn push_inside<P: Phase>(
             push_within(alloc, scope, region, reference_sort(*access), block, made)
         }
         Stmt::BorrowTyped(_, _, text, mode, _, block, _) => {
-            push_typed(alloc, scope, text, borrow_sort(*mode), block, made)
+            push_typed(alloc, scope, block, text, borrow_sort(*mode), made)
         }
         Stmt::Skip(_) => Ok(()),
         Stmt::Let(_, _, _, _, _) => Ok(()),
@@ -197,9 +197,9 @@ fn push_within<P: Phase>(
 fn push_typed<P: Phase>(
     alloc: Global,
     scope: &mut TypeScope,
+    block: &Block<P>,
     text: &TypeText,
     sort: Sort,
-    block: &Block<P>,
     made: &mut Vec<Sort>,
 ) -> Result<(), Memory>
     ensures put { OnOk result (made.new.items ≡ made.old.items ++ sort

@@ -6,9 +6,9 @@ ghost use Rattle.au_sorts.specs.Said.{block_said, parameters_said};
 ghost use Rattle.au_sorts.specs.Sorts as spec;
 
 use crate::pushing::{push_block, push_parameters};
+use crate::scopes::TypeScope;
 use au_base::Memory;
 use au_lives::lives::Sort;
-use crate::scopes::TypeScope;
 use au_syntax::{Block, Field, Phase};
 use std::alloc::Global;
 

@@ -8,8 +8,8 @@ ghost use Rattle.au_sorts.specs.Sorts as spec;
 ghost use Rattle.au_syntax.specs.Views.{written};
 ghost use Rattle.au_types.specs.Views.{meaning};
 
-use au_base::{Memory, Name};
 use crate::scopes::TypeScope;
+use au_base::{Memory, Name};
 use au_judged_types::{Judged, judge_type};
 use au_lives::lives::Sort;
 use au_syntax::{Access, BorrowMode, TypeText, Universe};

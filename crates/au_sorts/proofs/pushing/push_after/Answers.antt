@@ -44,4 +44,3 @@ returns-in-Call g c = grind (arith, common_steps, call_says)
 
 pub returns-in-Return : goal.returns-in-Return
 returns-in-Return g c = grind (arith, common_steps, return_says)
-
