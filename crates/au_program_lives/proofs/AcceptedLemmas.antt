@@ -13,14 +13,14 @@ use Rattle.au_sorts.specs.Scopes.{TypeScope}
 use Rattle.au_syntax.specs.Modules.{Header, constant, opaque_type, record_type, union_type, function, class, instance, constant_body, function_body, instance_body}
 use Rattle.au_syntax.specs.Plain.{Bytes, PlainDeclaration, PlainStatements}
 
-of_unwanted : (function variable : Bytes) (at : Pos) (why : Refusal) → Some (fault_of function variable at why) ≡ Some fault.Memory → ⊥
-of_unwanted function variable at (in_loop place) h = cc
-of_unwanted function variable at (in_part place) h = cc
-of_unwanted function variable at (on_path kind path) h = cc
+of_unwanted : (name variable : Bytes) (at : Pos) (why : Refusal) → Some (fault_of name variable at why) ≡ Some fault.Memory → ⊥
+of_unwanted name variable at (in_loop place) h = cc
+of_unwanted name variable at (in_part place) h = cc
+of_unwanted name variable at (on_path kind path) h = cc
 
-told_unwanted : (function : Bytes) (r : Option Refused) → option_map (fault_told function) r ≡ Some fault.Memory → ⊥
-told_unwanted function None h = cc
-told_unwanted function (Some r) h = of_unwanted function r.variable.scope.name.name r.variable.scope.name.at r.why h
+told_unwanted : (name : Bytes) (r : Option Refused) → option_map (fault_told name) r ≡ Some fault.Memory → ⊥
+told_unwanted name None h = cc
+told_unwanted name (Some r) h = of_unwanted name r.variable.scope.name.name r.variable.scope.name.at r.why h
 
 function_unwanted : (header : Header Bytes) (body : PlainStatements) (sc : TypeScope) → function_fault header body sc ≡ Some fault.Memory → ⊥
 function_unwanted header body sc h = told_unwanted header.name.name (first_refused (function_variables header body sc)) h

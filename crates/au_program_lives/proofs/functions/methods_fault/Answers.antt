@@ -12,8 +12,8 @@ returns-in-Some c =
     let items = c.deref-one-items.result.now in
     found_here (λ ms. first_of f (methods_said ms)) (λ m. f (method_said m))
     (λ m ms. first_more f (method_said m) (methods_said ms))
-    items c.loop-one.one-index c.one-item.result c.in_ok-function_fault.field-0 c.in-Some.fault (first_of f (methods_said items))
-    c.loop-one-test.true c.one-item.is c.loop-one.invariant c.in_ok-function_fault.ensures c.in-Some.is
+    items c.loop-one.one-index c.one-item.result c.in_ok-fault.field-0 c.in-Some.fault (first_of f (methods_said items))
+    c.loop-one-test.true c.one-item.is c.loop-one.invariant c.in_ok-fault.ensures c.in-Some.is
     ∙ ap (λ ms. first_of f (methods_said ms)) c.deref-one-items.ensures.value
 
 pub loop-one-preserved : goal.loop-one-preserved
@@ -22,8 +22,8 @@ loop-one-preserved c =
     let items = c.deref-one-items.result.now in
     not_here (λ ms. first_of f (methods_said ms)) (λ m. f (method_said m))
     (λ m ms. first_more f (method_said m) (methods_said ms))
-    items c.loop-one.one-index c.one-item.result c.in_ok-function_fault.field-0 (first_of f (methods_said items))
-    c.loop-one-test.true c.one-item.is c.loop-one.invariant c.in_ok-function_fault.ensures c.in-None.is
+    items c.loop-one.one-index c.one-item.result c.in_ok-fault.field-0 (first_of f (methods_said items))
+    c.loop-one-test.true c.one-item.is c.loop-one.invariant c.in_ok-fault.ensures c.in-None.is
 
 pub returns : goal.returns
 returns c =

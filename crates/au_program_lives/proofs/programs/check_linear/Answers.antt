@@ -5,4 +5,4 @@ use Rattle.au_program_lives.proofs.programs.check_linear.Goals as goal
 
 pub returns-in-None-clause-good : goal.returns-in-None-clause-good
 returns-in-None-clause-good c =
-    good_from (slots.modules c.args.resolved.now) (sym c.in_ok-linear_fault.ensures ∙ c.in-None.is)
+    good_from (slots.modules c.args.resolved.now) (sym c.in_ok-fault.ensures ∙ c.in-None.is)

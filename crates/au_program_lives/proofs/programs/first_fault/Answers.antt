@@ -22,8 +22,8 @@ returns-in-Some c =
     let items = c.deref-one-items.result.now in
     found_here (λ ss. first_of f (spots_said ss)) (λ s. f (spot_said s))
     (λ s ss. first_more f (spot_said s) (spots_said ss))
-    items c.loop-one.one-index c.one-item.result c.in_ok-spot_fault.field-0 c.in-Some.fault (first_of f (spots_said items))
-    c.loop-one-test.true c.one-item.is c.loop-one.invariant c.in_ok-spot_fault.ensures c.in-Some.is
+    items c.loop-one.one-index c.one-item.result c.in_ok-fault.field-0 c.in-Some.fault (first_of f (spots_said items))
+    c.loop-one-test.true c.one-item.is c.loop-one.invariant c.in_ok-fault.ensures c.in-Some.is
     ∙ ap (first_of f) (ap spots_said c.deref-one-items.ensures.value ∙ c.requires)
 
 pub loop-one-preserved : goal.loop-one-preserved
@@ -32,8 +32,8 @@ loop-one-preserved c =
     let items = c.deref-one-items.result.now in
     not_here (λ ss. first_of f (spots_said ss)) (λ s. f (spot_said s))
     (λ s ss. first_more f (spot_said s) (spots_said ss))
-    items c.loop-one.one-index c.one-item.result c.in_ok-spot_fault.field-0 (first_of f (spots_said items))
-    c.loop-one-test.true c.one-item.is c.loop-one.invariant c.in_ok-spot_fault.ensures c.in-None.is
+    items c.loop-one.one-index c.one-item.result c.in_ok-fault.field-0 (first_of f (spots_said items))
+    c.loop-one-test.true c.one-item.is c.loop-one.invariant c.in_ok-fault.ensures c.in-None.is
 
 pub returns : goal.returns
 returns c =
