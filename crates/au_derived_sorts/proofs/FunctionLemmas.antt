@@ -12,6 +12,7 @@ use Rattle.au_names.specs.HeadsOf.{heads_of}
 use Rattle.au_names.specs.Meanings.{declared_by}
 use Rattle.au_outsides.specs.Outsides.{outside_of}
 use Rattle.au_outsides.specs.Written.{seen_in, types_at}
+use Rattle.au_program_lives.specs.LinearFaults as lives
 use Rattle.au_program_lives.specs.LinearFaults.{spot_types}
 use Rattle.au_scopes.specs.Scopes.{Outside, Scope, Variable}
 use Rattle.au_sorts.specs.Scopes.{TypeScope}
@@ -41,7 +42,7 @@ parameters_declare : (ps : List (Labelled Bytes)) (sc : Scope) (vs : List Variab
 parameters_declare [] sc vs inner h = record { new = []; is = sym (ok_same (beside vs sc) inner h); asks = refl }
 parameters_declare (p ∷ rest) sc vs inner h =
     let found : (of : Meaning) × (written_type sc p.of ≡ Ok of) × (with_parameters rest (with_variable (fixed_variable p.name.name of) (beside vs sc)) ≡ Ok inner) =
-        bind_ok (written_type sc p.of) (λ (of : Meaning). with_parameters rest (with_variable (fixed_variable p.name.name of) (beside vs sc))) inner h
+    bind_ok (written_type sc p.of) (λ (of : Meaning). with_parameters rest (with_variable (fixed_variable p.name.name of) (beside vs sc))) inner h
     in
     let one : Variable = fixed_variable p.name.name found.0 in
     subst (λ (s : Sort). Declares sc vs inner (s ∷ parameter_sorts rest (types_in sc))) (sym (written_asks sc p.of found.0 found.1))
@@ -61,17 +62,16 @@ in_body : (outside : Outside) (generics : List (Constrained Bytes)) (header : He
 in_body outside generics header scope h =
     let outer : Scope = outer_scope outside (generics_in outside generics) in
     let found : (sc : Scope) × (with_parameters header.parameters outer ≡ Ok sc) × (with_result header.result sc ≡ Ok scope) =
-        bind_ok (with_parameters header.parameters outer) (with_result header.result) scope h
+    bind_ok (with_parameters header.parameters outer) (with_result header.result) scope h
     in
     let d : Declares outer [] found.0 (parameter_sorts header.parameters (types_in outer)) = parameters_declare header.parameters outer [] found.0 found.1 in
     let last : (of : Meaning) × (written_type found.0 header.result ≡ Ok of) × ◌≡◌ {A = Noting Scope} (Ok (record found.0 { result = of })) (Ok scope) =
-        bind_ok (written_type found.0 header.result) (λ (of : Meaning). Ok (record found.0 { result = of })) scope found.2
-    in
-    (
+    bind_ok (written_type found.0 header.result) (λ (of : Meaning). Ok (record found.0 { result = of })) scope found.2
+    in (
       d.new,
       last.0,
       sym (ok_same (record found.0 { result = last.0 }) scope last.2)
-      ∙ ap (λ (sc : Scope). record sc { result = last.0 }) (d.is ∙ ap (λ l. beside l outer) (append-nil d.new)),
+          ∙ ap (λ (sc : Scope). record sc { result = last.0 }) (d.is ∙ ap (λ l. beside l outer) (append-nil d.new)),
       d.asks,
     )
 
@@ -108,7 +108,6 @@ pub same_types : (program : List ModuleParts) (s : Spot) (generics : List (Const
 same_types program s generics h =
     let outside = outside_of program s.at.«module» s.part in
     let class_of = class_meant (written_params generics) outside.visible outside.heads in
-    ap (λ (ps : List Parameter). record { regions = []; params = ps; visible = visible_at program s; heads = heads_of program })
-    (h ∙ same_params class_of generics)
-    ∙ ap (λ (v : List (Bytes × DeclAt)). record { regions = []; params = parameters (map (with_classes class_of) generics); visible = v; heads = heads_of program })
+    ap (λ (ps : List Parameter). lives.types_in ps (visible_at program s) (heads_of program)) (h ∙ same_params class_of generics)
+    ∙ ap (λ (v : List (Bytes × DeclAt)). lives.types_in (parameters (map (with_classes class_of) generics)) v (heads_of program))
     (same_visible program s (slice_get program s.at.«module»))

@@ -5,7 +5,7 @@ use Rattle.au_lives.specs.declared.lives.Sort.TheVariants as asks
 use Rattle.au_scopes.specs.Scopes.{Outside, Scope, Variable}
 use Rattle.au_syntax.specs.Statements.{skip, declare, destructure, assign, assign_through, conditional, conditional_else, case_of, while_loop, for_loop, borrow_in, borrow_typed, discard, return_of, no_statements, statements, no_branches, branches, no_arms, arms}
 use Rattle.au_typing.specs.Notes.{type_of}
-use Rattle.au_derivations.specs.Bodies.{GoodBody}
+use Rattle.au_derivations.specs.Bodies.{GoodBody, generics_in, outer_scope}
 use Rattle.au_derivations.specs.InScope.{after, fixed_variable, with_bound, with_reference, with_variable}
 use Rattle.au_derivations.specs.Parts.{borrow_type, mode_for}
 use Rattle.au_derivations.specs.Statements.{GoodStatement, GoodBlock, GoodBranches, GoodArmBlocks}
@@ -25,6 +25,10 @@ types_in sc = record {
   visible = sc.outside.visible;
   heads = sc.outside.heads;
 }
+
+-- what they are judged by in a function with these type parameters, outside of all borrow statements
+abbrev pub types_over : Outside → List (Constrained Bytes) → TypeScope
+types_over outside generics = types_in (outer_scope outside (generics_in outside generics))
 
 -- what a type asks in a scope
 abbrev pub asked_in : Scope → Meaning → Sort

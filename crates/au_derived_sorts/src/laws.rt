@@ -1,10 +1,10 @@
 //! Laws of sorts.
 
 ghost use Rattle.std.specs.Prelude.{◌≡◌, List, map};
-ghost use Rattle.au_derivations.specs.Bodies.{GoodBody, generics_in, outer_scope};
+ghost use Rattle.au_derivations.specs.Bodies.{GoodBody};
 ghost use Rattle.au_derivations.specs.Statements.{GoodBlock};
 ghost use Rattle.au_derivations.specs.Trees.{NotedStatements, erase_block};
-ghost use Rattle.au_derived_sorts.specs.Derived.{derived_sorts, function_sorts, types_in};
+ghost use Rattle.au_derived_sorts.specs.Derived.{derived_sorts, function_sorts, types_in, types_over};
 ghost use Rattle.au_formed.specs.Text.{Spot};
 ghost use Rattle.au_mentions.specs.Mentions.{generic_parameter, type_parameters};
 ghost use Rattle.au_modules.specs.Programs.{ModuleParts};
@@ -26,7 +26,7 @@ pub fn sorts_of_blocks_are_derived()
 pub fn sorts_of_functions_are_derived()
     ensures { (outside : Outside) (generics : List (Constrained Bytes)) (header : Header Bytes)
         (body : NotedStatements) (good : GoodBody outside generics header body)
-        → sorts_of header.parameters (erase_block body) (types_in (outer_scope outside (generics_in outside generics)))
+        → sorts_of header.parameters (erase_block body) (types_over outside generics)
         ≡ function_sorts outside generics header body good }
 {}
 
@@ -35,7 +35,5 @@ pub fn types_are_judged_alike()
     ensures { (program : List ModuleParts) (s : Spot) (generics : List (Constrained Bytes))
         → type_parameters s.says ≡ map generic_parameter generics
         → spot_types program s
-        ≡ types_in
-        (outer_scope (outside_of program s.at.«module» s.part)
-        (generics_in (outside_of program s.at.«module» s.part) generics)) }
+        ≡ types_over (outside_of program s.at.«module» s.part) generics }
 {}

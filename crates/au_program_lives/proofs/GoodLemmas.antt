@@ -1,8 +1,8 @@
 -- A program is refused for nothing exactly where every variable has a good life.
-use Rattle.std.proofs.Common.{◌≡◌, List, Option, None, Some, refl, sym, ap, ◌∙◌, Contains}
+use Rattle.std.proofs.Common.{◌≡◌, List, Option, None, Some, refl, sym, ap}
 use Rattle.std.specs.Option.{option_map}
-use Rattle.au_formed.specs.Text.{Spot, text}
-use Rattle.au_lives.specs.Refusals.{Refused, Variable, first_refused}
+use Rattle.au_formed.specs.Text.{text}
+use Rattle.au_lives.specs.Refusals.{first_refused}
 use Rattle.au_lives.proofs.RefusalLemmas.{all_good, none_refused, some_refused}
 use Rattle.au_modules.specs.Programs.{ModuleParts}
 use Rattle.au_name_faults.proofs.ChoiceLemmas.{among, contains, first_from, first_to}

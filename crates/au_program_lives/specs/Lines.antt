@@ -1,6 +1,5 @@
 -- What the line of a refusal says of a variable that has no good life, behind the place.
 use Rattle.std.specs.Prelude.{ℕ, List, [], ◌∷◌, ◌++◌, codes, decimal, flat_map}
-use Rattle.au_base.specs.declared.places.Pos.{Pos}
 use Rattle.au_lives.specs.declared.lives.LifeKind.{LifeKind}
 use Rattle.au_lives.specs.declared.lives.LifeKind.TheVariants as kinds
 use Rattle.au_program_lives.specs.declared.faults.LinearFault.{LinearFault}
