@@ -1,5 +1,5 @@
 -- The variables that a scope has beyond another, and what they ask.
-use Rattle.std.proofs.Common.{◌≡◌, true, false, ℕ, suc, ◌+◌, ◌-◌, List, [], ◌∷◌, ◌++◌, append_assoc, length, length-append, map, reverse, take, refl, sym, ap, subst, ◌∙◌, arith, Ok, Err}
+use Rattle.std.proofs.Common.{◌≡◌, true, false, ℕ, ◌-◌, List, [], ◌∷◌, ◌++◌, append_assoc, length, length-append, reverse, take, refl, sym, ap, subst, ◌∙◌, arith, Ok}
 use Rattle.std.proofs.lemmas.List.{reverse-append}
 use Rattle.au_judged_types.specs.Judging.{refers}
 use Rattle.au_lives.specs.declared.lives.Sort.{Sort}
@@ -21,7 +21,7 @@ use Rattle.au_universes.specs.Universes.{universe_of}
 use Rattle.au_derivations.specs.InScope.{after, fixed_variable, is_var, with_bound, with_reference, with_typed, with_variable}
 use Rattle.au_derivations.specs.Statements.{AreBound, GoodStatement}
 use Rattle.au_derivations.specs.Trees.{NotedStatement, erase_statement}
-use Rattle.au_derived_sorts.specs.Derived.{asked_in, declared_beyond, sorts_beyond, sorts_of_types, types_in}
+use Rattle.au_derived_sorts.specs.Derived.{asked_in, sorts_beyond, sorts_of_types, types_in}
 use Rattle.au_judged_types.specs.Reasons.{Outcome, means, fails}
 use Rattle.au_sorts.specs.Sorts.{judged_sort, written_sort, reference_sort, bound_sorts, sorts_after}
 use Rattle.au_typing.proofs.Steps.{ok_same}
@@ -84,7 +84,7 @@ reference_beyond sc name region of s e =
     ∙ beyond sc (with_variable (fixed_variable name of) sc) (s ∷ []) (one_more sc (fixed_variable name of) s e)
 
 -- one before others
-before : (sc : Scope) (vs : List Variable) (one : Variable) (inner : Scope) (ss : List Sort) → Declares sc (one ∷ vs) inner ss →
+pub before : (sc : Scope) (vs : List Variable) (one : Variable) (inner : Scope) (ss : List Sort) → Declares sc (one ∷ vs) inner ss →
     Declares sc vs inner (asked_in sc one.of ∷ ss)
 before sc vs one inner ss d = record {
   new = d.new ++ (one ∷ []);

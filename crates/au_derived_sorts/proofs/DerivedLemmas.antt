@@ -1,10 +1,8 @@
 -- The sorts of a derived body are those of the types that its variables have in scope.
-use Rattle.std.proofs.Common.{◌≡◌, Bool, true, List, [], ◌∷◌, ◌++◌, refl, sym, ap, ◌∙◌, Option, Some, None}
-use Rattle.au_lives.specs.declared.lives.Sort.{Sort}
+use Rattle.std.proofs.Common.{◌≡◌, List, [], ◌∷◌, ◌++◌, refl, sym, ap, ◌∙◌, Some}
 use Rattle.au_lives.specs.declared.lives.Sort.TheVariants as asks
 use Rattle.au_lives.specs.Paths as lives
-use Rattle.au_judged_types.specs.Judging.{refers}
-use Rattle.au_scopes.specs.Scopes.{Scope, Typed, Case, Variable}
+use Rattle.au_scopes.specs.Scopes.{Scope, Case, Variable}
 use Rattle.au_syntax.specs.declared.types.Access.{Access}
 use Rattle.au_syntax.specs.declared.expressions.BorrowMode.{BorrowMode}
 use Rattle.au_syntax.specs.declared.expressions.BorrowMode.TheVariants as modes
@@ -18,12 +16,12 @@ use Rattle.au_types.proofs.SameLemmas.{same_is}
 use Rattle.au_typing.specs.Notes.{type_of}
 use Rattle.au_derivations.specs.InScope.{after, fixed_variable, with_bound, with_reference, with_variable}
 use Rattle.au_derivations.specs.Parts.{access_of, borrow_type, mode_for, heads_of}
-use Rattle.au_derivations.specs.Statements.{AreBound, GoodArms, GoodStatement, GoodBlock, GoodBranches, GoodArmBlocks, GoodBorrow, IsReference}
+use Rattle.au_derivations.specs.Statements.{GoodArms, GoodStatement, GoodBlock, GoodBranches, GoodArmBlocks, GoodBorrow, IsReference}
 use Rattle.au_derivations.specs.Trees.{NotedStatement, NotedStatements, NotedBranches, NotedArms, erase_statement, erase_block, erase_branches, erase_arms}
 use Rattle.au_derived_sorts.specs.Derived.{asked_in, types_in, sorts_beyond, derived_sorts, derived_inside, derived_branches, derived_arms}
-use Rattle.au_sorts.specs.Scopes.{TypeScope, opened_by, opened_in}
+use Rattle.au_sorts.specs.Scopes.{opened_by, opened_in}
 use Rattle.au_sorts.specs.Sorts.{reference_sort, region_written, bound_sorts, sorts_after, sorts, sorts_inside, sorts_of_branches, sorts_of_arms}
-use Rattle.au_derived_sorts.proofs.DeclaredLemmas.{Declares, beyond, beside, one_more, bound_declares, after_declares, integer_asks, reference_asks, reference_beyond}
+use Rattle.au_derived_sorts.proofs.DeclaredLemmas.{Declares, beyond, one_more, bound_declares, after_declares, integer_asks, reference_asks, reference_beyond}
 
 both : {A : Type 0} (a b c d : List A) → a ≡ c → b ≡ d → a ++ b ≡ c ++ d
 both a b c d p q = ap (λ l. l ++ b) p ∙ ap (λ l. c ++ l) q

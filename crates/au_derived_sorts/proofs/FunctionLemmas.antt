@@ -1,5 +1,5 @@
 -- The sorts of a function are those of the types that its variables have in scope.
-use Rattle.std.proofs.Common.{◌≡◌, List, [], ◌∷◌, ◌++◌, append_assoc, map, reverse, refl, sym, ap, subst, ◌∙◌, Ok, Option, Some, None}
+use Rattle.std.proofs.Common.{◌≡◌, List, [], ◌∷◌, ◌++◌, map, reverse, refl, sym, ap, subst, ◌∙◌, Ok, Option, Some, None}
 use Rattle.std.specs.Prelude.{slice_get}
 use Rattle.std.proofs.lemmas.List.{append-nil}
 use Rattle.au_formed.specs.Text.{Spot, visible_at, visible_in}
@@ -11,16 +11,14 @@ use Rattle.au_modules.specs.Programs.{ModuleParts}
 use Rattle.au_names.specs.HeadsOf.{heads_of}
 use Rattle.au_names.specs.Meanings.{declared_by}
 use Rattle.au_outsides.specs.Outsides.{outside_of}
-use Rattle.au_outsides.specs.Written.{seen_in, types_at}
+use Rattle.au_outsides.specs.Written.{seen_in}
 use Rattle.au_program_lives.specs.LinearFaults as lives
 use Rattle.au_program_lives.specs.LinearFaults.{spot_types}
 use Rattle.au_scopes.specs.Scopes.{Outside, Scope, Variable}
-use Rattle.au_sorts.specs.Scopes.{TypeScope}
-use Rattle.au_sorts.specs.Sorts.{parameter_sorts, sorts, sorts_of, written_sort}
+use Rattle.au_sorts.specs.Sorts.{parameter_sorts, sorts, sorts_of}
 use Rattle.au_syntax.specs.Modules.{Constrained, Header}
 use Rattle.au_syntax.specs.Plain.{Bytes}
 use Rattle.au_syntax.specs.Types.{Labelled}
-use Rattle.au_syntax.specs.declared.modules.Part.{Part}
 use Rattle.au_tables.specs.declared.spaces.Space.TheVariants.{Types}
 use Rattle.au_types.specs.declared.parameters.Parameter.{Parameter}
 use Rattle.au_types.specs.declared.types.DeclAt.{DeclAt}
@@ -31,7 +29,7 @@ use Rattle.au_typing.proofs.Steps.{bind_ok, ok_same}
 use Rattle.au_derivations.specs.Bodies.{GoodBody, body_scope, generics_in, outer_scope, with_parameters, with_result}
 use Rattle.au_derivations.specs.InScope.{fixed_variable, with_variable}
 use Rattle.au_derivations.specs.Trees.{NotedStatements, erase_block}
-use Rattle.au_derived_sorts.specs.Derived.{asked_in, derived_sorts, function_sorts, sorts_of_types, types_in}
+use Rattle.au_derived_sorts.specs.Derived.{derived_sorts, function_sorts, sorts_of_types, types_in}
 use Rattle.au_derived_sorts.proofs.DeclaredLemmas.{Declares, before, beside, written_asks}
 use Rattle.au_derived_sorts.proofs.DerivedLemmas.{block_derived}
 
