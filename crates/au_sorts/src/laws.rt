@@ -1,0 +1,14 @@
+//! Laws of sorts.
+
+ghost use Rattle.std.specs.Prelude.{◌≡◌, List, length};
+ghost use Rattle.au_lives.specs.Scopes.{scopes_of};
+ghost use Rattle.au_sorts.specs.Scopes.{TypeScope};
+ghost use Rattle.au_sorts.specs.Sorts.{sorts_of};
+ghost use Rattle.au_syntax.specs.Plain.{Bytes, PlainStatements};
+ghost use Rattle.au_syntax.specs.Types.{Labelled};
+
+/// Each variable of a function has one sort.
+pub fn each_variable_has_a_sort()
+    ensures { (parameters : List (Labelled Bytes)) (body : PlainStatements) (sc : TypeScope)
+        → length (sorts_of parameters body sc) ≡ length (scopes_of parameters body) }
+{}
