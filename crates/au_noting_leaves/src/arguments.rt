@@ -32,10 +32,10 @@ pub fn take_as(
     alloc: Global,
     param: &Ty,
     s: Substitution,
-    one: Expr<Noted>,
-) -> Result<(Expr<Noted>, Substitution), Fault>
+    one: Box<Expr<Noted>>,
+) -> Result<(Box<Expr<Noted>>, Substitution), Fault>
     ensures { Gives beside_said result (search.taken_as (meaning param.now)
-        (notes.type_of (expression noted one)) s (expression noted one)) }
+        (notes.type_of (expression noted one.value)) s (expression noted one.value)) }
 {
     let more = taken_as(alloc, param, type_of(&one), &s)?;
     Ok((one, more))
@@ -50,10 +50,10 @@ pub fn take_as_int32(
     alloc: Global,
     param: &Ty,
     s: Substitution,
-    one: Expr<Noted>,
-) -> Result<(Expr<Noted>, Substitution), Fault>
+    one: Box<Expr<Noted>>,
+) -> Result<(Box<Expr<Noted>>, Substitution), Fault>
     ensures { Gives beside_said result
-        (search.taken_as (meaning param.now) int32 s (expression noted one)) }
+        (search.taken_as (meaning param.now) int32 s (expression noted one.value)) }
 {
     let more = taken_as(alloc, param, &Ty::Int(IntKind::Int32), &s)?;
     Ok((one, more))
