@@ -1,6 +1,5 @@
 -- What noted trees of the code say.
 use Rattle.std.specs.Prelude.{ℕ, List, Vec, map, Option, option_map}
-use Rattle.std.specs.declared.boxed.Box.{Box}
 use Rattle.std.specs.Global.{Global}
 use Rattle.au_matching.specs.Bindings.{Bindings}
 use Rattle.au_notes.specs.contracts.noted.NotedPhase.TheImpl.{ghosts as noted}
@@ -20,17 +19,13 @@ NotedCode = Expr Noted (List ℕ) Notes (Unit {0})
 abbrev pub all_said : List NotedCode → List NotedExpression
 all_said es = map (expression noted) es
 
--- one in a box
-abbrev pub boxed_said : Box NotedCode Global → NotedExpression
-boxed_said e = expression noted e.value
-
 -- an argument with the substitution after it
-abbrev pub beside_said : Box NotedCode Global × Bindings → NotedExpression × Bindings
-beside_said y = (boxed_said y.0, y.1)
+abbrev pub beside_said : NotedCode × Bindings → NotedExpression × Bindings
+beside_said y = (expression noted y.0, y.1)
 
 -- an argument after the first pass
-abbrev pub half_said : Option (Box NotedCode Global) → Half
-half_said half = option_map boxed_said half
+abbrev pub half_said : Option NotedCode → Half
+half_said half = option_map (expression noted) half
 
 -- the note of a call, and its noted arguments
 abbrev pub call_said : Notes × Vec NotedCode Global → Note × List NotedExpression
