@@ -63,7 +63,7 @@ module _ (scope : Scope) where
   pub choice_clause : (u : Node (Unit {0})) (c a b : PlainExpression) (mode : Mode) →
       note_expression scope (choice u c a b) mode
       ≡ (note_expression scope c (Some mean.truth) >>= λ test.
-        paired (is_bare a) (is_bare b) (note_expression scope a) (note_expression scope b) mode >>= made.choice_made u mode test)
+      paired (is_bare a) (is_bare b) (note_expression scope a) (note_expression scope b) mode >>= made.choice_made u mode test)
   choice_clause u c a b mode = refl
 
   -- ---- binary operations, by the tests that say which kind one is

@@ -137,7 +137,7 @@ pub fn note_borrow_part(
 ) -> Result<Expr<Noted>, Fault>
     ensures { Gives (expression noted) result (note_expression (scope_said scope.now)
         (tree.borrow_part (node parsed site.now) (placed parsed name.now)
-            (map (placed parsed) fields.now.items))
+        (map (placed parsed) fields.now.items))
         (wanted mode.entry)) }
 {
     let of = known_value(alloc, scope, &name.name)?;
