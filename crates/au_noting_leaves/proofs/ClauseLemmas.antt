@@ -2,7 +2,7 @@
 use Rattle.std.specs.Prelude.{◌≡◌, ℕ, List, Bool, true, false, Some, None, refl}
 use Rattle.au_syntax.specs.declared.expressions.BinaryOperator.{BinaryOperator}
 use Rattle.au_syntax.specs.declared.expressions.Literal.{Literal}
-use Rattle.au_syntax.specs.Expressions.{Node, number, negative, text, truth, nil, call, named_call, parenthesized, dereference, binary, negation, typed, choice}
+use Rattle.au_syntax.specs.Expressions.{Node, number, negative, text, truth, nil, call, named_call, parenthesized, dereference, negation, typed, choice}
 use Rattle.au_syntax.specs.Names.{Placed}
 use Rattle.au_syntax.specs.Plain.{Bytes, PlainArguments, PlainExpression, PlainExpressions}
 use Rattle.au_syntax.specs.Types.{WrittenType}

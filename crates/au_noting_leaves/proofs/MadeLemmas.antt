@@ -1,5 +1,5 @@
 -- What is made where each step of a clause gives something.
-use Rattle.std.proofs.Common.{◌≡◌, List, [], ◌∷◌, Bool, true, Ok, refl, ap, subst}
+use Rattle.std.proofs.Common.{◌≡◌, List, [], ◌∷◌, true, Ok, refl, ap, subst}
 use Rattle.au_notes.specs.contracts.noted.NotedPhase.TheImpl.{ghosts as noted}
 use Rattle.au_syntax.specs.Expressions.{Node, expressions}
 use Rattle.au_syntax.specs.Views.{expression, expression_all}
