@@ -1,7 +1,6 @@
 -- There are as many sorts as variables.
-use Rattle.std.proofs.Common.{◌≡◌, List, [], ◌∷◌, ◌++◌, length, length-append, map, refl, sym, ap, ◌∙◌}
+use Rattle.std.proofs.Common.{◌≡◌, List, [], ◌∷◌, ◌++◌, length, length-append, map, refl, ap}
 use Rattle.std.specs.Prelude.{suc}
-use Rattle.au_lives.specs.declared.lives.Sort.{Sort}
 use Rattle.au_lives.specs.Scopes as lives
 use Rattle.au_lives.specs.Scopes.{scopes, scopes_after, scopes_inside, scopes_of_branches, scopes_of_arms, scopes_of, bound_over}
 use Rattle.au_sorts.specs.Scopes.{TypeScope, opened_by, opened_in}

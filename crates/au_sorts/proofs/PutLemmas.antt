@@ -53,3 +53,7 @@ put_as r old new one other e h = subst (λ l. OnOk r (new ≡ old ++ l)) (sym e)
 -- what is put is that of an equal scope
 pub at_scope : (all : TypeScope → List Sort) (x y : TypeScope) → x ≡ y → (old new : List Sort) → new ≡ old ++ all x → new ≡ old ++ all y
 at_scope all x y e old new h = h ∙ ap (λ s. old ++ all s) e
+
+-- nothing is put
+pub nothing_put : (old all : List Sort) → all ≡ [] → old ≡ old ++ all
+nothing_put old all e = sym (ap (λ l. old ++ l) e ∙ append-nil old)

@@ -1,5 +1,5 @@
 -- The sorts of the variables of items, and those inside of a statement, form by form.
-use Rattle.std.proofs.Common.{◌≡◌, List, [], ◌∷◌, ◌++◌, append_assoc, map, Vec, ap, ◌∙◌, refl, sym}
+use Rattle.std.proofs.Common.{◌≡◌, [], ◌∷◌, ◌++◌, append_assoc, Vec, ap, ◌∙◌, refl, sym}
 use Rattle.std.specs.Global.{Global}
 use Rattle.std.specs.declared.boxed.Box.{Box}
 use Rattle.au_base.specs.declared.places.Pos.{Pos}
@@ -20,14 +20,15 @@ use Rattle.au_syntax.specs.declared.names.BorrowNames.{BorrowNames}
 use Rattle.au_syntax.specs.declared.names.Field.{Field}
 use Rattle.au_syntax.specs.declared.names.Ident.{Ident}
 use Rattle.au_syntax.specs.declared.statements.Arm.{Arm}
+use Rattle.au_syntax.specs.declared.statements.Binding.{Binding}
 use Rattle.au_syntax.specs.declared.statements.Block.{Block}
 use Rattle.au_syntax.specs.declared.statements.Branch.{Branch}
 use Rattle.au_syntax.specs.declared.statements.Stmt.{Stmt}
 use Rattle.au_syntax.specs.declared.statements.Stmt as code
-use Rattle.au_syntax.specs.Plain.{plain_statement}
+use Rattle.au_syntax.specs.Plain.{Bytes, PlainStatements, plain_statement}
 use Rattle.au_syntax.specs.Statements.{Statement}
 use Rattle.au_syntax.specs.Views.{placed, statement, written}
-use Rattle.au_syntax.proofs.StatementLemmas.{if_says, if_else_says, case_says, while_says, for_says, borrow_says, borrow_typed_says}
+use Rattle.au_syntax.proofs.StatementLemmas.{skip_says, let_says, destructure_says, assign_says, assign_through_says, call_says, return_says, if_says, if_else_says, case_says, while_says, for_says, borrow_says, borrow_typed_says}
 
 module _ {X N T C : Type 0} (g : Ghosts X N T C) (sc : TypeScope) where
   abbrev pub parameters_give : Giving (Field X N T C)
@@ -72,6 +73,12 @@ module _ {X N T C : Type 0} (g : Ghosts X N T C) (sc : TypeScope) where
     none = refl;
   }
 
+  -- a sort before those of a block in which a region is open, told otherwise
+  pub lent_same : (b : PlainStatements) (one told : Sort) (region name : Bytes) → one ≡ told → region ≡ name →
+      told ∷ sorts b (opened_in name sc) ≡ one ∷ sorts b (opened_in region sc)
+  lent_same b one told region name e f =
+      ap (λ s. s ∷ sorts b (opened_in name sc)) (sym e) ∙ ap (λ n. one ∷ sorts b (opened_in n sc)) (sym f)
+
   -- what a statement says decides
   inside : (s t : Stmt X N T C) → s ≡ t → (says : Statement g.SeenName g.SeenType g.SeenCall) → statement g t ≡ says →
       sorts_inside (statement_said g s) sc ≡ sorts_inside (plain_statement g.name_bytes says) sc
@@ -109,3 +116,28 @@ module _ {X N T C : Type 0} (g : Ghosts X N T C) (sc : TypeScope) where
         sorts_inside (statement_said g s) sc
         ≡ reference_sort (access_of mode) ∷ sorts (block_said g b) (opened_by (region_written (written t)) sc)
     borrow_typed_inside r t mode x b stop is = inside s _ is _ (borrow_typed_says g at r t mode x b stop)
+
+    pub skip_inside : s ≡ code.Skip at → sorts_inside (statement_said g s) sc ≡ []
+    skip_inside is = inside s _ is _ (skip_says g at)
+
+    pub let_inside : (b : Binding) (n : Ident X N T C) (t : TypeText) (e : Box (Expr X N T C) Global) → s ≡ code.Let at b n t e →
+        sorts_inside (statement_said g s) sc ≡ []
+    let_inside b n t e is = inside s _ is _ (let_says g at b n t e)
+
+    pub destructure_inside : (binds : Vec (Bind X N T C) Global) (e : Box (Expr X N T C) Global) → s ≡ code.Destructure at binds e →
+        sorts_inside (statement_said g s) sc ≡ []
+    destructure_inside binds e is = inside s _ is _ (destructure_says g at binds e)
+
+    pub assign_inside : (n : Ident X N T C) (fields : Vec (Ident X N T C) Global) (e : Box (Expr X N T C) Global) →
+        s ≡ code.Assign at n fields e → sorts_inside (statement_said g s) sc ≡ []
+    assign_inside n fields e is = inside s _ is _ (assign_says g at n fields e)
+
+    pub assign_through_inside : (n : Ident X N T C) (fields : Vec (Ident X N T C) Global) (e : Box (Expr X N T C) Global) →
+        s ≡ code.AssignThrough at n fields e → sorts_inside (statement_said g s) sc ≡ []
+    assign_through_inside n fields e is = inside s _ is _ (assign_through_says g at n fields e)
+
+    pub call_inside : (e : Box (Expr X N T C) Global) → s ≡ code.Call at e → sorts_inside (statement_said g s) sc ≡ []
+    call_inside e is = inside s _ is _ (call_says g at e)
+
+    pub return_inside : (e : Box (Expr X N T C) Global) → s ≡ code.Return at e → sorts_inside (statement_said g s) sc ≡ []
+    return_inside e is = inside s _ is _ (return_says g at e)

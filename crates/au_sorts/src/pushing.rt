@@ -10,7 +10,9 @@ use crate::scopes::TypeScope;
 use crate::types::{borrow_sort, reference_sort, region_written, written_sort};
 use au_base::{Memory, Name};
 use au_lives::lives::Sort;
-use au_syntax::{Arm, Bind, Block, Branch, Field, Ident, Phase, Stmt, TypeText};
+use au_syntax::{
+    Access, Arm, Bind, Block, BorrowNames, Branch, Field, Ident, Phase, Stmt, TypeText,
+};
 use std::alloc::Global;
 
 /// A name.
@@ -139,8 +141,7 @@ fn push_inside<P: Phase>(
         Stmt::While(_, _, block) => push_block(alloc, scope, block, made),
         Stmt::For(_, _, _, _, block) => push_behind(alloc, scope, Sort::Free, block, made),
         Stmt::Borrow(_, access, names, block, _) => {
-            let region = name_of(alloc, &names.region)?;
-            push_within(alloc, scope, region, reference_sort(*access), block, made)
+            push_lent(alloc, scope, block, *access, names, made)
         }
         Stmt::BorrowTyped(_, _, text, mode, _, block, _) => {
             push_typed(alloc, scope, block, text, borrow_sort(*mode), made)
@@ -190,6 +191,25 @@ fn push_within<P: Phase>(
     push_behind(alloc, scope, sort, block, made)?;
     scope.leave_region();
     Ok(())
+}
+
+/// Puts the sort of the reference of a borrow statement, and behind it those of its block.
+#[cycle(pushing)]
+fn push_lent<P: Phase>(
+    alloc: Global,
+    scope: &mut TypeScope,
+    block: &Block<P>,
+    access: Access,
+    names: &BorrowNames<P>,
+    made: &mut Vec<Sort>,
+) -> Result<(), Memory>
+    ensures put { OnOk result (made.new.items ≡ made.old.items
+        ++ spec.reference_sort access ∷ spec.sorts (block_said P.Phase block.now)
+        (opened_in (P.name_bytes (placed P.Phase names.now.region).name) (scope_said scope.old))) }
+    ensures kept { OnOk result (scope_said scope.new ≡ scope_said scope.old) }
+{
+    let region = name_of(alloc, &names.region)?;
+    push_within(alloc, scope, region, reference_sort(access), block, made)
 }
 
 /// Puts this sort, and behind it those of a block in which the region of a written reference is open.

@@ -1,13 +1,11 @@
-use Rattle.std.proofs.Common.{◌≡◌, ◌∷◌, [], ◌++◌, Some, sym, ap, subst, ◌∙◌, arith}
-use Rattle.std.proofs.lemmas.Grind.{common_steps}
+use Rattle.std.proofs.Common.{◌≡◌, ◌∷◌, [], ◌++◌, refl, Some, sym, ap, subst, ◌∙◌}
 use Rattle.std.specs.Prelude.{OnOk}
 use Rattle.au_sorts.specs.Said.{arms_said, binds_said, block_said, branches_said, statement_said, statements_said}
 use Rattle.au_sorts.specs.Scopes.{closed_in, opened_by, opened_in, scope_said}
-use Rattle.au_sorts.specs.Sorts.{bound_sorts, region_written, sorts, sorts_after, sorts_inside, sorts_of_arms, sorts_of_branches}
+use Rattle.au_sorts.specs.Sorts.{bound_sorts, reference_sort, region_written, sorts, sorts_after, sorts_inside, sorts_of_arms, sorts_of_branches}
 use Rattle.au_sorts.proofs.PutLemmas as puts
-use Rattle.au_sorts.proofs.StatementLemmas.{arms_give, branches_give, statements_give, if_inside, if_else_inside, case_inside, while_inside, for_inside, borrow_inside, borrow_typed_inside}
+use Rattle.au_sorts.proofs.StatementLemmas.{lent_same, arms_give, branches_give, statements_give, if_inside, if_else_inside, case_inside, while_inside, for_inside, borrow_inside, borrow_typed_inside, skip_inside, let_inside, destructure_inside, assign_inside, assign_through_inside, call_inside, return_inside}
 use Rattle.au_syntax.specs.Views.{placed, written}
-use Rattle.au_syntax.proofs.StatementLemmas.{skip_says, let_says, destructure_says, assign_says, assign_through_says, call_says, return_says}
 use Rattle.au_sorts.proofs.pushing.+pushing.Goals as goal
 
 -- ---- blocks
@@ -65,6 +63,14 @@ push_typed-returns-in-None-clause-put g t c =
     puts.put_as c.push_behind.result c.args.made.now.items c.push_behind.new.made.items (c.args.sort ∷ sorts b sc) _
     (ap (λ o. c.args.sort ∷ sorts b (opened_by o sc)) (sym c.in-None.ensures)) c.push_behind.ensures.put
 
+pub push_lent-returns-clause-put : goal.push_lent-returns-clause-put
+push_lent-returns-clause-put g t c =
+    puts.put_as c.push_within.result c.args.made.now.items c.push_within.new.made.items _ _
+    (lent_same g.P.Phase (scope_said c.args.scope.now) (block_said g.P.Phase c.args.block.now)
+    c.reference_sort.result (reference_sort c.args.access) c.in_ok-region.region (g.P.Phase.name_bytes (placed g.P.Phase c.args.names.now.region).name)
+    c.reference_sort.ensures c.in_ok-region.ensures)
+    c.push_within.ensures.put
+
 -- ---- statements
 
 pub push_inside-returns-in-If-clause-put : goal.push_inside-returns-in-If-clause-put
@@ -100,18 +106,10 @@ push_inside-returns-in-For-clause-put g t c =
     puts.put_as c.push_behind.result c.args.made.now.items c.push_behind.new.made.items _ _
     (for_inside g.P.Phase (scope_said c.args.scope.now) c.args.stmt.now _ _ _ _ _ c.in-For.is) c.push_behind.ensures.put
 
-pub push_inside-returns-in_ok-region-in-Borrow-clause-put : goal.push_inside-returns-in_ok-region-in-Borrow-clause-put
-push_inside-returns-in_ok-region-in-Borrow-clause-put g t c =
-    let sc = scope_said c.args.scope.now in
-    let b = block_said g.P.Phase c.in-Borrow.block in
-    let region = c.in_ok-region-in-Borrow.region in
-    let written_region = g.P.Phase.name_bytes (placed g.P.Phase c.in-Borrow.names.region).name in
-    let sort = c.reference_sort.result in
-    puts.put_as c.push_within.result c.args.made.now.items c.push_within.new.made.items (sort ∷ sorts b (opened_in region sc)) _
-    (borrow_inside g.P.Phase sc c.args.stmt.now _ _ _ _ _ c.in-Borrow.is
-    ∙ ap (λ s. s ∷ sorts b (opened_in written_region sc)) (sym c.reference_sort.ensures)
-    ∙ ap (λ n. sort ∷ sorts b (opened_in n sc)) (sym c.in_ok-region-in-Borrow.ensures))
-    c.push_within.ensures.put
+pub push_inside-returns-in-Borrow-clause-put : goal.push_inside-returns-in-Borrow-clause-put
+push_inside-returns-in-Borrow-clause-put g t c =
+    puts.put_as c.push_lent.result c.args.made.now.items c.push_lent.new.made.items _ _
+    (borrow_inside g.P.Phase (scope_said c.args.scope.now) c.args.stmt.now _ _ _ _ _ c.in-Borrow.is) c.push_lent.ensures.put
 
 pub push_inside-returns-in-BorrowTyped-clause-put : goal.push_inside-returns-in-BorrowTyped-clause-put
 push_inside-returns-in-BorrowTyped-clause-put g t c =
@@ -122,25 +120,39 @@ push_inside-returns-in-BorrowTyped-clause-put g t c =
     c.push_typed.ensures.put
 
 pub push_inside-returns-in-Skip-clause-put : goal.push_inside-returns-in-Skip-clause-put
-push_inside-returns-in-Skip-clause-put g t c = grind (arith, common_steps, skip_says)
+push_inside-returns-in-Skip-clause-put g t c =
+    puts.nothing_put c.args.made.now.items (sorts_inside (statement_said g.P.Phase c.args.stmt.now) (scope_said c.args.scope.now))
+    (skip_inside g.P.Phase (scope_said c.args.scope.now) c.args.stmt.now _ c.in-Skip.is)
 
 pub push_inside-returns-in-Let-clause-put : goal.push_inside-returns-in-Let-clause-put
-push_inside-returns-in-Let-clause-put g t c = grind (arith, common_steps, let_says)
+push_inside-returns-in-Let-clause-put g t c =
+    puts.nothing_put c.args.made.now.items (sorts_inside (statement_said g.P.Phase c.args.stmt.now) (scope_said c.args.scope.now))
+    (let_inside g.P.Phase (scope_said c.args.scope.now) c.args.stmt.now _ _ _ _ _ c.in-Let.is)
 
 pub push_inside-returns-in-Destructure-clause-put : goal.push_inside-returns-in-Destructure-clause-put
-push_inside-returns-in-Destructure-clause-put g t c = grind (arith, common_steps, destructure_says)
+push_inside-returns-in-Destructure-clause-put g t c =
+    puts.nothing_put c.args.made.now.items (sorts_inside (statement_said g.P.Phase c.args.stmt.now) (scope_said c.args.scope.now))
+    (destructure_inside g.P.Phase (scope_said c.args.scope.now) c.args.stmt.now _ _ _ c.in-Destructure.is)
 
 pub push_inside-returns-in-Assign-clause-put : goal.push_inside-returns-in-Assign-clause-put
-push_inside-returns-in-Assign-clause-put g t c = grind (arith, common_steps, assign_says)
+push_inside-returns-in-Assign-clause-put g t c =
+    puts.nothing_put c.args.made.now.items (sorts_inside (statement_said g.P.Phase c.args.stmt.now) (scope_said c.args.scope.now))
+    (assign_inside g.P.Phase (scope_said c.args.scope.now) c.args.stmt.now _ _ _ _ c.in-Assign.is)
 
 pub push_inside-returns-in-AssignThrough-clause-put : goal.push_inside-returns-in-AssignThrough-clause-put
-push_inside-returns-in-AssignThrough-clause-put g t c = grind (arith, common_steps, assign_through_says)
+push_inside-returns-in-AssignThrough-clause-put g t c =
+    puts.nothing_put c.args.made.now.items (sorts_inside (statement_said g.P.Phase c.args.stmt.now) (scope_said c.args.scope.now))
+    (assign_through_inside g.P.Phase (scope_said c.args.scope.now) c.args.stmt.now _ _ _ _ c.in-AssignThrough.is)
 
 pub push_inside-returns-in-Call-clause-put : goal.push_inside-returns-in-Call-clause-put
-push_inside-returns-in-Call-clause-put g t c = grind (arith, common_steps, call_says)
+push_inside-returns-in-Call-clause-put g t c =
+    puts.nothing_put c.args.made.now.items (sorts_inside (statement_said g.P.Phase c.args.stmt.now) (scope_said c.args.scope.now))
+    (call_inside g.P.Phase (scope_said c.args.scope.now) c.args.stmt.now _ _ c.in-Call.is)
 
 pub push_inside-returns-in-Return-clause-put : goal.push_inside-returns-in-Return-clause-put
-push_inside-returns-in-Return-clause-put g t c = grind (arith, common_steps, return_says)
+push_inside-returns-in-Return-clause-put g t c =
+    puts.nothing_put c.args.made.now.items (sorts_inside (statement_said g.P.Phase c.args.stmt.now) (scope_said c.args.scope.now))
+    (return_inside g.P.Phase (scope_said c.args.scope.now) c.args.stmt.now _ _ c.in-Return.is)
 
 -- ---- branches and arms
 
@@ -193,3 +205,87 @@ push_arm-returns-clause-put g t c =
     puts.then_put c.push_block.result c.args.made.now.items (bound_sorts (binds_said g.P.Phase c.args.arm.now.binds.items) sc)
     (sorts (block_said g.P.Phase c.args.arm.now.block) sc) c.push_binds.new.made.items c.push_block.new.made.items
     c.in_ok-push_binds.ensures c.push_block.ensures.put
+
+-- ---- scopes stay as they were
+
+pub push_block-loop-one-init : goal.push_block-loop-one-init
+push_block-loop-one-init g t c = record { put = refl; kept = refl }
+
+pub push_block-returns-clause-kept : goal.push_block-returns-clause-kept
+push_block-returns-clause-kept g t c = c.loop-one.invariant.kept
+
+pub push_branches-loop-one-init : goal.push_branches-loop-one-init
+push_branches-loop-one-init g t c = record { put = refl; kept = refl }
+
+pub push_branches-returns-clause-kept : goal.push_branches-returns-clause-kept
+push_branches-returns-clause-kept g t c = c.loop-one.invariant.kept
+
+pub push_arms-loop-one-init : goal.push_arms-loop-one-init
+push_arms-loop-one-init g t c = record { put = refl; kept = refl }
+
+pub push_arms-returns-clause-kept : goal.push_arms-returns-clause-kept
+push_arms-returns-clause-kept g t c = c.loop-one.invariant.kept
+
+pub push_inside-returns-in-If-clause-kept : goal.push_inside-returns-in-If-clause-kept
+push_inside-returns-in-If-clause-kept g t c = c.push_branches.ensures.kept
+
+pub push_inside-returns-in-Case-clause-kept : goal.push_inside-returns-in-Case-clause-kept
+push_inside-returns-in-Case-clause-kept g t c = c.push_arms.ensures.kept
+
+pub push_inside-returns-in-While-clause-kept : goal.push_inside-returns-in-While-clause-kept
+push_inside-returns-in-While-clause-kept g t c = c.push_block-in-While.ensures.kept
+
+pub push_inside-returns-in-For-clause-kept : goal.push_inside-returns-in-For-clause-kept
+push_inside-returns-in-For-clause-kept g t c = c.push_behind.ensures.kept
+
+pub push_inside-returns-in-Borrow-clause-kept : goal.push_inside-returns-in-Borrow-clause-kept
+push_inside-returns-in-Borrow-clause-kept g t c = c.push_lent.ensures.kept
+
+pub push_inside-returns-in-BorrowTyped-clause-kept : goal.push_inside-returns-in-BorrowTyped-clause-kept
+push_inside-returns-in-BorrowTyped-clause-kept g t c = c.push_typed.ensures.kept
+
+pub push_inside-returns-in-Skip-clause-kept : goal.push_inside-returns-in-Skip-clause-kept
+push_inside-returns-in-Skip-clause-kept g t c = refl
+
+pub push_inside-returns-in-Let-clause-kept : goal.push_inside-returns-in-Let-clause-kept
+push_inside-returns-in-Let-clause-kept g t c = refl
+
+pub push_inside-returns-in-Destructure-clause-kept : goal.push_inside-returns-in-Destructure-clause-kept
+push_inside-returns-in-Destructure-clause-kept g t c = refl
+
+pub push_inside-returns-in-Assign-clause-kept : goal.push_inside-returns-in-Assign-clause-kept
+push_inside-returns-in-Assign-clause-kept g t c = refl
+
+pub push_inside-returns-in-AssignThrough-clause-kept : goal.push_inside-returns-in-AssignThrough-clause-kept
+push_inside-returns-in-AssignThrough-clause-kept g t c = refl
+
+pub push_inside-returns-in-Call-clause-kept : goal.push_inside-returns-in-Call-clause-kept
+push_inside-returns-in-Call-clause-kept g t c = refl
+
+pub push_inside-returns-in-Return-clause-kept : goal.push_inside-returns-in-Return-clause-kept
+push_inside-returns-in-Return-clause-kept g t c = refl
+
+pub push_inside-returns-in_ok-push_branches-in-IfElse-clause-kept : goal.push_inside-returns-in_ok-push_branches-in-IfElse-clause-kept
+push_inside-returns-in_ok-push_branches-in-IfElse-clause-kept g t c =
+    subst (λ s. OnOk c.push_block.result (scope_said c.push_block.new.scope ≡ s)) c.in_ok-push_branches-in-IfElse.ensures.kept c.push_block.ensures.kept
+
+pub push_behind-returns-clause-kept : goal.push_behind-returns-clause-kept
+push_behind-returns-clause-kept g t c = c.push_block.ensures.kept
+
+pub push_lent-returns-clause-kept : goal.push_lent-returns-clause-kept
+push_lent-returns-clause-kept g t c = c.push_within.ensures.kept
+
+pub push_typed-returns-in_ok-region-in-Some-clause-kept : goal.push_typed-returns-in_ok-region-in-Some-clause-kept
+push_typed-returns-in_ok-region-in-Some-clause-kept g t c = c.push_within.ensures.kept
+
+pub push_typed-returns-in-None-clause-kept : goal.push_typed-returns-in-None-clause-kept
+push_typed-returns-in-None-clause-kept g t c = c.push_behind.ensures.kept
+
+pub push_branch-returns-clause-put : goal.push_branch-returns-clause-put
+push_branch-returns-clause-put g t c = c.push_block.ensures.put
+
+pub push_branch-returns-clause-kept : goal.push_branch-returns-clause-kept
+push_branch-returns-clause-kept g t c = c.push_block.ensures.kept
+
+pub push_arm-returns-clause-kept : goal.push_arm-returns-clause-kept
+push_arm-returns-clause-kept g t c = c.push_block.ensures.kept
