@@ -47,9 +47,13 @@ judge_found sc found head = known_or (shape arms_wanted) found >>= λ one. judge
 abbrev pub case_of_target : List Case → Target → Option Case
 case_of_target cases target = find (λ one. same_target target one.target) cases
 
+-- a case has exactly one arm
+abbrev pub has_one_arm : Scope → List ArmHead → Case → Bool
+has_one_arm sc heads one = count_by (is_for sc one) heads == 1
+
 -- each case has exactly one arm
 abbrev pub each_has_one_arm : Scope → List ArmHead → List Case → Bool
-each_has_one_arm sc heads cases = list_all (λ one. count_by (is_for sc one) heads == 1) cases
+each_has_one_arm sc heads cases = list_all (has_one_arm sc heads) cases
 
 -- each arm is for one of the cases
 abbrev pub each_is_for_one : Scope → List Case → List ArmHead → Bool
