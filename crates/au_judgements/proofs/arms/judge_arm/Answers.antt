@@ -1,4 +1,4 @@
-use Rattle.std.proofs.Common.{List, ap, subst, ◌∙◌}
+use Rattle.std.proofs.Common.{ap, subst, ◌∙◌}
 use Rattle.au_derivations.specs.Search.{judge_binds}
 use Rattle.au_noting.specs.Giving.{Gives}
 use Rattle.au_noting.specs.Said.{all_typed}
