@@ -1,16 +1,17 @@
 -- One step of each walk over fields, arms and cases.
-use Rattle.std.proofs.Common.{◌≡◌, ◌==◌, ◌&&◌, ◌<◌, get_or, count_by, ℕ, ◌+◌, ◌-◌, drop, length, List, [], ◌∷◌, Some, Ok, Err, arith, refl, ap, sym, ◌∙◌}
+use Rattle.std.proofs.Common.{◌≡◌, ◌==◌, ◌&&◌, ◌<◌, get_or, count_by, ℕ, ◌+◌, ◌-◌, drop, length, Bool, List, [], ◌∷◌, Some, Ok, Err, arith, refl, ap, sym, ◌∙◌}
 use Rattle.std.proofs.lemmas.List.{at_drop_more}
 use Rattle.std.specs.List.{list_all}
 use Rattle.std.specs.Str.{bytes_eq}
 use Rattle.au_syntax.specs.declared.names.Bind.{Bind}
 use Rattle.au_syntax.specs.declared.parsed.Parsed.{Parsed}
 use Rattle.au_syntax.specs.Plain.{Bytes}
-use Rattle.au_derivations.specs.InScope.{with_bound}
+use Rattle.au_derivations.specs.InScope.{with_bound, with_typed, with_variable}
 use Rattle.au_derivations.specs.Search.{judge_all_bound, judge_arm, judge_binds, judge_bound}
 use Rattle.au_derivations.specs.Parts.{case_of_arm}
 use Rattle.au_scopes.specs.Scopes as scopes
 use Rattle.au_noting.specs.Scopes.{without}
+use Rattle.au_types.specs.Types.{Meaning}
 use Rattle.au_typing.specs.Faults.{Noting, ◌>>=◌}
 use Rattle.au_sights.specs.declared.called.Case as code
 use Rattle.au_sights.specs.declared.called.Typed as code_typed
@@ -18,7 +19,7 @@ use Rattle.au_sights.specs.Sights.{case_said}
 use Rattle.au_derivations.specs.Parts.{ArmHead}
 use Rattle.au_scopes.specs.Scopes.{Scope}
 use Rattle.au_judgements.specs.Said.{bind_said, binds_said, cases_said, fields_named}
-use Rattle.au_judgements.specs.Steps.{each_has_one_arm, has_one_arm, judge_found, judge_one, with_one}
+use Rattle.au_judgements.specs.Steps.{each_has_one_arm, formed, has_one_arm, judge_found, judge_one, with_one}
 use Rattle.au_noting.specs.Said.{all_typed}
 
 -- of the fields from one on, each is bound once where it is and each behind it
@@ -77,3 +78,11 @@ pub left_but_one : (sc : Scope) (depth left : ℕ) → depth ≡ length sc.varia
 left_but_one sc depth left all less =
     ap (λ n. without (length sc.variables - n) sc) (less ∙ ap (λ n. n - 1) all)
     ∙ ap (λ (left_over : List scopes.Variable). record sc { variables = left_over }) (but_one sc.variables)
+
+-- a variable with a type that is well formed
+pub formed_typed : (name : Bytes) (assignable : Bool) (made : Noting Meaning) (of : Meaning) (sc : Scope) → Some of ≡ formed made →
+    with_variable (record { name = name; of = of; assignable = assignable }) sc ≡ with_typed name assignable made sc
+formed_typed name assignable (Ok t) of sc is =
+    let same : of ≡ t = cc in
+    ap (λ (u : Meaning). with_variable (record { name = name; of = u; assignable = assignable }) sc) same
+formed_typed name assignable (Err fault) of sc is = absurd cc
