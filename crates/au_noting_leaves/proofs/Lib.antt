@@ -1,0 +1,3 @@
+pub mod ClauseLemmas
+mod LabelLemmas
+mod MadeLemmas

@@ -32,13 +32,13 @@ pub fn take_as(
     alloc: Global,
     param: &Ty,
     s: Substitution,
-    one: Expr<Noted>,
+    one: Box<Expr<Noted>>,
 ) -> Result<(Expr<Noted>, Substitution), Fault>
     ensures { Gives beside_said result (search.taken_as (meaning param.now)
-        (notes.type_of (expression noted one)) s (expression noted one)) }
+        (notes.type_of (expression noted one.value)) s (expression noted one.value)) }
 {
     let more = taken_as(alloc, param, type_of(&one), &s)?;
-    Ok((one, more))
+    Ok((Box::into_inner(one), more))
 }
 
 /// A noted argument, with the substitution in which its parameter's type becomes `Int32`.
@@ -50,13 +50,13 @@ pub fn take_as_int32(
     alloc: Global,
     param: &Ty,
     s: Substitution,
-    one: Expr<Noted>,
+    one: Box<Expr<Noted>>,
 ) -> Result<(Expr<Noted>, Substitution), Fault>
     ensures { Gives beside_said result
-        (search.taken_as (meaning param.now) int32 s (expression noted one)) }
+        (search.taken_as (meaning param.now) int32 s (expression noted one.value)) }
 {
     let more = taken_as(alloc, param, &Ty::Int(IntKind::Int32), &s)?;
-    Ok((one, more))
+    Ok((Box::into_inner(one), more))
 }
 
 /// That the type of a parameter differs from `Int32`.

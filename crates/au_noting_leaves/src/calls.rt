@@ -74,7 +74,16 @@ fn label_arguments(
     ensures { IfOk result (λ made. argument_all noted made.items
         ≡ labelled (argument_all parsed old.now.items) (all_said args.items)) }
 {
-    Err(Memory)
+    let mut made = Vec::new(alloc);
+    let mut values = args.into_iter();
+    for one in old {
+        let label = copy_name(alloc, &one.label)?;
+        match values.next() {
+            Some(value) => made.push(Argument { label, value })?,
+            None => return Ok(made),
+        }
+    }
+    Ok(made)
 }
 
 /// A call with labelled arguments, of its note and its noted arguments, in the order of the labels.

@@ -95,11 +95,7 @@ pub fn note_truth(
 /// # Errors
 ///
 /// The limit or the clause that fails.
-pub fn note_nil(
-    alloc: Global,
-    mode: Option<&Ty>,
-    site: &Site<Parsed>,
-) -> Result<Expr<Noted>, Fault>
+pub fn note_nil(alloc: Global, mode: Option<&Ty>, site: &Site<Parsed>) -> Result<Expr<Noted>, Fault>
     ensures { Gives (expression noted) result (nil_noted (node parsed site.now) (wanted mode.entry)) }
 {
     let note = noted(alloc, mode, &Ty::Unit)?;
