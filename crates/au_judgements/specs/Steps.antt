@@ -10,12 +10,12 @@ use Rattle.au_types.specs.Same.{same}
 use Rattle.au_types.specs.Types.{Meaning}
 use Rattle.au_judged_types.specs.Judging.{refers}
 use Rattle.au_derivations.specs.InScope.{with_typed}
-use Rattle.au_derivations.specs.Parts.{ArmHead, arms_fit, case_of_arm, is_for}
-use Rattle.au_derivations.specs.Search.{free_place, judge_arms, judge_binds, place_type, written_through}
+use Rattle.au_derivations.specs.Parts.{ArmHead, case_of_arm, is_for}
+use Rattle.au_derivations.specs.Search.{free_place, judge_binds, judge_bound, place_type, written_through}
 use Rattle.au_name_faults.specs.Clashing.{same_target}
 use Rattle.au_names.specs.Importing.{given_name}
 use Rattle.au_names.specs.declared.targets.Target.{Target}
-use Rattle.au_scopes.specs.Scopes.{Case, Scope, Variable}
+use Rattle.au_scopes.specs.Scopes.{Case, Scope, Typed, Variable}
 use Rattle.au_typing.specs.Faults.{Noting, ◌>>=◌, arms_wanted, assignable_wanted, check, different, known_or, reference_wanted, shape, why, write_reference_wanted}
 use Rattle.au_typing.specs.Lookups.{record_part, written_type}
 
@@ -35,9 +35,9 @@ put_place sc t path =
 abbrev pub bound_type : Scope → Meaning → WrittenType → Noting Meaning
 bound_type sc field t = written_type sc t >>= λ of. check (same field of) (different field of) (Ok of)
 
--- arms for the cases of a union, each one by one
-abbrev pub judge_fitting : Scope → List Case → List ArmHead → Noting (Unit {0})
-judge_fitting sc cases heads = check (arms_fit sc cases heads) (shape arms_wanted) (judge_arms sc cases heads)
+-- a field that is bound, without its type
+abbrev pub judge_one : Scope → List Typed → Bound Bytes → Noting (Unit {0})
+judge_one sc fields b = judge_bound sc fields b >>= λ of. Ok tt
 
 -- an arm for this case, if it is for one
 abbrev pub judge_found : Scope → Option Case → ArmHead → Noting (Unit {0})
@@ -47,9 +47,13 @@ judge_found sc found head = known_or (shape arms_wanted) found >>= λ one. judge
 abbrev pub case_of_target : List Case → Target → Option Case
 case_of_target cases target = find (λ one. same_target target one.target) cases
 
+-- a case has exactly one arm
+abbrev pub has_one_arm : Scope → List ArmHead → Case → Bool
+has_one_arm sc heads one = count_by (is_for sc one) heads == 1
+
 -- each case has exactly one arm
 abbrev pub each_has_one_arm : Scope → List ArmHead → List Case → Bool
-each_has_one_arm sc heads cases = list_all (λ one. count_by (is_for sc one) heads == 1) cases
+each_has_one_arm sc heads cases = list_all (has_one_arm sc heads) cases
 
 -- each arm is for one of the cases
 abbrev pub each_is_for_one : Scope → List Case → List ArmHead → Bool

@@ -3,8 +3,8 @@
 //! Whether each case has exactly one arm is counted case by case: cases times arms, where a union has at most
 //! 256 cases (a greater one is refused where programs are gathered).
 
-ghost use Rattle.std.specs.Prelude.{◌≡◌, ◌==◌, is_some};
-ghost use Rattle.std.specs.List.{count_by, list_all};
+ghost use Rattle.std.specs.Prelude.{◌≡◌};
+ghost use Rattle.std.specs.List.{count_by};
 ghost use Rattle.std.specs.Option.{option_copied, option_map};
 ghost use Rattle.au_derivations.specs.Parts as parts;
 ghost use Rattle.au_derivations.specs.Search as spec;
@@ -94,7 +94,8 @@ pub fn is_for(scope: &Scope, one: &Case, arm: &Arm<Parsed>) -> bool
 
 /// How many arms are for a case.
 fn arms_for(scope: &Scope, one: &Case, arms: &[Arm<Parsed>]) -> usize
-    ensures { result ≡ count_by (parts.is_for (scope_said scope.now) (case_said one.now)) (heads_said arms.now) }
+    ensures { result
+        ≡ count_by (parts.is_for (scope_said scope.now) (case_said one.now)) (heads_said arms.now) }
 {
     let mut count = 0;
     for arm in arms {
@@ -105,12 +106,20 @@ fn arms_for(scope: &Scope, one: &Case, arms: &[Arm<Parsed>]) -> usize
     count
 }
 
+/// Whether a case has exactly one arm.
+fn has_one_arm(scope: &Scope, one: &Case, arms: &[Arm<Parsed>]) -> bool
+    ensures { result ≡ steps.has_one_arm (scope_said scope.now) (heads_said arms.now) (case_said one.now) }
+{
+    arms_for(scope, one, arms) == 1
+}
+
 /// Whether each case has exactly one arm.
 fn each_has_one_arm(scope: &Scope, all: &[Case], arms: &[Arm<Parsed>]) -> bool
-    ensures { result ≡ steps.each_has_one_arm (scope_said scope.now) (heads_said arms.now) (cases_said all.now) }
+    ensures { result
+        ≡ steps.each_has_one_arm (scope_said scope.now) (heads_said arms.now) (cases_said all.now) }
 {
     for one in all {
-        if arms_for(scope, one, arms) != 1 {
+        if !has_one_arm(scope, one, arms) {
             return false;
         }
     }
@@ -119,7 +128,8 @@ fn each_has_one_arm(scope: &Scope, all: &[Case], arms: &[Arm<Parsed>]) -> bool
 
 /// Whether each arm is for one of the cases.
 fn each_is_for_one(scope: &Scope, all: &[Case], arms: &[Arm<Parsed>]) -> bool
-    ensures { result ≡ steps.each_is_for_one (scope_said scope.now) (cases_said all.now) (heads_said arms.now) }
+    ensures { result
+        ≡ steps.each_is_for_one (scope_said scope.now) (cases_said all.now) (heads_said arms.now) }
 {
     for arm in arms {
         if case_of_arm(scope, all, arm).is_none() {

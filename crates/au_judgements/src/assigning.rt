@@ -130,7 +130,8 @@ fn assigned_place(
 
 /// Why what isn't a variable isn't assigned to.
 fn not_assignable(alloc: Global, scope: &Scope, name: &Name) -> Fault
-    ensures { Tells (spec.not_assignable name.now (lookups.value_type (scope_said scope.now) name.now)) result }
+    ensures { Tells (spec.not_assignable name.now
+        (lookups.value_type (scope_said scope.now) name.now)) result }
 {
     match value_type(alloc, scope, name) {
         Ok(found) => assignable_wanted(alloc, name, found),
@@ -152,8 +153,8 @@ fn assignable_wanted(alloc: Global, name: &Name, found: Option<Ty>) -> Fault
 ///
 /// # Errors
 ///
-/// The clause that fails: that the name is no variable, that the variable is no write reference, that the part
-/// isn't there, or that its type isn't Free.
+/// The clause that fails: that the name is no variable, that the variable is no write reference, that the
+/// part isn't there, or that its type isn't Free.
 pub fn judge_put(
     alloc: Global,
     scope: &Scope,
@@ -185,7 +186,8 @@ fn put_place(alloc: Global, scope: &Scope, of: &Ty, path: &[Ident<Parsed>]) -> R
 
 /// Why what isn't a variable is no write reference.
 fn not_writing(alloc: Global, scope: &Scope, name: &Name) -> Fault
-    ensures { Tells (spec.not_writing name.now (lookups.value_type (scope_said scope.now) name.now)) result }
+    ensures { Tells (spec.not_writing name.now
+        (lookups.value_type (scope_said scope.now) name.now)) result }
 {
     match value_type(alloc, scope, name) {
         Ok(found) => write_reference_wanted(alloc, name, found),

@@ -198,8 +198,8 @@ pub fn is_of_borrow(
 ///
 /// # Errors
 ///
-/// The clause that fails: what is borrowed is judged first, then the written type, then that it is the type of
-/// the borrow.
+/// The clause that fails: what is borrowed is judged first, then the written type, then that it is the type
+/// of the borrow.
 pub fn judge_borrow(
     alloc: Global,
     scope: &Scope,

@@ -91,7 +91,8 @@ fn variable_name(item: &Renamed<Parsed>) -> &Name
 
 /// Declares the variable that a field is bound to.
 fn declare_one(alloc: Global, scope: &mut Scope, bind: &Bind<Parsed>) -> Result<(), Memory>
-    ensures { OnOk result (scope_said scope.new ≡ steps.with_one (bind_said bind.now) (scope_said scope.old)) }
+    ensures { OnOk result (scope_said scope.new
+        ≡ steps.with_one (bind_said bind.now) (scope_said scope.old)) }
 {
     declare_typed(alloc, scope, variable_name(&bind.name), false, &bind.of)
 }
@@ -128,7 +129,8 @@ fn is_var(binding: Binding) -> bool
 ///
 /// Only for want of memory; some of the variables may be in scope then.
 pub fn declare_after(alloc: Global, scope: &mut Scope, stmt: &Stmt<Parsed>) -> Result<(), Memory>
-    ensures { OnOk result (scope_said scope.new ≡ spec.after (statement parsed stmt.now) (scope_said scope.old)) }
+    ensures { OnOk result (scope_said scope.new
+        ≡ spec.after (statement parsed stmt.now) (scope_said scope.old)) }
 {
     match stmt {
         Stmt::Skip(_) => Ok(()),
