@@ -1,5 +1,5 @@
 -- What is made where each step of a clause gives something.
-use Rattle.std.proofs.Common.{◌≡◌, List, [], ◌∷◌, Bool, true, Ok, refl, ap, subst}
+use Rattle.std.proofs.Common.{◌≡◌, List, [], ◌∷◌, true, Ok, refl, ap, subst}
 use Rattle.au_notes.specs.contracts.noted.NotedPhase.TheImpl.{ghosts as noted}
 use Rattle.au_syntax.specs.Expressions.{Node, expressions}
 use Rattle.au_syntax.specs.Views.{expression, expression_all}
@@ -16,8 +16,8 @@ pub made_with : (noting : Noting Note) (n : Note) (u : Node (Unit {0})) (form : 
     noting ≡ Ok n → at ≡ noted_at u n → made ≡ form at → (noting >>= λ m. Ok (form (noted_at u m))) ≡ Ok made
 made_with noting n u form at made has is says = rw (has, says, is) refl
 
--- the same where the note is that of a type
-pub made_of : (noting : Meaning → Noting Note) (t of : Meaning) (n : Note) (u : Node (Unit {0})) (form : Node Note → NotedExpression) (at : Node Note) (made : NotedExpression) →
+-- the same where the note is that of an equal value
+pub made_of : {A : Type 0} (noting : A → Noting Note) (t of : A) (n : Note) (u : Node (Unit {0})) (form : Node Note → NotedExpression) (at : Node Note) (made : NotedExpression) →
     noting t ≡ Ok n → t ≡ of → at ≡ noted_at u n → made ≡ form at → (noting of >>= λ m. Ok (form (noted_at u m))) ≡ Ok made
 made_of noting t of n u form at made has same is says = subst (λ x. (noting x >>= λ m. Ok (form (noted_at u m))) ≡ Ok made) same (made_with (noting t) n u form at made has is says)
 

@@ -33,5 +33,6 @@ abbrev pub nil_noted : Node (Unit {0}) → Mode → Noting NotedExpression
 nil_noted u mode = noted mode mean.unit >>= λ n. Ok (nil (noted_at u n))
 
 -- a reference to a variable of this type
-abbrev pub borrow_noted : Node (Unit {0}) → BorrowMode → Placed Bytes → Mode → Meaning → Noting NotedExpression
+abbrev pub borrow_noted : Node (Unit {0}) → BorrowMode → Placed Bytes → Mode → Meaning →
+    Noting NotedExpression
 borrow_noted u m x mode t = borrowed m t >>= λ of. noted mode of >>= λ n. Ok (borrow (noted_at u n) m x)

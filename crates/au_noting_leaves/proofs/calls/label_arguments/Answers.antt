@@ -1,7 +1,7 @@
-use Rattle.std.proofs.Common.{◌≡◌, ◌∙◌, ap, sym, length, drop}
+use Rattle.std.proofs.Common.{◌∙◌, sym, drop}
 use Rattle.std.proofs.lemmas.List.{nil_from_length}
-use Rattle.std.specs.Vec.Iter.{into_iter_items, into_iter_len}
-use Rattle.au_noting_leaves.proofs.LabelLemmas.{labels_begin, labels_end, labels_left, labels_more, labels_short}
+use Rattle.std.specs.Vec.Iter.{into_iter_items}
+use Rattle.au_noting_leaves.proofs.LabelLemmas.{labels_end, labels_more, labels_short}
 use Rattle.au_noting_leaves.proofs.calls.label_arguments.Goals as goal
 
 pub returns-in-None : goal.returns-in-None

@@ -4,7 +4,6 @@ use Rattle.au_syntax.specs.contracts.parsed.ParsedPhase.TheImpl.{ghosts as parse
 use Rattle.au_syntax.specs.Expressions.{call}
 use Rattle.au_syntax.specs.Views.{expression, expression_all, node, placed}
 use Rattle.au_syntax.proofs.ExpressionLemmas.{call_says}
-use Rattle.au_typing.specs.Faults.{Noting}
 use Rattle.au_typing.specs.Notes.{NotedExpression, noted_at}
 use Rattle.au_typing.specs.Search.{listed}
 use Rattle.au_notes.specs.Views.{note}

@@ -3,13 +3,9 @@ use Rattle.au_syntax.specs.contracts.parsed.ParsedPhase.TheImpl.{ghosts as parse
 use Rattle.au_syntax.specs.Expressions.{nil}
 use Rattle.au_syntax.specs.Views.{node}
 use Rattle.au_syntax.proofs.ExpressionLemmas.{nil_says}
-use Rattle.au_types.proofs.TypeLemmas.{unit_means}
-use Rattle.au_typing.specs.Rules as rules
-use Rattle.au_noting.specs.Modes.{wanted}
-use Rattle.au_noting_leaves.proofs.MadeLemmas.{made_of}
+use Rattle.au_noting_leaves.proofs.MadeLemmas.{made_with}
 use Rattle.au_noting_leaves.proofs.leaves.note_nil.Goals as goal
 
 pub returns : goal.returns
 returns c =
-    made_of (rules.noted (wanted c.args.mode)) _ _ _ (node parsed c.args.site.now) (λ m. nil m) _ _ c.in_ok-note.ensures unit_means c.noted_site.ensures
-    (nil_says noted c.noted_site.result)
+    made_with _ _ (node parsed c.args.site.now) (λ m. nil m) _ _ c.in_ok-note.ensures c.noted_site.ensures (nil_says noted c.noted_site.result)
