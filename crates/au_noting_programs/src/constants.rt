@@ -1,6 +1,7 @@
 //! Constants with their notes.
 
-ghost use Rattle.std.specs.Prelude.{◌≡◌, IfOk};
+ghost use Rattle.std.specs.Prelude.{◌≡◌, [], IfOk};
+ghost use Rattle.au_derivations.specs.Bodies as bodies;
 ghost use Rattle.au_derivations.specs.ProgramSearch as spec;
 ghost use Rattle.au_judgements.specs.Refusing.{Judges};
 ghost use Rattle.au_notes.specs.contracts.noted.NotedPhase.TheImpl.{ghosts as noted};
@@ -47,6 +48,14 @@ fn note_value(
     }
 }
 
+/// A scope in which nothing is but what is outside of functions.
+fn bare_scope<'a>(alloc: Global, outside: &Surroundings<'a>) -> Result<Scope<'a>, Memory>
+    ensures { IfOk result (λ scope. scope_said scope ≡ bodies.outer_scope (outside_seen outside.now) []) }
+{
+    let none = Generics::of(Params::new(alloc), Vec::new(alloc));
+    outer_scope(alloc, outside, none)
+}
+
 /// The value of a constant of a written type, with its notes.
 fn note_constant(
     alloc: Global,
@@ -57,8 +66,7 @@ fn note_constant(
     ensures { Gives boxed_said result
         (spec.note_constant (outside_seen outside.now) (written of.now) (expression parsed value.now)) }
 {
-    let none = Generics::of(Params::new(alloc), Vec::new(alloc));
-    let scope = outer_scope(alloc, outside, none)?;
+    let scope = bare_scope(alloc, outside)?;
     let of = written_type(alloc, &scope, of)?;
     note_value(alloc, &scope, &of, value)
 }

@@ -1,6 +1,4 @@
-use Rattle.std.proofs.Common.{◌∙◌, ap, sym, subst}
-use Rattle.au_derivations.specs.Bodies.{outer_scope}
-use Rattle.au_generics.specs.Bounds.{bounded}
+use Rattle.std.proofs.Common.{sym, subst}
 use Rattle.au_noting.specs.Giving.{Gives}
 use Rattle.au_noting.specs.Scopes.{scope_said}
 use Rattle.au_sights.specs.Sights.{outside_seen}
@@ -15,6 +13,6 @@ pub returns : goal.returns
 returns c =
     subst (Gives boxed_said c.note_value.result)
     (sym (constant_is (outside_seen c.args.outside.now) (written c.args.of.now) (expression parsed c.args.value.now) (scope_said c.in_ok-scope.scope) (meaning c.in_ok-of.of)
-    (c.in_ok-scope.ensures ∙ ap (outer_scope (outside_seen c.args.outside.now)) (c.of-none.ensures ∙ ap (λ ps. bounded ps c.new-2.result.items) c.new.ensures))
+    c.in_ok-scope.ensures
     c.in_ok-of.ensures))
     c.note_value.ensures
