@@ -18,7 +18,8 @@ use Rattle.au_derivations.specs.Parts.{is_literal}
 use Rattle.au_derivations.specs.ProgramSearch.{judge_end, note_body, note_declarations, noted_entry}
 use Rattle.au_derivations.specs.Returns.{block_returns}
 use Rattle.au_derivations.specs.Search.{note_block}
-use Rattle.au_derivations.specs.Trees.{NotedDeclaration, NotedEntry, NotedMethod, NotedModule, NotedStatements}
+use Rattle.au_derivations.specs.Trees.{NotedDeclaration, NotedEntry, NotedMethod, NotedModule}
+use Rattle.au_derivations.specs.Trees.{NotedStatements}
 
 -- a scope with a parameter, which isn't assigned to
 abbrev pub with_parameter : Labelled Bytes → Scope → Noting Scope

@@ -107,8 +107,8 @@ fn generic_scope<'a>(
     outer_scope(alloc, outside, generics)
 }
 
-/// What is in scope in the body of a function or method: what is outside, its type parameters, its parameters,
-/// and its result.
+/// What is in scope in the body of a function or method: what is outside, its type parameters, its
+/// parameters, and its result.
 ///
 /// # Errors
 ///

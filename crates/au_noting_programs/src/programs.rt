@@ -18,7 +18,8 @@ use std::marker::Model;
 
 /// A program with its notes: the program, the instances of its classes with the rows of its declared types,
 /// and its modules by their places with a note at each expression, which are derived by the rules of typing.
-/// Only `note_program` makes one. A contract sees the modules without notes alone: all else follows from them.
+/// Only `note_program` makes one. A contract sees the modules without notes alone: all else follows from
+/// them.
 #[derive(Drop)]
 pub struct NotedProgram {
     program: Resolved,
