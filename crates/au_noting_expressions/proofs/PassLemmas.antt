@@ -1,35 +1,26 @@
 -- The two passes over arguments: what is left of each, from an argument on.
-use Rattle.std.proofs.Common.{◌≡◌, ℕ, ◌+◌, ◌<◌, ◌≤◌, List, [], ◌∷◌, ◌++◌, Option, Some, None, Ok, Err, Result, refl, sym, ap, ◌∙◌, arith, drop, get_or, length, map}
-use Rattle.std.proofs.lemmas.List.{append_assoc, append-nil, drop_all, drop_more, map_push, nil_from_length}
+use Rattle.std.proofs.Common.{◌≡◌, ℕ, ◌+◌, ◌<◌, ◌≤◌, List, [], ◌∷◌, ◌++◌, Option, Ok, Err, refl, sym, ap, ◌∙◌, drop, get_or, length, map}
+use Rattle.std.proofs.lemmas.List.{append_assoc, append-nil, drop_all, drop_more, map_push}
 use Rattle.au_matching.specs.Bindings.{Bindings}
-use Rattle.au_noting.specs.declared.faults.Fault as told
-use Rattle.au_noting.specs.Giving.{Gives, Stops}
 use Rattle.au_noting.specs.Said.{meanings}
-use Rattle.au_noting_expressions.specs.Arguments.{ReadCode, each_operand, operand}
-use Rattle.au_noting_expressions.proofs.Steps.{stops_in}
+use Rattle.au_noting_expressions.specs.Arguments.{ReadCode, each_operand}
 use Rattle.au_noting_leaves.specs.Said.{NotedCode, all_said, half_said}
 use Rattle.au_notes.specs.contracts.noted.NotedPhase.TheImpl.{ghosts as noted}
 use Rattle.au_scopes.specs.Scopes.{Scope}
 use Rattle.au_syntax.specs.contracts.parsed.ParsedPhase.TheImpl.{ghosts as parsed}
 use Rattle.au_syntax.specs.Views.{expression}
 use Rattle.au_types.specs.declared.types.Ty.{Ty}
-use Rattle.au_types.specs.Types.{Meaning}
 use Rattle.au_types.specs.Views.{meaning}
 use Rattle.au_typing.specs.Bare.{is_bare}
-use Rattle.au_typing.specs.Faults as faults
 use Rattle.au_typing.specs.Faults.{Noting, ◌>>=◌}
 use Rattle.au_typing.specs.Notes.{NotedExpression}
 use Rattle.au_typing.specs.Search.{note_expression}
-use Rattle.au_typing.specs.SearchCalls.{Half, Operand, first, first_step, put_before, second, second_step}
+use Rattle.au_typing.specs.SearchCalls.{Half, first, first_step, put_before, second, second_step}
 
 -- ---- what is found behind what was found before
 
 abbrev pub with_front : {A : Type 0} → List A → Noting (List A × Bindings) → Noting (List A × Bindings)
 with_front {A} front r = r >>= λ (z : List A × Bindings). Ok (front ++ z.0, z.1)
-
-no_front : {A : Type 0} (r : Noting (List A × Bindings)) → with_front [] r ≡ r
-no_front (Ok z) = refl
-no_front (Err f) = refl
 
 front_grows : {A : Type 0} (front : List A) (x : A) (r : Noting (List A × Bindings)) → with_front front (r >>= put_before x) ≡ with_front (front ++ x ∷ []) r
 front_grows {A} front x (Ok z) = ap (λ (l : List A). Ok (l, z.1)) (sym (append_assoc front (x ∷ []) z.0))
@@ -45,10 +36,6 @@ module _ (scope : Scope) (es : List ReadCode) (types : List Ty) where
   -- what the first pass gives from an argument on
   abbrev pub first_left : List (Option NotedCode) → ℕ → Bindings → Noting (List Half × Bindings)
   first_left made i s = with_front (map half_said made) (first (each_operand scope (drop i es)) (meanings (drop i types)) s)
-
-  pub first_begins : (made : List (Option NotedCode)) (s : Bindings) → made ≡ [] → first_left made 0 s ≡ first (each_operand scope es) (meanings types) s
-  first_begins made s none =
-      ap (λ (l : List (Option NotedCode)). first_left l 0 s) none ∙ no_front (first (each_operand scope es) (meanings types) s)
 
   module _ (i : ℕ) (e : ReadCode) (p : Ty) (in_es : i < length es) (e_is : e ≡ get_or es i e) (in_types : i < length types) (p_is : p ≡ get_or types i p) where
     -- what the first pass does at this argument, and then at the others
@@ -70,16 +57,6 @@ module _ (scope : Scope) (es : List ReadCode) (types : List Ty) where
         ∙ (front_grows (map half_said made) (half_said half) rest
         ∙ ap (λ (l : List Half). with_front l rest) (sym (ap (map half_said) grows ∙ map_push half_said made half)))
 
-    pub first_stops : (made : List (Option NotedCode)) (s : Bindings) (f : told.Fault) (whole : Noting (List Half × Bindings)) → first_left made i s ≡ whole →
-        Stops f (first_step (is_bare (expression parsed e)) (note_expression scope (expression parsed e)) (meaning p) s) → Stops f whole
-    first_stops made s f whole left h =
-        stops_in f (first_step (is_bare (expression parsed e)) (note_expression scope (expression parsed e)) (meaning p) s) whole
-        (λ (g : faults.Fault) stop. sym left
-        ∙ ap (with_front (map half_said made))
-        (first_at s
-        ∙ ap (λ (q : Noting (Half × Bindings)). q >>= λ (y : Half × Bindings). first (each_operand scope (drop (i + 1) es)) (meanings (drop (i + 1) types)) y.1 >>= put_before y.0) stop))
-        h
-
   pub first_ends : (made : List (Option NotedCode)) (i : ℕ) (s : Bindings) → length es ≤ i → length types ≤ i → first_left made i s ≡ Ok (map half_said made, s)
   first_ends made i s no_es no_types =
       ap (with_front (map half_said made))
@@ -92,10 +69,6 @@ module _ (scope : Scope) (es : List ReadCode) (types : List Ty) where
   -- what the second pass gives from an argument on, over what the first pass left of it and of the others
   abbrev pub second_left : List NotedCode → List (Option NotedCode) → ℕ → Bindings → Noting (List NotedExpression × Bindings)
   second_left made halves i s = with_front (all_said made) (second (each_operand scope (drop i es)) (map half_said halves) (meanings (drop i types)) s)
-
-  pub second_begins : (made : List NotedCode) (halves : List (Option NotedCode)) (s : Bindings) → made ≡ [] → second_left made halves 0 s ≡ second (each_operand scope es) (map half_said halves) (meanings types) s
-  second_begins made halves s none =
-      ap (λ (l : List NotedCode). second_left l halves 0 s) none ∙ no_front (second (each_operand scope es) (map half_said halves) (meanings types) s)
 
   module _ (i : ℕ) (e : ReadCode) (p : Ty) (in_es : i < length es) (e_is : e ≡ get_or es i e) (in_types : i < length types) (p_is : p ≡ get_or types i p)
       (halves rest : List (Option NotedCode)) (half : Option NotedCode) (taken : halves ≡ half ∷ rest) where
@@ -117,21 +90,3 @@ module _ (scope : Scope) (es : List ReadCode) (types : List Ty) where
         ∙ ap (λ (q : Noting (NotedExpression × Bindings)). q >>= λ (y : NotedExpression × Bindings). second (each_operand scope (drop (i + 1) es)) (map half_said rest) (meanings (drop (i + 1) types)) y.1 >>= put_before y.0) step)
         ∙ (front_grows (all_said made) (expression noted one) after
         ∙ ap (λ (l : List NotedExpression). with_front l after) (sym (ap all_said grows ∙ map_push (expression noted) made one)))
-
-    pub second_stops : (made : List NotedCode) (s : Bindings) (f : told.Fault) (whole : Noting (List NotedExpression × Bindings)) → second_left made halves i s ≡ whole →
-        Stops f (second_step (half_said half) (note_expression scope (expression parsed e)) (meaning p) s) → Stops f whole
-    second_stops made s f whole left h =
-        stops_in f (second_step (half_said half) (note_expression scope (expression parsed e)) (meaning p) s) whole
-        (λ (g : faults.Fault) stop. sym left
-        ∙ ap (with_front (all_said made))
-        (second_at s
-        ∙ ap (λ (q : Noting (NotedExpression × Bindings)). q >>= λ (y : NotedExpression × Bindings). second (each_operand scope (drop (i + 1) es)) (map half_said rest) (meanings (drop (i + 1) types)) y.1 >>= put_before y.0) stop))
-        h
-
-  pub second_ends : (made : List NotedCode) (halves : List (Option NotedCode)) (i : ℕ) (s : Bindings) → length es ≤ i → length types ≤ i → length halves ≡ 0 → second_left made halves i s ≡ Ok (all_said made, s)
-  second_ends made halves i s no_es no_types no_halves =
-      ap (with_front (all_said made))
-      (ap (λ (l : List ReadCode). second (each_operand scope l) (map half_said halves) (meanings (drop i types)) s) (drop_all i es no_es)
-      ∙ (ap (λ (l : List Ty). second [] (map half_said halves) (meanings l) s) (drop_all i types no_types)
-      ∙ ap (λ (l : List (Option NotedCode)). second [] (map half_said l) [] s) (nil_from_length halves no_halves)))
-      ∙ ap (λ (l : List NotedExpression). Ok (l, s)) (append-nil (all_said made))

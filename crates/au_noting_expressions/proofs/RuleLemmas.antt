@@ -1,5 +1,5 @@
 -- What the search gives, in the words of the rules.
-use Rattle.std.proofs.Common.{◌≡◌, refl, sym, ap, subst, ◌∙◌, Result, Ok, Err, IfOk, MatchResult}
+use Rattle.std.proofs.Common.{◌≡◌, refl, sym, ap, ◌∙◌, Result, Ok, Err, IfOk, MatchResult}
 use Rattle.au_noting.specs.declared.faults.Fault as told
 use Rattle.au_noting.specs.declared.faults.Fault.TheVariants as fault
 use Rattle.au_noting.specs.Giving.{Gives, cause_said}
@@ -8,7 +8,7 @@ use Rattle.au_syntax.specs.Plain.{PlainExpression}
 use Rattle.au_typing.specs.Faults as faults
 use Rattle.au_typing.specs.Faults.{Noting}
 use Rattle.au_typing.specs.Good.{IsNoting}
-use Rattle.au_typing.specs.Notes.{Mode, NotedExpression, erase, mode_of}
+use Rattle.au_typing.specs.Notes.{Mode, NotedExpression, erase}
 use Rattle.au_typing.specs.Search.{note_expression}
 use Rattle.au_typing.proofs.Found.{found}
 use Rattle.au_typing.proofs.Sound.{sound}

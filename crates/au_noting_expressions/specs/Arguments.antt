@@ -1,6 +1,5 @@
 -- The arguments of a call as the code has them, and what they are for the search.
 use Rattle.std.specs.Prelude.{ℕ, List, Option, map}
-use Rattle.au_matching.specs.Bindings.{Bindings}
 use Rattle.au_noting_expressions.specs.declared.operands.Operands as code
 use Rattle.au_noting_expressions.specs.declared.operands.Operands.TheVariants as form
 use Rattle.au_scopes.specs.Scopes.{Scope, Typed}

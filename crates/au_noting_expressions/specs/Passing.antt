@@ -1,5 +1,5 @@
--- The search for the note of a call in three steps: what it begins with, its arguments, and the rest. And what
--- the code answers at each.
+-- The search for the note of a call in three steps: what it begins with, its arguments, and the rest. And
+-- what the code answers at each.
 use Rattle.std.specs.Prelude.{List, Option, Some, Ok, Vec}
 use Rattle.std.specs.Global.{Global}
 use Rattle.au_matching.specs.Bindings.{Bindings}

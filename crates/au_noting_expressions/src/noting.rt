@@ -141,7 +141,8 @@ pub fn paired(
     second: &Expr<Parsed>,
 ) -> Result<(Box<Expr<Noted>>, Box<Expr<Noted>>), Fault>
     ensures { Gives (λ y. (expression noted y.0.value, expression noted y.1.value)) result
-        (pairs.paired (bare.is_bare (expression parsed first.now)) (bare.is_bare (expression parsed second.now))
+        (pairs.paired
+        (bare.is_bare (expression parsed first.now)) (bare.is_bare (expression parsed second.now))
         (note_expression (scope_said scope.now) (expression parsed first.now))
         (note_expression (scope_said scope.now) (expression parsed second.now)) (wanted mode.entry)) }
 {

@@ -1,5 +1,5 @@
 use Rattle.std.proofs.Common.{◌∙◌}
-use Rattle.au_noting.specs.Said.{all_typed, meanings}
+use Rattle.au_noting.specs.Said.{all_typed}
 use Rattle.au_noting_expressions.proofs.ArgumentLemmas.{labelled_types_length, ordered_types}
 use Rattle.au_noting_expressions.proofs.Steps.{gives_at}
 use Rattle.au_noting_expressions.proofs.operands.argument_types.Goals as goal
