@@ -4,3 +4,4 @@ pub mod PoppingLemmas
 pub mod ShippedLemmas
 pub mod StateLemmas
 pub mod WorldLemmas
+pub mod QuietLemmas

@@ -1,6 +1,6 @@
 //! The instructions that push constants and operate on operands.
 
-ghost use Rattle.std.specs.Prelude.{◌≡◌, ◌<◌, IfOk, MatchOption, nat_lt, length};
+ghost use Rattle.std.specs.Prelude.{◌≡◌, ◌<◌, IfOk, MatchOption, nat_lt, length, false};
 ghost use Rattle.std.specs.Option.{option_map};
 ghost use Rattle.au_ints.specs.Ranges.{is_of_kind};
 ghost use Rattle.au_ints.specs.Operations.{converted};
@@ -20,7 +20,7 @@ ghost use Rattle.au_low.specs.Machines.{
 };
 ghost use Rattle.au_low.specs.Instructions.{comes};
 ghost use Rattle.au_cells.specs.Cells.{low};
-ghost use Rattle.au_machine.specs.States.{machine_of, turned, most_place};
+ghost use Rattle.au_machine.specs.States.{machine_of, turned, most_place, IsQuiet, came_still, is_still};
 
 use crate::states::{State, Turn};
 use au_base::{IntKind, Memory};
@@ -48,8 +48,9 @@ impl State {
     /// `Memory` when memory runs out, as in the calls below.
     pub fn push_number(&mut self, kind: IntKind, value: i128) -> Result<Turn, Memory>
         requires { self.now.place < most_place }
-        ensures { IfOk result (λ turn. turned turn self.new
+        ensures is { IfOk result (λ turn. turned turn self.new
             ≡ where_true (is_of_kind kind value) (pushes (number kind value) (machine_of self.old))) }
+        ensures quiet { IsQuiet (came_still result) self.old.world self.new.world }
     {
         match at_kind(kind, value) {
             Some(cell) => self.push(cell),
@@ -61,7 +62,8 @@ impl State {
     #[tactic(auto, using(crate::proofs::StateLemmas::cell_equations))]
     pub fn push_truth(&mut self, value: bool) -> Result<Turn, Memory>
         requires { self.now.place < most_place }
-        ensures { IfOk result (λ turn. turned turn self.new ≡ pushes (truth value) (machine_of self.old)) }
+        ensures is { IfOk result (λ turn. turned turn self.new ≡ pushes (truth value) (machine_of self.old)) }
+        ensures moves { came_still result ≡ false }
     {
         self.push(Cell::Truth(value))
     }
@@ -69,9 +71,10 @@ impl State {
     /// Pushes a text.
     pub fn push_text(&mut self, code: &Code, number: u32) -> Result<Turn, Memory>
         requires { self.now.place < most_place }
-        ensures { IfOk result (λ turn. turned turn self.new
+        ensures is { IfOk result (λ turn. turned turn self.new
             ≡ where_true (nat_lt number (length code.now.texts)) (pushes (text number)
             (machine_of self.old))) }
+        ensures quiet { IsQuiet (came_still result) self.old.world self.new.world }
     {
         if code.texts.len() <= number as usize {
             return Ok(Turn::Stuck);
@@ -83,7 +86,8 @@ impl State {
     #[tactic(auto, using(crate::proofs::StateLemmas::cell_equations))]
     pub fn push_unit(&mut self) -> Result<Turn, Memory>
         requires { self.now.place < most_place }
-        ensures { IfOk result (λ turn. turned turn self.new ≡ pushes unit (machine_of self.old)) }
+        ensures is { IfOk result (λ turn. turned turn self.new ≡ pushes unit (machine_of self.old)) }
+        ensures moves { came_still result ≡ false }
     {
         self.push(Cell::Unit)
     }
@@ -91,8 +95,9 @@ impl State {
     /// Pops an operand.
     pub fn discard(&mut self) -> Turn
         requires { self.now.place < most_place }
-        ensures { turned result self.new
+        ensures is { turned result self.new
             ≡ popping (machine_of self.old).operands (machine_of self.old) (λ value m. goes (onward m)) }
+        ensures quiet { IsQuiet (is_still result) self.old.world self.new.world }
     {
         match self.pop() {
             Some(_cell) => self.go(),
@@ -109,6 +114,7 @@ impl State {
             → popping_two (machine_of self.old).operands (machine_of self.old) go
             ≡ go (low p.0) (low p.1) (machine_of self.new)) }
         ensures place { self.new.place ≡ self.old.place }
+        ensures world { self.new.world ≡ self.old.world }
     {
         let b = self.pop()?;
         let a = self.pop()?;
@@ -118,8 +124,9 @@ impl State {
     /// Pushes the exact result of an operation on two numbers of a kind, or aborts.
     pub fn arith(&mut self, op: IntOp, kind: IntKind) -> Result<Turn, Memory>
         requires { self.now.place < most_place }
-        ensures { IfOk result (λ turn. turned turn self.new ≡ popping_two (machine_of self.old).operands
+        ensures is { IfOk result (λ turn. turned turn self.new ≡ popping_two (machine_of self.old).operands
             (machine_of self.old) (λ a b m. comes (computed op kind a b) m)) }
+        ensures quiet { IsQuiet (came_still result) self.old.world self.new.world }
     {
         match self.pop_two() {
             Some((a, b)) => self.come(compute(op, kind, &a, &b)),
@@ -130,8 +137,9 @@ impl State {
     /// Pushes whether two operands stand in an order.
     pub fn compare(&mut self, order: Order, kind: Option<IntKind>) -> Result<Turn, Memory>
         requires { self.now.place < most_place }
-        ensures { IfOk result (λ turn. turned turn self.new ≡ popping_two (machine_of self.old).operands
+        ensures is { IfOk result (λ turn. turned turn self.new ≡ popping_two (machine_of self.old).operands
             (machine_of self.old) (λ a b m. comes (compared order kind a b) m)) }
+        ensures quiet { IsQuiet (came_still result) self.old.world self.new.world }
     {
         match self.pop_two() {
             Some((a, b)) => self.come(compare_cells(order, kind, &a, &b)),
@@ -142,8 +150,9 @@ impl State {
     /// Pushes the other truth value.
     pub fn negate(&mut self) -> Result<Turn, Memory>
         requires { self.now.place < most_place }
-        ensures { IfOk result (λ turn. turned turn self.new ≡ popping (machine_of self.old).operands
+        ensures is { IfOk result (λ turn. turned turn self.new ≡ popping (machine_of self.old).operands
             (machine_of self.old) (λ a m. comes (negated a) m)) }
+        ensures quiet { IsQuiet (came_still result) self.old.world self.new.world }
     {
         match self.pop() {
             Some(a) => self.come(negate(&a)),
@@ -154,8 +163,9 @@ impl State {
     /// Pushes the Option of a number at a kind.
     pub fn convert(&mut self, alloc: Global, kind: IntKind) -> Result<Turn, Memory>
         requires { self.now.place < most_place }
-        ensures { IfOk result (λ turn. turned turn self.new ≡ popping (machine_of self.old).operands
+        ensures is { IfOk result (λ turn. turned turn self.new ≡ popping (machine_of self.old).operands
             (machine_of self.old) (λ a m. comes (converted_value kind a) m)) }
+        ensures quiet { IsQuiet (came_still result) self.old.world self.new.world }
     {
         match self.pop() {
             Some(a) => self.come(convert_cell(alloc, kind, &a)?),

@@ -132,6 +132,7 @@ impl State {
             (λ cells. (go : List Low → Machine → Next) → popping_all count (machine_of self.old) go
             ≡ go (reverse (lows cells.items)) (machine_of self.new))) }
         ensures place { OnOk result (self.new.place ≡ self.old.place) }
+        ensures world { OnOk result (self.new.world ≡ self.old.world) }
     {
         let mut cells = Vec::new(alloc);
         for _index in 0..count {

@@ -1,12 +1,12 @@
 //! The state of a running machine.
 
-ghost use Rattle.std.specs.Prelude.{◌≡◌, ◌<◌, ◌+◌, [], IfOk, IfSome, MatchOption, length, IsTrue, ◌↔◌};
+ghost use Rattle.std.specs.Prelude.{◌≡◌, ◌<◌, ◌+◌, [], IfOk, IfSome, MatchOption, length, IsTrue, ◌↔◌, false, not};
 ghost use Rattle.std.specs.Option.{option_map, option_copied};
 ghost use Rattle.au_effects.specs.Places.{at};
 ghost use Rattle.au_low.specs.Machines.{goes, onward, pushed, pushes, in_slot, has_slot, slot_set};
 ghost use Rattle.au_low.specs.Instructions.{comes, slot_part, stores, puts};
 ghost use Rattle.au_cells.specs.Cells.{low, result_of};
-ghost use Rattle.au_machine.specs.States.{machine_of, turned, most_place};
+ghost use Rattle.au_machine.specs.States.{machine_of, turned, most_place, IsQuiet, came_still, is_still, told};
 
 use au_base::Memory;
 use au_cells::{Cell, Computed};
@@ -32,10 +32,12 @@ pub enum Turn {
     Writes,
     /// It waits for the next byte of the input.
     Waits,
-    /// The run ended in success or in failure.
-    Exits(bool),
-    /// The program aborted.
-    Aborts(AbortKind),
+    /// The run ended in success.
+    Succeeds,
+    /// The run ended in failure.
+    Fails,
+    /// The program aborted; why is in the state.
+    Aborts,
     /// No rule applies.
     Stuck,
 }
@@ -57,13 +59,16 @@ pub struct State {
     pub world: World,
     /// What is to be written.
     pub bytes: Vec<u8>,
+    /// Why the program aborted, where it did.
+    pub why: AbortKind,
 }
 
 impl State {
     /// Goes on to the next instruction.
     pub fn go(&mut self) -> Turn
         requires { self.now.place < most_place }
-        ensures { turned result self.new ≡ goes (onward (machine_of self.old)) }
+        ensures is { turned result self.new ≡ goes (onward (machine_of self.old)) }
+        ensures moves { is_still result ≡ false }
     {
         self.place += 1;
         Turn::Goes
@@ -75,6 +80,7 @@ impl State {
             ((machine_of self.old).operands ≡ [])
             (λ x. machine_of self.old ≡ pushed (low x) (machine_of self.new)) }
         ensures place { self.new.place ≡ self.old.place }
+        ensures world { self.new.world ≡ self.old.world }
     {
         self.operands.pop()
     }
@@ -86,7 +92,8 @@ impl State {
     /// `Memory` when memory runs out.
     pub fn push(&mut self, cell: Cell) -> Result<Turn, Memory>
         requires { self.now.place < most_place }
-        ensures { IfOk result (λ turn. turned turn self.new ≡ pushes (low cell) (machine_of self.old)) }
+        ensures is { IfOk result (λ turn. turned turn self.new ≡ pushes (low cell) (machine_of self.old)) }
+        ensures moves { came_still result ≡ false }
     {
         self.operands.push(cell)?;
         self.place += 1;
@@ -100,12 +107,16 @@ impl State {
     /// `Memory` when memory runs out.
     pub fn come(&mut self, computed: Computed) -> Result<Turn, Memory>
         requires { self.now.place < most_place }
-        ensures { IfOk result (λ turn. turned turn self.new
+        ensures is { IfOk result (λ turn. turned turn self.new
             ≡ comes (result_of computed) (machine_of self.old)) }
+        ensures quiet { IsQuiet (came_still result) self.old.world self.new.world }
     {
         match computed {
             Computed::Value(cell) => self.push(cell),
-            Computed::Fault => Ok(Turn::Aborts(AbortKind::Arithmetic)),
+            Computed::Fault => {
+                self.why = AbortKind::Arithmetic;
+                Ok(Turn::Aborts)
+            }
             Computed::NoRule => Ok(Turn::Stuck),
         }
     }
@@ -143,6 +154,7 @@ impl State {
         ensures new { machine_of self.new ≡ slot_set slot (option_map low held) (machine_of self.old) }
         ensures old { option_map low result ≡ in_slot slot (machine_of self.old) }
         ensures place { self.new.place ≡ self.old.place }
+        ensures told { told self.new.world ≡ told self.old.world }
     {
         self.world.set_slot(slot, held)
     }
@@ -150,7 +162,9 @@ impl State {
     /// Puts a value into a slot of the running frame, and goes on.
     pub fn store(&mut self, slot: u32, cell: Cell) -> Turn
         requires { self.now.place < most_place }
-        ensures { turned result self.new ≡ stores slot (low cell) (machine_of self.old) }
+        ensures is { turned result self.new ≡ stores slot (low cell) (machine_of self.old) }
+        ensures moves { is_still result ≡ not (has_slot slot (machine_of self.old)) }
+        ensures quiet { IsQuiet (is_still result) self.old.world self.new.world }
     {
         if !self.has(slot) {
             return Turn::Stuck;
@@ -162,8 +176,9 @@ impl State {
     /// Puts a value into a part of a slot of the running frame, and goes on.
     pub fn put(&mut self, slot: u32, path: &[u32], cell: Cell) -> Turn
         requires { self.now.place < most_place }
-        ensures { turned result self.new
+        ensures is { turned result self.new
             ≡ puts (slot_part slot path.now (machine_of self.old)) (low cell) (machine_of self.old) }
+        ensures quiet { IsQuiet (is_still result) self.old.world self.new.world }
     {
         match self.world.put_part(slot, path, cell) {
             Some(_old) => self.go(),

@@ -1,10 +1,10 @@
-//! The steps of a machine: each instruction, the next one, and one that waited for a byte.
+//! The steps of a machine: the next instruction, what it does, and one that waited for a byte.
 
 ghost use Rattle.std.specs.Prelude.{◌≡◌, ◌<◌, slice_get, IfOk, IfSome};
 ghost use Rattle.std.specs.Option.{option_copied};
 ghost use Rattle.au_low.specs.Instructions.{act};
-ghost use Rattle.au_low.specs.Runs.{fetched, next, heard};
-ghost use Rattle.au_machine.specs.States.{machine_of, turned, came, most_place};
+ghost use Rattle.au_low.specs.Runs.{fetched, heard};
+ghost use Rattle.au_machine.specs.States.{machine_of, turned, came, most_place, IsQuiet, came_still};
 ghost use Rattle.au_steps.specs.Orders.{heard_by};
 
 use crate::calling::{call, function_at, wrap};
@@ -22,7 +22,8 @@ use std::alloc::Global;
 /// `Memory` when memory runs out.
 pub fn act(state: &mut State, alloc: Global, code: &Code, instr: &Instr) -> Result<Turn, Memory>
     requires { state.now.place < most_place }
-    ensures { IfOk result (λ turn. came turn state.new (act code.now instr.now (machine_of state.old))) }
+    ensures is { IfOk result (λ turn. came turn state.new (act code.now instr.now (machine_of state.old))) }
+    ensures quiet { IsQuiet (came_still result) state.old.world state.new.world }
 {
     match instr {
         Instr::Push { kind, value } => state.push_number(*kind, *value),
@@ -99,20 +100,6 @@ pub fn fetched<'a>(state: &State, code: &'a Code) -> Option<&'a Instr>
     }
 }
 
-/// Does the next instruction. Where none is at the place that was reached, no rule applies.
-///
-/// # Errors
-///
-/// `Memory` when memory runs out.
-pub fn next(state: &mut State, alloc: Global, code: &Code) -> Result<Turn, Memory>
-    ensures { IfOk result (λ turn. came turn state.new (next code.now (machine_of state.old))) }
-{
-    match fetched(state, code) {
-        Some(instr) => act(state, alloc, code, instr),
-        None => Ok(Turn::Stuck),
-    }
-}
-
 /// Goes on with this instruction, which waits for a byte.
 fn hear_instr(
     state: &mut State,
@@ -121,7 +108,8 @@ fn hear_instr(
     byte: Option<u8>,
 ) -> Result<Turn, Memory>
     requires { state.now.place < most_place }
-    ensures { IfOk result (λ turn. turned turn state.new ≡ heard_by byte instr.now (machine_of state.old)) }
+    ensures is { IfOk result (λ turn. turned turn state.new ≡ heard_by byte instr.now (machine_of state.old)) }
+    ensures quiet { IsQuiet (came_still result) state.old.world state.new.world }
 {
     match instr {
         Instr::Shipped {
@@ -139,7 +127,8 @@ fn hear_instr(
 ///
 /// `Memory` when memory runs out.
 pub fn hear(state: &mut State, alloc: Global, code: &Code, byte: Option<u8>) -> Result<Turn, Memory>
-    ensures { IfOk result (λ turn. came turn state.new (heard code.now byte (machine_of state.old))) }
+    ensures is { IfOk result (λ turn. came turn state.new (heard code.now byte (machine_of state.old))) }
+    ensures quiet { IsQuiet (came_still result) state.old.world state.new.world }
 {
     match fetched(state, code) {
         Some(instr) => hear_instr(state, alloc, instr, byte),

@@ -7,8 +7,8 @@ use Rattle.au_machine.specs.States.{machine_of}
 use Rattle.au_machine.proofs.ShippedLemmas.{own_world, from_found, from_none}
 use Rattle.au_machine.proofs.states.State.abort.Goals as goal
 
-pub returns-in-Some : goal.returns-in-Some
-returns-in-Some c =
+pub returns-in-Some-clause-is : goal.returns-in-Some-clause-is
+returns-in-Some-clause-is c =
     let s = c.args.self.now in
     let own = reverse s.backs.items in
     let w = world_of s.world in
@@ -17,8 +17,8 @@ returns-in-Some c =
     (own_world s.function s.place s.operands s.borrows own s.world)
     ∙ from_found _ _ go (machine_of s) c.in-Some.ensures
 
-pub returns-in-None : goal.returns-in-None
-returns-in-None c =
+pub returns-in-None-clause-is : goal.returns-in-None-clause-is
+returns-in-None-clause-is c =
     let s = c.args.self.now in
     let own = reverse s.backs.items in
     let w = world_of s.world in

@@ -7,17 +7,17 @@ use Rattle.au_effects.specs.Answers.{Result}
 use Rattle.au_machine.proofs.StateLemmas.{come_to}
 use Rattle.au_machine.proofs.states.State.compare.Goals as goal
 
-pub returns-in-Some : goal.returns-in-Some
-returns-in-Some c =
+pub returns-in-Some-clause-is : goal.returns-in-Some-clause-is
+returns-in-Some-clause-is c =
     let s = c.args.self.now in
     let back = reverse s.backs.items in
     let go : Low → Low → Machine → Next = λ a b m. comes (compared c.args.order c.args.kind a b) m in
     come_to c.come.result c.come.new.self _ _
     (ap (λ (r : Result _). comes r (machine_of c.pop_two.new.self)) c.compare_cells.ensures
-    ∙ sym (c.in-Some.ensures.is go)) c.come.ensures
+    ∙ sym (c.in-Some.ensures.is go)) c.come.ensures.is
 
-pub returns-in-None : goal.returns-in-None
-returns-in-None c =
+pub returns-in-None-clause-is : goal.returns-in-None-clause-is
+returns-in-None-clause-is c =
     let s = c.args.self.now in
     let back = reverse s.backs.items in
     sym (c.in-None.ensures.is (λ a b m. comes (compared c.args.order c.args.kind a b) m))

@@ -8,3 +8,4 @@ abbrev pub invariant-loop-index : goal.invariant-loop-index
 invariant-loop-index l = (machine_of l.fn.self ≡ all_pushed (lows l.cells.items) (machine_of l.self))
     × (length l.cells.items ≡ l._index)
     × (l.self.place ≡ l.fn.self.place)
+    × (l.self.world ≡ l.fn.self.world)

@@ -6,11 +6,11 @@ use Rattle.au_low.specs.Machines.{LowWorld}
 use Rattle.au_machine.proofs.StateLemmas.{world_changed, puts_is}
 use Rattle.au_machine.proofs.states.State.put.Goals as goal
 
-pub returns-in-Some : goal.returns-in-Some
-returns-in-Some c =
+pub returns-in-Some-clause-is : goal.returns-in-Some-clause-is
+returns-in-Some-clause-is c =
     let s = c.args.self.now in
     let back = reverse s.backs.items in
-    c.go.ensures ∙ ap (λ (m : Machine). goes (onward m))
+    c.go.ensures.is ∙ ap (λ (m : Machine). goes (onward m))
     (world_changed s.function s.place s.operands s.borrows back s.world c.put_part.new.self _ refl
     c.in-Some.ensures.frame)
     ∙ ap (λ (found : Option (Low × LowWorld)). having found
@@ -18,8 +18,8 @@ returns-in-Some c =
     ∙ puts_is s.function s.place s.operands s.borrows back s.world c.args.slot c.args.path.now
     (low c.args.cell)
 
-pub returns-in-None : goal.returns-in-None
-returns-in-None c =
+pub returns-in-None-clause-is : goal.returns-in-None-clause-is
+returns-in-None-clause-is c =
     let s = c.args.self.now in
     let back = reverse s.backs.items in
     ap (λ (found : Option (Low × LowWorld)). having found
