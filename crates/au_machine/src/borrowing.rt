@@ -98,6 +98,7 @@ impl State {
     }
 
     /// Borrows a slot, and pushes the reference.
+    #[inline(never)]
     pub fn borrow(&mut self, alloc: Global, mode: Mode, slot: u32) -> Result<Turn, Memory>
         requires { self.now.place < most_place }
         ensures is { IfOk result (λ turn. turned turn self.new
@@ -113,6 +114,7 @@ impl State {
     }
 
     /// Borrows the slot itself, and pushes the reference.
+    #[inline(never)]
     pub fn borrow_slot(&mut self, alloc: Global, slot: u32, mode: Mode) -> Result<Turn, Memory>
         requires { self.now.place < most_place }
         ensures is { IfOk result (λ turn. turned turn self.new
@@ -128,6 +130,7 @@ impl State {
     }
 
     /// Borrows a slot, and puts the reference into another.
+    #[inline(never)]
     pub fn bind(&mut self, alloc: Global, from: u32, into: u32, mode: Mode) -> Result<Turn, Memory>
         requires { self.now.place < most_place }
         ensures is { IfOk result (λ turn. turned turn self.new
@@ -147,6 +150,7 @@ impl State {
     }
 
     /// Closes borrows of the frame, the newest first, until so many are open.
+    #[inline(never)]
     pub fn close(&mut self, count: u32) -> Result<Turn, Memory>
         requires { self.now.place < most_place }
         ensures is { IfOk result (λ turn. turned turn self.new

@@ -11,6 +11,7 @@ use au_cells::forms::truth_in;
 use au_low::Code;
 
 /// Whether a function has an instruction of a number.
+#[inline(always)]
 pub fn has_label(code: &Code, function: usize, label: u32) -> bool
     ensures { result ≡ nat_lt label (length (instructions (slice_get code.now.functions function))) }
 {
@@ -22,6 +23,7 @@ pub fn has_label(code: &Code, function: usize, label: u32) -> bool
 
 impl State {
     /// Goes to a label.
+    #[inline(always)]
     pub fn jump(&mut self, code: &Code, label: u32) -> Turn
         ensures is { turned result self.new ≡ jumps code.now label (machine_of self.old) }
         ensures moves { is_still result ≡ not (nat_lt label
@@ -36,6 +38,7 @@ impl State {
     }
 
     /// Goes to a label where a test is false.
+    #[inline(always)]
     pub fn jump_unless(&mut self, code: &Code, label: u32, test: bool) -> Turn
         requires { self.now.place < most_place }
         ensures is { turned result self.new ≡ jumps_unless code.now label (machine_of self.old) test }
@@ -48,6 +51,7 @@ impl State {
     }
 
     /// Pops a truth value, and goes to a label where it is false.
+    #[inline(always)]
     pub fn jump_not(&mut self, code: &Code, label: u32) -> Turn
         requires { self.now.place < most_place }
         ensures is { turned result self.new ≡ popping (machine_of self.old).operands (machine_of self.old)

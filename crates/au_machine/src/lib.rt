@@ -14,6 +14,7 @@ pub mod borrowing;
 pub mod boxing;
 pub mod buffering;
 pub mod calling_shipped;
+pub mod counting;
 pub mod jumping;
 pub mod making;
 pub mod operating;

@@ -53,6 +53,7 @@ impl State {
     }
 
     /// Pops the fields of a case of a type, and pushes its value.
+    #[inline(never)]
     pub fn make(
         &mut self,
         alloc: Global,

@@ -42,6 +42,7 @@ impl State {
     }
 
     /// Pops a record, and puts its fields into slots from one on.
+    #[inline(never)]
     pub fn take_record(&mut self, slot: u32) -> Result<Turn, Memory>
         requires { self.now.place < most_place }
         ensures is { IfOk result (λ turn. turned turn self.new ≡ popping (machine_of self.old).operands
@@ -64,6 +65,7 @@ impl State {
     }
 
     /// Pops a union's value, puts its fields into slots from one on, and goes to the label of its case.
+    #[inline(never)]
     pub fn take_case(&mut self, code: &Code, slot: u32, labels: &[u32]) -> Result<Turn, Memory>
         ensures is { IfOk result (λ turn. turned turn self.new ≡ popping (machine_of self.old).operands
             (machine_of self.old) (λ value m. apart value slot m (goes_to_case code.now labels.now))) }

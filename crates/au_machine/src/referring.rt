@@ -20,6 +20,7 @@ impl State {
     /// # Errors
     ///
     /// `Memory` when memory runs out, as in the calls below.
+    #[inline(never)]
     pub fn deref(&mut self, alloc: Global) -> Result<Turn, Memory>
         requires { self.now.place < most_place }
         ensures is { IfOk result (λ turn. turned turn self.new ≡ popping (machine_of self.old).operands
@@ -41,6 +42,7 @@ impl State {
     }
 
     /// Pushes a copy of a part of what the reference in a slot reaches.
+    #[inline(never)]
     pub fn read(&mut self, alloc: Global, slot: u32, path: &[u32]) -> Result<Turn, Memory>
         requires { self.now.place < most_place }
         ensures is { IfOk result (λ turn. turned turn self.new ≡ having (reference_at slot (machine_of self.old))
@@ -63,6 +65,7 @@ impl State {
     }
 
     /// Pushes a reference to a part of what the reference in a slot reaches.
+    #[inline(never)]
     pub fn part_of(&mut self, alloc: Global, slot: u32, path: &[u32]) -> Result<Turn, Memory>
         requires { self.now.place < most_place }
         ensures is { IfOk result (λ turn. turned turn self.new ≡ having (reference_at slot (machine_of self.old))
@@ -81,6 +84,7 @@ impl State {
     }
 
     /// Pops into a part of what the reference in a slot reaches.
+    #[inline(never)]
     pub fn put_through(&mut self, alloc: Global, slot: u32, path: &[u32]) -> Result<Turn, Memory>
         requires { self.now.place < most_place }
         ensures is { IfOk result (λ turn. turned turn self.new

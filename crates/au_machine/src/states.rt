@@ -65,6 +65,7 @@ pub struct State {
 
 impl State {
     /// Goes on to the next instruction.
+    #[inline(always)]
     pub fn go(&mut self) -> Turn
         requires { self.now.place < most_place }
         ensures is { turned result self.new ≡ goes (onward (machine_of self.old)) }
@@ -75,6 +76,7 @@ impl State {
     }
 
     /// Pops an operand.
+    #[inline(always)]
     pub fn pop(&mut self) -> Option<Cell>
         ensures is { MatchOption result
             ((machine_of self.old).operands ≡ [])
@@ -90,6 +92,7 @@ impl State {
     /// # Errors
     ///
     /// `Memory` when memory runs out.
+    #[inline(always)]
     pub fn push(&mut self, cell: Cell) -> Result<Turn, Memory>
         requires { self.now.place < most_place }
         ensures is { IfOk result (λ turn. turned turn self.new ≡ pushes (low cell) (machine_of self.old)) }
@@ -105,6 +108,7 @@ impl State {
     /// # Errors
     ///
     /// `Memory` when memory runs out.
+    #[inline(always)]
     pub fn come(&mut self, computed: Computed) -> Result<Turn, Memory>
         requires { self.now.place < most_place }
         ensures is { IfOk result (λ turn. turned turn self.new
@@ -122,6 +126,7 @@ impl State {
     }
 
     /// Whether the running frame has a slot.
+    #[inline(always)]
     pub fn has(&self, slot: u32) -> bool
         ensures is { result ≡ has_slot slot (machine_of self.now) }
         ensures slots { IsTrue result ↔ (slot < length self.now.world.slots.0) }
@@ -130,6 +135,7 @@ impl State {
     }
 
     /// What a slot of the running frame holds.
+    #[inline(always)]
     pub fn held(&self, slot: u32) -> Option<&Cell>
         ensures is { option_map low (option_copied result) ≡ in_slot slot (machine_of self.now) }
         ensures slots { IfSome result (λ cell. slot < length self.now.world.slots.0) }
@@ -141,6 +147,7 @@ impl State {
     }
 
     /// What a part of a slot of the running frame holds.
+    #[inline(always)]
     pub fn part(&self, slot: u32, path: &[u32]) -> Option<&Cell>
         ensures { option_map low (option_copied result)
             ≡ at (slot_part slot path.now (machine_of self.now)) (machine_of self.now).world }
@@ -149,6 +156,7 @@ impl State {
     }
 
     /// Puts a value into a slot of the running frame, or empties it.
+    #[inline(always)]
     pub fn fill(&mut self, slot: u32, held: Option<Cell>) -> Option<Cell>
         requires { slot < length self.old.world.slots.0 }
         ensures new { machine_of self.new ≡ slot_set slot (option_map low held) (machine_of self.old) }
@@ -160,6 +168,7 @@ impl State {
     }
 
     /// Puts a value into a slot of the running frame, and goes on.
+    #[inline(always)]
     pub fn store(&mut self, slot: u32, cell: Cell) -> Turn
         requires { self.now.place < most_place }
         ensures is { turned result self.new ≡ stores slot (low cell) (machine_of self.old) }
@@ -173,6 +182,23 @@ impl State {
         self.go()
     }
 
+    /// Puts a value into a slot of the running frame that holds one, and goes on.
+    #[inline(always)]
+    fn put_whole(&mut self, slot: u32, cell: Cell) -> Turn
+        requires { self.now.place < most_place }
+        ensures is { turned result self.new
+            ≡ puts (slot_part slot [] (machine_of self.old)) (low cell) (machine_of self.old) }
+        ensures quiet { IsQuiet (is_still result) self.old.world self.new.world }
+    {
+        match self.held(slot) {
+            Some(_) => {
+                self.fill(slot, Some(cell));
+                self.go()
+            }
+            None => Turn::Stuck,
+        }
+    }
+
     /// Puts a value into a part of a slot of the running frame, and goes on.
     pub fn put(&mut self, slot: u32, path: &[u32], cell: Cell) -> Turn
         requires { self.now.place < most_place }
@@ -180,6 +206,9 @@ impl State {
             ≡ puts (slot_part slot path.now (machine_of self.old)) (low cell) (machine_of self.old) }
         ensures quiet { IsQuiet (is_still result) self.old.world self.new.world }
     {
+        if path.is_empty() {
+            return self.put_whole(slot, cell);
+        }
         match self.world.put_part(slot, path, cell) {
             Some(_old) => self.go(),
             None => Turn::Stuck,

@@ -17,6 +17,7 @@ use std::alloc::Global;
 /// # Errors
 ///
 /// `Memory` when memory runs out.
+#[inline(always)]
 pub fn next(state: &mut State, alloc: Global, code: &Code) -> Result<Turn, Memory>
     ensures came { IfOk result (λ turn. came turn state.new (next code.now (machine_of state.old))) }
     ensures waits { IfOk result (λ turn. WaitsAsBefore turn (machine_of state.old) (machine_of state.new)) }

@@ -114,6 +114,7 @@ fn with_three(
 }
 
 /// Pops the arguments of a shipped call, and does it.
+#[inline(never)]
 pub fn ship(
     state: &mut State,
     alloc: Global,

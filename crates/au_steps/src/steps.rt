@@ -20,6 +20,7 @@ use std::alloc::Global;
 /// # Errors
 ///
 /// `Memory` when memory runs out.
+#[inline(always)]
 pub fn act(state: &mut State, alloc: Global, code: &Code, instr: &Instr) -> Result<Turn, Memory>
     requires { state.now.place < most_place }
     ensures is { IfOk result (λ turn. came turn state.new (act code.now instr.now (machine_of state.old))) }
@@ -82,6 +83,7 @@ pub fn act(state: &mut State, alloc: Global, code: &Code, instr: &Instr) -> Resu
 }
 
 /// The instruction of a number.
+#[inline(always)]
 fn instr_at(function: &Function, place: usize) -> Option<&Instr>
     ensures is { option_copied result ≡ slice_get function.now.code place }
     ensures place { IfSome result (λ instr. place < most_place) }
@@ -90,6 +92,7 @@ fn instr_at(function: &Function, place: usize) -> Option<&Instr>
 }
 
 /// The instruction at the place that a state has reached.
+#[inline(always)]
 pub fn fetched<'a>(state: &State, code: &'a Code) -> Option<&'a Instr>
     ensures is { option_copied result ≡ fetched code.now (machine_of state.now) }
     ensures place { IfSome result (λ instr. state.now.place < most_place) }

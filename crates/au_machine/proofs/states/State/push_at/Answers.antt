@@ -6,7 +6,7 @@ use Rattle.std.proofs.Common.{ap, ◌∙◌}
 use Rattle.au_machine.specs.States.{machine_of}
 use Rattle.au_cells.specs.Cells.{low}
 use Rattle.au_machine.proofs.StateLemmas.{come_to, in_range, out_of_range}
-use Rattle.au_machine.proofs.states.State.push_number.Goals as goal
+use Rattle.au_machine.proofs.states.State.push_at.Goals as goal
 
 pub returns-in-Some-clause-is : goal.returns-in-Some-clause-is
 returns-in-Some-clause-is c =
