@@ -3,7 +3,7 @@ use Rattle.std.proofs.Common.{◌≡◌, ℕ, ◌+◌, ◌-◌, ◌<◌, ◌≤�
 use Rattle.std.proofs.Math.Seq.{take-length}
 use Rattle.std.proofs.lemmas.List.{take_more}
 use Rattle.au_effects.specs.Answers.{Result, no_rule}
-use Rattle.au_low.specs.Machines.{Low, Machine, Next, popping_two}
+use Rattle.au_low.specs.Machines.{Low, Machine, popping_two}
 use Rattle.au_low.specs.Instructions.{comes}
 use Rattle.au_cells.specs.declared.cells.Cell.{Cell}
 use Rattle.au_cells.specs.Cells.{low, lows}

@@ -1,7 +1,6 @@
 -- What was told by an instruction that made no step.
-use Rattle.std.proofs.Common.{◌≡◌, refl, ap, ◌∙◌, List, ℕ}
+use Rattle.std.proofs.Common.{◌≡◌, refl, ap, ◌∙◌}
 use Rattle.std.specs.Prelude.{Bool, true, false, if◌then◌else◌}
-use Rattle.au_effects.specs.Worlds.{Deed}
 use Rattle.au_low.specs.Machines.{LowWorld}
 use Rattle.au_stores.specs.declared.worlds.World.{World}
 use Rattle.au_stores.specs.declared.answers.Answered.{Answered}

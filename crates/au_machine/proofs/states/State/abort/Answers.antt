@@ -1,7 +1,6 @@
 use Rattle.std.proofs.Common.{ap, ◌∙◌, reverse, ℕ}
 use Rattle.au_effects.specs.Answers.{Answer, aborts, called}
 use Rattle.au_low.specs.Machines as machine
-use Rattle.au_low.specs.Machines.{Low, Machine, onward, pushed, pushes}
 use Rattle.au_stores.specs.Stores.{world_of}
 use Rattle.au_machine.specs.States.{machine_of}
 use Rattle.au_machine.proofs.ShippedLemmas.{own_world, from_found, from_none}

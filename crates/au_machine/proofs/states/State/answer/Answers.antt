@@ -1,5 +1,5 @@
 use Rattle.std.proofs.Common.{ap, sym, ◌∙◌, reverse}
-use Rattle.au_low.specs.Machines.{Machine, pushes}
+use Rattle.au_low.specs.Machines.{pushes}
 use Rattle.au_low.specs.Instructions.{answered}
 use Rattle.au_cells.specs.Cells.{low}
 use Rattle.au_stores.specs.declared.answers.Answered.{Answered}

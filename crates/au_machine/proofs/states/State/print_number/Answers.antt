@@ -6,7 +6,7 @@ use Rattle.au_effects.specs.Answers.{Answer, writes}
 use Rattle.au_effects.specs.Numbers.{number_bytes}
 use Rattle.au_effects.specs.Calls.{in_line}
 use Rattle.au_low.specs.Machines as machine
-use Rattle.au_low.specs.Machines.{Low, Machine, onward, pushed, pushes}
+use Rattle.au_low.specs.Machines.{onward, pushed}
 use Rattle.au_stores.specs.Stores.{world_of}
 use Rattle.au_machine.specs.States.{machine_of}
 use Rattle.au_machine.proofs.StateLemmas.{come_to}

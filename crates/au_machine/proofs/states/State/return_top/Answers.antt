@@ -1,6 +1,5 @@
 use Rattle.std.proofs.Common.{sym, reverse}
 use Rattle.au_cells.specs.Cells.{low}
-use Rattle.au_low.specs.Instructions.{comes, stores, puts, slot_part, jumps, jumps_unless, reads_at, reference_at, behind, uses, borrowed, new_reference, borrowed_place}
 use Rattle.au_machine.specs.States.{machine_of}
 use Rattle.au_low.specs.Instructions as instruction
 use Rattle.au_machine.proofs.StateLemmas.{came_to, came_from, popped_one}

@@ -1,7 +1,7 @@
 use Rattle.std.proofs.Common.{◌≡◌, length}
 use Rattle.au_cells.specs.Cells.{lows}
 use Rattle.au_machine.specs.States.{machine_of, all_pushed}
-use Rattle.au_machine.proofs.states.State.pop_all.Given as goal
+use Rattle.au_machine.proofs.states.State.pop_into.Given as goal
 
 -- what was popped stood upon what is left
 abbrev pub invariant-loop-index : goal.invariant-loop-index

@@ -1,7 +1,7 @@
 use Rattle.std.proofs.Common.{◌≡◌, length, arith}
 use Rattle.au_machine.specs.States.{machine_of}
 use Rattle.au_machine.proofs.PoppingLemmas.{enough}
-use Rattle.au_machine.proofs.states.State.pop_all.Goals as goal
+use Rattle.au_machine.proofs.states.State.pop_into.Goals as goal
 
 pub returns-clause-is : goal.returns-clause-is
 returns-clause-is c = λ go.
