@@ -1,5 +1,5 @@
-//! Operations on numbers of the kinds that programs count with, each with its kind known; `au_cells` has those
-//! of the other kinds.
+//! Operations on numbers of the kinds that programs count with, each with its kind known; `au_cells` has
+//! those of the other kinds.
 
 ghost use Rattle.std.specs.Prelude.{◌≡◌, IfSome, Some};
 ghost use Rattle.au_ints.specs.Ranges.{IsOfKind};
@@ -15,8 +15,8 @@ use au_cells::numbers::{compare_cells, compute, number};
 use au_cells::{Cell, Computed};
 use au_ints::{IntOp, Order, compare, trap};
 
-/// The exact result of an operation, where there is one in the range of the kind. Each operation is a call of
-/// its own, of which a few instructions are left where the kind is known.
+/// The exact result of an operation, where there is one in the range of the kind. Each operation is a call
+/// of its own, of which a few instructions are left where the kind is known.
 #[inline(always)]
 fn exact(op: IntOp, kind: IntKind, a: i128, b: i128) -> Option<i128>
     requires first { IsOfKind kind a }

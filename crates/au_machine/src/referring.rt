@@ -45,7 +45,8 @@ impl State {
     #[inline(never)]
     pub fn read(&mut self, alloc: Global, slot: u32, path: &[u32]) -> Result<Turn, Memory>
         requires { self.now.place < most_place }
-        ensures is { IfOk result (λ turn. turned turn self.new ≡ having (reference_at slot (machine_of self.old))
+        ensures is { IfOk result (λ turn. turned turn self.new
+            ≡ having (reference_at slot (machine_of self.old))
             (λ one. reads_at one.0 (behind one.1 path.now) (machine_of self.old))) }
         ensures quiet { IsQuiet (came_still result) self.old.world self.new.world }
     {
@@ -68,7 +69,8 @@ impl State {
     #[inline(never)]
     pub fn part_of(&mut self, alloc: Global, slot: u32, path: &[u32]) -> Result<Turn, Memory>
         requires { self.now.place < most_place }
-        ensures is { IfOk result (λ turn. turned turn self.new ≡ having (reference_at slot (machine_of self.old))
+        ensures is { IfOk result (λ turn. turned turn self.new
+            ≡ having (reference_at slot (machine_of self.old))
             (λ one. pushes (reference one.0 (behind one.1 path.now)) (machine_of self.old))) }
         ensures quiet { IsQuiet (came_still result) self.old.world self.new.world }
     {

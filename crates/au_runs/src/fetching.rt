@@ -1,6 +1,6 @@
 //! The next instruction of a state, which stays as it is where the instruction waits for a byte.
 
-ghost use Rattle.std.specs.Prelude.{◌≡◌, IfOk};
+ghost use Rattle.std.specs.Prelude.{IfOk};
 ghost use Rattle.au_low.specs.Runs.{next};
 ghost use Rattle.au_machine.specs.States.{machine_of, came, came_still, IsQuiet};
 ghost use Rattle.au_runs.specs.Steps.{WaitsAsBefore};

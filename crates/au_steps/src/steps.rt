@@ -125,7 +125,8 @@ fn hear_instr(
     byte: Option<u8>,
 ) -> Result<Turn, Memory>
     requires { state.now.place < most_place }
-    ensures is { IfOk result (λ turn. turned turn state.new ≡ heard_by byte instr.now (machine_of state.old)) }
+    ensures is { IfOk result (λ turn. turned turn state.new
+        ≡ heard_by byte instr.now (machine_of state.old)) }
     ensures quiet { IsQuiet (came_still result) state.old.world state.new.world }
 {
     match instr {
