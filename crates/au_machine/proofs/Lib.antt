@@ -1,6 +1,9 @@
 pub mod CallingLemmas
+pub mod NewestLemmas
 pub mod OrderLemmas
 pub mod PoppingLemmas
 pub mod ShippedLemmas
 pub mod StateLemmas
 pub mod WorldLemmas
+pub mod QuietLemmas
+pub mod PuttingLemmas

@@ -6,7 +6,7 @@ use Rattle.au_effects.specs.Calls.{given, use_of, natural_in}
 use Rattle.au_effects.specs.Numbers.{number_of}
 use Rattle.au_base.specs.declared.kinds.IntKind.TheVariants.{Nat8}
 use Rattle.au_low.specs.Machines as machine
-use Rattle.au_low.specs.Machines.{Low, LowWorld, Machine, Next, onward, in_world, pushed, pushes}
+use Rattle.au_low.specs.Machines.{Low, LowWorld, Machine, onward, in_world, pushed}
 use Rattle.au_low.specs.Instructions.{answered}
 use Rattle.au_cells.specs.declared.cells.Cell.{Cell}
 use Rattle.au_cells.specs.declared.cells.Cell as cell

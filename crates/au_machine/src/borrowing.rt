@@ -16,7 +16,7 @@ ghost use Rattle.au_low.specs.Instructions.{
   closes_to,
 };
 ghost use Rattle.au_cells.specs.Cells.{low, base_of};
-ghost use Rattle.au_machine.specs.States.{machine_of, turned, most_place, place_in};
+ghost use Rattle.au_machine.specs.States.{machine_of, turned, most_place, place_in, IsQuiet, came_still};
 
 use crate::states::{State, Turn};
 use au_base::{Memory, Sequence};
@@ -98,11 +98,13 @@ impl State {
     }
 
     /// Borrows a slot, and pushes the reference.
+    #[inline(never)]
     pub fn borrow(&mut self, alloc: Global, mode: Mode, slot: u32) -> Result<Turn, Memory>
         requires { self.now.place < most_place }
-        ensures { IfOk result (λ turn. turned turn self.new
+        ensures is { IfOk result (λ turn. turned turn self.new
             ≡ having (borrowed_place mode slot (machine_of self.old))
             (λ place. pushes (new_reference place (machine_of self.old)) (borrowed (machine_of self.old)))) }
+        ensures quiet { IsQuiet (came_still result) self.old.world self.new.world }
     {
         let Some((start, path)) = self.place_at(alloc, mode, slot)? else {
             return Ok(Turn::Stuck);
@@ -112,11 +114,13 @@ impl State {
     }
 
     /// Borrows the slot itself, and pushes the reference.
+    #[inline(never)]
     pub fn borrow_slot(&mut self, alloc: Global, slot: u32, mode: Mode) -> Result<Turn, Memory>
         requires { self.now.place < most_place }
-        ensures { IfOk result (λ turn. turned turn self.new
+        ensures is { IfOk result (λ turn. turned turn self.new
             ≡ where_true (is_of_slot mode) (having (borrowed_place mode slot (machine_of self.old))
             (λ place. pushes (new_reference place (machine_of self.old)) (borrowed (machine_of self.old))))) }
+        ensures quiet { IsQuiet (came_still result) self.old.world self.new.world }
     {
         match mode {
             Mode::Read => self.borrow(alloc, Mode::Read, slot),
@@ -126,25 +130,32 @@ impl State {
     }
 
     /// Borrows a slot, and puts the reference into another.
+    #[inline(never)]
     pub fn bind(&mut self, alloc: Global, from: u32, into: u32, mode: Mode) -> Result<Turn, Memory>
         requires { self.now.place < most_place }
-        ensures { IfOk result (λ turn. turned turn self.new
+        ensures is { IfOk result (λ turn. turned turn self.new
             ≡ having (borrowed_place mode from (machine_of self.old))
             (λ place. stores into (new_reference place (machine_of self.old)) (borrowed
             (machine_of self.old)))) }
+        ensures quiet { IsQuiet (came_still result) self.old.world self.new.world }
     {
         let Some((start, path)) = self.place_at(alloc, mode, from)? else {
             return Ok(Turn::Stuck);
         };
+        if !self.has(into) {
+            return Ok(Turn::Stuck);
+        }
         let cell = self.lend(alloc, start, path)?;
         Ok(self.store(into, cell))
     }
 
     /// Closes borrows of the frame, the newest first, until so many are open.
+    #[inline(never)]
     pub fn close(&mut self, count: u32) -> Result<Turn, Memory>
         requires { self.now.place < most_place }
-        ensures { IfOk result (λ turn. turned turn self.new
+        ensures is { IfOk result (λ turn. turned turn self.new
             ≡ goes (onward (closes_to count (machine_of self.old)))) }
+        ensures quiet { IsQuiet (came_still result) self.old.world self.new.world }
     {
         self.world.close_to(&mut self.borrows, count as usize)?;
         Ok(self.go())

@@ -5,7 +5,7 @@ ghost use Rattle.au_effects.specs.Calls as call;
 ghost use Rattle.au_low.specs.Instructions.{answered};
 ghost use Rattle.au_cells.specs.Cells.{low};
 ghost use Rattle.au_stores.specs.Stores.{world_of};
-ghost use Rattle.au_machine.specs.States.{machine_of, turned, most_place};
+ghost use Rattle.au_machine.specs.States.{machine_of, turned, most_place, IsQuiet, came_still};
 
 use crate::states::{State, Turn};
 use au_base::Memory;
@@ -20,8 +20,9 @@ impl State {
     /// `Memory` when memory runs out, as in the calls below.
     pub fn make_empty(&mut self, alloc: Global, of: u32) -> Result<Turn, Memory>
         requires { self.now.place < most_place }
-        ensures { IfOk result (λ turn. turned turn self.new
+        ensures is { IfOk result (λ turn. turned turn self.new
             ≡ answered (call.make_empty (Some of) (world_of self.old.world)) (machine_of self.old)) }
+        ensures quiet { IsQuiet (came_still result) self.old.world self.new.world }
     {
         let one = self.world.make_empty(alloc, of)?;
         self.answer(one)
@@ -30,9 +31,10 @@ impl State {
     /// `destroyEmpty`: consumes a buffer, or aborts where an element is left.
     pub fn destroy_empty(&mut self, buffer: &Cell) -> Result<Turn, Memory>
         requires { self.now.place < most_place }
-        ensures { IfOk result (λ turn. turned turn self.new
+        ensures is { IfOk result (λ turn. turned turn self.new
             ≡ answered (call.destroy_empty (world_of self.old.world) (low buffer.now))
             (machine_of self.old)) }
+        ensures quiet { IsQuiet (came_still result) self.old.world self.new.world }
     {
         let one = self.world.destroy_empty(buffer)?;
         self.answer(one)
@@ -41,9 +43,10 @@ impl State {
     /// `length`: pushes the number of the elements of a buffer.
     pub fn length(&mut self, reference: &Cell) -> Result<Turn, Memory>
         requires { self.now.place < most_place }
-        ensures { IfOk result (λ turn. turned turn self.new
+        ensures is { IfOk result (λ turn. turned turn self.new
             ≡ answered (call.length_call (world_of self.old.world) (low reference.now))
             (machine_of self.old)) }
+        ensures quiet { IsQuiet (came_still result) self.old.world self.new.world }
     {
         let one = self.world.length(reference)?;
         self.answer(one)
@@ -52,9 +55,10 @@ impl State {
     /// `insertBack`: puts an element behind those of a buffer.
     pub fn insert_back(&mut self, reference: &Cell, new: Cell) -> Result<Turn, Memory>
         requires { self.now.place < most_place }
-        ensures { IfOk result (λ turn. turned turn self.new
+        ensures is { IfOk result (λ turn. turned turn self.new
             ≡ answered (call.insert_back (world_of self.old.world) (low reference.now) (low new))
             (machine_of self.old)) }
+        ensures quiet { IsQuiet (came_still result) self.old.world self.new.world }
     {
         let one = self.world.insert_back(reference, new)?;
         self.answer(one)
@@ -63,9 +67,10 @@ impl State {
     /// `removeBack`: takes the last element of a buffer and pushes it, or aborts where there is none.
     pub fn remove_back(&mut self, reference: &Cell) -> Result<Turn, Memory>
         requires { self.now.place < most_place }
-        ensures { IfOk result (λ turn. turned turn self.new
+        ensures is { IfOk result (λ turn. turned turn self.new
             ≡ answered (call.remove_back (world_of self.old.world) (low reference.now))
             (machine_of self.old)) }
+        ensures quiet { IsQuiet (came_still result) self.old.world self.new.world }
     {
         let one = self.world.remove_back(reference)?;
         self.answer(one)
@@ -74,9 +79,10 @@ impl State {
     /// `nth`: pushes a copy of an element of a buffer, or aborts where it isn't there.
     pub fn nth(&mut self, alloc: Global, reference: &Cell, index: &Cell) -> Result<Turn, Memory>
         requires { self.now.place < most_place }
-        ensures { IfOk result (λ turn. turned turn self.new
+        ensures is { IfOk result (λ turn. turned turn self.new
             ≡ answered (call.nth_call (world_of self.old.world) (low reference.now) (low index.now))
             (machine_of self.old)) }
+        ensures quiet { IsQuiet (came_still result) self.old.world self.new.world }
     {
         let one = self.world.nth(alloc, reference, index)?;
         self.answer(one)
@@ -86,9 +92,10 @@ impl State {
     /// it isn't there.
     pub fn replace_nth(&mut self, reference: &Cell, index: &Cell, new: Cell) -> Result<Turn, Memory>
         requires { self.now.place < most_place }
-        ensures { IfOk result (λ turn. turned turn self.new
+        ensures is { IfOk result (λ turn. turned turn self.new
             ≡ answered (call.replace_nth (world_of self.old.world)
             (low reference.now) (low index.now) (low new)) (machine_of self.old)) }
+        ensures quiet { IsQuiet (came_still result) self.old.world self.new.world }
     {
         let one = self.world.replace_nth(reference, index, new)?;
         self.answer(one)

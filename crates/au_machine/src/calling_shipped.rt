@@ -5,7 +5,7 @@ ghost use Rattle.au_effects.specs.Calls.{arity, shipped};
 ghost use Rattle.au_low.specs.Instructions.{answered, text_bytes};
 ghost use Rattle.au_cells.specs.Cells.{low};
 ghost use Rattle.au_stores.specs.Stores.{world_of};
-ghost use Rattle.au_machine.specs.States.{machine_of, turned, most_place};
+ghost use Rattle.au_machine.specs.States.{machine_of, turned, most_place, IsQuiet, came_still};
 
 use crate::states::{State, Turn};
 use au_base::Memory;
@@ -44,9 +44,10 @@ impl State {
         a: &Cell,
     ) -> Result<Turn, Memory>
         requires { self.now.place < most_place }
-        ensures { IfOk result (λ turn. turned turn self.new
+        ensures is { IfOk result (λ turn. turned turn self.new
             ≡ answered (shipped (text_bytes code.now) call None (world_of self.old.world) (low a.now ∷ []))
             (machine_of self.old)) }
+        ensures quiet { IsQuiet (came_still result) self.old.world self.new.world }
     {
         match call {
             ShippedCall::PrintText => self.print_text(code, false, a),
@@ -80,10 +81,11 @@ impl State {
         b: Cell,
     ) -> Result<Turn, Memory>
         requires { self.now.place < most_place }
-        ensures { IfOk result (λ turn. turned turn self.new
+        ensures is { IfOk result (λ turn. turned turn self.new
             ≡ answered (shipped (text_bytes code.now) call None
             (world_of self.old.world) (low a ∷ low b ∷ []))
             (machine_of self.old)) }
+        ensures quiet { IsQuiet (came_still result) self.old.world self.new.world }
     {
         match call {
             ShippedCall::Swap => self.swap(&a, b),
@@ -104,10 +106,11 @@ impl State {
         c: Cell,
     ) -> Result<Turn, Memory>
         requires { self.now.place < most_place }
-        ensures { IfOk result (λ turn. turned turn self.new
+        ensures is { IfOk result (λ turn. turned turn self.new
             ≡ answered (shipped (text_bytes code.now) call None
             (world_of self.old.world) (low a ∷ low b ∷ low c ∷ []))
             (machine_of self.old)) }
+        ensures quiet { IsQuiet (came_still result) self.old.world self.new.world }
     {
         match call {
             ShippedCall::ReplaceNth => self.replace_nth(&a, &b, c),
@@ -125,9 +128,10 @@ impl State {
         a: Cell,
     ) -> Result<Turn, Memory>
         requires { self.now.place < most_place }
-        ensures { IfOk result (λ turn. turned turn self.new
+        ensures is { IfOk result (λ turn. turned turn self.new
             ≡ answered (shipped (text_bytes code.now) call (Some of) (world_of self.old.world) (low a ∷ []))
             (machine_of self.old)) }
+        ensures quiet { IsQuiet (came_still result) self.old.world self.new.world }
     {
         match call {
             ShippedCall::MakeBox => self.make_box(alloc, of, a),
@@ -146,9 +150,10 @@ impl State {
         a: Cell,
     ) -> Result<Turn, Memory>
         requires { self.now.place < most_place }
-        ensures { IfOk result (λ turn. turned turn self.new
+        ensures is { IfOk result (λ turn. turned turn self.new
             ≡ answered (shipped (text_bytes code.now) call of (world_of self.old.world) (low a ∷ []))
             (machine_of self.old)) }
+        ensures quiet { IsQuiet (came_still result) self.old.world self.new.world }
     {
         match of {
             Some(of) => self.bear_with(alloc, code, call, of, a),
@@ -167,9 +172,10 @@ impl State {
         b: Cell,
     ) -> Result<Turn, Memory>
         requires { self.now.place < most_place }
-        ensures { IfOk result (λ turn. turned turn self.new
+        ensures is { IfOk result (λ turn. turned turn self.new
             ≡ answered (shipped (text_bytes code.now) call of (world_of self.old.world)
             (low a ∷ low b ∷ [])) (machine_of self.old)) }
+        ensures quiet { IsQuiet (came_still result) self.old.world self.new.world }
     {
         match of {
             Some(_) => Ok(Turn::Stuck),
@@ -188,9 +194,10 @@ impl State {
         c: Cell,
     ) -> Result<Turn, Memory>
         requires { self.now.place < most_place }
-        ensures { IfOk result (λ turn. turned turn self.new
+        ensures is { IfOk result (λ turn. turned turn self.new
             ≡ answered (shipped (text_bytes code.now) call of (world_of self.old.world)
             (low a ∷ low b ∷ low c ∷ [])) (machine_of self.old)) }
+        ensures quiet { IsQuiet (came_still result) self.old.world self.new.world }
     {
         match of {
             Some(_) => Ok(Turn::Stuck),

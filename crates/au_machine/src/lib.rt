@@ -5,7 +5,8 @@
 //! - Each instruction is a method. Its contract says that the turn that it answers, and the state after it,
 //!   are what the definitions make of the state before it (`turned`; `came` where the run may end).
 //! - A turn holds no value: what is pushed stays on the operands, and what is written is in the state.
-//! - Where no rule applies, the answer is `Stuck`, and the state isn't used again.
+//! - Where no rule applies, the answer is `Stuck`, and nothing was told; the state isn't used again but for
+//!   its events.
 #![tactic(auto)]
 
 pub mod answering;
@@ -13,6 +14,7 @@ pub mod borrowing;
 pub mod boxing;
 pub mod buffering;
 pub mod calling_shipped;
+pub mod counting;
 pub mod jumping;
 pub mod making;
 pub mod operating;

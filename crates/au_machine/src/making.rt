@@ -5,7 +5,7 @@ ghost use Rattle.std.specs.Option.{option_copied};
 ghost use Rattle.au_low.specs.Machines.{having, ordered, popping_all};
 ghost use Rattle.au_low.specs.Instructions.{makes};
 ghost use Rattle.au_cells.specs.Cells.{lows};
-ghost use Rattle.au_machine.specs.States.{machine_of, turned, most_place};
+ghost use Rattle.au_machine.specs.States.{machine_of, turned, most_place, IsQuiet, came_still};
 
 use crate::popping::in_order;
 use crate::states::{State, Turn};
@@ -39,8 +39,9 @@ impl State {
         one: &LowType,
     ) -> Result<Turn, Memory>
         requires { self.now.place < most_place }
-        ensures { IfOk result (λ turn. turned turn self.new
+        ensures is { IfOk result (λ turn. turned turn self.new
             ≡ makes of tag home.now (lows fields.items) one.now (machine_of self.old)) }
+        ensures quiet { IsQuiet (came_still result) self.old.world self.new.world }
     {
         if !one.linear {
             let cell = make(alloc, tag, None, fields)?;
@@ -52,6 +53,7 @@ impl State {
     }
 
     /// Pops the fields of a case of a type, and pushes its value.
+    #[inline(never)]
     pub fn make(
         &mut self,
         alloc: Global,
@@ -62,10 +64,11 @@ impl State {
         home: &Name,
     ) -> Result<Turn, Memory>
         requires { self.now.place < most_place }
-        ensures { IfOk result (λ turn. turned turn self.new
+        ensures is { IfOk result (λ turn. turned turn self.new
             ≡ popping_all (length order.now) (machine_of self.old) (λ values m.
             having (ordered order.now values) (λ values.
             having (slice_get code.now.types of) (λ one. makes of tag home.now values one m)))) }
+        ensures quiet { IsQuiet (came_still result) self.old.world self.new.world }
     {
         let Some(cells) = self.pop_all(alloc, order.len())? else {
             return Ok(Turn::Stuck);

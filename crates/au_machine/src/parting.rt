@@ -5,8 +5,9 @@ ghost use Rattle.au_effects.specs.Worlds.{spends};
 ghost use Rattle.au_low.specs.Machines.{in_world, popping, slots_filled};
 ghost use Rattle.au_low.specs.Instructions.{apart, takes_record, goes_to_case};
 ghost use Rattle.au_cells.specs.Cells.{lows};
-ghost use Rattle.au_machine.specs.States.{machine_of, turned, most_place};
+ghost use Rattle.au_machine.specs.States.{machine_of, turned, most_place, IsQuiet, came_still, told};
 
+use crate::jumping::has_label;
 use crate::states::{State, Turn};
 use au_base::Memory;
 use au_cells::forms::into_parts;
@@ -31,6 +32,9 @@ impl State {
         ensures is { IfOk result (λ done. (if done then Some (machine_of self.new) else None)
             ≡ slots_filled slot (lows fields.items)
             (in_world (spends birth (machine_of self.old).world) (machine_of self.old))) }
+        ensures kept { IfOk result (λ done. (if done then told self.old.world else told self.new.world)
+            ≡ told self.old.world) }
+        ensures function { OnOk result (self.new.function ≡ self.old.function) }
         ensures place { OnOk result (self.new.place ≡ self.old.place) }
     {
         let done = self.world.take_apart(slot, birth, fields)?;
@@ -38,10 +42,12 @@ impl State {
     }
 
     /// Pops a record, and puts its fields into slots from one on.
+    #[inline(never)]
     pub fn take_record(&mut self, slot: u32) -> Result<Turn, Memory>
         requires { self.now.place < most_place }
-        ensures { IfOk result (λ turn. turned turn self.new ≡ popping (machine_of self.old).operands
+        ensures is { IfOk result (λ turn. turned turn self.new ≡ popping (machine_of self.old).operands
             (machine_of self.old) (λ value m. apart value slot m takes_record)) }
+        ensures quiet { IsQuiet (came_still result) self.old.world self.new.world }
     {
         let Some(cell) = self.pop() else {
             return Ok(Turn::Stuck);
@@ -59,9 +65,11 @@ impl State {
     }
 
     /// Pops a union's value, puts its fields into slots from one on, and goes to the label of its case.
+    #[inline(never)]
     pub fn take_case(&mut self, code: &Code, slot: u32, labels: &[u32]) -> Result<Turn, Memory>
-        ensures { IfOk result (λ turn. turned turn self.new ≡ popping (machine_of self.old).operands
+        ensures is { IfOk result (λ turn. turned turn self.new ≡ popping (machine_of self.old).operands
             (machine_of self.old) (λ value m. apart value slot m (goes_to_case code.now labels.now))) }
+        ensures quiet { IsQuiet (came_still result) self.old.world self.new.world }
     {
         let Some(cell) = self.pop() else {
             return Ok(Turn::Stuck);
@@ -72,6 +80,9 @@ impl State {
         let Some(label) = label_of(labels, tag) else {
             return Ok(Turn::Stuck);
         };
+        if !has_label(code, self.function, label) {
+            return Ok(Turn::Stuck);
+        }
         if !self.spread(slot, birth, fields)? {
             return Ok(Turn::Stuck);
         }

@@ -2,6 +2,7 @@
 
 ghost use Rattle.std.specs.Prelude.{
   ◌≡◌,
+  [],
   List,
   map,
   reverse,
@@ -132,8 +133,26 @@ impl State {
             (λ cells. (go : List Low → Machine → Next) → popping_all count (machine_of self.old) go
             ≡ go (reverse (lows cells.items)) (machine_of self.new))) }
         ensures place { OnOk result (self.new.place ≡ self.old.place) }
+        ensures world { OnOk result (self.new.world ≡ self.old.world) }
     {
-        let mut cells = Vec::new(alloc);
+        self.pop_into(Vec::new(alloc), count)
+    }
+
+    /// The same, into an empty vector.
+    ///
+    /// # Errors
+    ///
+    /// `Memory` when memory runs out.
+    pub fn pop_into(&mut self, cells: Vec<Cell>, count: usize) -> Result<Option<Vec<Cell>>, Memory>
+        requires { cells.items ≡ [] }
+        ensures is { IfOk result (λ found. MatchOption found
+            ((go : List Low → Machine → Next) → popping_all count (machine_of self.old) go ≡ stuck)
+            (λ cells. (go : List Low → Machine → Next) → popping_all count (machine_of self.old) go
+            ≡ go (reverse (lows cells.items)) (machine_of self.new))) }
+        ensures place { OnOk result (self.new.place ≡ self.old.place) }
+        ensures world { OnOk result (self.new.world ≡ self.old.world) }
+    {
+        let mut cells = cells;
         for _index in 0..count {
             match self.pop() {
                 Some(cell) => cells.push(cell)?,

@@ -6,7 +6,7 @@ ghost use Rattle.au_effects.specs.Numbers.{truth_word};
 ghost use Rattle.au_low.specs.Instructions.{answered, text_bytes};
 ghost use Rattle.au_cells.specs.Cells.{low};
 ghost use Rattle.au_stores.specs.Stores.{world_of};
-ghost use Rattle.au_machine.specs.States.{machine_of, turned, most_place};
+ghost use Rattle.au_machine.specs.States.{machine_of, turned, most_place, IsQuiet, came_still, is_still};
 
 use crate::states::{State, Turn};
 use au_base::Memory;
@@ -42,9 +42,10 @@ impl State {
     /// `Memory` when memory runs out, as in the calls below.
     pub fn print_text(&mut self, code: &Code, line: bool, text: &Cell) -> Result<Turn, Memory>
         requires { self.now.place < most_place }
-        ensures { IfOk result (λ turn. turned turn self.new
+        ensures is { IfOk result (λ turn. turned turn self.new
             ≡ answered (call.print_text (text_bytes code.now) line (world_of self.old.world) (low text.now))
             (machine_of self.old)) }
+        ensures quiet { IsQuiet (came_still result) self.old.world self.new.world }
     {
         match text_in(text) {
             Some(number) => self.write_out(line, text_of(code, number)),
@@ -55,9 +56,10 @@ impl State {
     /// `print` and `printLn` of an integer.
     pub fn print_number(&mut self, line: bool, number: &Cell) -> Result<Turn, Memory>
         requires { self.now.place < most_place }
-        ensures { IfOk result (λ turn. turned turn self.new
+        ensures is { IfOk result (λ turn. turned turn self.new
             ≡ answered (call.print_number line (world_of self.old.world) (low number.now))
             (machine_of self.old)) }
+        ensures quiet { IsQuiet (came_still result) self.old.world self.new.world }
     {
         match number_in(number) {
             Some((_kind, z)) => {
@@ -71,9 +73,10 @@ impl State {
     /// `print` and `printLn` of a Bool.
     pub fn print_truth(&mut self, line: bool, truth: &Cell) -> Result<Turn, Memory>
         requires { self.now.place < most_place }
-        ensures { IfOk result (λ turn. turned turn self.new
+        ensures is { IfOk result (λ turn. turned turn self.new
             ≡ answered (call.print_truth line (world_of self.old.world) (low truth.now))
             (machine_of self.old)) }
+        ensures quiet { IsQuiet (came_still result) self.old.world self.new.world }
     {
         match truth_in(truth) {
             Some(truth) => self.write_out(line, word_of(truth)),
@@ -82,12 +85,16 @@ impl State {
     }
 
     /// `abort`: aborts with a text.
-    pub fn abort(&self, text: &Cell) -> Turn
-        ensures { turned result self.now
-            ≡ answered (call.abort_call (world_of self.now.world) (low text.now)) (machine_of self.now) }
+    pub fn abort(&mut self, text: &Cell) -> Turn
+        ensures is { turned result self.new
+            ≡ answered (call.abort_call (world_of self.old.world) (low text.now)) (machine_of self.old) }
+        ensures quiet { IsQuiet (is_still result) self.old.world self.new.world }
     {
         match text_in(text) {
-            Some(number) => Turn::Aborts(AbortKind::Called(number)),
+            Some(number) => {
+                self.why = AbortKind::Called(number);
+                Turn::Aborts
+            }
             None => Turn::Stuck,
         }
     }
@@ -95,9 +102,10 @@ impl State {
     /// `spanLength`: pushes how many bytes a text has.
     pub fn span_length(&mut self, code: &Code, text: &Cell) -> Result<Turn, Memory>
         requires { self.now.place < most_place }
-        ensures { IfOk result (λ turn. turned turn self.new
+        ensures is { IfOk result (λ turn. turned turn self.new
             ≡ answered (call.span_length (text_bytes code.now) (world_of self.old.world) (low text.now))
             (machine_of self.old)) }
+        ensures quiet { IsQuiet (came_still result) self.old.world self.new.world }
     {
         match text_in(text) {
             Some(number) => self.push(Cell::Index(text_of(code, number).len() as u64)),

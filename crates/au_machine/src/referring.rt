@@ -5,7 +5,7 @@ ghost use Rattle.au_effects.specs.Values.{reference};
 ghost use Rattle.au_effects.specs.Calls.{reference_in};
 ghost use Rattle.au_low.specs.Machines.{pushes, popping, having};
 ghost use Rattle.au_low.specs.Instructions.{reference_at, reads_at, behind, puts, uses};
-ghost use Rattle.au_machine.specs.States.{machine_of, turned, most_place};
+ghost use Rattle.au_machine.specs.States.{machine_of, turned, most_place, IsQuiet, came_still};
 
 use crate::states::{State, Turn};
 use au_base::Memory;
@@ -20,10 +20,12 @@ impl State {
     /// # Errors
     ///
     /// `Memory` when memory runs out, as in the calls below.
+    #[inline(never)]
     pub fn deref(&mut self, alloc: Global) -> Result<Turn, Memory>
         requires { self.now.place < most_place }
-        ensures { IfOk result (λ turn. turned turn self.new ≡ popping (machine_of self.old).operands
+        ensures is { IfOk result (λ turn. turned turn self.new ≡ popping (machine_of self.old).operands
             (machine_of self.old) (λ value m. having (reference_in value) (λ one. reads_at one.0 one.1 m))) }
+        ensures quiet { IsQuiet (came_still result) self.old.world self.new.world }
     {
         let Some(cell) = self.pop() else {
             return Ok(Turn::Stuck);
@@ -40,10 +42,13 @@ impl State {
     }
 
     /// Pushes a copy of a part of what the reference in a slot reaches.
+    #[inline(never)]
     pub fn read(&mut self, alloc: Global, slot: u32, path: &[u32]) -> Result<Turn, Memory>
         requires { self.now.place < most_place }
-        ensures { IfOk result (λ turn. turned turn self.new ≡ having (reference_at slot (machine_of self.old))
+        ensures is { IfOk result (λ turn. turned turn self.new
+            ≡ having (reference_at slot (machine_of self.old))
             (λ one. reads_at one.0 (behind one.1 path.now) (machine_of self.old))) }
+        ensures quiet { IsQuiet (came_still result) self.old.world self.new.world }
     {
         let Some(cell) = self.held(slot) else {
             return Ok(Turn::Stuck);
@@ -61,10 +66,13 @@ impl State {
     }
 
     /// Pushes a reference to a part of what the reference in a slot reaches.
+    #[inline(never)]
     pub fn part_of(&mut self, alloc: Global, slot: u32, path: &[u32]) -> Result<Turn, Memory>
         requires { self.now.place < most_place }
-        ensures { IfOk result (λ turn. turned turn self.new ≡ having (reference_at slot (machine_of self.old))
+        ensures is { IfOk result (λ turn. turned turn self.new
+            ≡ having (reference_at slot (machine_of self.old))
             (λ one. pushes (reference one.0 (behind one.1 path.now)) (machine_of self.old))) }
+        ensures quiet { IsQuiet (came_still result) self.old.world self.new.world }
     {
         let Some(cell) = self.held(slot) else {
             return Ok(Turn::Stuck);
@@ -78,11 +86,13 @@ impl State {
     }
 
     /// Pops into a part of what the reference in a slot reaches.
+    #[inline(never)]
     pub fn put_through(&mut self, alloc: Global, slot: u32, path: &[u32]) -> Result<Turn, Memory>
         requires { self.now.place < most_place }
-        ensures { IfOk result (λ turn. turned turn self.new
+        ensures is { IfOk result (λ turn. turned turn self.new
             ≡ having (reference_at slot (machine_of self.old)) (λ one. popping (machine_of self.old).operands
             (machine_of self.old) (λ value m. puts (behind one.1 path.now) value (uses one.0 m)))) }
+        ensures quiet { IsQuiet (came_still result) self.old.world self.new.world }
     {
         let Some(cell) = self.pop() else {
             return Ok(Turn::Stuck);

@@ -9,7 +9,7 @@ ghost use Rattle.au_effects.specs.Calls as call;
 ghost use Rattle.au_low.specs.Instructions.{answered};
 ghost use Rattle.au_cells.specs.Cells.{low};
 ghost use Rattle.au_stores.specs.Stores.{world_of, reached_by};
-ghost use Rattle.au_machine.specs.States.{machine_of, turned, most_place};
+ghost use Rattle.au_machine.specs.States.{machine_of, turned, most_place, IsQuiet, came_still};
 
 use crate::states::{State, Turn};
 use au_base::Memory;
@@ -64,8 +64,9 @@ impl State {
     /// `Memory` when memory runs out, as in the calls below.
     pub fn surrender_root(&mut self, root: &Cell) -> Result<Turn, Memory>
         requires { self.now.place < most_place }
-        ensures { IfOk result (λ turn. turned turn self.new
+        ensures is { IfOk result (λ turn. turned turn self.new
             ≡ answered (call.surrender_root (world_of self.old.world) (low root.now)) (machine_of self.old)) }
+        ensures quiet { IsQuiet (came_still result) self.old.world self.new.world }
     {
         let Some(id) = root_in(root) else {
             return Ok(Turn::Stuck);
@@ -82,9 +83,10 @@ impl State {
         reference: &Cell,
     ) -> Result<Turn, Memory>
         requires { self.now.place < most_place }
-        ensures { IfOk result (λ turn. turned turn self.new
+        ensures is { IfOk result (λ turn. turned turn self.new
             ≡ answered (call.acquire_terminal (Some of) (world_of self.old.world) (low reference.now))
             (machine_of self.old)) }
+        ensures quiet { IsQuiet (came_still result) self.old.world self.new.world }
     {
         let one = self.world.acquire_terminal(alloc, of, reference)?;
         self.answer(one)
@@ -93,9 +95,10 @@ impl State {
     /// `releaseTerminal`: consumes a terminal.
     pub fn release_terminal(&mut self, terminal: &Cell) -> Result<Turn, Memory>
         requires { self.now.place < most_place }
-        ensures { IfOk result (λ turn. turned turn self.new
+        ensures is { IfOk result (λ turn. turned turn self.new
             ≡ answered (call.release_terminal (world_of self.old.world) (low terminal.now))
             (machine_of self.old)) }
+        ensures quiet { IsQuiet (came_still result) self.old.world self.new.world }
     {
         let Some(id) = terminal_in(terminal) else {
             return Ok(Turn::Stuck);
@@ -107,9 +110,10 @@ impl State {
     /// `writeByte`: writes a byte to the terminal that a reference reaches.
     pub fn write_byte(&mut self, reference: &Cell, byte: &Cell) -> Result<Turn, Memory>
         requires { self.now.place < most_place }
-        ensures { IfOk result (λ turn. turned turn self.new
+        ensures is { IfOk result (λ turn. turned turn self.new
             ≡ answered (call.write_byte (world_of self.old.world) (low reference.now) (low byte.now))
             (machine_of self.old)) }
+        ensures quiet { IsQuiet (came_still result) self.old.world self.new.world }
     {
         let Some((borrow, _id)) = terminal_reached(&self.world, reference) else {
             return Ok(Turn::Stuck);
@@ -140,9 +144,10 @@ impl State {
         reference: &Cell,
     ) -> Result<Turn, Memory>
         requires { self.now.place < most_place }
-        ensures { IfOk result (λ turn. turned turn self.new
+        ensures is { IfOk result (λ turn. turned turn self.new
             ≡ answered (call.byte_read byte (world_of self.old.world) (low reference.now))
             (machine_of self.old)) }
+        ensures quiet { IsQuiet (came_still result) self.old.world self.new.world }
     {
         let Some((borrow, _id)) = terminal_reached(&self.world, reference) else {
             return Ok(Turn::Stuck);

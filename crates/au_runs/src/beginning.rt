@@ -10,6 +10,7 @@ use au_base::Memory;
 use au_low::{Code, Function};
 use au_machine::State;
 use au_piles::Piles;
+use au_shipped::AbortKind;
 use au_stores::World;
 use std::alloc::Global;
 
@@ -26,6 +27,7 @@ fn first_state(alloc: Global, world: World) -> State
         backs: Vec::new(alloc),
         world,
         bytes: Vec::new(alloc),
+        why: AbortKind::Arithmetic,
     }
 }
 

@@ -57,6 +57,7 @@ fn waits_at_top(state: &State) -> bool
 }
 
 /// Whether a shipped call waits for a byte.
+#[inline(never)]
 fn waits_in(state: &State, call: ShippedCall, of: Option<u32>, order: &[u32]) -> bool
     ensures { result ≡ waits_in call of order.now (machine_of state.now) }
 {
@@ -64,6 +65,7 @@ fn waits_in(state: &State, call: ShippedCall, of: Option<u32>, order: &[u32]) ->
 }
 
 /// Whether an instruction waits for a byte.
+#[inline(always)]
 pub fn waits(state: &State, instr: &Instr) -> bool
     ensures { (code : Code) → result ≡ is_waiting (act code instr.now (machine_of state.now)) }
 {

@@ -66,6 +66,7 @@ pub fn pop_one(state: &mut State, order: &[u32]) -> Option<Cell>
         (λ a. (go : List Low → Machine → Next)
         → arguments 1 order.now (machine_of state.old) go ≡ go (low a ∷ []) (machine_of state.new)) }
     ensures place { state.new.place ≡ state.old.place }
+    ensures world { state.new.world ≡ state.old.world }
 {
     let a = state.pop()?;
     if !is_of_one(order) {
@@ -81,6 +82,7 @@ pub fn pop_pair(state: &mut State, order: &[u32]) -> Option<(Cell, Cell)>
         (λ p. (go : List Low → Machine → Next) → arguments 2 order.now (machine_of state.old) go
         ≡ go (low p.0 ∷ low p.1 ∷ []) (machine_of state.new)) }
     ensures place { state.new.place ≡ state.old.place }
+    ensures world { state.new.world ≡ state.old.world }
 {
     let b = state.pop()?;
     let a = state.pop()?;
@@ -143,6 +145,7 @@ fn popped_three(state: &mut State) -> Option<(Cell, Cell, Cell)>
         (λ p. (go : List Low → Machine → Next) → popping_all 3 (machine_of state.old) go
         ≡ go (low p.0 ∷ low p.1 ∷ low p.2 ∷ []) (machine_of state.new)) }
     ensures place { state.new.place ≡ state.old.place }
+    ensures world { state.new.world ≡ state.old.world }
 {
     let c = state.pop()?;
     let b = state.pop()?;
@@ -165,6 +168,7 @@ pub fn pop_three(
         (λ p. (go : List Low → Machine → Next) → arguments 3 order.now (machine_of state.old) go
         ≡ go (low p.0 ∷ low p.1 ∷ low p.2 ∷ []) (machine_of state.new))) }
     ensures place { OnOk result (state.new.place ≡ state.old.place) }
+    ensures world { OnOk result (state.new.world ≡ state.old.world) }
 {
     let Some((a, b, c)) = popped_three(state) else {
         return Ok(None);

@@ -1,6 +1,6 @@
 //! The steps of a machine that runs lowered code.
 //!
-//! - `act` does an instruction, `next` does the next one, and `hear` goes on with one that waited for a byte
+//! - `fetched` finds the next instruction, `act` does one, and `hear` goes on with one that waited for a byte
 //!   of the input. Each says that its turn, and the state after it, are what the definitions of the same
 //!   names make of the state before it.
 //! - The instructions that `au_machine` has not are here: those of loops, `WRAP`, `CALL` and `PRIM`.
@@ -12,4 +12,4 @@ pub mod looping;
 pub mod shipping;
 pub mod steps;
 
-pub use steps::{act, hear, next};
+pub use steps::{act, fetched, hear};

@@ -4,7 +4,7 @@ ghost use Rattle.std.specs.Prelude.{◌≡◌, ◌<◌, ◌∷◌, [], IfOk, nat
 ghost use Rattle.au_effects.specs.Calls.{arity, shipped, of_one, byte_read};
 ghost use Rattle.au_low.specs.Machines.{where_true};
 ghost use Rattle.au_low.specs.Instructions.{answered, is_type, shipped_arguments, text_bytes};
-ghost use Rattle.au_machine.specs.States.{machine_of, turned, most_place};
+ghost use Rattle.au_machine.specs.States.{machine_of, turned, most_place, IsQuiet, came_still};
 ghost use Rattle.au_steps.specs.Orders.{arguments};
 
 use crate::arguing::{pop_one, pop_pair, pop_three};
@@ -40,8 +40,9 @@ fn with_none(
 ) -> Result<Turn, Memory>
     requires place { state.now.place < most_place }
     requires arity { arity call ≡ 0 }
-    ensures { IfOk result (λ turn. turned turn state.new ≡ arguments 0 order.now (machine_of state.old)
+    ensures is { IfOk result (λ turn. turned turn state.new ≡ arguments 0 order.now (machine_of state.old)
         (λ values m. answered (shipped (text_bytes code.now) call of m.world values) m)) }
+    ensures quiet { IsQuiet (came_still result) state.old.world state.new.world }
 {
     if !order.is_empty() {
         return Ok(Turn::Stuck);
@@ -62,8 +63,9 @@ fn with_one(
     order: &[u32],
 ) -> Result<Turn, Memory>
     requires { state.now.place < most_place }
-    ensures { IfOk result (λ turn. turned turn state.new ≡ arguments 1 order.now (machine_of state.old)
+    ensures is { IfOk result (λ turn. turned turn state.new ≡ arguments 1 order.now (machine_of state.old)
         (λ values m. answered (shipped (text_bytes code.now) call of m.world values) m)) }
+    ensures quiet { IsQuiet (came_still result) state.old.world state.new.world }
 {
     match pop_one(state, order) {
         Some(a) => state.shipped_with(alloc, code, call, of, a),
@@ -81,8 +83,9 @@ fn with_two(
     order: &[u32],
 ) -> Result<Turn, Memory>
     requires { state.now.place < most_place }
-    ensures { IfOk result (λ turn. turned turn state.new ≡ arguments 2 order.now (machine_of state.old)
+    ensures is { IfOk result (λ turn. turned turn state.new ≡ arguments 2 order.now (machine_of state.old)
         (λ values m. answered (shipped (text_bytes code.now) call of m.world values) m)) }
+    ensures quiet { IsQuiet (came_still result) state.old.world state.new.world }
 {
     match pop_pair(state, order) {
         Some((a, b)) => state.shipped_with_two(alloc, code, call, of, a, b),
@@ -100,8 +103,9 @@ fn with_three(
     order: &[u32],
 ) -> Result<Turn, Memory>
     requires { state.now.place < most_place }
-    ensures { IfOk result (λ turn. turned turn state.new ≡ arguments 3 order.now (machine_of state.old)
+    ensures is { IfOk result (λ turn. turned turn state.new ≡ arguments 3 order.now (machine_of state.old)
         (λ values m. answered (shipped (text_bytes code.now) call of m.world values) m)) }
+    ensures quiet { IsQuiet (came_still result) state.old.world state.new.world }
 {
     match pop_three(state, alloc, order)? {
         Some((a, b, c)) => state.shipped_with_three(code, call, of, a, b, c),
@@ -110,6 +114,7 @@ fn with_three(
 }
 
 /// Pops the arguments of a shipped call, and does it.
+#[inline(never)]
 pub fn ship(
     state: &mut State,
     alloc: Global,
@@ -119,9 +124,10 @@ pub fn ship(
     order: &[u32],
 ) -> Result<Turn, Memory>
     requires { state.now.place < most_place }
-    ensures { IfOk result (λ turn. turned turn state.new ≡ where_true (is_type code.now of)
+    ensures is { IfOk result (λ turn. turned turn state.new ≡ where_true (is_type code.now of)
         (shipped_arguments call order.now (machine_of state.old)
         (λ values m. answered (shipped (text_bytes code.now) call of m.world values) m))) }
+    ensures quiet { IsQuiet (came_still result) state.old.world state.new.world }
 {
     if !is_type(code, of) {
         return Ok(Turn::Stuck);
@@ -144,9 +150,10 @@ pub fn hear_call(
     order: &[u32],
 ) -> Result<Turn, Memory>
     requires { state.now.place < most_place }
-    ensures { IfOk result (λ turn. turned turn state.new
+    ensures is { IfOk result (λ turn. turned turn state.new
         ≡ shipped_arguments call order.now (machine_of state.old)
         (λ values m. answered (of_one (byte_read byte m.world) values) m)) }
+    ensures quiet { IsQuiet (came_still result) state.old.world state.new.world }
 {
     if arity(call) != 1 {
         return Ok(Turn::Stuck);

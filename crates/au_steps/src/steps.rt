@@ -1,28 +1,37 @@
-//! The steps of a machine: each instruction, the next one, and one that waited for a byte.
+//! The steps of a machine: the next instruction, what it does, and one that waited for a byte.
 
 ghost use Rattle.std.specs.Prelude.{◌≡◌, ◌<◌, slice_get, IfOk, IfSome};
 ghost use Rattle.std.specs.Option.{option_copied};
 ghost use Rattle.au_low.specs.Instructions.{act};
-ghost use Rattle.au_low.specs.Runs.{fetched, next, heard};
-ghost use Rattle.au_machine.specs.States.{machine_of, turned, came, most_place};
+ghost use Rattle.au_low.specs.Runs.{fetched, heard};
+ghost use Rattle.au_machine.specs.States.{machine_of, turned, came, most_place, IsQuiet, came_still};
 ghost use Rattle.au_steps.specs.Orders.{heard_by};
 
 use crate::calling::{call, function_at, wrap};
 use crate::looping::{for_step, for_test};
 use crate::shipping::{hear_call, ship};
 use au_base::Memory;
+use au_cells::Cell;
 use au_low::{Code, Function, Instr, Mode};
 use au_machine::{State, Turn};
 use std::alloc::Global;
 
-/// Does an instruction.
+/// Does an instruction. The room is for the arguments of a call.
 ///
 /// # Errors
 ///
 /// `Memory` when memory runs out.
-pub fn act(state: &mut State, alloc: Global, code: &Code, instr: &Instr) -> Result<Turn, Memory>
+#[inline(always)]
+pub fn act(
+    state: &mut State,
+    alloc: Global,
+    code: &Code,
+    room: &mut Vec<Cell>,
+    instr: &Instr,
+) -> Result<Turn, Memory>
     requires { state.now.place < most_place }
-    ensures { IfOk result (λ turn. came turn state.new (act code.now instr.now (machine_of state.old))) }
+    ensures is { IfOk result (λ turn. came turn state.new (act code.now instr.now (machine_of state.old))) }
+    ensures quiet { IsQuiet (came_still result) state.old.world state.new.world }
 {
     match instr {
         Instr::Push { kind, value } => state.push_number(*kind, *value),
@@ -59,7 +68,14 @@ pub fn act(state: &mut State, alloc: Global, code: &Code, instr: &Instr) -> Resu
         } => { state.make(alloc, code, *of, *tag, order.as_slice(), module) }
         Instr::Take(slot) => state.take_record(*slot),
         Instr::Case { slot, labels } => state.take_case(code, *slot, labels.as_slice()),
-        Instr::Call { function, order } => call(state, alloc, code, *function, order.as_slice()),
+        Instr::Call { function, order } => call(
+            state,
+            alloc,
+            code,
+            room,
+            *function,
+            order.as_slice(),
+        ),
         Instr::Shipped { call, of, order } => ship(
             state,
             alloc,
@@ -81,6 +97,7 @@ pub fn act(state: &mut State, alloc: Global, code: &Code, instr: &Instr) -> Resu
 }
 
 /// The instruction of a number.
+#[inline(always)]
 fn instr_at(function: &Function, place: usize) -> Option<&Instr>
     ensures is { option_copied result ≡ slice_get function.now.code place }
     ensures place { IfSome result (λ instr. place < most_place) }
@@ -89,6 +106,7 @@ fn instr_at(function: &Function, place: usize) -> Option<&Instr>
 }
 
 /// The instruction at the place that a state has reached.
+#[inline(always)]
 pub fn fetched<'a>(state: &State, code: &'a Code) -> Option<&'a Instr>
     ensures is { option_copied result ≡ fetched code.now (machine_of state.now) }
     ensures place { IfSome result (λ instr. state.now.place < most_place) }
@@ -96,20 +114,6 @@ pub fn fetched<'a>(state: &State, code: &'a Code) -> Option<&'a Instr>
     match function_at(code, state.function) {
         Some(function) => instr_at(function, state.place),
         None => None,
-    }
-}
-
-/// Does the next instruction. Where none is at the place that was reached, no rule applies.
-///
-/// # Errors
-///
-/// `Memory` when memory runs out.
-pub fn next(state: &mut State, alloc: Global, code: &Code) -> Result<Turn, Memory>
-    ensures { IfOk result (λ turn. came turn state.new (next code.now (machine_of state.old))) }
-{
-    match fetched(state, code) {
-        Some(instr) => act(state, alloc, code, instr),
-        None => Ok(Turn::Stuck),
     }
 }
 
@@ -121,7 +125,9 @@ fn hear_instr(
     byte: Option<u8>,
 ) -> Result<Turn, Memory>
     requires { state.now.place < most_place }
-    ensures { IfOk result (λ turn. turned turn state.new ≡ heard_by byte instr.now (machine_of state.old)) }
+    ensures is { IfOk result (λ turn. turned turn state.new
+        ≡ heard_by byte instr.now (machine_of state.old)) }
+    ensures quiet { IsQuiet (came_still result) state.old.world state.new.world }
 {
     match instr {
         Instr::Shipped {
@@ -139,7 +145,8 @@ fn hear_instr(
 ///
 /// `Memory` when memory runs out.
 pub fn hear(state: &mut State, alloc: Global, code: &Code, byte: Option<u8>) -> Result<Turn, Memory>
-    ensures { IfOk result (λ turn. came turn state.new (heard code.now byte (machine_of state.old))) }
+    ensures is { IfOk result (λ turn. came turn state.new (heard code.now byte (machine_of state.old))) }
+    ensures quiet { IsQuiet (came_still result) state.old.world state.new.world }
 {
     match fetched(state, code) {
         Some(instr) => hear_instr(state, alloc, instr, byte),

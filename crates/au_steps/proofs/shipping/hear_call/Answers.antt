@@ -10,13 +10,13 @@ use Rattle.au_steps.proofs.FrameLemmas.{in_its_world}
 use Rattle.au_steps.proofs.ShipLemmas.{unheard}
 use Rattle.au_steps.proofs.shipping.hear_call.Goals as goal
 
-pub returns-then-arity-ne1 : goal.returns-then-arity-ne1
-returns-then-arity-ne1 c =
+pub returns-then-arity-ne1-clause-is : goal.returns-then-arity-ne1-clause-is
+returns-then-arity-ne1-clause-is c =
     unheard c.args.call c.args.order.now (λ world. byte_read c.args.byte world)
     (machine_of c.args.state.now) (λ is. c.if-arity-ne1.true (c.arity.ensures ∙ is))
 
-pub returns-in-Some : goal.returns-in-Some
-returns-in-Some c =
+pub returns-in-Some-clause-is : goal.returns-in-Some-clause-is
+returns-in-Some-clause-is c =
     let one : LowWorld → List Low → Machine → Next =
     λ world values m. answered (of_one (byte_read c.args.byte world) values) m in
     let go : List Low → Machine → Next = λ values m. one m.world values m in
@@ -25,4 +25,4 @@ returns-in-Some c =
     (in_its_world left (λ world. one world (low c.in-Some.a ∷ []) (machine_of left))
     ∙ sym (c.in-Some.ensures.is go)
     ∙ ap (λ n. arguments n c.args.order.now (machine_of c.args.state.now) go)
-    (sym c.if-arity-ne1.false ∙ c.arity.ensures)) c.hear_byte.ensures
+    (sym c.if-arity-ne1.false ∙ c.arity.ensures)) c.hear_byte.ensures.is

@@ -8,8 +8,8 @@ use Rattle.au_steps.proofs.FrameLemmas.{in_its_world}
 use Rattle.au_steps.proofs.ShipLemmas.{with_nothing}
 use Rattle.au_steps.proofs.shipping.with_none.Goals as goal
 
-pub returns-in-Some : goal.returns-in-Some
-returns-in-Some c =
+pub returns-in-Some-clause-is : goal.returns-in-Some-clause-is
+returns-in-Some-clause-is c =
     let s = c.args.state.now in
     let m = machine_of s in
     let nothing = eqb-true _ 0 (sym c.is_empty.ensures ∙ c.if-not-is_empty.false) in
@@ -17,10 +17,10 @@ returns-in-Some c =
     (in_its_world s (λ world. answered (make_empty (Some c.in-Some.of) world) m)
     ∙ ap (λ (of : Option _). answered (make_empty of m.world) m) (sym c.in-Some.is)
     ∙ with_nothing (text_bytes c.args.code.now) c.args.call c.args.of c.args.order.now m c.requires.arity nothing)
-    c.make_empty.ensures
+    c.make_empty.ensures.is
 
-pub returns-in-None : goal.returns-in-None
-returns-in-None c =
+pub returns-in-None-clause-is : goal.returns-in-None-clause-is
+returns-in-None-clause-is c =
     let m = machine_of c.args.state.now in
     let nothing = eqb-true _ 0 (sym c.is_empty.ensures ∙ c.if-not-is_empty.false) in
     ap (λ (of : Option _). answered (make_empty of m.world) m) (sym c.in-None.is)

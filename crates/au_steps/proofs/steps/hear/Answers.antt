@@ -6,15 +6,15 @@ use Rattle.au_machine.proofs.StateLemmas.{came_from}
 use Rattle.au_steps.proofs.StepLemmas.{heard_is}
 use Rattle.au_steps.proofs.steps.hear.Goals as goal
 
-pub returns-in-Some : goal.returns-in-Some
-returns-in-Some c =
+pub returns-in-Some-clause-is : goal.returns-in-Some-clause-is
+returns-in-Some-clause-is c =
     let m = machine_of c.args.state.now in
     came_from c.hear_instr.result c.hear_instr.new.state _ _
     (heard_is c.args.code.now c.args.byte c.in-Some.instr.now m
     ∙ ap (λ (found : Option Instr). heard_if c.args.code.now c.args.byte found m) c.in-Some.ensures.is)
-    c.hear_instr.ensures
+    c.hear_instr.ensures.is
 
-pub returns-in-None : goal.returns-in-None
-returns-in-None c =
+pub returns-in-None-clause-is : goal.returns-in-None-clause-is
+returns-in-None-clause-is c =
     let m = machine_of c.args.state.now in
     ap (λ (found : Option Instr). heard_if c.args.code.now c.args.byte found m) c.in-None.ensures.is

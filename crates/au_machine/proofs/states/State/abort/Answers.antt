@@ -1,14 +1,13 @@
 use Rattle.std.proofs.Common.{ap, ◌∙◌, reverse, ℕ}
 use Rattle.au_effects.specs.Answers.{Answer, aborts, called}
 use Rattle.au_low.specs.Machines as machine
-use Rattle.au_low.specs.Machines.{Low, Machine, onward, pushed, pushes}
 use Rattle.au_stores.specs.Stores.{world_of}
 use Rattle.au_machine.specs.States.{machine_of}
 use Rattle.au_machine.proofs.ShippedLemmas.{own_world, from_found, from_none}
 use Rattle.au_machine.proofs.states.State.abort.Goals as goal
 
-pub returns-in-Some : goal.returns-in-Some
-returns-in-Some c =
+pub returns-in-Some-clause-is : goal.returns-in-Some-clause-is
+returns-in-Some-clause-is c =
     let s = c.args.self.now in
     let own = reverse s.backs.items in
     let w = world_of s.world in
@@ -17,8 +16,8 @@ returns-in-Some c =
     (own_world s.function s.place s.operands s.borrows own s.world)
     ∙ from_found _ _ go (machine_of s) c.in-Some.ensures
 
-pub returns-in-None : goal.returns-in-None
-returns-in-None c =
+pub returns-in-None-clause-is : goal.returns-in-None-clause-is
+returns-in-None-clause-is c =
     let s = c.args.self.now in
     let own = reverse s.backs.items in
     let w = world_of s.world in

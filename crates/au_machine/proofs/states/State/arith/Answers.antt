@@ -1,23 +1,18 @@
-use Rattle.std.proofs.Common.{ap, sym, ◌∙◌, reverse}
-use Rattle.au_machine.specs.States.{machine_of}
-use Rattle.au_low.specs.Machines.{Low, Machine, Next}
+use Rattle.std.proofs.Common.{sym}
+use Rattle.au_cells.specs.Cells.{low, result_of}
 use Rattle.au_low.specs.Instructions.{comes}
 use Rattle.au_effects.specs.Numbers.{computed}
-use Rattle.au_effects.specs.Answers.{Result}
+use Rattle.au_machine.specs.States.{machine_of}
+use Rattle.au_machine.proofs.NewestLemmas.{come_of_two}
 use Rattle.au_machine.proofs.StateLemmas.{come_to}
 use Rattle.au_machine.proofs.states.State.arith.Goals as goal
 
-pub returns-in-Some : goal.returns-in-Some
-returns-in-Some c =
-    let s = c.args.self.now in
-    let back = reverse s.backs.items in
-    let go : Low → Low → Machine → Next = λ a b m. comes (computed c.args.op c.args.kind a b) m in
+pub returns-in-Some-clause-is : goal.returns-in-Some-clause-is
+returns-in-Some-clause-is c =
     come_to c.come.result c.come.new.self _ _
-    (ap (λ (r : Result _). comes r (machine_of c.pop_two.new.self)) c.compute.ensures
-    ∙ sym (c.in-Some.ensures.is go)) c.come.ensures
+    (come_of_two (computed c.args.op c.args.kind) (low c.in-Some.field-0.0) (low c.in-Some.field-0.1) (machine_of c.args.self.now)
+    (machine_of c.pop_two.new.self) (result_of c.computed-computed.result) c.in-Some.ensures.is c.computed-computed.ensures)
+    c.come.ensures.is
 
-pub returns-in-None : goal.returns-in-None
-returns-in-None c =
-    let s = c.args.self.now in
-    let back = reverse s.backs.items in
-    sym (c.in-None.ensures.is (λ a b m. comes (computed c.args.op c.args.kind a b) m))
+pub returns-in-None-clause-is : goal.returns-in-None-clause-is
+returns-in-None-clause-is c = sym (c.in-None.ensures.is (λ a b m. comes (computed c.args.op c.args.kind a b) m))

@@ -10,30 +10,30 @@ use Rattle.au_machine.proofs.StateLemmas.{come_to}
 use Rattle.au_machine.proofs.CallingLemmas.{not_bearing}
 use Rattle.au_machine.proofs.states.State.bear_with.Goals as goal
 
-pub returns-in-MakeBox : goal.returns-in-MakeBox
+pub returns-in-MakeBox-clause-is : goal.returns-in-MakeBox-clause-is
 unfolding shipped
-returns-in-MakeBox c =
+returns-in-MakeBox-clause-is c =
     let s = c.args.self.now in
     let bytes_of = text_bytes c.args.code.now in
     let w = world_of s.world in
     let go : ShippedCall → Next =
     λ call. answered (shipped bytes_of call (Some c.args.of) w (low c.args.a ∷ [])) (machine_of s) in
     come_to c.make_box.result c.make_box.new.self _ _
-    (ap go (sym c.in-MakeBox.is)) c.make_box.ensures
+    (ap go (sym c.in-MakeBox.is)) c.make_box.ensures.is
 
-pub returns-in-AcquireTerminal : goal.returns-in-AcquireTerminal
+pub returns-in-AcquireTerminal-clause-is : goal.returns-in-AcquireTerminal-clause-is
 unfolding shipped
-returns-in-AcquireTerminal c =
+returns-in-AcquireTerminal-clause-is c =
     let s = c.args.self.now in
     let bytes_of = text_bytes c.args.code.now in
     let w = world_of s.world in
     let go : ShippedCall → Next =
     λ call. answered (shipped bytes_of call (Some c.args.of) w (low c.args.a ∷ [])) (machine_of s) in
     come_to c.acquire_terminal.result c.acquire_terminal.new.self _ _
-    (ap go (sym c.in-AcquireTerminal.is)) c.acquire_terminal.ensures
+    (ap go (sym c.in-AcquireTerminal.is)) c.acquire_terminal.ensures.is
 
-pub returns-in_default : goal.returns-in_default
-returns-in_default c =
+pub returns-in_default-clause-is : goal.returns-in_default-clause-is
+returns-in_default-clause-is c =
     let s = c.args.self.now in
     not_bearing (text_bytes c.args.code.now) c.args.of (world_of s.world) (low c.args.a)
     (machine_of s) c.args.call

@@ -8,16 +8,16 @@ use Rattle.au_machine.specs.States.{place_in}
 use Rattle.au_machine.proofs.StateLemmas.{come_to}
 use Rattle.au_machine.proofs.states.State.borrow.Goals as goal
 
-pub returns-in_default : goal.returns-in_default
-returns-in_default c =
+pub returns-in_default-clause-is : goal.returns-in_default-clause-is
+returns-in_default-clause-is c =
     let s = c.args.self.now in
     let back = reverse s.backs.items in
     let go : Option Place → Next = λ found. having found
     (λ place. pushes (new_reference place (machine_of s)) (borrowed (machine_of s))) in
     ap go (ap (option_map place_in) (sym c.in_default.is) ∙ c.in_ok-start.ensures)
 
-pub returns : goal.returns
-returns c =
+pub returns-clause-is : goal.returns-clause-is
+returns-clause-is c =
     let s = c.args.self.now in
     let back = reverse s.backs.items in
     let at = place_in (c.in-Some.start, c.in-Some.path) in
@@ -27,4 +27,4 @@ returns c =
     come_to c.push.result c.push.new.self _ _
     (ap (λ (v : Low). pushes v (machine_of c.lend.new.self)) c.in_ok-cell.ensures.cell
     ∙ ap (λ (all : Machine). pushes (new_reference at m) all) c.in_ok-cell.ensures.new ∙ ap go
-    (ap (option_map place_in) (sym c.in-Some.is) ∙ c.in_ok-start.ensures)) c.push.ensures
+    (ap (option_map place_in) (sym c.in-Some.is) ∙ c.in_ok-start.ensures)) c.push.ensures.is

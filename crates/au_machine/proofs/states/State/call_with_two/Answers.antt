@@ -10,52 +10,52 @@ use Rattle.au_machine.proofs.StateLemmas.{come_to}
 use Rattle.au_machine.proofs.CallingLemmas.{not_of_two}
 use Rattle.au_machine.proofs.states.State.call_with_two.Goals as goal
 
-pub returns-in-Swap : goal.returns-in-Swap
+pub returns-in-Swap-clause-is : goal.returns-in-Swap-clause-is
 unfolding shipped
-returns-in-Swap c =
+returns-in-Swap-clause-is c =
     let s = c.args.self.now in
     let bytes_of = text_bytes c.args.code.now in
     let w = world_of s.world in
     let go : ShippedCall → Next =
     λ call. answered (shipped bytes_of call None w (low c.args.a ∷ low c.args.b ∷ [])) (machine_of s) in
     come_to c.swap.result c.swap.new.self _ _
-    (ap go (sym c.in-Swap.is)) c.swap.ensures
+    (ap go (sym c.in-Swap.is)) c.swap.ensures.is
 
-pub returns-in-InsertBack : goal.returns-in-InsertBack
+pub returns-in-InsertBack-clause-is : goal.returns-in-InsertBack-clause-is
 unfolding shipped
-returns-in-InsertBack c =
+returns-in-InsertBack-clause-is c =
     let s = c.args.self.now in
     let bytes_of = text_bytes c.args.code.now in
     let w = world_of s.world in
     let go : ShippedCall → Next =
     λ call. answered (shipped bytes_of call None w (low c.args.a ∷ low c.args.b ∷ [])) (machine_of s) in
     come_to c.insert_back.result c.insert_back.new.self _ _
-    (ap go (sym c.in-InsertBack.is)) c.insert_back.ensures
+    (ap go (sym c.in-InsertBack.is)) c.insert_back.ensures.is
 
-pub returns-in-Nth : goal.returns-in-Nth
+pub returns-in-Nth-clause-is : goal.returns-in-Nth-clause-is
 unfolding shipped
-returns-in-Nth c =
+returns-in-Nth-clause-is c =
     let s = c.args.self.now in
     let bytes_of = text_bytes c.args.code.now in
     let w = world_of s.world in
     let go : ShippedCall → Next =
     λ call. answered (shipped bytes_of call None w (low c.args.a ∷ low c.args.b ∷ [])) (machine_of s) in
     come_to c.nth.result c.nth.new.self _ _
-    (ap go (sym c.in-Nth.is)) c.nth.ensures
+    (ap go (sym c.in-Nth.is)) c.nth.ensures.is
 
-pub returns-in-WriteByte : goal.returns-in-WriteByte
+pub returns-in-WriteByte-clause-is : goal.returns-in-WriteByte-clause-is
 unfolding shipped
-returns-in-WriteByte c =
+returns-in-WriteByte-clause-is c =
     let s = c.args.self.now in
     let bytes_of = text_bytes c.args.code.now in
     let w = world_of s.world in
     let go : ShippedCall → Next =
     λ call. answered (shipped bytes_of call None w (low c.args.a ∷ low c.args.b ∷ [])) (machine_of s) in
     come_to c.write_byte.result c.write_byte.new.self _ _
-    (ap go (sym c.in-WriteByte.is)) c.write_byte.ensures
+    (ap go (sym c.in-WriteByte.is)) c.write_byte.ensures.is
 
-pub returns : goal.returns
-returns c =
+pub returns-clause-is : goal.returns-clause-is
+returns-clause-is c =
     let s = c.args.self.now in
     not_of_two (text_bytes c.args.code.now) (world_of s.world) (low c.args.a) (low c.args.b)
     (machine_of s) c.args.call

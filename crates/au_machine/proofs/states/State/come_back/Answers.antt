@@ -8,8 +8,8 @@ use Rattle.au_cells.specs.declared.cells.Cell.{Cell}
 use Rattle.au_machine.proofs.WorldLemmas.{came_back, all_closed, next_is}
 use Rattle.au_machine.proofs.states.State.come_back.Goals as goal
 
-pub returns : goal.returns
-returns c =
+pub returns-clause-is : goal.returns-clause-is
+returns-clause-is c =
     let s = c.args.self.now in
     let back = reverse s.backs.items in
     let w = s.world in

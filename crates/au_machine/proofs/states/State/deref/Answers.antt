@@ -8,8 +8,8 @@ use Rattle.au_machine.proofs.StateLemmas.{come_to, popped_one}
 use Rattle.au_machine.proofs.WorldLemmas.{reads_is, reads_none}
 use Rattle.au_machine.proofs.states.State.deref.Goals as goal
 
-pub returns-in_default-at : goal.returns-in_default-at
-returns-in_default-at c =
+pub returns-in_default-at-clause-is : goal.returns-in_default-at-clause-is
+returns-in_default-at-clause-is c =
     let s = c.args.self.now in
     let back = reverse s.backs.items in
     let m = c.pop.new.self in
@@ -20,8 +20,8 @@ returns-in_default-at c =
     (λ one. reads_at one.0 one.1 (machine_of m))) c.in-Some-reference_in.ensures
     ∙ sym (popped_one (machine_of s) (machine_of m) _ go c.in-Some.ensures.is)
 
-pub returns : goal.returns
-returns c =
+pub returns-clause-is : goal.returns-clause-is
+returns-clause-is c =
     let s = c.args.self.now in
     let back = reverse s.backs.items in
     let m = c.pop.new.self in
@@ -32,4 +32,4 @@ returns c =
     c.in_ok-copy.ensures c.in_ok-tell_use.ensures.world c.in_ok-tell_use.ensures.frame c.in-Some-at.ensures
     ∙ ap (λ (found : Option (ℕ × Place)). having found
     (λ one. reads_at one.0 one.1 (machine_of m))) c.in-Some-reference_in.ensures
-    ∙ sym (popped_one (machine_of s) (machine_of m) _ go c.in-Some.ensures.is)) c.push.ensures
+    ∙ sym (popped_one (machine_of s) (machine_of m) _ go c.in-Some.ensures.is)) c.push.ensures.is

@@ -11,16 +11,16 @@ use Rattle.au_machine.proofs.StateLemmas.{come_to}
 use Rattle.au_machine.proofs.ShippedLemmas.{answered_in, use_found, use_none}
 use Rattle.au_machine.proofs.states.State.hear_byte.Goals as goal
 
-pub returns-in_default : goal.returns-in_default
-returns-in_default c =
+pub returns-in_default-clause-is : goal.returns-in_default-clause-is
+returns-in_default-clause-is c =
     let s = c.args.self.now in
     let own = reverse s.backs.items in
     let w = world_of s.world in
     let go : ℕ → ℕ → Answer ℕ ℕ = λ b id. gives (optional (byte_value c.args.byte)) (tells (used b) w) in
     use_none terminal_in w go (low c.args.reference.now) (machine_of s) c.in_default.ensures
 
-pub returns : goal.returns
-returns c =
+pub returns-clause-is : goal.returns-clause-is
+returns-clause-is c =
     let s = c.args.self.now in
     let own = reverse s.backs.items in
     let w = world_of s.world in
@@ -32,4 +32,4 @@ returns c =
     c.in_ok-tell_use.ensures.frame
     ∙ use_found terminal_in w go (low c.args.reference.now)
     (machine_of s) c.in-Some.borrow c.in-Some._id c.in-Some.ensures)
-    c.answer.ensures
+    c.answer.ensures.is

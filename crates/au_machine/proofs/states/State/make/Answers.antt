@@ -12,8 +12,8 @@ use Rattle.au_machine.proofs.PoppingLemmas.{some_of, none_of}
 use Rattle.au_machine.proofs.StateLemmas.{come_to}
 use Rattle.au_machine.proofs.states.State.make.Goals as goal
 
-pub returns : goal.returns
-returns c =
+pub returns-clause-is : goal.returns-clause-is
+returns-clause-is c =
     let s = c.args.self.now in
     let back = reverse s.backs.items in
     let m = machine_of c.pop_all.new.self in
@@ -28,10 +28,10 @@ returns c =
     (λ values. made_if values (slice_get c.args.code.now.types c.args.of))) (ap (option_map cells_of)
     (sym c.in-Some-2.is) ∙ c.in_ok-fields.ensures)
     ∙ sym (some_of _ _ c.in_ok-cells.field-0 c.in-Some.cells c.in-Some.is c.in_ok-cells.ensures.is go))
-    c.make_of.ensures
+    c.make_of.ensures.is
 
-pub returns-in_default : goal.returns-in_default
-returns-in_default c =
+pub returns-in_default-clause-is : goal.returns-in_default-clause-is
+returns-in_default-clause-is c =
     let s = c.args.self.now in
     let back = reverse s.backs.items in
     let m = machine_of c.pop_all.new.self in
@@ -42,8 +42,8 @@ returns-in_default c =
     (λ type. makes c.args.of c.args.tag c.args.home.now values type m)) in
     sym (none_of _ _ c.in_ok-cells.field-0 c.in_default.is c.in_ok-cells.ensures.is go)
 
-pub returns-in_default-type_at : goal.returns-in_default-type_at
-returns-in_default-type_at c =
+pub returns-in_default-type_at-clause-is : goal.returns-in_default-type_at-clause-is
+returns-in_default-type_at-clause-is c =
     let s = c.args.self.now in
     let back = reverse s.backs.items in
     let m = machine_of c.pop_all.new.self in
@@ -58,8 +58,8 @@ returns-in_default-type_at c =
     (sym c.in-Some-2.is) ∙ c.in_ok-fields.ensures)
     ∙ sym (some_of _ _ c.in_ok-cells.field-0 c.in-Some.cells c.in-Some.is c.in_ok-cells.ensures.is go)
 
-pub returns-in_default-2 : goal.returns-in_default-2
-returns-in_default-2 c =
+pub returns-in_default-2-clause-is : goal.returns-in_default-2-clause-is
+returns-in_default-2-clause-is c =
     let s = c.args.self.now in
     let back = reverse s.backs.items in
     let m = machine_of c.pop_all.new.self in

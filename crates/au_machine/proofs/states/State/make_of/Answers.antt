@@ -6,8 +6,8 @@ use Rattle.au_machine.proofs.StateLemmas.{come_to}
 use Rattle.au_machine.proofs.WorldLemmas.{makes_born}
 use Rattle.au_machine.proofs.states.State.make_of.Goals as goal
 
-pub returns : goal.returns
-returns c =
+pub returns-clause-is : goal.returns-clause-is
+returns-clause-is c =
     let s = c.args.self.now in
     let back = reverse s.backs.items in
     let home = c.args.home.now in
@@ -17,4 +17,4 @@ returns c =
     c.in_ok-cell-2.ensures c.in_ok-id.ensures.id
     (c.in_ok-id.ensures.world ∙ ap (λ (name : List ℕ). bears c.args.of name nothing
     (world_of s.world)) c.as_bytes.ensures.bytes)
-    c.in_ok-id.ensures.frame c.if-not-one.false) c.push-2.ensures
+    c.in_ok-id.ensures.frame c.if-not-one.false) c.push-2.ensures.is

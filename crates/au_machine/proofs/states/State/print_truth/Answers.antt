@@ -4,15 +4,15 @@ use Rattle.au_effects.specs.Answers.{Answer, writes}
 use Rattle.au_effects.specs.Numbers.{truth_bytes}
 use Rattle.au_effects.specs.Calls.{in_line}
 use Rattle.au_low.specs.Machines as machine
-use Rattle.au_low.specs.Machines.{Low, Machine, onward, pushed, pushes}
+use Rattle.au_low.specs.Machines.{onward, pushed}
 use Rattle.au_stores.specs.Stores.{world_of}
 use Rattle.au_machine.specs.States.{machine_of}
 use Rattle.au_machine.proofs.StateLemmas.{come_to}
 use Rattle.au_machine.proofs.ShippedLemmas.{written_in, from_found, from_none}
 use Rattle.au_machine.proofs.states.State.print_truth.Goals as goal
 
-pub returns-in-Some : goal.returns-in-Some
-returns-in-Some c =
+pub returns-in-Some-clause-is : goal.returns-in-Some-clause-is
+returns-in-Some-clause-is c =
     let s = c.args.self.now in
     let own = reverse s.backs.items in
     let w = world_of s.world in
@@ -21,10 +21,10 @@ returns-in-Some c =
     (ap (λ (b : List ℕ). machine.writes (in_line c.args.line b) (onward (pushed unit
     (machine_of s)))) c.word_of.ensures
     ∙ written_in s.function s.place s.operands s.borrows own s.world s.world _ _ refl refl
-    ∙ from_found _ _ go (machine_of s) (ap truth_bytes c.in-Some.ensures)) c.write_out.ensures
+    ∙ from_found _ _ go (machine_of s) (ap truth_bytes c.in-Some.ensures)) c.write_out.ensures.is
 
-pub returns-in-None : goal.returns-in-None
-returns-in-None c =
+pub returns-in-None-clause-is : goal.returns-in-None-clause-is
+returns-in-None-clause-is c =
     let s = c.args.self.now in
     let own = reverse s.backs.items in
     let w = world_of s.world in

@@ -7,14 +7,14 @@ use Rattle.au_machine.proofs.StateLemmas.{world_changed}
 use Rattle.au_machine.proofs.WorldLemmas.{puts_in, popped_behind, nothing_behind}
 use Rattle.au_machine.proofs.states.State.put_through.Goals as goal
 
-pub returns-in_default : goal.returns-in_default
-returns-in_default c =
+pub returns-in_default-clause-is : goal.returns-in_default-clause-is
+returns-in_default-clause-is c =
     let s = c.args.self.now in
     let back = reverse s.backs.items in
     nothing_behind (machine_of s) c.args.slot c.args.path.now c.in_default.ensures.is
 
-pub returns-then-not-branch : goal.returns-then-not-branch
-returns-then-not-branch c =
+pub returns-then-not-branch-clause-is : goal.returns-then-not-branch-clause-is
+returns-then-not-branch-clause-is c =
     let s = c.args.self.now in
     let back = reverse s.backs.items in
     let m = c.pop.new.self in
@@ -26,13 +26,13 @@ returns-then-not-branch c =
     ∙ popped_behind (machine_of s) (machine_of m) c.args.slot c.args.path.now
     (low c.in-Some.cell) c.in-Some.ensures.is
 
-pub returns : goal.returns
-returns c =
+pub returns-clause-is : goal.returns-clause-is
+returns-clause-is c =
     let s = c.args.self.now in
     let back = reverse s.backs.items in
     let m = c.pop.new.self in
     let own = reverse m.backs.items in
-    c.go.ensures ∙ ap (λ (all : Machine). goes (onward all))
+    c.go.ensures.is ∙ ap (λ (all : Machine). goes (onward all))
     (world_changed m.function m.place m.operands m.borrows own m.world c.put_behind.new.self _ refl
     c.in_ok-put_behind.ensures.frame)
     ∙ ap (λ (found : Option LowWorld). having found (λ new. goes (onward (in_world new (machine_of m))))) (ap

@@ -4,15 +4,15 @@ use Rattle.au_low.specs.Instructions.{puts, slot_part}
 use Rattle.au_machine.proofs.StateLemmas.{popped_one, popped_none}
 use Rattle.au_machine.proofs.states.State.put_top.Goals as goal
 
-pub returns-in-Some : goal.returns-in-Some
-returns-in-Some c =
+pub returns-in-Some-clause-is : goal.returns-in-Some-clause-is
+returns-in-Some-clause-is c =
     let s = c.args.self.now in
     let back = reverse s.backs.items in
-    c.put.ensures ∙ sym (popped_one (machine_of s) (machine_of c.pop.new.self) _
+    c.put.ensures.is ∙ sym (popped_one (machine_of s) (machine_of c.pop.new.self) _
     (λ value m. puts (slot_part c.args.slot c.args.path.now m) value m) c.in-Some.ensures.is)
 
-pub returns-in-None : goal.returns-in-None
-returns-in-None c =
+pub returns-in-None-clause-is : goal.returns-in-None-clause-is
+returns-in-None-clause-is c =
     let s = c.args.self.now in
     let back = reverse s.backs.items in
     sym (popped_none (machine_of s)

@@ -9,15 +9,15 @@ use Rattle.au_machine.proofs.StateLemmas.{come_to}
 use Rattle.au_machine.proofs.WorldLemmas.{reads_is, reads_none}
 use Rattle.au_machine.proofs.states.State.read.Goals as goal
 
-pub returns-in_default : goal.returns-in_default
-returns-in_default c =
+pub returns-in_default-clause-is : goal.returns-in_default-clause-is
+returns-in_default-clause-is c =
     let s = c.args.self.now in
     let back = reverse s.backs.items in
     ap (λ (found : Option Low). having (along found reference_in)
     (λ one. reads_at one.0 (behind one.1 c.args.path.now) (machine_of s))) c.in_default.ensures.is
 
-pub returns-in_default-reference_in : goal.returns-in_default-reference_in
-returns-in_default-reference_in c =
+pub returns-in_default-reference_in-clause-is : goal.returns-in_default-reference_in-clause-is
+returns-in_default-reference_in-clause-is c =
     let s = c.args.self.now in
     let back = reverse s.backs.items in
     ap (λ (found : Option (ℕ × Place)). having found
@@ -25,8 +25,8 @@ returns-in_default-reference_in c =
     ∙ ap (λ (found : Option Low). having (along found reference_in)
     (λ one. reads_at one.0 (behind one.1 c.args.path.now) (machine_of s))) c.in-Some.ensures.is
 
-pub returns-in_default-at_behind : goal.returns-in_default-at_behind
-returns-in_default-at_behind c =
+pub returns-in_default-at_behind-clause-is : goal.returns-in_default-at_behind-clause-is
+returns-in_default-at_behind-clause-is c =
     let s = c.args.self.now in
     let back = reverse s.backs.items in
     reads_none s.function s.place s.operands s.borrows back s.world _ _ c.in_default-at_behind.ensures ∙ (ap
@@ -35,8 +35,8 @@ returns-in_default-at_behind c =
     (λ (found : Option Low). having (along found reference_in)
     (λ one. reads_at one.0 (behind one.1 c.args.path.now) (machine_of s))) c.in-Some.ensures.is)
 
-pub returns : goal.returns
-returns c =
+pub returns-clause-is : goal.returns-clause-is
+returns-clause-is c =
     let s = c.args.self.now in
     let back = reverse s.backs.items in
     come_to c.push.result c.push.new.self _ _
@@ -46,4 +46,4 @@ returns c =
     (λ one. reads_at one.0 (behind one.1 c.args.path.now) (machine_of s))) c.in-Some-reference_in.ensures ∙ ap
     (λ (found : Option Low). having (along found reference_in)
     (λ one. reads_at one.0 (behind one.1 c.args.path.now)
-    (machine_of s))) c.in-Some.ensures.is)) c.push.ensures
+    (machine_of s))) c.in-Some.ensures.is)) c.push.ensures.is

@@ -8,20 +8,20 @@ use Rattle.au_machine.specs.States.{machine_of}
 use Rattle.au_machine.proofs.StateLemmas.{come_to}
 use Rattle.au_machine.proofs.states.State.shipped_with.Goals as goal
 
-pub returns-in-Some : goal.returns-in-Some
-returns-in-Some c =
+pub returns-in-Some-clause-is : goal.returns-in-Some-clause-is
+returns-in-Some-clause-is c =
     let s = c.args.self.now in
     let bytes_of = text_bytes c.args.code.now in
     let w = world_of s.world in
     let go : Option ℕ → Next =
     λ of. answered (shipped bytes_of c.args.call of w (low c.args.a ∷ [])) (machine_of s) in
-    come_to c.bear_with.result c.bear_with.new.self _ _ (ap go (sym c.in-Some.is)) c.bear_with.ensures
+    come_to c.bear_with.result c.bear_with.new.self _ _ (ap go (sym c.in-Some.is)) c.bear_with.ensures.is
 
-pub returns-in-None : goal.returns-in-None
-returns-in-None c =
+pub returns-in-None-clause-is : goal.returns-in-None-clause-is
+returns-in-None-clause-is c =
     let s = c.args.self.now in
     let bytes_of = text_bytes c.args.code.now in
     let w = world_of s.world in
     let go : Option ℕ → Next =
     λ of. answered (shipped bytes_of c.args.call of w (low c.args.a ∷ [])) (machine_of s) in
-    come_to c.call_with.result c.call_with.new.self _ _ (ap go (sym c.in-None.is)) c.call_with.ensures
+    come_to c.call_with.result c.call_with.new.self _ _ (ap go (sym c.in-None.is)) c.call_with.ensures.is

@@ -9,8 +9,8 @@ use Rattle.au_machine.proofs.StateLemmas.{come_to}
 use Rattle.au_machine.proofs.CallingLemmas.{typed_three}
 use Rattle.au_machine.proofs.states.State.shipped_with_three.Goals as goal
 
-pub returns-in-Some : goal.returns-in-Some
-returns-in-Some c =
+pub returns-in-Some-clause-is : goal.returns-in-Some-clause-is
+returns-in-Some-clause-is c =
     let s = c.args.self.now in
     let bytes_of = text_bytes c.args.code.now in
     let w = world_of s.world in
@@ -20,8 +20,8 @@ returns-in-Some c =
     typed_three bytes_of _ w (low c.args.a) (low c.args.b) (low c.args.c)
     (machine_of s) c.args.call ∙ ap go (sym c.in-Some.is)
 
-pub returns-in-None : goal.returns-in-None
-returns-in-None c =
+pub returns-in-None-clause-is : goal.returns-in-None-clause-is
+returns-in-None-clause-is c =
     let s = c.args.self.now in
     let bytes_of = text_bytes c.args.code.now in
     let w = world_of s.world in
@@ -29,4 +29,4 @@ returns-in-None c =
     λ of. answered (shipped bytes_of c.args.call of w (low c.args.a ∷ low c.args.b ∷ low c.args.c ∷ []))
     (machine_of s) in
     come_to c.call_with_three.result c.call_with_three.new.self _ _ (ap go (sym c.in-None.is))
-    c.call_with_three.ensures
+    c.call_with_three.ensures.is

@@ -9,8 +9,8 @@ use Rattle.au_machine.proofs.StateLemmas.{come_to}
 use Rattle.au_machine.proofs.CallingLemmas.{typed_two}
 use Rattle.au_machine.proofs.states.State.shipped_with_two.Goals as goal
 
-pub returns-in-Some : goal.returns-in-Some
-returns-in-Some c =
+pub returns-in-Some-clause-is : goal.returns-in-Some-clause-is
+returns-in-Some-clause-is c =
     let s = c.args.self.now in
     let bytes_of = text_bytes c.args.code.now in
     let w = world_of s.world in
@@ -18,12 +18,12 @@ returns-in-Some c =
     λ of. answered (shipped bytes_of c.args.call of w (low c.args.a ∷ low c.args.b ∷ [])) (machine_of s) in
     typed_two bytes_of _ w (low c.args.a) (low c.args.b) (machine_of s) c.args.call ∙ ap go (sym c.in-Some.is)
 
-pub returns-in-None : goal.returns-in-None
-returns-in-None c =
+pub returns-in-None-clause-is : goal.returns-in-None-clause-is
+returns-in-None-clause-is c =
     let s = c.args.self.now in
     let bytes_of = text_bytes c.args.code.now in
     let w = world_of s.world in
     let go : Option ℕ → Next =
     λ of. answered (shipped bytes_of c.args.call of w (low c.args.a ∷ low c.args.b ∷ [])) (machine_of s) in
     come_to c.call_with_two.result c.call_with_two.new.self _ _ (ap go (sym c.in-None.is))
-    c.call_with_two.ensures
+    c.call_with_two.ensures.is

@@ -11,8 +11,8 @@ use Rattle.au_machine.proofs.StateLemmas.{come_to}
 use Rattle.au_machine.proofs.ShippedLemmas.{own_world, from_found, from_none}
 use Rattle.au_machine.proofs.states.State.span_length.Goals as goal
 
-pub returns-in-Some : goal.returns-in-Some
-returns-in-Some c =
+pub returns-in-Some-clause-is : goal.returns-in-Some-clause-is
+returns-in-Some-clause-is c =
     let s = c.args.self.now in
     let own = reverse s.backs.items in
     let w = world_of s.world in
@@ -21,10 +21,10 @@ returns-in-Some c =
     (ap (λ (v : Low). pushes v (machine_of s)) (index_is _)
     ∙ ap (λ n. pushes (number Index (pos n)) (machine_of s)) (ap length c.text_of.ensures)
     ∙ ap (pushes _) (own_world s.function s.place s.operands s.borrows own s.world)
-    ∙ from_found _ _ go (machine_of s) c.in-Some.ensures) c.push.ensures
+    ∙ from_found _ _ go (machine_of s) c.in-Some.ensures) c.push.ensures.is
 
-pub returns-in-None : goal.returns-in-None
-returns-in-None c =
+pub returns-in-None-clause-is : goal.returns-in-None-clause-is
+returns-in-None-clause-is c =
     let s = c.args.self.now in
     let own = reverse s.backs.items in
     let w = world_of s.world in

@@ -4,15 +4,15 @@ use Rattle.au_low.specs.Instructions.{stores}
 use Rattle.au_machine.proofs.StateLemmas.{popped_one, popped_none}
 use Rattle.au_machine.proofs.states.State.store_top.Goals as goal
 
-pub returns-in-Some : goal.returns-in-Some
-returns-in-Some c =
+pub returns-in-Some-clause-is : goal.returns-in-Some-clause-is
+returns-in-Some-clause-is c =
     let s = c.args.self.now in
     let back = reverse s.backs.items in
-    c.store.ensures ∙ sym (popped_one (machine_of s) (machine_of c.pop.new.self) _
+    c.store.ensures.is ∙ sym (popped_one (machine_of s) (machine_of c.pop.new.self) _
     (λ value m. stores c.args.slot value m) c.in-Some.ensures.is)
 
-pub returns-in-None : goal.returns-in-None
-returns-in-None c =
+pub returns-in-None-clause-is : goal.returns-in-None-clause-is
+returns-in-None-clause-is c =
     let s = c.args.self.now in
     let back = reverse s.backs.items in
     sym (popped_none (machine_of s) (λ value m. stores c.args.slot value m) c.in-None.ensures.is)

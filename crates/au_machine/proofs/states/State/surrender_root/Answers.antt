@@ -10,16 +10,16 @@ use Rattle.au_machine.proofs.StateLemmas.{come_to}
 use Rattle.au_machine.proofs.ShippedLemmas.{answered_in, from_found, from_none}
 use Rattle.au_machine.proofs.states.State.surrender_root.Goals as goal
 
-pub returns-in_default : goal.returns-in_default
-returns-in_default c =
+pub returns-in_default-clause-is : goal.returns-in_default-clause-is
+returns-in_default-clause-is c =
     let s = c.args.self.now in
     let own = reverse s.backs.items in
     let w = world_of s.world in
     let go : ℕ → Answer ℕ ℕ = λ id. gives unit (spends (Some id) w) in
     from_none _ go (machine_of s) c.in_default.ensures
 
-pub returns : goal.returns
-returns c =
+pub returns-clause-is : goal.returns-clause-is
+returns-clause-is c =
     let s = c.args.self.now in
     let own = reverse s.backs.items in
     let w = world_of s.world in
@@ -29,4 +29,4 @@ returns c =
     (ap (λ (v : Low). gives v (world_of c.spend.new.self)) unit_is
     ∙ ap (gives unit) c.in_ok-spend.ensures.world)
     c.in_ok-spend.ensures.frame
-    ∙ from_found _ _ go (machine_of s) c.in-Some.ensures) c.answer.ensures
+    ∙ from_found _ _ go (machine_of s) c.in-Some.ensures) c.answer.ensures.is

@@ -10,16 +10,16 @@ use Rattle.au_cells.specs.Cells.{apart_of}
 use Rattle.au_machine.proofs.WorldLemmas.{taken, not_taken, stuck_then, not_zero}
 use Rattle.au_machine.proofs.states.State.take_record.Goals as goal
 
-pub returns-in_default-into_parts : goal.returns-in_default-into_parts
-returns-in_default-into_parts c =
+pub returns-in_default-into_parts-clause-is : goal.returns-in_default-into_parts-clause-is
+returns-in_default-into_parts-clause-is c =
     let s = c.args.self.now in
     let back = reverse s.backs.items in
     let m = machine_of c.pop.new.self in
     not_taken (machine_of s) m (low c.in-Some.cell) c.args.slot takes_record c.in-Some.ensures.is
     c.in_default-into_parts.ensures
 
-pub returns-then-not-branch : goal.returns-then-not-branch
-returns-then-not-branch c =
+pub returns-then-not-branch-clause-is : goal.returns-then-not-branch-clause-is
+returns-then-not-branch-clause-is c =
     let s = c.args.self.now in
     let back = reverse s.backs.items in
     let m = machine_of c.pop.new.self in
@@ -31,8 +31,8 @@ returns-then-not-branch c =
     ∙ taken old m (low c.in-Some.cell)
     (apart_of parts) c.args.slot takes_record c.in-Some.ensures.is c.in-Some-into_parts.ensures
 
-pub returns-then-tag-ne0 : goal.returns-then-tag-ne0
-returns-then-tag-ne0 c =
+pub returns-then-tag-ne0-clause-is : goal.returns-then-tag-ne0-clause-is
+returns-then-tag-ne0-clause-is c =
     let s = c.args.self.now in
     let back = reverse s.backs.items in
     let m = machine_of c.pop.new.self in
@@ -45,14 +45,14 @@ returns-then-tag-ne0 c =
     ∙ taken old m (low c.in-Some.cell)
     (apart_of parts) c.args.slot takes_record c.in-Some.ensures.is c.in-Some-into_parts.ensures
 
-pub returns : goal.returns
-returns c =
+pub returns-clause-is : goal.returns-clause-is
+returns-clause-is c =
     let s = c.args.self.now in
     let back = reverse s.backs.items in
     let m = machine_of c.pop.new.self in
     let parts = c.in-Some-into_parts.field-0 in
     let old = machine_of s in
-    c.go.ensures ∙ ap (λ n. takes_record n (machine_of c.spread.new.self)) (sym c.if-tag-ne0.false)
+    c.go.ensures.is ∙ ap (λ n. takes_record n (machine_of c.spread.new.self)) (sym c.if-tag-ne0.false)
     ∙ ap (λ (found : Option Machine). having found (takes_record parts.tag)) (ap
     (λ b. if b then Some (machine_of c.spread.new.self) else None) (sym c.if-not-branch.false)
     ∙ c.in_ok-spread.ensures.is)

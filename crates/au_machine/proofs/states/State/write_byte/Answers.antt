@@ -11,8 +11,8 @@ use Rattle.au_machine.proofs.StateLemmas.{come_to}
 use Rattle.au_machine.proofs.ShippedLemmas.{written_in, from_found, from_none, use_found, use_none}
 use Rattle.au_machine.proofs.states.State.write_byte.Goals as goal
 
-pub returns-in_default : goal.returns-in_default
-returns-in_default c =
+pub returns-in_default-clause-is : goal.returns-in_default-clause-is
+returns-in_default-clause-is c =
     let s = c.args.self.now in
     let own = reverse s.backs.items in
     let w = world_of s.world in
@@ -20,8 +20,8 @@ returns-in_default c =
     (λ n. writes (n ∷ []) (tells (used b) w)) in
     use_none terminal_in w go (low c.args.reference.now) (machine_of s) c.in_default.ensures
 
-pub returns-in_default-byte_in : goal.returns-in_default-byte_in
-returns-in_default-byte_in c =
+pub returns-in_default-byte_in-clause-is : goal.returns-in_default-byte_in-clause-is
+returns-in_default-byte_in-clause-is c =
     let s = c.args.self.now in
     let own = reverse s.backs.items in
     let w = world_of s.world in
@@ -32,8 +32,8 @@ returns-in_default-byte_in c =
     ∙ use_found terminal_in w go (low c.args.reference.now)
     (machine_of s) c.in-Some.borrow c.in-Some._id c.in-Some.ensures
 
-pub returns : goal.returns
-returns c =
+pub returns-clause-is : goal.returns-clause-is
+returns-clause-is c =
     let s = c.args.self.now in
     let own = reverse s.backs.items in
     let w = world_of s.world in
@@ -46,4 +46,4 @@ returns c =
     (machine_of s) c.in-Some-byte_in.ensures
     ∙ use_found terminal_in w go (low c.args.reference.now)
     (machine_of s) c.in-Some.borrow c.in-Some._id c.in-Some.ensures)
-    c.write_out.ensures
+    c.write_out.ensures.is
