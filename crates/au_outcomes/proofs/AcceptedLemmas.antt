@@ -31,9 +31,11 @@ use Rattle.au_derivations.specs.Trees.{NotedParts}
 use Rattle.au_notes.specs.declared.faults.TypeFault.TheVariants as types
 use Rattle.au_noting_programs.specs.Faults.{IsDerived, type_fault}
 use Rattle.au_noting_programs.proofs.AcceptedLemmas as typing
-use Rattle.au_outsides.specs.Outsides.{outside_of}
 use Rattle.au_program_lives.specs.declared.faults.LinearFault.TheVariants as lives
 use Rattle.au_program_lives.specs.Good.{AllLivesAreGood}
+use Rattle.au_program_lives.specs.LinearFaults.{linear_fault}
+use Rattle.au_program_lives.proofs.AcceptedLemmas as living
+use Rattle.au_program_lives.proofs.GoodLemmas as living_well
 use Rattle.au_rules.specs.declared.faults.DeclFault.TheVariants as rules
 use Rattle.au_rules.specs.DeclFaults.{decl_fault}
 use Rattle.au_rules.specs.Good.{AllDeclarationsAreGood}
@@ -42,8 +44,8 @@ use Rattle.au_outcomes.specs.Accepted.{Accepted, AreAcceptedAs, is_behind, progr
 use Rattle.au_outcomes.specs.Halts.{IsUnhad}
 use Rattle.au_outcomes.specs.Outcomes.{BytesCome, Comes, IsFirst}
 use Rattle.au_outcomes.specs.Programs.{AcceptedCome, IsUnprinting, PrintingComes, PrintsSo, ReadsCome, bodies_outcome}
-use Rattle.au_outcomes.specs.Programs.{class_outcome, declaration_outcome, import_outcome, judged_by, life_fault}
-use Rattle.au_outcomes.specs.Programs.{life_outcome, module_outcome, modules_outcome, program_outcome, type_outcome}
+use Rattle.au_outcomes.specs.Programs.{class_outcome, declaration_outcome, import_outcome, judged_by, life_outcome}
+use Rattle.au_outcomes.specs.Programs.{module_outcome, modules_outcome, program_outcome, type_outcome}
 use Rattle.au_outcomes.specs.Trees.{AreRead, FirstHalts, Halts, ReadFile}
 use Rattle.au_outcomes.specs.declared.outcomes.Aim.{Aim}
 use Rattle.au_outcomes.specs.declared.outcomes.Aim.TheVariants as aims
@@ -51,7 +53,6 @@ use Rattle.au_outcomes.specs.declared.outcomes.Outcome.{Outcome}
 use Rattle.au_outcomes.specs.declared.outcomes.Outcome.TheVariants as outcome
 use Rattle.au_refusals.specs.declared.refusals.Refusal.TheVariants as refusal
 use Rattle.au_syntax.specs.Plain.{Bytes}
-use Rattle.au_outcomes.proofs.BodyLemmas.{lives_accepted, lives_from, lives_unwanted}
 use Rattle.au_outcomes.proofs.FetchLemmas.{few_had, files_few}
 use Rattle.au_outcomes.proofs.HaltLemmas.{are_read_same, first_halts_or_read}
 use Rattle.au_outcomes.proofs.FaultLemmas as causes
@@ -114,7 +115,7 @@ record AreGoodInside (parts : List ModuleParts) : Type 0 where
   instances : InstancesAreGood parts
   noted : List NotedParts
   derives : IsDerived parts noted
-  lives : AllLivesAreGood (outside_of parts) noted
+  lives : AllLivesAreGood parts
 
 -- all that is judged of its modules
 record AreGood (parts : List ModuleParts) : Type 0 where
@@ -123,14 +124,14 @@ record AreGood (parts : List ModuleParts) : Type 0 where
   inside : AreGoodInside parts
 
 typed_inside : (parts : List ModuleParts) → InstancesAreGood parts → type_fault parts ≡ None
-    → life_fault parts ≡ None → AreGoodInside parts
+    → linear_fault parts ≡ None → AreGoodInside parts
 typed_inside parts good types none =
     let found = typing.good_from parts types in
     record {
       instances = good;
       noted = found.0;
       derives = found.1;
-      lives = lives_from parts found.0 found.1 none;
+      lives = living_well.good_from parts none;
     }
 
 bodies_judged : (parts : List ModuleParts) → bodies_outcome parts ≡ None → AreGoodInside parts
@@ -142,7 +143,7 @@ bodies_judged parts h =
     (standing.unwanted parts) (or_first (judged_by class_outcome (instance_fault parts)) _ h)))
     (judged_none type_outcome types.Memory of_types (type_fault parts) (typing.unwanted parts)
     (or_first (judged_by type_outcome (type_fault parts)) _ behind))
-    (judged_none life_outcome lives.Memory of_lives (life_fault parts) (lives_unwanted parts)
+    (judged_none life_outcome lives.Memory of_lives (linear_fault parts) (living.unwanted parts)
     (or_second (judged_by type_outcome (type_fault parts)) _ behind))
 
 modules_judged : (parts : List ModuleParts) → modules_outcome parts ≡ None → AreGood parts
@@ -174,7 +175,7 @@ inside_accepted : (parts : List ModuleParts) → AreGoodInside parts → bodies_
 inside_accepted parts good =
     bodies_good parts (standing.good_accepted parts good.instances)
     (typing.good_accepted parts (good.noted, good.derives))
-    (lives_accepted parts good.noted good.derives good.lives)
+    (living_well.good_accepted parts good.lives)
 
 judged_accepted : (files : List Entry) → IsProgram files → AreGood (modules_of files) → program_outcome files ≡ None
 judged_accepted files program good =
@@ -220,7 +221,7 @@ bodies_before parts x h = elim (or_some (judged_by class_outcome (instance_fault
   | inl p ↦ causes.judged_before class_outcome classes.Memory of_instances (instance_fault parts) x p
   | inr p ↦ elim (or_some (judged_by type_outcome (type_fault parts)) _ x p) [
     | inl q ↦ causes.judged_before type_outcome types.Memory of_types (type_fault parts) x q
-    | inr q ↦ causes.judged_before life_outcome lives.Memory of_lives (life_fault parts) x q
+    | inr q ↦ causes.judged_before life_outcome lives.Memory of_lives (linear_fault parts) x q
   ]
 ]
 

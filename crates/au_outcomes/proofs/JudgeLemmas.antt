@@ -16,6 +16,7 @@ use Rattle.au_notes.specs.declared.faults.TypeFault.TheVariants as typing
 use Rattle.au_noting_programs.specs.Faults.{type_fault}
 use Rattle.au_program_lives.specs.declared.faults.LinearFault.{LinearFault}
 use Rattle.au_program_lives.specs.declared.faults.LinearFault.TheVariants as lives
+use Rattle.au_program_lives.specs.LinearFaults.{linear_fault}
 use Rattle.au_rules.specs.declared.faults.DeclFault.{DeclFault}
 use Rattle.au_rules.specs.declared.faults.DeclFault.TheVariants as rules
 use Rattle.au_rules.specs.DeclFaults.{decl_fault}
@@ -24,7 +25,7 @@ use Rattle.au_syntax.specs.declared.wholes.FileTree.{FileTree}
 use Rattle.au_syntax.specs.Plain.{PlainModule}
 use Rattle.au_outcomes.specs.Halts.{Says, known_or_memory}
 use Rattle.au_outcomes.specs.Programs.{bodies_outcome, class_outcome, declaration_outcome, import_outcome, judged_by}
-use Rattle.au_outcomes.specs.Programs.{life_fault, life_outcome, module_outcome, modules_outcome, program_outcome}
+use Rattle.au_outcomes.specs.Programs.{life_outcome, module_outcome, modules_outcome, program_outcome}
 use Rattle.au_outcomes.specs.Programs.{shipped_entries, type_outcome}
 use Rattle.au_outcomes.specs.declared.halts.Halt.{Halt}
 use Rattle.au_outcomes.specs.declared.outcomes.Outcome.{Outcome}
@@ -112,7 +113,7 @@ module _ (parts : List ModuleParts) where
 
   -- what is judged behind instances
   typed : Option Outcome
-  typed = option_or (judged_by type_outcome (type_fault parts)) (judged_by life_outcome (life_fault parts))
+  typed = option_or (judged_by type_outcome (type_fault parts)) (judged_by life_outcome (linear_fault parts))
 
   instances_known : (x : Outcome) → judged_by class_outcome (instance_fault parts) ≡ Some x
       → bodies_outcome parts ≡ Some x
@@ -125,12 +126,12 @@ module _ (parts : List ModuleParts) where
 
   types_known : (x : Outcome) → judged_by type_outcome (type_fault parts) ≡ Some x → typed ≡ Some x
   unfolding typed
-  types_known x h = ap (λ o. option_or o (judged_by life_outcome (life_fault parts))) h
+  types_known x h = ap (λ o. option_or o (judged_by life_outcome (linear_fault parts))) h
 
-  types_judged : type_fault parts ≡ None → typed ≡ judged_by life_outcome (life_fault parts)
+  types_judged : type_fault parts ≡ None → typed ≡ judged_by life_outcome (linear_fault parts)
   unfolding typed
   types_judged none =
-      ap (λ r. option_or (judged_by type_outcome r) (judged_by life_outcome (life_fault parts))) none
+      ap (λ r. option_or (judged_by type_outcome r) (judged_by life_outcome (linear_fault parts))) none
 
   pub instances_halt : {T : Type 0} (e : ClassFault) (G : T → Type 0)
       → (e ≡ classes.Memory) ⊎ (instance_fault parts ≡ Some e)
@@ -146,14 +147,14 @@ module _ (parts : List ModuleParts) where
       (λ x k. instances_judged instances ∙ types_known x k)
 
   pub lives_halt : {T : Type 0} (e : LinearFault) (G : T → Type 0) → instance_fault parts ≡ None
-      → type_fault parts ≡ None → (e ≡ lives.Memory) ⊎ (life_fault parts ≡ Some e)
+      → type_fault parts ≡ None → (e ≡ lives.Memory) ⊎ (linear_fault parts ≡ Some e)
       → Says {T = T} (Err (known_or_memory (life_outcome e))) G (λ x. bodies_outcome parts ≡ Some x)
   lives_halt e G instances types h =
-      judged_says life_outcome lives.Memory of_lives e (life_fault parts) G _ h
+      judged_says life_outcome lives.Memory of_lives e (linear_fault parts) G _ h
       (λ x k. instances_judged instances ∙ types_judged types ∙ k)
 
   -- what stands in bodies is good
-  pub bodies_good : instance_fault parts ≡ None → type_fault parts ≡ None → life_fault parts ≡ None
+  pub bodies_good : instance_fault parts ≡ None → type_fault parts ≡ None → linear_fault parts ≡ None
       → bodies_outcome parts ≡ None
   bodies_good instances types none =
       instances_judged instances ∙ types_judged types ∙ ap (judged_by life_outcome) none

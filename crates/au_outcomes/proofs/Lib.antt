@@ -6,7 +6,6 @@ pub mod PrintLemmas
 pub mod NameLemmas
 pub mod KeptLemmas
 pub mod JudgeLemmas
-pub mod BodyLemmas
 pub mod ComesLemmas
 pub mod CountLemmas
 pub mod AcceptedLemmas

@@ -16,12 +16,13 @@ use Rattle.au_printing.specs.declared.files.First.{First}
 use Rattle.au_printing.specs.Files.{Reads, IsStrangePlace}
 use Rattle.au_printing.proofs.FileLaws.{one_file, read_or_unfinished, read_or_strange, unfinished_or_strange, one_strange}
 use Rattle.au_program_lives.specs.declared.faults.LinearFault.TheVariants as lives
+use Rattle.au_program_lives.specs.LinearFaults.{linear_fault}
 use Rattle.au_rules.specs.declared.faults.DeclFault.TheVariants as rules
 use Rattle.au_rules.specs.DeclFaults.{decl_fault}
 use Rattle.au_outcomes.specs.Outcomes.{BytesCome}
 use Rattle.au_outcomes.specs.Programs.{AcceptedCome, IsUnprinting, PrintingComes, PrintsSo, ReadsCome, entries}
 use Rattle.au_outcomes.specs.Programs.{bodies_outcome, class_outcome, declaration_outcome, import_outcome, judged_by}
-use Rattle.au_outcomes.specs.Programs.{life_fault, life_outcome, module_outcome, modules_outcome, program_outcome}
+use Rattle.au_outcomes.specs.Programs.{life_outcome, module_outcome, modules_outcome, program_outcome}
 use Rattle.au_outcomes.specs.Programs.{shipped_entries, type_outcome}
 use Rattle.au_outcomes.specs.Trees.{IsNoPrinting, ReadFile}
 use Rattle.au_outcomes.specs.declared.outcomes.Aim.{Aim}
@@ -165,7 +166,7 @@ bodies_found parts x h = elim (or_some (judged_by class_outcome (instance_fault 
   | inl p ↦ judged_found class_outcome classes.Memory of_instances (instance_fault parts) x p
   | inr p ↦ elim (or_some (judged_by type_outcome (type_fault parts)) _ x p) [
     | inl q ↦ judged_found type_outcome typing.Memory of_types (type_fault parts) x q
-    | inr q ↦ judged_found life_outcome lives.Memory of_lives (life_fault parts) x q
+    | inr q ↦ judged_found life_outcome lives.Memory of_lives (linear_fault parts) x q
   ]
 ]
 

@@ -8,7 +8,6 @@ use Rattle.au_modules.specs.Accepted.{IsProgram}
 use Rattle.au_modules.specs.Programs.{Entry, ModuleParts, modules_of}
 use Rattle.au_name_faults.specs.Good.{AllNamesAreGood}
 use Rattle.au_noting_programs.specs.Faults.{IsDerived}
-use Rattle.au_outsides.specs.Outsides.{outside_of}
 use Rattle.au_program_lives.specs.Good.{AllLivesAreGood}
 use Rattle.au_promises.specs.Fulfilled.{AllFulfil}
 use Rattle.au_refusals.specs.declared.refusals.Refusal.{Refusal}
@@ -33,7 +32,7 @@ program_modules reads = modules_of (program_files reads)
 -- these bytes, and none is too large. Each is cut into tokens that are the words of its tree, within the limits. With
 -- the shipped ones they are the files of a program. In its modules all names are good, every body fulfils its
 -- interface, all declarations are good, and all instances are. The rules of typing derive the modules with some
--- notes, and by these each variable has a good life.
+-- notes, and each variable has a good life.
 pub record AreAcceptedAs (files : Files) (names all : List (List ℕ)) (reads : List ReadFile) : Type 0 where
   pub few : length names ≤ most_files
   pub had : AreFiles files names all
@@ -45,7 +44,7 @@ pub record AreAcceptedAs (files : Files) (names all : List (List ℕ)) (reads : 
   pub instances : InstancesAreGood (program_modules reads)
   pub noted : List NotedParts
   pub derives : IsDerived (program_modules reads) noted
-  pub lives : AllLivesAreGood (outside_of (program_modules reads)) noted
+  pub lives : AllLivesAreGood (program_modules reads)
 
 -- The files of these names are accepted.
 abbrev pub Accepted : Files → List (List ℕ) → Type 0

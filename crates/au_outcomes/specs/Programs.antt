@@ -3,8 +3,7 @@
 -- the types in bodies, and then the lives of variables. Where all of this is good the program is accepted; and
 -- where it's run, each file in order is one that prints.
 use Rattle.std.specs.Prelude.{◌≡◌, ◌⊎◌, ◌+◌, ℕ, List, [], ◌∷◌, ◌++◌, map, Option, None, Some}
-use Rattle.std.specs.Option.{option_and_then, option_or}
-use Rattle.std.specs.Result.{result_ok}
+use Rattle.std.specs.Option.{option_or}
 use Rattle.au_printing.specs.declared.files.First.{First}
 use Rattle.au_printing.specs.Files.{Reads}
 use Rattle.au_modules.specs.declared.faults.ModuleFault.{ModuleFault}
@@ -16,17 +15,15 @@ use Rattle.au_shipped.specs.Shipped.{shipped_files}
 use Rattle.au_classes.specs.declared.faults.ClassFault.{ClassFault}
 use Rattle.au_classes.specs.declared.faults.ClassFault.TheVariants as classes
 use Rattle.au_classes.specs.Faults.{instance_fault}
-use Rattle.au_derivations.specs.Trees.{NotedParts}
 use Rattle.au_imports.specs.declared.faults.ImportFault.{ImportFault}
 use Rattle.au_imports.specs.declared.faults.ImportFault.TheVariants as imports
 use Rattle.au_imports.specs.Importing as importing
 use Rattle.au_notes.specs.declared.faults.TypeFault.{TypeFault}
 use Rattle.au_notes.specs.declared.faults.TypeFault.TheVariants as typing
-use Rattle.au_noting_programs.specs.Faults.{noting_of, type_fault}
-use Rattle.au_outsides.specs.Outsides.{outside_of}
+use Rattle.au_noting_programs.specs.Faults.{type_fault}
 use Rattle.au_program_lives.specs.declared.faults.LinearFault.{LinearFault}
 use Rattle.au_program_lives.specs.declared.faults.LinearFault.TheVariants as lives
-use Rattle.au_program_lives.specs.Faults.{linear_fault}
+use Rattle.au_program_lives.specs.LinearFaults.{linear_fault}
 use Rattle.au_rules.specs.declared.faults.DeclFault.{DeclFault}
 use Rattle.au_rules.specs.declared.faults.DeclFault.TheVariants as rules
 use Rattle.au_rules.specs.DeclFaults.{decl_fault}
@@ -78,14 +75,6 @@ abbrev pub life_outcome : LinearFault → Option Outcome
 life_outcome lives.Memory = None
 life_outcome fault = Some (outcome.Refused (refusal.Linear fault))
 
--- the modules of a program with their notes, where it is well typed
-abbrev pub noted_modules : List ModuleParts → Option (List NotedParts)
-noted_modules program = result_ok (noting_of program)
-
--- the first variable of a well typed program that has no good life
-abbrev pub life_fault : List ModuleParts → Option LinearFault
-life_fault program = option_and_then (linear_fault (outside_of program)) (noted_modules program)
-
 -- what is judged of the files of a program, the shipped ones first
 abbrev pub judged_by : {F : Type 0} → (F → Option Outcome) → Option F → Option Outcome
 judged_by outcome_of None = None
@@ -95,7 +84,7 @@ judged_by outcome_of (Some fault) = outcome_of fault
 unfoldable pub bodies_outcome : List ModuleParts → Option Outcome
 bodies_outcome program =
     option_or (judged_by class_outcome (instance_fault program))
-    (option_or (judged_by type_outcome (type_fault program)) (judged_by life_outcome (life_fault program)))
+    (option_or (judged_by type_outcome (type_fault program)) (judged_by life_outcome (linear_fault program)))
 
 -- names and promises are good, and then declarations, and then what stands in bodies, or the program comes to
 -- this

@@ -65,7 +65,7 @@ fn judge_bodies(alloc: Global, program: Resolved) -> Result<(), Halt>
 {
     let classes = declare(alloc, &program)?;
     let noted = note_program(alloc, program, classes)?;
-    check_linear(alloc, &noted)?;
+    check_linear(alloc, noted.program())?;
     Ok(())
 }
 

@@ -1,1 +1,2 @@
+pub mod GoodLemmas
 pub mod AcceptedLemmas

@@ -1,8 +1,6 @@
 -- Stand-in.
-use Rattle.std.specs.Prelude.{ℕ, List}
-use Rattle.au_scopes.specs.Scopes.{Outside}
-use Rattle.au_syntax.specs.declared.modules.Part.{Part}
-use Rattle.au_derivations.specs.Trees.{NotedParts}
+use Rattle.std.specs.Prelude.{List}
+use Rattle.au_modules.specs.Programs.{ModuleParts}
 
-unfoldable pub AllLivesAreGood : (ℕ → Part → Outside) → List NotedParts → Type 0
-AllLivesAreGood outside noted = Unit {0}
+pub record AllLivesAreGood (program : List ModuleParts) : Type 0 where
+  pub each : Unit {0}

@@ -1,3 +1,3 @@
-pub mod Faults
+pub mod LinearFaults
 pub mod Good
 pub mod Lines

@@ -1,58 +1,44 @@
-//! Stand-in.
+//! Why a program is refused.
 
 ghost use Rattle.std.specs.Prelude.{◌≡◌};
 ghost use Rattle.au_program_lives.specs.declared.faults.LinearFault.TheVariants as fault;
 
+use crate::choices::Choices;
 use au_base::{Memory, Name, Pos};
 use au_lives::lives::LifeKind;
-use std::marker::Model;
 use thiserror::Error;
 
-/// Stand-in.
-#[derive(Debug, Drop)]
-pub struct Choices {
-    numbers: Vec<usize>,
-}
-
-impl Model for Choices {
-    ghost use Rattle.std.specs.Prelude.{List, ℕ};
-
-    ghost Value = { List ℕ };
-
-    ghost view = { λ c. c.numbers.items };
-}
-
-/// Why the lives of a program are not good.
+/// Why a program is refused: a variable has no good life.
 #[derive(Debug, Drop, Error)]
 pub enum LinearFault {
-    /// A path breaks the life of a variable.
-    #[error("a variable has no good life")]
+    /// A path through the scope of the variable breaks its life.
+    #[error("a path breaks the life of a variable")]
     Life {
-        /// The function.
+        /// The name of the function or method.
         function: Name,
-        /// The variable.
+        /// The name of the variable.
         variable: Name,
-        /// Where it is declared.
+        /// Where the variable is declared.
         at: Pos,
-        /// How.
+        /// How its life is broken, the first way on the path.
         kind: LifeKind,
         /// The path.
         path: Choices,
     },
-    /// A variable is consumed in a loop.
+    /// The variable is consumed in a loop.
     #[error("a variable is consumed in a loop")]
     InLoop {
-        /// The variable.
+        /// The name of the variable.
         variable: Name,
-        /// Where it is consumed.
+        /// The first such place.
         at: Pos,
     },
-    /// A variable is consumed in a part.
+    /// The variable is consumed where an expression may leave out to look.
     #[error("a variable is consumed in a part")]
     InPart {
-        /// The variable.
+        /// The name of the variable.
         variable: Name,
-        /// Where it is consumed.
+        /// The first such place.
         at: Pos,
     },
     /// No memory was found.

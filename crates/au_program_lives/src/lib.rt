@@ -1,11 +1,12 @@
 //! Stand-in.
 #![tactic(auto)]
 
-mod checking;
+mod choices;
 mod faults;
-pub mod laws;
 mod lines;
+mod programs;
 
-pub use checking::check_linear;
-pub use faults::{Choices, LinearFault};
+pub use choices::Choices;
+pub use faults::LinearFault;
 pub use lines::linear_text;
+pub use programs::check_linear;

@@ -1,14 +1,10 @@
 -- The first that is refused ends it: of instances, then of types, then of lives.
-use Rattle.std.proofs.Common.{◌≡◌, ◌⊎◌, Some, None, refl, ap, subst, sym, ◌∙◌}
+use Rattle.std.proofs.Common.{◌≡◌, ◌⊎◌, Some, None, ap, ◌∙◌, refl, subst}
 use Rattle.std.proofs.lemmas.Result.{err_from_is_err_and}
 use Rattle.au_classes.proofs.AcceptedLemmas as standing
 use Rattle.au_modules.specs.Slots as slots
 use Rattle.au_program_lives.specs.declared.faults.LinearFault.TheVariants as lives
-use Rattle.au_program_lives.specs.Faults.{linear_fault}
-use Rattle.au_noting_programs.specs.Said.{made_said}
-use Rattle.au_outsides.specs.Outsides.{outside_of}
-use Rattle.au_outcomes.specs.Programs.{life_fault}
-use Rattle.au_outcomes.proofs.BodyLemmas.{life_told, lives_told}
+use Rattle.au_program_lives.specs.LinearFaults.{linear_fault}
 use Rattle.au_outcomes.proofs.JudgeLemmas.{bodies_good, instances_halt, lives_halt, types_halt}
 use Rattle.au_outcomes.proofs.judging.judge_bodies.Goals as goal
 
@@ -37,9 +33,8 @@ returns-in_err-check_linear-clause-comes c =
     (lives_halt (slots.modules c.args.program) e _
     (standing.good_accepted _ c.in_ok-classes.ensures.good)
     c.in_ok-noted.ensures.accepted
-    (life_told (slots.modules c.args.program) (slots.modules c.in_ok-noted.noted.program)
-    (made_said c.in_ok-noted.noted.modules) e
-    (ap slots.modules c.in_ok-noted.ensures.program) c.in_ok-noted.ensures.derived
+    (subst (λ m. (e ≡ lives.Memory) ⊎ (linear_fault (slots.modules m) ≡ Some e))
+    (c.program.ensures ∙ c.in_ok-noted.ensures.program)
     (c.in_err-check_linear.ensures.refused e refl)))
 
 pub returns-clause-comes : goal.returns-clause-comes
@@ -47,7 +42,5 @@ returns-clause-comes c =
     bodies_good (slots.modules c.args.program)
     (standing.good_accepted _ c.in_ok-classes.ensures.good)
     c.in_ok-noted.ensures.accepted
-    (lives_told (slots.modules c.args.program) (slots.modules c.in_ok-noted.noted.program)
-    (made_said c.in_ok-noted.noted.modules)
-    (ap slots.modules c.in_ok-noted.ensures.program) c.in_ok-noted.ensures.derived
+    (subst (λ m. linear_fault (slots.modules m) ≡ None) (c.program.ensures ∙ c.in_ok-noted.ensures.program)
     c.in_ok-check_linear.ensures.accepted)
