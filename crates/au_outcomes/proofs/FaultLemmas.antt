@@ -8,7 +8,7 @@ use Rattle.au_notes.specs.declared.faults.TypeFault.TheVariants as typing
 use Rattle.au_program_lives.specs.declared.faults.LinearFault.TheVariants as lives
 use Rattle.au_rules.specs.declared.faults.DeclFault.TheVariants as rules
 use Rattle.au_outcomes.specs.Accepted.{is_behind}
-use Rattle.au_outcomes.specs.Halts.{Says, known_or_memory}
+use Rattle.au_outcomes.specs.Halts.{Says, is_read_halt, known_or_memory}
 use Rattle.au_outcomes.specs.Programs.{class_outcome, declaration_outcome, import_outcome, judged_by, life_outcome}
 use Rattle.au_outcomes.specs.Programs.{module_outcome, type_outcome}
 use Rattle.au_outcomes.specs.declared.outcomes.Outcome.{Outcome}
@@ -189,6 +189,11 @@ of_lives = record { unknown = refl; only = only; before = before; found = found 
     found lives.Memory x h = cc
 
 -- ---- what is judged by such faults
+
+-- what is known isn't that the shelf failed, and neither is want of memory
+pub unread : (T : Type 0) (o : Option Outcome) → is_read_halt {T = T} (Err (known_or_memory o)) ≡ false
+unread T (Some x) = refl
+unread T None = refl
 
 module _ {F : Type 0} (outcome_of : F → Option Outcome) (memory : F) (causes : AreCauses outcome_of memory) where
   pub judged_none : (r : Option F) → (r ≡ Some memory → ⊥) → judged_by outcome_of r ≡ None → r ≡ None

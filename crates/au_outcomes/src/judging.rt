@@ -57,14 +57,14 @@ fn judge_modules(alloc: Global, modules: Modules) -> Result<(), Halt>
 }
 
 /// Judges what stands in the bodies of a program: its instances, then types, then the lives of variables.
-fn judge_bodies(alloc: Global, program: Resolved) -> Result<(), Halt>
+fn judge_bodies(alloc: Global, resolved: Resolved) -> Result<(), Halt>
     ensures comes { Says result
-        (λ _. bodies_outcome (slots.modules program) ≡ None)
-        (λ arisen. bodies_outcome (slots.modules program) ≡ Some arisen) }
+        (λ _. bodies_outcome (slots.modules resolved) ≡ None)
+        (λ arisen. bodies_outcome (slots.modules resolved) ≡ Some arisen) }
     ensures is_read { is_read_halt result ≡ false }
 {
-    let classes = declare(alloc, &program)?;
-    let noted = note_program(alloc, program, classes)?;
+    let classes = declare(alloc, &resolved)?;
+    let noted = note_program(alloc, resolved, classes)?;
     check_linear(alloc, noted.program())?;
     Ok(())
 }

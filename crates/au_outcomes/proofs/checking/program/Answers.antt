@@ -9,7 +9,7 @@ use Rattle.au_base.specs.Limits.{most_file_bytes}
 use Rattle.au_outcomes.specs.declared.outcomes.Outcome.{Outcome}
 use Rattle.au_outcomes.specs.Halts.{ComesTo, bytes_in}
 use Rattle.au_outcomes.specs.Outcomes.{BytesCome, most_files}
-use Rattle.au_outcomes.proofs.ComesLemmas.{bytes_come, halts_with, many_come, no_miss, read_with, says_map}
+use Rattle.au_outcomes.proofs.ComesLemmas.{bytes_come, few_come, halts_with, many_come, no_miss, read_with, says_map}
 use Rattle.au_outcomes.proofs.FetchLemmas.{are_small, fetched_length}
 use Rattle.au_outcomes.proofs.checking.program.Goals as goal
 
@@ -21,6 +21,17 @@ returns-in_err-few_enough-clause-comes g c =
     (halts_with c.in_err-few_enough.field-0.0 _ _ _ _
     (λ x h. many_come c.args.aim (g.S.Shelf.files c.args.shelf.now) (map string_bytes names) (length names) x (sym (length-map names string_bytes)) h.0 h.1)
     c.in_err-few_enough.ensures.comes)
+
+pub returns-in_err-all-clause-comes : goal.returns-in_err-all-clause-comes
+returns-in_err-all-clause-comes g c =
+    let names = map string_bytes c.args.names.now in
+    let few : length names ≤ most_files =
+    omega (arith, length-map c.args.names.now string_bytes, c.in_ok-few_enough.ensures.comes) in
+    let p = err_from_is_err_and c.from_residual-in_err-all.result c.from_residual-in_err-all.ensures.1 in
+    rw (p.1, p.2)
+    (halts_with c.in_err-all.field-0.0 _ _ _ _
+    (λ x h. few_come c.args.aim (g.S.Shelf.files c.args.shelf.now) names x few h)
+    c.in_err-all.ensures.comes)
 
 pub returns-in_err-all-clause-stops : goal.returns-in_err-all-clause-stops
 returns-in_err-all-clause-stops g c =
