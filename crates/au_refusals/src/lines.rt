@@ -2,11 +2,11 @@
 
 ghost use Rattle.std.specs.Prelude.{◌≡◌, ◌++◌, ◌∷◌, [], IfOk, IsTrue, OnOk, codes, map, slice_get, unwrap_or};
 ghost use Rattle.std.specs.String.{string_bytes};
+ghost use Rattle.au_notes.specs.Lines.{why_text};
+ghost use Rattle.au_program_lives.specs.Lines.{linear_text};
 ghost use Rattle.au_refusals.specs.Lines as lines;
 ghost use Rattle.au_refusals.specs.Refusals.{is_class_refusal, is_declaration_refusal, is_import_refusal};
 ghost use Rattle.au_refusals.specs.Refusals.{is_life_refusal, is_module_refusal, is_refusal, is_type_refusal};
-ghost use Rattle.au_notes.specs.Lines.{why_text};
-ghost use Rattle.au_program_lives.specs.Lines.{linear_text};
 
 use crate::refusals::{Refusal, Unbuilt};
 use au_base::{Limit, LimitKind, Memory, Name, Pos};

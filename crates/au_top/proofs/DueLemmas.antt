@@ -9,7 +9,6 @@ use Rattle.au_outcomes.specs.Accepted.{Accepted, is_behind}
 use Rattle.au_outcomes.specs.Halts.{AreTold}
 use Rattle.au_words.specs.Jobs.{Task, IsJob, IsNoJob}
 use Rattle.au_words.proofs.JobLemmas.{one_job}
-use Rattle.au_words.specs.declared.jobs.Command.TheVariants as command
 use Rattle.au_outcomes.specs.declared.outcomes.Aim.{Aim}
 use Rattle.au_outcomes.specs.declared.outcomes.Aim.TheVariants as aims
 use Rattle.au_top.specs.Jobs.{asked_by, asked_of}

@@ -1,6 +1,6 @@
 //! The call that the program is.
 
-ghost use Rattle.std.specs.Prelude.{◌≡◌, ◌≢◌, ◌↔◌, ◌⊎◌, ◌≤◌, Some, true, false, IfOk, IsTrue, map, vec_len};
+ghost use Rattle.std.specs.Prelude.{◌≡◌, ◌≢◌, ◌↔◌, ◌⊎◌, Some, false, IfOk, IsTrue, map};
 ghost use Rattle.std.specs.String.{string_bytes};
 ghost use Rattle.au_base.specs.Outside.{Files, HasRisen, Counts};
 ghost use Rattle.au_words.specs.Jobs.{IsNoJob, Task};

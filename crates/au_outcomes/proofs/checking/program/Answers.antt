@@ -63,7 +63,7 @@ returns-clause-comes g c =
     let all = c.in_ok-all.all.items in
     let few : length names ≤ most_files = omega (arith, length-map c.args.names.now string_bytes, c.in_ok-few_enough.ensures.comes) in
     let told_so : (x : Outcome) → BytesCome c.args.aim (map bytes_in c.as_slice.result.now) x
-        → ComesTo c.args.aim told names x = λ x h.
+    → ComesTo c.args.aim told names x = λ x h.
     bytes_come c.args.aim told names (map bytes_in all) x few c.in_ok-all.ensures.comes
     (subst (λ (l : List (Vec ℕ Global)). BytesCome c.args.aim (map bytes_in l) x) c.as_slice.ensures.value h) in
     says_map c.outcome_of.result _ _ _ _ told_so told_so c.outcome_of.ensures.comes

@@ -1,5 +1,5 @@
 -- The first that is refused ends it: of instances, then of types, then of lives.
-use Rattle.std.proofs.Common.{◌≡◌, ◌⊎◌, Some, None, ap, ◌∙◌, refl, subst}
+use Rattle.std.proofs.Common.{◌≡◌, ◌⊎◌, Some, None, ◌∙◌, refl, subst}
 use Rattle.std.proofs.lemmas.Result.{err_from_is_err_and}
 use Rattle.au_classes.proofs.AcceptedLemmas as standing
 use Rattle.au_modules.specs.Slots as slots
