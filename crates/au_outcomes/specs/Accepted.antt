@@ -12,7 +12,8 @@ use Rattle.au_program_lives.specs.Good.{AllLivesAreGood}
 use Rattle.au_promises.specs.Fulfilled.{AllFulfil}
 use Rattle.au_refusals.specs.declared.refusals.Refusal.{Refusal}
 use Rattle.au_refusals.specs.declared.refusals.Refusal.TheVariants.{Byte, Syntax, NotYet, WordNotYet}
-use Rattle.au_refusals.specs.declared.refusals.Refusal.TheVariants.{Pair, Import, Declaration, Instance, Typing, Linear}
+use Rattle.au_refusals.specs.declared.refusals.Refusal.TheVariants.{Pair, Import, Declaration, Instance}
+use Rattle.au_refusals.specs.declared.refusals.Refusal.TheVariants.{Typing, Linear}
 use Rattle.au_rules.specs.Good.{AllDeclarationsAreGood}
 use Rattle.au_outcomes.specs.Outcomes.{AreFiles, most_files}
 use Rattle.au_outcomes.specs.Programs.{entries, shipped_entries}
@@ -31,8 +32,8 @@ program_modules reads = modules_of (program_files reads)
 -- Files of these names are accepted, with these bytes and as these trees: they are as few as they may be. They have
 -- these bytes, and none is too large. Each is cut into tokens that are the words of its tree, within the limits. With
 -- the shipped ones they are the files of a program. In its modules all names are good, every body fulfils its
--- interface, all declarations are good, and all instances are. The rules of typing derive the modules with some
--- notes, and each variable has a good life.
+-- interface, all declarations are good, and all instances are. The rules of typing derive the modules with
+-- some notes, and each variable has a good life.
 pub record AreAcceptedAs (files : Files) (names all : List (List ℕ)) (reads : List ReadFile) : Type 0 where
   pub few : length names ≤ most_files
   pub had : AreFiles files names all
@@ -63,8 +64,8 @@ is_unbuilt (Instance fault) = false
 is_unbuilt (Typing fault) = false
 is_unbuilt (Linear fault) = false
 
--- whether files come to this behind the steps that judge whether they are accepted: that is told, or the program
--- prints, or a file is none that prints, which is refused as what isn't built yet
+-- whether files come to this behind the steps that judge whether they are accepted: that is told, or the
+-- program prints, or a file is none that prints, which is refused as what isn't built yet
 abbrev pub is_behind : Outcome → Bool
 is_behind outcome.NoJob = false
 is_behind (outcome.Missing name) = false

@@ -52,8 +52,8 @@ most_files = 128
 abbrev pub files_limit : ℕ → Limit
 files_limit count = record { kind = kind.Files; count = count; most = most_files }
 
--- What a program comes to of which this is asked, by the bytes of its files: the first file that can't be read
--- counts, and where each is read, what is read.
+-- What a program comes to of which this is asked, by the bytes of its files: the first file that can't be
+-- read counts, and where each is read, what is read.
 abbrev pub BytesCome : Aim → List (List ℕ) → Outcome → Type 0
 BytesCome aim all arisen =
     FirstHalts 0 all arisen ⊎ ((reads : List ReadFile) × AreRead 0 all reads × ReadsCome aim reads arisen)
@@ -66,7 +66,8 @@ FilesCome aim files names arisen = (all : List (List ℕ)) × AreFiles files nam
 -- they are read.
 abbrev pub FewCome : Aim → Files → List (List ℕ) → Outcome → Type 0
 FewCome aim files names outcome.NoJob = ⊥
-FewCome aim files names (outcome.Missing name) = IsFirst (λ one. (one ≡ name) × (files one ≡ None)) files names
+FewCome aim files names (outcome.Missing name) =
+    IsFirst (λ one. (one ≡ name) × (files one ≡ None)) files names
 FewCome aim files names (outcome.Passes limit) =
     ((limit ≡ file_limit) × IsFirst (IsTooLarge files) files names)
     ⊎ FilesCome aim files names (outcome.Passes limit)

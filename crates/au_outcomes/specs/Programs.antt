@@ -1,7 +1,7 @@
 -- What the files of a program come to once they are read: they are gathered into modules behind the shipped
 -- ones, the names and promises of the modules are judged, then their declarations, then their instances, then
--- the types in bodies, and then the lives of variables. Where all of this is good the program is accepted; and
--- where it's run, each file in order is one that prints.
+-- the types in bodies, and then the lives of variables. Where all of this is good the program is accepted;
+-- and where it's run, each file in order is one that prints.
 use Rattle.std.specs.Prelude.{◌≡◌, ◌⊎◌, ◌+◌, ℕ, List, [], ◌∷◌, ◌++◌, map, Option, None, Some}
 use Rattle.std.specs.Option.{option_or}
 use Rattle.au_printing.specs.declared.files.First.{First}

@@ -93,7 +93,8 @@ fn outcome_of(alloc: Global, aim: Aim, all: &[Vec<u8>]) -> Result<Outcome, Halt>
     requires some { 0 < length all.now }
     requires few { length all.now ≤ most_files }
     requires small { All (λ bytes. length bytes.items ≤ most_file_bytes) all.now }
-    ensures comes { Says result (BytesCome aim (map bytes_in all.now)) (BytesCome aim (map bytes_in all.now)) }
+    ensures comes { Says result (BytesCome aim (map bytes_in all.now))
+        (BytesCome aim (map bytes_in all.now)) }
     ensures is_read { is_read_halt result ≡ false }
 {
     let Sources { trees, printings } = read_all(alloc, all)?;

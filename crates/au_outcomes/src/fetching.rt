@@ -4,7 +4,8 @@ ghost use Rattle.std.specs.Prelude.{◌≡◌, ◌≤◌, IfOk, IsTrue, map, len
 ghost use Rattle.std.specs.Str.{bytes_eq};
 ghost use Rattle.std.specs.String.{string_bytes};
 ghost use Rattle.au_base.specs.Outside.{Counts};
-ghost use Rattle.au_outcomes.specs.Halts.{AreFilesOf, Extends, FirstUnhad, IsUnhad, Says, StopsIn, Tells, bytes_in, is_missing, is_read_halt};
+ghost use Rattle.au_outcomes.specs.Halts.{AreFilesOf, Extends, FirstUnhad, IsUnhad, Says, StopsIn, Tells};
+ghost use Rattle.au_outcomes.specs.Halts.{bytes_in, is_missing, is_read_halt};
 ghost use Rattle.au_outcomes.specs.Outcomes.{IsFile, most_files};
 
 use crate::halts::{CheckFault, Halt};

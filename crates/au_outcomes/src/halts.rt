@@ -2,8 +2,8 @@
 
 ghost use Rattle.std.specs.Prelude.{◌≡◌};
 ghost use Rattle.au_outcomes.specs.Halts.{known_or_memory, lex_halt};
-ghost use Rattle.au_outcomes.specs.Programs.{class_outcome, declaration_outcome, import_outcome, life_outcome};
-ghost use Rattle.au_outcomes.specs.Programs.{module_outcome, type_outcome};
+ghost use Rattle.au_outcomes.specs.Programs.{class_outcome, declaration_outcome, import_outcome};
+ghost use Rattle.au_outcomes.specs.Programs.{life_outcome, module_outcome, type_outcome};
 ghost use Rattle.au_outcomes.specs.declared.halts.CheckFault.TheVariants as fault;
 ghost use Rattle.au_outcomes.specs.declared.halts.Halt.TheVariants as halt;
 

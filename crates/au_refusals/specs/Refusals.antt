@@ -14,7 +14,8 @@ use Rattle.au_rules.specs.declared.faults.DeclFault.{DeclFault}
 use Rattle.au_rules.specs.declared.faults.DeclFault.TheVariants as rules
 use Rattle.au_refusals.specs.declared.refusals.Refusal.{Refusal}
 use Rattle.au_refusals.specs.declared.refusals.Refusal.TheVariants.{Byte, Syntax, NotYet, WordNotYet}
-use Rattle.au_refusals.specs.declared.refusals.Refusal.TheVariants.{Pair, Import, Declaration, Instance, Typing, Linear}
+use Rattle.au_refusals.specs.declared.refusals.Refusal.TheVariants.{Pair, Import, Declaration, Instance}
+use Rattle.au_refusals.specs.declared.refusals.Refusal.TheVariants.{Typing, Linear}
 
 -- whether files are refused for this: neither a limit that is passed nor want of memory is a refusal
 abbrev pub is_module_refusal : ModuleFault → Bool

@@ -131,7 +131,8 @@ fn add_typing(
     files: &[String],
 ) -> Result<(), Memory>
     requires { IsTrue (is_type_refusal fault.now) }
-    ensures { OnOk result (text.new.items ≡ text.old.items ++ lines.type_text (map string_bytes files.now) fault.now) }
+    ensures { OnOk result (text.new.items
+        ≡ text.old.items ++ lines.type_text (map string_bytes files.now) fault.now) }
 {
     match fault {
         TypeFault::Statement { at, why } => add_statement(alloc, text, *at, why, files),
@@ -148,7 +149,8 @@ fn add_statement(
     why: &Why,
     files: &[String],
 ) -> Result<(), Memory>
-    ensures { OnOk result (text.new.items ≡ text.old.items ++ (lines.place_text (map string_bytes files.now) at
+    ensures { OnOk result (text.new.items
+        ≡ text.old.items ++ (lines.place_text (map string_bytes files.now) at
         ++ codes ": type: " ++ why_text why.now)) }
 {
     let told = why_text(alloc, why)?;
@@ -165,7 +167,8 @@ fn add_life(
     files: &[String],
 ) -> Result<(), Memory>
     requires { IsTrue (is_life_refusal fault.now) }
-    ensures { OnOk result (text.new.items ≡ text.old.items ++ lines.life_text (map string_bytes files.now) fault.now) }
+    ensures { OnOk result (text.new.items
+        ≡ text.old.items ++ lines.life_text (map string_bytes files.now) fault.now) }
 {
     match fault {
         LinearFault::Life { at, .. } => add_variable(alloc, text, *at, fault, files),
@@ -183,7 +186,8 @@ fn add_variable(
     fault: &LinearFault,
     files: &[String],
 ) -> Result<(), Memory>
-    ensures { OnOk result (text.new.items ≡ text.old.items ++ (lines.place_text (map string_bytes files.now) at
+    ensures { OnOk result (text.new.items
+        ≡ text.old.items ++ (lines.place_text (map string_bytes files.now) at
         ++ codes ": " ++ linear_text fault.now)) }
 {
     let told = linear_text(alloc, fault)?;

@@ -112,7 +112,7 @@ IsSaidAccepted out out' names arisen = (arisen ≡ outcome.Accepted) × Adds out
 abbrev pub HasSucceeded : Option (List ℕ) → Option (List ℕ) → List (List ℕ) → Outcome → Type 0
 HasSucceeded out out' names arisen = HasRun true out out' names arisen ⊎ IsSaidAccepted out out' names arisen
 
--- The steps that judge whether files are accepted have refused nothing, and what came behind them was paid: that
--- they are accepted, or what the program prints, or that a file doesn't print.
+-- The steps that judge whether files are accepted have refused nothing, and what came behind them was paid:
+-- that they are accepted, or what the program prints, or that a file doesn't print.
 abbrev pub HasComeBehind : Status → (out out' err err' : Option (List ℕ)) → List (List ℕ) → Outcome → Type 0
 HasComeBehind ends out out' err err' names arisen = IsTrue (is_behind arisen) × Pays (due_of names arisen) ends out out' err err'

@@ -1,5 +1,6 @@
 -- What words and files come to, and what is due for it.
-use Rattle.std.specs.Prelude.{◌≡◌, ℕ, ◌<◌, ◌≤◌, ◌⊎◌, List, [], ◌∷◌, ◌++◌, length, slice_get, Result, Ok, Err, Some, if◌then◌else◌}
+use Rattle.std.specs.Prelude.{◌≡◌, ℕ, ◌<◌, ◌≤◌, ◌⊎◌, List, [], ◌∷◌, ◌++◌, length, slice_get}
+use Rattle.std.specs.Prelude.{Result, Ok, Err, Some, if◌then◌else◌}
 use Rattle.std.specs.List.{flat_map}
 use Rattle.au_base.specs.declared.statuses.Status.{Status}
 use Rattle.au_base.specs.declared.statuses.Status.TheVariants as status
@@ -27,7 +28,8 @@ Asks (Ok aim) files names arisen = Comes aim files names arisen
 -- When words and files come to an outcome: the words are no job, or they are a job that comes to it.
 abbrev pub Arises : List (List ℕ) → Files → List (List ℕ) → Outcome → Type 0
 Arises words files names outcome.NoJob = IsNoJob words
-Arises words files names other = (task : Task) × IsJob words task × (names ≡ task.files) × Asks (asked_of task) files names other
+Arises words files names other =
+    (task : Task) × IsJob words task × (names ≡ task.files) × Asks (asked_of task) files names other
 
 -- The words ask for no file: they are no job, or a job that asks for something that isn't built.
 abbrev pub AsksForNoFile : List (List ℕ) → Type 0
@@ -78,7 +80,8 @@ Owes words files due =
 -- them is cut into tokens within the limits, which have no tree.
 abbrev pub IsUnread : List (List ℕ) → Files → Type 0
 IsUnread words files =
-    (task : Task) × (aim : Aim) × IsJob words task × (asked_of task ≡ Ok aim) × (length task.files ≤ most_files)
+    (task : Task) × (aim : Aim) × IsJob words task × (asked_of task ≡ Ok aim)
+    × (length task.files ≤ most_files)
     × (all : List (List ℕ)) × AreFiles files task.files all
     × (file : ℕ) × (bytes : List ℕ) × (slice_get all file ≡ Some bytes) × HasTokens file bytes HasNoTree
 

@@ -8,8 +8,8 @@ use Rattle.au_outcomes.specs.declared.outcomes.Aim.TheVariants as aims
 use Rattle.au_refusals.specs.declared.refusals.Unbuilt.{Unbuilt}
 use Rattle.au_refusals.specs.declared.refusals.Unbuilt.TheVariants as unbuilt
 
--- that a program is run, or the first option of a run that isn't built yet: an entry that is named, steps other
--- than the usual ones, and lives that are told
+-- that a program is run, or the first option of a run that isn't built yet: an entry that is named, steps
+-- other than the usual ones, and lives that are told
 abbrev pub asked_of_run : Task → Result Aim Unbuilt
 asked_of_run task =
     if is_some task.entry then Err unbuilt.Entry
@@ -17,8 +17,8 @@ asked_of_run task =
     else (if task.life then Err unbuilt.Life
     else Ok aims.Run))
 
--- what a command asks of the program of files, or what of it isn't built yet: the command itself, or an option
--- of a run
+-- what a command asks of the program of files, or what of it isn't built yet: the command itself, or an
+-- option of a run
 abbrev pub asked_by : Task → Command → Result Aim Unbuilt
 asked_by task command.Run = asked_of_run task
 asked_by task command.Compile = Err unbuilt.Compile

@@ -4,12 +4,12 @@ ghost use Rattle.std.specs.Prelude.{◌≡◌, ◌≢◌, ◌↔◌, ◌⊎◌, 
 ghost use Rattle.std.specs.String.{string_bytes};
 ghost use Rattle.au_base.specs.Outside.{Files, HasRisen, Counts};
 ghost use Rattle.au_words.specs.Jobs.{IsNoJob, Task};
-ghost use Rattle.au_top.specs.Calls.{CameTo, FailsBehind, HasComeBehind, HasPassed, HasRun, HasSucceeded, IsCut};
-ghost use Rattle.au_top.specs.Calls.{IsMissingSo, IsPaid, IsRefusedSo, IsUntouched, MayOwe, Pays, is_decided};
+ghost use Rattle.au_top.specs.Calls.{CameTo, FailsBehind, HasComeBehind, HasPassed, HasRun, HasSucceeded};
+ghost use Rattle.au_top.specs.Calls.{IsCut, IsMissingSo, IsPaid, IsRefusedSo, IsUntouched, MayOwe, Pays, is_decided};
 ghost use Rattle.au_outcomes.specs.Accepted.{Accepted};
 ghost use Rattle.au_outcomes.specs.Halts.{AreTold, is_read_fault, is_missing};
-ghost use Rattle.au_top.specs.Dues.{Arises, AsksForNoFile, AsksForTooMany, Due, IsAcceptedJob, IsCheck, IsUnread};
-ghost use Rattle.au_top.specs.Dues.{Owes, accepted_due};
+ghost use Rattle.au_top.specs.Dues.{Arises, AsksForNoFile, AsksForTooMany, Due, IsAcceptedJob, IsCheck};
+ghost use Rattle.au_top.specs.Dues.{IsUnread, Owes, accepted_due};
 
 use crate::answering::{AnswerFault, answer};
 use crate::asking::asked_of;
@@ -44,13 +44,14 @@ pub fn austral<S: Shelf, I: Source, O: Sink, E: Sink>(
     ensures unread { (files : Files) → S.files shelf.old ≡ Some files → IsUnread (map string_bytes words.now) files
         → IsTrue (is_decided result) → (result ≡ Status.Refused) ⊎ (result ≡ Status.Limit) }
     // Where files are told, a job isn't refused by the steps that judge whether its files are accepted exactly
-    // where they are: then the call says so, or ends as their program prints, or for a file that doesn't print.
+    // where they are: then the call says so, or ends as their program prints, or for a file that doesn't
+    // print.
     ensures accepted { (files : Files) → S.files shelf.old ≡ Some files → IsTrue (is_decided result)
         → IsAcceptedJob (map string_bytes words.now) files
         ↔ CameTo (map string_bytes words.now) (S.files shelf.old) (HasComeBehind result
         (O.written out.old) (O.written out.new) (E.written err.old) (E.written err.new)) }
-    // Where files are told, a job `check` writes that its files are accepted, and ends with 0, exactly where they
-    // are.
+    // Where files are told, a job `check` writes that its files are accepted, and ends with 0, exactly where
+    // they are.
     ensures checked { (files : Files) (task : Task) → S.files shelf.old ≡ Some files
         → IsCheck (map string_bytes words.now) task → IsTrue (is_decided result)
         → Accepted files task.files ↔ Pays accepted_due result
@@ -66,7 +67,7 @@ pub fn austral<S: Shelf, I: Source, O: Sink, E: Sink>(
         (HasPassed (E.written err.old) (E.written err.new)) }
     ensures missing_file { result ≡ Status.Missing → CameTo (map string_bytes words.now) (S.files shelf.old)
         (IsMissingSo (E.written err.old) (E.written err.new)) }
-    // 0 and 1 come by the exit code, with all that the program prints, and 0 where it is checked and accepted.
+    // 0 and 1 come by the exit code, with all that the program prints, and 0 where it's checked and accepted.
     ensures success { result ≡ Status.Success → CameTo (map string_bytes words.now) (S.files shelf.old)
         (HasSucceeded (O.written out.old) (O.written out.new)) }
     ensures failure { result ≡ Status.Failure → CameTo (map string_bytes words.now) (S.files shelf.old)
