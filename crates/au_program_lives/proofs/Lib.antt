@@ -1,2 +1,0 @@
-pub mod GoodLemmas
-pub mod AcceptedLemmas

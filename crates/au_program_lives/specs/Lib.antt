@@ -1,3 +1,0 @@
-pub mod LinearFaults
-pub mod Good
-pub mod Lines
