@@ -1,0 +1,4 @@
+pub mod ClauseLemmas
+mod LabelLemmas
+mod MadeLemmas
+mod StopLemmas

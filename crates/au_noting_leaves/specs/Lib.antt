@@ -1,0 +1,4 @@
+pub mod Said
+pub mod Leaves
+pub mod Made
+pub mod Bare

@@ -1,0 +1,5 @@
+pub mod Said
+pub mod Steps
+pub mod Faults
+pub mod Told
+pub mod Held
