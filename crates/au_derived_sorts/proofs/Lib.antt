@@ -1,0 +1,3 @@
+pub mod DeclaredLemmas
+pub mod DerivedLemmas
+pub mod FunctionLemmas

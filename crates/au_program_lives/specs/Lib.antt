@@ -1,0 +1,4 @@
+pub mod LinearFaults
+pub mod Good
+pub mod Lines
+pub mod Said

@@ -1,0 +1,4 @@
+pub mod Scopes
+pub mod Said
+pub mod Sorts
+pub mod Examples
