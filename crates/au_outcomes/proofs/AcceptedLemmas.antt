@@ -27,6 +27,15 @@ use Rattle.au_name_faults.specs.NameFaults.{name_fault}
 use Rattle.au_promises.specs.declared.faults.PromiseFault.{PromiseFault}
 use Rattle.au_promises.specs.declared.faults.PromiseFault.TheVariants as promises
 use Rattle.au_promises.specs.Promises.{promise_fault}
+use Rattle.au_derivations.specs.Trees.{NotedParts}
+use Rattle.au_notes.specs.declared.faults.TypeFault.TheVariants as types
+use Rattle.au_noting_programs.specs.Faults.{IsDerived, type_fault}
+use Rattle.au_noting_programs.proofs.AcceptedLemmas as typing
+use Rattle.au_program_lives.specs.declared.faults.LinearFault.TheVariants as lives
+use Rattle.au_program_lives.specs.Good.{AllLivesAreGood}
+use Rattle.au_program_lives.specs.LinearFaults.{linear_fault}
+use Rattle.au_program_lives.proofs.AcceptedLemmas as living
+use Rattle.au_program_lives.proofs.GoodLemmas as living_well
 use Rattle.au_rules.specs.declared.faults.DeclFault.TheVariants as rules
 use Rattle.au_rules.specs.DeclFaults.{decl_fault}
 use Rattle.au_rules.specs.Good.{AllDeclarationsAreGood}
@@ -34,9 +43,12 @@ use Rattle.au_rules.proofs.AcceptedLemmas as declaring
 use Rattle.au_outcomes.specs.Accepted.{Accepted, AreAcceptedAs, is_behind, program_files}
 use Rattle.au_outcomes.specs.Halts.{IsUnhad}
 use Rattle.au_outcomes.specs.Outcomes.{BytesCome, Comes, IsFirst}
-use Rattle.au_outcomes.specs.Programs.{IsUnprinting, PrintingComes, PrintsSo, ReadsCome}
-use Rattle.au_outcomes.specs.Programs.{class_outcome, declaration_outcome, import_outcome, judged_by, module_outcome, modules_outcome, program_outcome}
+use Rattle.au_outcomes.specs.Programs.{AcceptedCome, IsUnprinting, PrintingComes, PrintsSo, ReadsCome, bodies_outcome}
+use Rattle.au_outcomes.specs.Programs.{class_outcome, declaration_outcome, import_outcome, judged_by, life_outcome}
+use Rattle.au_outcomes.specs.Programs.{module_outcome, modules_outcome, program_outcome, type_outcome}
 use Rattle.au_outcomes.specs.Trees.{AreRead, FirstHalts, Halts, ReadFile}
+use Rattle.au_outcomes.specs.declared.outcomes.Aim.{Aim}
+use Rattle.au_outcomes.specs.declared.outcomes.Aim.TheVariants as aims
 use Rattle.au_outcomes.specs.declared.outcomes.Outcome.{Outcome}
 use Rattle.au_outcomes.specs.declared.outcomes.Outcome.TheVariants as outcome
 use Rattle.au_refusals.specs.declared.refusals.Refusal.TheVariants as refusal
@@ -44,8 +56,9 @@ use Rattle.au_syntax.specs.Plain.{Bytes}
 use Rattle.au_outcomes.proofs.FetchLemmas.{few_had, files_few}
 use Rattle.au_outcomes.proofs.HaltLemmas.{are_read_same, first_halts_or_read}
 use Rattle.au_outcomes.proofs.FaultLemmas as causes
-use Rattle.au_outcomes.proofs.FaultLemmas.{judged_none, of_declarations, of_imports, of_instances, of_modules, or_first, or_second, or_some}
-use Rattle.au_outcomes.proofs.JudgeLemmas.{modules_good, program_is}
+use Rattle.au_outcomes.proofs.FaultLemmas.{judged_none, of_declarations, of_imports, of_instances, of_lives, of_modules}
+use Rattle.au_outcomes.proofs.FaultLemmas.{of_types, or_first, or_second, or_some}
+use Rattle.au_outcomes.proofs.JudgeLemmas.{bodies_good, modules_are, program_is}
 use Rattle.au_outcomes.proofs.NameLemmas.{files_same, first_or_files, many_or_few}
 use Rattle.au_outcomes.proofs.PrintLemmas.{bytes_found}
 
@@ -97,11 +110,41 @@ names_unwanted (Some (names.NameTwice at name)) p h = cc
 
 -- ---- a program that comes to nothing before it is seen what it prints
 
--- all that is judged of the modules of a program
+-- all that is judged of what stands in the bodies of a program
+record AreGoodInside (parts : List ModuleParts) : Type 0 where
+  instances : InstancesAreGood parts
+  noted : List NotedParts
+  derives : IsDerived parts noted
+  lives : AllLivesAreGood parts
+
+-- all that is judged of its modules
 record AreGood (parts : List ModuleParts) : Type 0 where
   names : IsGood parts
   declared : AllDeclarationsAreGood parts
-  instances : InstancesAreGood parts
+  inside : AreGoodInside parts
+
+typed_inside : (parts : List ModuleParts) → InstancesAreGood parts → type_fault parts ≡ None
+    → linear_fault parts ≡ None → AreGoodInside parts
+typed_inside parts good types none =
+    let found = typing.good_from parts types in
+    record {
+      instances = good;
+      noted = found.0;
+      derives = found.1;
+      lives = living_well.good_from parts none;
+    }
+
+bodies_judged : (parts : List ModuleParts) → bodies_outcome parts ≡ None → AreGoodInside parts
+unfolding bodies_outcome
+bodies_judged parts h =
+    let behind = or_second (judged_by class_outcome (instance_fault parts)) _ h in
+    typed_inside parts
+    (standing.good_from parts (judged_none class_outcome classes.Memory of_instances (instance_fault parts)
+    (standing.unwanted parts) (or_first (judged_by class_outcome (instance_fault parts)) _ h)))
+    (judged_none type_outcome types.Memory of_types (type_fault parts) (typing.unwanted parts)
+    (or_first (judged_by type_outcome (type_fault parts)) _ behind))
+    (judged_none life_outcome lives.Memory of_lives (linear_fault parts) (living.unwanted parts)
+    (or_second (judged_by type_outcome (type_fault parts)) _ behind))
 
 modules_judged : (parts : List ModuleParts) → modules_outcome parts ≡ None → AreGood parts
 unfolding modules_outcome
@@ -115,9 +158,8 @@ modules_judged parts h =
       declared =
           declaring.good_from parts (judged_none declaration_outcome rules.Memory of_declarations (decl_fault parts)
           (declaring.unwanted parts) (or_first (judged_by declaration_outcome (decl_fault parts)) _ behind));
-      instances =
-          standing.good_from parts (judged_none class_outcome classes.Memory of_instances (instance_fault parts)
-          (standing.unwanted parts) (or_second (judged_by declaration_outcome (decl_fault parts)) _ behind));
+      inside =
+          bodies_judged parts (or_second (judged_by declaration_outcome (decl_fault parts)) _ behind);
     }
 
 good_judged : (files : List Entry) → program_outcome files ≡ None → IsProgram files × AreGood (modules_of files)
@@ -129,11 +171,18 @@ good_judged files h =
       modules_judged (modules_of files) second,
     )
 
+inside_accepted : (parts : List ModuleParts) → AreGoodInside parts → bodies_outcome parts ≡ None
+inside_accepted parts good =
+    bodies_good parts (standing.good_accepted parts good.instances)
+    (typing.good_accepted parts (good.noted, good.derives))
+    (living_well.good_accepted parts good.lives)
+
 judged_accepted : (files : List Entry) → IsProgram files → AreGood (modules_of files) → program_outcome files ≡ None
 judged_accepted files program good =
     program_is files files (modules_of files) refl refl (program_accepted files program)
-    ∙ modules_good (modules_of files) (good_accepted (modules_of files) good.names)
-    (declaring.good_accepted (modules_of files) good.declared) (standing.good_accepted (modules_of files) good.instances)
+    ∙ modules_are (modules_of files) (good_accepted (modules_of files) good.names)
+    (declaring.good_accepted (modules_of files) good.declared)
+    ∙ inside_accepted (modules_of files) good.inside
 
 -- ---- what comes before, and what comes behind
 
@@ -166,13 +215,23 @@ first_unhad_before files (name ∷ names) x h = elim h [
   | inr p ↦ first_unhad_before files names x p.1
 ]
 
+bodies_before : (parts : List ModuleParts) (x : Outcome) → bodies_outcome parts ≡ Some x → is_behind x ≡ false
+unfolding bodies_outcome
+bodies_before parts x h = elim (or_some (judged_by class_outcome (instance_fault parts)) _ x h) [
+  | inl p ↦ causes.judged_before class_outcome classes.Memory of_instances (instance_fault parts) x p
+  | inr p ↦ elim (or_some (judged_by type_outcome (type_fault parts)) _ x p) [
+    | inl q ↦ causes.judged_before type_outcome types.Memory of_types (type_fault parts) x q
+    | inr q ↦ causes.judged_before life_outcome lives.Memory of_lives (linear_fault parts) x q
+  ]
+]
+
 modules_before : (parts : List ModuleParts) (x : Outcome) → modules_outcome parts ≡ Some x → is_behind x ≡ false
 unfolding modules_outcome
 modules_before parts x h = elim (or_some (judged_by import_outcome (importing.refusal_of parts)) _ x h) [
   | inl p ↦ causes.judged_before import_outcome imports.Memory of_imports (importing.refusal_of parts) x p
   | inr p ↦ elim (or_some (judged_by declaration_outcome (decl_fault parts)) _ x p) [
     | inl q ↦ causes.judged_before declaration_outcome rules.Memory of_declarations (decl_fault parts) x q
-    | inr q ↦ causes.judged_before class_outcome classes.Memory of_instances (instance_fault parts) x q
+    | inr q ↦ bodies_before parts x q
   ]
 ]
 
@@ -202,49 +261,71 @@ printing_behind (one ∷ next ∷ rest) x h = elim h [
   | inr p ↦ printing_behind (next ∷ rest) x p.1
 ]
 
+accepted_come_behind : (aim : Aim) (reads : List ReadFile) (x : Outcome) → AcceptedCome aim reads x
+    → is_behind x ≡ true
+accepted_come_behind aims.Run reads x h = printing_behind reads x h
+accepted_come_behind aims.Check reads x h = ap is_behind h
+
 -- ---- accepted files
 
 -- nothing is refused of them before it is seen what they print
 accepted_none : (files : Files) (names all : List (List ℕ)) (reads : List ReadFile) → AreAcceptedAs files names all reads → program_outcome (program_files reads) ≡ None
 accepted_none files names all reads good =
-    judged_accepted (program_files reads) good.program (record { names = record { names = good.named; promises = good.kept }; declared = good.declared; instances = good.instances })
+    judged_accepted (program_files reads) good.program (record {
+      names = record { names = good.named; promises = good.kept };
+      declared = good.declared;
+      inside = record {
+        instances = good.instances;
+        noted = good.noted;
+        derives = good.derives;
+        lives = good.lives;
+      };
+    })
 
--- they come to what they print
-pub printing_comes : (files : Files) (names all : List (List ℕ)) (reads : List ReadFile) (x : Outcome) → AreAcceptedAs files names all reads → PrintingComes reads x → Comes files names x
-printing_comes files names all reads x good h =
-    let bytes : BytesCome all x = inr (reads, good.read, inr (accepted_none files names all reads good, h)) in
-    inr (good.few, files_few files names all x good.had bytes (bytes_found all x bytes))
+-- they come to what is asked
+pub asked_comes : (aim : Aim) (files : Files) (names all : List (List ℕ)) (reads : List ReadFile) (x : Outcome)
+    → AreAcceptedAs files names all reads → AcceptedCome aim reads x → Comes aim files names x
+asked_comes aim files names all reads x good h =
+    let bytes : BytesCome aim all x =
+    inr (reads, good.read, inr (accepted_none files names all reads good, h)) in
+    inr (good.few, files_few aim files names all x good.had bytes (bytes_found aim all x bytes))
 
 none_or_some : (o : Option Outcome) (x : Outcome) → o ≡ None → o ≡ Some x → ⊥
 none_or_some o x a b = let e : None ≡ Some x = sym a ∙ b in cc
 
-read_printing : (reads : List ReadFile) (x : Outcome) → program_outcome (program_files reads) ≡ None → ReadsCome reads x → PrintingComes reads x
-read_printing reads x none h = elim h [
+read_asked : (aim : Aim) (reads : List ReadFile) (x : Outcome) → program_outcome (program_files reads) ≡ None
+    → ReadsCome aim reads x → AcceptedCome aim reads x
+read_asked aim reads x none h = elim h [
   | inl p ↦ absurd (none_or_some (program_outcome (program_files reads)) x none p)
   | inr p ↦ p.1
 ]
 
-bytes_printing : (all : List (List ℕ)) (reads : List ReadFile) (x : Outcome) → AreRead 0 all reads → program_outcome (program_files reads) ≡ None → BytesCome all x → PrintingComes reads x
-bytes_printing all reads x read none h = elim h [
+bytes_asked : (aim : Aim) (all : List (List ℕ)) (reads : List ReadFile) (x : Outcome) → AreRead 0 all reads
+    → program_outcome (program_files reads) ≡ None → BytesCome aim all x → AcceptedCome aim reads x
+bytes_asked aim all reads x read none h = elim h [
   | inl p ↦ absurd (first_halts_or_read 0 all x reads p read)
-  | inr p ↦ read_printing reads x none (subst (λ rs. ReadsCome rs x) (are_read_same 0 all p.0 reads p.1 read) p.2)
+  | inr p ↦
+      read_asked aim reads x none
+      (subst (λ rs. ReadsCome aim rs x) (are_read_same 0 all p.0 reads p.1 read) p.2)
 ]
 
-pub comes_printing : (files : Files) (names all : List (List ℕ)) (reads : List ReadFile) (x : Outcome) → AreAcceptedAs files names all reads → Comes files names x → PrintingComes reads x
-comes_printing files names all reads x good h = elim h [
+pub comes_asked : (aim : Aim) (files : Files) (names all : List (List ℕ)) (reads : List ReadFile) (x : Outcome)
+    → AreAcceptedAs files names all reads → Comes aim files names x → AcceptedCome aim reads x
+comes_asked aim files names all reads x good h = elim h [
   | inl p ↦ absurd (many_or_few (length names) p.0 good.few)
-  | inr p ↦ elim (few_had files names x p.1) [
+  | inr p ↦ elim (few_had aim files names x p.1) [
     | inl q ↦ absurd (first_or_files files names all x q good.had)
     | inr q ↦
-        bytes_printing all reads x good.read (accepted_none files names all reads good)
-        (subst (λ l. BytesCome l x) (files_same files names q.0 all q.1 good.had) q.2)
+        bytes_asked aim all reads x good.read (accepted_none files names all reads good)
+        (subst (λ l. BytesCome aim l x) (files_same files names q.0 all q.1 good.had) q.2)
   ]
 ]
 
 -- ---- files that come to something behind
 
-read_behind : (reads : List ReadFile) (x : Outcome) → ReadsCome reads x → is_behind x ≡ true → program_outcome (program_files reads) ≡ None
-read_behind reads x h behind = elim h [
+read_behind : (aim : Aim) (reads : List ReadFile) (x : Outcome) → ReadsCome aim reads x → is_behind x ≡ true
+    → program_outcome (program_files reads) ≡ None
+read_behind aim reads x h behind = elim h [
   | inl p ↦ not_both (is_behind x) behind (judged_before (program_files reads) x p)
   | inr p ↦ p.0
 ]
@@ -253,21 +334,23 @@ read_behind reads x h behind = elim h [
 IsReadSo : List (List ℕ) → List ReadFile → Type 0
 IsReadSo all reads = AreRead 0 all reads × (program_outcome (program_files reads) ≡ None)
 
-bytes_behind : (all : List (List ℕ)) (x : Outcome) → BytesCome all x → is_behind x ≡ true → (reads : List ReadFile) × IsReadSo all reads
+bytes_behind : (aim : Aim) (all : List (List ℕ)) (x : Outcome) → BytesCome aim all x → is_behind x ≡ true
+    → (reads : List ReadFile) × IsReadSo all reads
 unfolding IsReadSo
-bytes_behind all x h behind = elim h [
+bytes_behind aim all x h behind = elim h [
   | inl p ↦ not_both (is_behind x) behind (first_halts_before 0 all x p)
-  | inr p ↦ (p.0, (p.1, read_behind p.0 x p.2 behind))
+  | inr p ↦ (p.0, (p.1, read_behind aim p.0 x p.2 behind))
 ]
 
-pub behind_accepted : (files : Files) (names : List (List ℕ)) (x : Outcome) → Comes files names x → is_behind x ≡ true → Accepted files names
+pub behind_accepted : (aim : Aim) (files : Files) (names : List (List ℕ)) (x : Outcome) → Comes aim files names x
+    → is_behind x ≡ true → Accepted files names
 unfolding IsReadSo
-behind_accepted files names x h behind = elim h [
+behind_accepted aim files names x h behind = elim h [
   | inl p ↦ not_both (is_behind x) behind (ap is_behind p.1)
-  | inr p ↦ elim (few_had files names x p.1) [
+  | inr p ↦ elim (few_had aim files names x p.1) [
     | inl q ↦ not_both (is_behind x) behind (first_unhad_before files names x q)
     | inr q ↦
-        let r = bytes_behind q.0 x q.2 behind in
+        let r = bytes_behind aim q.0 x q.2 behind in
         let good = good_judged (program_files r.0) r.1.1 in (
           q.0,
           r.0,
@@ -279,11 +362,23 @@ behind_accepted files names x h behind = elim h [
             named = good.1.names.names;
             kept = good.1.names.promises;
             declared = good.1.declared;
-            instances = good.1.instances;
+            instances = good.1.inside.instances;
+            noted = good.1.inside.noted;
+            derives = good.1.inside.derives;
+            lives = good.1.inside.lives;
           },
         )
   ]
 ]
 
-pub accepted_behind : (files : Files) (names : List (List ℕ)) (x : Outcome) → Comes files names x → Accepted files names → is_behind x ≡ true
-accepted_behind files names x h good = printing_behind good.1 x (comes_printing files names good.0 good.1 x good.2 h)
+pub accepted_behind : (aim : Aim) (files : Files) (names : List (List ℕ)) (x : Outcome) → Comes aim files names x
+    → Accepted files names → is_behind x ≡ true
+accepted_behind aim files names x h good =
+    accepted_come_behind aim good.1 x (comes_asked aim files names good.0 good.1 x good.2 h)
+
+-- files of which no more is asked and that come to something behind are accepted
+pub checked_accepted : (files : Files) (names : List (List ℕ)) (x : Outcome) → Comes aims.Check files names x
+    → is_behind x ≡ true → x ≡ outcome.Accepted
+checked_accepted files names x h behind =
+    let good = behind_accepted aims.Check files names x h behind in
+    comes_asked aims.Check files names good.0 good.1 x good.2 h

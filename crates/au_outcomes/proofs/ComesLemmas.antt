@@ -8,19 +8,20 @@ use Rattle.au_base.specs.Places.{place_after}
 use Rattle.au_lexer.specs.Cut.{Cut}
 use Rattle.au_lexer.specs.Passing.{IsWithinLimits}
 use Rattle.au_printing.specs.declared.files.First.{First}
-use Rattle.au_outcomes.specs.Halts.{AreFilesOf, ComesTo, FewComeTo, Says, is_missing, is_read_halt}
+use Rattle.au_outcomes.specs.Halts.{AreFilesOf, ComesTo, FirstUnhad, Says, is_missing, is_read_halt}
 use Rattle.au_outcomes.specs.Outcomes.{BytesCome, files_limit, most_files}
 use Rattle.au_outcomes.specs.Programs.{IsUnprinting, PrintingComes}
 use Rattle.au_outcomes.specs.Reading.{AllPrintSo, TokensHalt, first_stop}
 use Rattle.au_outcomes.specs.Trees.{Halts, ReadFile}
 use Rattle.au_outcomes.specs.declared.halts.Halt.{Halt}
 use Rattle.au_outcomes.specs.declared.halts.Halt.TheVariants as halt
+use Rattle.au_outcomes.specs.declared.outcomes.Aim.{Aim}
 use Rattle.au_outcomes.specs.declared.outcomes.Outcome.{Outcome}
 use Rattle.au_outcomes.specs.declared.outcomes.Outcome.TheVariants as outcome
 use Rattle.au_outcomes.specs.declared.reading.Printing.{Printing}
 use Rattle.au_outcomes.specs.declared.reading.Printing.TheVariants.{Prints, Stops}
 use Rattle.au_refusals.specs.declared.refusals.Refusal.TheVariants.{NotYet}
-use Rattle.au_outcomes.proofs.FetchLemmas.{files_few, told_files}
+use Rattle.au_outcomes.proofs.FetchLemmas.{files_few, told_files, unhad_few}
 use Rattle.au_outcomes.proofs.HaltLemmas.{halts_so, not_missing}
 use Rattle.au_outcomes.proofs.PrintLemmas.{bytes_found}
 
@@ -86,28 +87,37 @@ popped_prints items left (Some (Stops at)) some is none = absurd (last_prints le
 -- ---- the files of names
 
 -- they are too many
-pub many_come : (told : Option Files) (names : List (List ℕ)) (count : ℕ) (x : Outcome) → count ≡ length names → most_files < count → x ≡ outcome.Passes (files_limit count) → ComesTo told names x
-many_come told names count x same many is =
+pub many_come : (aim : Aim) (told : Option Files) (names : List (List ℕ)) (count : ℕ) (x : Outcome)
+    → count ≡ length names → most_files < count → x ≡ outcome.Passes (files_limit count) → ComesTo aim told names x
+many_come aim told names count x same many is =
     let h = told_files told in
     let more : most_files < length names = omega arith in
     (h.0, h.1, inl (more, is ∙ ap (λ c. outcome.Passes (files_limit c)) same))
 
 -- one can't be had
-pub few_come : (told : Option Files) (names : List (List ℕ)) (x : Outcome) → length names ≤ most_files → FewComeTo told names x → ComesTo told names x
-few_come told names x few h = (h.0, h.1, inr (few, h.2))
+pub few_come : (aim : Aim) (told : Option Files) (names : List (List ℕ)) (x : Outcome) → length names ≤ most_files
+    → FirstUnhad told names x → ComesTo aim told names x
+few_come aim told names x few h = (h.0, h.1, inr (few, unhad_few aim h.0 names x h.2))
 
 -- all can be had
-pub bytes_come : (told : Option Files) (names all : List (List ℕ)) (x : Outcome) → length names ≤ most_files → AreFilesOf told names all → BytesCome all x → ComesTo told names x
-bytes_come told names all x few files h =
-    (files.0, files.1, inr (few, files_few files.0 names all x files.2 h (bytes_found all x h)))
+pub bytes_come : (aim : Aim) (told : Option Files) (names all : List (List ℕ)) (x : Outcome)
+    → length names ≤ most_files → AreFilesOf told names all → BytesCome aim all x → ComesTo aim told names x
+bytes_come aim told names all x few files h =
+    (files.0, files.1, inr (few, files_few aim files.0 names all x files.2 h (bytes_found aim all x h)))
 
 -- a count that stays
 stays : (old new : ℕ) → new ≡ old → Counts false old new
 stays old new same = (omega arith, same)
 
 -- a step that is about bytes counts no miss
-pub no_miss : (r : Result First Halt) (all : List (List ℕ)) (old new : ℕ) → Says r (λ first. BytesCome all (outcome.Prints first)) (BytesCome all) → new ≡ old →
-    Says r (λ first. new ≡ old) (λ x. Counts (is_missing x) old new)
-no_miss (Ok first) all old new h same = same
-no_miss (Err (halt.Known x)) all old new h same = subst (λ b. Counts b old new) (sym (not_missing x (bytes_found all x h))) (stays old new same)
-no_miss (Err (halt.Unknown e)) all old new h same = tt
+no_miss_of : (aim : Aim) (all : List (List ℕ)) (x : Outcome) (old new : ℕ) → BytesCome aim all x → new ≡ old
+    → Counts (is_missing x) old new
+no_miss_of aim all x old new h same =
+    subst (λ b. Counts b old new) (sym (not_missing x (bytes_found aim all x h))) (stays old new same)
+
+pub no_miss : (aim : Aim) (r : Result Outcome Halt) (all : List (List ℕ)) (old new : ℕ)
+    → Says r (BytesCome aim all) (BytesCome aim all) → new ≡ old
+    → Says r (λ x. Counts (is_missing x) old new) (λ x. Counts (is_missing x) old new)
+no_miss aim (Ok x) all old new h same = no_miss_of aim all x old new h same
+no_miss aim (Err (halt.Known x)) all old new h same = no_miss_of aim all x old new h same
+no_miss aim (Err (halt.Unknown e)) all old new h same = tt

@@ -4,10 +4,13 @@ use Rattle.std.specs.Option.{option_or}
 use Rattle.au_classes.specs.declared.faults.ClassFault.TheVariants as classes
 use Rattle.au_imports.specs.declared.faults.ImportFault.TheVariants as imports
 use Rattle.au_modules.specs.declared.faults.ModuleFault.TheVariants as modules
+use Rattle.au_notes.specs.declared.faults.TypeFault.TheVariants as typing
+use Rattle.au_program_lives.specs.declared.faults.LinearFault.TheVariants as lives
 use Rattle.au_rules.specs.declared.faults.DeclFault.TheVariants as rules
 use Rattle.au_outcomes.specs.Accepted.{is_behind}
-use Rattle.au_outcomes.specs.Halts.{Says, known_or_memory}
-use Rattle.au_outcomes.specs.Programs.{class_outcome, declaration_outcome, import_outcome, judged_by, module_outcome}
+use Rattle.au_outcomes.specs.Halts.{Says, is_read_halt, known_or_memory}
+use Rattle.au_outcomes.specs.Programs.{class_outcome, declaration_outcome, import_outcome, judged_by, life_outcome}
+use Rattle.au_outcomes.specs.Programs.{module_outcome, type_outcome}
 use Rattle.au_outcomes.specs.declared.outcomes.Outcome.{Outcome}
 use Rattle.au_outcomes.proofs.HaltLemmas.{is_of_files}
 
@@ -146,7 +149,51 @@ of_instances = record { unknown = refl; only = only; before = before; found = fo
     found (classes.MethodDiffers at) x h = found_as _ x refl h
     found classes.Memory x h = cc
 
+pub of_types : AreCauses type_outcome typing.Memory
+of_types = record { unknown = refl; only = only; before = before; found = found }
+  where
+    only : (e : _) → type_outcome e ≡ None → e ≡ typing.Memory
+    only (typing.Statement at why) h = cc
+    only (typing.Limit limit) h = cc
+    only typing.Memory h = refl
+
+    before : (e : _) (x : Outcome) → type_outcome e ≡ Some x → is_behind x ≡ false
+    before (typing.Statement at why) x h = before_as _ x refl h
+    before (typing.Limit limit) x h = before_as _ x refl h
+    before typing.Memory x h = cc
+
+    found : (e : _) (x : Outcome) → type_outcome e ≡ Some x → is_of_files x ≡ true
+    found (typing.Statement at why) x h = found_as _ x refl h
+    found (typing.Limit limit) x h = found_as _ x refl h
+    found typing.Memory x h = cc
+
+pub of_lives : AreCauses life_outcome lives.Memory
+of_lives = record { unknown = refl; only = only; before = before; found = found }
+  where
+    only : (e : _) → life_outcome e ≡ None → e ≡ lives.Memory
+    only (lives.Life function variable at kind path) h = cc
+    only (lives.InLoop variable at) h = cc
+    only (lives.InPart variable at) h = cc
+    only lives.Memory h = refl
+
+    before : (e : _) (x : Outcome) → life_outcome e ≡ Some x → is_behind x ≡ false
+    before (lives.Life function variable at kind path) x h = before_as _ x refl h
+    before (lives.InLoop variable at) x h = before_as _ x refl h
+    before (lives.InPart variable at) x h = before_as _ x refl h
+    before lives.Memory x h = cc
+
+    found : (e : _) (x : Outcome) → life_outcome e ≡ Some x → is_of_files x ≡ true
+    found (lives.Life function variable at kind path) x h = found_as _ x refl h
+    found (lives.InLoop variable at) x h = found_as _ x refl h
+    found (lives.InPart variable at) x h = found_as _ x refl h
+    found lives.Memory x h = cc
+
 -- ---- what is judged by such faults
+
+-- what is known isn't that the shelf failed, and neither is want of memory
+pub unread : (T : Type 0) (o : Option Outcome) → is_read_halt {T = T} (Err (known_or_memory o)) ≡ false
+unread T (Some x) = refl
+unread T None = refl
 
 module _ {F : Type 0} (outcome_of : F → Option Outcome) (memory : F) (causes : AreCauses outcome_of memory) where
   pub judged_none : (r : Option F) → (r ≡ Some memory → ⊥) → judged_by outcome_of r ≡ None → r ≡ None

@@ -12,8 +12,9 @@ use Rattle.std.proofs.lemmas.List.Sums.{fails_before_first}
 use Rattle.std.proofs.lemmas.Slice.Eq.{bytes_eq-Decides}
 use Rattle.au_base.specs.Limits.{most_file_bytes}
 use Rattle.au_base.specs.Outside.{Files}
-use Rattle.au_outcomes.specs.Halts.{AreFilesOf, AreTold, Extends, FewComeTo, IsUnhad, StopsIn, Tells, bytes_in}
+use Rattle.au_outcomes.specs.Halts.{AreFilesOf, AreTold, Extends, FirstUnhad, IsUnhad, StopsIn, Tells, bytes_in}
 use Rattle.au_outcomes.specs.Outcomes.{AreFiles, BytesCome, FewCome, FilesCome, IsFile, IsFirst, IsTooLarge, file_limit, most_files}
+use Rattle.au_outcomes.specs.declared.outcomes.Aim.{Aim}
 use Rattle.au_outcomes.specs.declared.outcomes.Outcome.{Outcome}
 use Rattle.au_outcomes.specs.declared.outcomes.Outcome.TheVariants as outcome
 use Rattle.au_outcomes.proofs.HaltLemmas.{is_of_files}
@@ -39,33 +40,43 @@ first_any P files (name ∷ names) h = elim h [
   | inr p ↦ first_any P files names p.1
 ]
 
--- files of which the first that can't be had comes to this, or which can be had
-pub few_had : (files : Files) (names : List (List ℕ)) (x : Outcome) → FewCome files names x → IsFirst (λ one. IsUnhad files one x) files names ⊎ FilesCome files names x
-few_had files names outcome.NoJob h = absurd h
-few_had files names (outcome.Missing name) h = inl h
-few_had files names (outcome.Passes limit) h = elim h [
-  | inl p ↦ inl (first_map (IsTooLarge files) (λ one. IsUnhad files one (outcome.Passes limit)) files names (λ name large. (p.0, large)) p.1)
-  | inr p ↦ inr p
-]
-few_had files names (outcome.Refused refusal) h = inr h
-few_had files names (outcome.Prints first) h = inr h
+module _ (aim : Aim) (files : Files) (names : List (List ℕ)) where
+  -- files of which the first that can't be had comes to this, or which can be had
+  pub few_had : (x : Outcome) → FewCome aim files names x
+      → IsFirst (λ one. IsUnhad files one x) files names ⊎ FilesCome aim files names x
+  few_had outcome.NoJob h = absurd h
+  few_had (outcome.Missing name) h = inl h
+  few_had (outcome.Passes limit) h = elim h [
+    | inl p ↦
+        inl (first_map (IsTooLarge files) (λ one. IsUnhad files one (outcome.Passes limit)) files names
+        (λ name large. (p.0, large)) p.1)
+    | inr p ↦ inr p
+  ]
+  few_had (outcome.Refused refusal) h = inr h
+  few_had outcome.Accepted h = inr h
+  few_had (outcome.Prints first) h = inr h
 
-unhad_few : (files : Files) (names : List (List ℕ)) (x : Outcome) → IsFirst (λ one. IsUnhad files one x) files names → FewCome files names x
-unhad_few files names outcome.NoJob h = absurd (first_any (λ one. IsUnhad files one outcome.NoJob) files names h).1
-unhad_few files names (outcome.Missing name) h = h
-unhad_few files names (outcome.Passes limit) h =
-    let P : List ℕ → Type 0 = λ one. IsUnhad files one (outcome.Passes limit) in
-    inl ((first_any P files names h).1.0, first_map P (IsTooLarge files) files names (λ name p. p.1) h)
-unhad_few files names (outcome.Refused refusal) h = absurd (first_any (λ one. IsUnhad files one (outcome.Refused refusal)) files names h).1
-unhad_few files names (outcome.Prints first) h = absurd (first_any (λ one. IsUnhad files one (outcome.Prints first)) files names h).1
+  pub unhad_few : (x : Outcome) → IsFirst (λ one. IsUnhad files one x) files names → FewCome aim files names x
+  unhad_few outcome.NoJob h = absurd (first_any (λ one. IsUnhad files one outcome.NoJob) files names h).1
+  unhad_few (outcome.Missing name) h = h
+  unhad_few (outcome.Passes limit) h =
+      let P : List ℕ → Type 0 = λ one. IsUnhad files one (outcome.Passes limit) in
+      inl ((first_any P files names h).1.0, first_map P (IsTooLarge files) files names (λ name p. p.1) h)
+  unhad_few (outcome.Refused refusal) h =
+      absurd (first_any (λ one. IsUnhad files one (outcome.Refused refusal)) files names h).1
+  unhad_few outcome.Accepted h = absurd (first_any (λ one. IsUnhad files one outcome.Accepted) files names h).1
+  unhad_few (outcome.Prints first) h =
+      absurd (first_any (λ one. IsUnhad files one (outcome.Prints first)) files names h).1
 
--- what files come to that can be had
-pub files_few : (files : Files) (names all : List (List ℕ)) (x : Outcome) → AreFiles files names all → BytesCome all x → is_of_files x ≡ true → FewCome files names x
-files_few files names all outcome.NoJob are h proper = cc
-files_few files names all (outcome.Missing name) are h proper = cc
-files_few files names all (outcome.Passes limit) are h proper = inr (all, are, h)
-files_few files names all (outcome.Refused refusal) are h proper = (all, are, h)
-files_few files names all (outcome.Prints first) are h proper = (all, are, h)
+  -- what files come to that can be had
+  pub files_few : (all : List (List ℕ)) (x : Outcome) → AreFiles files names all → BytesCome aim all x
+      → is_of_files x ≡ true → FewCome aim files names x
+  files_few all outcome.NoJob are h proper = cc
+  files_few all (outcome.Missing name) are h proper = cc
+  files_few all (outcome.Passes limit) are h proper = inr (all, are, h)
+  files_few all (outcome.Refused refusal) are h proper = (all, are, h)
+  files_few all outcome.Accepted are h proper = (all, are, h)
+  files_few all (outcome.Prints first) are h proper = (all, are, h)
 
 -- a file behind those that can be had
 is_first : (P : List ℕ → Type 0) (files : Files) (before all : List (List ℕ)) (name : List ℕ) (after : List (List ℕ)) → AreFiles files before all → P name → IsFirst P files (before ++ name ∷ after)
@@ -86,10 +97,10 @@ files_more told before all name bytes are more =
     let h = more are.0 are.1 are.2 in
     (h.0, h.1, are_more h.0 before all name bytes h.2 h.3)
 
-pub files_end : (told : Option Files) (before all : List (List ℕ)) (name : List ℕ) (after : List (List ℕ)) (x : Outcome) → AreFilesOf told before all → Extends told before all (λ files. IsUnhad files name x) → FewComeTo told (before ++ name ∷ after) x
+pub files_end : (told : Option Files) (before all : List (List ℕ)) (name : List ℕ) (after : List (List ℕ)) (x : Outcome) → AreFilesOf told before all → Extends told before all (λ files. IsUnhad files name x) → FirstUnhad told (before ++ name ∷ after) x
 files_end told before all name after x are more =
     let h = more are.0 are.1 are.2 in
-    (h.0, h.1, unhad_few h.0 (before ++ name ∷ after) x (is_first (λ one. IsUnhad h.0 one x) h.0 before all name after h.2 h.3))
+    (h.0, h.1, is_first (λ one. IsUnhad h.0 one x) h.0 before all name after h.2 h.3)
 
 -- ---- a name that stands before, and one that doesn't
 
@@ -224,10 +235,10 @@ fetched_more told given names before i name text all had more bytes shelf h is l
 pub fetched_end : (told given : Option Files) (names before : List (String Global)) (i : ℕ) (name : String Global) (text : List ℕ) (all had : List (Vec ℕ Global)) (x : Outcome) →
     given ≡ told → i < length names → name ≡ get_or names i name → before ≡ take i names → had ≡ all → text ≡ string_bytes name →
     AreFilesOf told (map string_bytes (take i names)) (map bytes_in all) → Extends given (map string_bytes before) (map bytes_in had) (λ files. IsUnhad files text x) →
-    FewComeTo told (map string_bytes names) x
+    FirstUnhad told (map string_bytes names) x
 fetched_end told given names before i name text all had x shelf h is list same spelled are next =
     let e = extends_same told given (take i names) before all had (λ files. IsUnhad files text x) (λ files. IsUnhad files (string_bytes name) x) shelf list same (ap (λ t files. IsUnhad files t x) spelled) next in
-    subst (λ ns. FewComeTo told ns x) (sym (names_at names i name h is)) (files_end told (map string_bytes (take i names)) (map bytes_in all) (string_bytes name) (map string_bytes (drop (i + 1) names)) x are e)
+    subst (λ ns. FirstUnhad told ns x) (sym (names_at names i name h is)) (files_end told (map string_bytes (take i names)) (map bytes_in all) (string_bytes name) (map string_bytes (drop (i + 1) names)) x are e)
 
 -- a file behind others that can be had, where the shelf failed
 pub fetched_stop : (told : Option Files) (names : List (String Global)) (i : ℕ) (name : String Global) (all : List (Vec ℕ Global)) → length names ≤ most_files → i < length names → name ≡ get_or names i name →

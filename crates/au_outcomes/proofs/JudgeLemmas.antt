@@ -11,6 +11,12 @@ use Rattle.au_modules.specs.declared.faults.ModuleFault.{ModuleFault}
 use Rattle.au_modules.specs.declared.faults.ModuleFault.TheVariants as modules
 use Rattle.au_modules.specs.Programs as programs
 use Rattle.au_modules.specs.Programs.{Entry, ModuleParts, entry, modules_of}
+use Rattle.au_notes.specs.declared.faults.TypeFault.{TypeFault}
+use Rattle.au_notes.specs.declared.faults.TypeFault.TheVariants as typing
+use Rattle.au_noting_programs.specs.Faults.{type_fault}
+use Rattle.au_program_lives.specs.declared.faults.LinearFault.{LinearFault}
+use Rattle.au_program_lives.specs.declared.faults.LinearFault.TheVariants as lives
+use Rattle.au_program_lives.specs.LinearFaults.{linear_fault}
 use Rattle.au_rules.specs.declared.faults.DeclFault.{DeclFault}
 use Rattle.au_rules.specs.declared.faults.DeclFault.TheVariants as rules
 use Rattle.au_rules.specs.DeclFaults.{decl_fault}
@@ -18,11 +24,13 @@ use Rattle.au_shipped.specs.Shipped.{file_says, shipped_files}
 use Rattle.au_syntax.specs.declared.wholes.FileTree.{FileTree}
 use Rattle.au_syntax.specs.Plain.{PlainModule}
 use Rattle.au_outcomes.specs.Halts.{Says, known_or_memory}
-use Rattle.au_outcomes.specs.Programs.{class_outcome, declaration_outcome, import_outcome, judged_by, module_outcome}
-use Rattle.au_outcomes.specs.Programs.{modules_outcome, program_outcome, shipped_entries}
+use Rattle.au_outcomes.specs.Programs.{bodies_outcome, class_outcome, declaration_outcome, import_outcome, judged_by}
+use Rattle.au_outcomes.specs.Programs.{life_outcome, module_outcome, modules_outcome, program_outcome}
+use Rattle.au_outcomes.specs.Programs.{shipped_entries, type_outcome}
 use Rattle.au_outcomes.specs.declared.halts.Halt.{Halt}
 use Rattle.au_outcomes.specs.declared.outcomes.Outcome.{Outcome}
-use Rattle.au_outcomes.proofs.FaultLemmas.{judged_says, of_declarations, of_imports, of_instances, of_modules}
+use Rattle.au_outcomes.proofs.FaultLemmas.{judged_says, of_declarations, of_imports, of_instances, of_lives}
+use Rattle.au_outcomes.proofs.FaultLemmas.{of_modules, of_types}
 
 -- ---- files
 
@@ -59,7 +67,7 @@ program_says given files parts r same are none h =
 module _ (parts : List ModuleParts) where
   -- what is judged behind names and promises
   behind : Option Outcome
-  behind = option_or (judged_by declaration_outcome (decl_fault parts)) (judged_by class_outcome (instance_fault parts))
+  behind = option_or (judged_by declaration_outcome (decl_fault parts)) (bodies_outcome parts)
 
   names_known : (x : Outcome) → judged_by import_outcome (importing.refusal_of parts) ≡ Some x → modules_outcome parts ≡ Some x
   unfolding modules_outcome behind
@@ -71,12 +79,11 @@ module _ (parts : List ModuleParts) where
 
   declarations_known : (x : Outcome) → judged_by declaration_outcome (decl_fault parts) ≡ Some x → behind ≡ Some x
   unfolding behind
-  declarations_known x h = ap (λ o. option_or o (judged_by class_outcome (instance_fault parts))) h
+  declarations_known x h = ap (λ o. option_or o (bodies_outcome parts)) h
 
-  declarations_judged : decl_fault parts ≡ None → behind ≡ judged_by class_outcome (instance_fault parts)
+  declarations_judged : decl_fault parts ≡ None → behind ≡ bodies_outcome parts
   unfolding behind
-  declarations_judged none =
-      ap (λ r. option_or (judged_by declaration_outcome r) (judged_by class_outcome (instance_fault parts))) none
+  declarations_judged none = ap (λ r. option_or (judged_by declaration_outcome r) (bodies_outcome parts)) none
 
   pub resolve_halts : {T : Type 0} (e : ImportFault) (G : T → Type 0)
       → (e ≡ imports.Memory) ⊎ (importing.refusal_of parts ≡ Some e)
@@ -91,16 +98,66 @@ module _ (parts : List ModuleParts) where
       judged_says declaration_outcome rules.Memory of_declarations e (decl_fault parts) G _ h
       (λ x k. names_judged good ∙ declarations_known x k)
 
-  pub instances_halt : {T : Type 0} (e : ClassFault) (G : T → Type 0) → importing.refusal_of parts ≡ None → decl_fault parts ≡ None
-      → (e ≡ classes.Memory) ⊎ (instance_fault parts ≡ Some e)
-      → Says {T = T} (Err (known_or_memory (class_outcome e))) G (λ x. modules_outcome parts ≡ Some x)
-  instances_halt e G good declared h =
-      judged_says class_outcome classes.Memory of_instances e (instance_fault parts) G _ h
-      (λ x k. names_judged good ∙ declarations_judged declared ∙ k)
+  -- names and declarations are good
+  pub modules_are : importing.refusal_of parts ≡ None → decl_fault parts ≡ None
+      → modules_outcome parts ≡ bodies_outcome parts
+  modules_are good declared = names_judged good ∙ declarations_judged declared
 
-  -- the modules are good
-  pub modules_good : importing.refusal_of parts ≡ None → decl_fault parts ≡ None → instance_fault parts ≡ None → modules_outcome parts ≡ None
-  modules_good good declared instances = names_judged good ∙ declarations_judged declared ∙ ap (judged_by class_outcome) instances
+  pub modules_say : {T : Type 0} (r : Result T Halt) → importing.refusal_of parts ≡ None → decl_fault parts ≡ None
+      → Says r (λ _. bodies_outcome parts ≡ None) (λ x. bodies_outcome parts ≡ Some x)
+      → Says r (λ _. modules_outcome parts ≡ None) (λ x. modules_outcome parts ≡ Some x)
+  modules_say r good declared h =
+      subst (λ o. Says r (λ _. o ≡ None) (λ x. o ≡ Some x)) (sym (modules_are good declared)) h
+
+  -- ---- bodies
+
+  -- what is judged behind instances
+  typed : Option Outcome
+  typed = option_or (judged_by type_outcome (type_fault parts)) (judged_by life_outcome (linear_fault parts))
+
+  instances_known : (x : Outcome) → judged_by class_outcome (instance_fault parts) ≡ Some x
+      → bodies_outcome parts ≡ Some x
+  unfolding bodies_outcome typed
+  instances_known x h = ap (λ o. option_or o typed) h
+
+  instances_judged : instance_fault parts ≡ None → bodies_outcome parts ≡ typed
+  unfolding bodies_outcome typed
+  instances_judged none = ap (λ r. option_or (judged_by class_outcome r) typed) none
+
+  types_known : (x : Outcome) → judged_by type_outcome (type_fault parts) ≡ Some x → typed ≡ Some x
+  unfolding typed
+  types_known x h = ap (λ o. option_or o (judged_by life_outcome (linear_fault parts))) h
+
+  types_judged : type_fault parts ≡ None → typed ≡ judged_by life_outcome (linear_fault parts)
+  unfolding typed
+  types_judged none =
+      ap (λ r. option_or (judged_by type_outcome r) (judged_by life_outcome (linear_fault parts))) none
+
+  pub instances_halt : {T : Type 0} (e : ClassFault) (G : T → Type 0)
+      → (e ≡ classes.Memory) ⊎ (instance_fault parts ≡ Some e)
+      → Says {T = T} (Err (known_or_memory (class_outcome e))) G (λ x. bodies_outcome parts ≡ Some x)
+  instances_halt e G h =
+      judged_says class_outcome classes.Memory of_instances e (instance_fault parts) G _ h instances_known
+
+  pub types_halt : {T : Type 0} (e : TypeFault) (G : T → Type 0) → instance_fault parts ≡ None
+      → (e ≡ typing.Memory) ⊎ (type_fault parts ≡ Some e)
+      → Says {T = T} (Err (known_or_memory (type_outcome e))) G (λ x. bodies_outcome parts ≡ Some x)
+  types_halt e G instances h =
+      judged_says type_outcome typing.Memory of_types e (type_fault parts) G _ h
+      (λ x k. instances_judged instances ∙ types_known x k)
+
+  pub lives_halt : {T : Type 0} (e : LinearFault) (G : T → Type 0) → instance_fault parts ≡ None
+      → type_fault parts ≡ None → (e ≡ lives.Memory) ⊎ (linear_fault parts ≡ Some e)
+      → Says {T = T} (Err (known_or_memory (life_outcome e))) G (λ x. bodies_outcome parts ≡ Some x)
+  lives_halt e G instances types h =
+      judged_says life_outcome lives.Memory of_lives e (linear_fault parts) G _ h
+      (λ x k. instances_judged instances ∙ types_judged types ∙ k)
+
+  -- what stands in bodies is good
+  pub bodies_good : instance_fault parts ≡ None → type_fault parts ≡ None → linear_fault parts ≡ None
+      → bodies_outcome parts ≡ None
+  bodies_good instances types none =
+      instances_judged instances ∙ types_judged types ∙ ap (judged_by life_outcome) none
 
 -- the shipped files, and those of the user
 entries_of : (files : List FileTree) → map entry files ≡ map (λ (f : ℕ × PlainModule). record { file = f.0; tree = f.1 }) (map file_says files)

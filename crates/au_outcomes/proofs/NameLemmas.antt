@@ -4,6 +4,7 @@ use Rattle.au_base.specs.Limits.{most_file_bytes}
 use Rattle.au_base.specs.Outside.{Files}
 use Rattle.au_outcomes.specs.Halts.{IsUnhad}
 use Rattle.au_outcomes.specs.Outcomes.{AreFiles, BytesCome, Comes, FewCome, IsFile, IsFirst, file_limit, is_outcome, most_files}
+use Rattle.au_outcomes.specs.declared.outcomes.Aim.{Aim}
 use Rattle.au_outcomes.specs.declared.outcomes.Outcome.{Outcome}
 use Rattle.au_outcomes.specs.declared.outcomes.Outcome.TheVariants as outcome
 use Rattle.au_outcomes.proofs.FetchLemmas.{few_had}
@@ -76,15 +77,18 @@ files_same files (name ∷ names) (a ∷ xs) [] x y = absurd y
 files_same files (name ∷ names) (a ∷ xs) (b ∷ ys) x y =
     ap (λ one. one ∷ xs) (one_bytes files name a b x.0.0 y.0.0) ∙ ap (λ l. b ∷ l) (files_same files names xs ys x.1 y.1)
 
-few_same : (files : Files) (names : List (List ℕ)) (x y : Outcome) → FewCome files names x → FewCome files names y → x ≡ y
-few_same files names x y a b = elim (few_had files names x a) [
-  | inl p ↦ elim (few_had files names y b) [
+few_same : (aim : Aim) (files : Files) (names : List (List ℕ)) (x y : Outcome) → FewCome aim files names x
+    → FewCome aim files names y → x ≡ y
+few_same aim files names x y a b = elim (few_had aim files names x a) [
+  | inl p ↦ elim (few_had aim files names y b) [
     | inl q ↦ first_same files names x y p q
     | inr q ↦ absurd (first_or_files files names q.0 x p q.1)
   ]
-  | inr p ↦ elim (few_had files names y b) [
+  | inr p ↦ elim (few_had aim files names y b) [
     | inl q ↦ absurd (first_or_files files names p.0 y q p.1)
-    | inr q ↦ bytes_same p.0 x y p.2 (subst (λ all. BytesCome all y) (files_same files names q.0 p.0 q.1 p.1) q.2)
+    | inr q ↦
+        bytes_same aim p.0 x y p.2
+        (subst (λ all. BytesCome aim all y) (files_same files names q.0 p.0 q.1 p.1) q.2)
   ]
 ]
 
@@ -93,28 +97,32 @@ pub many_or_few : (count : ℕ) → most_files < count → count ≤ most_files 
 many_or_few count many few = omega arith
 
 -- the files of names come to one thing
-pub comes_same : (files : Files) (names : List (List ℕ)) (x y : Outcome) → Comes files names x → Comes files names y → x ≡ y
-comes_same files names x y a b = elim a [
+pub comes_same : (aim : Aim) (files : Files) (names : List (List ℕ)) (x y : Outcome) → Comes aim files names x
+    → Comes aim files names y → x ≡ y
+comes_same aim files names x y a b = elim a [
   | inl p ↦ elim b [
     | inl q ↦ p.1 ∙ sym q.1
     | inr q ↦ absurd (many_or_few (length names) p.0 q.0)
   ]
   | inr p ↦ elim b [
     | inl q ↦ absurd (many_or_few (length names) q.0 p.0)
-    | inr q ↦ few_same files names x y p.1 q.1
+    | inr q ↦ few_same aim files names x y p.1 q.1
   ]
 ]
 
 -- what the files of names come to is an outcome
-few_outcome : (files : Files) (names : List (List ℕ)) (x : Outcome) → FewCome files names x → is_outcome x ≡ true
-few_outcome files names outcome.NoJob h = refl
-few_outcome files names (outcome.Missing name) h = refl
-few_outcome files names (outcome.Passes limit) h = refl
-few_outcome files names (outcome.Refused refusal) h = bytes_found h.0 (outcome.Refused refusal) h.2
-few_outcome files names (outcome.Prints first) h = refl
+few_outcome : (aim : Aim) (files : Files) (names : List (List ℕ)) (x : Outcome) → FewCome aim files names x
+    → is_outcome x ≡ true
+few_outcome aim files names outcome.NoJob h = refl
+few_outcome aim files names (outcome.Missing name) h = refl
+few_outcome aim files names (outcome.Passes limit) h = refl
+few_outcome aim files names (outcome.Refused refusal) h = bytes_found aim h.0 (outcome.Refused refusal) h.2
+few_outcome aim files names outcome.Accepted h = refl
+few_outcome aim files names (outcome.Prints first) h = refl
 
-pub comes_outcome : (files : Files) (names : List (List ℕ)) (x : Outcome) → Comes files names x → is_outcome x ≡ true
-comes_outcome files names x h = elim h [
+pub comes_outcome : (aim : Aim) (files : Files) (names : List (List ℕ)) (x : Outcome) → Comes aim files names x
+    → is_outcome x ≡ true
+comes_outcome aim files names x h = elim h [
   | inl p ↦ ap is_outcome p.1
-  | inr p ↦ few_outcome files names x p.1
+  | inr p ↦ few_outcome aim files names x p.1
 ]

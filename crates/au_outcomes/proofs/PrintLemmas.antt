@@ -10,19 +10,28 @@ use Rattle.au_imports.specs.Importing as importing
 use Rattle.au_modules.specs.declared.faults.ModuleFault.TheVariants as modules
 use Rattle.au_modules.specs.Programs as programs
 use Rattle.au_modules.specs.Programs.{Entry, ModuleParts, modules_of}
+use Rattle.au_notes.specs.declared.faults.TypeFault.TheVariants as typing
+use Rattle.au_noting_programs.specs.Faults.{type_fault}
 use Rattle.au_printing.specs.declared.files.First.{First}
 use Rattle.au_printing.specs.Files.{Reads, IsStrangePlace}
 use Rattle.au_printing.proofs.FileLaws.{one_file, read_or_unfinished, read_or_strange, unfinished_or_strange, one_strange}
+use Rattle.au_program_lives.specs.declared.faults.LinearFault.TheVariants as lives
+use Rattle.au_program_lives.specs.LinearFaults.{linear_fault}
 use Rattle.au_rules.specs.declared.faults.DeclFault.TheVariants as rules
 use Rattle.au_rules.specs.DeclFaults.{decl_fault}
 use Rattle.au_outcomes.specs.Outcomes.{BytesCome}
-use Rattle.au_outcomes.specs.Programs.{IsUnprinting, PrintingComes, PrintsSo, ReadsCome, entries, shipped_entries}
-use Rattle.au_outcomes.specs.Programs.{class_outcome, declaration_outcome, import_outcome, judged_by, module_outcome, modules_outcome, program_outcome}
+use Rattle.au_outcomes.specs.Programs.{AcceptedCome, IsUnprinting, PrintingComes, PrintsSo, ReadsCome, entries}
+use Rattle.au_outcomes.specs.Programs.{bodies_outcome, class_outcome, declaration_outcome, import_outcome, judged_by}
+use Rattle.au_outcomes.specs.Programs.{life_outcome, module_outcome, modules_outcome, program_outcome}
+use Rattle.au_outcomes.specs.Programs.{shipped_entries, type_outcome}
 use Rattle.au_outcomes.specs.Trees.{IsNoPrinting, ReadFile}
+use Rattle.au_outcomes.specs.declared.outcomes.Aim.{Aim}
+use Rattle.au_outcomes.specs.declared.outcomes.Aim.TheVariants as aims
 use Rattle.au_outcomes.specs.declared.outcomes.Outcome.{Outcome}
 use Rattle.au_outcomes.specs.declared.outcomes.Outcome.TheVariants as outcome
 use Rattle.au_refusals.specs.declared.refusals.Refusal.TheVariants as refusal
-use Rattle.au_outcomes.proofs.FaultLemmas.{judged_found, of_declarations, of_imports, of_instances, of_modules, or_some}
+use Rattle.au_outcomes.proofs.FaultLemmas.{judged_found, of_declarations, of_imports, of_instances, of_lives}
+use Rattle.au_outcomes.proofs.FaultLemmas.{of_modules, of_types, or_some}
 use Rattle.au_outcomes.proofs.HaltLemmas.{is_of_files, are_read_same, first_found, first_halts_or_read, first_halts_same}
 
 -- the place where a file stops is one
@@ -104,6 +113,12 @@ printing_same (one ∷ next ∷ rest) x y a b = elim a [
   ]
 ]
 
+-- what accepted files come to is one thing
+accepted_same : (aim : Aim) (reads : List ReadFile) (x y : Outcome) → AcceptedCome aim reads x
+    → AcceptedCome aim reads y → x ≡ y
+accepted_same aims.Run reads x y a b = printing_same reads x y a b
+accepted_same aims.Check reads x y a b = a ∙ sym b
+
 -- what is judged is one thing
 one_some : (o : Option Outcome) (x y : Outcome) → o ≡ Some x → o ≡ Some y → x ≡ y
 one_some o x y a b = let e : Some x ≡ Some y = sym a ∙ b in cc
@@ -112,8 +127,9 @@ some_or_none : (o : Option Outcome) (x : Outcome) → o ≡ Some x → o ≡ Non
 some_or_none o x a b = let e : Some x ≡ None = sym a ∙ b in cc
 
 -- files that were read come to one thing
-reads_same : (reads : List ReadFile) (x y : Outcome) → ReadsCome reads x → ReadsCome reads y → x ≡ y
-reads_same reads x y a b =
+reads_same : (aim : Aim) (reads : List ReadFile) (x y : Outcome) → ReadsCome aim reads x → ReadsCome aim reads y
+    → x ≡ y
+reads_same aim reads x y a b =
     let judged = program_outcome (shipped_entries ++ entries 0 reads) in
     elim a [
       | inl p ↦ elim b [
@@ -122,24 +138,37 @@ reads_same reads x y a b =
       ]
       | inr p ↦ elim b [
         | inl q ↦ absurd (some_or_none judged y q p.0)
-        | inr q ↦ printing_same reads x y p.1 q.1
+        | inr q ↦ accepted_same aim reads x y p.1 q.1
       ]
     ]
 
 -- the bytes of files come to one thing
-pub bytes_same : (all : List (List ℕ)) (x y : Outcome) → BytesCome all x → BytesCome all y → x ≡ y
-bytes_same all x y a b = elim a [
+pub bytes_same : (aim : Aim) (all : List (List ℕ)) (x y : Outcome) → BytesCome aim all x → BytesCome aim all y
+    → x ≡ y
+bytes_same aim all x y a b = elim a [
   | inl p ↦ elim b [
     | inl q ↦ first_halts_same 0 all x y p q
     | inr q ↦ absurd (first_halts_or_read 0 all x q.0 p q.1)
   ]
   | inr p ↦ elim b [
     | inl q ↦ absurd (first_halts_or_read 0 all y p.0 q p.1)
-    | inr q ↦ reads_same p.0 x y p.2 (subst (λ rs. ReadsCome rs y) (are_read_same 0 all q.0 p.0 q.1 p.1) q.2)
+    | inr q ↦
+        reads_same aim p.0 x y p.2
+        (subst (λ rs. ReadsCome aim rs y) (are_read_same 0 all q.0 p.0 q.1 p.1) q.2)
   ]
 ]
 
 -- ---- what comes from the bytes of files
+
+bodies_found : (parts : List ModuleParts) (x : Outcome) → bodies_outcome parts ≡ Some x → is_of_files x ≡ true
+unfolding bodies_outcome
+bodies_found parts x h = elim (or_some (judged_by class_outcome (instance_fault parts)) _ x h) [
+  | inl p ↦ judged_found class_outcome classes.Memory of_instances (instance_fault parts) x p
+  | inr p ↦ elim (or_some (judged_by type_outcome (type_fault parts)) _ x p) [
+    | inl q ↦ judged_found type_outcome typing.Memory of_types (type_fault parts) x q
+    | inr q ↦ judged_found life_outcome lives.Memory of_lives (linear_fault parts) x q
+  ]
+]
 
 modules_found : (parts : List ModuleParts) (x : Outcome) → modules_outcome parts ≡ Some x → is_of_files x ≡ true
 unfolding modules_outcome
@@ -147,7 +176,7 @@ modules_found parts x h = elim (or_some (judged_by import_outcome (importing.ref
   | inl p ↦ judged_found import_outcome imports.Memory of_imports (importing.refusal_of parts) x p
   | inr p ↦ elim (or_some (judged_by declaration_outcome (decl_fault parts)) _ x p) [
     | inl q ↦ judged_found declaration_outcome rules.Memory of_declarations (decl_fault parts) x q
-    | inr q ↦ judged_found class_outcome classes.Memory of_instances (instance_fault parts) x q
+    | inr q ↦ bodies_found parts x q
   ]
 ]
 
@@ -169,14 +198,19 @@ printing_found (one ∷ next ∷ rest) x h = elim h [
   | inr p ↦ printing_found (next ∷ rest) x p.1
 ]
 
-reads_found : (reads : List ReadFile) (x : Outcome) → ReadsCome reads x → is_of_files x ≡ true
-reads_found reads x h = elim h [
+accepted_found : (aim : Aim) (reads : List ReadFile) (x : Outcome) → AcceptedCome aim reads x
+    → is_of_files x ≡ true
+accepted_found aims.Run reads x h = printing_found reads x h
+accepted_found aims.Check reads x h = ap is_of_files h
+
+reads_found : (aim : Aim) (reads : List ReadFile) (x : Outcome) → ReadsCome aim reads x → is_of_files x ≡ true
+reads_found aim reads x h = elim h [
   | inl p ↦ program_found (shipped_entries ++ entries 0 reads) x p
-  | inr p ↦ printing_found reads x p.1
+  | inr p ↦ accepted_found aim reads x p.1
 ]
 
-pub bytes_found : (all : List (List ℕ)) (x : Outcome) → BytesCome all x → is_of_files x ≡ true
-bytes_found all x h = elim h [
+pub bytes_found : (aim : Aim) (all : List (List ℕ)) (x : Outcome) → BytesCome aim all x → is_of_files x ≡ true
+bytes_found aim all x h = elim h [
   | inl p ↦ first_found 0 all x p
-  | inr p ↦ reads_found p.0 x p.2
+  | inr p ↦ reads_found aim p.0 x p.2
 ]

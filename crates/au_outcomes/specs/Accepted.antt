@@ -1,14 +1,19 @@
--- Which files are accepted, as far as they are judged: those of a program that the written rules derive.
+-- Which files are accepted: those of a program that the written rules derive, and whose variables have good
+-- lives.
 use Rattle.std.specs.Prelude.{ℕ, ◌≤◌, ◌++◌, Bool, true, false, List, length}
 use Rattle.au_base.specs.Outside.{Files}
 use Rattle.au_classes.specs.Good.{InstancesAreGood}
+use Rattle.au_derivations.specs.Trees.{NotedParts}
 use Rattle.au_modules.specs.Accepted.{IsProgram}
 use Rattle.au_modules.specs.Programs.{Entry, ModuleParts, modules_of}
 use Rattle.au_name_faults.specs.Good.{AllNamesAreGood}
+use Rattle.au_noting_programs.specs.Faults.{IsDerived}
+use Rattle.au_program_lives.specs.Good.{AllLivesAreGood}
 use Rattle.au_promises.specs.Fulfilled.{AllFulfil}
 use Rattle.au_refusals.specs.declared.refusals.Refusal.{Refusal}
 use Rattle.au_refusals.specs.declared.refusals.Refusal.TheVariants.{Byte, Syntax, NotYet, WordNotYet}
 use Rattle.au_refusals.specs.declared.refusals.Refusal.TheVariants.{Pair, Import, Declaration, Instance}
+use Rattle.au_refusals.specs.declared.refusals.Refusal.TheVariants.{Typing, Linear}
 use Rattle.au_rules.specs.Good.{AllDeclarationsAreGood}
 use Rattle.au_outcomes.specs.Outcomes.{AreFiles, most_files}
 use Rattle.au_outcomes.specs.Programs.{entries, shipped_entries}
@@ -27,7 +32,8 @@ program_modules reads = modules_of (program_files reads)
 -- Files of these names are accepted, with these bytes and as these trees: they are as few as they may be. They have
 -- these bytes, and none is too large. Each is cut into tokens that are the words of its tree, within the limits. With
 -- the shipped ones they are the files of a program. In its modules all names are good, every body fulfils its
--- interface, all declarations are good, and all instances are.
+-- interface, all declarations are good, and all instances are. The rules of typing derive the modules with
+-- some notes, and each variable has a good life.
 pub record AreAcceptedAs (files : Files) (names all : List (List ℕ)) (reads : List ReadFile) : Type 0 where
   pub few : length names ≤ most_files
   pub had : AreFiles files names all
@@ -37,6 +43,9 @@ pub record AreAcceptedAs (files : Files) (names all : List (List ℕ)) (reads : 
   pub kept : AllFulfil (program_modules reads)
   pub declared : AllDeclarationsAreGood (program_modules reads)
   pub instances : InstancesAreGood (program_modules reads)
+  pub noted : List NotedParts
+  pub derives : IsDerived (program_modules reads) noted
+  pub lives : AllLivesAreGood (program_modules reads)
 
 -- The files of these names are accepted.
 abbrev pub Accepted : Files → List (List ℕ) → Type 0
@@ -52,12 +61,15 @@ is_unbuilt (Pair fault) = false
 is_unbuilt (Import fault) = false
 is_unbuilt (Declaration fault) = false
 is_unbuilt (Instance fault) = false
+is_unbuilt (Typing fault) = false
+is_unbuilt (Linear fault) = false
 
--- whether files come to this behind the steps that judge whether they are accepted: the program prints, or a file is
--- none that prints, which is refused as what isn't built yet
+-- whether files come to this behind the steps that judge whether they are accepted: that is told, or the
+-- program prints, or a file is none that prints, which is refused as what isn't built yet
 abbrev pub is_behind : Outcome → Bool
 is_behind outcome.NoJob = false
 is_behind (outcome.Missing name) = false
 is_behind (outcome.Passes limit) = false
 is_behind (outcome.Refused refusal) = is_unbuilt refusal
+is_behind outcome.Accepted = true
 is_behind (outcome.Prints first) = true

@@ -1,14 +1,15 @@
--- Why a program prints nothing.
+-- Why it is known what a program comes to before it is whole.
 use Rattle.std.specs.Prelude.{◌≡◌, ℕ, ◌≤◌, Bool, true, false, List, ◌∷◌, ◌++◌, length, Option, Some, None, IfSome, Result, Ok, Err, Vec}
 use Rattle.std.specs.Global.{Global}
 use Rattle.au_base.specs.Outside.{Files}
 use Rattle.au_lexer.specs.declared.lexing.LexFault.{LexFault}
 use Rattle.au_lexer.specs.declared.lexing.LexFault.TheVariants as lexing
-use Rattle.au_outcomes.specs.Outcomes.{AreFiles, Comes, FewCome, IsTooLarge, file_limit, most_files}
+use Rattle.au_outcomes.specs.Outcomes.{AreFiles, Comes, IsFirst, IsTooLarge, file_limit, most_files}
 use Rattle.au_outcomes.specs.declared.halts.CheckFault.{CheckFault}
 use Rattle.au_outcomes.specs.declared.halts.CheckFault.TheVariants as fault
 use Rattle.au_outcomes.specs.declared.halts.Halt.{Halt}
 use Rattle.au_outcomes.specs.declared.halts.Halt.TheVariants as halt
+use Rattle.au_outcomes.specs.declared.outcomes.Aim.{Aim}
 use Rattle.au_outcomes.specs.declared.outcomes.Outcome.{Outcome}
 use Rattle.au_outcomes.specs.declared.outcomes.Outcome.TheVariants as outcome
 use Rattle.au_refusals.specs.declared.refusals.Refusal.TheVariants.{Byte}
@@ -32,15 +33,12 @@ is_missing outcome.NoJob = false
 is_missing (outcome.Missing name) = true
 is_missing (outcome.Passes limit) = false
 is_missing (outcome.Refused refusal) = false
+is_missing outcome.Accepted = false
 is_missing (outcome.Prints first) = false
 
--- The program of files of these names, of those that are told, comes to this.
-abbrev pub ComesTo : Option Files → List (List ℕ) → Outcome → Type 0
-ComesTo told names arisen = (files : Files) × AreTold told files × Comes files names arisen
-
--- The same, where the files are as few as they may be.
-abbrev pub FewComeTo : Option Files → List (List ℕ) → Outcome → Type 0
-FewComeTo told names arisen = (files : Files) × AreTold told files × FewCome files names arisen
+-- The program of files of these names, of those that are told, comes to this where this is asked of it.
+abbrev pub ComesTo : Aim → Option Files → List (List ℕ) → Outcome → Type 0
+ComesTo aim told names arisen = (files : Files) × AreTold told files × Comes aim files names arisen
 
 -- The files of these names, of those that are told, have these bytes.
 abbrev pub AreFilesOf : Option Files → List (List ℕ) → List (List ℕ) → Type 0
@@ -82,7 +80,13 @@ IsUnhad files name (outcome.Missing other) = (name ≡ other) × (files name ≡
 IsUnhad files name (outcome.Passes limit) = (limit ≡ file_limit) × IsTooLarge files name
 IsUnhad files name outcome.NoJob = ⊥
 IsUnhad files name (outcome.Refused refusal) = ⊥
+IsUnhad files name outcome.Accepted = ⊥
 IsUnhad files name (outcome.Prints first) = ⊥
+
+-- The first of the files of these names that can't be had, of those that are told, can't be had for this.
+abbrev pub FirstUnhad : Option Files → List (List ℕ) → Outcome → Type 0
+FirstUnhad told names arisen =
+    (files : Files) × AreTold told files × IsFirst (λ one. IsUnhad files one arisen) files names
 
 -- The files of which one has what was found under its name, as the files that are told do: Q holds of them.
 abbrev pub Tells : Option Files → List ℕ → (Files → Type 0) → Type 0

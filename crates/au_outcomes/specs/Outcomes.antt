@@ -7,6 +7,7 @@ use Rattle.au_base.specs.Outside.{Files}
 use Rattle.au_refusals.specs.Refusals.{is_refusal}
 use Rattle.au_outcomes.specs.Programs.{ReadsCome}
 use Rattle.au_outcomes.specs.Trees.{AreRead, FirstHalts, ReadFile}
+use Rattle.au_outcomes.specs.declared.outcomes.Aim.{Aim}
 use Rattle.au_outcomes.specs.declared.outcomes.Outcome.{Outcome}
 use Rattle.au_outcomes.specs.declared.outcomes.Outcome.TheVariants as outcome
 
@@ -16,6 +17,7 @@ is_outcome outcome.NoJob = true
 is_outcome (outcome.Missing name) = true
 is_outcome (outcome.Passes limit) = true
 is_outcome (outcome.Refused refusal) = is_refusal refusal
+is_outcome outcome.Accepted = true
 is_outcome (outcome.Prints first) = true
 
 -- the limit of a file's bytes, with the one count that passes it
@@ -50,26 +52,31 @@ most_files = 128
 abbrev pub files_limit : ℕ → Limit
 files_limit count = record { kind = kind.Files; count = count; most = most_files }
 
--- What a program comes to, by the bytes of its files: the first file that can't be read counts, and where each
--- is read, what is read.
-abbrev pub BytesCome : List (List ℕ) → Outcome → Type 0
-BytesCome all arisen = FirstHalts 0 all arisen ⊎ ((reads : List ReadFile) × AreRead 0 all reads × ReadsCome reads arisen)
+-- What a program comes to of which this is asked, by the bytes of its files: the first file that can't be
+-- read counts, and where each is read, what is read.
+abbrev pub BytesCome : Aim → List (List ℕ) → Outcome → Type 0
+BytesCome aim all arisen =
+    FirstHalts 0 all arisen ⊎ ((reads : List ReadFile) × AreRead 0 all reads × ReadsCome aim reads arisen)
 
 -- The files of these names can be had, and come to this.
-abbrev pub FilesCome : Files → List (List ℕ) → Outcome → Type 0
-FilesCome files names arisen = (all : List (List ℕ)) × AreFiles files names all × BytesCome all arisen
+abbrev pub FilesCome : Aim → Files → List (List ℕ) → Outcome → Type 0
+FilesCome aim files names arisen = (all : List (List ℕ)) × AreFiles files names all × BytesCome aim all arisen
 
 -- What a program of so few files as it may have comes to, by their names: they are fetched in order, and then
 -- they are read.
-abbrev pub FewCome : Files → List (List ℕ) → Outcome → Type 0
-FewCome files names outcome.NoJob = ⊥
-FewCome files names (outcome.Missing name) = IsFirst (λ one. (one ≡ name) × (files one ≡ None)) files names
-FewCome files names (outcome.Passes limit) = ((limit ≡ file_limit) × IsFirst (IsTooLarge files) files names) ⊎ FilesCome files names (outcome.Passes limit)
-FewCome files names (outcome.Refused refusal) = FilesCome files names (outcome.Refused refusal)
-FewCome files names (outcome.Prints first) = FilesCome files names (outcome.Prints first)
+abbrev pub FewCome : Aim → Files → List (List ℕ) → Outcome → Type 0
+FewCome aim files names outcome.NoJob = ⊥
+FewCome aim files names (outcome.Missing name) =
+    IsFirst (λ one. (one ≡ name) × (files one ≡ None)) files names
+FewCome aim files names (outcome.Passes limit) =
+    ((limit ≡ file_limit) × IsFirst (IsTooLarge files) files names)
+    ⊎ FilesCome aim files names (outcome.Passes limit)
+FewCome aim files names (outcome.Refused refusal) = FilesCome aim files names (outcome.Refused refusal)
+FewCome aim files names outcome.Accepted = FilesCome aim files names outcome.Accepted
+FewCome aim files names (outcome.Prints first) = FilesCome aim files names (outcome.Prints first)
 
--- What a program comes to, by the names of its files.
-abbrev pub Comes : Files → List (List ℕ) → Outcome → Type 0
-Comes files names arisen =
+-- What a program comes to of which this is asked, by the names of its files.
+abbrev pub Comes : Aim → Files → List (List ℕ) → Outcome → Type 0
+Comes aim files names arisen =
     ((most_files < length names) × (arisen ≡ outcome.Passes (files_limit (length names))))
-    ⊎ ((length names ≤ most_files) × FewCome files names arisen)
+    ⊎ ((length names ≤ most_files) × FewCome aim files names arisen)

@@ -1,6 +1,7 @@
 -- What the files of a program come to once they are read: they are gathered into modules behind the shipped
--- ones, the names and promises of the modules are judged, then their declarations, then their instances, and
--- then each file in order is one that prints.
+-- ones, the names and promises of the modules are judged, then their declarations, then their instances, then
+-- the types in bodies, and then the lives of variables. Where all of this is good the program is accepted;
+-- and where it's run, each file in order is one that prints.
 use Rattle.std.specs.Prelude.{◌≡◌, ◌⊎◌, ◌+◌, ℕ, List, [], ◌∷◌, ◌++◌, map, Option, None, Some}
 use Rattle.std.specs.Option.{option_or}
 use Rattle.au_printing.specs.declared.files.First.{First}
@@ -17,10 +18,18 @@ use Rattle.au_classes.specs.Faults.{instance_fault}
 use Rattle.au_imports.specs.declared.faults.ImportFault.{ImportFault}
 use Rattle.au_imports.specs.declared.faults.ImportFault.TheVariants as imports
 use Rattle.au_imports.specs.Importing as importing
+use Rattle.au_notes.specs.declared.faults.TypeFault.{TypeFault}
+use Rattle.au_notes.specs.declared.faults.TypeFault.TheVariants as typing
+use Rattle.au_noting_programs.specs.Faults.{type_fault}
+use Rattle.au_program_lives.specs.declared.faults.LinearFault.{LinearFault}
+use Rattle.au_program_lives.specs.declared.faults.LinearFault.TheVariants as lives
+use Rattle.au_program_lives.specs.LinearFaults.{linear_fault}
 use Rattle.au_rules.specs.declared.faults.DeclFault.{DeclFault}
 use Rattle.au_rules.specs.declared.faults.DeclFault.TheVariants as rules
 use Rattle.au_rules.specs.DeclFaults.{decl_fault}
 use Rattle.au_outcomes.specs.Trees.{ReadFile, IsNoPrinting}
+use Rattle.au_outcomes.specs.declared.outcomes.Aim.{Aim}
+use Rattle.au_outcomes.specs.declared.outcomes.Aim.TheVariants as aims
 use Rattle.au_outcomes.specs.declared.outcomes.Outcome.{Outcome}
 use Rattle.au_outcomes.specs.declared.outcomes.Outcome.TheVariants as outcome
 use Rattle.au_refusals.specs.declared.refusals.Refusal.TheVariants as refusal
@@ -55,17 +64,34 @@ abbrev pub class_outcome : ClassFault → Option Outcome
 class_outcome classes.Memory = None
 class_outcome fault = Some (outcome.Refused (refusal.Instance fault))
 
+-- what a program comes to of which a statement isn't well typed, or a noted type passes a limit
+abbrev pub type_outcome : TypeFault → Option Outcome
+type_outcome (typing.Limit limit) = Some (outcome.Passes limit)
+type_outcome typing.Memory = None
+type_outcome fault = Some (outcome.Refused (refusal.Typing fault))
+
+-- what a program comes to of which a variable has no good life
+abbrev pub life_outcome : LinearFault → Option Outcome
+life_outcome lives.Memory = None
+life_outcome fault = Some (outcome.Refused (refusal.Linear fault))
+
 -- what is judged of the files of a program, the shipped ones first
 abbrev pub judged_by : {F : Type 0} → (F → Option Outcome) → Option F → Option Outcome
 judged_by outcome_of None = None
 judged_by outcome_of (Some fault) = outcome_of fault
 
--- names and promises are good, and then declarations, and then instances, or the program comes to this
+-- instances are good, and then types, and then lives, or the program comes to this
+unfoldable pub bodies_outcome : List ModuleParts → Option Outcome
+bodies_outcome program =
+    option_or (judged_by class_outcome (instance_fault program))
+    (option_or (judged_by type_outcome (type_fault program)) (judged_by life_outcome (linear_fault program)))
+
+-- names and promises are good, and then declarations, and then what stands in bodies, or the program comes to
+-- this
 unfoldable pub modules_outcome : List ModuleParts → Option Outcome
 modules_outcome program =
     option_or (judged_by import_outcome (importing.refusal_of program))
-    (option_or (judged_by declaration_outcome (decl_fault program))
-    (judged_by class_outcome (instance_fault program)))
+    (option_or (judged_by declaration_outcome (decl_fault program)) (bodies_outcome program))
 
 -- the files are those of modules, which are good, or the program comes to this
 unfoldable pub program_outcome : List Entry → Option Outcome
@@ -91,8 +117,14 @@ PrintingComes (one ∷ []) arisen = IsUnprinting one arisen ⊎ PrintsSo one ari
 PrintingComes (one ∷ next ∷ rest) arisen =
     IsUnprinting one arisen ⊎ (((first : First) × Reads first one.tokens) × PrintingComes (next ∷ rest) arisen)
 
+-- What accepted files come to: where no more is asked they are accepted, and where their program is run it is
+-- seen what they print.
+abbrev pub AcceptedCome : Aim → List ReadFile → Outcome → Type 0
+AcceptedCome aims.Run reads arisen = PrintingComes reads arisen
+AcceptedCome aims.Check reads arisen = arisen ≡ outcome.Accepted
+
 -- What a program comes to whose files were read.
-abbrev pub ReadsCome : List ReadFile → Outcome → Type 0
-ReadsCome reads arisen =
+abbrev pub ReadsCome : Aim → List ReadFile → Outcome → Type 0
+ReadsCome aim reads arisen =
     (program_outcome (shipped_entries ++ entries 0 reads) ≡ Some arisen)
-    ⊎ ((program_outcome (shipped_entries ++ entries 0 reads) ≡ None) × PrintingComes reads arisen)
+    ⊎ ((program_outcome (shipped_entries ++ entries 0 reads) ≡ None) × AcceptedCome aim reads arisen)

@@ -1,4 +1,4 @@
-//! What a program of files comes to, in the order of refusals.
+//! What a program of files comes to of which this or that is asked, in the order of refusals.
 
 ghost use Rattle.std.specs.Prelude.{◌≡◌, ◌≤◌, ◌<◌, All, false, map, length, IfOk, IsTrue};
 ghost use Rattle.std.specs.String.{string_bytes};
@@ -10,24 +10,24 @@ ghost use Rattle.au_outcomes.specs.declared.outcomes.Outcome.TheVariants as outc
 
 use crate::fetching::fetch_all;
 use crate::halts::{CheckFault, Halt};
-use crate::judging::{judge, printed};
-use crate::outcomes::Outcome;
+use crate::judging::{accepted_outcome, judge};
+use crate::outcomes::{Aim, Outcome};
 use crate::reading::{Sources, read_all};
 use au_base::{Limit, LimitKind, Shelf};
-use au_printing::First;
 use std::alloc::Global;
 
 /// The most files of a program.
 pub const MOST_FILES: usize = 128;
 
-/// What the program of files of these names comes to.
+/// What the program of files of these names comes to, of which this is asked.
 pub fn check<S: Shelf>(
     alloc: Global,
+    aim: Aim,
     shelf: &mut S,
     names: &[String],
 ) -> Result<Outcome, CheckFault>
     requires { 0 < length names.now }
-    ensures comes { IfOk result (ComesTo (S.files shelf.old) (map string_bytes names.now)) }
+    ensures comes { IfOk result (ComesTo aim (S.files shelf.old) (map string_bytes names.now)) }
     // Where the shelf failed, it failed behind files that can be had.
     ensures stops { IsTrue (is_read_fault result) → StopsIn (S.files shelf.old) (map string_bytes names.now) }
     // Where the files are too many, none is fetched.
@@ -38,31 +38,37 @@ pub fn check<S: Shelf>(
     ensures misses_stay { S.misses shelf.old ≤ S.misses shelf.new }
     ensures files { S.files shelf.new ≡ S.files shelf.old }
 {
-    match program(alloc, shelf, names) {
-        Ok(first) => Ok(Outcome::Prints(first)),
+    match program(alloc, aim, shelf, names) {
+        Ok(outcome) => Ok(outcome),
         Err(Halt::Known(outcome)) => Ok(outcome),
         Err(Halt::Unknown(fault)) => Err(fault),
     }
 }
 
-/// What the program prints. The order of refusals is that of these steps: the files are counted, all are
-/// fetched, and then they are read and judged.
-fn program<S: Shelf>(alloc: Global, shelf: &mut S, names: &[String]) -> Result<First, Halt>
+/// The same. The order of refusals is that of these steps: the files are counted, all are fetched, and then
+/// they are read and judged.
+fn program<S: Shelf>(
+    alloc: Global,
+    aim: Aim,
+    shelf: &mut S,
+    names: &[String],
+) -> Result<Outcome, Halt>
     requires { 0 < length names.now }
-    ensures comes { Says result (λ first. ComesTo (S.files shelf.old) (map string_bytes names.now) (outcome.Prints first))
-        (ComesTo (S.files shelf.old) (map string_bytes names.now)) }
+    ensures comes { Says result (ComesTo aim (S.files shelf.old) (map string_bytes names.now))
+        (ComesTo aim (S.files shelf.old) (map string_bytes names.now)) }
     ensures stops { IsTrue (is_read_halt result) → StopsIn (S.files shelf.old) (map string_bytes names.now) }
     ensures crowded { most_files < length names.now
         → (S.faults shelf.new ≡ S.faults shelf.old) × (S.misses shelf.new ≡ S.misses shelf.old) }
     ensures faults { Counts (is_read_halt result) (S.faults shelf.old) (S.faults shelf.new) }
-    ensures misses { Says result (λ _. S.misses shelf.new ≡ S.misses shelf.old)
+    ensures misses { Says result
+        (λ arisen. Counts (is_missing arisen) (S.misses shelf.old) (S.misses shelf.new))
         (λ arisen. Counts (is_missing arisen) (S.misses shelf.old) (S.misses shelf.new)) }
     ensures misses_stay { S.misses shelf.old ≤ S.misses shelf.new }
     ensures files { S.files shelf.new ≡ S.files shelf.old }
 {
     few_enough(names.len())?;
     let all = fetch_all(alloc, shelf, names)?;
-    first_of(alloc, all.as_slice())
+    outcome_of(alloc, aim, all.as_slice())
 }
 
 /// The files are as few as a program may have.
@@ -81,16 +87,17 @@ fn few_enough(count: usize) -> Result<(), Halt>
     Ok(())
 }
 
-/// What the program of files of these bytes prints: all are read, then their modules are judged, and then
-/// it is seen whether they print.
-fn first_of(alloc: Global, all: &[Vec<u8>]) -> Result<First, Halt>
+/// What the program of files of these bytes comes to: all are read, then their modules are judged, and then
+/// comes what is asked.
+fn outcome_of(alloc: Global, aim: Aim, all: &[Vec<u8>]) -> Result<Outcome, Halt>
     requires some { 0 < length all.now }
     requires few { length all.now ≤ most_files }
     requires small { All (λ bytes. length bytes.items ≤ most_file_bytes) all.now }
-    ensures comes { Says result (λ first. BytesCome (map bytes_in all.now) (outcome.Prints first)) (BytesCome (map bytes_in all.now)) }
+    ensures comes { Says result (BytesCome aim (map bytes_in all.now))
+        (BytesCome aim (map bytes_in all.now)) }
     ensures is_read { is_read_halt result ≡ false }
 {
     let Sources { trees, printings } = read_all(alloc, all)?;
     judge(alloc, trees)?;
-    printed(printings)
+    accepted_outcome(aim, printings)
 }

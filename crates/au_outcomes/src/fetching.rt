@@ -4,7 +4,8 @@ ghost use Rattle.std.specs.Prelude.{◌≡◌, ◌≤◌, IfOk, IsTrue, map, len
 ghost use Rattle.std.specs.Str.{bytes_eq};
 ghost use Rattle.std.specs.String.{string_bytes};
 ghost use Rattle.au_base.specs.Outside.{Counts};
-ghost use Rattle.au_outcomes.specs.Halts.{AreFilesOf, Extends, FewComeTo, IsUnhad, Says, StopsIn, Tells, bytes_in, is_missing, is_read_halt};
+ghost use Rattle.au_outcomes.specs.Halts.{AreFilesOf, Extends, FirstUnhad, IsUnhad, Says, StopsIn, Tells};
+ghost use Rattle.au_outcomes.specs.Halts.{bytes_in, is_missing, is_read_halt};
 ghost use Rattle.au_outcomes.specs.Outcomes.{IsFile, most_files};
 
 use crate::halts::{CheckFault, Halt};
@@ -21,7 +22,7 @@ pub fn fetch_all<S: Shelf>(
     requires { length names.now ≤ most_files }
     ensures comes { Says result
         (λ all. AreFilesOf (S.files shelf.old) (map string_bytes names.now) (map bytes_in all.items))
-        (FewComeTo (S.files shelf.old) (map string_bytes names.now)) }
+        (FirstUnhad (S.files shelf.old) (map string_bytes names.now)) }
     ensures stops { IsTrue (is_read_halt result) → StopsIn (S.files shelf.old) (map string_bytes names.now) }
     ensures faults { Counts (is_read_halt result) (S.faults shelf.old) (S.faults shelf.new) }
     ensures misses { Says result (λ _. S.misses shelf.new ≡ S.misses shelf.old)

@@ -2,7 +2,8 @@
 
 ghost use Rattle.std.specs.Prelude.{◌≡◌};
 ghost use Rattle.au_outcomes.specs.Halts.{known_or_memory, lex_halt};
-ghost use Rattle.au_outcomes.specs.Programs.{class_outcome, declaration_outcome, import_outcome, module_outcome};
+ghost use Rattle.au_outcomes.specs.Programs.{class_outcome, declaration_outcome, import_outcome};
+ghost use Rattle.au_outcomes.specs.Programs.{life_outcome, module_outcome, type_outcome};
 ghost use Rattle.au_outcomes.specs.declared.halts.CheckFault.TheVariants as fault;
 ghost use Rattle.au_outcomes.specs.declared.halts.Halt.TheVariants as halt;
 
@@ -12,6 +13,8 @@ use au_classes::ClassFault;
 use au_imports::ImportFault;
 use au_lexer::LexFault;
 use au_modules::ModuleFault;
+use au_notes::TypeFault;
+use au_program_lives::LinearFault;
 use au_refusals::Refusal;
 use au_rules::DeclFault;
 use std::alloc::{AllocError, AllocFailed};
@@ -114,6 +117,29 @@ impl From<ClassFault> for Halt {
         match e {
             ClassFault::Memory => Halt::Unknown(CheckFault::Memory),
             fault => Halt::Known(Outcome::Refused(Refusal::Instance(fault))),
+        }
+    }
+}
+
+impl From<TypeFault> for Halt {
+    ghost from_gives = { λ e h. h ≡ known_or_memory (type_outcome e) };
+
+    fn from(e: TypeFault) -> Halt {
+        match e {
+            TypeFault::Limit(limit) => Halt::Known(Outcome::Passes(limit)),
+            TypeFault::Memory => Halt::Unknown(CheckFault::Memory),
+            fault => Halt::Known(Outcome::Refused(Refusal::Typing(fault))),
+        }
+    }
+}
+
+impl From<LinearFault> for Halt {
+    ghost from_gives = { λ e h. h ≡ known_or_memory (life_outcome e) };
+
+    fn from(e: LinearFault) -> Halt {
+        match e {
+            LinearFault::Memory => Halt::Unknown(CheckFault::Memory),
+            fault => Halt::Known(Outcome::Refused(Refusal::Linear(fault))),
         }
     }
 }

@@ -7,19 +7,22 @@ ghost use Rattle.au_modules.specs.Programs.{entry};
 ghost use Rattle.au_modules.specs.Slots as slots;
 ghost use Rattle.au_outcomes.specs.Halts.{Says, is_read_halt};
 ghost use Rattle.au_outcomes.specs.Outcomes.{most_files};
-ghost use Rattle.au_outcomes.specs.Programs.{PrintingComes, modules_outcome, program_outcome, shipped_entries};
+ghost use Rattle.au_outcomes.specs.Programs.{AcceptedCome, PrintingComes, bodies_outcome, modules_outcome};
+ghost use Rattle.au_outcomes.specs.Programs.{program_outcome, shipped_entries};
 ghost use Rattle.au_outcomes.specs.Reading.{AllPrintSo, first_stop};
 ghost use Rattle.au_outcomes.specs.Trees.{ReadFile};
 ghost use Rattle.au_outcomes.specs.declared.outcomes.Outcome.TheVariants as outcome;
 
 use crate::halts::Halt;
-use crate::outcomes::Outcome;
+use crate::outcomes::{Aim, Outcome};
 use crate::reading::Printing;
 use au_base::{Memory, Pos};
 use au_classes::declare;
-use au_imports::resolve;
+use au_imports::{Resolved, resolve};
 use au_modules::{Modules, gather};
+use au_noting_programs::note_program;
 use au_printing::First;
+use au_program_lives::check_linear;
 use au_refusals::Refusal;
 use au_rules::declarations_hold;
 use au_shipped::shipped;
@@ -40,7 +43,8 @@ pub fn judge(alloc: Global, own: Vec<FileTree>) -> Result<(), Halt>
     judge_modules(alloc, modules)
 }
 
-/// Judges the modules of a program: their names and promises, then their declarations, then their instances.
+/// Judges the modules of a program: their names and promises, then their declarations, then what stands in
+/// bodies.
 fn judge_modules(alloc: Global, modules: Modules) -> Result<(), Halt>
     ensures comes { Says result
         (λ _. modules_outcome (slots.modules modules) ≡ None)
@@ -49,7 +53,19 @@ fn judge_modules(alloc: Global, modules: Modules) -> Result<(), Halt>
 {
     let program = resolve(alloc, modules)?;
     declarations_hold(alloc, &program)?;
-    declare(alloc, &program)?;
+    judge_bodies(alloc, program)
+}
+
+/// Judges what stands in the bodies of a program: its instances, then types, then the lives of variables.
+fn judge_bodies(alloc: Global, resolved: Resolved) -> Result<(), Halt>
+    ensures comes { Says result
+        (λ _. bodies_outcome (slots.modules resolved) ≡ None)
+        (λ arisen. bodies_outcome (slots.modules resolved) ≡ Some arisen) }
+    ensures is_read { is_read_halt result ≡ false }
+{
+    let classes = declare(alloc, &resolved)?;
+    let noted = note_program(alloc, resolved, classes)?;
+    check_linear(alloc, noted.program())?;
     Ok(())
 }
 
@@ -66,9 +82,26 @@ fn with_shipped(alloc: Global, own: Vec<FileTree>) -> Result<Vec<FileTree>, Memo
     Ok(files)
 }
 
+/// What accepted files come to that print so: where no more is asked they are accepted, and where their
+/// program is run it is seen what they print.
+pub fn accepted_outcome(aim: Aim, printings: Vec<Printing>) -> Result<Outcome, Halt>
+    requires { 0 < length printings.items }
+    ensures comes { (reads : List ReadFile) → AllPrintSo printings.items reads
+        → Says result (AcceptedCome aim reads) (AcceptedCome aim reads) }
+    ensures is_read { is_read_halt result ≡ false }
+{
+    match aim {
+        Aim::Check => Ok(Outcome::Accepted),
+        Aim::Run => {
+            let first = printed(printings)?;
+            Ok(Outcome::Prints(first))
+        }
+    }
+}
+
 /// What the program prints, whose files print so: the first that doesn't print ends it, and the last one
 /// says what is printed.
-pub fn printed(printings: Vec<Printing>) -> Result<First, Halt>
+fn printed(printings: Vec<Printing>) -> Result<First, Halt>
     requires { 0 < length printings.items }
     ensures comes { (reads : List ReadFile) → AllPrintSo printings.items reads
         → Says result (λ first. PrintingComes reads (outcome.Prints first)) (PrintingComes reads) }

@@ -15,4 +15,4 @@ mod reading;
 
 pub use checking::{MOST_FILES, check};
 pub use halts::CheckFault;
-pub use outcomes::Outcome;
+pub use outcomes::{Aim, Outcome};

@@ -4,6 +4,15 @@ use au_base::{Limit, Text};
 use au_printing::First;
 use au_refusals::Refusal;
 
+/// What is asked of the program of files.
+#[derive(Clone, Copy, Debug, PartialEq, Eq)]
+pub enum Aim {
+    /// To run.
+    Run,
+    /// To be judged, and no more.
+    Check,
+}
+
 /// What words and files come to, where nothing fails and memory is there.
 #[derive(Drop)]
 pub enum Outcome {
@@ -15,6 +24,8 @@ pub enum Outcome {
     Passes(Limit),
     /// What the words ask for is not built yet, or the program is refused.
     Refused(Refusal),
+    /// The program is accepted, and no more is asked of it.
+    Accepted,
     /// The program prints, and returns an exit code.
     Prints(First),
 }

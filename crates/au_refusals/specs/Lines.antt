@@ -1,4 +1,4 @@
--- The lines on `err`.
+-- The lines on `err`, and the one on `out` for a program that is checked.
 use Rattle.std.specs.Prelude.{ℕ, List, [], ◌∷◌, ◌++◌, unwrap_or, slice_get, codes, decimal}
 use Rattle.au_base.specs.declared.limits.Limit.{Limit}
 use Rattle.au_base.specs.declared.limits.LimitKind.{LimitKind}
@@ -10,6 +10,12 @@ use Rattle.au_imports.specs.declared.faults.ImportFault.{ImportFault}
 use Rattle.au_imports.specs.declared.faults.ImportFault.TheVariants as imports
 use Rattle.au_modules.specs.declared.faults.ModuleFault.{ModuleFault}
 use Rattle.au_modules.specs.declared.faults.ModuleFault.TheVariants as modules
+use Rattle.au_notes.specs.declared.faults.TypeFault.{TypeFault}
+use Rattle.au_notes.specs.declared.faults.TypeFault.TheVariants as typing
+use Rattle.au_notes.specs.Lines.{why_text}
+use Rattle.au_program_lives.specs.declared.faults.LinearFault.{LinearFault}
+use Rattle.au_program_lives.specs.declared.faults.LinearFault.TheVariants as lives
+use Rattle.au_program_lives.specs.Lines.{linear_text}
 use Rattle.au_refusals.specs.declared.refusals.Unbuilt.{Unbuilt}
 use Rattle.au_refusals.specs.declared.refusals.Unbuilt.TheVariants as unbuilt
 use Rattle.au_rules.specs.declared.faults.DeclFault.{DeclFault}
@@ -17,6 +23,7 @@ use Rattle.au_rules.specs.declared.faults.DeclFault.TheVariants as rules
 use Rattle.au_refusals.specs.declared.refusals.Refusal.{Refusal}
 use Rattle.au_refusals.specs.declared.refusals.Refusal.TheVariants.{Byte, Syntax, NotYet, WordNotYet}
 use Rattle.au_refusals.specs.declared.refusals.Refusal.TheVariants.{Pair, Import, Declaration, Instance}
+use Rattle.au_refusals.specs.declared.refusals.Refusal.TheVariants.{Typing, Linear}
 
 -- each line ends with a newline
 abbrev pub line : List ℕ → List ℕ
@@ -29,6 +36,10 @@ words_line = line (codes "words: run [--entry=M:f] [--steps=N] [--life] PART.. |
 -- the line where no file has the name
 abbrev pub missing_line : List ℕ → List ℕ
 missing_line name = line (codes "missing: " ++ name)
+
+-- the line where a program that is checked is accepted, on `out`
+abbrev pub accepted_line : List ℕ
+accepted_line = line (codes "accepted")
 
 -- the line where the shelf failed
 abbrev pub read_fault_line : List ℕ
@@ -64,7 +75,6 @@ place_text names at =
 
 -- the word for what isn't built yet, as its line says it
 abbrev pub unbuilt_word : Unbuilt → List ℕ
-unbuilt_word unbuilt.Check = codes "check"
 unbuilt_word unbuilt.Explain = codes "explain"
 unbuilt_word unbuilt.Compile = codes "compile"
 unbuilt_word unbuilt.Entry = codes "entry"
@@ -108,6 +118,22 @@ instance_text names (classes.Overlap at other) =
 instance_text names (classes.MethodDiffers at) = place_text names at ++ codes ": method differs"
 instance_text names classes.Memory = []
 
+-- which statement isn't well typed, and why
+abbrev pub type_text : List (List ℕ) → TypeFault → List ℕ
+type_text names (typing.Statement at why) = place_text names at ++ codes ": type: " ++ why_text why
+type_text names (typing.Limit limit) = []
+type_text names typing.Memory = []
+
+-- where a variable stands that has no good life, and why it has none
+abbrev pub life_text : List (List ℕ) → LinearFault → List ℕ
+life_text names (lives.Life function variable at kind path) =
+    place_text names at ++ codes ": " ++ linear_text (lives.Life function variable at kind path)
+life_text names (lives.InLoop variable at) =
+    place_text names at ++ codes ": " ++ linear_text (lives.InLoop variable at)
+life_text names (lives.InPart variable at) =
+    place_text names at ++ codes ": " ++ linear_text (lives.InPart variable at)
+life_text names lives.Memory = []
+
 -- the line of a refusal, without its end
 abbrev pub refusal_text : List (List ℕ) → Refusal → List ℕ
 refusal_text names (Byte at) = place_text names at ++ codes ": byte"
@@ -118,6 +144,8 @@ refusal_text names (Pair fault) = pair_text names fault
 refusal_text names (Import fault) = import_text names fault
 refusal_text names (Declaration fault) = declaration_text names fault
 refusal_text names (Instance fault) = instance_text names fault
+refusal_text names (Typing fault) = type_text names fault
+refusal_text names (Linear fault) = life_text names fault
 
 -- the line of a refusal
 abbrev pub refusal_line : List (List ℕ) → Refusal → List ℕ

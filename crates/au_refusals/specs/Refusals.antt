@@ -6,11 +6,16 @@ use Rattle.au_imports.specs.declared.faults.ImportFault.{ImportFault}
 use Rattle.au_imports.specs.declared.faults.ImportFault.TheVariants as imports
 use Rattle.au_modules.specs.declared.faults.ModuleFault.{ModuleFault}
 use Rattle.au_modules.specs.declared.faults.ModuleFault.TheVariants as modules
+use Rattle.au_notes.specs.declared.faults.TypeFault.{TypeFault}
+use Rattle.au_notes.specs.declared.faults.TypeFault.TheVariants as typing
+use Rattle.au_program_lives.specs.declared.faults.LinearFault.{LinearFault}
+use Rattle.au_program_lives.specs.declared.faults.LinearFault.TheVariants as lives
 use Rattle.au_rules.specs.declared.faults.DeclFault.{DeclFault}
 use Rattle.au_rules.specs.declared.faults.DeclFault.TheVariants as rules
 use Rattle.au_refusals.specs.declared.refusals.Refusal.{Refusal}
 use Rattle.au_refusals.specs.declared.refusals.Refusal.TheVariants.{Byte, Syntax, NotYet, WordNotYet}
 use Rattle.au_refusals.specs.declared.refusals.Refusal.TheVariants.{Pair, Import, Declaration, Instance}
+use Rattle.au_refusals.specs.declared.refusals.Refusal.TheVariants.{Typing, Linear}
 
 -- whether files are refused for this: neither a limit that is passed nor want of memory is a refusal
 abbrev pub is_module_refusal : ModuleFault → Bool
@@ -47,6 +52,19 @@ is_class_refusal (classes.Overlap at other) = true
 is_class_refusal (classes.MethodDiffers at) = true
 is_class_refusal classes.Memory = false
 
+-- whether statements are refused for this: neither a limit that is passed nor want of memory is a refusal
+abbrev pub is_type_refusal : TypeFault → Bool
+is_type_refusal (typing.Statement at why) = true
+is_type_refusal (typing.Limit limit) = false
+is_type_refusal typing.Memory = false
+
+-- whether variables are refused for this
+abbrev pub is_life_refusal : LinearFault → Bool
+is_life_refusal (lives.Life function variable at kind path) = true
+is_life_refusal (lives.InLoop variable at) = true
+is_life_refusal (lives.InPart variable at) = true
+is_life_refusal lives.Memory = false
+
 -- whether it's a refusal: it holds no fault that is none
 abbrev pub is_refusal : Refusal → Bool
 is_refusal (Byte at) = true
@@ -57,3 +75,5 @@ is_refusal (Pair fault) = is_module_refusal fault
 is_refusal (Import fault) = is_import_refusal fault
 is_refusal (Declaration fault) = is_declaration_refusal fault
 is_refusal (Instance fault) = is_class_refusal fault
+is_refusal (Typing fault) = is_type_refusal fault
+is_refusal (Linear fault) = is_life_refusal fault

@@ -2,15 +2,19 @@
 
 ghost use Rattle.std.specs.Prelude.{◌≡◌, ◌++◌, ◌∷◌, [], IfOk, IsTrue, OnOk, codes, map, slice_get, unwrap_or};
 ghost use Rattle.std.specs.String.{string_bytes};
+ghost use Rattle.au_notes.specs.Lines.{why_text};
+ghost use Rattle.au_program_lives.specs.Lines.{linear_text};
 ghost use Rattle.au_refusals.specs.Lines as lines;
 ghost use Rattle.au_refusals.specs.Refusals.{is_class_refusal, is_declaration_refusal, is_import_refusal};
-ghost use Rattle.au_refusals.specs.Refusals.{is_module_refusal, is_refusal};
+ghost use Rattle.au_refusals.specs.Refusals.{is_life_refusal, is_module_refusal, is_refusal, is_type_refusal};
 
 use crate::refusals::{Refusal, Unbuilt};
 use au_base::{Limit, LimitKind, Memory, Name, Pos};
 use au_classes::ClassFault;
 use au_imports::ImportFault;
 use au_modules::ModuleFault;
+use au_notes::{TypeFault, Why, why_text};
+use au_program_lives::{LinearFault, linear_text};
 use au_rules::DeclFault;
 use itoa::Buffer;
 use std::alloc::{AllocError, Global};
@@ -21,13 +25,18 @@ pub fn refusal_text(alloc: Global, refusal: &Refusal, files: &[String]) -> Resul
     ensures { IfOk result (λ text. text.items ≡ lines.refusal_line (map string_bytes files.now) refusal.now) }
 {
     let mut text = Vec::new(alloc);
-    add_refusal(&mut text, refusal, files)?;
+    add_refusal(alloc, &mut text, refusal, files)?;
     text.extend_from_slice(b"\n")?;
     Ok(text)
 }
 
 /// Adds the line of a refusal, without its end.
-fn add_refusal(text: &mut Vec<u8>, refusal: &Refusal, files: &[String]) -> Result<(), Memory>
+fn add_refusal(
+    alloc: Global,
+    text: &mut Vec<u8>,
+    refusal: &Refusal,
+    files: &[String],
+) -> Result<(), Memory>
     requires { IsTrue (is_refusal refusal.now) }
     ensures { OnOk result (text.new.items ≡ text.old.items ++ lines.refusal_text (map string_bytes files.now) refusal.now) }
 {
@@ -40,6 +49,8 @@ fn add_refusal(text: &mut Vec<u8>, refusal: &Refusal, files: &[String]) -> Resul
         Refusal::Import(fault) => add_import(text, fault, files),
         Refusal::Declaration(fault) => add_declaration(text, fault, files),
         Refusal::Instance(fault) => add_instance(text, fault, files),
+        Refusal::Typing(fault) => add_typing(alloc, text, fault, files),
+        Refusal::Linear(fault) => add_life(alloc, text, fault, files),
     }
 }
 
@@ -112,6 +123,79 @@ fn add_instance(text: &mut Vec<u8>, fault: &ClassFault, files: &[String]) -> Res
     }
 }
 
+/// Adds which statement is not well typed, and why.
+fn add_typing(
+    alloc: Global,
+    text: &mut Vec<u8>,
+    fault: &TypeFault,
+    files: &[String],
+) -> Result<(), Memory>
+    requires { IsTrue (is_type_refusal fault.now) }
+    ensures { OnOk result (text.new.items
+        ≡ text.old.items ++ lines.type_text (map string_bytes files.now) fault.now) }
+{
+    match fault {
+        TypeFault::Statement { at, why } => add_statement(alloc, text, *at, why, files),
+        TypeFault::Limit(_) => unreachable!(),
+        TypeFault::Memory => unreachable!(),
+    }
+}
+
+/// Adds the place of a statement, and why it is not well typed.
+fn add_statement(
+    alloc: Global,
+    text: &mut Vec<u8>,
+    at: Pos,
+    why: &Why,
+    files: &[String],
+) -> Result<(), Memory>
+    ensures { OnOk result (text.new.items
+        ≡ text.old.items ++ (lines.place_text (map string_bytes files.now) at
+        ++ codes ": type: " ++ why_text why.now)) }
+{
+    let told = why_text(alloc, why)?;
+    add_placed(text, at, files, b": type: ")?;
+    text.extend_from_slice(told.as_slice())?;
+    Ok(())
+}
+
+/// Adds which variable has no good life, and why.
+fn add_life(
+    alloc: Global,
+    text: &mut Vec<u8>,
+    fault: &LinearFault,
+    files: &[String],
+) -> Result<(), Memory>
+    requires { IsTrue (is_life_refusal fault.now) }
+    ensures { OnOk result (text.new.items
+        ≡ text.old.items ++ lines.life_text (map string_bytes files.now) fault.now) }
+{
+    match fault {
+        LinearFault::Life { at, .. } => add_variable(alloc, text, *at, fault, files),
+        LinearFault::InLoop { at, .. } => add_variable(alloc, text, *at, fault, files),
+        LinearFault::InPart { at, .. } => add_variable(alloc, text, *at, fault, files),
+        LinearFault::Memory => unreachable!(),
+    }
+}
+
+/// Adds the place of a variable, and why it has no good life.
+fn add_variable(
+    alloc: Global,
+    text: &mut Vec<u8>,
+    at: Pos,
+    fault: &LinearFault,
+    files: &[String],
+) -> Result<(), Memory>
+    ensures { OnOk result (text.new.items
+        ≡ text.old.items ++ (lines.place_text (map string_bytes files.now) at
+        ++ codes ": " ++ linear_text fault.now)) }
+{
+    let told = linear_text(alloc, fault)?;
+    add_placed(text, at, files, b": ")?;
+    text.extend_from_slice(told.as_slice())?;
+    Ok(())
+}
+
 /// Adds that something is not built yet, with its word.
 fn add_unbuilt(text: &mut Vec<u8>, what: Unbuilt) -> Result<(), Memory>
     ensures { OnOk result (text.new.items ≡ text.old.items ++ (codes "not yet: " ++ lines.unbuilt_word what)) }
@@ -126,7 +210,6 @@ fn unbuilt_word(what: Unbuilt) -> &'static [u8]
     ensures { result.now ≡ lines.unbuilt_word what }
 {
     match what {
-        Unbuilt::Check => b"check",
         Unbuilt::Explain => b"explain",
         Unbuilt::Compile => b"compile",
         Unbuilt::Entry => b"entry",

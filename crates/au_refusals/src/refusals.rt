@@ -4,6 +4,8 @@ use au_base::Pos;
 use au_classes::ClassFault;
 use au_imports::ImportFault;
 use au_modules::ModuleFault;
+use au_notes::TypeFault;
+use au_program_lives::LinearFault;
 use au_rules::DeclFault;
 
 /// Why what the words ask for is refused.
@@ -25,13 +27,15 @@ pub enum Refusal {
     Declaration(DeclFault),
     /// An instance is not good.
     Instance(ClassFault),
+    /// A statement is not well typed.
+    Typing(TypeFault),
+    /// A variable has no good life.
+    Linear(LinearFault),
 }
 
 /// What words ask for that is not built yet.
 #[derive(Clone, Copy, Debug, PartialEq, Eq)]
 pub enum Unbuilt {
-    /// The command `check`.
-    Check,
     /// The command `explain`.
     Explain,
     /// The command `compile`.

@@ -1,5 +1,5 @@
 -- What words and files come to.
-use Rattle.std.proofs.Common.{◌≡◌, ◌≢◌, true, ℕ, ◌<◌, List, [], ◌∷◌, String, Option, Some, None, length, map, ap, ◌∙◌, sym, refl, subst, arith, inl, inr}
+use Rattle.std.proofs.Common.{◌≡◌, ◌≢◌, true, ℕ, ◌<◌, List, [], ◌∷◌, String, Option, Result, Ok, Err, length, map, ap, ◌∙◌, sym, refl, subst, arith, inl, inr}
 use Rattle.std.specs.Global.{Global}
 use Rattle.std.specs.String.{string_bytes}
 use Rattle.std.proofs.lemmas.List.{length-map}
@@ -9,7 +9,8 @@ use Rattle.au_words.specs.Jobs.{Task, IsJob}
 use Rattle.au_outcomes.specs.declared.halts.CheckFault.{CheckFault}
 use Rattle.au_outcomes.specs.declared.halts.CheckFault.TheVariants as fault
 use Rattle.au_outcomes.specs.Halts.{StopsIn, is_read}
-use Rattle.au_top.specs.Jobs.{unbuilt_of}
+use Rattle.au_outcomes.specs.declared.outcomes.Aim.{Aim}
+use Rattle.au_top.specs.Jobs.{asked_of}
 use Rattle.au_outcomes.specs.Outcomes.{Comes, is_outcome, most_files}
 use Rattle.au_top.specs.Dues.{Arises, Asks, AsksForNoFile, AsksForTooMany}
 use Rattle.au_top.specs.Calls.{FailsBehind}
@@ -20,42 +21,52 @@ use Rattle.au_outcomes.specs.declared.outcomes.Outcome.TheVariants as outcome
 use Rattle.au_refusals.specs.declared.refusals.Refusal.TheVariants.{WordNotYet}
 
 -- a job that asks for nothing that isn't built, and what its files come to
-pub arises_from : (words names : List (List ℕ)) (task : Task) (files : Files) (arisen : Outcome) → IsJob words task → names ≡ task.files → None ≡ unbuilt_of task → Comes files names arisen
-    → Arises words files names arisen
-arises_from words names task files outcome.NoJob job same built comes = elim comes [
-  | inl many ↦ let e = many.1 in cc
-  | inr few ↦ absurd few.1
-]
-arises_from words names task files (outcome.Missing other) job same built comes = (task, job, same, subst (λ what. Asks what files names (outcome.Missing other)) built comes)
-arises_from words names task files (outcome.Passes limit) job same built comes = (task, job, same, subst (λ what. Asks what files names (outcome.Passes limit)) built comes)
-arises_from words names task files (outcome.Refused refusal) job same built comes = (task, job, same, subst (λ what. Asks what files names (outcome.Refused refusal)) built comes)
-arises_from words names task files (outcome.Prints first) job same built comes = (task, job, same, subst (λ what. Asks what files names (outcome.Prints first)) built comes)
+module _ (words names : List (List ℕ)) (task : Task) (files : Files) (aim : Aim) where
+  pub arises_from : (arisen : Outcome) → IsJob words task → names ≡ task.files → Ok aim ≡ asked_of task
+      → Comes aim files names arisen → Arises words files names arisen
+  arises_from outcome.NoJob job same built comes = elim comes [
+    | inl many ↦ let e = many.1 in cc
+    | inr few ↦ absurd few.1
+  ]
+  arises_from (outcome.Missing other) job same built comes =
+      (task, job, same, subst (λ asked. Asks asked files names (outcome.Missing other)) built comes)
+  arises_from (outcome.Passes limit) job same built comes =
+      (task, job, same, subst (λ asked. Asks asked files names (outcome.Passes limit)) built comes)
+  arises_from (outcome.Refused refusal) job same built comes =
+      (task, job, same, subst (λ asked. Asks asked files names (outcome.Refused refusal)) built comes)
+  arises_from outcome.Accepted job same built comes =
+      (task, job, same, subst (λ asked. Asks asked files names outcome.Accepted) built comes)
+  arises_from (outcome.Prints first) job same built comes =
+      (task, job, same, subst (λ asked. Asks asked files names (outcome.Prints first)) built comes)
 
 -- a job that asks for something that isn't built
-pub arises_unbuilt : (words names : List (List ℕ)) (task : Task) (files : Files) (what : Unbuilt) → IsJob words task → names ≡ task.files → Some what ≡ unbuilt_of task
-    → Arises words files names (outcome.Refused (WordNotYet what))
+pub arises_unbuilt : (words names : List (List ℕ)) (task : Task) (files : Files) (what : Unbuilt) → IsJob words task
+    → names ≡ task.files → Err what ≡ asked_of task → Arises words files names (outcome.Refused (WordNotYet what))
 arises_unbuilt words names task files what job same is =
     (task, job, same, subst (λ asked. Asks asked files names (outcome.Refused (WordNotYet what))) is refl)
 
 -- what words and files come to is an outcome
-asks_outcome : (what : Option Unbuilt) (files : Files) (names : List (List ℕ)) (arisen : Outcome) → Asks what files names arisen → is_outcome arisen ≡ true
-asks_outcome (Some what) files names arisen h = ap is_outcome h
-asks_outcome None files names arisen h = comes_outcome files names arisen h
+asks_outcome : (asked : Result Aim Unbuilt) (files : Files) (names : List (List ℕ)) (arisen : Outcome)
+    → Asks asked files names arisen → is_outcome arisen ≡ true
+asks_outcome (Err what) files names arisen h = ap is_outcome h
+asks_outcome (Ok aim) files names arisen h = comes_outcome aim files names arisen h
 
 pub arises_outcome : (words : List (List ℕ)) (files : Files) (names : List (List ℕ)) (arisen : Outcome) → Arises words files names arisen → is_outcome arisen ≡ true
 arises_outcome words files names outcome.NoJob h = refl
 arises_outcome words files names (outcome.Missing other) h = refl
 arises_outcome words files names (outcome.Passes limit) h = refl
-arises_outcome words files names (outcome.Refused refusal) h = asks_outcome (unbuilt_of h.0) files names (outcome.Refused refusal) h.3
+arises_outcome words files names (outcome.Refused refusal) h = asks_outcome (asked_of h.0) files names (outcome.Refused refusal) h.3
+arises_outcome words files names outcome.Accepted h = refl
 arises_outcome words files names (outcome.Prints first) h = refl
 
 -- a job that asks for nothing that isn't built asks for files
-pub asks_files : (words : List (List ℕ)) (task : Task) → IsJob words task → None ≡ unbuilt_of task → AsksForNoFile words → ⊥
-asks_files words task job built idle = elim idle [
+pub asks_files : (words : List (List ℕ)) (task : Task) (aim : Aim) → IsJob words task → Ok aim ≡ asked_of task
+    → AsksForNoFile words → ⊥
+asks_files words task aim job built idle = elim idle [
   | inl none ↦ none task job
   | inr other ↦
       let same : task ≡ other.0 = one_job words task other.0 job other.2 in
-      let both : None ≡ Some other.1 = built ∙ ap unbuilt_of same ∙ other.3 in
+      let both : ◌≡◌ {A = Result Aim Unbuilt} (Ok aim) (Err other.1) = built ∙ ap asked_of same ∙ other.3 in
       cc
 ]
 
@@ -79,10 +90,11 @@ some_files words task files job same =
     omega (arith, length-map files string_bytes)
 
 -- where the shelf failed behind files of a job
-pub fails_behind : (words : List (List ℕ)) (told : Option Files) (task : Task) (files names : List (String Global)) → IsJob words task → map string_bytes files ≡ task.files → names ≡ files → unbuilt_of task ≡ None →
-    StopsIn told (map string_bytes names) → FailsBehind words told
-fails_behind words told task files names job same list built stops =
-    (task, job, built, subst (λ ns. StopsIn told ns) same (subst (λ (l : List (String Global)). StopsIn told (map string_bytes l)) list stops))
+pub fails_behind : (words : List (List ℕ)) (told : Option Files) (task : Task) (aim : Aim)
+    (files names : List (String Global)) → IsJob words task → map string_bytes files ≡ task.files → names ≡ files
+    → asked_of task ≡ Ok aim → StopsIn told (map string_bytes names) → FailsBehind words told
+fails_behind words told task aim files names job same list built stops =
+    (task, aim, job, built, subst (λ ns. StopsIn told ns) same (subst (λ (l : List (String Global)). StopsIn told (map string_bytes l)) list stops))
 
 -- a read fault is one that was counted
 pub read_risen : (e : CheckFault) (old new : ℕ) → e ≡ fault.Read → Counts (is_read e) old new → HasRisen old new

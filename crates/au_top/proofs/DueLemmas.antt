@@ -1,29 +1,33 @@
 -- Words and files owe one thing.
-use Rattle.std.proofs.Common.{◌≡◌, ℕ, ◌+◌, ◌≤◌, Bool, true, false, cond, List, length, Option, Some, None, ap, ◌∙◌, sym, refl, subst, arith, ◌⊎◌, ◌↔◌, inl, inr, slice_get}
+use Rattle.std.proofs.Common.{◌≡◌, ℕ, ◌+◌, ◌≤◌, Bool, true, false, cond, List, length, Option, Some, Result, Ok, Err, ap, ◌∙◌, sym, refl, subst, arith, ◌⊎◌, ◌↔◌, inl, inr, slice_get}
 use Rattle.au_base.specs.declared.statuses.Status.{Status}
 use Rattle.au_base.specs.declared.statuses.Status.TheVariants as status
 use Rattle.au_base.specs.Outside.{Files, Adds}
-use Rattle.au_top.specs.Calls.{IsPaid, CameTo, HasComeBehind, HasPassed, HasRun, IsRefusedSo, Pays, is_decided}
+use Rattle.au_top.specs.Calls.{IsPaid, CameTo, HasComeBehind, HasPassed, HasRun, HasSucceeded, IsRefusedSo, Pays}
+use Rattle.au_top.specs.Calls.{is_decided}
 use Rattle.au_outcomes.specs.Accepted.{Accepted, is_behind}
 use Rattle.au_outcomes.specs.Halts.{AreTold}
 use Rattle.au_words.specs.Jobs.{Task, IsJob, IsNoJob}
 use Rattle.au_words.proofs.JobLemmas.{one_job}
-use Rattle.au_top.specs.Jobs.{unbuilt_of}
+use Rattle.au_outcomes.specs.declared.outcomes.Aim.{Aim}
+use Rattle.au_outcomes.specs.declared.outcomes.Aim.TheVariants as aims
+use Rattle.au_top.specs.Jobs.{asked_by, asked_of}
 use Rattle.au_outcomes.specs.Outcomes.{AreFiles, BytesCome, Comes, FewCome, is_outcome, most_files}
-use Rattle.au_top.specs.Dues.{Arises, Asks, Due, IsAcceptedJob, IsUnread, Owes, due_of}
+use Rattle.au_top.specs.Dues.{Arises, Asks, Due, IsAcceptedJob, IsCheck, IsUnread, Owes, accepted_due, due_of}
 use Rattle.au_outcomes.specs.Trees.{HasNoTree, HasTokens, IsRead}
 use Rattle.au_refusals.specs.declared.refusals.Unbuilt.{Unbuilt}
 use Rattle.au_outcomes.specs.declared.outcomes.Outcome.{Outcome}
 use Rattle.au_outcomes.specs.declared.outcomes.Outcome.TheVariants as outcome
 use Rattle.au_top.proofs.ArisesLemmas.{arises_outcome}
-use Rattle.au_outcomes.proofs.AcceptedLemmas.{accepted_behind, behind_accepted, not_both}
+use Rattle.au_outcomes.proofs.AcceptedLemmas.{accepted_behind, behind_accepted, checked_accepted, not_both}
 use Rattle.au_outcomes.proofs.FetchLemmas.{few_had}
 use Rattle.au_outcomes.proofs.HaltLemmas.{IsHalt, first_halt, read_at, treeless}
 use Rattle.au_outcomes.proofs.NameLemmas.{comes_same, files_same, first_or_files, many_or_few}
 
 -- a job of words, with what it comes to
 JobComes : List (List ℕ) → Files → List (List ℕ) → Outcome → Type 0
-JobComes words files names arisen = (task : Task) × IsJob words task × (names ≡ task.files) × Asks (unbuilt_of task) files names arisen
+JobComes words files names arisen =
+    (task : Task) × IsJob words task × (names ≡ task.files) × Asks (asked_of task) files names arisen
 
 -- no job, or a job
 is_arisen : (words : List (List ℕ)) (files : Files) (names : List (List ℕ)) (arisen : Outcome) → Arises words files names arisen → (IsNoJob words × (arisen ≡ outcome.NoJob)) ⊎ JobComes words files names arisen
@@ -32,12 +36,14 @@ is_arisen words files names outcome.NoJob h = inl (h, refl)
 is_arisen words files names (outcome.Missing other) h = inr h
 is_arisen words files names (outcome.Passes limit) h = inr h
 is_arisen words files names (outcome.Refused refusal) h = inr h
+is_arisen words files names outcome.Accepted h = inr h
 is_arisen words files names (outcome.Prints first) h = inr h
 
 -- what is asked for comes to one thing
-asks_same : (what : Option Unbuilt) (files : Files) (names : List (List ℕ)) (x y : Outcome) → Asks what files names x → Asks what files names y → x ≡ y
-asks_same (Some what) files names x y a b = a ∙ sym b
-asks_same None files names x y a b = comes_same files names x y a b
+asks_same : (asked : Result Aim Unbuilt) (files : Files) (names : List (List ℕ)) (x y : Outcome)
+    → Asks asked files names x → Asks asked files names y → x ≡ y
+asks_same (Err what) files names x y a b = a ∙ sym b
+asks_same (Ok aim) files names x y a b = comes_same aim files names x y a b
 
 -- one thing is due for a job
 same_due : (words : List (List ℕ)) (files : Files) (ns ms : List (List ℕ)) (x y : Outcome) → JobComes words files ns x → JobComes words files ms y → due_of ns x ≡ due_of ms y
@@ -45,8 +51,9 @@ unfolding JobComes
 same_due words files ns ms x y a b =
     let task : a.0 ≡ b.0 = one_job words a.0 b.0 a.1 b.1 in
     let names : ns ≡ ms = a.2 ∙ ap (λ (t : Task). t.files) task ∙ sym b.2 in
-    let asks : Asks (unbuilt_of b.0) files ms x = subst (λ (t : Task). Asks (unbuilt_of t) files ms x) task (subst (λ n. Asks (unbuilt_of a.0) files n x) names a.3) in
-    ap (λ n. due_of n x) names ∙ ap (due_of ms) (asks_same (unbuilt_of b.0) files ms x y asks b.3)
+    let asks : Asks (asked_of b.0) files ms x =
+    subst (λ (t : Task). Asks (asked_of t) files ms x) task (subst (λ n. Asks (asked_of a.0) files n x) names a.3) in
+    ap (λ n. due_of n x) names ∙ ap (due_of ms) (asks_same (asked_of b.0) files ms x y asks b.3)
 
 -- Words and files owe one thing.
 pub one_due : (words : List (List ℕ)) (files : Files) (a b : Due) → Owes words files a → Owes words files b → a ≡ b
@@ -111,6 +118,7 @@ came_refused words told faults faults' ends out out' err err' paid is =
     so names (outcome.Missing name) err err' good e adds = absurd cc
     so names (outcome.Passes limit) err err' good e adds = absurd cc
     so names (outcome.Refused refusal) err err' good e adds = (refusal, good, refl, adds)
+    so names outcome.Accepted err err' good e adds = absurd cc
     so names (outcome.Prints first) err err' good e adds = absurd (no_refusal first.success e)
 
 -- a status of an exit code
@@ -149,6 +157,7 @@ came_limit words told faults faults' ends out out' err err' paid is =
     so names (outcome.Missing name) err err' e adds = absurd cc
     so names (outcome.Passes limit) err err' e adds = (limit, refl, adds)
     so names (outcome.Refused refusal) err err' e adds = absurd cc
+    so names outcome.Accepted err err' e adds = absurd cc
     so names (outcome.Prints first) err err' e adds = absurd (no_exit first.success status.Limit (sym e) refl)
 
 -- what a program prints was paid for a program that prints
@@ -159,11 +168,26 @@ ran_so success names (outcome.Passes limit) out out' e adds = absurd (no_exit su
 ran_so success names (outcome.Refused refusal) out out' e adds = absurd (no_exit success status.Refused e refl)
 ran_so success names (outcome.Prints first) out out' e adds = (first, refl, same_exit success first.success e, adds)
 
-pub came_success : (words : List (List ℕ)) (told : Option Files) (faults faults' : ℕ) (ends : Status) (out out' err err' : Option (List ℕ)) → IsPaid words told faults faults' ends out out' err err' → ends ≡ status.Success
-    → CameTo words told (HasRun true out out')
+succeeded_so : (names : List (List ℕ)) (arisen : Outcome) (out out' : Option (List ℕ))
+    → status.Success ≡ (due_of names arisen).status → Adds out out' (due_of names arisen).out
+    → HasSucceeded out out' names arisen
+succeeded_so names outcome.Accepted out out' e adds = inr (refl, adds)
+succeeded_so names outcome.NoJob out out' e adds = inl (ran_so true names outcome.NoJob out out' e adds)
+succeeded_so names (outcome.Missing name) out out' e adds =
+    inl (ran_so true names (outcome.Missing name) out out' e adds)
+succeeded_so names (outcome.Passes limit) out out' e adds =
+    inl (ran_so true names (outcome.Passes limit) out out' e adds)
+succeeded_so names (outcome.Refused refusal) out out' e adds =
+    inl (ran_so true names (outcome.Refused refusal) out out' e adds)
+succeeded_so names (outcome.Prints first) out out' e adds =
+    inl (ran_so true names (outcome.Prints first) out out' e adds)
+
+pub came_success : (words : List (List ℕ)) (told : Option Files) (faults faults' : ℕ) (ends : Status)
+    (out out' err err' : Option (List ℕ)) → IsPaid words told faults faults' ends out out' err err'
+    → ends ≡ status.Success → CameTo words told (HasSucceeded out out')
 came_success words told faults faults' ends out out' err err' paid is =
     let h = came words told faults faults' ends out out' err err' paid (ap is_decided is) in
-    (h.0, h.1, h.2, h.3, h.4, ran_so true h.2 h.3 out out' (sym is ∙ h.5.status) h.5.out_bytes)
+    (h.0, h.1, h.2, h.3, h.4, succeeded_so h.2 h.3 out out' (sym is ∙ h.5.status) h.5.out_bytes)
 
 pub came_failure : (words : List (List ℕ)) (told : Option Files) (faults faults' : ℕ) (ends : Status) (out out' err err' : Option (List ℕ)) → IsPaid words told faults faults' ends out out' err err' → ends ≡ status.Failure
     → CameTo words told (HasRun false out out')
@@ -182,6 +206,7 @@ came_words words told faults faults' ends out out' err err' paid is =
     so files names (outcome.Missing name) arises e = absurd cc
     so files names (outcome.Passes limit) arises e = absurd cc
     so files names (outcome.Refused refusal) arises e = absurd cc
+    so files names outcome.Accepted arises e = absurd cc
     so files names (outcome.Prints first) arises e = absurd (no_words first.success e)
 
 pub came_no_job : (words : List (List ℕ)) (told : Option Files) (faults faults' : ℕ) (ends : Status) (out out' err err' : Option (List ℕ)) → IsPaid words told faults faults' ends out out' err err' → IsNoJob words → is_decided ends ≡ true → ends ≡ status.Words
@@ -204,27 +229,34 @@ from_zero : (file : ℕ) → 0 + file ≡ file
 from_zero file = omega arith
 
 -- a file among those whose bytes come to something that has no tree
-unread_bytes : (names all : List (List ℕ)) (file : ℕ) (bytes : List ℕ) (x : Outcome) → slice_get all file ≡ Some bytes → HasTokens file bytes HasNoTree → BytesCome all x
+unread_bytes : (aim : Aim) (names all : List (List ℕ)) (file : ℕ) (bytes : List ℕ) (x : Outcome)
+    → slice_get all file ≡ Some bytes → HasTokens file bytes HasNoTree → BytesCome aim all x
     → ((due_of names x).status ≡ status.Refused) ⊎ ((due_of names x).status ≡ status.Limit)
-unread_bytes names all file bytes x is none h = elim h [
+unread_bytes aim names all file bytes x is none h = elim h [
   | inl p ↦ halt_due names x (first_halt 0 all x p)
   | inr p ↦
       let one = read_at 0 all p.0 file bytes p.1 is in
       absurd (treeless file bytes one.0 none (subst (λ f. IsRead f bytes one.0) (from_zero file) one.1))
 ]
 
-unread_few : (files : Files) (names all : List (List ℕ)) (file : ℕ) (bytes : List ℕ) (x : Outcome) → AreFiles files names all → slice_get all file ≡ Some bytes → HasTokens file bytes HasNoTree → FewCome files names x
+unread_few : (aim : Aim) (files : Files) (names all : List (List ℕ)) (file : ℕ) (bytes : List ℕ) (x : Outcome)
+    → AreFiles files names all → slice_get all file ≡ Some bytes → HasTokens file bytes HasNoTree
+    → FewCome aim files names x
     → ((due_of names x).status ≡ status.Refused) ⊎ ((due_of names x).status ≡ status.Limit)
-unread_few files names all file bytes x are is none h = elim (few_had files names x h) [
+unread_few aim files names all file bytes x are is none h = elim (few_had aim files names x h) [
   | inl p ↦ absurd (first_or_files files names all x p are)
-  | inr p ↦ unread_bytes names all file bytes x is none (subst (λ a. BytesCome a x) (files_same files names p.0 all p.1 are) p.2)
+  | inr p ↦
+      unread_bytes aim names all file bytes x is none
+      (subst (λ a. BytesCome aim a x) (files_same files names p.0 all p.1 are) p.2)
 ]
 
-unread_comes : (files : Files) (names all : List (List ℕ)) (file : ℕ) (bytes : List ℕ) (x : Outcome) → length names ≤ most_files → AreFiles files names all → slice_get all file ≡ Some bytes → HasTokens file bytes HasNoTree → Comes files names x
+unread_comes : (aim : Aim) (files : Files) (names all : List (List ℕ)) (file : ℕ) (bytes : List ℕ) (x : Outcome)
+    → length names ≤ most_files → AreFiles files names all → slice_get all file ≡ Some bytes
+    → HasTokens file bytes HasNoTree → Comes aim files names x
     → ((due_of names x).status ≡ status.Refused) ⊎ ((due_of names x).status ≡ status.Limit)
-unread_comes files names all file bytes x few are is none h = elim h [
+unread_comes aim files names all file bytes x few are is none h = elim h [
   | inl p ↦ absurd (many_or_few (length names) p.0 few)
-  | inr p ↦ unread_few files names all file bytes x are is none p.1
+  | inr p ↦ unread_few aim files names all file bytes x are is none p.1
 ]
 
 -- A file that has no tree is refused, or a limit is told.
@@ -235,15 +267,17 @@ came_unread words told faults faults' ends out out' err err' files paid decided 
     let h = came words told faults faults' ends out out' err err' paid decided in
     let same : h.0 ≡ files = subst (λ t. AreTold t h.0) is h.1 in
     elim (is_arisen words h.0 h.2 h.3 h.4) [
-      | inl p ↦ absurd (p.0 unread.0 unread.1)
+      | inl p ↦ absurd (p.0 unread.0 unread.2)
       | inr p ↦
-          let task : unread.0 ≡ p.0 = one_job words unread.0 p.0 unread.1 p.1 in
+          let task : unread.0 ≡ p.0 = one_job words unread.0 p.0 unread.2 p.1 in
+          let aim = unread.1 in
           let names : unread.0.files ≡ h.2 = ap (λ (t : Task). t.files) task ∙ sym p.2 in
-          let few : length h.2 ≤ most_files = subst (λ n. length n ≤ most_files) names unread.3 in
-          let are : AreFiles files h.2 unread.4 = subst (λ n. AreFiles files n unread.4) names unread.5 in
-          let built : unbuilt_of p.0 ≡ None = ap unbuilt_of (sym task) ∙ unread.2 in
-          let comes : Comes files h.2 h.3 = subst (λ what. Asks what files h.2 h.3) built (subst (λ f. Asks (unbuilt_of p.0) f h.2 h.3) same p.3) in
-          elim (unread_comes files h.2 unread.4 unread.6 unread.7 h.3 few are unread.8 unread.9 comes) [
+          let few : length h.2 ≤ most_files = subst (λ n. length n ≤ most_files) names unread.4 in
+          let are : AreFiles files h.2 unread.5 = subst (λ n. AreFiles files n unread.5) names unread.6 in
+          let built : asked_of p.0 ≡ Ok aim = ap asked_of (sym task) ∙ unread.3 in
+          let comes : Comes aim files h.2 h.3 =
+          subst (λ asked. Asks asked files h.2 h.3) built (subst (λ f. Asks (asked_of p.0) f h.2 h.3) same p.3) in
+          elim (unread_comes aim files h.2 unread.5 unread.7 unread.8 h.3 few are unread.9 unread.10 comes) [
             | inl e ↦ inl (h.5.status ∙ e)
             | inr e ↦ inr (h.5.status ∙ e)
           ]
@@ -252,50 +286,113 @@ came_unread words told faults faults' ends out out' err err' files paid decided 
 -- ---- accepted files
 
 -- what is asked for and comes to something behind is built
-behind_built : (what : Option Unbuilt) (files : Files) (names : List (List ℕ)) (arisen : Outcome) → Asks what files names arisen → is_behind arisen ≡ true → (what ≡ None) × Comes files names arisen
-behind_built (Some what) files names arisen asks behind = not_both (is_behind arisen) behind (ap is_behind asks)
-behind_built None files names arisen asks behind = (refl, asks)
+behind_built : (asked : Result Aim Unbuilt) (files : Files) (names : List (List ℕ)) (arisen : Outcome)
+    → Asks asked files names arisen → is_behind arisen ≡ true
+    → (aim : Aim) × (asked ≡ Ok aim) × Comes aim files names arisen
+behind_built (Err what) files names arisen asks behind =
+    not_both (is_behind arisen) behind (ap is_behind asks)
+behind_built (Ok aim) files names arisen asks behind = (aim, refl, asks)
+
+-- what the files of a job come to, of which this is asked
+job_comes : (words : List (List ℕ)) (files : Files) (names : List (List ℕ)) (arisen : Outcome) (task : Task)
+    (aim : Aim) → IsJob words task → asked_of task ≡ Ok aim → JobComes words files names arisen
+    → (task.files ≡ names) × Comes aim files names arisen
+unfolding JobComes
+job_comes words files names arisen task aim job asked h =
+    let same : h.0 ≡ task = one_job words h.0 task h.1 job in (
+      ap (λ (t : Task). t.files) (sym same) ∙ sym h.2,
+      subst (λ what. Asks what files names arisen) (ap asked_of same ∙ asked) h.3,
+    )
 
 -- an accepted job comes to something behind
-behind_job : (words : List (List ℕ)) (files : Files) (names : List (List ℕ)) (arisen : Outcome) → IsAcceptedJob words files → JobComes words files names arisen → is_behind arisen ≡ true
-unfolding JobComes
+behind_job : (words : List (List ℕ)) (files : Files) (names : List (List ℕ)) (arisen : Outcome)
+    → IsAcceptedJob words files → JobComes words files names arisen → is_behind arisen ≡ true
 behind_job words files names arisen good h =
-    let task : h.0 ≡ good.0 = one_job words h.0 good.0 h.1 good.1 in
-    let same : good.0.files ≡ names = ap (λ (t : Task). t.files) (sym task) ∙ sym h.2 in
-    let comes : Comes files names arisen = subst (λ what. Asks what files names arisen) (ap unbuilt_of task ∙ good.2) h.3 in
-    accepted_behind files names arisen comes (subst (Accepted files) same good.3)
+    let comes = job_comes words files names arisen good.0 good.1 good.2 good.3 h in
+    accepted_behind good.1 files names arisen comes.1 (subst (Accepted files) comes.0 good.4)
 
 -- a job that comes to something behind is accepted
-job_accepted : (words : List (List ℕ)) (files : Files) (names : List (List ℕ)) (arisen : Outcome) → JobComes words files names arisen → is_behind arisen ≡ true → IsAcceptedJob words files
+job_accepted : (words : List (List ℕ)) (files : Files) (names : List (List ℕ)) (arisen : Outcome)
+    → JobComes words files names arisen → is_behind arisen ≡ true → IsAcceptedJob words files
 unfolding JobComes
 job_accepted words files names arisen h behind =
-    let built = behind_built (unbuilt_of h.0) files names arisen h.3 behind in
-    (h.0, h.1, built.0, subst (Accepted files) h.2 (behind_accepted files names arisen built.1 behind))
+    let built = behind_built (asked_of h.0) files names arisen h.3 behind in
+    (h.0, built.0, h.1, built.1, subst (Accepted files) h.2 (behind_accepted built.0 files names arisen built.2 behind))
 
--- Nothing is refused by the steps that judge whether files are accepted exactly where they are.
-pub came_accepted : (words : List (List ℕ)) (told : Option Files) (faults faults' : ℕ) (ends : Status) (out out' err err' : Option (List ℕ)) (files : Files) →
-    IsPaid words told faults faults' ends out out' err err' → is_decided ends ≡ true → told ≡ Some files → IsAcceptedJob words files ↔ CameTo words told (HasComeBehind ends out out' err err')
-came_accepted words told faults faults' ends out out' err err' files paid decided is = (
-  λ good.
-      let h = came words told faults faults' ends out out' err err' paid decided in
-      let same : files ≡ h.0 = sym (subst (λ t. AreTold t h.0) is h.1) in
-      (h.0, h.1, h.2, h.3, h.4, (behind words h.0 h.2 h.3 (subst (IsAcceptedJob words) same good) h.4, h.5)),
-  λ h.
-      let same : h.0 ≡ files = subst (λ t. AreTold t h.0) is h.1 in
-      subst (IsAcceptedJob words) same (accepted words h.0 h.2 h.3 h.4 h.5.0),
-)
+arises_behind : (words : List (List ℕ)) (files : Files) (names : List (List ℕ)) (arisen : Outcome)
+    → IsAcceptedJob words files → Arises words files names arisen → is_behind arisen ≡ true
+arises_behind words files names arisen good arises = elim (is_arisen words files names arisen arises) [
+  | inl p ↦ absurd (p.0 good.0 good.2)
+  | inr p ↦ behind_job words files names arisen good p
+]
+
+arises_accepted : (words : List (List ℕ)) (files : Files) (names : List (List ℕ)) (arisen : Outcome)
+    → Arises words files names arisen → is_behind arisen ≡ true → IsAcceptedJob words files
+arises_accepted words files names arisen arises past = elim (is_arisen words files names arisen arises) [
+  | inl p ↦ not_both (is_behind arisen) past (ap is_behind p.1)
+  | inr p ↦ job_accepted words files names arisen p past
+]
+
+-- a check that comes to something behind is told to be accepted
+check_accepted : (words : List (List ℕ)) (files : Files) (names : List (List ℕ)) (arisen : Outcome) (task : Task)
+    → IsCheck words task → Arises words files names arisen → is_behind arisen ≡ true
+    → arisen ≡ outcome.Accepted
+check_accepted words files names arisen task check arises past =
+    elim (is_arisen words files names arisen arises) [
+      | inl p ↦ absurd (p.0 task check.0)
+      | inr p ↦
+          let comes =
+          job_comes words files names arisen task aims.Check check.0 (ap (asked_by task) check.1) p in
+          checked_accepted files names arisen comes.1 past
+    ]
+
+-- success comes behind alone
+success_behind : (names : List (List ℕ)) (arisen : Outcome) → status.Success ≡ (due_of names arisen).status
+    → is_behind arisen ≡ true
+success_behind names outcome.NoJob e = absurd cc
+success_behind names (outcome.Missing name) e = absurd cc
+success_behind names (outcome.Passes limit) e = absurd cc
+success_behind names (outcome.Refused refusal) e = absurd cc
+success_behind names outcome.Accepted e = refl
+success_behind names (outcome.Prints first) e = refl
+
+module _
+    (words : List (List ℕ)) (told : Option Files) (faults faults' : ℕ) (ends : Status)
+    (out out' err err' : Option (List ℕ)) (files : Files)
+    (paid : IsPaid words told faults faults' ends out out' err err')
+    (decided : is_decided ends ≡ true) (is : told ≡ Some files)
   where
-    behind : (words : List (List ℕ)) (files : Files) (names : List (List ℕ)) (arisen : Outcome) → IsAcceptedJob words files → Arises words files names arisen → is_behind arisen ≡ true
-    behind words files names arisen good arises = elim (is_arisen words files names arisen arises) [
-      | inl p ↦ absurd (p.0 good.0 good.1)
-      | inr p ↦ behind_job words files names arisen good p
-    ]
+    -- Nothing is refused by the steps that judge whether files are accepted exactly where they are.
+    pub came_accepted : IsAcceptedJob words files ↔ CameTo words told (HasComeBehind ends out out' err err')
+    came_accepted = (
+      λ good.
+          let h = came words told faults faults' ends out out' err err' paid decided in
+          let same : files ≡ h.0 = sym (subst (λ t. AreTold t h.0) is h.1) in
+          (h.0, h.1, h.2, h.3, h.4, (arises_behind words h.0 h.2 h.3 (subst (IsAcceptedJob words) same good) h.4, h.5)),
+      λ h.
+          let same : h.0 ≡ files = subst (λ t. AreTold t h.0) is h.1 in
+          subst (IsAcceptedJob words) same (arises_accepted words h.0 h.2 h.3 h.4 h.5.0),
+    )
 
-    accepted : (words : List (List ℕ)) (files : Files) (names : List (List ℕ)) (arisen : Outcome) → Arises words files names arisen → is_behind arisen ≡ true → IsAcceptedJob words files
-    accepted words files names arisen arises past = elim (is_arisen words files names arisen arises) [
-      | inl p ↦ not_both (is_behind arisen) past (ap is_behind p.1)
-      | inr p ↦ job_accepted words files names arisen p past
-    ]
+    -- Files that are checked are told to be accepted exactly where they are.
+    pub came_checked : (task : Task) → IsCheck words task
+        → Accepted files task.files ↔ Pays accepted_due ends out out' err err'
+    came_checked task check =
+        let h = came words told faults faults' ends out out' err err' paid decided in
+        let same : h.0 ≡ files = subst (λ t. AreTold t h.0) is h.1 in
+        let arises : Arises words files h.2 h.3 = subst (λ f. Arises words f h.2 h.3) same h.4 in (
+          λ good.
+              let asked : IsAcceptedJob words files =
+              (task, aims.Check, check.0, ap (asked_by task) check.1, good) in
+              let past = arises_behind words files h.2 h.3 asked arises in
+              let said = check_accepted words files h.2 h.3 task check arises past in
+              subst (λ o. Pays (due_of h.2 o) ends out out' err err') said h.5,
+          λ pays.
+              let past = success_behind h.2 h.3 (sym pays.status ∙ h.5.status) in
+              let good = arises_accepted words files h.2 h.3 arises past in
+              let one : good.0 ≡ task = one_job words good.0 task good.2 check.0 in
+              subst (Accepted files) (ap (λ (t : Task). t.files) one) good.4,
+        )
 
 -- what was answered for an outcome was paid for it
 pub paid_so : (words names given : List (List ℕ)) (told : Option Files) (faults faults' : ℕ) (arisen : Outcome) (ends : Status) (out out' err err' : Option (List ℕ)) → given ≡ names →

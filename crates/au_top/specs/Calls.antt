@@ -1,5 +1,5 @@
 -- How a call ends, and what it leaves on the sinks.
-use Rattle.std.specs.Prelude.{◌≡◌, ◌⊎◌, ℕ, Bool, true, false, IsTrue, List, Option, None}
+use Rattle.std.specs.Prelude.{◌≡◌, ◌⊎◌, ℕ, Bool, true, false, IsTrue, List, Option, Ok}
 use Rattle.au_base.specs.declared.limits.Limit.{Limit}
 use Rattle.au_base.specs.declared.statuses.Status.{Status}
 use Rattle.au_base.specs.declared.statuses.Status.TheVariants as status
@@ -7,15 +7,16 @@ use Rattle.au_base.specs.Outside.{Files, Adds, AddsFront, HasRisen}
 use Rattle.au_words.specs.Jobs.{Task, IsJob}
 use Rattle.au_outcomes.specs.Accepted.{is_behind}
 use Rattle.au_outcomes.specs.Halts.{AreTold, StopsIn}
-use Rattle.au_top.specs.Jobs.{unbuilt_of}
+use Rattle.au_top.specs.Jobs.{asked_of}
 use Rattle.au_top.specs.Dues.{Due, Owes, Arises, due_line, due_of, printed}
 use Rattle.au_refusals.specs.Refusals.{is_refusal}
-use Rattle.au_refusals.specs.Lines.{refusal_line, limit_line, missing_line, read_fault_line}
+use Rattle.au_refusals.specs.Lines.{accepted_line, refusal_line, limit_line, missing_line, read_fault_line}
 use Rattle.std.specs.List.{flat_map}
 use Rattle.au_printing.specs.declared.files.First.{First}
 use Rattle.au_refusals.specs.declared.refusals.Refusal.{Refusal}
 use Rattle.au_top.specs.declared.answering.AnswerFault.{AnswerFault}
 use Rattle.au_top.specs.declared.answering.AnswerFault.TheVariants as answer
+use Rattle.au_outcomes.specs.declared.outcomes.Aim.{Aim}
 use Rattle.au_outcomes.specs.declared.outcomes.Outcome.{Outcome}
 use Rattle.au_outcomes.specs.declared.outcomes.Outcome.TheVariants as outcome
 
@@ -78,7 +79,8 @@ CameTo words told P =
 -- The words are a job that asks for nothing that isn't built, its files are as few as they may be, and those before
 -- one of them can be had, of those that are told.
 abbrev pub FailsBehind : List (List ℕ) → Option Files → Type 0
-FailsBehind words told = (task : Task) × IsJob words task × (unbuilt_of task ≡ None) × StopsIn told task.files
+FailsBehind words told =
+    (task : Task) × (aim : Aim) × IsJob words task × (asked_of task ≡ Ok aim) × StopsIn told task.files
 
 -- What the words ask for is refused, and its line stands on `err`.
 abbrev pub IsRefusedSo : Option (List ℕ) → Option (List ℕ) → List (List ℕ) → Outcome → Type 0
@@ -102,7 +104,15 @@ HasRun success out out' names arisen =
     (first : First) × (arisen ≡ outcome.Prints first) × (first.success ≡ success)
     × Adds out out' (flat_map printed first.prints)
 
--- The steps that judge whether files are accepted have refused nothing, and what came behind them was paid: the program
--- prints, or a file doesn't print.
+-- Files are checked and accepted, and the line that says so stands on `out`.
+abbrev pub IsSaidAccepted : Option (List ℕ) → Option (List ℕ) → List (List ℕ) → Outcome → Type 0
+IsSaidAccepted out out' names arisen = (arisen ≡ outcome.Accepted) × Adds out out' accepted_line
+
+-- The program ran and returned the exit code of success, or it is checked and accepted.
+abbrev pub HasSucceeded : Option (List ℕ) → Option (List ℕ) → List (List ℕ) → Outcome → Type 0
+HasSucceeded out out' names arisen = HasRun true out out' names arisen ⊎ IsSaidAccepted out out' names arisen
+
+-- The steps that judge whether files are accepted have refused nothing, and what came behind them was paid:
+-- that they are accepted, or what the program prints, or that a file doesn't print.
 abbrev pub HasComeBehind : Status → (out out' err err' : Option (List ℕ)) → List (List ℕ) → Outcome → Type 0
 HasComeBehind ends out out' err err' names arisen = IsTrue (is_behind arisen) × Pays (due_of names arisen) ends out out' err err'

@@ -1,35 +1,40 @@
 -- What words and files come to, and what is due for it.
-use Rattle.std.specs.Prelude.{◌≡◌, ℕ, ◌<◌, ◌≤◌, ◌⊎◌, List, [], ◌∷◌, ◌++◌, length, slice_get, Option, Some, None, if◌then◌else◌}
+use Rattle.std.specs.Prelude.{◌≡◌, ℕ, ◌<◌, ◌≤◌, ◌⊎◌, List, [], ◌∷◌, ◌++◌, length, slice_get}
+use Rattle.std.specs.Prelude.{Result, Ok, Err, Some, if◌then◌else◌}
 use Rattle.std.specs.List.{flat_map}
 use Rattle.au_base.specs.declared.statuses.Status.{Status}
 use Rattle.au_base.specs.declared.statuses.Status.TheVariants as status
 use Rattle.au_base.specs.Outside.{Files}
 use Rattle.au_printing.specs.declared.files.Print.{Print}
 use Rattle.au_words.specs.Jobs.{Task, IsJob, IsNoJob}
-use Rattle.au_refusals.specs.Lines.{words_line, missing_line, limit_line, refusal_line}
+use Rattle.au_words.specs.declared.jobs.Command.TheVariants as command
+use Rattle.au_refusals.specs.Lines.{words_line, accepted_line, missing_line, limit_line, refusal_line}
 use Rattle.au_refusals.specs.declared.refusals.Unbuilt.{Unbuilt}
 use Rattle.au_refusals.specs.declared.refusals.Refusal.TheVariants.{WordNotYet}
 use Rattle.au_outcomes.specs.Accepted.{Accepted}
 use Rattle.au_outcomes.specs.Outcomes.{AreFiles, Comes, most_files}
 use Rattle.au_outcomes.specs.Trees.{HasNoTree, HasTokens}
+use Rattle.au_outcomes.specs.declared.outcomes.Aim.{Aim}
 use Rattle.au_outcomes.specs.declared.outcomes.Outcome.{Outcome}
 use Rattle.au_outcomes.specs.declared.outcomes.Outcome.TheVariants as outcome
-use Rattle.au_top.specs.Jobs.{unbuilt_of}
+use Rattle.au_top.specs.Jobs.{asked_of}
 
 -- What a job of files of these names comes to: where it asks for this that isn't built it is refused, whatever
 -- the files are, and where it asks for no such thing the files come to it.
-abbrev pub Asks : Option Unbuilt → Files → List (List ℕ) → Outcome → Type 0
-Asks (Some what) files names arisen = arisen ≡ outcome.Refused (WordNotYet what)
-Asks None files names arisen = Comes files names arisen
+abbrev pub Asks : Result Aim Unbuilt → Files → List (List ℕ) → Outcome → Type 0
+Asks (Err what) files names arisen = arisen ≡ outcome.Refused (WordNotYet what)
+Asks (Ok aim) files names arisen = Comes aim files names arisen
 
 -- When words and files come to an outcome: the words are no job, or they are a job that comes to it.
 abbrev pub Arises : List (List ℕ) → Files → List (List ℕ) → Outcome → Type 0
 Arises words files names outcome.NoJob = IsNoJob words
-Arises words files names other = (task : Task) × IsJob words task × (names ≡ task.files) × Asks (unbuilt_of task) files names other
+Arises words files names other =
+    (task : Task) × IsJob words task × (names ≡ task.files) × Asks (asked_of task) files names other
 
 -- The words ask for no file: they are no job, or a job that asks for something that isn't built.
 abbrev pub AsksForNoFile : List (List ℕ) → Type 0
-AsksForNoFile words = IsNoJob words ⊎ ((task : Task) × (what : Unbuilt) × IsJob words task × (unbuilt_of task ≡ Some what))
+AsksForNoFile words =
+    IsNoJob words ⊎ ((task : Task) × (what : Unbuilt) × IsJob words task × (asked_of task ≡ Err what))
 
 -- The words ask for more files than a program may have.
 abbrev pub AsksForTooMany : List (List ℕ) → Type 0
@@ -49,12 +54,17 @@ pub record Due : Type 0 where
 abbrev pub due_line : Status → List ℕ → Due
 due_line ends text = record { status = ends; out = []; err = text }
 
+-- what is due for a program that is accepted, where no more is asked
+abbrev pub accepted_due : Due
+accepted_due = record { status = status.Success; out = accepted_line; err = [] }
+
 -- what is due for each outcome
 abbrev pub due_of : List (List ℕ) → Outcome → Due
 due_of names outcome.NoJob = due_line status.Words words_line
 due_of names (outcome.Missing name) = due_line status.Missing (missing_line name)
 due_of names (outcome.Passes limit) = due_line status.Limit (limit_line limit)
 due_of names (outcome.Refused refusal) = due_line status.Refused (refusal_line names refusal)
+due_of names outcome.Accepted = accepted_due
 due_of names (outcome.Prints first) = record {
   status = if first.success then status.Success else status.Failure;
   out = flat_map printed first.prints;
@@ -70,10 +80,16 @@ Owes words files due =
 -- them is cut into tokens within the limits, which have no tree.
 abbrev pub IsUnread : List (List ℕ) → Files → Type 0
 IsUnread words files =
-    (task : Task) × IsJob words task × (unbuilt_of task ≡ None) × (length task.files ≤ most_files)
+    (task : Task) × (aim : Aim) × IsJob words task × (asked_of task ≡ Ok aim)
+    × (length task.files ≤ most_files)
     × (all : List (List ℕ)) × AreFiles files task.files all
     × (file : ℕ) × (bytes : List ℕ) × (slice_get all file ≡ Some bytes) × HasTokens file bytes HasNoTree
 
 -- The words are a job that asks for nothing that isn't built, and its files are accepted.
 abbrev pub IsAcceptedJob : List (List ℕ) → Files → Type 0
-IsAcceptedJob words files = (task : Task) × IsJob words task × (unbuilt_of task ≡ None) × Accepted files task.files
+IsAcceptedJob words files =
+    (task : Task) × (aim : Aim) × IsJob words task × (asked_of task ≡ Ok aim) × Accepted files task.files
+
+-- The words are this job, a `check`.
+abbrev pub IsCheck : List (List ℕ) → Task → Type 0
+IsCheck words task = IsJob words task × (task.command ≡ command.Check)

@@ -1,28 +1,30 @@
--- What words ask for that isn't built yet.
-use Rattle.std.specs.Prelude.{◌==◌, not, Option, Some, None, is_some, if◌then◌else◌}
-use Rattle.std.specs.Option.{option_or}
+-- What words ask of the program of their files, and what of it isn't built yet.
+use Rattle.std.specs.Prelude.{◌==◌, not, Result, Ok, Err, is_some, if◌then◌else◌}
 use Rattle.au_words.specs.Jobs.{Task, usual_steps}
 use Rattle.au_words.specs.declared.jobs.Command.{Command}
 use Rattle.au_words.specs.declared.jobs.Command.TheVariants as command
+use Rattle.au_outcomes.specs.declared.outcomes.Aim.{Aim}
+use Rattle.au_outcomes.specs.declared.outcomes.Aim.TheVariants as aims
 use Rattle.au_refusals.specs.declared.refusals.Unbuilt.{Unbuilt}
 use Rattle.au_refusals.specs.declared.refusals.Unbuilt.TheVariants as unbuilt
 
--- a command that isn't built yet
-abbrev pub unbuilt_command : Command → Option Unbuilt
-unbuilt_command command.Run = None
-unbuilt_command command.Compile = Some unbuilt.Compile
-unbuilt_command command.Explain = Some unbuilt.Explain
-unbuilt_command command.Check = Some unbuilt.Check
+-- that a program is run, or the first option of a run that isn't built yet: an entry that is named, steps
+-- other than the usual ones, and lives that are told
+abbrev pub asked_of_run : Task → Result Aim Unbuilt
+asked_of_run task =
+    if is_some task.entry then Err unbuilt.Entry
+    else (if not (task.steps == usual_steps) then Err unbuilt.Steps
+    else (if task.life then Err unbuilt.Life
+    else Ok aims.Run))
 
--- the first option of a run that isn't built yet: an entry that is named, steps other than the usual ones, and
--- lives that are told
-abbrev pub unbuilt_option : Task → Option Unbuilt
-unbuilt_option task =
-    if is_some task.entry then Some unbuilt.Entry
-    else (if not (task.steps == usual_steps) then Some unbuilt.Steps
-    else (if task.life then Some unbuilt.Life
-    else None))
+-- what a command asks of the program of files, or what of it isn't built yet: the command itself, or an
+-- option of a run
+abbrev pub asked_by : Task → Command → Result Aim Unbuilt
+asked_by task command.Run = asked_of_run task
+asked_by task command.Compile = Err unbuilt.Compile
+asked_by task command.Explain = Err unbuilt.Explain
+asked_by task command.Check = Ok aims.Check
 
--- the first thing that is asked for and isn't built yet, if there is one: the command, and then an option
-abbrev pub unbuilt_of : Task → Option Unbuilt
-unbuilt_of task = option_or (unbuilt_command task.command) (unbuilt_option task)
+-- the same of what is asked for
+abbrev pub asked_of : Task → Result Aim Unbuilt
+asked_of task = asked_by task task.command

@@ -19,6 +19,9 @@ use thiserror::Error;
 pub const WORDS_LINE: &[u8] =
     b"words: run [--entry=M:f] [--steps=N] [--life] PART.. | compile [--entry=M:f] PART.. | explain PART.. | check PART..\n";
 
+/// The line for a program that is checked and accepted.
+const ACCEPTED_LINE: &[u8] = b"accepted\n";
+
 /// Why what is due was not written whole.
 #[derive(Clone, Copy, Debug, PartialEq, Eq, Error)]
 pub enum AnswerFault {
@@ -90,7 +93,8 @@ fn say<E: Sink>(err: &mut E, line: &[u8], status: Status) -> Result<Status, Answ
     Ok(status)
 }
 
-/// Writes what is due for an outcome: a line on `err`, or what the program prints on `out`.
+/// Writes what is due for an outcome: a line on `err`, or what the program prints, or that it is accepted, on
+/// `out`.
 /// `names` are the names of the program's files.
 pub fn answer<O: Sink, E: Sink>(
     alloc: Global,
@@ -120,6 +124,10 @@ pub fn answer<O: Sink, E: Sink>(
         Outcome::Refused(refusal) => {
             let line = refusal_text(alloc, refusal, names)?;
             say(err, line.as_slice(), Status::Refused)
+        }
+        Outcome::Accepted => {
+            put_all(out, ACCEPTED_LINE)?;
+            Ok(Status::Success)
         }
         Outcome::Prints(first) => {
             put_prints(out, first.prints.as_slice())?;

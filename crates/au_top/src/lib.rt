@@ -4,7 +4,7 @@
 #![tactic(auto)]
 
 mod answering;
+mod asking;
 mod top;
-mod unbuilt;
 
 pub use top::austral;

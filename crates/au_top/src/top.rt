@@ -1,15 +1,18 @@
 //! The call that the program is.
 
-ghost use Rattle.std.specs.Prelude.{◌≡◌, ◌≢◌, ◌↔◌, ◌⊎◌, ◌≤◌, Some, true, false, IfOk, IsTrue, map, vec_len};
+ghost use Rattle.std.specs.Prelude.{◌≡◌, ◌≢◌, ◌↔◌, ◌⊎◌, Some, false, IfOk, IsTrue, map};
 ghost use Rattle.std.specs.String.{string_bytes};
 ghost use Rattle.au_base.specs.Outside.{Files, HasRisen, Counts};
-ghost use Rattle.au_words.specs.Jobs.{IsNoJob};
-ghost use Rattle.au_top.specs.Calls.{CameTo, FailsBehind, HasComeBehind, HasPassed, HasRun, IsCut, IsMissingSo, IsPaid, IsRefusedSo, IsUntouched, MayOwe, Pays, is_decided};
+ghost use Rattle.au_words.specs.Jobs.{IsNoJob, Task};
+ghost use Rattle.au_top.specs.Calls.{CameTo, FailsBehind, HasComeBehind, HasPassed, HasRun, HasSucceeded};
+ghost use Rattle.au_top.specs.Calls.{IsCut, IsMissingSo, IsPaid, IsRefusedSo, IsUntouched, MayOwe, Pays, is_decided};
+ghost use Rattle.au_outcomes.specs.Accepted.{Accepted};
 ghost use Rattle.au_outcomes.specs.Halts.{AreTold, is_read_fault, is_missing};
-ghost use Rattle.au_top.specs.Dues.{Arises, AsksForNoFile, AsksForTooMany, Due, IsAcceptedJob, IsUnread, Owes};
+ghost use Rattle.au_top.specs.Dues.{Arises, AsksForNoFile, AsksForTooMany, Due, IsAcceptedJob, IsCheck};
+ghost use Rattle.au_top.specs.Dues.{IsUnread, Owes, accepted_due};
 
 use crate::answering::{AnswerFault, answer};
-use crate::unbuilt::unbuilt_of;
+use crate::asking::asked_of;
 use au_base::{Shelf, Sink, Source, Status, WriteFault, put_all};
 use au_outcomes::{CheckFault, Outcome, check};
 use au_refusals::Refusal;
@@ -41,11 +44,18 @@ pub fn austral<S: Shelf, I: Source, O: Sink, E: Sink>(
     ensures unread { (files : Files) → S.files shelf.old ≡ Some files → IsUnread (map string_bytes words.now) files
         → IsTrue (is_decided result) → (result ≡ Status.Refused) ⊎ (result ≡ Status.Limit) }
     // Where files are told, a job isn't refused by the steps that judge whether its files are accepted exactly
-    // where they are: then the call ends as their program prints, or for a file that doesn't print.
+    // where they are: then the call says so, or ends as their program prints, or for a file that doesn't
+    // print.
     ensures accepted { (files : Files) → S.files shelf.old ≡ Some files → IsTrue (is_decided result)
         → IsAcceptedJob (map string_bytes words.now) files
         ↔ CameTo (map string_bytes words.now) (S.files shelf.old) (HasComeBehind result
         (O.written out.old) (O.written out.new) (E.written err.old) (E.written err.new)) }
+    // Where files are told, a job `check` writes that its files are accepted, and ends with 0, exactly where
+    // they are.
+    ensures checked { (files : Files) (task : Task) → S.files shelf.old ≡ Some files
+        → IsCheck (map string_bytes words.now) task → IsTrue (is_decided result)
+        → Accepted files task.files ↔ Pays accepted_due result
+        (O.written out.old) (O.written out.new) (E.written err.old) (E.written err.new) }
     // 64 comes exactly where the words are no job.
     ensures words { result ≡ Status.Words → IsNoJob (map string_bytes words.now) }
     ensures no_job { IsNoJob (map string_bytes words.now) → IsTrue (is_decided result) → result ≡ Status.Words }
@@ -57,9 +67,9 @@ pub fn austral<S: Shelf, I: Source, O: Sink, E: Sink>(
         (HasPassed (E.written err.old) (E.written err.new)) }
     ensures missing_file { result ≡ Status.Missing → CameTo (map string_bytes words.now) (S.files shelf.old)
         (IsMissingSo (E.written err.old) (E.written err.new)) }
-    // 0 and 1 come by the exit code, with all that the program prints.
+    // 0 and 1 come by the exit code, with all that the program prints, and 0 where it's checked and accepted.
     ensures success { result ≡ Status.Success → CameTo (map string_bytes words.now) (S.files shelf.old)
-        (HasRun true (O.written out.old) (O.written out.new)) }
+        (HasSucceeded (O.written out.old) (O.written out.new)) }
     ensures failure { result ≡ Status.Failure → CameTo (map string_bytes words.now) (S.files shelf.old)
         (HasRun false (O.written out.old) (O.written out.new)) }
     // Where a sink failed, a front of what is due stands there.
@@ -127,10 +137,11 @@ fn outcome_of<S: Shelf>(
         Err(WordsFault::NoJob) => return Ok((Vec::new(alloc), Outcome::NoJob)),
         Err(WordsFault::Memory) => return Err(CheckFault::Memory),
     };
-    if let Some(what) = unbuilt_of(&job) {
-        return Ok((job.files, Outcome::Refused(Refusal::WordNotYet(what))));
-    }
+    let aim = match asked_of(&job) {
+        Ok(aim) => aim,
+        Err(what) => return Ok((job.files, Outcome::Refused(Refusal::WordNotYet(what)))),
+    };
     let names = job.files;
-    let outcome = check(alloc, shelf, names.as_slice())?;
+    let outcome = check(alloc, aim, shelf, names.as_slice())?;
     Ok((names, outcome))
 }

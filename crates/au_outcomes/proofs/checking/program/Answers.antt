@@ -6,11 +6,10 @@ use Rattle.std.specs.String.{string_bytes}
 use Rattle.std.proofs.lemmas.List.{length-map}
 use Rattle.std.proofs.lemmas.Result.{err_from_is_err_and}
 use Rattle.au_base.specs.Limits.{most_file_bytes}
-use Rattle.au_printing.specs.declared.files.First.{First}
-use Rattle.au_outcomes.specs.Halts.{bytes_in}
+use Rattle.au_outcomes.specs.declared.outcomes.Outcome.{Outcome}
+use Rattle.au_outcomes.specs.Halts.{ComesTo, bytes_in}
 use Rattle.au_outcomes.specs.Outcomes.{BytesCome, most_files}
-use Rattle.au_outcomes.specs.declared.outcomes.Outcome.TheVariants as outcome
-use Rattle.au_outcomes.proofs.ComesLemmas.{bytes_come, halts_with, many_come, no_miss, read_with, says_map}
+use Rattle.au_outcomes.proofs.ComesLemmas.{bytes_come, few_come, halts_with, many_come, no_miss, read_with, says_map}
 use Rattle.au_outcomes.proofs.FetchLemmas.{are_small, fetched_length}
 use Rattle.au_outcomes.proofs.checking.program.Goals as goal
 
@@ -20,29 +19,40 @@ returns-in_err-few_enough-clause-comes g c =
     let p = err_from_is_err_and c.from_residual.result c.from_residual.ensures.1 in
     rw (p.1, p.2)
     (halts_with c.in_err-few_enough.field-0.0 _ _ _ _
-    (λ x h. many_come (g.S.Shelf.files c.args.shelf.now) (map string_bytes names) (length names) x (sym (length-map names string_bytes)) h.0 h.1)
+    (λ x h. many_come c.args.aim (g.S.Shelf.files c.args.shelf.now) (map string_bytes names) (length names) x (sym (length-map names string_bytes)) h.0 h.1)
     c.in_err-few_enough.ensures.comes)
+
+pub returns-in_err-all-clause-comes : goal.returns-in_err-all-clause-comes
+returns-in_err-all-clause-comes g c =
+    let names = map string_bytes c.args.names.now in
+    let few : length names ≤ most_files =
+    omega (arith, length-map c.args.names.now string_bytes, c.in_ok-few_enough.ensures.comes) in
+    let p = err_from_is_err_and c.from_residual-in_err-all.result c.from_residual-in_err-all.ensures.1 in
+    rw (p.1, p.2)
+    (halts_with c.in_err-all.field-0.0 _ _ _ _
+    (λ x h. few_come c.args.aim (g.S.Shelf.files c.args.shelf.now) names x few h)
+    c.in_err-all.ensures.comes)
 
 pub returns-in_err-all-clause-stops : goal.returns-in_err-all-clause-stops
 returns-in_err-all-clause-stops g c =
     let p = err_from_is_err_and c.from_residual-in_err-all.result c.from_residual-in_err-all.ensures.1 in
     rw (p.1, p.2)
-    (λ h. c.in_err-all.ensures.stops (read_with First (Vec (Vec ℕ Global) Global) c.in_err-all.field-0.0 h))
+    (λ h. c.in_err-all.ensures.stops (read_with Outcome (Vec (Vec ℕ Global) Global) c.in_err-all.field-0.0 h))
 
-pub first_of-requires-clause-some : goal.first_of-requires-clause-some
-first_of-requires-clause-some g c =
+pub outcome_of-requires-clause-some : goal.outcome_of-requires-clause-some
+outcome_of-requires-clause-some g c =
     let same = fetched_length (g.S.Shelf.files c.args.shelf.now) c.args.names.now c.in_ok-all.all.items c.in_ok-all.ensures.comes in
     let slice = ap length c.as_slice.ensures.value in
     omega (arith, c.requires)
 
-pub first_of-requires-clause-few : goal.first_of-requires-clause-few
-first_of-requires-clause-few g c =
+pub outcome_of-requires-clause-few : goal.outcome_of-requires-clause-few
+outcome_of-requires-clause-few g c =
     let same = fetched_length (g.S.Shelf.files c.args.shelf.now) c.args.names.now c.in_ok-all.all.items c.in_ok-all.ensures.comes in
     let slice = ap length c.as_slice.ensures.value in
     omega (arith, c.in_ok-few_enough.ensures.comes)
 
-pub first_of-requires-clause-small : goal.first_of-requires-clause-small
-first_of-requires-clause-small g c =
+pub outcome_of-requires-clause-small : goal.outcome_of-requires-clause-small
+outcome_of-requires-clause-small g c =
     let files = c.in_ok-all.ensures.comes in
     subst (λ (l : List (Vec ℕ Global)). All (λ (b : Vec ℕ Global). length b.items ≤ most_file_bytes) l) (sym c.as_slice.ensures.value) (are_small files.0 (map string_bytes c.args.names.now) c.in_ok-all.all.items files.2)
 
@@ -52,11 +62,12 @@ returns-clause-comes g c =
     let names = map string_bytes c.args.names.now in
     let all = c.in_ok-all.all.items in
     let few : length names ≤ most_files = omega (arith, length-map c.args.names.now string_bytes, c.in_ok-few_enough.ensures.comes) in
-    says_map c.first_of.result _ _ _ _
-    (λ first h. bytes_come told names (map bytes_in all) (outcome.Prints first) few c.in_ok-all.ensures.comes (subst (λ (l : List (Vec ℕ Global)). BytesCome (map bytes_in l) (outcome.Prints first)) c.as_slice.ensures.value h))
-    (λ x h. bytes_come told names (map bytes_in all) x few c.in_ok-all.ensures.comes (subst (λ (l : List (Vec ℕ Global)). BytesCome (map bytes_in l) x) c.as_slice.ensures.value h))
-    c.first_of.ensures.comes
+    let told_so : (x : Outcome) → BytesCome c.args.aim (map bytes_in c.as_slice.result.now) x
+    → ComesTo c.args.aim told names x = λ x h.
+    bytes_come c.args.aim told names (map bytes_in all) x few c.in_ok-all.ensures.comes
+    (subst (λ (l : List (Vec ℕ Global)). BytesCome c.args.aim (map bytes_in l) x) c.as_slice.ensures.value h) in
+    says_map c.outcome_of.result _ _ _ _ told_so told_so c.outcome_of.ensures.comes
 
 pub returns-clause-misses : goal.returns-clause-misses
 returns-clause-misses g c =
-    no_miss c.first_of.result (map bytes_in c.as_slice.result.now) (g.S.Shelf.misses c.args.shelf.now) (g.S.Shelf.misses c.fetch_all.new.shelf) c.first_of.ensures.comes c.in_ok-all.ensures.misses
+    no_miss c.args.aim c.outcome_of.result (map bytes_in c.as_slice.result.now) (g.S.Shelf.misses c.args.shelf.now) (g.S.Shelf.misses c.fetch_all.new.shelf) c.outcome_of.ensures.comes c.in_ok-all.ensures.misses

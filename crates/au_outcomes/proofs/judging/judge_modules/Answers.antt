@@ -1,13 +1,12 @@
--- The first that is refused ends it: of names and promises, then of declarations, then of instances.
+-- The first that is refused ends it: of names and promises, then of declarations, then of what stands in bodies.
 use Rattle.std.proofs.Common.{◌≡◌, ◌⊎◌, Some, None, refl, subst}
 use Rattle.std.proofs.lemmas.Result.{err_from_is_err_and}
-use Rattle.au_classes.specs.declared.faults.ClassFault.TheVariants as classes
-use Rattle.au_classes.specs.Faults.{instance_fault}
-use Rattle.au_classes.proofs.AcceptedLemmas as standing
 use Rattle.au_modules.specs.Slots as slots
 use Rattle.au_rules.specs.declared.faults.DeclFault.TheVariants as rules
 use Rattle.au_rules.specs.DeclFaults.{decl_fault}
-use Rattle.au_outcomes.proofs.JudgeLemmas.{declarations_halt, instances_halt, modules_good, resolve_halts}
+use Rattle.au_outcomes.specs.Halts.{Says}
+use Rattle.au_outcomes.specs.Programs.{bodies_outcome}
+use Rattle.au_outcomes.proofs.JudgeLemmas.{declarations_halt, modules_say, resolve_halts}
 use Rattle.au_outcomes.proofs.judging.judge_modules.Goals as goal
 
 pub returns-in_err-program-clause-comes : goal.returns-in_err-program-clause-comes
@@ -28,21 +27,12 @@ returns-in_err-declarations_hold-clause-comes c =
     (subst (λ m. (e ≡ rules.Memory) ⊎ (decl_fault (slots.modules m) ≡ Some e)) c.in_ok-program.ensures.kept
     (c.in_err-declarations_hold.ensures.refused e refl)))
 
-pub returns-in_err-declare-clause-comes : goal.returns-in_err-declare-clause-comes
-returns-in_err-declare-clause-comes c =
-    let p = err_from_is_err_and c.from_residual-in_err-declare.result c.from_residual-in_err-declare.ensures.1 in
-    let e = c.in_err-declare.field-0.0 in
-    rw (p.1, p.2)
-    (instances_halt (slots.modules c.args.modules) e _ c.in_ok-program.ensures.accepted
-    (subst (λ m. decl_fault (slots.modules m) ≡ None) c.in_ok-program.ensures.kept
-    c.in_ok-declarations_hold.ensures.accepted)
-    (subst (λ m. (e ≡ classes.Memory) ⊎ (instance_fault (slots.modules m) ≡ Some e)) c.in_ok-program.ensures.kept
-    (c.in_err-declare.ensures.refused e refl)))
-
 pub returns-clause-comes : goal.returns-clause-comes
 returns-clause-comes c =
-    modules_good (slots.modules c.args.modules) c.in_ok-program.ensures.accepted
+    modules_say (slots.modules c.args.modules) c.judge_bodies.result c.in_ok-program.ensures.accepted
     (subst (λ m. decl_fault (slots.modules m) ≡ None) c.in_ok-program.ensures.kept
     c.in_ok-declarations_hold.ensures.accepted)
-    (subst (λ m. instance_fault (slots.modules m) ≡ None) c.in_ok-program.ensures.kept
-    (standing.good_accepted _ c.in_ok-declare.ensures.good))
+    (subst
+    (λ m. Says c.judge_bodies.result (λ _. bodies_outcome (slots.modules m) ≡ None)
+    (λ x. bodies_outcome (slots.modules m) ≡ Some x))
+    c.in_ok-program.ensures.kept c.judge_bodies.ensures.comes)

@@ -6,7 +6,7 @@ use Rattle.au_base.specs.declared.statuses.Status.TheVariants.{ReadFault}
 use Rattle.au_refusals.specs.Lines.{read_fault_line}
 use Rattle.au_top.specs.Dues.{due_line}
 use Rattle.au_top.proofs.ArisesLemmas.{arises_outcome, read_risen}
-use Rattle.au_top.proofs.DueLemmas.{paid_so, pays_owed, came_accepted, came_words, came_no_job, came_refused, came_unread, came_limit, came_success, came_failure}
+use Rattle.au_top.proofs.DueLemmas.{paid_so, pays_owed, came_accepted, came_checked, came_words, came_no_job, came_refused, came_unread, came_limit, came_success, came_failure}
 use Rattle.au_top.proofs.top.austral.Goals as goal
 
 pub answer-requires : goal.answer-requires
@@ -66,6 +66,20 @@ returns-in-Ok-answer-clause-accepted g c = λ files is decided.
     let err' = g.E.Sink.written c.answer.new.err in
     let paid = paid_so words (map string_bytes c.in-Ok.names.items) (map string_bytes c.as_slice.result.now) told faults faults' c.in-Ok.outcome ends out out' err err' (ap (map string_bytes) c.as_slice.ensures.value) c.in-Ok.ensures.arises c.in-Ok-answer.ensures.pays in
     came_accepted words told faults faults' ends out out' err err' files paid decided is
+
+pub returns-in-Ok-answer-clause-checked : goal.returns-in-Ok-answer-clause-checked
+returns-in-Ok-answer-clause-checked g c = λ files task is check decided.
+    let words = map string_bytes c.args.words.now in
+    let told = g.S.Shelf.files c.args.shelf.now in
+    let faults = g.S.Shelf.faults c.args.shelf.now in
+    let faults' = g.S.Shelf.faults c.outcome_of.new.shelf in
+    let ends = c.in-Ok-answer.status in
+    let out = g.O.Sink.written c.args.out.now in
+    let out' = g.O.Sink.written c.answer.new.out in
+    let err = g.E.Sink.written c.args.err.now in
+    let err' = g.E.Sink.written c.answer.new.err in
+    let paid = paid_so words (map string_bytes c.in-Ok.names.items) (map string_bytes c.as_slice.result.now) told faults faults' c.in-Ok.outcome ends out out' err err' (ap (map string_bytes) c.as_slice.ensures.value) c.in-Ok.ensures.arises c.in-Ok-answer.ensures.pays in
+    came_checked words told faults faults' ends out out' err err' files paid decided is task check
 
 pub returns-in-Ok-answer-clause-refused : goal.returns-in-Ok-answer-clause-refused
 returns-in-Ok-answer-clause-refused g c = λ is.

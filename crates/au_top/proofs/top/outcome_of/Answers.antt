@@ -1,5 +1,5 @@
 -- The words are no job, or they ask for something that isn't built, or for files that were checked.
-use Rattle.std.proofs.Common.{Err, List, String, map, ap, ◌∙◌, sym, refl, subst}
+use Rattle.std.proofs.Common.{Err, List, String, map, ap, sym, refl, subst}
 use Rattle.std.specs.Global.{Global}
 use Rattle.std.specs.String.{string_bytes}
 use Rattle.std.proofs.lemmas.Result.{err_from_is_err_and}
@@ -14,11 +14,11 @@ returns-in-Err-NoJob-clause-arises g c =
     let told = told_files (g.S.Shelf.files c.args.shelf.now) in
     (told.0, told.1, c.in-Err-NoJob.ensures.no_job (ap Err c.in-Err-NoJob.field-0-is))
 
-pub returns-in-Some-clause-arises : goal.returns-in-Some-clause-arises
-returns-in-Some-clause-arises g c =
+pub returns-in-Err-clause-arises : goal.returns-in-Err-clause-arises
+returns-in-Err-clause-arises g c =
     let words = map string_bytes c.args.words.now in
     let told = told_files (g.S.Shelf.files c.args.shelf.now) in
-    (told.0, told.1, arises_unbuilt words (map string_bytes c.in-Ok.job.files.items) (task_of c.in-Ok.job) told.0 c.in-Some.what c.in-Ok.ensures.job refl c.in-Some.ensures)
+    (told.0, told.1, arises_unbuilt words (map string_bytes c.in-Ok.job.files.items) (task_of c.in-Ok.job) told.0 c.in-Err.what c.in-Ok.ensures.job refl c.in-Err.ensures)
 
 pub check-requires : goal.check-requires
 check-requires g c =
@@ -29,22 +29,22 @@ pub returns-clause-arises : goal.returns-clause-arises
 returns-clause-arises g c =
     let words = map string_bytes c.args.words.now in
     let comes = c.in_ok-outcome.ensures.comes in
-    let found = subst (λ (l : List (String Global)). Comes comes.0 (map string_bytes l) c.in_ok-outcome.outcome) c.as_slice.ensures.value comes.2 in
-    (comes.0, comes.1, arises_from words (map string_bytes c.in-Ok.job.files.items) (task_of c.in-Ok.job) comes.0 c.in_ok-outcome.outcome c.in-Ok.ensures.job refl (sym c.in_default.is ∙ c.unbuilt_of.ensures) found)
+    let found = subst (λ (l : List (String Global)). Comes c.in-Ok-asked_of.aim comes.0 (map string_bytes l) c.in_ok-outcome.outcome) c.as_slice.ensures.value comes.2 in
+    (comes.0, comes.1, arises_from words (map string_bytes c.in-Ok.job.files.items) (task_of c.in-Ok.job) comes.0 c.in-Ok-asked_of.aim c.in_ok-outcome.outcome c.in-Ok.ensures.job refl c.in-Ok-asked_of.ensures found)
 
 pub returns-clause-idle : goal.returns-clause-idle
-returns-clause-idle g c = λ idle. absurd (asks_files (map string_bytes c.args.words.now) (task_of c.in-Ok.job) c.in-Ok.ensures.job (sym c.in_default.is ∙ c.unbuilt_of.ensures) idle)
+returns-clause-idle g c = λ idle. absurd (asks_files (map string_bytes c.args.words.now) (task_of c.in-Ok.job) c.in-Ok-asked_of.aim c.in-Ok.ensures.job c.in-Ok-asked_of.ensures idle)
 
 pub returns-in_err-outcome-clause-idle : goal.returns-in_err-outcome-clause-idle
-returns-in_err-outcome-clause-idle g c = λ idle. absurd (asks_files (map string_bytes c.args.words.now) (task_of c.in-Ok.job) c.in-Ok.ensures.job (sym c.in_default.is ∙ c.unbuilt_of.ensures) idle)
+returns-in_err-outcome-clause-idle g c = λ idle. absurd (asks_files (map string_bytes c.args.words.now) (task_of c.in-Ok.job) c.in-Ok-asked_of.aim c.in-Ok.ensures.job c.in-Ok-asked_of.ensures idle)
 
 -- where the shelf failed
 pub returns-in_err-outcome-clause-stops : goal.returns-in_err-outcome-clause-stops
 returns-in_err-outcome-clause-stops g c =
     let p = err_from_is_err_and c.from_residual.result c.from_residual.ensures.1 in
     rw (p.1, p.2)
-    (λ h. fails_behind (map string_bytes c.args.words.now) (g.S.Shelf.files c.args.shelf.now) (task_of c.in-Ok.job) c.in-Ok.job.files.items c.as_slice.result.now c.in-Ok.ensures.job refl c.as_slice.ensures.value
-    (sym (sym c.in_default.is ∙ c.unbuilt_of.ensures)) (c.in_err-outcome.ensures.stops h))
+    (λ h. fails_behind (map string_bytes c.args.words.now) (g.S.Shelf.files c.args.shelf.now) (task_of c.in-Ok.job) c.in-Ok-asked_of.aim c.in-Ok.job.files.items c.as_slice.result.now c.in-Ok.ensures.job refl c.as_slice.ensures.value
+    (sym c.in-Ok-asked_of.ensures) (c.in_err-outcome.ensures.stops h))
 
 -- where there are too many files
 pub returns-in_err-outcome-clause-crowded : goal.returns-in_err-outcome-clause-crowded

@@ -2,10 +2,10 @@
 use Rattle.std.proofs.Common.{arith}
 use Rattle.au_outcomes.proofs.CountLemmas.{kept_few, kept_trees}
 use Rattle.au_outcomes.proofs.KeptLemmas.{kept_length}
-use Rattle.au_outcomes.proofs.checking.first_of.Goals as goal
+use Rattle.au_outcomes.proofs.checking.outcome_of.Goals as goal
 
-pub printed-requires : goal.printed-requires
-printed-requires c =
+pub accepted_outcome-requires : goal.accepted_outcome-requires
+accepted_outcome-requires c =
     let same = kept_length 0 c.args.all.now c.in_ok-trees.field-0.trees.items c.in_ok-trees.field-0.printings.items c.in_ok-trees.ensures.comes in
     omega (arith, c.requires.some)
 

@@ -1,0 +1,44 @@
+//! What the words of the command line ask of the program of their files.
+
+ghost use Rattle.std.specs.Prelude.{◌≡◌};
+ghost use Rattle.au_words.specs.Jobs.{task_of};
+ghost use Rattle.au_top.specs.Jobs as asked;
+
+use au_outcomes::Aim;
+use au_refusals::Unbuilt;
+use au_words::{Command, Job};
+
+/// The steps of a run whose words give none.
+const USUAL_STEPS: u64 = 1_000_000_000;
+
+/// What a job asks of the program of its files.
+///
+/// # Errors
+///
+/// The first thing that the job asks for and that is not built yet: the command, or an option of a run.
+pub fn asked_of(job: &Job) -> Result<Aim, Unbuilt>
+    ensures { result ≡ asked.asked_of (task_of job.now) }
+{
+    match job.command {
+        Command::Check => Ok(Aim::Check),
+        Command::Explain => Err(Unbuilt::Explain),
+        Command::Compile => Err(Unbuilt::Compile),
+        Command::Run => asked_of_run(job),
+    }
+}
+
+/// That a program is run, or the first option that is not built yet: the entry, the steps, the lives.
+fn asked_of_run(job: &Job) -> Result<Aim, Unbuilt>
+    ensures { result ≡ asked.asked_of_run (task_of job.now) }
+{
+    if job.entry.is_some() {
+        return Err(Unbuilt::Entry);
+    }
+    if job.steps != USUAL_STEPS {
+        return Err(Unbuilt::Steps);
+    }
+    if job.life {
+        return Err(Unbuilt::Life);
+    }
+    Ok(Aim::Run)
+}
