@@ -1,0 +1,4 @@
+pub mod Refusing
+pub mod Said
+pub mod Steps
+pub mod Leaving

@@ -1,0 +1,73 @@
+-- Steps of the judgements of single statements, each with a name of its own.
+use Rattle.std.specs.Prelude.{◌==◌, List, Bool, false, is_some, Option, Ok, Err}
+use Rattle.std.specs.List.{count_by, find, list_all}
+use Rattle.au_syntax.specs.declared.types.Access.{Access}
+use Rattle.au_syntax.specs.Names.{Placed}
+use Rattle.au_syntax.specs.Plain.{Bytes}
+use Rattle.au_syntax.specs.Types.{Bound, WrittenType}
+use Rattle.au_types.specs.declared.types.Region.TheVariants as regions
+use Rattle.au_types.specs.Same.{same}
+use Rattle.au_types.specs.Types.{Meaning}
+use Rattle.au_judged_types.specs.Judging.{refers}
+use Rattle.au_derivations.specs.InScope.{with_typed}
+use Rattle.au_derivations.specs.Parts.{ArmHead, arms_fit, case_of_arm, is_for}
+use Rattle.au_derivations.specs.Search.{free_place, judge_arms, judge_binds, place_type, written_through}
+use Rattle.au_name_faults.specs.Clashing.{same_target}
+use Rattle.au_names.specs.Importing.{given_name}
+use Rattle.au_names.specs.declared.targets.Target.{Target}
+use Rattle.au_scopes.specs.Scopes.{Case, Scope, Variable}
+use Rattle.au_typing.specs.Faults.{Noting, ◌>>=◌, arms_wanted, assignable_wanted, check, different, known_or, reference_wanted, shape, why, write_reference_wanted}
+use Rattle.au_typing.specs.Lookups.{record_part, written_type}
+
+-- the type of a place of a variable that may be assigned to
+abbrev pub assigned_place : Scope → Variable → List (Placed Bytes) → Noting Meaning
+assigned_place sc one path =
+    check one.assignable (shape assignable_wanted) (place_type sc one.of path) >>= λ of. free_place sc of
+
+-- the type of a part behind a variable of a type that may be assigned to
+abbrev pub put_place : Scope → Meaning → List (Placed Bytes) → Noting Meaning
+put_place sc t path =
+    known_or (shape write_reference_wanted) (written_through t)
+    >>= λ to. record_part sc to path
+    >>= λ of. free_place sc of
+
+-- a written type that is that of a field
+abbrev pub bound_type : Scope → Meaning → WrittenType → Noting Meaning
+bound_type sc field t = written_type sc t >>= λ of. check (same field of) (different field of) (Ok of)
+
+-- arms for the cases of a union, each one by one
+abbrev pub judge_fitting : Scope → List Case → List ArmHead → Noting (Unit {0})
+judge_fitting sc cases heads = check (arms_fit sc cases heads) (shape arms_wanted) (judge_arms sc cases heads)
+
+-- an arm for this case, if it is for one
+abbrev pub judge_found : Scope → Option Case → ArmHead → Noting (Unit {0})
+judge_found sc found head = known_or (shape arms_wanted) found >>= λ one. judge_binds sc one.fields head.binds
+
+-- the first case of a target
+abbrev pub case_of_target : List Case → Target → Option Case
+case_of_target cases target = find (λ one. same_target target one.target) cases
+
+-- a case has exactly one arm
+abbrev pub has_one_arm : Scope → List ArmHead → Case → Bool
+has_one_arm sc heads one = count_by (is_for sc one) heads == 1
+
+-- each case has exactly one arm
+abbrev pub each_has_one_arm : Scope → List ArmHead → List Case → Bool
+each_has_one_arm sc heads cases = list_all (has_one_arm sc heads) cases
+
+-- each arm is for one of the cases
+abbrev pub each_is_for_one : Scope → List Case → List ArmHead → Bool
+each_is_for_one sc cases heads = list_all (λ head. is_some (case_of_arm sc cases head)) heads
+
+-- the region and the type of a reference to a written type
+abbrev pub reference_into : Scope → Access → WrittenType → Bytes → Noting (Bytes × Meaning)
+reference_into sc access target region =
+    written_type sc target >>= λ to. Ok (region, refers access to (regions.Named region))
+
+-- why a written type isn't a reference
+abbrev pub no_reference : Scope → WrittenType → Noting (Bytes × Meaning)
+no_reference sc t = written_type sc t >>= λ of. Err (why (shape reference_wanted))
+
+-- a scope with the variable that a field is bound to, with the type that is written with it
+abbrev pub with_one : Bound Bytes → Scope → Scope
+with_one b sc = with_typed (given_name b.name) false (written_type sc b.of) sc
