@@ -92,8 +92,8 @@ pub statement_within : (xs ys : List ParsedStmt) (i : ℕ) (x : ParsedStmt) → 
 statement_within xs ys i x same within is =
     let all : block_depth (statement_all parsed xs) ≡ block_depth (statement_all parsed ys) = ap (λ (zs : List ParsedStmt). block_depth (statement_all parsed zs)) same in
     let inner : statement_depth (statement parsed x) ≤ block_depth (statement_all parsed xs) =
-        item_within (λ (s : ParsedStmt). statement_depth (statement parsed s)) (λ (zs : List ParsedStmt). block_depth (statement_all parsed zs))
-        (λ (y : ParsedStmt) (zs : List ParsedStmt). omega arith) (λ (y : ParsedStmt) (zs : List ParsedStmt). omega arith) xs i x within is in
+    item_within (λ (s : ParsedStmt). statement_depth (statement parsed s)) (λ (zs : List ParsedStmt). block_depth (statement_all parsed zs))
+    (λ (y : ParsedStmt) (zs : List ParsedStmt). omega arith) (λ (y : ParsedStmt) (zs : List ParsedStmt). omega arith) xs i x within is in
     omega (arith, inner, all)
 
 -- the block of a branch
@@ -102,8 +102,8 @@ pub branch_within : (xs ys : List ParsedBranch) (i : ℕ) (x : ParsedBranch) →
 branch_within xs ys i x same within is =
     let all : branches_depth (branch_all parsed xs) ≡ branches_depth (branch_all parsed ys) = ap (λ (zs : List ParsedBranch). branches_depth (branch_all parsed zs)) same in
     let inner : block_depth (block parsed x.block) ≤ branches_depth (branch_all parsed xs) =
-        item_within (λ (b : ParsedBranch). block_depth (block parsed b.block)) (λ (zs : List ParsedBranch). branches_depth (branch_all parsed zs))
-        (λ (y : ParsedBranch) (zs : List ParsedBranch). omega arith) (λ (y : ParsedBranch) (zs : List ParsedBranch). omega arith) xs i x within is in
+    item_within (λ (b : ParsedBranch). block_depth (block parsed b.block)) (λ (zs : List ParsedBranch). branches_depth (branch_all parsed zs))
+    (λ (y : ParsedBranch) (zs : List ParsedBranch). omega arith) (λ (y : ParsedBranch) (zs : List ParsedBranch). omega arith) xs i x within is in
     omega (arith, inner, all)
 
 -- the block of an arm
@@ -112,6 +112,6 @@ pub arm_within : (xs ys : List ParsedArm) (i : ℕ) (x : ParsedArm) → xs ≡ y
 arm_within xs ys i x same within is =
     let all : arms_depth (arm_all parsed xs) ≡ arms_depth (arm_all parsed ys) = ap (λ (zs : List ParsedArm). arms_depth (arm_all parsed zs)) same in
     let inner : block_depth (block parsed x.block) ≤ arms_depth (arm_all parsed xs) =
-        item_within (λ (a : ParsedArm). block_depth (block parsed a.block)) (λ (zs : List ParsedArm). arms_depth (arm_all parsed zs))
-        (λ (y : ParsedArm) (zs : List ParsedArm). omega arith) (λ (y : ParsedArm) (zs : List ParsedArm). omega arith) xs i x within is in
+    item_within (λ (a : ParsedArm). block_depth (block parsed a.block)) (λ (zs : List ParsedArm). arms_depth (arm_all parsed zs))
+    (λ (y : ParsedArm) (zs : List ParsedArm). omega arith) (λ (y : ParsedArm) (zs : List ParsedArm). omega arith) xs i x within is in
     omega (arith, inner, all)

@@ -1,5 +1,5 @@
 -- Statements with blocks, from what their parts give; and the scopes behind them.
-use Rattle.std.proofs.Common.{◌≡◌, ◌∷◌, ◌-◌, [], ℕ, List, Err, Ok, ap, refl, sym, ◌∙◌, length}
+use Rattle.std.proofs.Common.{arith, ◌≡◌, ◌∷◌, ◌-◌, [], ℕ, List, Err, Ok, ap, refl, sym, ◌∙◌, length}
 use Rattle.au_base.specs.declared.places.Pos.{Pos}
 use Rattle.au_derivations.specs.Faults as refusals
 use Rattle.au_derivations.specs.Faults.{Judged, ◌then◌, StatementFault}
@@ -245,10 +245,23 @@ pub left_again : (old inner after final : Scope) (depth : ℕ) → depth ≡ len
 left_again old inner after final depth deep back same is =
     is ∙ ap (λ (n : ℕ). left_to n after) deep ∙ ap (left_to (length old.variables)) same ∙ back
 
--- behind the block of a borrow statement, which was left, the scope is as it was
-pub closed_again : (old inner after final : Scope) → closed_in (without 1 inner) ≡ old → after ≡ inner →
-    final ≡ closed_in (without 1 after) → final ≡ old
-closed_again old inner after final back same is = is ∙ ap (λ (sc : Scope). closed_in (without 1 sc)) same ∙ back
+-- behind the block of a borrow statement, of which the region is closed too, the scope is as it was
+pub closed_again : (old inner after left final : Scope) (depth : ℕ) → depth ≡ length old.variables →
+    closed_in (left_to (length old.variables) inner) ≡ old → after ≡ inner → left ≡ left_to depth after → final ≡ closed_in left → final ≡ old
+closed_again old inner after left final depth deep back same is_left is =
+    is
+    ∙ ap closed_in (is_left ∙ ap (λ (n : ℕ). left_to n after) deep ∙ ap (left_to (length old.variables)) same)
+    ∙ back
+
+-- one variable is one more than none
+one_more : (one : Variable) (all : List Variable) → length (one ∷ all) - length all ≡ 1
+one_more one all = omega arith
+
+-- in the block of a borrow statement there is one more variable, and one more region
+reference_back : (name region : Bytes) (of : Meaning) (sc : Scope) → closed_in (left_to (length sc.variables) (with_reference name region of sc)) ≡ sc
+reference_back name region of sc =
+    ap (λ (n : ℕ). closed_in (without n (with_reference name region of sc))) (one_more (fixed_variable name of) sc.variables)
+    ∙ reference_left name region of sc
 
 -- behind the block of a `for`
 pub variable_back : (one : Variable) (sc inner : Scope) → inner ≡ with_variable one sc → left_to (length sc.variables) inner ≡ sc
@@ -265,24 +278,24 @@ no_scope : (f : StatementFault) (inner : Scope) → ◌≡◌ {A = Judged Scope}
 no_scope f inner h = cc
 
 scope_made : (at : Pos) (name : Bytes) (judged : Noting (Bytes × Meaning)) (sc inner : Scope) →
-    refusals.placed at (judged >>= λ y. Ok (with_reference name y.0 y.1 sc)) ≡ Ok inner → closed_in (without 1 inner) ≡ sc
+    refusals.placed at (judged >>= λ y. Ok (with_reference name y.0 y.1 sc)) ≡ Ok inner → closed_in (left_to (length sc.variables) inner) ≡ sc
 scope_made at name (Ok y) sc inner h =
-    ap (λ (s : Scope). closed_in (without 1 s)) (sym (ok_same (with_reference name y.0 y.1 sc) inner h)) ∙ reference_left name y.0 y.1 sc
+    ap (λ (s : Scope). closed_in (left_to (length sc.variables) s)) (sym (ok_same (with_reference name y.0 y.1 sc) inner h)) ∙ reference_back name y.0 y.1 sc
 scope_made at name (Err f) sc inner h = absurd (no_scope (refusals.fault_at at f) inner h)
 
 -- behind the block of a borrow statement with a written type that was judged
 pub typed_back : (at : Pos) (name : Bytes) (t : WrittenType) (mode : BorrowMode) (x : Bytes) (sc inner : Scope) →
-    refusals.placed at (typed_scope sc name t mode x) ≡ Ok inner → closed_in (without 1 inner) ≡ sc
+    refusals.placed at (typed_scope sc name t mode x) ≡ Ok inner → closed_in (left_to (length sc.variables) inner) ≡ sc
 typed_back at name t mode x sc inner h = scope_made at name (judge_borrow sc t mode x) sc inner h
 
 lent_made : (at : Pos) (name region : Bytes) (made : Meaning → Meaning) (judged : Noting Meaning) (sc inner : Scope) →
-    refusals.placed at ((judged >>= λ of. Ok (made of)) >>= λ t. Ok (with_reference name region t sc)) ≡ Ok inner → closed_in (without 1 inner) ≡ sc
+    refusals.placed at ((judged >>= λ of. Ok (made of)) >>= λ t. Ok (with_reference name region t sc)) ≡ Ok inner → closed_in (left_to (length sc.variables) inner) ≡ sc
 lent_made at name region made (Ok of) sc inner h =
-    ap (λ (s : Scope). closed_in (without 1 s)) (sym (ok_same (with_reference name region (made of) sc) inner h)) ∙ reference_left name region (made of) sc
+    ap (λ (s : Scope). closed_in (left_to (length sc.variables) s)) (sym (ok_same (with_reference name region (made of) sc) inner h)) ∙ reference_back name region (made of) sc
 lent_made at name region made (Err f) sc inner h = absurd (no_scope (refusals.fault_at at f) inner h)
 
 -- behind the block of a borrow statement without one
 pub lent_back : (at : Pos) (kind : Access) (x name region : Bytes) (sc inner : Scope) →
-    refusals.placed at (lent_scope sc kind x name region) ≡ Ok inner → closed_in (without 1 inner) ≡ sc
+    refusals.placed at (lent_scope sc kind x name region) ≡ Ok inner → closed_in (left_to (length sc.variables) inner) ≡ sc
 lent_back at kind x name region sc inner h =
     lent_made at name region (borrow_type (mode_for kind) region) (judge_lent sc (mode_for kind) x) sc inner h

@@ -42,7 +42,7 @@ refuses_on told.Memory one whole h on = tt
 pub stops_by : {X A B : Type 0} (view : X → A) (result : Result X Refused) (e : Refused) (one : Judged B) (whole : Judged A) →
     (y : Refused) × (result ≡ Err y) × (y ≡ e) → Refuses e one → ((f : StatementFault) → one ≡ Err f → whole ≡ Err f) →
     Judges view result whole
-stops_by view result e one whole is refuses on =
+stops_by {X = X} view result e one whole is refuses on =
     subst (λ (r : Result X Refused). Judges view r whole) (sym is.1)
     (subst (λ (y : Refused). Refuses y whole) (sym is.2) (refuses_on e one whole refuses on))
 

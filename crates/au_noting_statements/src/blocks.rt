@@ -19,7 +19,6 @@ use crate::single::{
 };
 use au_base::Pos;
 use au_judgements::Refused;
-use au_judgements::leaving::leave_reference;
 use au_notes::Noted;
 use au_noting::Scope;
 use au_syntax::{
@@ -118,7 +117,7 @@ fn note_case_of(
         (scope_said scope.old)) }
     ensures left { OnOk result (scope_said scope.new ≡ scope_said scope.old) }
 {
-    let value = case_at(alloc, scope, at, value, arms.as_slice())?;
+    let value = case_at(alloc, scope, at, value, arms)?;
     let arms = note_arms(alloc, scope, arms)?;
     Ok(Stmt::Case(at, value, arms))
 }
@@ -180,9 +179,11 @@ fn note_borrow(
         (placed parsed names.now.region) (block parsed body.now) end) (scope_said scope.old)) }
     ensures left { OnOk result (scope_said scope.new ≡ scope_said scope.old) }
 {
+    let depth = scope.depth();
     let names = borrow_at(alloc, scope, at, kind, names)?;
     let body = note_block(alloc, scope, body)?;
-    leave_reference(scope);
+    scope.leave_to(depth);
+    scope.leave_region();
     Ok(Stmt::Borrow(at, kind, names, body, end))
 }
 
@@ -204,9 +205,11 @@ fn note_borrow_typed(
         (block parsed body.now) end) (scope_said scope.old)) }
     ensures left { OnOk result (scope_said scope.new ≡ scope_said scope.old) }
 {
+    let depth = scope.depth();
     let (name, text, of) = typed_at(alloc, scope, at, name, text, mode, of)?;
     let body = note_block(alloc, scope, body)?;
-    leave_reference(scope);
+    scope.leave_to(depth);
+    scope.leave_region();
     Ok(Stmt::BorrowTyped(at, name, text, mode, of, body, end))
 }
 
@@ -265,11 +268,7 @@ fn note_branches(
 
 /// An arm of a `case`.
 #[cycle(note_statement)]
-fn note_arm(
-    alloc: Global,
-    scope: &mut Scope,
-    arm: &Arm<Parsed>,
-) -> Result<Arm<Noted>, Refused>
+fn note_arm(alloc: Global, scope: &mut Scope, arm: &Arm<Parsed>) -> Result<Arm<Noted>, Refused>
     ensures judged { Judges (λ made. block noted made.block) result (spec.note_block (block parsed arm.now.block)
         (inside.with_bound (binds_said arm.now.binds.items) (scope_said scope.old))) }
     ensures at { IfOk result (λ made. made.at ≡ arm.now.at) }

@@ -58,10 +58,10 @@ pub fn case_at(
     scope: &Scope,
     at: Pos,
     value: &Expr<Parsed>,
-    arms: &[Arm<Parsed>],
+    arms: &Vec<Arm<Parsed>>,
 ) -> Result<Box<Expr<Noted>>, Refused>
     ensures { Judges boxed result (refusals.placed at (spec.note_case (scope_said scope.now)
-        (expression parsed value.now) (heads_said arms.now))) }
+        (expression parsed value.now) (heads_said arms.now.items))) }
 {
     match note_case(alloc, scope, value, arms) {
         Ok(value) => Ok(value),
@@ -151,13 +151,7 @@ fn enter_lent(
         kind names.now.variable.name names.now.reference.name names.now.region.name) }
 {
     let of = lent_reference(alloc, scope, kind, names)?;
-    Ok(enter_reference(
-        alloc,
-        scope,
-        &names.reference.name,
-        &names.region.name,
-        of,
-    )?)
+    Ok(enter_reference(alloc, scope, &names.reference.name, &names.region.name, of)?)
 }
 
 /// The names of a borrow statement without a written type; its block is entered then.

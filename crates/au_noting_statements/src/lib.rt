@@ -11,5 +11,6 @@ mod entering;
 mod lists;
 mod parts;
 mod single;
+mod vectors;
 
 pub use blocks::note_block;

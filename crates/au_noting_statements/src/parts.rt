@@ -14,10 +14,9 @@ ghost use Rattle.au_typing.specs.Search as search;
 ghost use Rattle.std.specs.Prelude.{Some};
 
 use crate::lists::put_test;
+use crate::vectors::{judge_assigned, judge_binds, judge_heads, judge_put};
 use au_base::Name;
-use au_judgements::arms::{judge_heads, judge_union};
-use au_judgements::assigning::{judge_assigned, judge_put};
-use au_judgements::binding::judge_binds;
+use au_judgements::arms::judge_union;
 use au_notes::{Form, Noted};
 use au_noting::faults::{not_free, other_form};
 use au_noting::lookups::{is_free_in, written_type};
@@ -25,7 +24,7 @@ use au_noting::nodes::of_one_type;
 use au_noting::rules::is_integer;
 use au_noting::{Fault, Scope};
 use au_noting_expressions::{note_boxed, paired};
-use au_noting_leaves::type_of;
+use au_noting_leaves::{truth, type_of};
 use au_sights::Typed;
 use au_sights::surroundings::fields;
 use au_syntax::{Arm, Bind, Branch, Expr, Ident, Parsed, TypeText};
@@ -62,15 +61,15 @@ fn known_fields(alloc: Global, scope: &Scope, of: &Ty) -> Result<Vec<Typed>, Fau
 pub fn note_taken(
     alloc: Global,
     scope: &Scope,
-    binds: &[Bind<Parsed>],
+    binds: &Vec<Bind<Parsed>>,
     value: &Expr<Parsed>,
 ) -> Result<Box<Expr<Noted>>, Fault>
     ensures { Gives boxed result
-        (spec.note_taken (scope_said scope.now) (binds_said binds.now) (expression parsed value.now)) }
+        (spec.note_taken (scope_said scope.now) (binds_said binds.now.items) (expression parsed value.now)) }
 {
     let made = note_boxed(alloc, scope, None, value)?;
     let all = known_fields(alloc, scope, type_of(&made))?;
-    judge_binds(alloc, scope, all.as_slice(), binds)?;
+    judge_binds(alloc, scope, &all, binds)?;
     Ok(made)
 }
 
@@ -79,11 +78,11 @@ pub fn note_assigned(
     alloc: Global,
     scope: &Scope,
     name: &Name,
-    path: &[Ident<Parsed>],
+    path: &Vec<Ident<Parsed>>,
     value: &Expr<Parsed>,
 ) -> Result<Box<Expr<Noted>>, Fault>
     ensures { Gives boxed result (spec.note_assigned (scope_said scope.now)
-        name.now (fields_said path.now) (expression parsed value.now)) }
+        name.now (fields_said path.now.items) (expression parsed value.now)) }
 {
     let of = judge_assigned(alloc, scope, name, path)?;
     note_boxed(alloc, scope, Some(&of), value)
@@ -94,11 +93,11 @@ pub fn note_put(
     alloc: Global,
     scope: &Scope,
     name: &Name,
-    path: &[Ident<Parsed>],
+    path: &Vec<Ident<Parsed>>,
     value: &Expr<Parsed>,
 ) -> Result<Box<Expr<Noted>>, Fault>
     ensures { Gives boxed result (spec.note_put (scope_said scope.now)
-        name.now (fields_said path.now) (expression parsed value.now)) }
+        name.now (fields_said path.now.items) (expression parsed value.now)) }
 {
     let of = judge_put(alloc, scope, name, path)?;
     note_boxed(alloc, scope, Some(&of), value)
@@ -112,7 +111,8 @@ pub fn note_test(
 ) -> Result<Box<Expr<Noted>>, Fault>
     ensures { Gives boxed result (spec.note_test (scope_said scope.now) (expression parsed value.now)) }
 {
-    note_boxed(alloc, scope, Some(&Ty::Bool), value)
+    let goal = truth();
+    note_boxed(alloc, scope, Some(&goal), value)
 }
 
 /// The tests of a conditional in order.
@@ -137,14 +137,14 @@ pub fn note_case(
     alloc: Global,
     scope: &Scope,
     value: &Expr<Parsed>,
-    arms: &[Arm<Parsed>],
+    arms: &Vec<Arm<Parsed>>,
 ) -> Result<Box<Expr<Noted>>, Fault>
     ensures { Gives boxed result
-        (spec.note_case (scope_said scope.now) (expression parsed value.now) (heads_said arms.now)) }
+        (spec.note_case (scope_said scope.now) (expression parsed value.now) (heads_said arms.now.items)) }
 {
     let made = note_boxed(alloc, scope, None, value)?;
     let all = judge_union(alloc, scope, type_of(&made))?;
-    judge_heads(alloc, scope, all.as_slice(), arms)?;
+    judge_heads(alloc, scope, &all, arms)?;
     Ok(made)
 }
 

@@ -57,7 +57,7 @@ pub fn note_destructure(
         (form.destructure at (binds_said binds.now.items) (expression parsed value.now))
         (scope_said scope.now)) }
 {
-    match note_taken(alloc, scope, binds.as_slice(), value) {
+    match note_taken(alloc, scope, binds, value) {
         Ok(value) => Ok(Stmt::Destructure(at, copy_binds(alloc, binds)?, value)),
         Err(fault) => Err(refused_at(at, fault)),
     }
@@ -76,7 +76,7 @@ pub fn note_assign(
         (form.assign at (placed parsed name.now) (fields_said path.now.items) (expression parsed value.now))
         (scope_said scope.now)) }
 {
-    match note_assigned(alloc, scope, &name.name, path.as_slice(), value) {
+    match note_assigned(alloc, scope, &name.name, path, value) {
         Ok(value) => {
             let name = copy_name(alloc, name)?;
             let path = copy_names(alloc, path)?;
@@ -99,7 +99,7 @@ pub fn note_assign_through(
         (form.assign_through at (placed parsed name.now) (fields_said path.now.items)
         (expression parsed value.now)) (scope_said scope.now)) }
 {
-    match note_put(alloc, scope, &name.name, path.as_slice(), value) {
+    match note_put(alloc, scope, &name.name, path, value) {
         Ok(value) => {
             let name = copy_name(alloc, name)?;
             let path = copy_names(alloc, path)?;
