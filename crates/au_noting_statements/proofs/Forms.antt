@@ -1,5 +1,5 @@
 -- Statements with blocks, from what their parts give; and the scopes behind them.
-use Rattle.std.proofs.Common.{arith, ◌≡◌, ◌∷◌, ◌-◌, [], ℕ, List, Err, Ok, ap, refl, sym, ◌∙◌, length}
+use Rattle.std.proofs.Common.{arith, ◌≡◌, ◌∷◌, ◌-◌, [], ℕ, List, Err, Ok, Result, ap, refl, subst, sym, ◌∙◌, length}
 use Rattle.au_base.specs.declared.places.Pos.{Pos}
 use Rattle.au_derivations.specs.Faults as refusals
 use Rattle.au_derivations.specs.Faults.{Judged, ◌then◌, StatementFault}
@@ -8,18 +8,23 @@ use Rattle.au_derivations.specs.Parts.{borrow_type, heads_of, mode_for}
 use Rattle.au_derivations.specs.Search.{judge_borrow, judge_lent, note_arms, note_block, note_bounds, note_branches, note_case, note_statement, note_test, note_tests}
 use Rattle.au_derivations.specs.Trees.{NotedArms, NotedBranches, NotedStatement, NotedStatements}
 use Rattle.au_judgements.proofs.LeavingLemmas.{bound_grown, grown_left, reference_left}
+use Rattle.au_judgements.specs.declared.refusals.Refused.{Refused}
+use Rattle.au_judgements.specs.Refusing.{Judges}
+use Rattle.au_notes.specs.contracts.noted.NotedPhase.TheImpl.{ghosts as noted}
 use Rattle.au_noting.specs.Scopes.{closed_in, without}
 use Rattle.au_noting_statements.specs.Entering.{lent_scope, typed_scope}
 use Rattle.au_scopes.specs.Scopes.{Scope, Variable}
 use Rattle.au_syntax.specs.declared.expressions.BorrowMode.{BorrowMode}
 use Rattle.au_syntax.specs.declared.types.Access.{Access}
 use Rattle.au_syntax.specs.Names.{Placed}
-use Rattle.au_syntax.specs.Plain.{Bytes, PlainArms, PlainBranches, PlainExpression, PlainStatements}
+use Rattle.au_syntax.specs.Plain.{Bytes, PlainArms, PlainBranches, PlainExpression, PlainStatement, PlainStatements}
 use Rattle.au_syntax.specs.Statements.{conditional, conditional_else, case_of, while_loop, for_loop, borrow_in, borrow_typed}
 use Rattle.au_syntax.specs.Types.{Bound, WrittenType}
+use Rattle.au_syntax.specs.Views.{statement}
 use Rattle.au_types.specs.Types.{Meaning}
 use Rattle.au_typing.specs.Faults.{Noting, ◌>>=◌}
 use Rattle.au_typing.specs.Notes.{NotedExpression, type_of}
+use Rattle.au_noting_statements.proofs.Fronts.{NotedStmt}
 
 -- ---- steps
 
@@ -32,6 +37,11 @@ first_stops one next f h = ap (λ (j : Judged _). j then next) h
 
 pub second_stops : {A B : Type 0} (one : Judged A) (next : A → Judged B) (x : A) (f : StatementFault) → one ≡ Ok x → next x ≡ Err f → (one then next) ≡ Err f
 second_stops one next x f h k = ap (λ (j : Judged _). j then next) h ∙ k
+
+-- what a call answers of a statement, by the form that the statement has
+pub told_by : (s form : PlainStatement) (sc : Scope) (r : Result NotedStmt Refused) → s ≡ form →
+    Judges (statement noted) r (note_statement form sc) → Judges (statement noted) r (note_statement s sc)
+told_by s form sc r is h = subst (λ (t : PlainStatement). Judges (statement noted) r (note_statement t sc)) (sym is) h
 
 -- ---- what follows what is noted in front of blocks
 

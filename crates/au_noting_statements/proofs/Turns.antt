@@ -1,6 +1,6 @@
 -- One turn of each walk: over the statements of a block, over branches and over arms.
-use Rattle.std.proofs.Common.{◌≡◌, ◌++◌, ◌∷◌, ◌<◌, ◌≤◌, ◌+◌, [], ℕ, List, Err, Ok, ap, append_assoc, sym, ◌∙◌, drop, get_or, length, map, refl}
-use Rattle.std.proofs.lemmas.List.{append-nil, at_drop_all, map-append}
+use Rattle.std.proofs.Common.{arith, ◌≡◌, ◌++◌, ◌∷◌, ◌<◌, ◌≤◌, ◌+◌, ◌-◌, [], ℕ, List, Err, Ok, ap, append_assoc, sym, ◌∙◌, drop, get_or, length, map, refl, take}
+use Rattle.std.proofs.lemmas.List.{append-nil, at_drop_all, length-drop, map-append, take_all}
 use Rattle.std.specs.Global.{Global}
 use Rattle.std.specs.declared.boxed.Box.{Box}
 use Rattle.au_base.specs.declared.places.Pos.{Pos}
@@ -23,6 +23,10 @@ use Rattle.au_typing.specs.Faults.{Noting, ◌>>=◌, Fault}
 use Rattle.au_typing.specs.Notes.{NotedExpression}
 use Rattle.au_noting_statements.proofs.Depths.{ParsedStmt, ParsedBranch, ParsedArm}
 use Rattle.au_noting_statements.proofs.Fronts.{NotedStmt, NotedBranch, NotedArm, fronted, front_grows, left_at, statements_before, statements_pushed, statements_whole, branches_before, branches_pushed, branches_whole, arms_before, arms_pushed, arms_whole}
+
+-- what is left from a place on, as far as it goes
+pub rest_is : {A : Type 0} (xs : List A) (k : ℕ) → drop k xs ≡ take (length xs - k) (drop k xs)
+rest_is xs k = sym (take_all (length xs - k) (drop k xs) (omega (arith, length-drop k xs)))
 
 -- ---- statements
 
