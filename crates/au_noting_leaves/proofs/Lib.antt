@@ -1,1 +1,4 @@
 pub mod ClauseLemmas
+mod LabelLemmas
+mod MadeLemmas
+mod StopLemmas

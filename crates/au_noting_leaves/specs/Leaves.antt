@@ -2,14 +2,13 @@
 use Rattle.std.specs.Prelude.{ℕ, List, Bool, Ok, neg_ℤ}
 use Rattle.au_syntax.specs.declared.expressions.BorrowMode.{BorrowMode}
 use Rattle.au_syntax.specs.declared.expressions.Literal.{Literal}
-use Rattle.au_syntax.specs.Expressions.{Node, number, negative, text, truth, nil}
+use Rattle.au_syntax.specs.Expressions.{Node, number, negative, text, truth, nil, borrow}
 use Rattle.au_syntax.specs.Names.{Placed}
 use Rattle.au_syntax.specs.Plain.{Bytes}
-use Rattle.au_scopes.specs.Scopes.{Scope}
 use Rattle.au_types.specs.Types as mean
-use Rattle.au_typing.specs.Faults.{Noting, ◌>>=◌, known_or, unknown}
-use Rattle.au_typing.specs.Lookups.{variable_type}
-use Rattle.au_typing.specs.Notes.{Mode, Note, NotedExpression, noted_at}
+use Rattle.au_types.specs.Types.{Meaning}
+use Rattle.au_typing.specs.Faults.{Noting, ◌>>=◌}
+use Rattle.au_typing.specs.Notes.{Mode, NotedExpression, noted_at}
 use Rattle.au_typing.specs.Rules.{noted}
 use Rattle.au_typing.specs.Search.{borrowed, literal_note}
 
@@ -33,8 +32,7 @@ truth_noted u b mode = noted mode mean.truth >>= λ n. Ok (truth (noted_at u n) 
 abbrev pub nil_noted : Node (Unit {0}) → Mode → Noting NotedExpression
 nil_noted u mode = noted mode mean.unit >>= λ n. Ok (nil (noted_at u n))
 
--- the note of what borrows a variable
-abbrev pub borrow_note : Scope → Mode → BorrowMode → Placed Bytes → Noting Note
-borrow_note scope mode m x =
-    known_or (unknown x.name) (variable_type scope x.name) >>= λ t.
-    borrowed m t >>= λ of. noted mode of
+-- a reference to a variable of this type
+abbrev pub borrow_noted : Node (Unit {0}) → BorrowMode → Placed Bytes → Mode → Meaning →
+    Noting NotedExpression
+borrow_noted u m x mode t = borrowed m t >>= λ of. noted mode of >>= λ n. Ok (borrow (noted_at u n) m x)

@@ -13,6 +13,7 @@ ghost use Rattle.au_typing.specs.Notes as notes;
 ghost use Rattle.au_typing.specs.Rules.{int32};
 ghost use Rattle.au_typing.specs.SearchCalls as search;
 
+use crate::fixed::taken_as_int32;
 use crate::operands::type_of;
 use au_base::IntKind;
 use au_matching::Substitution;
@@ -55,7 +56,7 @@ pub fn take_as_int32(
     ensures { Gives beside_said result
         (search.taken_as (meaning param.now) int32 s (expression noted one.value)) }
 {
-    let more = taken_as(alloc, param, &Ty::Int(IntKind::Int32), &s)?;
+    let more = taken_as_int32(alloc, param, &s)?;
     Ok((Box::into_inner(one), more))
 }
 

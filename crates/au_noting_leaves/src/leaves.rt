@@ -7,12 +7,12 @@ ghost use Rattle.au_notes.specs.contracts.noted.NotedPhase.TheImpl.{ghosts as no
 ghost use Rattle.au_syntax.specs.contracts.parsed.ParsedPhase.TheImpl.{ghosts as parsed};
 ghost use Rattle.au_syntax.specs.Views.{expression, node};
 
+use crate::fixed::{text_note, truth_note, unit_note};
 use crate::operands::noted_site;
 use au_base::Text;
 use au_notes::Noted;
 use au_noting::Fault;
 use au_noting::nodes::{literal_note, negative_note};
-use au_noting::rules::noted;
 use au_syntax::{Expr, Literal, Parsed, Site};
 use au_types::Ty;
 use std::alloc::Global;
@@ -67,7 +67,7 @@ pub fn note_text(
     ensures { Gives (expression noted) result
         (text_noted (node parsed site.now) text.now (wanted mode.entry)) }
 {
-    let note = noted(alloc, mode, &Ty::Text)?;
+    let note = text_note(alloc, mode)?;
     let text = text.copy(alloc)?;
     Ok(Expr::Text(noted_site(site, note), text))
 }
@@ -86,7 +86,7 @@ pub fn note_truth(
     ensures { Gives (expression noted) result
         (truth_noted (node parsed site.now) truth (wanted mode.entry)) }
 {
-    let note = noted(alloc, mode, &Ty::Bool)?;
+    let note = truth_note(alloc, mode)?;
     Ok(Expr::Bool(noted_site(site, note), truth))
 }
 
@@ -98,6 +98,6 @@ pub fn note_truth(
 pub fn note_nil(alloc: Global, mode: Option<&Ty>, site: &Site<Parsed>) -> Result<Expr<Noted>, Fault>
     ensures { Gives (expression noted) result (nil_noted (node parsed site.now) (wanted mode.entry)) }
 {
-    let note = noted(alloc, mode, &Ty::Unit)?;
+    let note = unit_note(alloc, mode)?;
     Ok(Expr::Nil(noted_site(site, note)))
 }

@@ -9,6 +9,7 @@
 
 pub mod arguments;
 pub mod calls;
+mod fixed;
 pub mod leaves;
 pub mod makers;
 pub mod operands;

@@ -9,6 +9,7 @@ ghost use Rattle.au_syntax.specs.contracts.parsed.ParsedPhase.TheImpl.{ghosts as
 ghost use Rattle.au_syntax.specs.Views.{expression, node, written};
 ghost use Rattle.au_types.specs.Views.{meaning};
 
+use crate::fixed::truth_note;
 use crate::operands::{noted_site, type_of};
 use au_noted_copies::copy_text_of_type;
 use au_notes::Noted;
@@ -93,7 +94,7 @@ pub fn make_logical(
     ensures { Gives (expression noted) result (spec.logical_made (node parsed site.now) op
         (wanted mode.entry) (expression noted first.value) (expression noted second.value)) }
 {
-    let note = noted(alloc, mode, &Ty::Bool)?;
+    let note = truth_note(alloc, mode)?;
     Ok(Expr::Binary(noted_site(site, note), op, first, second))
 }
 
@@ -131,7 +132,7 @@ pub fn make_negation(
     ensures { Gives (expression noted) result (spec.negation_made
         (node parsed site.now) (wanted mode.entry) (expression noted inner.value)) }
 {
-    let note = noted(alloc, mode, &Ty::Bool)?;
+    let note = truth_note(alloc, mode)?;
     Ok(Expr::Not(noted_site(site, note), inner))
 }
 

@@ -4,18 +4,18 @@ ghost use Rattle.std.specs.Prelude.{◌≡◌, IfOk, map};
 ghost use Rattle.au_noting.specs.Giving.{Gives};
 ghost use Rattle.au_noting.specs.Modes.{wanted};
 ghost use Rattle.au_noting.specs.Scopes.{scope_said};
-ghost use Rattle.au_noting_leaves.specs.Leaves.{borrow_note};
+ghost use Rattle.au_noting_leaves.specs.Leaves.{borrow_noted};
 ghost use Rattle.au_notes.specs.contracts.noted.NotedPhase.TheImpl.{ghosts as noted};
-ghost use Rattle.au_notes.specs.Views.{note};
 ghost use Rattle.au_syntax.specs.contracts.parsed.ParsedPhase.TheImpl.{ghosts as parsed};
 ghost use Rattle.au_syntax.specs.Expressions as tree;
 ghost use Rattle.au_syntax.specs.Views.{expression, node, placed};
+ghost use Rattle.au_types.specs.Views.{meaning};
 ghost use Rattle.au_typing.specs.Search.{note_expression};
 
 use crate::operands::noted_site;
 use au_base::Memory;
 use au_noted_copies::{copy_name, copy_names};
-use au_notes::{Noted, Notes};
+use au_notes::Noted;
 use au_noting::lookups::{known_value, known_variable};
 use au_noting::nodes::{arrow_note, borrow_part_note, borrowed, path_note};
 use au_noting::rules::noted;
@@ -85,20 +85,22 @@ pub fn note_arrow(
     Ok(Expr::Arrow(noted_site(site, note), name, fields))
 }
 
-/// The note of what borrows a variable.
-fn borrow_note(
+/// A reference to a variable of a type.
+fn borrow_of(
     alloc: Global,
-    scope: &Scope,
     mode: Option<&Ty>,
+    site: &Site<Parsed>,
     kind: BorrowMode,
     name: &Ident<Parsed>,
-) -> Result<Notes, Fault>
-    ensures { Gives note result
-        (borrow_note (scope_said scope.now) (wanted mode.entry) kind (placed parsed name.now)) }
+    of: &Ty,
+) -> Result<Expr<Noted>, Fault>
+    ensures { Gives (expression noted) result (borrow_noted (node parsed site.now) kind
+        (placed parsed name.now) (wanted mode.entry) (meaning of.now)) }
 {
-    let of = known_variable(alloc, scope, &name.name)?;
     let gives = borrowed(alloc, kind, of)?;
-    noted(alloc, mode, &gives)
+    let note = noted(alloc, mode, &gives)?;
+    let name = copy_name(alloc, name)?;
+    Ok(Expr::Borrow(noted_site(site, note), kind, name))
 }
 
 /// A reference to a variable.
@@ -117,9 +119,8 @@ pub fn note_borrow(
     ensures { Gives (expression noted) result (note_expression (scope_said scope.now)
         (tree.borrow (node parsed site.now) kind (placed parsed name.now)) (wanted mode.entry)) }
 {
-    let note = borrow_note(alloc, scope, mode, kind, name)?;
-    let name = copy_name(alloc, name)?;
-    Ok(Expr::Borrow(noted_site(site, note), kind, name))
+    let of = known_variable(alloc, scope, &name.name)?;
+    borrow_of(alloc, mode, site, kind, name, of)
 }
 
 /// A reference to a part, from a reference.

@@ -1,0 +1,20 @@
+-- Where a step of a clause stops, the clause stops.
+use Rattle.std.proofs.Common.{◌≡◌, Result, Ok, Err, refl, subst, sym}
+use Rattle.au_noting.specs.declared.faults.Fault as told
+use Rattle.au_noting.specs.declared.faults.Fault.TheVariants as fault
+use Rattle.au_noting.specs.Giving.{Gives, Stops}
+use Rattle.au_typing.specs.Faults.{Noting, ◌>>=◌}
+
+-- what follows changes nothing
+stops_more : {A B : Type 0} (e : told.Fault) (one : Noting A) (g : A → Noting B) → Stops e one → Stops e (one >>= g)
+stops_more (fault.Why w) one g is = rw is refl
+stops_more (fault.Limit passed) one g is = rw is refl
+stops_more fault.Memory one g is = tt
+
+-- a step behind one that gives something
+pub stops_behind : {X A B D : Type 0} (view : X → D) (result : Result X told.Fault) (e : told.Fault) (found : Noting A) (x : A) (f : A → Noting B) (g : B → Noting D) →
+    (y : told.Fault) × (result ≡ Err y) × (y ≡ e) → found ≡ Ok x → Stops e (f x) → Gives view result (found >>= λ a. f a >>= g)
+stops_behind {X = X} view result e found x f g is gives stops =
+    subst (λ (r : Result X told.Fault). Gives view r (found >>= λ a. f a >>= g)) (sym is.1)
+    (subst (λ (y : told.Fault). Stops y (found >>= λ a. f a >>= g)) (sym is.2)
+    (subst (λ r. Stops e (r >>= λ a. f a >>= g)) (sym gives) (stops_more e (f x) g stops)))
