@@ -1,13 +1,13 @@
 -- Why noting a statement stops, from why noting its parts does.
-use Rattle.std.proofs.Common.{◌≡◌, Ok, ap, subst, sym}
+use Rattle.std.proofs.Common.{◌≡◌, Result, Ok, Err, ap, subst, sym}
 use Rattle.au_base.specs.declared.places.Pos.{Pos}
 use Rattle.au_derivations.specs.Faults.{Judged, ◌then◌, placed}
 use Rattle.au_judgements.specs.declared.refusals.Refused.{Refused}
 use Rattle.au_judgements.specs.declared.refusals.Refused.TheVariants as told
-use Rattle.au_judgements.specs.Refusing.{Refuses, refused_with}
+use Rattle.au_judgements.specs.Refusing.{Judges, Refuses, refused_from, refused_with}
 use Rattle.au_noting.specs.declared.faults.Fault.{Fault}
 use Rattle.au_noting.specs.declared.faults.Fault.TheVariants as fault
-use Rattle.au_noting.specs.Giving.{Stops}
+use Rattle.au_noting.specs.Giving.{Gives, Stops}
 use Rattle.au_typing.specs.Faults.{Noting}
 
 -- what stops the noting of a part stops that of its statement
@@ -15,6 +15,11 @@ pub stops_refuses : {A : Type 0} (at : Pos) (f : Fault) (noting : Noting A) → 
 stops_refuses at (fault.Why cause) noting h = ap (placed at) h
 stops_refuses at (fault.Limit passed) noting h = ap (placed at) h
 stops_refuses at fault.Memory noting h = tt
+
+-- what a part of a statement comes to is what the search gives of it, with the place of the statement
+pub gives_judges : {X A : Type 0} (view : X → A) (at : Pos) (r : Result X Fault) (noting : Noting A) → Gives view r noting → Judges view (refused_from at r) (placed at noting)
+gives_judges view at (Ok x) noting h = ap (placed at) h
+gives_judges view at (Err f) noting h = stops_refuses at f noting h
 
 -- what refuses a first step refuses it with all steps that follow
 pub refuses_then : {A B : Type 0} (r : Refused) (first : Judged A) (next : A → Judged B) → Refuses r first → Refuses r (first then next)

@@ -1,5 +1,5 @@
 -- A scope that has grown by variables, and how it is brought back to what it was.
-use Rattle.std.proofs.Common.{arith, ◌≡◌, ◌-◌, ◌++◌, Bool, false, List, [], ◌∷◌, Ok, Err, length, drop, refl, ap, subst, sym, ◌∙◌, append_assoc, length-append}
+use Rattle.std.proofs.Common.{arith, ◌≡◌, ◌-◌, ◌++◌, Bool, false, List, [], ◌∷◌, Ok, Err, length, refl, ap, sym, ◌∙◌, append_assoc, length-append}
 use Rattle.std.proofs.lemmas.List.{drop_at}
 use Rattle.au_derivations.specs.InScope.{after, is_var, with_bound, with_reference, with_typed}
 use Rattle.au_judgements.specs.Leaving.{IsGrown}

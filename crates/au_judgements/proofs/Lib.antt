@@ -1,3 +1,4 @@
 pub mod JudgeLemmas
 pub mod LeavingLemmas
 pub mod StepLemmas
+pub mod ReturnLemmas

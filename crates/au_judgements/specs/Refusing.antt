@@ -24,3 +24,8 @@ abbrev pub refused_with : Pos → Fault → Refused
 refused_with at (fault.Why cause) = told.Statement at cause
 refused_with at (fault.Limit passed) = told.Limit passed
 refused_with at fault.Memory = told.Memory
+
+-- what a part of a statement came to, with the place of the statement
+abbrev pub refused_from : {X : Type 0} → Pos → Result X Fault → Result X Refused
+refused_from at (Ok x) = Ok x
+refused_from at (Err f) = Err (refused_with at f)

@@ -1,6 +1,7 @@
 -- Steps of the judgements of single statements, each with a name of its own.
-use Rattle.std.specs.Prelude.{◌==◌, List, Bool, false, is_some, Option, Ok, Err}
+use Rattle.std.specs.Prelude.{◌==◌, List, Bool, false, is_some, Option, Some, None, Ok, Err}
 use Rattle.std.specs.List.{count_by, find, list_all}
+use Rattle.au_syntax.specs.declared.expressions.BorrowMode.{BorrowMode}
 use Rattle.au_syntax.specs.declared.types.Access.{Access}
 use Rattle.au_syntax.specs.Names.{Placed}
 use Rattle.au_syntax.specs.Plain.{Bytes}
@@ -10,12 +11,12 @@ use Rattle.au_types.specs.Same.{same}
 use Rattle.au_types.specs.Types.{Meaning}
 use Rattle.au_judged_types.specs.Judging.{refers}
 use Rattle.au_derivations.specs.InScope.{with_typed}
-use Rattle.au_derivations.specs.Parts.{ArmHead, arms_fit, case_of_arm, is_for}
-use Rattle.au_derivations.specs.Search.{free_place, judge_arms, judge_binds, place_type, written_through}
+use Rattle.au_derivations.specs.Parts.{ArmHead, borrow_type, case_of_arm, is_for}
+use Rattle.au_derivations.specs.Search.{free_place, is_of_borrow, judge_binds, judge_bound, judge_reference, place_type, written_through}
 use Rattle.au_name_faults.specs.Clashing.{same_target}
 use Rattle.au_names.specs.Importing.{given_name}
 use Rattle.au_names.specs.declared.targets.Target.{Target}
-use Rattle.au_scopes.specs.Scopes.{Case, Scope, Variable}
+use Rattle.au_scopes.specs.Scopes.{Case, Scope, Typed, Variable}
 use Rattle.au_typing.specs.Faults.{Noting, ◌>>=◌, arms_wanted, assignable_wanted, check, different, known_or, reference_wanted, shape, why, write_reference_wanted}
 use Rattle.au_typing.specs.Lookups.{record_part, written_type}
 
@@ -35,9 +36,9 @@ put_place sc t path =
 abbrev pub bound_type : Scope → Meaning → WrittenType → Noting Meaning
 bound_type sc field t = written_type sc t >>= λ of. check (same field of) (different field of) (Ok of)
 
--- arms for the cases of a union, each one by one
-abbrev pub judge_fitting : Scope → List Case → List ArmHead → Noting (Unit {0})
-judge_fitting sc cases heads = check (arms_fit sc cases heads) (shape arms_wanted) (judge_arms sc cases heads)
+-- a field that is bound, without its type
+abbrev pub judge_one : Scope → List Typed → Bound Bytes → Noting (Unit {0})
+judge_one sc fields b = judge_bound sc fields b >>= λ of. Ok tt
 
 -- an arm for this case, if it is for one
 abbrev pub judge_found : Scope → Option Case → ArmHead → Noting (Unit {0})
@@ -71,3 +72,17 @@ no_reference sc t = written_type sc t >>= λ of. Err (why (shape reference_wante
 -- a scope with the variable that a field is bound to, with the type that is written with it
 abbrev pub with_one : Bound Bytes → Scope → Scope
 with_one b sc = with_typed (given_name b.name) false (written_type sc b.of) sc
+
+-- the type that a written type means, if it is well formed
+abbrev pub formed : Noting Meaning → Option Meaning
+formed (Ok t) = Some t
+formed (Err fault) = None
+
+-- the region and the type of a borrow statement with a written type, of what is borrowed
+abbrev pub judge_into : Scope → WrittenType → BorrowMode → Meaning → Noting (Bytes × Meaning)
+judge_into sc t mode lends = judge_reference sc t >>= λ y. is_of_borrow mode lends y
+
+-- a type that is that of the borrow into a region of what is borrowed
+abbrev pub judge_same : BorrowMode → Bytes → Meaning → Meaning → Noting (Unit {0})
+judge_same mode region lends of =
+    check (same (borrow_type mode region lends) of) (different (borrow_type mode region lends) of) (Ok tt)

@@ -233,7 +233,6 @@ fn is_anonymous(region: &Region) -> bool
 }
 
 /// Whether the region of the borrows of one whole expression stands somewhere in a type.
-#[tactic(auto, using(au_types::proofs::TypeLemmas::type_steps))]
 #[cycle(is_borrowed_within)]
 pub fn is_borrowed_within(of: &Ty) -> bool
     ensures { result ≡ parts.is_borrowed_within (meaning of.now) }
@@ -264,7 +263,6 @@ fn are_borrowed_within(args: &Vec<Arg>) -> bool
 }
 
 /// Whether that region stands somewhere in an argument.
-#[tactic(auto, using(au_types::proofs::TypeLemmas::type_steps))]
 #[cycle(is_borrowed_within)]
 fn argument_borrowed_within(one: &Arg) -> bool
     ensures { result ≡ parts.argument_borrowed_within (argument one.now) }

@@ -75,9 +75,25 @@ pub fn judge_all_bound(
         (spec.judge_all_bound (scope_said scope.now) (all_typed fields.now) (binds_said binds.now)) }
 {
     for bind in binds {
-        let _of = judge_bound(alloc, scope, fields, bind)?;
+        judge_one(alloc, scope, fields, bind)?;
     }
     Ok(())
+}
+
+/// That the type that is written with a field that is bound is that of the field.
+fn judge_one(
+    alloc: Global,
+    scope: &Scope,
+    fields: &[Typed],
+    bind: &Bind<Parsed>,
+) -> Result<(), Fault>
+    ensures { Gives (λ _. tt) result
+        (steps.judge_one (scope_said scope.now) (all_typed fields.now) (bind_said bind.now)) }
+{
+    match judge_bound(alloc, scope, fields, bind) {
+        Ok(_) => Ok(()),
+        Err(fault) => Err(fault),
+    }
 }
 
 /// That each field is bound exactly once and nothing besides, and that the types that are written with them

@@ -16,11 +16,12 @@ ghost use Rattle.au_typing.specs.Faults as faults;
 
 use au_base::{Memory, Name};
 use au_notes::Form;
-use au_noting::faults::{different, other_form, unknown};
+use au_noting::faults::{other_form, unknown};
 use au_noting::lookups::{variable_of, written_type};
+use au_noting::nodes::of_one_type;
 use au_noting::{Fault, Scope};
 use au_syntax::{Access, BorrowMode, TypeName, TypeText};
-use au_types::{Region, Ty, copy_type, is_same};
+use au_types::{Region, Ty, copy_type};
 use std::alloc::Global;
 
 /// The access that a borrow gives: `&` reads, `&!` and `&~` write.
@@ -158,8 +159,16 @@ fn reference_into(
         (steps.reference_into (scope_said scope.now) access (written target.now) region.now.name) }
 {
     let to = written_type(alloc, scope, target)?;
-    let of = refers_in(alloc, access, to, &region.name)?;
-    let name = region.name.copy(alloc)?;
+    Ok(with_region(alloc, access, to, &region.name)?)
+}
+
+/// A region, and a reference to a type in it.
+fn with_region(alloc: Global, access: Access, to: Ty, region: &Name) -> Result<(Name, Ty), Memory>
+    ensures { IfOk result (λ into. reference_said into
+        ≡ (region.now, judging.refers access (meaning to) (Named region.now))) }
+{
+    let of = refers_in(alloc, access, to, region)?;
+    let name = region.copy(alloc)?;
     Ok((name, of))
 }
 
@@ -186,12 +195,23 @@ pub fn is_of_borrow(
 ) -> Result<(Name, Ty), Fault>
     ensures { Gives reference_said result (spec.is_of_borrow mode (meaning lends.now) (reference_said into)) }
 {
-    let goal = borrow_type(alloc, mode, &into.0, lends)?;
-    if is_same(&goal, &into.1) {
-        Ok(into)
-    } else {
-        Err(different(alloc, &goal, &into.1))
-    }
+    judge_same(alloc, mode, lends, &into.0, &into.1)?;
+    Ok(into)
+}
+
+/// That a type is that of the borrow into a region of what is borrowed.
+fn judge_same(
+    alloc: Global,
+    mode: BorrowMode,
+    lends: &Ty,
+    region: &Name,
+    of: &Ty,
+) -> Result<(), Fault>
+    ensures { Gives (λ _. tt) result
+        (steps.judge_same mode region.now (meaning lends.now) (meaning of.now)) }
+{
+    let goal = borrow_type(alloc, mode, region, lends)?;
+    of_one_type(alloc, &goal, of)
 }
 
 /// The region and the type of a borrow statement with a written type.
@@ -211,6 +231,20 @@ pub fn judge_borrow(
         (spec.judge_borrow (scope_said scope.now) (written text.now) mode name.now) }
 {
     let lends = judge_lent(alloc, scope, mode, name)?;
+    judge_into(alloc, scope, text, mode, &lends)
+}
+
+/// The region and the type of a borrow statement with a written type, of what is borrowed.
+fn judge_into(
+    alloc: Global,
+    scope: &Scope,
+    text: &TypeText,
+    mode: BorrowMode,
+    lends: &Ty,
+) -> Result<(Name, Ty), Fault>
+    ensures { Gives reference_said result
+        (steps.judge_into (scope_said scope.now) (written text.now) mode (meaning lends.now)) }
+{
     let into = judge_reference(alloc, scope, text)?;
-    is_of_borrow(alloc, mode, &lends, into)
+    is_of_borrow(alloc, mode, lends, into)
 }

@@ -1,6 +1,7 @@
 //! What comes into scope by statements and in their blocks.
 
-ghost use Rattle.std.specs.Prelude.{◌≡◌, OnErr, OnOk};
+ghost use Rattle.std.specs.Prelude.{◌≡◌, IfOk, OnErr, OnOk};
+ghost use Rattle.std.specs.Option.{option_map};
 ghost use Rattle.au_derivations.specs.InScope as spec;
 ghost use Rattle.au_judgements.specs.Said.{bind_said, binds_said};
 ghost use Rattle.au_judgements.specs.Steps as steps;
@@ -12,8 +13,8 @@ ghost use Rattle.au_types.specs.Views.{meaning};
 ghost use Rattle.au_typing.specs.Lookups as lookups;
 
 use au_base::{Memory, Name};
-use au_noting::lookups::written_type;
-use au_noting::{Fault, Scope, Variable};
+use au_judged_types::{Judged, judge_type};
+use au_noting::{Scope, Variable};
 use au_syntax::{Bind, Binding, Parsed, Renamed, Stmt, TypeText};
 use au_types::Ty;
 use std::alloc::Global;
@@ -71,11 +72,21 @@ pub fn declare_typed(
         (lookups.written_type (scope_said scope.old) (written text.now)) (scope_said scope.old)) }
     ensures err { OnErr result (scope_said scope.new ≡ scope_said scope.old) }
 {
-    match written_type(alloc, scope, text) {
-        Ok(of) => declare(alloc, scope, name, of, assignable),
-        Err(Fault::Why(_)) => Ok(()),
-        Err(Fault::Limit(_)) => Ok(()),
-        Err(Fault::Memory) => Err(Memory),
+    let found = formed_type(alloc, scope, text)?;
+    match found {
+        Some(of) => declare(alloc, scope, name, of, assignable),
+        None => Ok(()),
+    }
+}
+
+/// The type that a written type means, if it is well formed.
+fn formed_type(alloc: Global, scope: &Scope, text: &TypeText) -> Result<Option<Ty>, Memory>
+    ensures { IfOk result (λ found. option_map meaning found
+        ≡ steps.formed (lookups.written_type (scope_said scope.now) (written text.now))) }
+{
+    match judge_type(alloc, &scope.written(), text)? {
+        Judged::Means(of) => Ok(Some(of)),
+        Judged::Fails(_) => Ok(None),
     }
 }
 

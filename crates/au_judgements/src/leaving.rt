@@ -2,7 +2,7 @@
 
 ghost use Rattle.std.specs.Prelude.{◌≡◌, OnOk};
 ghost use Rattle.au_derivations.specs.InScope as spec;
-ghost use Rattle.au_noting.specs.Scopes.{closed_in, scope_said, without};
+ghost use Rattle.au_noting.specs.Scopes.{closed_in, opened_in, scope_said, without};
 ghost use Rattle.au_types.specs.Views.{meaning};
 
 use crate::declaring::declare_fixed;
@@ -26,9 +26,16 @@ pub fn enter_reference(
     ensures { OnOk result (scope_said scope.new
         ≡ spec.with_reference name.now region.now (meaning of) (scope_said scope.old)) }
 {
-    let region = region.copy(alloc)?;
-    scope.enter_region(region)?;
+    open_region(alloc, scope, region)?;
     declare_fixed(alloc, scope, name, of)
+}
+
+/// Opens a region of this name, which is the innermost then.
+fn open_region(alloc: Global, scope: &mut Scope, region: &Name) -> Result<(), Memory>
+    ensures { OnOk result (scope_said scope.new ≡ opened_in region.now (scope_said scope.old)) }
+{
+    let name = region.copy(alloc)?;
+    scope.enter_region(name)
 }
 
 /// Leaves the block of a borrow statement: the innermost variable and the innermost region are there no more.
