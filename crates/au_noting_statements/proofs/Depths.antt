@@ -1,5 +1,5 @@
 -- How deep statements are: each is deeper than the blocks in it, and a block as deep as its deepest statement.
-use Rattle.std.proofs.Common.{arith, suc, zero, ◌≡◌, ◌∷◌, ◌<◌, ◌≤◌, ◌+◌, [], ℕ, List, Vec, ap, sym, ◌∙◌, get_or, length, max}
+use Rattle.std.proofs.Common.{arith, suc, zero, ◌≡◌, ◌∷◌, ◌<◌, ◌≤◌, ◌+◌, [], ℕ, List, Vec, ap, ◌∙◌, get_or, length, max}
 use Rattle.std.specs.Global.{Global}
 use Rattle.std.specs.declared.boxed.Box.{Box}
 use Rattle.au_base.specs.declared.places.Pos.{Pos}

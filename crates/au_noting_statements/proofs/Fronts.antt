@@ -1,7 +1,6 @@
 -- Noted parts in front of what is still judged.
 use Rattle.std.proofs.Common.{◌≡◌, ◌++◌, ◌∷◌, ◌<◌, ◌+◌, [], ℕ, List, Err, Ok, Result, ap, subst, sym, ◌∙◌, drop, get_or, length, map, refl}
 use Rattle.std.proofs.lemmas.List.{at_drop_more}
-use Rattle.au_base.specs.declared.places.Pos.{Pos}
 use Rattle.au_derivations.specs.Faults.{Judged, ◌then◌, StatementFault, refused, too_large}
 use Rattle.au_derivations.specs.Trees.{NotedArms, NotedBranches, NotedStatements}
 use Rattle.au_judgements.specs.declared.refusals.Refused.{Refused}

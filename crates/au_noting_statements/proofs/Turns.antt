@@ -15,8 +15,8 @@ use Rattle.au_noting_leaves.specs.Said.{NotedCode}
 use Rattle.au_scopes.specs.Scopes.{Scope}
 use Rattle.au_syntax.specs.contracts.parsed.ParsedPhase.TheImpl.{ghosts as parsed}
 use Rattle.au_syntax.specs.Names.{Placed}
-use Rattle.au_syntax.specs.Plain.{Bytes, PlainArms, PlainBranches, PlainExpression, PlainStatement, PlainStatements}
-use Rattle.au_syntax.specs.Statements.{statements, no_statements, branches, no_branches, arms, no_arms}
+use Rattle.au_syntax.specs.Plain.{Bytes, PlainArms, PlainBranches, PlainStatement, PlainStatements}
+use Rattle.au_syntax.specs.Statements.{statements, branches, arms}
 use Rattle.au_syntax.specs.Types.{Bound}
 use Rattle.au_syntax.specs.Views.{arm_all, block, bound, branch_all, expression, placed, statement, statement_all}
 use Rattle.au_typing.specs.Faults.{Noting, ◌>>=◌, Fault}

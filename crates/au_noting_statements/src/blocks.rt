@@ -10,7 +10,8 @@ ghost use Rattle.au_noting.specs.Scopes.{scope_said};
 ghost use Rattle.au_noting_statements.specs.Noted.{all_boxed};
 ghost use Rattle.au_syntax.specs.contracts.parsed.ParsedPhase.TheImpl.{ghosts as parsed};
 ghost use Rattle.au_syntax.specs.Statements as form;
-ghost use Rattle.au_syntax.specs.Views.{arm_all, block, bound, branch_all, expression, placed, statement, written};
+ghost use Rattle.au_syntax.specs.Views.{arm_all, block, bound, branch_all, expression};
+ghost use Rattle.au_syntax.specs.Views.{placed, statement, written};
 
 use crate::entering::{borrow_at, case_at, enter_arm, for_at, go_on, test_at, tests_at, typed_at};
 use crate::lists::{next_test, put_arm, put_branch, put_statement};
@@ -213,8 +214,8 @@ fn note_borrow_typed(
     Ok(Stmt::BorrowTyped(at, name, text, mode, of, body, end))
 }
 
-/// The notes of a block, in the scope in front of it: that a statement may not follow what stands before it is
-/// told before any other fault of it. The scope is the same then.
+/// The notes of a block, in the scope in front of it: that a statement may not follow what stands before it
+/// is told before any other fault of it. The scope is the same then.
 ///
 /// # Errors
 ///
@@ -269,7 +270,8 @@ fn note_branches(
 /// An arm of a `case`.
 #[cycle(note_statement)]
 fn note_arm(alloc: Global, scope: &mut Scope, arm: &Arm<Parsed>) -> Result<Arm<Noted>, Refused>
-    ensures judged { Judges (λ made. block noted made.block) result (spec.note_block (block parsed arm.now.block)
+    ensures judged { Judges (λ made. block noted made.block) result (spec.note_block
+        (block parsed arm.now.block)
         (inside.with_bound (binds_said arm.now.binds.items) (scope_said scope.old))) }
     ensures at { IfOk result (λ made. made.at ≡ arm.now.at) }
     ensures name { IfOk result (λ made. placed noted made.case ≡ placed parsed arm.now.case) }

@@ -13,7 +13,8 @@ ghost use Rattle.au_noting.specs.Scopes.{scope_said};
 ghost use Rattle.au_noting_statements.specs.Entering as entering;
 ghost use Rattle.au_noting_statements.specs.Noted.{all_boxed, boxed, two_boxed};
 ghost use Rattle.au_syntax.specs.contracts.parsed.ParsedPhase.TheImpl.{ghosts as parsed};
-ghost use Rattle.au_syntax.specs.Views.{bound, branch_all, expression, placed, statement, statement_all, written};
+ghost use Rattle.au_syntax.specs.Views.{bound, branch_all, expression};
+ghost use Rattle.au_syntax.specs.Views.{placed, statement, statement_all, written};
 ghost use Rattle.au_types.specs.Views.{meaning};
 ghost use Rattle.au_typing.specs.Notes as notes;
 

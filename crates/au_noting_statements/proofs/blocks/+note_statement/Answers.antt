@@ -60,7 +60,7 @@ note_if_else-returns-in_err-last-clause-judged t c =
     let p = err_from_is_err_and c.from_residual-in_err-last.result c.from_residual-in_err-last.ensures.1 in
     stops_by (statement noted) c.from_residual-in_err-last.result _ _ _ p c.in_err-last.ensures.judged
     (λ f h. if_else_stops_last c.args.at (branch_all parsed c.args.branches.now.items) (scope_said c.args.scope.now) (block parsed c.args.last.now) (all_boxed c.in_ok-tests.tests.items) (branch_all noted c.in_ok-branches.branches.items) f
-        c.in_ok-tests.ensures c.in_ok-branches.ensures.judged (ap (note_block (block parsed c.args.last.now)) (sym c.in_ok-branches.ensures.left) ∙ h))
+    c.in_ok-tests.ensures c.in_ok-branches.ensures.judged (ap (note_block (block parsed c.args.last.now)) (sym c.in_ok-branches.ensures.left) ∙ h))
 
 pub note_if_else-returns-clause-judged : goal.note_if_else-returns-clause-judged
 note_if_else-returns-clause-judged t c =
@@ -119,7 +119,7 @@ note_for-returns-in_err-body-clause-judged t c =
     let p = err_from_is_err_and c.from_residual-in_err-body.result c.from_residual-in_err-body.ensures.1 in
     stops_by (statement noted) c.from_residual-in_err-body.result _ _ _ p c.in_err-body.ensures.judged
     (λ f h. for_stops_behind c.args.at (placed parsed c.args.name.now) (expression parsed c.args.first.now) (expression parsed c.args.last.now) (block parsed c.args.body.now) (scope_said c.args.scope.now) (boxed c.in_ok-name.first) (boxed c.in_ok-name.last) (scope_said c.for_at.new.scope) f
-        c.in_ok-name.ensures.judged c.in_ok-name.ensures.inside h)
+    c.in_ok-name.ensures.judged c.in_ok-name.ensures.inside h)
 
 pub note_for-returns-clause-judged : goal.note_for-returns-clause-judged
 note_for-returns-clause-judged t c =
@@ -291,7 +291,7 @@ note_arms-returns-in_err-one-clause-judged t c =
     let p = err_from_is_err_and c.from_residual.result c.from_residual.ensures.1 in
     stops_by (λ made. arm_all noted made.items) c.from_residual.result _ _ _ p c.in_err-one.ensures.judged
     (λ f h. ap (λ (xs : List ParsedArm). note_arms (arm_all parsed xs) (scope_said c.args.scope.now)) (sym c.deref-arm-items.ensures.value)
-        ∙ arms_turn_stops c.loop-arm.made.items c.deref-arm-items.result.now c.loop-arm.arm-index (scope_said c.args.scope.now) _ c.loop-arm.invariant.left c.arm-item.result c.loop-arm-test.true c.arm-item.is f (ap (λ (s : Scope). note_block (block parsed c.arm-item.result.block) (with_bound (binds_said c.arm-item.result.binds.items) s)) (sym c.loop-arm.invariant.same) ∙ h))
+    ∙ arms_turn_stops c.loop-arm.made.items c.deref-arm-items.result.now c.loop-arm.arm-index (scope_said c.args.scope.now) _ c.loop-arm.invariant.left c.arm-item.result c.loop-arm-test.true c.arm-item.is f (ap (λ (s : Scope). note_block (block parsed c.arm-item.result.block) (with_bound (binds_said c.arm-item.result.binds.items) s)) (sym c.loop-arm.invariant.same) ∙ h))
 
 pub note_arms-loop-arm-preserved : goal.note_arms-loop-arm-preserved
 note_arms-loop-arm-preserved t c =
@@ -312,7 +312,7 @@ note_branches-returns-in_err-block-in-Some-clause-judged t c =
     let p = err_from_is_err_and c.from_residual.result c.from_residual.ensures.1 in
     stops_by (λ made. branch_all noted made.items) c.from_residual.result _ _ _ p c.in_err-block-in-Some.ensures.judged
     (λ f h. ap (λ (xs : List ParsedBranch). note_branches (branch_all parsed xs) (all_boxed c.args.tests.items) (scope_said c.args.scope.now)) (sym c.deref-branch-items.ensures.value)
-        ∙ branches_turn_stops c.loop-branch.made.items c.deref-branch-items.result.now c.loop-branch.branch-index c.loop-branch.tests.items (scope_said c.args.scope.now) _ c.loop-branch.invariant.left c.branch-item.result c.loop-branch-test.true c.branch-item.is c.in-Some.test c.next_test.new.tests.items f c.in-Some.ensures (ap (note_block (block parsed c.branch-item.result.block)) (sym c.loop-branch.invariant.same) ∙ h))
+    ∙ branches_turn_stops c.loop-branch.made.items c.deref-branch-items.result.now c.loop-branch.branch-index c.loop-branch.tests.items (scope_said c.args.scope.now) _ c.loop-branch.invariant.left c.branch-item.result c.loop-branch-test.true c.branch-item.is c.in-Some.test c.next_test.new.tests.items f c.in-Some.ensures (ap (note_block (block parsed c.branch-item.result.block)) (sym c.loop-branch.invariant.same) ∙ h))
 
 pub note_branches-returns-in-None-clause-judged : goal.note_branches-returns-in-None-clause-judged
 note_branches-returns-in-None-clause-judged t c =
@@ -348,7 +348,7 @@ note_block-returns-in_err-go_on-clause-judged t c =
     let p = err_from_is_err_and c.from_residual-in_err-go_on.result c.from_residual-in_err-go_on.ensures.1 in
     stops_by (block noted) c.from_residual-in_err-go_on.result _ _ _ p c.in_err-go_on.ensures.judged
     (λ f h. ap (λ (xs : List ParsedStmt). note_block (statement_all parsed xs) (scope_said c.args.scope.now)) (sym c.deref-stmt-items.ensures.value)
-        ∙ block_turn_stops_behind c.loop-index.statements.items c.deref-stmt-items.result.now c.loop-index.index (scope_said c.loop-index.scope) _ c.loop-index.invariant.left c.stmt-item.result c.loop-index-test.true c.stmt-item.is (statement noted c.in_ok-made.made) f c.in_ok-made.ensures.judged (ap (λ (xs : List ParsedStmt). judge_next (returns (statement parsed c.stmt-item.result)) (statement_all parsed xs)) (ap (drop (c.loop-index.index + 1)) (c.deref-stmt-items.ensures.value ∙ sym c.deref.ensures.value) ∙ rest_is c.deref.result.now (c.loop-index.index + 1)) ∙ h))
+    ∙ block_turn_stops_behind c.loop-index.statements.items c.deref-stmt-items.result.now c.loop-index.index (scope_said c.loop-index.scope) _ c.loop-index.invariant.left c.stmt-item.result c.loop-index-test.true c.stmt-item.is (statement noted c.in_ok-made.made) f c.in_ok-made.ensures.judged (ap (λ (xs : List ParsedStmt). judge_next (returns (statement parsed c.stmt-item.result)) (statement_all parsed xs)) (ap (drop (c.loop-index.index + 1)) (c.deref-stmt-items.ensures.value ∙ sym c.deref.ensures.value) ∙ rest_is c.deref.result.now (c.loop-index.index + 1)) ∙ h))
 
 pub note_block-loop-index-preserved : goal.note_block-loop-index-preserved
 note_block-loop-index-preserved t c =
