@@ -9,6 +9,7 @@ use Rattle.au_outcomes.specs.Accepted.{Accepted, is_behind}
 use Rattle.au_outcomes.specs.Halts.{AreTold, is_missing}
 use Rattle.au_words.specs.Jobs.{Task, IsJob, IsNoJob}
 use Rattle.au_words.proofs.JobLemmas.{one_job}
+use Rattle.au_printing.specs.declared.files.First.{First}
 use Rattle.au_outcomes.specs.declared.outcomes.Aim.{Aim}
 use Rattle.au_outcomes.specs.declared.outcomes.Aim.TheVariants as aims
 use Rattle.au_top.specs.Jobs.{asked_by, asked_of}
@@ -211,26 +212,30 @@ undecided names arisen ends other paid none is =
     not_both (is_decided other) (ap is_decided (sym is ∙ paid) ∙ due_decided names arisen) none
 
 -- what a program prints was paid for a program that prints
-ran_so : (success : Bool) (names : List (List ℕ)) (arisen : Outcome) (out out' : Option (List ℕ)) → cond success status.Success status.Failure ≡ (due_of names arisen).status → Adds out out' (due_of names arisen).out → HasRun success out out' names arisen
-ran_so success names outcome.NoJob out out' e adds = absurd (no_exit success status.Words e refl)
-ran_so success names (outcome.Missing name) out out' e adds = absurd (no_exit success status.Missing e refl)
-ran_so success names (outcome.Passes limit) out out' e adds = absurd (no_exit success status.Limit e refl)
-ran_so success names (outcome.Refused refusal) out out' e adds = absurd (no_exit success status.Refused e refl)
-ran_so success names (outcome.Prints first) out out' e adds = (first, refl, same_exit success first.success e, adds)
+prints_so : (success : Bool) (names : List (List ℕ)) (first : First) (out out' : Option (List ℕ))
+    → cond success status.Success status.Failure ≡ (due_of names (outcome.Prints first)).status
+    → Adds out out' (due_of names (outcome.Prints first)).out → HasRun success out out' names (outcome.Prints first)
+prints_so success names first out out' e adds = (first, refl, same_exit success first.success e, adds)
+
+failed_so : (names : List (List ℕ)) (arisen : Outcome) (out out' : Option (List ℕ))
+    → status.Failure ≡ (due_of names arisen).status → Adds out out' (due_of names arisen).out
+    → HasRun false out out' names arisen
+failed_so names outcome.NoJob out out' e adds = absurd cc
+failed_so names (outcome.Missing name) out out' e adds = absurd cc
+failed_so names (outcome.Passes limit) out out' e adds = absurd cc
+failed_so names (outcome.Refused refusal) out out' e adds = absurd cc
+failed_so names outcome.Accepted out out' e adds = absurd cc
+failed_so names (outcome.Prints first) out out' e adds = prints_so false names first out out' e adds
 
 succeeded_so : (names : List (List ℕ)) (arisen : Outcome) (out out' : Option (List ℕ))
     → status.Success ≡ (due_of names arisen).status → Adds out out' (due_of names arisen).out
     → HasSucceeded out out' names arisen
+succeeded_so names outcome.NoJob out out' e adds = absurd cc
+succeeded_so names (outcome.Missing name) out out' e adds = absurd cc
+succeeded_so names (outcome.Passes limit) out out' e adds = absurd cc
+succeeded_so names (outcome.Refused refusal) out out' e adds = absurd cc
 succeeded_so names outcome.Accepted out out' e adds = inr (refl, adds)
-succeeded_so names outcome.NoJob out out' e adds = inl (ran_so true names outcome.NoJob out out' e adds)
-succeeded_so names (outcome.Missing name) out out' e adds =
-    inl (ran_so true names (outcome.Missing name) out out' e adds)
-succeeded_so names (outcome.Passes limit) out out' e adds =
-    inl (ran_so true names (outcome.Passes limit) out out' e adds)
-succeeded_so names (outcome.Refused refusal) out out' e adds =
-    inl (ran_so true names (outcome.Refused refusal) out out' e adds)
-succeeded_so names (outcome.Prints first) out out' e adds =
-    inl (ran_so true names (outcome.Prints first) out out' e adds)
+succeeded_so names (outcome.Prints first) out out' e adds = inl (prints_so true names first out out' e adds)
 
 pub came_success : (words : List (List ℕ)) (told : Option Files) (faults faults' : ℕ) (ends : Status)
     (out out' err err' : Option (List ℕ)) → IsPaid words told faults faults' ends out out' err err'
@@ -243,7 +248,7 @@ pub came_failure : (words : List (List ℕ)) (told : Option Files) (faults fault
     → CameTo words told (HasRun false out out')
 came_failure words told faults faults' ends out out' err err' paid is =
     let h = came words told faults faults' ends out out' err err' paid (ap is_decided is) in
-    (h.0, h.1, h.2, h.3, h.4, ran_so false h.2 h.3 out out' (sym is ∙ h.5.status) h.5.out_bytes)
+    (h.0, h.1, h.2, h.3, h.4, failed_so h.2 h.3 out out' (sym is ∙ h.5.status) h.5.out_bytes)
 
 -- the words line was paid for words that are no job
 pub came_words : (words : List (List ℕ)) (told : Option Files) (faults faults' : ℕ) (ends : Status) (out out' err err' : Option (List ℕ)) → IsPaid words told faults faults' ends out out' err err' → ends ≡ status.Words → IsNoJob words
