@@ -2,13 +2,14 @@
 use Rattle.std.proofs.Common.{◌≡◌, ℕ, ◌+◌, ◌≤◌, Bool, true, false, cond, List, length, Option, Some, Result, Ok, Err, ap, ◌∙◌, sym, refl, subst, arith, ◌⊎◌, ◌↔◌, inl, inr, slice_get}
 use Rattle.au_base.specs.declared.statuses.Status.{Status}
 use Rattle.au_base.specs.declared.statuses.Status.TheVariants as status
-use Rattle.au_base.specs.Outside.{Files, Adds}
-use Rattle.au_top.specs.Calls.{IsPaid, CameTo, HasComeBehind, HasPassed, HasRun, HasSucceeded, IsRefusedSo, Pays}
-use Rattle.au_top.specs.Calls.{is_decided}
+use Rattle.au_base.specs.Outside.{Files, Adds, Counts, HasRisen}
+use Rattle.au_top.specs.Calls.{IsPaid, CameTo, HasComeBehind, HasPassed, HasRun, HasSucceeded, IsMissingSo}
+use Rattle.au_top.specs.Calls.{IsRefusedSo, Pays, is_decided}
 use Rattle.au_outcomes.specs.Accepted.{Accepted, is_behind}
-use Rattle.au_outcomes.specs.Halts.{AreTold}
+use Rattle.au_outcomes.specs.Halts.{AreTold, is_missing}
 use Rattle.au_words.specs.Jobs.{Task, IsJob, IsNoJob}
 use Rattle.au_words.proofs.JobLemmas.{one_job}
+use Rattle.au_printing.specs.declared.files.First.{First}
 use Rattle.au_outcomes.specs.declared.outcomes.Aim.{Aim}
 use Rattle.au_outcomes.specs.declared.outcomes.Aim.TheVariants as aims
 use Rattle.au_top.specs.Jobs.{asked_by, asked_of}
@@ -160,27 +161,81 @@ came_limit words told faults faults' ends out out' err err' paid is =
     so names outcome.Accepted err err' e adds = absurd cc
     so names (outcome.Prints first) err err' e adds = absurd (no_exit first.success status.Limit (sym e) refl)
 
+-- the line of a missing file was paid for a file that is missing
+pub came_missing : (words : List (List ℕ)) (told : Option Files) (faults faults' : ℕ) (ends : Status)
+    (out out' err err' : Option (List ℕ)) → IsPaid words told faults faults' ends out out' err err'
+    → ends ≡ status.Missing → CameTo words told (IsMissingSo err err')
+came_missing words told faults faults' ends out out' err err' paid is =
+    let h = came words told faults faults' ends out out' err err' paid (ap is_decided is) in
+    (h.0, h.1, h.2, h.3, h.4, so h.2 h.3 err err' (sym is ∙ h.5.status) h.5.err_bytes)
+  where
+    so : (names : List (List ℕ)) (arisen : Outcome) (err err' : Option (List ℕ))
+        → status.Missing ≡ (due_of names arisen).status → Adds err err' (due_of names arisen).err
+        → IsMissingSo err err' names arisen
+    so names outcome.NoJob err err' e adds = absurd cc
+    so names (outcome.Missing name) err err' e adds = (name, refl, adds)
+    so names (outcome.Passes limit) err err' e adds = absurd cc
+    so names (outcome.Refused refusal) err err' e adds = absurd cc
+    so names outcome.Accepted err err' e adds = absurd cc
+    so names (outcome.Prints first) err err' e adds = absurd (no_exit first.success status.Missing (sym e) refl)
+
+-- a miss was counted for a file that is missing
+missing_is : (names : List (List ℕ)) (arisen : Outcome) → status.Missing ≡ (due_of names arisen).status
+    → is_missing arisen ≡ true
+missing_is names outcome.NoJob e = absurd cc
+missing_is names (outcome.Missing name) e = refl
+missing_is names (outcome.Passes limit) e = absurd cc
+missing_is names (outcome.Refused refusal) e = absurd cc
+missing_is names outcome.Accepted e = absurd cc
+missing_is names (outcome.Prints first) e = absurd (no_exit first.success status.Missing (sym e) refl)
+
+pub missed : (names : List (List ℕ)) (arisen : Outcome) (old new : ℕ)
+    → status.Missing ≡ (due_of names arisen).status → Counts (is_missing arisen) old new → HasRisen old new
+missed names arisen old new e h = (subst (λ b. Counts b old new) (missing_is names arisen e) h).1
+
+-- what is due ends with a status that words and files decide
+exit_decided : (success : Bool) → is_decided (cond success status.Success status.Failure) ≡ true
+exit_decided true = refl
+exit_decided false = refl
+
+due_decided : (names : List (List ℕ)) (arisen : Outcome) → is_decided (due_of names arisen).status ≡ true
+due_decided names outcome.NoJob = refl
+due_decided names (outcome.Missing name) = refl
+due_decided names (outcome.Passes limit) = refl
+due_decided names (outcome.Refused refusal) = refl
+due_decided names outcome.Accepted = refl
+due_decided names (outcome.Prints first) = exit_decided first.success
+
+pub undecided : {T : Type 0} (names : List (List ℕ)) (arisen : Outcome) (ends other : Status)
+    → ends ≡ (due_of names arisen).status → is_decided other ≡ false → ends ≡ other → T
+undecided names arisen ends other paid none is =
+    not_both (is_decided other) (ap is_decided (sym is ∙ paid) ∙ due_decided names arisen) none
+
 -- what a program prints was paid for a program that prints
-ran_so : (success : Bool) (names : List (List ℕ)) (arisen : Outcome) (out out' : Option (List ℕ)) → cond success status.Success status.Failure ≡ (due_of names arisen).status → Adds out out' (due_of names arisen).out → HasRun success out out' names arisen
-ran_so success names outcome.NoJob out out' e adds = absurd (no_exit success status.Words e refl)
-ran_so success names (outcome.Missing name) out out' e adds = absurd (no_exit success status.Missing e refl)
-ran_so success names (outcome.Passes limit) out out' e adds = absurd (no_exit success status.Limit e refl)
-ran_so success names (outcome.Refused refusal) out out' e adds = absurd (no_exit success status.Refused e refl)
-ran_so success names (outcome.Prints first) out out' e adds = (first, refl, same_exit success first.success e, adds)
+prints_so : (success : Bool) (names : List (List ℕ)) (first : First) (out out' : Option (List ℕ))
+    → cond success status.Success status.Failure ≡ (due_of names (outcome.Prints first)).status
+    → Adds out out' (due_of names (outcome.Prints first)).out → HasRun success out out' names (outcome.Prints first)
+prints_so success names first out out' e adds = (first, refl, same_exit success first.success e, adds)
+
+failed_so : (names : List (List ℕ)) (arisen : Outcome) (out out' : Option (List ℕ))
+    → status.Failure ≡ (due_of names arisen).status → Adds out out' (due_of names arisen).out
+    → HasRun false out out' names arisen
+failed_so names outcome.NoJob out out' e adds = absurd cc
+failed_so names (outcome.Missing name) out out' e adds = absurd cc
+failed_so names (outcome.Passes limit) out out' e adds = absurd cc
+failed_so names (outcome.Refused refusal) out out' e adds = absurd cc
+failed_so names outcome.Accepted out out' e adds = absurd cc
+failed_so names (outcome.Prints first) out out' e adds = prints_so false names first out out' e adds
 
 succeeded_so : (names : List (List ℕ)) (arisen : Outcome) (out out' : Option (List ℕ))
     → status.Success ≡ (due_of names arisen).status → Adds out out' (due_of names arisen).out
     → HasSucceeded out out' names arisen
+succeeded_so names outcome.NoJob out out' e adds = absurd cc
+succeeded_so names (outcome.Missing name) out out' e adds = absurd cc
+succeeded_so names (outcome.Passes limit) out out' e adds = absurd cc
+succeeded_so names (outcome.Refused refusal) out out' e adds = absurd cc
 succeeded_so names outcome.Accepted out out' e adds = inr (refl, adds)
-succeeded_so names outcome.NoJob out out' e adds = inl (ran_so true names outcome.NoJob out out' e adds)
-succeeded_so names (outcome.Missing name) out out' e adds =
-    inl (ran_so true names (outcome.Missing name) out out' e adds)
-succeeded_so names (outcome.Passes limit) out out' e adds =
-    inl (ran_so true names (outcome.Passes limit) out out' e adds)
-succeeded_so names (outcome.Refused refusal) out out' e adds =
-    inl (ran_so true names (outcome.Refused refusal) out out' e adds)
-succeeded_so names (outcome.Prints first) out out' e adds =
-    inl (ran_so true names (outcome.Prints first) out out' e adds)
+succeeded_so names (outcome.Prints first) out out' e adds = inl (prints_so true names first out out' e adds)
 
 pub came_success : (words : List (List ℕ)) (told : Option Files) (faults faults' : ℕ) (ends : Status)
     (out out' err err' : Option (List ℕ)) → IsPaid words told faults faults' ends out out' err err'
@@ -193,7 +248,7 @@ pub came_failure : (words : List (List ℕ)) (told : Option Files) (faults fault
     → CameTo words told (HasRun false out out')
 came_failure words told faults faults' ends out out' err err' paid is =
     let h = came words told faults faults' ends out out' err err' paid (ap is_decided is) in
-    (h.0, h.1, h.2, h.3, h.4, ran_so false h.2 h.3 out out' (sym is ∙ h.5.status) h.5.out_bytes)
+    (h.0, h.1, h.2, h.3, h.4, failed_so h.2 h.3 out out' (sym is ∙ h.5.status) h.5.out_bytes)
 
 -- the words line was paid for words that are no job
 pub came_words : (words : List (List ℕ)) (told : Option Files) (faults faults' : ℕ) (ends : Status) (out out' err err' : Option (List ℕ)) → IsPaid words told faults faults' ends out out' err err' → ends ≡ status.Words → IsNoJob words

@@ -1,11 +1,12 @@
 -- Where the shelf failed, the line that says so is due.
-use Rattle.std.proofs.Common.{refl, inr, map, ap}
+use Rattle.std.proofs.Common.{refl, sym, ◌∙◌, inr, map, ap}
 use Rattle.std.specs.String.{string_bytes}
 use Rattle.au_base.proofs.OutsideLemmas.{adds_none}
-use Rattle.au_base.specs.declared.statuses.Status.TheVariants.{ReadFault}
+use Rattle.au_base.specs.declared.statuses.Status.TheVariants.{Memory, ReadFault, WriteFault}
 use Rattle.au_refusals.specs.Lines.{read_fault_line}
 use Rattle.au_top.specs.Dues.{due_line}
 use Rattle.au_top.proofs.ArisesLemmas.{arises_outcome, read_risen}
+use Rattle.au_top.proofs.DueLemmas.{came_missing, missed, undecided}
 use Rattle.au_top.proofs.DueLemmas.{paid_so, pays_owed, came_accepted, came_checked, came_words, came_no_job, came_refused, came_unread, came_limit, came_success, came_failure}
 use Rattle.au_top.proofs.top.austral.Goals as goal
 
@@ -109,6 +110,20 @@ returns-in-Ok-answer-clause-limit g c = λ is.
     let paid = paid_so words (map string_bytes c.in-Ok.names.items) (map string_bytes c.as_slice.result.now) told faults faults' c.in-Ok.outcome ends out out' err err' (ap (map string_bytes) c.as_slice.ensures.value) c.in-Ok.ensures.arises c.in-Ok-answer.ensures.pays in
     came_limit words told faults faults' ends out out' err err' paid is
 
+pub returns-in-Ok-answer-clause-missing_file : goal.returns-in-Ok-answer-clause-missing_file
+returns-in-Ok-answer-clause-missing_file g c = λ is.
+    let words = map string_bytes c.args.words.now in
+    let told = g.S.Shelf.files c.args.shelf.now in
+    let faults = g.S.Shelf.faults c.args.shelf.now in
+    let faults' = g.S.Shelf.faults c.outcome_of.new.shelf in
+    let ends = c.in-Ok-answer.status in
+    let out = g.O.Sink.written c.args.out.now in
+    let out' = g.O.Sink.written c.answer.new.out in
+    let err = g.E.Sink.written c.args.err.now in
+    let err' = g.E.Sink.written c.answer.new.err in
+    let paid = paid_so words (map string_bytes c.in-Ok.names.items) (map string_bytes c.as_slice.result.now) told faults faults' c.in-Ok.outcome ends out out' err err' (ap (map string_bytes) c.as_slice.ensures.value) c.in-Ok.ensures.arises c.in-Ok-answer.ensures.pays in
+    came_missing words told faults faults' ends out out' err err' paid is
+
 pub returns-in-Ok-answer-clause-success : goal.returns-in-Ok-answer-clause-success
 returns-in-Ok-answer-clause-success g c = λ is.
     let words = map string_bytes c.args.words.now in
@@ -164,3 +179,25 @@ returns-in-Ok-answer-clause-no_job g c = λ none decided.
     let err' = g.E.Sink.written c.answer.new.err in
     let paid = paid_so words (map string_bytes c.in-Ok.names.items) (map string_bytes c.as_slice.result.now) told faults faults' c.in-Ok.outcome ends out out' err err' (ap (map string_bytes) c.as_slice.ensures.value) c.in-Ok.ensures.arises c.in-Ok-answer.ensures.pays in
     came_no_job words told faults faults' ends out out' err err' paid none decided
+
+-- No other status is due, and a missing file is one that the shelf missed.
+pub returns-in-Ok-answer-clause-write_fault : goal.returns-in-Ok-answer-clause-write_fault
+returns-in-Ok-answer-clause-write_fault g c = λ is.
+    undecided (map string_bytes c.as_slice.result.now) c.in-Ok.outcome c.in-Ok-answer.status WriteFault
+    c.in-Ok-answer.ensures.pays.status refl is
+
+pub returns-in-Ok-answer-clause-memory : goal.returns-in-Ok-answer-clause-memory
+returns-in-Ok-answer-clause-memory g c = λ is.
+    undecided (map string_bytes c.as_slice.result.now) c.in-Ok.outcome c.in-Ok-answer.status Memory
+    c.in-Ok-answer.ensures.pays.status refl is
+
+pub returns-in-Ok-answer-clause-read_fault : goal.returns-in-Ok-answer-clause-read_fault
+returns-in-Ok-answer-clause-read_fault g c = λ is.
+    undecided (map string_bytes c.as_slice.result.now) c.in-Ok.outcome c.in-Ok-answer.status ReadFault
+    c.in-Ok-answer.ensures.pays.status refl is
+
+pub returns-in-Ok-answer-clause-missing : goal.returns-in-Ok-answer-clause-missing
+returns-in-Ok-answer-clause-missing g c = λ is.
+    missed (map string_bytes c.as_slice.result.now) c.in-Ok.outcome (g.S.Shelf.misses c.args.shelf.now)
+    (g.S.Shelf.misses c.outcome_of.new.shelf) (sym is ∙ c.in-Ok-answer.ensures.pays.status)
+    c.in-Ok.ensures.misses
