@@ -1,0 +1,2 @@
+" Interfaces and bodies of Austral.
+autocmd BufNewFile,BufRead *.aui,*.aum setfiletype austral
