@@ -22,13 +22,13 @@ use Rattle.au_syntax.specs.declared.types.Access.{Access}
 use Rattle.au_syntax.specs.declared.types.TypeText.{TypeText}
 use Rattle.au_syntax.specs.Plain.{Bytes, plain_statement}
 use Rattle.au_syntax.specs.Statements.{Statement}
-use Rattle.au_syntax.specs.Views.{statement}
+use Rattle.au_syntax.specs.Views.{statement, written}
 use Rattle.au_syntax.proofs.StatementLemmas.{let_says, destructure_says, assign_says, assign_through_says, if_says, if_else_says, case_says, while_says, for_says, borrow_says, borrow_typed_says, call_says, return_says, skip_says}
 use Rattle.au_again.specs.declared.marks.Kind.TheVariants.{Values, Types}
 use Rattle.au_again.specs.declared.marks.Mark.{Mark}
 use Rattle.au_again.specs.declared.marks.Mark.TheVariants.{Declares}
 use Rattle.au_again.specs.declared.marks.Role.TheVariants.{Local}
-use Rattle.au_again.specs.Marks.{arm_marks, block_marks, bound_mark, branch_marks, enclosed, statement_marks}
+use Rattle.au_again.specs.Marks.{arm_marks, block_marks, bound_mark, branch_marks, enclosed, region_marks, statement_marks}
 use Rattle.au_again.specs.Said.{arms_said, binds_said, block_said, branches_said, statement_said, statements_said}
 
 abbrev TheIdent : Type 0
@@ -124,7 +124,7 @@ borrow_marks at access ns b stop = said _ _ (borrow_says parsed at access ns b s
 pub borrow_typed_marks : (at : Pos) (r : TheIdent) (t : TypeText) (mode : BorrowMode) (x : TheIdent)
     (b : TheBlock) (stop : Pos)
     → statement_marks (statement_said (code.BorrowTyped at r t mode x b stop))
-    ≡ enclosed (variable r ∷ block_marks (block_said b))
+    ≡ enclosed (variable r ∷ (region_marks (written t) ++ block_marks (block_said b)))
 unfolding statement_marks
 borrow_typed_marks at r t mode x b stop = said _ _ (borrow_typed_says parsed at r t mode x b stop)
 

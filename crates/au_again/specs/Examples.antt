@@ -3,14 +3,15 @@ use Rattle.std.specs.Prelude.{ℕ, Bool, false, List, [], ◌∷◌, Option, Non
 use Rattle.std.specs.Str.{bytes_eq}
 use Rattle.au_base.specs.declared.places.Pos.{Pos}
 use Rattle.au_syntax.specs.declared.declarations.Universe.TheVariants as universes
+use Rattle.au_syntax.specs.declared.expressions.BorrowMode.TheVariants as modes
 use Rattle.au_syntax.specs.declared.statements.Binding.TheVariants as bindings
 use Rattle.au_syntax.specs.declared.types.Access.TheVariants as accesses
 use Rattle.au_syntax.specs.Expressions.{nil}
 use Rattle.au_syntax.specs.Modules.{Constrained, Header, InUniverse, Variant, class, constant, constant_body, function, function_body, instance_body, opaque_type, record_type, union_type}
 use Rattle.au_syntax.specs.Names.{Placed}
 use Rattle.au_syntax.specs.Plain.{Bytes, PlainDeclaration, PlainExpression, PlainStatement, PlainStatements}
-use Rattle.au_syntax.specs.Statements.{arms, borrow_in, branches, case_of, conditional_else, declare, for_loop, no_arms, no_branches, no_statements, statements}
-use Rattle.au_syntax.specs.Types.{Labelled, WrittenType, named, no_types}
+use Rattle.au_syntax.specs.Statements.{arms, borrow_in, borrow_typed, branches, case_of, conditional_else, declare, for_loop, no_arms, no_branches, no_statements, statements}
+use Rattle.au_syntax.specs.Types.{Labelled, WrittenType, named, no_types, reference}
 use Rattle.au_again.specs.declared.doubles.Double.{Double}
 use Rattle.au_again.specs.declared.marks.Kind.{Kind}
 use Rattle.au_again.specs.declared.marks.Kind.TheVariants.{Values, Callables, Types, Fields}
@@ -94,6 +95,12 @@ abbrev pub a_borrow : Bytes → ℕ → Bytes → ℕ → PlainStatements → Pl
 a_borrow name column region place body =
     borrow_in (at_column 0) accesses.Read (put (codes "x") 0) (put name column) (put region place) body
     (at_column 0)
+
+-- a borrow statement with a written type
+abbrev pub a_typed_borrow : Bytes → ℕ → Bytes → ℕ → PlainStatements → PlainStatement
+a_typed_borrow name column region place body =
+    borrow_typed (at_column 0) (put name column) (reference (at_column 0) accesses.Read small (put region place))
+    modes.Read (put (codes "x") 0) body (at_column 0)
 
 -- what comes from elsewhere: a constant that is imported, and a type that is built in
 abbrev pub from_elsewhere : Kind → Bytes → Bool
@@ -197,7 +204,7 @@ at_the_top =
 -- Names in blocks: a variable that is imported as a value, and one that is a callable; a type parameter that
 -- is built in, and one with the record's name; two parameters, and two fields; variables in blocks side by
 -- side, behind a block and in one; the variable of a loop, a bound field, and the region of a borrow
--- statement beside a type parameter; and fields of two cases.
+-- statement of either spelling beside a type parameter; and fields of two cases.
 abbrev pub in_blocks : List Example
 in_blocks =
     record {
@@ -253,6 +260,14 @@ in_blocks =
       interface = [];
       body = a_function (codes "f") 2 (generic (codes "R") 1
           ∷ []) (labelled (codes "x") 3 ∷ []) (block (a_borrow (codes "r") 4 (codes "R") 5 (block []) ∷ []))
+          ∷ [];
+      doubles = again (codes "R") 5 ∷ [];
+    }
+    ∷ record {
+      interface = [];
+      body = a_function (codes "f") 2 (generic (codes "R") 1
+          ∷ []) (labelled (codes "x") 3
+          ∷ []) (block (a_typed_borrow (codes "r") 4 (codes "R") 5 (block []) ∷ []))
           ∷ [];
       doubles = again (codes "R") 5 ∷ [];
     }

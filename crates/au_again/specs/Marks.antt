@@ -9,7 +9,7 @@ use Rattle.au_syntax.specs.Modules.{Constrained, Header, InUniverse, Variant, co
 use Rattle.au_syntax.specs.Names.{Placed}
 use Rattle.au_syntax.specs.Plain.{Bytes, PlainArms, PlainBranches, PlainDeclaration, PlainMethod, PlainStatement, PlainStatements}
 use Rattle.au_syntax.specs.Statements.{skip, declare, destructure, assign, assign_through, conditional, conditional_else, case_of, while_loop, for_loop, borrow_in, borrow_typed, discard, return_of, no_statements, statements, no_branches, branches, no_arms, arms}
-use Rattle.au_syntax.specs.Types.{Bound, Labelled}
+use Rattle.au_syntax.specs.Types.{Bound, Labelled, WrittenType, named, reference}
 use Rattle.au_name_faults.specs.NameFaults.{given}
 use Rattle.au_again.specs.declared.marks.Kind.{Kind}
 use Rattle.au_again.specs.declared.marks.Kind.TheVariants.{Values, Callables, Types, Fields}
@@ -43,6 +43,15 @@ parameter_mark p = local Types p.name
 abbrev pub generic_mark : Constrained Bytes → Mark
 generic_mark p = parameter_mark p.parameter
 
+-- the region that the written type of a borrow statement's reference declares
+abbrev pub region_marks : WrittenType → List Mark
+region_marks (named name args) = []
+region_marks (reference at access t region) = local Types region ∷ []
+
+-- what a borrow statement with a written type declares
+abbrev pub typed_marks : Placed Bytes → WrittenType → List Mark
+typed_marks r t = local Values r ∷ region_marks t
+
 unfoldable mutual
   -- a statement. What `let` and `var` declare is in scope in the rest of the block; the variable of a loop,
   -- the bound fields of an arm and the names of a borrow statement are in scope in their own blocks.
@@ -59,7 +68,7 @@ unfoldable mutual
   statement_marks (for_loop at name a z block) = enclosed (local Values name ∷ block_marks block)
   statement_marks (borrow_in at access x r region block stop) = enclosed (local Values r ∷ local Types region
       ∷ block_marks block)
-  statement_marks (borrow_typed at r t mode x block stop) = enclosed (local Values r ∷ block_marks block)
+  statement_marks (borrow_typed at r t mode x block stop) = enclosed (typed_marks r t ++ block_marks block)
   statement_marks (discard at e) = []
   statement_marks (return_of at e) = []
 

@@ -1,13 +1,14 @@
 //! Puts the marks of statements behind others.
 
 ghost use Rattle.std.specs.Prelude.{◌≡◌, ◌++◌, ◌∷◌, [], OnOk, map};
-ghost use Rattle.au_again.specs.Marks.{arm_marks, block_marks, bound_mark, branch_marks, enclosed, local, statement_marks};
+ghost use Rattle.au_again.specs.Marks.{arm_marks, block_marks, bound_mark, branch_marks, enclosed, local, region_marks, statement_marks};
 ghost use Rattle.au_again.specs.Said.{arms_said, binds_said, block_said, branches_said, statement_said};
+ghost use Rattle.au_syntax.specs.Views.{written};
 
 use crate::marks::{Kind, Mark, Role};
 use crate::pushing::{push_binds, push_closes, push_declared, push_opens};
 use au_base::Memory;
-use au_syntax::{Arm, Bind, Block, Branch, Ident, Parsed, Stmt};
+use au_syntax::{Arm, Bind, Block, Branch, Ident, Parsed, Stmt, TypeText};
 use std::alloc::Global;
 
 /// Puts the beginning of a block with a variable.
@@ -32,6 +33,35 @@ fn push_reference(
 {
     push_variable(alloc, list, name)?;
     push_declared(alloc, list, Role::Local, Kind::Types, region)
+}
+
+/// Puts the region that the written type of a reference declares.
+fn push_region(alloc: Global, list: &mut Vec<Mark>, of: &TypeText) -> Result<(), Memory>
+    ensures { OnOk result (list.new.items ≡ list.old.items ++ region_marks (written of.now)) }
+{
+    match of {
+        TypeText::Named(_, _) => Ok(()),
+        TypeText::Reference(_, _, _, region) => {
+            let copy = region.name.copy(alloc)?;
+            list.push(Mark::Declares(Role::Local, Kind::Types, copy, region.at))?;
+            Ok(())
+        }
+    }
+}
+
+/// Puts the beginning of a block with a reference of a written type.
+fn push_typed(
+    alloc: Global,
+    list: &mut Vec<Mark>,
+    name: &Ident<Parsed>,
+    of: &TypeText,
+) -> Result<(), Memory>
+    ensures { OnOk result (list.new.items ≡ list.old.items ++ Mark.Opens
+        ∷ Mark.Declares Role.Local Kind.Values name.now.name name.now.at
+        ∷ region_marks (written of.now)) }
+{
+    push_variable(alloc, list, name)?;
+    push_region(alloc, list, of)
 }
 
 /// Puts the beginning of a block with bound fields.
@@ -71,8 +101,8 @@ fn push_statement(alloc: Global, list: &mut Vec<Mark>, stmt: &Stmt<Parsed>) -> R
             push_reference(alloc, list, &names.reference, &names.region)?;
             push_closed(alloc, list, block)
         }
-        Stmt::BorrowTyped(_, name, _, _, _, block, _) => {
-            push_variable(alloc, list, name)?;
+        Stmt::BorrowTyped(_, name, of, _, _, block, _) => {
+            push_typed(alloc, list, name, of)?;
             push_closed(alloc, list, block)
         }
         Stmt::Call(_, _) => Ok(()),

@@ -21,4 +21,7 @@ returns-clause-top c = (
 
 pub returns-clause-blocks : goal.returns-clause-blocks
 unfolding doubles_behind first_again is_open statement_marks block_marks branch_marks arm_marks
-returns-clause-blocks c = (refl, (refl, (refl, (refl, (refl, (refl, (refl, (refl, (refl, tt)))))))))
+returns-clause-blocks c = (
+  refl,
+  (refl, (refl, (refl, (refl, (refl, (refl, (refl, (refl, (refl, tt))))))))),
+)

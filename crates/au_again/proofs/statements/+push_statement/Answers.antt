@@ -50,9 +50,9 @@ pub push_statement-returns-in_ok-push_reference-in-Borrow :
     goal.push_statement-returns-in_ok-push_reference-in-Borrow
 push_statement-returns-in_ok-push_reference-in-Borrow t c = grind (arith, common_steps, borrow_marks)
 
-pub push_statement-returns-in_ok-push_variable-in-BorrowTyped :
-    goal.push_statement-returns-in_ok-push_variable-in-BorrowTyped
-push_statement-returns-in_ok-push_variable-in-BorrowTyped t c = grind
+pub push_statement-returns-in_ok-push_typed-in-BorrowTyped :
+    goal.push_statement-returns-in_ok-push_typed-in-BorrowTyped
+push_statement-returns-in_ok-push_typed-in-BorrowTyped t c = grind
     (arith, common_steps, borrow_typed_marks)
 
 pub push_closed-loop-one-init : goal.push_closed-loop-one-init
