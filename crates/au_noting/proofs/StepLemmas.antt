@@ -9,12 +9,10 @@ use Rattle.au_types.specs.Types.{Argument, Meaning, of_type, in_region}
 use Rattle.au_matching.specs.Bindings.{Bindings, value_of}
 use Rattle.au_scopes.specs.Scopes.{Scope}
 use Rattle.au_typing.specs.Calls.{each_is_named_once, first_left, first_misfit, is_given, type_values, value_fits}
-use Rattle.au_noting.specs.declared.variables.Variable.{Variable}
 use Rattle.au_sights.specs.declared.called.Typed as code
 use Rattle.au_noting.specs.Nodes.{type_in}
 use Rattle.au_noting.specs.Said.{all_typed}
-use Rattle.au_noting.specs.Variables.{variable_said}
-use Rattle.au_noting.proofs.WalkLemmas.{reverse_take, walked}
+use Rattle.au_noting.proofs.WalkLemmas.{walked}
 
 pub left_step : (s : Bindings) (ps : List Parameter) (i : ℕ) (p : Parameter) → slice_get ps i ≡ Some p →
     first_left s (drop i ps) ≡ (if is_given s p then first_left s (drop (i + 1) ps) else Some p.name)
@@ -33,10 +31,6 @@ values_of_one s p rest (Some (in_region r)) e = rw e
 pub values_step : (s : Bindings) (ps : List Parameter) (i : ℕ) (p : Parameter) → slice_get ps i ≡ Some p →
     type_values s (drop i ps) ≡ option_to_list (type_in (value_of p.name s)) ++ type_values s (drop (i + 1) ps)
 values_step s ps i p is = walked (type_values s) ps i p is ∙ values_of_one s p (drop (i + 1) ps) (value_of p.name s) refl
-
-pub left_to : (xs : List Variable) (n : ℕ) →
-    reverse (map variable_said (take n xs)) ≡ drop (length (reverse (map variable_said xs)) - n) (reverse (map variable_said xs))
-left_to xs n = ap reverse (sym (take-map variable_said n xs)) ∙ reverse_take (map variable_said xs) n
 
 pub named_step : (labels : List Bytes) (ps : List code.Typed) (i : ℕ) (one : code.Typed) → i < length ps → one ≡ get_or ps i one →
     each_is_named_once labels (all_typed (drop i ps)) ≡ ((count_by (bytes_eq one.name) labels == 1) && each_is_named_once labels (all_typed (drop (i + 1) ps)))

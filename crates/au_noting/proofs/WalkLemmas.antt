@@ -30,18 +30,3 @@ constraints_at all generics i p is =
     at_drop_more (constraints_from all) generics i d lt
     ∙ ap (λ (q : Parameter). named_with q.name (unwrap_or (classes_of all q.name) []) ++ constraints_from all (drop (i + 1) generics))
     (sym (get_or-map (λ (g : Bounded). g.parameter) generics i d p lt) ∙ get_or_from_slice_get (parameters generics) i p p is)
-
--- of a list from its end on, the item that comes next
-pub found_back : {A B : Type 0} (f : A → B) (test : B → Bool) (xs : List A) (n : ℕ) (x : A) → n < length xs → x ≡ get_or xs n x →
-    find test (reverse (map f (take (n + 1) xs))) ≡ (if test (f x) then Some (f x) else find test (reverse (map f (take n xs))))
-found_back f test xs n x lt is =
-    ap (λ l. find test (reverse l)) (map_more f xs n x lt)
-    ∙ ap (find test) (reverse-append (map f (take n xs)) (f (get_or xs n x) ∷ []))
-    ∙ ap (λ y. if test (f y) then Some (f y) else find test (reverse (map f (take n xs)))) (sym is)
-
--- what is left of a list from its end on
-pub reverse_take : {A : Type 0} (xs : List A) (n : ℕ) → reverse (take n xs) ≡ drop (length (reverse xs) - n) (reverse xs)
-reverse_take xs n =
-    let whole : reverse xs ≡ reverse (drop n xs) ++ reverse (take n xs) = ap reverse (sym (take-append-drop n xs)) ∙ reverse-append (take n xs) (drop n xs) in
-    let long : length (reverse (drop n xs)) ≡ length (reverse xs) - n = omega (arith, length-reverse (drop n xs), length-drop n xs, length-reverse xs) in
-    sym (ap (drop (length (reverse xs) - n)) whole ∙ drop_at (reverse (drop n xs)) (reverse (take n xs)) (length (reverse xs) - n) long)

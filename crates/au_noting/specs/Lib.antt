@@ -4,4 +4,3 @@ pub mod Scopes
 pub mod Variables
 pub mod Modes
 pub mod Nodes
-pub mod Codes

@@ -12,8 +12,7 @@ pub mod lookups;
 pub mod nodes;
 pub mod rules;
 pub mod scopes;
-pub mod variables;
 
+pub use au_variables::{Variable, Variables};
 pub use faults::{Cause, Fault};
 pub use scopes::{Bounds, Scope};
-pub use variables::{Variable, Variables};

@@ -14,7 +14,6 @@ ghost use Rattle.au_typing.specs.Lookups as spec;
 
 use crate::faults::{Fault, ill_formed, other_form, unknown};
 use crate::scopes::Scope;
-use crate::variables::Variable;
 use au_base::{Memory, Name};
 use au_judged_types::{Judged, judge_type};
 use au_notes::Form;
@@ -23,6 +22,7 @@ use au_sights::{Callable, Typed};
 use au_syntax::{Ident, Parsed, TypeText, Universe};
 use au_types::{Ty, copy_type};
 use au_universes::{takes, universe_of};
+use au_variables::Variable;
 use std::alloc::Global;
 
 /// The innermost variable of a name, if there is one.

@@ -6,12 +6,12 @@ ghost use Rattle.au_instances.specs.Pairs.{constraints_of, named_with};
 ghost use Rattle.au_noting.specs.Scopes.{closed_in, declared_in, opened_in, scope_said, without};
 ghost use Rattle.au_noting.specs.Variables.{variable_said};
 
-use crate::variables::{Variable, Variables};
 use au_base::{Memory, Name};
 use au_generics::Generics;
 use au_instances::ClassAt;
 use au_sights::Surroundings;
 use au_types::{Params, Ty};
+use au_variables::{Variable, Variables};
 use au_written_types::Scope as WrittenScope;
 use std::alloc::Global;
 use std::marker::Model;

@@ -1,10 +1,11 @@
 //! The variables in scope.
 
-ghost use Rattle.std.specs.Prelude.{◌≡◌, ◌∷◌, ◌<◌, ◌-◌, [], OnErr, OnOk, drop, length, map, reverse, find as first};
+ghost use Rattle.std.specs.Prelude.{◌≡◌, ◌∷◌, ◌-◌, [], OnErr, OnOk, drop, length, find as first};
 ghost use Rattle.std.specs.Option.{option_map, option_copied};
 ghost use Rattle.std.specs.Str.{bytes_eq};
-ghost use Rattle.au_noting.specs.Variables.{variable_said};
+ghost use Rattle.au_variables.specs.Variables.{variable_said};
 
+use crate::places::Places;
 use au_base::{Memory, Name};
 use au_types::Ty;
 use std::alloc::Global;
@@ -21,24 +22,36 @@ pub struct Variable {
     pub assignable: bool,
 }
 
-/// The variables in scope. Contracts see them as a list with the innermost first.
+/// A variable in scope, with the place of the variable that it hides, if it hides one.
+#[derive(Drop)]
+pub(crate) struct Held {
+    one: Variable,
+    hides: Option<usize>,
+}
+
+/// The variables in scope. One is found by its name without a walk through them: a table tells the place of
+/// the innermost variable of each name, and each variable the place of the one that it hides. Contracts see
+/// the variables as a list with the innermost first.
 #[derive(Drop)]
 pub struct Variables {
-    list: Vec<Variable>,
+    list: Vec<Held>,
+    places: Places,
 }
 
 impl Model for Variables {
     ghost use Rattle.std.specs.Prelude.{List, map, reverse};
     ghost use Rattle.std.specs.Coded.{coded_list};
+    ghost use Rattle.au_variables.specs.Codes.{variable_code};
     ghost use Rattle.au_scopes.specs.Scopes as scopes;
-    ghost use Rattle.au_noting.specs.Codes.{variable_code};
-    ghost use Rattle.au_noting.specs.Variables.{variable_said};
+    ghost use Rattle.au_variables.specs.Places.{ArePlaced, alone, held_said};
 
     ghost Value = { List scopes.Variable };
 
     ghost coded = { coded_list variable_code };
 
-    ghost view = { λ v. reverse (map variable_said v.list.items) };
+    ghost view = { λ v. alone (reverse (map held_said v.list.items)) };
+
+    ghost invariant = { λ v. ArePlaced (reverse (map held_said v.list.items)) v.places };
 }
 
 impl Variables {
@@ -48,6 +61,7 @@ impl Variables {
     {
         Variables {
             list: Vec::new(alloc),
+            places: Places::new(alloc),
         }
     }
 
@@ -67,15 +81,31 @@ impl Variables {
         ensures ok { OnOk result (self.new ≡ variable_said one ∷ self.old) }
         ensures err { OnErr result (self.new ≡ self.old) }
     {
-        self.list.push(one)?;
+        self.places.make_room(one.name.as_bytes())?;
+        let hides = self.places.get(one.name.as_bytes());
+        let place = self.list.len();
+        self.list.push(Held { one, hides })?;
+        self.places
+            .set(self.list[place].one.name.as_bytes(), Some(place));
         Ok(())
+    }
+
+    /// Forgets the innermost variable, if there is one.
+    fn leave_one(&mut self)
+        ensures { self.new ≡ drop 1 self.old }
+    {
+        if let Some(held) = self.list.pop() {
+            self.places.set(held.one.name.as_bytes(), held.hides);
+        }
     }
 
     /// Forgets the innermost variables, so that as many as this are left.
     pub fn leave_to(&mut self, count: usize)
         ensures { self.new ≡ drop (length self.old - count) self.old }
     {
-        self.list.truncate(count);
+        while self.len() > count {
+            self.leave_one();
+        }
     }
 
     /// The innermost variable of a name, if there is one.
@@ -83,22 +113,9 @@ impl Variables {
         ensures { option_map variable_said (option_copied result)
             ≡ first (λ one. bytes_eq one.name name.now) self.now }
     {
-        innermost(&self.list, name)
-    }
-}
-
-/// The last variable of a name, if there is one.
-fn innermost<'v>(list: &'v Vec<Variable>, name: &Name) -> Option<&'v Variable>
-    ensures { option_map variable_said (option_copied result)
-        ≡ first (λ one. bytes_eq one.name name.now) (reverse (map variable_said list.now.items)) }
-{
-    let mut left = list.len();
-    while left > 0 {
-        left -= 1;
-        let one = &list[left];
-        if one.name.as_bytes() == name.as_bytes() {
-            return Some(one);
+        match self.places.get(name.as_bytes()) {
+            Some(place) => Some(&self.list[place].one),
+            None => None,
         }
     }
-    None
 }
