@@ -3,3 +3,5 @@ pub mod OrderLemmas
 pub mod WalkLemmas
 pub mod RefusedLemmas
 pub mod FoundLemmas
+pub mod KeyLemmas
+pub mod FindingLemmas
