@@ -1,11 +1,11 @@
 -- The walk as the code goes along it.
-use Rattle.std.proofs.Common.{◌≡◌, ◌≤◌, ◌<◌, ◌+◌, ◌-◌, ℕ, zero, suc, Bool, List, [], ◌∷◌, ◌++◌, Option, Result, Ok, Err, IfOk, length, map, drop, get_or, refl, sym, ap, ◌∙◌, subst, length-append, arith}
+use Rattle.std.proofs.Common.{◌≡◌, ◌≤◌, ◌<◌, ◌+◌, ◌-◌, ℕ, zero, suc, Bool, List, [], ◌∷◌, ◌++◌, Option, Result, Ok, Err, IfOk, length, map, drop, get_or, refl, sym, ap, ◌∙◌, length-append, arith}
 use Rattle.std.proofs.lemmas.List.{length-map, drop_more, drop_all, get_or-map}
 use Rattle.au_base.specs.declared.limits.Limit.{Limit}
 use Rattle.au_reach.specs.declared.faults.WalkFault.{WalkFault}
 use Rattle.au_reach.specs.declared.faults.WalkFault.TheVariants as faults
-use Rattle.au_reach.specs.Reached.{TellsSame, Lists}
-use Rattle.au_reach.specs.Walks.{Walked, on_ok, at_first, adds_within, IsWithin, Refused, walk, listed}
+use Rattle.au_reach.specs.Reached.{Lists}
+use Rattle.au_reach.specs.Walks.{Walked, on_ok, at_first, adds_within, IsWithin, walk}
 use Rattle.au_reach.specs.Finding.{Gives, by_key, puts_to, adds_to, walks, Finds_all, Refuses}
 use Rattle.au_reach.proofs.HasLemmas.{adds_more}
 use Rattle.au_reach.proofs.KeyLemmas.{keys_tell}

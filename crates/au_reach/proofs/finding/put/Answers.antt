@@ -1,9 +1,7 @@
-use Rattle.std.proofs.Common.{◌≡◌, ◌∙◌, sym, ap, true, false, not, map, length, ◌==◌, eq-eqb, ne_eqb, Ok, arith}
+use Rattle.std.proofs.Common.{◌≡◌, ◌∙◌, sym, ap, map, length, eq-eqb, ne_eqb, Ok, arith}
 use Rattle.std.proofs.lemmas.List.{length-map, map_push}
-use Rattle.std.proofs.lemmas.Bool.{false≢true}
-use Rattle.au_reach.specs.Finding.{found_in, by_key}
-use Rattle.au_reach.specs.Reached.{has}
-use Rattle.au_reach.proofs.KeyLemmas.{not_old, was_old, was_new, present, put_old, put_told, put_full, put_last}
+use Rattle.au_reach.specs.Finding.{found_in}
+use Rattle.au_reach.proofs.KeyLemmas.{was_old, was_new, present, put_old, put_told, put_full, put_last}
 use Rattle.au_reach.proofs.finding.put.Goals as goal
 
 pub returns-then-not-is_new-clause-gives : goal.returns-then-not-is_new-clause-gives
