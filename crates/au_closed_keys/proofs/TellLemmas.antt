@@ -19,7 +19,7 @@ kind_one Index Index is = refl
 kind_one a b is = absurd cc
 
 pub place_one : (a b : DeclAt) → a.«module» ≡ b.«module» → a.decl ≡ b.decl → a ≡ b
-pub place_one a b these those = λ i. record { «module» = these i; decl = those i }
+place_one a b these those = λ i. record { «module» = these i; decl = those i }
 
 -- no closed type begins with what ends a list of them
 ends : (t : ClosedType) (r s : List ℕ) → key_of t ++ r ≡ 6 ∷ s → ⊥
