@@ -35,7 +35,8 @@ module _ {A W : Type 0} (same : A → A → Bool) (over : A → Option W) (most 
     pub few : length ks ≤ most
 
 module _ {A W : Type 0} (same : A → A → Bool) (over : A → Option W) (full : W) (most : ℕ) where
-  -- an element put at the end of a list, if the list doesn't have it yet: its own limits come before the list's
+  -- an element put at the end of a list, if the list doesn't have it yet: its own limits come before the
+  -- list's
   abbrev pub put_within : Bool → List A → A → Walked A W
   put_within true ks x = Ok ks
   put_within false ks x = unless (over x) (room full (length ks == most) ks x)
@@ -60,8 +61,9 @@ module _ {A W : Type 0} (same : A → A → Bool) (over : A → Option W) (full 
     abbrev pub listed : List A → Walked A W
     listed starts = on_ok (adds_within [] starts) (λ ks. walk (suc most) ks 0)
 
-    -- A list is how the list of what is reached begins, and an element comes next: the list has the starts, and
-    -- what follows some of its own first elements, in order and each once, up to that element, which is new.
+    -- A list is how the list of what is reached begins, and an element comes next: the list has the
+    -- starts, and what follows some of its own first elements, in order and each once, up to that
+    -- element, which is new.
     pub record Begins (starts ks : List A) (x : A) : Type 0 where
       pub looked : List A
       pub later : List A
