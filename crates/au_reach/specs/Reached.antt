@@ -1,5 +1,5 @@
--- What is reached from some starts, as a list that is found breadth first, once over any elements: `same` is a
--- test of sameness, and `next` gives what follows an element, in order.
+-- What is reached from some starts, as a list that is found breadth first, once over any elements: `same`
+-- is a test of sameness, and `next` gives what follows an element, in order.
 use Rattle.std.specs.Prelude.{◌≡◌, Bool, true, false, ◌||◌, List, [], ◌∷◌, ◌++◌}
 
 module _ {A : Type 0} (same : A → A → Bool) where
@@ -39,8 +39,8 @@ module _ {A : Type 0} (same : A → A → Bool) (next : A → List A) (starts : 
     start : (x : A) → Has same starts x → Reached x
     follows : (k x : A) → Reached k → Has same (next k) x → Reached x
 
-  -- A list is that of what is reached, breadth first: it is the starts, and then what follows its own elements
-  -- in their order, each once; and it has nothing that isn't reached.
+  -- A list is that of what is reached, breadth first: it is the starts, and then what follows its own
+  -- elements in their order, each once; and it has nothing that isn't reached.
   pub record Lists (ks : List A) : Type 0 where
     pub order : ks ≡ adds same [] (starts ++ all_next next ks)
     pub reached : (x : A) → Has same ks x → Reached x

@@ -35,7 +35,8 @@ module _ {A W : Type 0} (same : A → A → Bool) (over : A → Option W) (most 
     pub few : length ks ≤ most
 
 module _ {A W : Type 0} (same : A → A → Bool) (over : A → Option W) (full : W) (most : ℕ) where
-  -- an element put at the end of a list, if the list doesn't have it yet: its own limits come before the list's
+  -- an element put at the end of a list, if the list doesn't have it yet: its own limits come before the
+  -- list's
   abbrev pub put_within : Bool → List A → A → Walked A W
   put_within true ks x = Ok ks
   put_within false ks x = unless (over x) (room full (length ks == most) ks x)
