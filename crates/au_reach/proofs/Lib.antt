@@ -1,0 +1,5 @@
+pub mod HasLemmas
+pub mod OrderLemmas
+pub mod WalkLemmas
+pub mod RefusedLemmas
+pub mod FoundLemmas
