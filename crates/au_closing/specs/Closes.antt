@@ -4,6 +4,7 @@ use Rattle.std.specs.Option.{option_map}
 use Rattle.au_syntax.specs.declared.modules.Part.TheVariants.{Body}
 use Rattle.au_syntax.specs.Plain.{Bytes}
 use Rattle.au_syntax.specs.Types.{Labelled, WrittenType}
+use Rattle.au_types.specs.declared.headings.Head.{Head}
 use Rattle.au_types.specs.declared.parameters.Parameter.{Parameter}
 use Rattle.au_types.specs.declared.types.DeclAt.{DeclAt}
 use Rattle.au_types.specs.Types.{Meaning}
@@ -12,17 +13,17 @@ use Rattle.au_written_types.specs.Meant.{meant}
 use Rattle.au_closed_types.specs.Types.{ClosedType}
 use Rattle.au_modules.specs.Programs.{ModuleParts}
 use Rattle.au_names.specs.HeadsOf.{heads_of}
-use Rattle.au_names.specs.Standing.{standing_at}
 use Rattle.au_generics.specs.Meanings.{written_params}
 use Rattle.au_outsides.specs.Written.{types_at}
 use Rattle.au_typing.specs.Notes.{Note}
 use Rattle.au_derivations.specs.Trees.{NotedParts}
 use Rattle.au_reach.specs.Reached.{Lists}
+use Rattle.au_closed_trees.specs.declared.notes.Literal.{Literal}
 use Rattle.au_closed_trees.specs.Calls.{calls_in_block}
 use Rattle.au_closed_trees.specs.Changes.{Change}
 use Rattle.au_closed_trees.specs.ClosedNotes.{Callee, ClosedNote, ClosedStatements}
 use Rattle.au_closed_trees.specs.Renoted.{block_renoted}
-use Rattle.au_closing.specs.Bodies.{BodyOf, body_of, constant_seen, value_standing}
+use Rattle.au_bodies.specs.Bodies.{BodyOf, body_of, constant_seen, value_of}
 use Rattle.au_given_types.specs.Given.{Given, closed_or_unit, closed_under}
 use Rattle.au_closing.specs.Instances.{Instance, instance_of, numbered, same_instance}
 use Rattle.au_closing.specs.Leading.{call_leads, module_name}
@@ -47,30 +48,40 @@ pub record ClosedFunction : Type 0 where
 abbrev pub note_closed : Given → Note → ClosedNote
 note_closed given note = record { of = closed_under given note.of; free = None; literal = None }
 
-module _ (program : List ModuleParts) (noted : List NotedParts) where
+-- by the rows of declared types and the literals of constants
+module _ (heads : List (DeclAt × Head)) (literal_of : DeclAt → Option Literal) where
   -- The note of an expression that mentions a variable, or of one that mentions a constant. Whether the
   -- variable is Free is judged over the type parameters in scope.
   abbrev pub mention_closed : List Parameter → Given → Note → Option DeclAt → ClosedNote
   mention_closed params given note None = record {
     of = closed_under given note.of;
-    free = Some (is_free (universe_of (heads_of program) params note.of));
+    free = Some (is_free (universe_of heads params note.of));
     literal = None;
   }
   mention_closed params given note (Some at) = record {
     of = closed_under given note.of;
     free = None;
-    literal = value_standing noted (standing_at program at);
+    literal = literal_of at;
   }
 
-  -- what becomes of the notes of a body of the module at a place, over these type parameters and under what
-  -- is given for them, where these are the instances
+  -- what becomes of the notes of a body, over these type parameters and under what is given for them, by
+  -- these instances, the constants that names mean there, and what calls lead to
+  abbrev pub change_by : List Instance → (Bytes → Option DeclAt) →
+      (Note → Unit {0} → Bytes → Callee (Option Instance)) → List Parameter → Given →
+      Change Bytes Note (Unit {0}) ClosedNote (Callee ℕ)
+  change_by all constant leads params given = record {
+    note = note_closed given;
+    mention = λ note name. mention_closed params given note (constant name);
+    callee = λ note c name. numbered all (leads note c name);
+  }
+
+module _ (program : List ModuleParts) (noted : List NotedParts) where
+  -- the same of a body of the module at a place
   abbrev pub change_of : List Instance → ℕ → List Parameter → Given →
       Change Bytes Note (Unit {0}) ClosedNote (Callee ℕ)
-  change_of all place params given = record {
-    note = note_closed given;
-    mention = λ note name. mention_closed params given note (constant_seen program place name);
-    callee = λ note c name. numbered all (call_leads program place given note name);
-  }
+  change_of all place params given =
+      change_by (heads_of program) (value_of program noted) all
+      (constant_seen program place) (λ note c name. call_leads program place given note name) params given
 
   -- ---- instances
 

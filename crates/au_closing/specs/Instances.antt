@@ -1,5 +1,5 @@
 -- Instances: a function or a method of an instance of a class, with closed types for its type parameters.
-use Rattle.std.specs.Prelude.{ℕ, ◌&&◌, Bool, true, false, if◌then◌else◌, List, [], ◌∷◌, Option, None, Some, length, position, unwrap_or}
+use Rattle.std.specs.Prelude.{ℕ, zero, suc, ◌&&◌, Bool, true, false, if◌then◌else◌, List, [], ◌∷◌, Option, None, Some, length}
 use Rattle.std.specs.Str.{bytes_eq}
 use Rattle.au_syntax.specs.declared.declarations.Universe.{Universe}
 use Rattle.au_syntax.specs.declared.declarations.Universe.TheVariants as universes
@@ -28,10 +28,15 @@ abbrev pub same_instance : Instance → Instance → Bool
 same_instance a b =
     same_place a.of.at b.of.at && bytes_eq a.of.name b.of.name && same_given a.given b.given
 
--- the number of an instance in a list, and the number behind the last one where the list doesn't have it
+-- the place of an instance in a list, and the place behind the last one where the list doesn't have it
+abbrev pub place_in : Instance → List Instance → ℕ
+place_in one [] = zero
+place_in one (first ∷ all) = if same_instance one first then zero else suc (place_in one all)
+
+-- the number of an instance, if there is one; where there is none, it is that behind the last one
 abbrev pub number_in : List Instance → Option Instance → ℕ
 number_in all None = length all
-number_in all (Some one) = unwrap_or (position (same_instance one) all) (length all)
+number_in all (Some one) = place_in one all
 
 -- what a call leads to, with the number of the instance, if it leads to one
 abbrev pub numbered : List Instance → Callee (Option Instance) → Callee ℕ

@@ -91,20 +91,33 @@ abbrev pub shipped_or : Option ShippedCall → Instance → Callee (Option Insta
 shipped_or None one = instance (Some one)
 shipped_or (Some call) one = shipped call
 
-module _ (program : List ModuleParts) (rows : List Row) where
-  -- a function of a declaration by its name: what is shipped, or its instance
-  abbrev pub function_leads : Target → Bytes → Given → Callee (Option Instance)
-  function_leads target name given =
-      shipped_or (prim_of (module_name program target.at.«module») name None)
-      (record { of = target; given = given })
+-- a function of a declaration by its name: what is shipped, or its instance
+abbrev pub function_leads : List ModuleParts → Target → Bytes → Given → Callee (Option Instance)
+function_leads program target name given =
+    shipped_or (prim_of (module_name program target.at.«module») name None)
+    (record { of = target; given = given })
 
+-- a method of a class by its name at a closed type, by the row of the class's instance
+abbrev pub method_by_row : List ModuleParts → Bytes → ClosedType → Row → Callee (Option Instance)
+method_by_row program name t row =
+    shipped_or
+    (option_map (at_type t) (prim_of (module_name program row.instance.«module») name (kind_of t)))
+    (method_at name t row)
+
+-- the constructor of the type of a call's expression under what is given, for the case at a place, and for
+-- that of a place that may be none
+abbrev pub maker_leads : Given → Note → ℕ → Callee (Option Instance)
+maker_leads given note place = constructor (closed_under given note.of) place
+
+abbrev pub case_leads : Given → Note → Option ℕ → Callee (Option Instance)
+case_leads given note None = instance None
+case_leads given note (Some place) = maker_leads given note place
+
+module _ (program : List ModuleParts) (rows : List Row) where
   -- a method of a class by its name at a closed type, by the row of the class's instance, if there is one
   abbrev pub method_leads : Bytes → ClosedType → Option Row → Callee (Option Instance)
   method_leads name t None = instance None
-  method_leads name t (Some row) =
-      shipped_or
-      (option_map (at_type t) (prim_of (module_name program row.instance.«module») name (kind_of t)))
-      (method_at name t row)
+  method_leads name t (Some row) = method_by_row program name t row
 
   -- the same of a class
   abbrev pub class_leads : DeclAt → Bytes → ClosedType → Callee (Option Instance)
@@ -114,10 +127,10 @@ module _ (program : List ModuleParts) (rows : List Row) where
   abbrev pub called_leads : Given → Note → Target → Option Called → Callee (Option Instance)
   called_leads given note target None = instance None
   called_leads given note target (Some (a_function name names)) =
-      function_leads target name (given_by given (unwrap_or note.call []) names)
+      function_leads program target name (given_by given (unwrap_or note.call []) names)
   called_leads given note target (Some (a_method name param)) =
       class_leads target.at name (closed_under given (substituted (unwrap_or note.call []) (parameter param)))
-  called_leads given note target (Some (a_maker tag)) = constructor (closed_under given note.of) tag
+  called_leads given note target (Some (a_maker place)) = maker_leads given note place
 
   -- what a name means that is called, if it means something
   abbrev pub target_leads : Given → Note → Option Target → Callee (Option Instance)

@@ -32,8 +32,8 @@ fn method_at(alloc: Global, name: &Name, of: &Closed, row: &Row) -> Result<Insta
     })
 }
 
-/// What a call of a method leads to at a closed type, by the row of the instance of its class: a shipped call,
-/// or else an instance.
+/// What a call of a method leads to at a closed type, by the row of the instance of its class: a shipped
+/// call, or else an instance.
 fn method_leads(
     alloc: Global,
     program: &Resolved,
@@ -43,7 +43,8 @@ fn method_leads(
 ) -> Result<Lead, Memory>
     ensures { IfOk result (λ lead.
         lead_said lead
-        ≡ spec.method_by_row (slots.modules program.now) name.now (closed_meaning of.now) (row_said row.now)) }
+        ≡ spec.method_by_row (slots.modules program.now) name.now (closed_meaning of.now)
+        (row_said row.now)) }
 {
     match shipped_method(program, row.instance.module, name, of) {
         Some(call) => Ok(Lead::Shipped(call)),

@@ -1,13 +1,12 @@
 //! What calls of functions lead to.
 
-ghost use Rattle.std.specs.Prelude.{◌≡◌, [], IfOk, List, unwrap_or};
+ghost use Rattle.std.specs.Prelude.{◌≡◌, [], IfOk, unwrap_or};
 ghost use Rattle.au_closing.specs.Instances.{type_names};
 ghost use Rattle.au_closing.specs.Leading as spec;
 ghost use Rattle.au_closing.specs.Views.{lead_said};
 ghost use Rattle.au_generics.specs.Meanings.{written_params};
 ghost use Rattle.au_given_types.specs.Given as given_types;
 ghost use Rattle.au_given_types.specs.Views.{given_said};
-ghost use Rattle.au_instances.specs.Rows.{Row as InstanceRow};
 ghost use Rattle.au_modules.specs.Slots as slots;
 ghost use Rattle.au_promises.specs.Written.{generics_of};
 
@@ -22,8 +21,8 @@ use au_names::Target;
 use au_syntax::{Generic, Parsed};
 use std::alloc::Global;
 
-/// What the substitution of a call gives for the type parameters of a function that aren't regions, in declared
-/// order, where this is given for those of the caller.
+/// What the substitution of a call gives for the type parameters of a function that aren't regions, in
+/// declared order, where this is given for those of the caller.
 fn given_by(
     alloc: Global,
     given: &[GivenType],
@@ -58,9 +57,9 @@ pub(crate) fn function_leads(
     name: &Name,
     generics: &Vec<Generic<Parsed>>,
 ) -> Result<Lead, Memory>
-    ensures { (rows : List InstanceRow) → IfOk result (λ lead.
+    ensures { IfOk result (λ lead.
         lead_said lead
-        ≡ spec.function_leads (slots.modules program.now) rows target.now name.now
+        ≡ spec.function_leads (slots.modules program.now) target.now name.now
         (given_types.given_by (given_said given.now) (unwrap_or call.now [])
         (type_names (written_params (generics_of generics.now.items))))) }
 {

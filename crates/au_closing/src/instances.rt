@@ -14,7 +14,8 @@ use std::alloc::Global;
 /// A function or a method of an instance of a class, with closed types for its type parameters.
 #[derive(Drop)]
 pub struct Instance {
-    /// The declaration of the function, or of the instance of a class, and the name of the function or method.
+    /// The declaration of the function, or of the instance of a class, and the name of the function or
+    /// method.
     pub of: Target,
     /// What is given for its type parameters in declared order; for a method, for those of its instance.
     pub given: Vec<GivenType>,

@@ -47,6 +47,7 @@ pub(crate) fn is_region(universe: Universe) -> bool
 }
 
 /// The arguments of a type, which a declared type alone may have.
+#[tactic(auto, using(au_types::proofs::TypeLemmas::type_steps))]
 fn arguments_of(of: &Ty) -> &[Arg]
     ensures { argument_all result.now ≡ forms.arguments_of (meaning of.now) }
 {
@@ -63,6 +64,7 @@ fn arguments_of(of: &Ty) -> &[Arg]
 }
 
 /// The closed types in a closed type.
+#[tactic(auto, using(au_closed_types::proofs::ClosedLemmas::closed_steps))]
 fn types_within(of: &Closed) -> &[Closed]
     ensures { map closed_meaning result.now ≡ spec.types_within (closed_meaning of.now) }
 {
@@ -78,6 +80,7 @@ fn types_within(of: &Closed) -> &[Closed]
 }
 
 /// The name of a type parameter.
+#[tactic(auto, using(au_types::proofs::TypeLemmas::type_steps))]
 fn type_name(of: &Ty) -> Option<&Name>
     ensures { option_copied result ≡ forms.type_name (meaning of.now) }
 {
@@ -94,12 +97,7 @@ fn type_name(of: &Ty) -> Option<&Name>
 }
 
 /// Puts a closed type behind others, by the name of a type that is a type parameter.
-fn push_pair(
-    alloc: Global,
-    list: &mut Vec<GivenType>,
-    of: &Ty,
-    to: &Closed,
-) -> Result<(), Memory>
+fn push_pair(alloc: Global, list: &mut Vec<GivenType>, of: &Ty, to: &Closed) -> Result<(), Memory>
     ensures { OnOk result (given_said list.new.items
         ≡ given_said list.old.items
         ++ spec.pair_before (forms.type_name (meaning of.now)) (closed_meaning to.now) []) }
@@ -122,7 +120,8 @@ pub(crate) fn push_given(list: &mut Vec<GivenType>, name: Name, of: Closed) -> R
 /// Each name among the types of some arguments, which are type parameters, with the closed type in its place.
 fn paired(alloc: Global, args: &[Arg], list: &[Closed]) -> Result<Vec<GivenType>, Memory>
     ensures { IfOk result (λ made.
-        given_said made.items ≡ spec.paired (types_in (argument_all args.now)) (map closed_meaning list.now)) }
+        given_said made.items
+        ≡ spec.paired (types_in (argument_all args.now)) (map closed_meaning list.now)) }
 {
     let mut made = Vec::new(alloc);
     let mut at = 0;

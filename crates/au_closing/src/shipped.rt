@@ -13,6 +13,7 @@ use au_imports::Resolved;
 use au_shipped::{ShippedCall, prim_of};
 
 /// The kind of integers that a closed type is.
+#[tactic(auto, using(au_closed_types::proofs::ClosedLemmas::closed_steps))]
 fn kind_of(of: &Closed) -> Option<IntKind>
     ensures { result ≡ spec.kind_of (closed_meaning of.now) }
 {
@@ -34,11 +35,12 @@ fn at_truth(call: ShippedCall) -> ShippedCall
     match call {
         ShippedCall::PrintText => ShippedCall::PrintBool,
         ShippedCall::PrintLnText => ShippedCall::PrintLnBool,
-        other => other,
+        _ => call,
     }
 }
 
 /// A shipped method at a closed type.
+#[tactic(auto, using(au_closed_types::proofs::ClosedLemmas::closed_steps))]
 fn at_type(of: &Closed, call: ShippedCall) -> ShippedCall
     ensures { result ≡ spec.at_type (closed_meaning of.now) call }
 {
@@ -71,18 +73,14 @@ fn shipped_call(
 }
 
 /// The shipped function of a name in the module at a place, if there is one.
-pub(crate) fn shipped_function(
-    program: &Resolved,
-    place: u16,
-    name: &Name,
-) -> Option<ShippedCall>
+pub(crate) fn shipped_function(program: &Resolved, place: u16, name: &Name) -> Option<ShippedCall>
     ensures { result ≡ calls.prim_of (spec.module_name (slots.modules program.now) place) name.now None }
 {
     shipped_call(program, place, name, None)
 }
 
-/// The shipped method of a name at a closed type, by the place of the module of the class's instance, if there
-/// is one.
+/// The shipped method of a name at a closed type, by the place of the module of the class's instance, if
+/// there is one.
 pub(crate) fn shipped_method(
     program: &Resolved,
     place: u16,

@@ -1,17 +1,17 @@
 -- What is given, told apart, and what it makes of arguments.
-use Rattle.std.proofs.Common.{◌≡◌, ℕ, ◌+◌, ◌<◌, Bool, true, List, [], ◌∷◌, ◌++◌, ◌&&◌, length, take, get_or, refl, sym, ap, ◌∙◌}
+use Rattle.std.proofs.Common.{◌≡◌, ℕ, suc, ◌+◌, ◌<◌, Bool, true, false, List, [], ◌∷◌, ◌++◌, ◌&&◌, length, take, get_or, refl, sym, ap, ◌∙◌}
 use Rattle.std.specs.Prelude.{Option, None, Some}
 use Rattle.std.specs.Option.{option_map}
 use Rattle.std.specs.Str.{bytes_eq}
 use Rattle.std.proofs.lemmas.Bool.{and_from, and_parts}
-use Rattle.std.proofs.lemmas.Map.Text.{bytes_eq-Decides}
+use Rattle.std.proofs.lemmas.List.{take_more}
+use Rattle.std.proofs.lemmas.Slice.Eq.{bytes_eq-Decides}
 use Rattle.au_syntax.specs.Plain.{Bytes}
 use Rattle.au_types.specs.declared.types.Arg.{Arg}
 use Rattle.au_types.specs.declared.types.Region.{Region}
 use Rattle.au_types.specs.Types as whole
 use Rattle.au_types.specs.Types.{Argument, Arguments, Meaning, arguments, in_region, no_arguments, of_type}
 use Rattle.au_types.specs.Views.{argument, argument_all}
-use Rattle.au_types.proofs.TypeLemmas.{arguments_more, snoc_arguments}
 use Rattle.au_matching.specs.Bindings.{Bindings}
 use Rattle.au_matching.specs.Substituted.{all_substituted, EachNameOfAll, substituted}
 use Rattle.au_closed_types.specs.declared.types.Closed.{Closed}
@@ -19,8 +19,9 @@ use Rattle.au_closed_types.specs.Closing.{all_closed, argument_closed, closed, i
 use Rattle.au_closed_types.specs.Same.{same}
 use Rattle.au_closed_types.specs.Types.{ClosedType, ClosedTypes, named, no_types, reads, types, writes}
 use Rattle.au_closed_types.specs.Views.{closed_meaning, closed_meanings}
-use Rattle.au_closed_types.proofs.ClosedLemmas.{meanings_push, snoc_types}
 use Rattle.au_closed_types.proofs.SameLemmas.{same_is, same_self}
+use Rattle.au_given_types.specs.declared.types.GivenType.{GivenType}
+use Rattle.au_given_types.specs.Views.{given_said}
 use Rattle.au_given_types.specs.Given.{Closes, Given, all_closed_under, before_under, closed_under, given_for, same_given}
 
 -- ---- lists of what is given
@@ -40,20 +41,59 @@ given_self [] = refl
 given_self (a ∷ given) =
     and_from _ _ (and_from _ _ ((bytes_eq-Decides a.0 a.0).1 refl) (same_self a.1)) (given_self given)
 
+-- lists of two lengths don't give the same
+same_lengths : (xs ys : List GivenType) → same_given (given_said xs) (given_said ys) ≡ true
+    → length xs ≡ length ys
+same_lengths [] [] e = refl
+same_lengths [] (y ∷ ys) e = absurd cc
+same_lengths (x ∷ xs) [] e = absurd cc
+same_lengths (x ∷ xs) (y ∷ ys) e =
+    let here = bytes_eq x.name y.name && same (closed_meaning x.of) (closed_meaning y.of) in
+    let rest = and_parts here (same_given (given_said xs) (given_said ys)) e in
+    ap suc (same_lengths xs ys rest.1)
+
+pub given_unequal : (xs ys : List GivenType) → (length xs ≡ length ys → ⊥)
+    → same_given (given_said xs) (given_said ys) ≡ false
+given_unequal xs ys differ = by (same_given (given_said xs) (given_said ys)) refl
+  where
+    by : (b : Bool) → same_given (given_said xs) (given_said ys) ≡ b → b ≡ false
+    by true e = absurd (differ (same_lengths xs ys e))
+    by false e = refl
+
 -- ---- arguments, with one more behind them
+
+abbrev snoc_arguments : Arguments → Argument → Arguments
+snoc_arguments no_arguments one = arguments one no_arguments
+snoc_arguments (arguments first rest) one = arguments first (snoc_arguments rest one)
+
+abbrev snoc_types : ClosedTypes → ClosedType → ClosedTypes
+snoc_types no_types one = types one no_types
+snoc_types (types first rest) one = types first (snoc_types rest one)
+
+arguments_push : (xs : List Arg) (x : Arg)
+    → argument_all (xs ++ x ∷ []) ≡ snoc_arguments (argument_all xs) (argument x)
+arguments_push [] x = refl
+arguments_push (y ∷ ys) x = ap (arguments (argument y)) (arguments_push ys x)
+
+arguments_more : (xs : List Arg) (i : ℕ) (d : Arg) → i < length xs
+    → argument_all (take (i + 1) xs) ≡ snoc_arguments (argument_all (take i xs)) (argument (get_or xs i d))
+arguments_more xs i d h = ap argument_all (take_more xs i d h) ∙ arguments_push (take i xs) (get_or xs i d)
+
+meanings_push : (xs : List Closed) (x : Closed)
+    → closed_meanings (xs ++ x ∷ []) ≡ snoc_types (closed_meanings xs) (closed_meaning x)
+meanings_push [] x = refl
+meanings_push (y ∷ ys) x = ap (types (closed_meaning y)) (meanings_push ys x)
 
 module _ (given : Given) where
   pub type_behind : (args : Arguments) (t : Meaning)
       → all_closed_under given (snoc_arguments args (of_type t))
       ≡ snoc_types (all_closed_under given args) (closed_under given t)
-  unfolding snoc_arguments snoc_types
   type_behind no_arguments t = refl
   type_behind (arguments (of_type one) rest) t = ap (types (closed_under given one)) (type_behind rest t)
   type_behind (arguments (in_region region) rest) t = type_behind rest t
 
   pub region_behind : (args : Arguments) (region : Region)
       → all_closed_under given (snoc_arguments args (in_region region)) ≡ all_closed_under given args
-  unfolding snoc_arguments
   region_behind no_arguments region = refl
   region_behind (arguments (of_type one) rest) region =
       ap (types (closed_under given one)) (region_behind rest region)

@@ -9,21 +9,12 @@ ghost use Rattle.au_given_types.specs.Given as spec;
 ghost use Rattle.au_given_types.specs.Views.{given_said};
 
 use crate::types::GivenType;
-use crate::under::closed_under;
+use crate::under::{closed_under, given_for};
 use au_base::{Memory, Name};
 use au_closed_types::Closed;
 use au_matching::Substitution;
-use au_types::{Arg, Ty};
+use au_types::Arg;
 use std::alloc::Global;
-
-/// The closed type of a type parameter to which nothing, or no type, is bound.
-fn unbound_under(alloc: Global, given: &[GivenType], name: &Name) -> Result<Closed, Memory>
-    ensures { IfOk result (λ made.
-        closed_meaning made ≡ spec.closed_under (given_said given.now) (parameter name.now)) }
-{
-    let itself = Ty::Param(name.copy(alloc)?);
-    closed_under(alloc, given, &itself)
-}
 
 /// The closed type of what a substitution puts for a type parameter, once what is given is put for the type
 /// parameters in that.
@@ -43,7 +34,7 @@ pub fn value_under(
         (parameter name.now))) }
 {
     match call {
-        None => unbound_under(alloc, given, name),
+        None => given_for(alloc, given, name),
         Some(bindings) => bound_under(alloc, given, bindings, name),
     }
 }
@@ -60,7 +51,7 @@ fn bound_under(
         ≡ spec.closed_under (given_said given.now) (substituted bindings.now (parameter name.now))) }
 {
     match bindings.value_of(name) {
-        None => unbound_under(alloc, given, name),
+        None => given_for(alloc, given, name),
         Some(value) => argument_under(alloc, given, value, name),
     }
 }
@@ -78,6 +69,6 @@ fn argument_under(
 {
     match value {
         Arg::Of(of) => closed_under(alloc, given, of),
-        Arg::In(_) => unbound_under(alloc, given, name),
+        Arg::In(_) => given_for(alloc, given, name),
     }
 }

@@ -4,41 +4,52 @@ use Rattle.au_syntax.specs.declared.statements.Arm.{size-Arm}
 use Rattle.au_syntax.specs.declared.statements.Block.{size-Block, size_is-Block}
 use Rattle.au_syntax.specs.declared.statements.Stmt.{size-Stmt}
 use Rattle.au_syntax.specs.Views.{arm_all, branch_all, expression, statement, statement_all}
-use Rattle.au_syntax.proofs.StatementLemmas.{arms_push, branches_push, one_arm, one_branch, snoc_arms, snoc_branches, snoc_statements, statements_push}
 use Rattle.au_syntax.proofs.StatementLemmas as says
 use Rattle.au_closed_trees.specs.contracts.phase.ClosedTreesPhase.TheImpl.{ghosts as closed}
 use Rattle.au_closed_trees.specs.Renoted.{arms_renoted, block_renoted, branches_renoted, expression_renoted, statement_renoted}
+use Rattle.au_closed_trees.proofs.ClosingLemmas as lemmas
 use Rattle.au_closed_trees.proofs.ClosingLemmas.{arm_closed, arms_turn, borrow_closed, borrow_typed_closed, branch_closed, branches_turn, for_closed, if_else_closed, statements_turn, while_closed}
+use Rattle.au_closed_trees.proofs.SnocLemmas.{arms_push, branches_push, one_arm, one_branch, snoc_arms, snoc_branches, snoc_statements, statements_push}
 use Rattle.au_closed_trees.proofs.LoopLemmas.{all_made, block_item_falls, item_falls, made_more}
 use Rattle.au_closed_trees.proofs.statements.+close_statement.Goals as goal
 
+pub close_statement-returns-in-Skip : goal.close_statement-returns-in-Skip
+close_statement-returns-in-Skip g t c = grind (arith, says.skip_says, lemmas.skip_statement_becomes)
+
 pub close_statement-returns-in_ok-name-in-Let : goal.close_statement-returns-in_ok-name-in-Let
-close_statement-returns-in_ok-name-in-Let g t c = grind (arith, says.let_says)
+close_statement-returns-in_ok-name-in-Let g t c = grind (arith, says.let_says, lemmas.let_statement_becomes)
 
 pub close_statement-returns-in_ok-close_boxed-in-Destructure :
     goal.close_statement-returns-in_ok-close_boxed-in-Destructure
-close_statement-returns-in_ok-close_boxed-in-Destructure g t c = grind (arith, says.destructure_says)
+close_statement-returns-in_ok-close_boxed-in-Destructure g t c =
+    grind (arith, says.destructure_says, lemmas.destructure_statement_becomes)
 
 pub close_statement-returns-in_ok-name-in-Assign : goal.close_statement-returns-in_ok-name-in-Assign
-close_statement-returns-in_ok-name-in-Assign g t c = grind (arith, says.assign_says)
+close_statement-returns-in_ok-name-in-Assign g t c =
+    grind (arith, says.assign_says, lemmas.assign_statement_becomes)
 
 pub close_statement-returns-in_ok-name-in-AssignThrough :
     goal.close_statement-returns-in_ok-name-in-AssignThrough
-close_statement-returns-in_ok-name-in-AssignThrough g t c = grind (arith, says.assign_through_says)
+close_statement-returns-in_ok-name-in-AssignThrough g t c =
+    grind (arith, says.assign_through_says, lemmas.assign_through_statement_becomes)
 
 pub close_statement-returns-in_ok-close_branches-in-If :
     goal.close_statement-returns-in_ok-close_branches-in-If
-close_statement-returns-in_ok-close_branches-in-If g t c = grind (arith, says.if_says)
+close_statement-returns-in_ok-close_branches-in-If g t c =
+    grind (arith, says.if_says, lemmas.if_statement_becomes)
 
 pub close_statement-returns-in_ok-close_arms-in-Case : goal.close_statement-returns-in_ok-close_arms-in-Case
-close_statement-returns-in_ok-close_arms-in-Case g t c = grind (arith, says.case_says)
+close_statement-returns-in_ok-close_arms-in-Case g t c =
+    grind (arith, says.case_says, lemmas.case_statement_becomes)
 
 pub close_statement-returns-in_ok-close_boxed-in-Call : goal.close_statement-returns-in_ok-close_boxed-in-Call
-close_statement-returns-in_ok-close_boxed-in-Call g t c = grind (arith, says.call_says)
+close_statement-returns-in_ok-close_boxed-in-Call g t c =
+    grind (arith, says.call_says, lemmas.call_statement_becomes)
 
 pub close_statement-returns-in_ok-close_boxed-in-Return :
     goal.close_statement-returns-in_ok-close_boxed-in-Return
-close_statement-returns-in_ok-close_boxed-in-Return g t c = grind (arith, says.return_says)
+close_statement-returns-in_ok-close_boxed-in-Return g t c =
+    grind (arith, says.return_says, lemmas.return_statement_becomes)
 
 pub close_statement-returns-in_ok-close_block-in-IfElse :
     goal.close_statement-returns-in_ok-close_block-in-IfElse
@@ -140,8 +151,8 @@ close_arms-returns g t c =
 pub close_arms-close_arm-requires : goal.close_arms-close_arm-requires
 close_arms-close_arm-requires g t c κs within = (
   item_falls 2 0 1 (omega arith) (size-Arm _ _ _ _) c.deref-one-items.result.now c.args.arms.now.items
-      c.loop-one.one-index c.one-item.result t c.decreases c.deref-one-items.ensures.value c.loop-one-test.true
-      c.one-item.is,
+      c.loop-one.one-index c.one-item.result t c.decreases c.deref-one-items.ensures.value
+      c.loop-one-test.true c.one-item.is,
   within,
 )
 
