@@ -16,7 +16,7 @@ use Rattle.au_promises.specs.Agreeing.{sight_of}
 use Rattle.au_promises.specs.Defining.{AreDefinitions}
 use Rattle.au_derivations.specs.Trees.{NotedDeclaration, NotedMethod}
 use Rattle.au_bodies.specs.declared.bodies.Body as code
-use Rattle.au_bodies.specs.Bodies.{BodyOf}
+use Rattle.au_closing.specs.Bodies.{BodyOf}
 
 -- these are the definitions of the body of the module at a place, if it is there
 abbrev pub AreDefined : List ModuleParts → ℕ → Definitions → Type 0

@@ -2,7 +2,7 @@
 
 ghost use Rattle.std.specs.Prelude.{◌≡◌, IfOk, find, map};
 ghost use Rattle.std.specs.Option.{option_map};
-ghost use Rattle.au_bodies.specs.Bodies as spec;
+ghost use Rattle.au_closing.specs.Bodies as spec;
 ghost use Rattle.au_bodies.specs.Defined.{AllDefined, body_said, method_seen};
 ghost use Rattle.au_modules.specs.Slots as slots;
 ghost use Rattle.au_notes.specs.contracts.noted.NotedPhase.TheImpl.{ghosts as noted};

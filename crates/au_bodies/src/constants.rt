@@ -1,7 +1,7 @@
 //! The values of constants.
 
 ghost use Rattle.std.specs.Prelude.{◌≡◌, neg_ℤ, IfOk};
-ghost use Rattle.au_bodies.specs.Bodies as spec;
+ghost use Rattle.au_closing.specs.Bodies as spec;
 ghost use Rattle.au_bodies.specs.Defined.{AllDefined};
 ghost use Rattle.au_modules.specs.Slots as slots;
 ghost use Rattle.au_notes.specs.contracts.noted.NotedPhase.TheImpl.{ghosts as noted};

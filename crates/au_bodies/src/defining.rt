@@ -1,7 +1,7 @@
 //! Which declaration of a body defines another.
 
 ghost use Rattle.std.specs.Prelude.{◌≡◌, ◌<◌, IfOk, List, Some, length, position, slice_get};
-ghost use Rattle.au_bodies.specs.Bodies as spec;
+ghost use Rattle.au_closing.specs.Bodies as spec;
 ghost use Rattle.au_bodies.specs.Defined.{AllDefined, AreDefined, declaration_seen};
 ghost use Rattle.au_modules.specs.Programs.{ModuleParts};
 ghost use Rattle.au_modules.specs.Seen.{tree_seen};

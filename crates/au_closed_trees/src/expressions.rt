@@ -13,7 +13,7 @@ use crate::names::{copy_name, copy_names};
 use crate::notes::Callee;
 use crate::phase::ClosedTrees;
 use au_base::Memory;
-use au_copying::copy_type;
+use au_noted_copies::copy_text_of_type;
 use au_notes::Noted;
 use au_syntax::{Argument, Expr, Ident, Site};
 use std::alloc::Global;
@@ -139,7 +139,7 @@ pub fn close_expression<R: Closer>(
         }
         Expr::Typed(site, inner, text) => {
             let (site, inner) = close_operand(alloc, closer, site, inner)?;
-            Ok(Expr::Typed(site, inner, copy_type(alloc, text)?))
+            Ok(Expr::Typed(site, inner, copy_text_of_type(alloc, text)?))
         }
         Expr::If(site, test, then, otherwise) => {
             let (site, test) = close_operand(alloc, closer, site, test)?;

@@ -7,7 +7,7 @@ ghost use Rattle.au_closed_trees.specs.contracts.phase.ClosedTreesPhase.TheImpl.
 
 use crate::phase::ClosedTrees;
 use au_base::Memory;
-use au_copying::copy_type;
+use au_noted_copies::copy_text_of_type;
 use au_notes::Noted;
 use au_syntax::{Bind, BorrowNames, Ident, Renamed};
 use std::alloc::Global;
@@ -53,7 +53,7 @@ fn copy_bind(alloc: Global, one: &Bind<Noted>) -> Result<Bind<ClosedTrees>, Memo
     ensures { IfOk result (λ copy. bound closed copy ≡ bound noted one.now) }
 {
     let name = copy_renamed(alloc, &one.name)?;
-    let of = copy_type(alloc, &one.of)?;
+    let of = copy_text_of_type(alloc, &one.of)?;
     Ok(Bind { name, of })
 }
 

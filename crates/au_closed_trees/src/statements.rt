@@ -13,7 +13,7 @@ use crate::expressions::close_boxed;
 use crate::names::{copy_binds, copy_borrow_names, copy_name, copy_names};
 use crate::phase::ClosedTrees;
 use au_base::Memory;
-use au_copying::copy_type;
+use au_noted_copies::copy_text_of_type;
 use au_notes::Noted;
 use au_syntax::{Arm, Bind, Block, Branch, Expr, Ident, Stmt, TypeText};
 use std::alloc::Global;
@@ -33,7 +33,7 @@ fn close_let<R: Closer>(
         ≡ expression_renoted (R.change closer.now) (expression noted value.now)) }
 {
     let name = copy_name(alloc, name)?;
-    let of = copy_type(alloc, of)?;
+    let of = copy_text_of_type(alloc, of)?;
     let value = close_boxed(alloc, closer, value)?;
     Ok((name, of, value))
 }
@@ -107,7 +107,7 @@ fn copy_typed(
     ensures of { IfOk result (λ copy. placed closed copy.2 ≡ placed noted of.now) }
 {
     let name = copy_name(alloc, name)?;
-    let text = copy_type(alloc, text)?;
+    let text = copy_text_of_type(alloc, text)?;
     let of = copy_name(alloc, of)?;
     Ok((name, text, of))
 }

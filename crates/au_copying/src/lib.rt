@@ -11,5 +11,4 @@ mod statements;
 mod types;
 mod wholes;
 
-pub use types::copy_type;
 pub use wholes::{copy_whole, depth_of};

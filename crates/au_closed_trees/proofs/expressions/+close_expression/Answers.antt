@@ -73,8 +73,8 @@ close_expression-returns-in_ok-close_boxed-in-Binary g t c =
 pub close_expression-returns-in_ok-site-in-Not : goal.close_expression-returns-in_ok-site-in-Not
 close_expression-returns-in_ok-site-in-Not g t c = grind (arith, says.not_says, lemmas.not_becomes)
 
-pub close_expression-returns-in_ok-copy_type-in-Typed : goal.close_expression-returns-in_ok-copy_type-in-Typed
-close_expression-returns-in_ok-copy_type-in-Typed g t c = grind (arith, says.typed_says, lemmas.typed_becomes)
+pub close_expression-returns-in_ok-copy_text_of_type-in-Typed : goal.close_expression-returns-in_ok-copy_text_of_type-in-Typed
+close_expression-returns-in_ok-copy_text_of_type-in-Typed g t c = grind (arith, says.typed_says, lemmas.typed_becomes)
 
 pub close_expression-returns-in_ok-close_boxed-in-If : goal.close_expression-returns-in_ok-close_boxed-in-If
 close_expression-returns-in_ok-close_boxed-in-If g t c = grind (arith, says.if_says, lemmas.if_becomes)
