@@ -1,4 +1,0 @@
-mod CallLemmas
-mod ClosingLemmas
-mod LoopLemmas
-mod SnocLemmas

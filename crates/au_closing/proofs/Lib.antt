@@ -1,5 +1,0 @@
-mod ClosesLemmas
-mod GivenLemmas
-mod RowLemmas
-mod ShippedLemmas
-mod WalkLemmas

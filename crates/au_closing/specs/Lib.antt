@@ -1,5 +1,0 @@
-pub mod Instances
-pub mod Leading
-pub mod Bodies
-pub mod Closes
-pub mod Views
