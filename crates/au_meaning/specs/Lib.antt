@@ -6,3 +6,6 @@ pub mod Acts
 pub mod Expressions
 pub mod Statements
 pub mod Meanings
+pub mod Samples
+pub mod Shown
+pub mod Laws

@@ -182,7 +182,8 @@ module _ {I T C : Type 0} (see : View I T C) (invoke : I → List Value → Acti
         let own = length binds + names_in_block block in
         either (means_case see note name.name parts.0) (within number own (
         binds_fields number binds (fields_noted see note parts.0) parts.1
-        >> run_all (number + length binds) (with_bound (fields_noted see note parts.0) number binds scope) block))
+        >> run_all (number + length binds)
+        (with_bound (fields_noted see note parts.0) number binds scope) block))
         (run_arms (number + own) scope note rest parts)
 
   -- a body, whose names begin with a number
