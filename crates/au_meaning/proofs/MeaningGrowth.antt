@@ -4,8 +4,10 @@ use Rattle.std.proofs.Common.{◌≡◌, ℕ, zero, suc, ◌+◌, ◌-◌, ◌==
 use Rattle.au_closed_types.specs.Types.{ClosedType}
 use Rattle.au_effects.specs.Values.{root}
 use Rattle.au_effects.specs.Worlds.{nothing}
+use Rattle.au_meaning.specs.Acts.{new_names}
+use Rattle.au_meaning.specs.Names.{names_in_block}
 use Rattle.au_meaning.specs.Laws.{Continues, MoreTicksTellMore, EndingsStay, TicksAreSpent, is_over, left_in}
-use Rattle.au_meaning.specs.Meanings.{leaves_frame, enters, call_at, exit_in, seen, first_world, root_born, begun, parameters_of, mean}
+use Rattle.au_meaning.specs.Meanings.{scope_of, leaves_frame, enters, call_at, exit_in, seen, first_world, root_born, begun, parameters_of, mean}
 use Rattle.au_meaning.specs.Statements.{Flow, falls, returns}
 use Rattle.au_meaning.specs.Ticks.{Out, Action, gives, aborts, cut, no_rule}
 use Rattle.au_meaning.specs.Views.{Field, Function}
@@ -27,8 +29,10 @@ module _ {I T C : Type 0} where
       → Grows (enters invoke depth f args) (enters invoke2 more f args)
   enters_grows invoke invoke2 deeper depth more le None args = grows_stuck
   enters_grows invoke invoke2 deeper depth more le (Some f) args =
-      grows_where (length args == length f.parameters) (grows_then (grows_does (begins_continues _))
-      (grows_bind (block_grows f.view invoke invoke2 deeper depth more le _ _ f.body) leaves_grows))
+      grows_where (length args == length f.parameters) (grows_then (grows_does (begins_continues
+      (new_names f.first args (names_in_block f.body))))
+      (grows_bind (block_grows f.view invoke invoke2 deeper depth more le (f.first + length args)
+      (scope_of f) f.body) leaves_grows))
 
   module _ (functions : I → Option (Function I T C)) where
     -- a call goes on, at each depth

@@ -133,19 +133,20 @@ module _ {I T C : Type 0} (see : View I T C) (invoke invoke2 : I → List Value 
     run_grows number scope (assign_through at r path e) = grows_stuck
     run_grows number scope (conditional at tests) = tests_grow number scope tests grows_pure
     run_grows number scope (conditional_else at tests block) =
-        tests_grow number scope tests (within_grows _ _ (all_grow
+        tests_grow number scope tests (within_grows (number + names_in_tests tests) (names_in_block block)
+        (all_grow
         (number + names_in_tests tests) scope block))
     run_grows number scope (case_of at e all) =
         grows_bind (eval_grows see invoke invoke2 deeper scope e) (λ value.
         grows_tick (grows_bind (apart_grows value) (arms_grow number scope (note_of e) all)))
     run_grows number scope (while_loop at e block) =
         while_grows (suc depth) (suc more) (omega (arith, le)) (eval_grows see invoke invoke2 deeper scope e)
-        (within_grows _ _ (all_grow number scope block))
+        (within_grows number (names_in_block block) (all_grow number scope block))
     run_grows number scope (for_loop at name first last block) =
         grows_bind (eval_grows see invoke invoke2 deeper scope first) (λ a.
         grows_bind (eval_grows see invoke invoke2 deeper scope last) (λ b.
         grows_tick (ranges_grow (suc depth) (suc more) (omega (arith, le)) (λ kind z.
-        within_grows _ _ (grows_then (holds_grows number (values.number kind z))
+        within_grows number (1 + names_in_block block) (grows_then (holds_grows number (values.number kind z))
         (all_grow (number + 1) (with_counter see number name.name first scope) block))) a b)))
     run_grows number scope (borrow_in at access x r region block stop) = grows_stuck
     run_grows number scope (borrow_typed at r t mode x block stop) = grows_stuck
@@ -168,7 +169,8 @@ module _ {I T C : Type 0} (see : View I T C) (invoke invoke2 : I → List Value 
     tests_grow number scope no_branches g = g
     tests_grow number scope (branches e block rest) g =
         grows_bind (eval_grows see invoke invoke2 deeper scope e) (λ value.
-        grows_tick (grows_chosen value (within_grows _ _ (all_grow number scope block))
+        grows_tick (grows_chosen value (within_grows number (names_in_block block)
+        (all_grow number scope block))
         (tests_grow (number + names_in_block block) scope rest g)))
 
     arms_grow : (number : ℕ) (scope : Scope) (note : T) (all : Arms Bytes T C) (parts : ℕ × List Value)
@@ -177,11 +179,12 @@ module _ {I T C : Type 0} (see : View I T C) (invoke invoke2 : I → List Value 
     arms_grow number scope note no_arms parts = grows_stuck
     arms_grow number scope note (arms at name binds block rest) parts =
         either_grows (means_case see note name.name parts.0)
-        (within_grows _ _ (grows_then (binds_grow number binds (fields_noted see note parts.0) parts.1)
+        (within_grows number (length binds + names_in_block block) (grows_then (binds_grow number binds
+        (fields_noted see note parts.0) parts.1)
         (all_grow (number + length binds) (with_bound
         (fields_noted see note parts.0) number binds scope) block)))
         (arms_grow (number + (length binds + names_in_block block)) scope note rest parts)
 
   pub block_grows : (number : ℕ) (scope : Scope) (block : Statements Bytes T C)
       → Grows (run_block see invoke depth number scope block) (run_block see invoke2 more number scope block)
-  block_grows number scope block = within_grows _ _ (all_grow number scope block)
+  block_grows number scope block = within_grows number (names_in_block block) (all_grow number scope block)
