@@ -112,14 +112,25 @@ module _ {I T C : Type 0} where
       begun_grows functions (parameters_of (functions entry))
       (call_grows functions (suc n) (suc (n + j)) (omega arith) entry)
 
+  -- what a run comes to that has so many ticks
+  abbrev ran : (I → Option (Function I T C)) → I → List ℕ → ℕ → Out Value
+  ran functions entry input n =
+      begun (parameters_of (functions entry)) (call_at functions (suc n) entry) (first_world input) n
+
+  ran_more : (functions : I → Option (Function I T C)) (entry : I) (input : List ℕ) (n j : ℕ)
+      → More j (ran functions entry input n) (ran functions entry input (n + j))
+  ran_more functions entry input n j = (mean_grows functions entry n j).more (first_world input) n j
+
   pub more_tells : MoreTicksTellMore I T C
   more_tells functions entry input n j =
-      seen_continues n (n + j) _ _ (more_continues j _ _ ((mean_grows functions entry n j).more
-      (first_world input) n j))
+      seen_continues n (n + j) (ran functions entry input n) (ran functions entry input (n + j))
+      (more_continues j (ran functions entry input n) (ran functions entry input (n + j))
+      (ran_more functions entry input n j))
 
   pub endings_stay : EndingsStay I T C
   endings_stay functions entry input n j done =
-      seen_stays n j _ _ ((mean_grows functions entry n j).more (first_world input) n j) done
+      seen_stays n j (ran functions entry input n) (ran functions entry input (n + j))
+      (ran_more functions entry input n j) done
 
   pub ticks_are_spent : TicksAreSpent I T C
   ticks_are_spent functions depth one args world n =
