@@ -1,13 +1,11 @@
 -- What is done to the world goes on from it.
-use Rattle.std.proofs.Common.{◌≡◌, ℕ, zero, suc, ◌+◌, Bool, true, false, List, [], ◌∷◌, ◌++◌, length, Option, Some, None, refl}
+use Rattle.std.proofs.Common.{ℕ, zero, suc, ◌+◌, Bool, true, false, List, [], ◌∷◌, length, Option, Some, None, refl}
 use Rattle.au_closed_types.specs.Types.{ClosedType}
-use Rattle.au_effects.specs.Places.{exchanged}
 use Rattle.au_effects.specs.Values.{made}
 use Rattle.au_effects.specs.Worlds.{nothing, bears, spends}
 use Rattle.au_syntax.specs.Plain.{Bytes}
 use Rattle.au_meaning.specs.Acts.{in_store, with_value, with_values, place_of, looks, moves, holds, stored, sets, emptied, begins, ends_frame, makes_value, apart}
 use Rattle.au_meaning.specs.Laws.{Continues}
-use Rattle.au_meaning.specs.Ticks.{Action}
 use Rattle.au_meaning.specs.Worlds.{Value, Store, World}
 use Rattle.au_meaning.proofs.Growing.{begins_refl, continues_refl, continues_trans, Found, Grows, grows_bind, grows_then, grows_pure, grows_stuck, grows_asks, grows_does, grows_takes}
 use Rattle.au_meaning.proofs.CallGrowth.{Kept, PairKept, exchanged_kept, kept_bears, kept_spends}
@@ -65,7 +63,7 @@ makes_grows true of tag home fields =
     store_continues w _ (kept_bears of home nothing w.store))) grows_pure)
 
 pub apart_grows : (value : Value) → Grows (apart value) (apart value)
-apart_grows (made tag birth fields) =
+apart_grows (made tag birth held) =
     grows_then (grows_does {change = λ world. in_store (spends birth world.store) world} (λ w.
     store_continues w _ (kept_spends birth w.store))) grows_pure
 apart_grows other = grows_stuck

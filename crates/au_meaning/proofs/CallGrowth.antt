@@ -1,25 +1,24 @@
 -- Shipped calls go on from the events that were told before them.
-use Rattle.std.proofs.Common.{◌≡◌, ℕ, ◌+◌, ◌≤◌, Bool, true, false, List, [], ◌∷◌, ◌++◌, Option, Some, None, refl, if◌then◌else◌}
+use Rattle.std.proofs.Common.{ℕ, ◌+◌, ◌≤◌, Bool, true, false, List, [], ◌∷◌, ◌++◌, Option, Some, None, refl, if◌then◌else◌}
 use Rattle.std.proofs.Math.Nat.{le_refl}
 use Rattle.au_closed_types.specs.Types.{ClosedType}
 use Rattle.au_effects.specs.Answers as answer
 use Rattle.au_effects.specs.Answers.{Answer}
-use Rattle.au_effects.specs.Calls.{with_elements, reference_in, root_in, box_in, buffer_in, terminal_in, elements_in, natural_in, index_in, untyped, given, of_none, of_one, of_two, of_three, use_of, buffer_use, last_taken, element_copied, element_replaced, buffer_ended, print_text, print_number, print_truth, span_length, abort_call, surrender_root, release_terminal, swap_call, make_box, unbox_call, box_get, make_empty, destroy_empty, length_call, insert_back, remove_back, nth_call, replace_nth, acquire_terminal, write_byte, read_byte, byte_read, shipped}
+use Rattle.au_effects.specs.Calls.{with_elements, reference_in, root_in, box_in, buffer_in, terminal_in, elements_in, natural_in, index_in, untyped, given, of_none, of_one, of_two, of_three, use_of, buffer_use, last_taken, element_copied, element_replaced, buffer_ended, print_text, print_number, print_truth, span_length, abort_call, surrender_root, release_terminal, swap_call, make_box, unbox_call, box_get, destroy_empty, length_call, insert_back, remove_back, nth_call, replace_nth, acquire_terminal, write_byte, read_byte, byte_read, shipped}
 use Rattle.au_effects.specs.Numbers.{number_in, number_of, truth_in, text_in, number_bytes, truth_bytes}
 use Rattle.au_base.specs.declared.kinds.IntKind.TheVariants.{Nat8, Index}
 use Rattle.std.specs.Prelude.{◌-◌, length, pos, codes, slice_get}
 use Rattle.au_effects.specs.Parts.{along, part}
 use Rattle.au_effects.specs.Places.{at, content_in, base_at, base_set, set_over, exchanged}
 use Rattle.au_effects.specs.Values.{Base, Place, name_of, content_of, number, unit}
-use Rattle.au_effects.specs.Worlds.{Deed, Held, nothing, content, elements, used, tells, bears, ends, spends}
+use Rattle.au_effects.specs.Worlds.{Held, nothing, content, elements, used, tells, bears, ends, spends}
 use Rattle.au_shipped.specs.declared.prims.ShippedCall.{ShippedCall}
 use Rattle.au_shipped.specs.declared.prims.ShippedCall.TheVariants as prim
 use Rattle.au_syntax.specs.Plain.{Bytes}
 use Rattle.au_meaning.specs.Acts.{answered, heard, told, next_byte, other_bytes, shipped_by, operation, ships_call}
 use Rattle.au_meaning.specs.Laws.{Begins, Ends, Continues, left_in}
-use Rattle.au_meaning.specs.Ticks.{Action}
 use Rattle.au_meaning.specs.Worlds.{Value, Event, Fault, Store, World}
-use Rattle.au_meaning.proofs.Growing.{begins_refl, begins_trans, continues_refl, continues_trans, world_in, Proper, More, Grows, grows_comes}
+use Rattle.au_meaning.proofs.Growing.{begins_refl, begins_trans, continues_refl, continues_trans, world_in, More, Grows, grows_comes}
 
 -- ---- stores
 

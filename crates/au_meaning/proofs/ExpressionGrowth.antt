@@ -1,5 +1,5 @@
 -- Expressions: each clause is that of the meaning, with the lemma of each action in its place.
-use Rattle.std.proofs.Common.{◌≡◌, ℕ, Bool, true, false, List, [], ◌∷◌, Option, Some, None, ℤ, neg_ℤ}
+use Rattle.std.proofs.Common.{ℕ, Bool, true, false, List, [], ◌∷◌, Option, Some, None, ℤ, neg_ℤ}
 use Rattle.au_base.specs.declared.kinds.IntKind.{IntKind}
 use Rattle.au_effects.specs.Numbers.{computed, compared, negated}
 use Rattle.au_ints.specs.Ranges.{is_of_kind}

@@ -1,5 +1,5 @@
 -- What holds of every run.
-use Rattle.std.specs.Prelude.{◌≡◌, ℕ, zero, ◌+◌, ◌≤◌, Bool, true, false, List, ◌++◌, Option}
+use Rattle.std.specs.Prelude.{◌≡◌, ℕ, ◌+◌, ◌≤◌, Bool, true, false, List, ◌++◌, Option}
 use Rattle.au_meaning.specs.Meanings.{call_at, mean}
 use Rattle.au_meaning.specs.Ticks.{Out, gives, aborts, cut, no_rule}
 use Rattle.au_meaning.specs.Views.{Function}

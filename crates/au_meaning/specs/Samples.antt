@@ -1,5 +1,5 @@
 -- A few declarations, and noted trees over them, from which programs are made that show the meaning.
-use Rattle.std.specs.Prelude.{ℕ, Bool, true, false, List, [], ◌∷◌, ◌++◌, map, Option, Some, None, ℤ, pos, ◌+◌, ◌==◌, ◌&&◌, take, slice_get, unwrap_or, option_map, option_and_then, codes, if◌then◌else◌}
+use Rattle.std.specs.Prelude.{ℕ, Bool, true, false, List, [], ◌∷◌, map, Option, Some, None, pos, ◌+◌, ◌==◌, ◌&&◌, take, slice_get, unwrap_or, option_map, option_and_then, codes, if◌then◌else◌}
 use Rattle.std.specs.List.{find}
 use Rattle.std.specs.Option.{option_or}
 use Rattle.std.specs.Str.{bytes_eq}
@@ -17,7 +17,6 @@ use Rattle.au_matching.specs.Substituted.{substituted}
 use Rattle.au_shipped.specs.Calls.{found}
 use Rattle.au_shipped.specs.declared.prims.ShippedCall.{ShippedCall}
 use Rattle.au_shipped.specs.declared.prims.ShippedCall.TheVariants as prim
-use Rattle.au_syntax.specs.declared.expressions.Literal.{Literal}
 use Rattle.au_syntax.specs.declared.expressions.BinaryOperator.{BinaryOperator}
 use Rattle.au_syntax.specs.declared.statements.Binding.TheVariants.{Var}
 use Rattle.au_syntax.specs.Expressions.{Node, Expression, Expressions, number, path, call, binary, expressions, no_expressions}
@@ -29,8 +28,8 @@ use Rattle.au_types.specs.declared.types.DeclAt.{DeclAt}
 use Rattle.au_types.specs.Types.{Meaning, Argument, unit, truth, integer, text, parameter, of_type, in_region, arguments, no_arguments}
 use Rattle.au_types.specs.Types as mean_type
 use Rattle.au_meaning.specs.Meanings.{mean}
-use Rattle.au_meaning.specs.Views.{Field, Act, Callee, View, Function, invokes, makes, ships}
-use Rattle.au_meaning.specs.Worlds.{Value, Event, Ending, Outcome}
+use Rattle.au_meaning.specs.Views.{Field, Callee, View, Function, invokes, makes, ships}
+use Rattle.au_meaning.specs.Worlds.{Event, Ending, Outcome}
 
 -- ---- notes
 

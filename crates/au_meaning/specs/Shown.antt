@@ -1,14 +1,13 @@
 -- Small programs, and what is told of each: its output, its events, its ticks and its ending.
-use Rattle.std.specs.Prelude.{◌≡◌, ℕ, Bool, true, false, List, [], ◌∷◌, ◌++◌, Some, None, pos, codes}
+use Rattle.std.specs.Prelude.{◌≡◌, ℕ, Bool, true, false, List, [], ◌∷◌, ◌++◌, Some, pos, codes}
 use Rattle.std.specs.Fmt.{signed_decimal}
 use Rattle.au_closed_types.specs.Types as closed_type
 use Rattle.au_effects.specs.Answers.{arithmetic, called}
 use Rattle.au_effects.specs.Worlds.{born, consumed}
 use Rattle.au_syntax.specs.declared.expressions.BinaryOperator.TheVariants.{Add, Subtract, Less, And, Or}
-use Rattle.au_syntax.specs.declared.statements.Binding.TheVariants.{Let}
 use Rattle.au_syntax.specs.Expressions.{text, truth, nil, path, named_call, arguments, no_arguments, negation, choice}
 use Rattle.au_syntax.specs.Plain.{Bytes}
-use Rattle.au_syntax.specs.Statements.{Statement, skip, declare, destructure, assign, conditional_else, case_of, while_loop, for_loop, discard, return_of, branches, no_branches, arms, no_arms}
+use Rattle.au_syntax.specs.Statements.{Statement, skip, destructure, assign, conditional_else, case_of, while_loop, for_loop, discard, return_of, branches, no_branches, arms, no_arms}
 use Rattle.au_syntax.specs.Types as written
 use Rattle.au_syntax.specs.Types.{Bound}
 use Rattle.au_types.specs.Types as type
