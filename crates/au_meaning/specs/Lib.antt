@@ -1,0 +1,11 @@
+pub mod Worlds
+pub mod Ticks
+pub mod Views
+pub mod Names
+pub mod Acts
+pub mod Expressions
+pub mod Statements
+pub mod Meanings
+pub mod Samples
+pub mod Shown
+pub mod Laws
