@@ -1,5 +1,6 @@
 //! Runs a program of lowered code, which is written by hand, on the machine, and prints what it wrote and how
-//! it ended. The word of the command line names the program; without a word it is a short one.
+//! it ended. The word of the command line names the program; without a word it is a short one. Short programs
+//! keep their events.
 #![tactic(auto)]
 
 mod buffers;
@@ -37,39 +38,42 @@ fn main(rt: HostRuntime) -> io::Result<()> {
 
 /// Runs a program, and prints what it wrote and how it ended.
 fn show(rt: HostRuntime, program: Program) -> io::Result<()> {
-    match run(rt.alloc(), program) {
-        Ok((sink, end)) => {
-            rt.stdout().write_all(sink.written())?;
-            println!(rt; "{}", word_of(end))
-        }
+    match MemorySink::new(rt.alloc(), MOST_BYTES, Vec::new(rt.alloc())) {
+        Ok(sink) => show_run(rt, program, sink),
         Err(Memory) => println!(rt; "memory"),
     }
 }
 
-/// What a program writes, and how it ends.
-fn run(alloc: Global, program: Program) -> Result<(MemorySink, End), Memory> {
-    let code = program.code(alloc)?;
-    run_code(alloc, &code)
+/// The same, on an empty sink. Where memory runs out, a front of what the program writes is printed.
+fn show_run(rt: HostRuntime, program: Program, mut sink: MemorySink) -> io::Result<()> {
+    let end = run(rt.alloc(), program, &mut sink);
+    rt.stdout().write_all(sink.written())?;
+    println!(rt; "{}", word_of(end))
 }
 
-/// What a run of code writes, and how it ends.
-fn run_code(alloc: Global, code: &Code) -> Result<(MemorySink, End), Memory> {
-    let mut machine = Machine::load(alloc, code, false)?;
+/// How a program ends that writes on a sink.
+fn run(alloc: Global, program: Program, sink: &mut MemorySink) -> Result<End, Memory> {
+    let code = program.code(alloc)?;
+    run_code(alloc, &code, program.is_short(), sink)
+}
+
+/// How a run of code ends that writes on a sink.
+fn run_code(alloc: Global, code: &Code, keep: bool, sink: &mut MemorySink) -> Result<End, Memory> {
+    let mut machine = Machine::load(alloc, code, keep)?;
     let mut input = MemorySource::new(Vec::new(alloc), Vec::new(alloc));
-    let mut sink = MemorySink::new(alloc, MOST_BYTES, Vec::new(alloc))?;
-    let end = machine.run(alloc, MOST_STEPS, &mut input, &mut sink)?;
-    Ok((sink, end))
+    machine.run(alloc, MOST_STEPS, &mut input, sink)
 }
 
 /// The word for an end.
-fn word_of(end: End) -> &'static str {
+fn word_of(end: Result<End, Memory>) -> &'static str {
     match end {
-        End::Exit(true) => "success",
-        End::Exit(false) => "failure",
-        End::Abort(_) => "abort",
-        End::Steps => "steps",
-        End::Stuck => "stuck",
-        End::ReadFault => "read fault",
-        End::WriteFault => "write fault",
+        Ok(End::Exit(true)) => "success",
+        Ok(End::Exit(false)) => "failure",
+        Ok(End::Abort(_)) => "abort",
+        Ok(End::Steps) => "steps",
+        Ok(End::Stuck) => "stuck",
+        Ok(End::ReadFault) => "read fault",
+        Ok(End::WriteFault) => "write fault",
+        Err(Memory) => "memory",
     }
 }

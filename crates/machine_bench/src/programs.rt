@@ -13,6 +13,10 @@ use std::alloc::Global;
 pub enum Program {
     /// The fifth Fibonacci number.
     Short,
+    /// Three nested records.
+    ShortRecords,
+    /// A buffer of three elements.
+    ShortBuffer,
     /// The thirtieth Fibonacci number, by recursion.
     Fib,
     /// The sum of the numbers up to ten million.
@@ -27,12 +31,22 @@ impl Program {
     /// The program of this name.
     pub fn named(word: &str) -> Option<Program> {
         match word {
+            "short-records" => Some(Program::ShortRecords),
+            "short-buffer" => Some(Program::ShortBuffer),
             "fib" => Some(Program::Fib),
             "sum" => Some(Program::Sum),
             "records" => Some(Program::Records),
             "buffer" => Some(Program::Buffer),
             _ => None,
         }
+    }
+
+    /// Whether it is a short one.
+    pub fn is_short(self) -> bool {
+        matches!(
+            self,
+            Program::Short | Program::ShortRecords | Program::ShortBuffer
+        )
     }
 
     /// Its lowered code.
@@ -43,6 +57,8 @@ impl Program {
     pub fn code(self, alloc: Global) -> Result<Code, Memory> {
         match self {
             Program::Short => fibonacci(alloc, 5),
+            Program::ShortRecords => records(alloc, 3),
+            Program::ShortBuffer => buffer(alloc, 3),
             Program::Fib => fibonacci(alloc, 30),
             Program::Sum => sum(alloc, 10_000_000),
             Program::Records => records(alloc, 1_000_000),
