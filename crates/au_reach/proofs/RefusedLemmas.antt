@@ -47,7 +47,7 @@ module _ {A W : Type 0} (same : A → A → Bool) (over : A → Option W) (full 
 
         go_on : (m : List A) → put_within same over full most (has same ks x) ks x ≡ Ok m
             → ((l f : List A) → IsWithin same over most m → m ≡ looked ++ l → starts ++ all_next next looked ≡ f ++ (xs ++ behind) → m ≡ adds same [] f
-                → ((y : A) → Has same m y → Reached same next starts y) → ((y : A) → Has same xs y → Reached same next starts y) → Refused same over full most next starts w)
+            → ((y : A) → Has same m y → Reached same next starts y) → ((y : A) → Has same xs y → Reached same next starts y) → Refused same over full most next starts w)
             → Refused same over full most next starts w
         go_on m put more =
             let one = put_is same over full most tells (has same ks x) ks x m put fine in
