@@ -1,0 +1,8 @@
+use Rattle.std.proofs.Common.{◌≡◌, ◌++◌, take}
+use Rattle.std.specs.List.{flat_map}
+use Rattle.au_explain.specs.Lines.{variable_text}
+use Rattle.au_explain.proofs.lines.add_variables.Given as goal
+
+-- the variables so far
+abbrev pub invariant-loop-one : goal.invariant-loop-one
+invariant-loop-one l = l.text.items ≡ l.fn.text.items ++ flat_map variable_text (take l.one-index l.all)
