@@ -1,0 +1,4 @@
+pub mod Touches
+pub mod Dealings
+pub mod Absent
+pub mod Examples
