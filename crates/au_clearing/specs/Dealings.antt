@@ -59,12 +59,16 @@ turns d = dealing (kept d.touch) true false d.spared
 abbrev pub lend : Access → Dealing → Dealing
 lend access d = dealing (lent access d.touch) d.lives d.spends d.spared
 
+-- a borrow statement, by whether it is on the variable
+abbrev pub lend_by : Bool → Access → Hold → Dealing → Dealing
+lend_by named access hidden d = d
+lend_by named access unlent d = if named then lend access d else d
+lend_by named access read_lent d = if named then lend access d else d
+lend_by named access write_lent d = if named then lend access d else d
+
 -- a borrow statement on the variable of a name
 abbrev pub lend_named : Bytes → Bytes → Access → Hold → Dealing → Dealing
-lend_named x y access hidden d = d
-lend_named x y access unlent d = if bytes_eq y x then lend access d else d
-lend_named x y access read_lent d = if bytes_eq y x then lend access d else d
-lend_named x y access write_lent d = if bytes_eq y x then lend access d else d
+lend_named x y access h d = lend_by (bytes_eq y x) access h d
 
 abbrev mutual
   -- how many returns there are

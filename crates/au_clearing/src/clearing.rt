@@ -1,9 +1,8 @@
 //! Which lives of a body are shown to be good by one walk.
 
-ghost use Rattle.std.specs.Prelude.{◌≡◌, ◌&&◌, map, reverse, IfOk, IsTrue, Bool};
+ghost use Rattle.std.specs.Prelude.{◌≡◌, map, reverse, IfOk, OnOk, IsTrue};
 ghost use Rattle.au_syntax.specs.Plain.{PlainStatements};
-ghost use Rattle.au_lives.specs.Lives as lives;
-ghost use Rattle.au_lives.specs.Lives.{GoodLife};
+ghost use Rattle.au_lives.specs.Lives.{GoodLife, is_free};
 ghost use Rattle.au_lives.specs.Scopes.{Scope, scope, scopes_of};
 ghost use Rattle.au_clearing.specs.Dealings as spec;
 ghost use Rattle.au_clearing.specs.Dealings.{by_type, is_spent, life_of};
@@ -27,7 +26,7 @@ fn pile_parameters<P: Phase>(
     deals: &Deals,
 ) -> Result<(), Memory>
     ensures { (b : PlainStatements) → SumsBlock deals.now b
-        → Rattle.std.specs.Prelude.OnOk result
+        → OnOk result
         (Piles (map (λ parameter. scope parameter.name b) (seen_parameters P.Phase parameters.now.items))
         pile_of.old.items pile_of.new.items) }
 {
@@ -69,7 +68,7 @@ fn is_spent(returns: u64, one: Dealing) -> bool
 
 /// Whether a dealing of the whole scope of a variable clears it, by what its type asks for.
 fn is_cleared(sort: Sort, life: Life) -> bool
-    ensures { result ≡ spec.clears sort life.returns (by_type (lives.is_free sort) life.dealings) }
+    ensures { result ≡ spec.clears sort life.returns (by_type (is_free sort) life.dealings) }
 {
     let owned = life.dealings.owned;
     match sort {

@@ -1,7 +1,7 @@
 //! What an expression does to the variables that it mentions.
 
-ghost use Rattle.std.specs.Prelude.{◌≡◌, ◌||◌, Bool, [], IfOk, OnOk};
-ghost use Rattle.au_lives.specs.Lives.{Hold};
+ghost use Rattle.std.specs.Prelude.{◌≡◌, ◌||◌, Bool, false, IfOk, OnOk};
+ghost use Rattle.au_syntax.specs.Plain.{Bytes};
 ghost use Rattle.au_lives.specs.Mentions as mentions;
 ghost use Rattle.au_clearing.specs.Seen.{seen_name, seen_expression, seen_expressions, seen_arguments};
 ghost use Rattle.au_clearing.specs.Tables.{find};
@@ -208,7 +208,7 @@ fn touch_argument<P: Phase>(
 ///
 /// `Memory` when memory runs out.
 pub(crate) fn touches_of<P: Phase>(alloc: Global, e: &Expr<P>) -> Result<Table<Touches>, Memory>
-    ensures { IfOk result (λ table. (x : Rattle.au_syntax.specs.Plain.Bytes) (free : Bool)
+    ensures { IfOk result (λ table. (x : Bytes) (free : Bool)
         → touch_in table x free ≡ spec.touched x free false (seen_expression P.Phase e.now)) }
 {
     let mut table = Table::new(alloc);
@@ -226,7 +226,7 @@ pub(crate) fn touch_of_name<P: Phase>(
     name: &Ident<P>,
     touch: Touch,
 ) -> Result<Table<Touches>, Memory>
-    ensures { IfOk result (λ table. (x : Rattle.au_syntax.specs.Plain.Bytes) (free : Bool)
+    ensures { IfOk result (λ table. (x : Bytes) (free : Bool)
         → touch_in table x free ≡ spec.where_named x (seen_name P.Phase name.now).name touch) }
 {
     let mut table = Table::new(alloc);

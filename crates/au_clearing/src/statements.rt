@@ -1,9 +1,9 @@
 //! How statements deal with variables.
 
-ghost use Rattle.std.specs.Prelude.{◌≡◌, ◌++◌, ◌∷◌, Bool, IfOk, OnOk};
+ghost use Rattle.std.specs.Prelude.{◌≡◌, ◌++◌, ◌∷◌, [], Bool, IfOk, OnOk};
 ghost use Rattle.au_syntax.specs.Plain.{Bytes, PlainStatements};
 ghost use Rattle.au_lives.specs.Lives.{Hold, held_from};
-ghost use Rattle.au_lives.specs.Paths.{declared_by, bound_names};
+ghost use Rattle.au_lives.specs.Paths.{access_of, declared, declared_by, lent, bound_names};
 ghost use Rattle.au_lives.specs.Scopes.{scope, scopes, scopes_after, scopes_inside, scopes_of_branches, scopes_of_arms, bound_over};
 ghost use Rattle.au_syntax.specs.Statements.{statements, case_of, while_loop, for_loop, borrow_in};
 ghost use Rattle.au_clearing.specs.Touches.{touched_at};
@@ -11,7 +11,7 @@ ghost use Rattle.au_clearing.specs.Touches as touches;
 ghost use Rattle.au_clearing.specs.Dealings as spec;
 ghost use Rattle.au_clearing.specs.Dealings.{sum, cased, deal, deal_block, deal_branches, deal_arms, lend_named, returns_in, returns_in_block, returns_in_branches, returns_in_arms};
 ghost use Rattle.au_clearing.specs.Seen.{seen_name, seen_expression, seen_binds, seen_statement, seen_block, seen_branches, seen_arms};
-ghost use Rattle.au_clearing.specs.Deals.{seen_at, Sums, SumsBlock, Piles};
+ghost use Rattle.au_clearing.specs.Deals.{kept_if, seen_at, Sums, SumsBlock, Piles};
 
 use crate::combining::{chained, forked, met, turned};
 use crate::dealings::Life;
@@ -27,7 +27,7 @@ use std::alloc::Global;
 
 /// How `&`, `&!` and `&~` lend.
 fn access_of(mode: BorrowMode) -> Access
-    ensures { result ≡ Rattle.au_lives.specs.Paths.access_of mode }
+    ensures { result ≡ access_of mode }
 {
     match mode {
         BorrowMode::Read => Access::Read,
@@ -42,7 +42,7 @@ fn meets<P: Phase>(alloc: Global, in_loop: bool, e: &Expr<P>, other: Deals) -> R
         → seen_at d x free h
         ≡ spec.chain other.returns
         (spec.once
-        (Rattle.au_clearing.specs.Deals.kept_if in_loop
+        (kept_if in_loop
         (touched_at x free h (seen_expression P.Phase e.now))))
         (seen_at other x free h)) }
     ensures returns { IfOk result (λ d. d.returns ≡ other.returns) }
@@ -199,7 +199,7 @@ fn deals_of_turns<P: Phase>(
 ) -> Result<Deals, Memory>
     ensures seen { IfOk result (λ d. Sums d
         (λ x free h. spec.turns (deal_block x free (seen_block P.Phase block.now)
-        (held_from x (Rattle.au_lives.specs.Paths.declared (seen_name P.Phase name.now).name ∷ []) h)))
+        (held_from x (declared (seen_name P.Phase name.now).name ∷ []) h)))
         (returns_in_block (seen_block P.Phase block.now))) }
     ensures piles { OnOk result
         (Piles
@@ -225,8 +225,8 @@ fn deals_of_loan<P: Phase>(
     ensures seen { IfOk result (λ d. Sums d
         (λ x free h. lend_named x (seen_name P.Phase variable.now).name access h
         (deal_block x free (seen_block P.Phase block.now)
-        (held_from x (Rattle.au_lives.specs.Paths.declared (seen_name P.Phase reference.now).name
-        ∷ Rattle.au_lives.specs.Paths.lent access (seen_name P.Phase variable.now).name ∷ []) h)))
+        (held_from x (declared (seen_name P.Phase reference.now).name
+        ∷ lent access (seen_name P.Phase variable.now).name ∷ []) h)))
         (returns_in_block (seen_block P.Phase block.now))) }
     ensures piles { OnOk result
         (Piles

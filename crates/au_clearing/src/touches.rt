@@ -5,6 +5,7 @@ ghost use Rattle.au_syntax.specs.Views.{placed};
 ghost use Rattle.au_syntax.specs.Plain.{plain_name};
 ghost use Rattle.au_clearing.specs.Touches as spec;
 ghost use Rattle.au_clearing.specs.Touches.{alone};
+ghost use Rattle.au_clearing.specs.Dealings.{is_whole};
 
 use au_syntax::{Access, BorrowMode, Ident, Phase};
 
@@ -105,7 +106,7 @@ pub(crate) fn lent(access: Access, touch: Touch) -> Touch
 
 /// Whether no step breaks the life of the variable.
 pub(crate) fn is_whole(touch: Touch) -> bool
-    ensures { result ≡ Rattle.au_clearing.specs.Dealings.is_whole touch }
+    ensures { result ≡ is_whole touch }
 {
     !matches!(touch, Touch::Broken)
 }

@@ -1,0 +1,10 @@
+pub mod ClearLemmas
+pub mod CombiningLemmas
+pub mod DealingLemmas
+pub mod GoingLemmas
+pub mod KeepingLemmas
+pub mod MentionLemmas
+pub mod SumLemmas
+pub mod TableLemmas
+pub mod TouchLemmas
+pub mod WalkLemmas
