@@ -1,6 +1,7 @@
 //! How a part of a body deals with a variable, on all its paths together.
 
-ghost use Rattle.std.specs.Prelude.{◌≡◌, Bool, IsTrue};
+ghost use Rattle.std.specs.Prelude.{◌≡◌, Bool, IsTrue, false, if◌then◌else◌};
+ghost use Rattle.au_clearing.specs.declared.touches.Touch.TheVariants.{Untouched};
 ghost use Rattle.au_clearing.specs.Dealings as spec;
 ghost use Rattle.au_clearing.specs.Dealings.{dealing, by_type, sum};
 
@@ -62,6 +63,27 @@ pub(crate) fn never() -> Dealing
     }
 }
 
+/// Whether a part touches no variable, and spends and spares nothing.
+fn is_bare(one: Dealing) -> bool
+    ensures { IsTrue result → one ≡ dealing Untouched one.lives false 0 }
+{
+    !one.spends && one.spared == 0 && matches!(one.touch, Touch::Untouched)
+}
+
+/// Whether it is no step.
+pub(crate) fn is_nothing(one: Dealing) -> bool
+    ensures { IsTrue result → one ≡ spec.nothing }
+{
+    one.lives && is_bare(one)
+}
+
+/// Whether it is no path.
+pub(crate) fn is_never(one: Dealing) -> bool
+    ensures { IsTrue result → one ≡ spec.never }
+{
+    !one.lives && is_bare(one)
+}
+
 /// One step.
 pub(crate) fn once(touch: Touch) -> Dealing
     ensures { result ≡ spec.once touch }
@@ -86,11 +108,18 @@ pub(crate) fn sum(one: u64, other: u64) -> u64
     }
 }
 
+/// How many returns of a part are spared behind another, which may leave the variable alive or not.
+fn spared_behind(lives: bool, spared: u64, returns: u64) -> u64
+    ensures { result ≡ (if lives then spared else returns) }
+{
+    if lives { spared } else { returns }
+}
+
 /// One part, and then another that has so many returns.
 pub(crate) fn chain(returns: u64, one: Dealing, other: Dealing) -> Dealing
     ensures { result ≡ spec.chain returns one other }
 {
-    let spared = if one.lives { other.spared } else { returns };
+    let spared = spared_behind(one.lives, other.spared, returns);
     Dealing {
         touch: worse(one.touch, behind_spent(one.spends, other.touch)),
         lives: one.lives && other.lives,

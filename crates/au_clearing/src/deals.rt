@@ -11,9 +11,10 @@ ghost use Rattle.au_clearing.specs.Deals as deals;
 ghost use Rattle.au_clearing.specs.Deals.{or_alike, seen_at, Sums};
 ghost use Rattle.au_clearing.specs.Tables.{find};
 
-use crate::dealings::{Dealing, Dealings, chain, fork, lend_both, never, nothing, turns};
+use crate::dealings::{
+    Dealing, Dealings, chain, fork, is_never, is_nothing, lend_both, never, nothing, turns,
+};
 use crate::tables::Table;
-use crate::touches::Touch;
 use au_base::Memory;
 use au_syntax::Access;
 use std::alloc::Global;
@@ -98,12 +99,11 @@ pub(crate) fn alike(one: Dealing) -> Dealings
 pub(crate) fn is_still(way: Way, one: Dealing) -> bool
     ensures { IsTrue result → (other : Dealing) → deals.by way one other ≡ other }
 {
-    let neutral = match way {
-        Way::Chain(_) => one.lives,
-        Way::Fork => !one.lives,
+    match way {
+        Way::Chain(_) => is_nothing(one),
+        Way::Fork => is_never(one),
         Way::Turns => false,
-    };
-    neutral && !one.spends && one.spared == 0 && matches!(one.touch, Touch::Untouched)
+    }
 }
 
 /// What a table has of a name, or else what all other names have.

@@ -65,10 +65,13 @@ fn check_variable<P: Phase>(
         (seen_statements P.Phase (drop from block.now.statements.items)) ∷ [])
         tasks.now next }
 {
-    if let Task::Judge(sort) = task_at(tasks, next) {
-        judge_variable(alloc, name, sort, block, from)?;
+    match task_at(tasks, next) {
+        Task::Cleared => Ok(next_task(tasks, next)),
+        Task::Judge(sort) => {
+            judge_variable(alloc, name, sort, block, from)?;
+            Ok(next_task(tasks, next))
+        }
     }
-    Ok(next_task(tasks, next))
 }
 
 /// Whether the life of a variable that a field is bound to is good.
