@@ -2,7 +2,7 @@
 use Rattle.std.proofs.Common.{◌≡◌, ℕ, Bool, true, false, cond, List, [], ◌∷◌, Option, None, Some, refl, sym, ap, ◌∙◌, if◌then◌else◌}
 use Rattle.std.specs.Str.{bytes_eq}
 use Rattle.au_syntax.specs.declared.types.Access.{Access}
-use Rattle.au_syntax.specs.declared.types.Access.TheVariants as access
+use Rattle.au_syntax.specs.declared.types.Access.TheVariants as accesses
 use Rattle.au_syntax.specs.Plain.{Bytes}
 use Rattle.au_lives.specs.Lives.{Hold, unlent, read_lent, write_lent, hidden, tighter, held_from}
 use Rattle.au_lives.specs.Paths.{declared, lent}
@@ -294,14 +294,14 @@ pub seen_tighter : (d : Deals) (x : Bytes) (free : Bool) (access : Access) (h : 
 seen_tighter d x free access h = on access h
   where
     on : (access : Access) (h : Hold) → seen_at d x free (tighter access h) ≡ seen_at d x free h
-    on access.Read unlent = refl
-    on access.Read read_lent = refl
-    on access.Read write_lent = refl
-    on access.Read hidden = refl
-    on access.Write unlent = refl
-    on access.Write read_lent = refl
-    on access.Write write_lent = refl
-    on access.Write hidden = refl
+    on accesses.Read unlent = refl
+    on accesses.Read read_lent = refl
+    on accesses.Read write_lent = refl
+    on accesses.Read hidden = refl
+    on accesses.Write unlent = refl
+    on accesses.Write read_lent = refl
+    on accesses.Write write_lent = refl
+    on accesses.Write hidden = refl
 
 -- a borrow statement hides the name of its reference, and lends its variable
 pub loan_seen : (old new : Deals) (x reference name : Bytes) (access : Access) (free : Bool) (h : Hold) →

@@ -1,7 +1,8 @@
 -- Numbers and touches of dealings that are put together.
-use Rattle.std.proofs.Common.{◌≡◌, ℕ, zero, suc, ◌+◌, ◌≤◌, ◌<◌, Bool, true, false, ◌||◌, ◌&&◌, refl, sym, ap, ◌∙◌, arith, if◌then◌else◌}
+use Rattle.std.proofs.Common.{◌≡◌, ◌≢◌, ℕ, zero, suc, ◌+◌, ◌≤◌, ◌<◌, Bool, true, false, ◌||◌, ◌&&◌, refl, sym, ap, ◌∙◌, arith, if◌then◌else◌}
 use Rattle.au_syntax.specs.declared.types.Access.{Access}
 use Rattle.au_lives.specs.Lives.{Hold, unlent, read_lent, write_lent, hidden}
+use Rattle.au_uses.specs.Choices.{counted}
 use Rattle.au_clearing.specs.declared.touches.Touch.{Touch}
 use Rattle.au_clearing.specs.declared.touches.Touch.TheVariants.{Untouched, Quiet, Written, Consumed, Broken}
 use Rattle.au_clearing.specs.declared.dealings.Dealing.{Dealing}
@@ -12,6 +13,13 @@ use Rattle.au_clearing.proofs.TouchLemmas.{rank, two, worse_rank, behind_rank, k
 -- the most that can be counted
 abbrev pub most : ℕ
 most = 18446744073709551615
+
+pub sum_none : (m n : ℕ) → m ≡ 0 → sum m n ≡ n
+sum_none m n h = ap (λ m. sum m n) h
+
+pub sum_some : (m n : ℕ) → m ≢ 0 → sum m n ≡ counted (m + n)
+sum_some zero n h = absurd (h refl)
+sum_some (suc m) n h = refl
 
 pub sum_exact : (m n : ℕ) → sum m n < most → sum m n ≡ m + n
 sum_exact zero n h = omega arith

@@ -1,6 +1,6 @@
 -- How lists of statements, branches and arms deal with all variables, from the last to the first.
-use Rattle.std.proofs.Common.{◌≡◌, ℕ, suc, ◌+◌, ◌-◌, ◌<◌, ◌≤◌, Bool, true, false, List, [], ◌∷◌, ◌++◌, length, drop, map, reverse, get_or, append_assoc, map-append, Option, None, Some, refl, sym, ap, subst, ◌∙◌, arith, drop-cons}
-use Rattle.std.proofs.lemmas.List.{drop_all, reverse-append}
+use Rattle.std.proofs.Common.{◌≡◌, ℕ, suc, ◌+◌, ◌-◌, ◌<◌, ◌≤◌, Bool, true, false, List, [], ◌∷◌, ◌++◌, length, drop, map, reverse, get_or, append_assoc, Option, None, Some, refl, sym, ap, subst, ◌∙◌, arith, drop-cons}
+use Rattle.std.proofs.lemmas.List.{drop_all, map-append, reverse-append}
 use Rattle.au_syntax.specs.Plain.{Bytes, PlainExpression, PlainStatement, PlainStatements, PlainBranches, PlainArms}
 use Rattle.au_syntax.specs.Statements.{statements, no_statements, branches, no_branches, arms, no_arms}
 use Rattle.au_syntax.specs.Names.{Placed}
@@ -122,7 +122,8 @@ sums_branch d behind e b more other n s rest =
     (λ x free h. deal_branches x free (branches e b more) (other x free h) n h)
     (sum (returns_in_block b) behind.returns) (returns_in_branches (branches e b more) n) s
     (λ x free h. refl) refl
-    (λ x free h. same_chain total refl (same_fork refl (rest.seen x free h))) total
+    (λ x free h. same_chain {d = once (touched_at x free h e)} total refl
+    (same_fork {d = deal_block x free b h} refl (rest.seen x free h))) total
 
 -- an arm, and those behind it
 pub sums_arm : (d one behind : Deals) (w : Bytes → Bool → Hold → Dealing) (m : ℕ) (more : PlainArms) (k : ℕ)
@@ -143,6 +144,6 @@ pub sums_step : (d other : Deals) (t : Bytes → Bool → Hold → Dealing) (f :
     ((x : Bytes) (free : Bool) (h : Hold) → seen_at d x free h ≡ chain other.returns (t x free h) (seen_at other x free h)) →
     d.returns ≡ other.returns → Sums d (λ x free h. chain n (t x free h) (f x free h)) n
 sums_step d other t f n s chains same = record {
-  seen = λ x free h. chains x free h ∙ same_chain s.returns refl (s.seen x free h);
+  seen = λ x free h. chains x free h ∙ same_chain {d = t x free h} s.returns refl (s.seen x free h);
   returns = same ∙ s.returns;
 }

@@ -20,6 +20,7 @@ use au_syntax::{Block, Field, Phase};
 use std::alloc::Global;
 
 /// Puts on a pile what is known of the parameters.
+#[tactic(none)]
 fn pile_parameters<P: Phase>(
     pile_of: &mut Vec<Life>,
     parameters: &Vec<Field<P>>,
@@ -44,6 +45,7 @@ fn pile_parameters<P: Phase>(
 /// # Errors
 ///
 /// `Memory` when memory runs out.
+#[tactic(none)]
 pub fn lives<P: Phase>(
     alloc: Global,
     parameters: &Vec<Field<P>>,
@@ -60,6 +62,7 @@ pub fn lives<P: Phase>(
 }
 
 /// Whether no path ends with the variable alive, and each of so many returns is spared.
+#[tactic(none)]
 fn is_spent(returns: u64, one: Dealing) -> bool
     ensures { result ≡ is_spent returns one }
 {
@@ -67,6 +70,7 @@ fn is_spent(returns: u64, one: Dealing) -> bool
 }
 
 /// Whether a dealing of the whole scope of a variable clears it, by what its type asks for.
+#[tactic(none)]
 fn is_cleared(sort: Sort, life: Life) -> bool
     ensures { result ≡ spec.clears sort life.returns (by_type (is_free sort) life.dealings) }
 {

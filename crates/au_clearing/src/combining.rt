@@ -18,6 +18,7 @@ use au_base::Memory;
 use std::alloc::Global;
 
 /// How a second part deals with a name behind a first one that may not mention it.
+#[tactic(none)]
 fn settled(way: Way, rest: Dealing, one: &Table<Dealings>, name: &[u8], other: Dealings) -> Dealings
     ensures { settled way rest (find name.now one.now) (Some other) ≡ Some result }
 {
@@ -28,6 +29,7 @@ fn settled(way: Way, rest: Dealing, one: &Table<Dealings>, name: &[u8], other: D
 }
 
 /// The names of a second part that the first one doesn't mention, each with what both do to it.
+#[tactic(none)]
 fn settle(
     alloc: Global,
     way: Way,
@@ -48,6 +50,7 @@ fn settle(
 }
 
 /// The same, where nothing needs to be done if the first part leaves any second one as it is.
+#[tactic(none)]
 fn settle_if(
     alloc: Global,
     way: Way,
@@ -66,6 +69,7 @@ fn settle_if(
 }
 
 /// The names that a first part mentions, each with what both parts do to it.
+#[tactic(none)]
 fn absorb(
     way: Way,
     one: Table<Dealings>,
@@ -89,6 +93,7 @@ fn absorb(
 /// # Errors
 ///
 /// `Memory` when memory runs out.
+#[tactic(none)]
 fn combined(alloc: Global, way: Way, one: Deals, other: Deals) -> Result<Deals, Memory>
     ensures seen { IfOk result (λ d. (x : Bytes) (free : Bool) (h : Hold)
         → seen_at d x free h ≡ deals.by way (seen_at one x free h) (seen_at other x free h)) }
@@ -110,6 +115,7 @@ fn combined(alloc: Global, way: Way, one: Deals, other: Deals) -> Result<Deals, 
 /// # Errors
 ///
 /// `Memory` when memory runs out.
+#[tactic(none)]
 pub(crate) fn chained(alloc: Global, one: Deals, other: Deals) -> Result<Deals, Memory>
     ensures seen { IfOk result (λ d. (x : Bytes) (free : Bool) (h : Hold)
         → seen_at d x free h
@@ -125,6 +131,7 @@ pub(crate) fn chained(alloc: Global, one: Deals, other: Deals) -> Result<Deals, 
 /// # Errors
 ///
 /// `Memory` when memory runs out.
+#[tactic(none)]
 pub(crate) fn forked(alloc: Global, one: Deals, other: Deals) -> Result<Deals, Memory>
     ensures seen { IfOk result (λ d. (x : Bytes) (free : Bool) (h : Hold)
         → seen_at d x free h ≡ spec.fork (seen_at one x free h) (seen_at other x free h)) }
@@ -138,6 +145,7 @@ pub(crate) fn forked(alloc: Global, one: Deals, other: Deals) -> Result<Deals, M
 /// # Errors
 ///
 /// `Memory` when memory runs out.
+#[tactic(none)]
 pub(crate) fn turned(alloc: Global, body: Deals) -> Result<Deals, Memory>
     ensures seen { IfOk result (λ d. (x : Bytes) (free : Bool) (h : Hold)
         → seen_at d x free h ≡ spec.turns (seen_at body x free h)) }
@@ -161,6 +169,7 @@ fn kept_if(in_loop: bool, touch: Touch) -> Touch
 }
 
 /// A step, and then a part that has so many returns.
+#[tactic(none)]
 fn stepped(in_loop: bool, returns: u64, touches: Touches, other: Dealings) -> Dealings
     ensures { result ≡ deals.stepped in_loop returns touches other }
 {
@@ -173,6 +182,7 @@ fn stepped(in_loop: bool, returns: u64, touches: Touches, other: Dealings) -> De
 }
 
 /// The names that a step touches, each with what the step and the part behind it do to it.
+#[tactic(none)]
 fn absorb_step(
     in_loop: bool,
     returns: u64,
@@ -197,6 +207,7 @@ fn absorb_step(
 /// # Errors
 ///
 /// `Memory` when memory runs out.
+#[tactic(none)]
 pub(crate) fn met(in_loop: bool, touches: Table<Touches>, other: Deals) -> Result<Deals, Memory>
     ensures seen { IfOk result (λ d. (x : Bytes) (free : Bool) (h : Hold)
         → seen_at d x free h

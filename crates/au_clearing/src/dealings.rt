@@ -64,6 +64,7 @@ pub(crate) fn never() -> Dealing
 }
 
 /// Whether a part touches no variable, and spends and spares nothing.
+#[tactic(none)]
 fn is_bare(one: Dealing) -> bool
     ensures { IsTrue result → one ≡ dealing Untouched one.lives false 0 }
 {
@@ -71,6 +72,7 @@ fn is_bare(one: Dealing) -> bool
 }
 
 /// Whether it is no step.
+#[tactic(none)]
 pub(crate) fn is_nothing(one: Dealing) -> bool
     ensures { IsTrue result → one ≡ spec.nothing }
 {
@@ -78,6 +80,7 @@ pub(crate) fn is_nothing(one: Dealing) -> bool
 }
 
 /// Whether it is no path.
+#[tactic(none)]
 pub(crate) fn is_never(one: Dealing) -> bool
     ensures { IsTrue result → one ≡ spec.never }
 {
@@ -98,6 +101,7 @@ pub(crate) fn once(touch: Touch) -> Dealing
 }
 
 /// Two numbers, as far as can be counted.
+#[tactic(auto, using(crate::proofs::DealingLemmas::sum_none, crate::proofs::DealingLemmas::sum_some))]
 pub(crate) fn sum(one: u64, other: u64) -> u64
     ensures { result ≡ sum one other }
 {
@@ -165,6 +169,7 @@ fn lend(access: Access, one: Dealing) -> Dealing
 }
 
 /// The same for a type that isn't Free and for one that is.
+#[tactic(none)]
 pub(crate) fn lend_both(access: Access, one: Dealings) -> Dealings
     ensures { (free : Bool) → by_type free result ≡ spec.lend access (by_type free one) }
 {

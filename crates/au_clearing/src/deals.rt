@@ -43,6 +43,7 @@ pub struct Deals {
 }
 
 /// Those of no step.
+#[tactic(none)]
 pub(crate) fn no_step(alloc: Global) -> Deals
     ensures { Sums result (λ x free h. spec.nothing) 0 }
 {
@@ -54,6 +55,7 @@ pub(crate) fn no_step(alloc: Global) -> Deals
 }
 
 /// Those of no path, behind so many returns.
+#[tactic(none)]
 pub(crate) fn no_path(alloc: Global, returns: u64) -> Deals
     ensures { Sums result (λ x free h. spec.never) returns }
 {
@@ -96,6 +98,7 @@ pub(crate) fn alike(one: Dealing) -> Dealings
 }
 
 /// Whether a first part that deals so with a variable leaves any second part as it is.
+#[tactic(none)]
 pub(crate) fn is_still(way: Way, one: Dealing) -> bool
     ensures { IsTrue result → (other : Dealing) → deals.by way one other ≡ other }
 {
@@ -107,6 +110,7 @@ pub(crate) fn is_still(way: Way, one: Dealing) -> bool
 }
 
 /// What a table has of a name, or else what all other names have.
+#[tactic(none)]
 pub(crate) fn found_or(named: &Table<Dealings>, name: &[u8], rest: Dealing) -> Dealings
     ensures { result ≡ or_alike (find name.now named.now) rest }
 {
@@ -117,6 +121,7 @@ pub(crate) fn found_or(named: &Table<Dealings>, name: &[u8], rest: Dealing) -> D
 }
 
 /// Forgets what is known of a name: another variable has it in front of this part.
+#[tactic(none)]
 pub(crate) fn forget(deals: &mut Deals, name: &[u8])
     ensures seen { (x : Bytes) (free : Bool) (h : Hold)
         → seen_at deals.new x free h
@@ -131,6 +136,7 @@ pub(crate) fn forget(deals: &mut Deals, name: &[u8])
 /// # Errors
 ///
 /// `Memory` when memory runs out.
+#[tactic(none)]
 pub(crate) fn lend(
     alloc: Global,
     deals: &mut Deals,

@@ -16,6 +16,7 @@ use au_base::Memory;
 use au_syntax::{Bind, Ident, Phase, Stmt};
 
 /// The name of the variable that a field is bound to.
+#[tactic(none)]
 fn name_of_bind<P: Phase>(bind: &Bind<P>) -> &Ident<P>
     ensures { seen_name P.Phase result.now ≡ bound_name (seen_bind P.Phase bind.now) }
 {
@@ -30,6 +31,7 @@ fn name_of_bind<P: Phase>(bind: &Bind<P>) -> &Ident<P>
 /// # Errors
 ///
 /// `Memory` when memory runs out.
+#[tactic(none)]
 pub(crate) fn pile<P: Phase>(
     pile: &mut Vec<Life>,
     name: &Ident<P>,
@@ -51,6 +53,7 @@ pub(crate) fn pile<P: Phase>(
 /// # Errors
 ///
 /// `Memory` when memory runs out.
+#[tactic(none)]
 pub(crate) fn pile_binds<P: Phase>(
     pile_of: &mut Vec<Life>,
     binds: &Vec<Bind<P>>,
@@ -73,7 +76,7 @@ pub(crate) fn pile_binds<P: Phase>(
 /// # Errors
 ///
 /// `Memory` when memory runs out.
-#[tactic(auto, using(au_syntax::proofs::StatementLemmas::statement_steps))]
+#[tactic(none)]
 pub(crate) fn pile_declared<P: Phase>(
     pile_of: &mut Vec<Life>,
     stmt: &Stmt<P>,
@@ -102,6 +105,7 @@ pub(crate) fn pile_declared<P: Phase>(
 }
 
 /// Forgets the name of a variable that is declared in front of a part.
+#[tactic(none)]
 pub(crate) fn forget_name<P: Phase>(deals: &mut Deals, name: &Ident<P>)
     ensures seen { (x : Bytes) (free : Bool) (h : Hold)
         → seen_at deals.new x free h
@@ -112,6 +116,7 @@ pub(crate) fn forget_name<P: Phase>(deals: &mut Deals, name: &Ident<P>)
 }
 
 /// Forgets the names of variables that fields are bound to in front of a part.
+#[tactic(none)]
 pub(crate) fn forget_binds<P: Phase>(deals: &mut Deals, binds: &Vec<Bind<P>>)
     ensures seen { (x : Bytes) (free : Bool) (h : Hold)
         → seen_at deals.new x free h
@@ -124,7 +129,7 @@ pub(crate) fn forget_binds<P: Phase>(deals: &mut Deals, binds: &Vec<Bind<P>>)
 }
 
 /// Forgets the names that a statement declares in front of a part.
-#[tactic(auto, using(au_syntax::proofs::StatementLemmas::statement_steps))]
+#[tactic(none)]
 pub(crate) fn forget_declared<P: Phase>(deals: &mut Deals, stmt: &Stmt<P>)
     ensures seen { (x : Bytes) (free : Bool) (h : Hold)
         → seen_at deals.new x free h

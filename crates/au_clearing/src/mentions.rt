@@ -1,6 +1,6 @@
 //! What an expression does to the variables that it mentions.
 
-ghost use Rattle.std.specs.Prelude.{◌≡◌, ◌||◌, Bool, false, IfOk, OnOk};
+ghost use Rattle.std.specs.Prelude.{◌≡◌, ◌||◌, Bool, true, false, IfOk, OnOk};
 ghost use Rattle.au_syntax.specs.Plain.{Bytes};
 ghost use Rattle.au_lives.specs.Mentions as mentions;
 ghost use Rattle.au_clearing.specs.Seen.{seen_name, seen_expression, seen_expressions, seen_arguments};
@@ -15,6 +15,7 @@ use au_syntax::{Argument, BinaryOperator, Expr, Ident, Phase};
 use std::alloc::Global;
 
 /// What a table has of a name.
+#[tactic(none)]
 fn touches_at(table: &Table<Touches>, name: &[u8]) -> Touches
     ensures { (free : Bool) → by_touch free result ≡ touch_or_none free (find name.now table.now) }
 {
@@ -28,6 +29,7 @@ fn touches_at(table: &Table<Touches>, name: &[u8]) -> Touches
 }
 
 /// One more mention of a name in a step.
+#[tactic(none)]
 fn mention<P: Phase>(
     alloc: Global,
     table: &mut Table<Touches>,
@@ -48,6 +50,7 @@ fn mention<P: Phase>(
 }
 
 /// One more mention of a name in a step, the same for both kinds of types.
+#[tactic(none)]
 fn mention_as<P: Phase>(
     alloc: Global,
     table: &mut Table<Touches>,
@@ -100,6 +103,7 @@ fn may_skip(operator: BinaryOperator) -> bool
 /// What an expression does to the names that it mentions, by whether they are only looked at, and by whether
 /// the expression may be left out.
 #[cycle(touched)]
+#[tactic(none)]
 fn touch<P: Phase>(
     alloc: Global,
     table: &mut Table<Touches>,
@@ -133,13 +137,11 @@ fn touch<P: Phase>(
         Expr::Not(_, inner) => touch(alloc, table, looked, part, inner),
         Expr::Typed(_, inner, _) => touch(alloc, table, looked, part, inner),
         Expr::Binary(_, operator, first, second) => {
-            touch(alloc, table, looked, part, first)?;
-            touch(alloc, table, looked, part || may_skip(*operator), second)
+            let skipped = part || may_skip(*operator);
+            touch_two(alloc, table, looked, part, first, skipped, second)
         }
         Expr::If(_, test, first, second) => {
-            touch(alloc, table, looked, part, test)?;
-            touch(alloc, table, looked, true, first)?;
-            touch(alloc, table, looked, true, second)
+            touch_choice(alloc, table, looked, part, test, first, second)
         }
         Expr::Number(_, _) => Ok(()),
         Expr::Negative(_, _) => Ok(()),
@@ -149,8 +151,50 @@ fn touch<P: Phase>(
     }
 }
 
+/// What two expressions do.
+#[tactic(none)]
+#[cycle(touched)]
+fn touch_two<P: Phase>(
+    alloc: Global,
+    table: &mut Table<Touches>,
+    looked: bool,
+    part: bool,
+    first: &Expr<P>,
+    skipped: bool,
+    second: &Expr<P>,
+) -> Result<(), Memory>
+    ensures { OnOk result (Meets table.old table.new
+        (λ x free. spec.both (spec.touched x (free || looked) part (seen_expression P.Phase first.now))
+        (spec.touched x (free || looked) skipped (seen_expression P.Phase second.now)))) }
+{
+    touch(alloc, table, looked, part, first)?;
+    touch(alloc, table, looked, skipped, second)
+}
+
+/// What a test and two expressions do, of which one is left out.
+#[tactic(none)]
+#[cycle(touched)]
+fn touch_choice<P: Phase>(
+    alloc: Global,
+    table: &mut Table<Touches>,
+    looked: bool,
+    part: bool,
+    test: &Expr<P>,
+    first: &Expr<P>,
+    second: &Expr<P>,
+) -> Result<(), Memory>
+    ensures { OnOk result (Meets table.old table.new
+        (λ x free. spec.both (spec.touched x (free || looked) part (seen_expression P.Phase test.now))
+        (spec.both (spec.touched x (free || looked) true (seen_expression P.Phase first.now))
+        (spec.touched x (free || looked) true (seen_expression P.Phase second.now))))) }
+{
+    touch(alloc, table, looked, part, test)?;
+    touch_two(alloc, table, looked, true, first, true, second)
+}
+
 /// What some expressions do.
 #[cycle(touched)]
+#[tactic(none)]
 fn touch_all<P: Phase>(
     alloc: Global,
     table: &mut Table<Touches>,
@@ -170,6 +214,7 @@ fn touch_all<P: Phase>(
 
 /// What some named arguments do.
 #[cycle(touched)]
+#[tactic(none)]
 fn touch_arguments<P: Phase>(
     alloc: Global,
     table: &mut Table<Touches>,
@@ -189,6 +234,7 @@ fn touch_arguments<P: Phase>(
 
 /// What a named argument does.
 #[cycle(touched)]
+#[tactic(none)]
 fn touch_argument<P: Phase>(
     alloc: Global,
     table: &mut Table<Touches>,
@@ -207,6 +253,7 @@ fn touch_argument<P: Phase>(
 /// # Errors
 ///
 /// `Memory` when memory runs out.
+#[tactic(none)]
 pub(crate) fn touches_of<P: Phase>(alloc: Global, e: &Expr<P>) -> Result<Table<Touches>, Memory>
     ensures { IfOk result (λ table. (x : Bytes) (free : Bool)
         → touch_in table x free ≡ spec.touched x free false (seen_expression P.Phase e.now)) }
@@ -221,6 +268,7 @@ pub(crate) fn touches_of<P: Phase>(alloc: Global, e: &Expr<P>) -> Result<Table<T
 /// # Errors
 ///
 /// `Memory` when memory runs out.
+#[tactic(none)]
 pub(crate) fn touch_of_name<P: Phase>(
     alloc: Global,
     name: &Ident<P>,

@@ -5,7 +5,7 @@ ghost use Rattle.au_syntax.specs.Plain.{Bytes, PlainStatements};
 ghost use Rattle.au_lives.specs.Lives.{Hold, held_from};
 ghost use Rattle.au_lives.specs.Paths.{access_of, declared, declared_by, lent, bound_names};
 ghost use Rattle.au_lives.specs.Scopes.{scope, scopes, scopes_after, scopes_inside, scopes_of_branches, scopes_of_arms, bound_over};
-ghost use Rattle.au_syntax.specs.Statements.{statements, case_of, while_loop, for_loop, borrow_in};
+ghost use Rattle.au_syntax.specs.Statements.{statements};
 ghost use Rattle.au_clearing.specs.Touches.{touched_at};
 ghost use Rattle.au_clearing.specs.Touches as touches;
 ghost use Rattle.au_clearing.specs.Dealings as spec;
@@ -37,6 +37,7 @@ fn access_of(mode: BorrowMode) -> Access
 }
 
 /// An expression, and then a part. In a loop the expression may consume nothing.
+#[tactic(none)]
 fn meets<P: Phase>(alloc: Global, in_loop: bool, e: &Expr<P>, other: Deals) -> Result<Deals, Memory>
     ensures seen { IfOk result (λ d. (x : Bytes) (free : Bool) (h : Hold)
         → seen_at d x free h
@@ -52,6 +53,7 @@ fn meets<P: Phase>(alloc: Global, in_loop: bool, e: &Expr<P>, other: Deals) -> R
 }
 
 /// An expression alone.
+#[tactic(none)]
 fn expression<P: Phase>(alloc: Global, e: &Expr<P>) -> Result<Deals, Memory>
     ensures { IfOk result (λ d. Sums d
         (λ x free h. spec.once (touched_at x free h (seen_expression P.Phase e.now))) 0) }
@@ -61,6 +63,7 @@ fn expression<P: Phase>(alloc: Global, e: &Expr<P>) -> Result<Deals, Memory>
 }
 
 /// An expression that is assigned to a variable, its part, or what lies behind it.
+#[tactic(none)]
 fn assignment<P: Phase>(
     alloc: Global,
     e: &Expr<P>,
@@ -78,6 +81,7 @@ fn assignment<P: Phase>(
 }
 
 /// An expression that is returned.
+#[tactic(none)]
 fn giving<P: Phase>(alloc: Global, e: &Expr<P>) -> Result<Deals, Memory>
     ensures { IfOk result (λ d. Sums d
         (λ x free h. spec.chain 1 (spec.once (touched_at x free h (seen_expression P.Phase e.now)))
@@ -89,6 +93,7 @@ fn giving<P: Phase>(alloc: Global, e: &Expr<P>) -> Result<Deals, Memory>
 
 /// A statement, and then the rest of its block.
 #[cycle(deals)]
+#[tactic(none)]
 fn deals_before<P: Phase>(
     alloc: Global,
     pile_of: &mut Vec<Life>,
@@ -115,6 +120,7 @@ fn deals_before<P: Phase>(
 ///
 /// `Memory` when memory runs out.
 #[cycle(deals)]
+#[tactic(none)]
 pub(crate) fn deals_of_block<P: Phase>(
     alloc: Global,
     pile_of: &mut Vec<Life>,
@@ -135,6 +141,7 @@ pub(crate) fn deals_of_block<P: Phase>(
 
 /// How a statement deals with all variables. What is known of those that it declares inside goes on the pile.
 #[cycle(deals)]
+#[tactic(none)]
 fn deals_of<P: Phase>(
     alloc: Global,
     pile_of: &mut Vec<Life>,
@@ -156,20 +163,11 @@ fn deals_of<P: Phase>(
             let other = no_step(alloc);
             deals_of_branches(alloc, pile_of, branches, other)
         }
-        Stmt::IfElse(_, branches, block) => {
-            let other = deals_of_block(alloc, pile_of, block)?;
-            deals_of_branches(alloc, pile_of, branches, other)
-        }
+        Stmt::IfElse(_, branches, block) => deals_of_else(alloc, pile_of, branches, block),
         Stmt::Case(_, e, arms) => deals_of_case(alloc, pile_of, e, arms),
-        Stmt::While(_, e, block) => {
-            let body = deals_of_block(alloc, pile_of, block)?;
-            let turns = turned(alloc, body)?;
-            meets(alloc, true, e, turns)
-        }
+        Stmt::While(_, e, block) => deals_of_while(alloc, pile_of, e, block),
         Stmt::For(_, name, start, end, block) => {
-            let turns = deals_of_turns(alloc, pile_of, name, block)?;
-            let behind = meets(alloc, false, end, turns)?;
-            meets(alloc, false, start, behind)
+            deals_of_for(alloc, pile_of, name, start, end, block)
         }
         Stmt::Borrow(_, access, names, block, _) => {
             deals_of_loan(
@@ -189,8 +187,84 @@ fn deals_of<P: Phase>(
     }
 }
 
+/// The same for a conditional with an `else`.
+#[tactic(none)]
+#[cycle(deals)]
+fn deals_of_else<P: Phase>(
+    alloc: Global,
+    pile_of: &mut Vec<Life>,
+    branches: &Vec<Branch<P>>,
+    block: &Block<P>,
+) -> Result<Deals, Memory>
+    ensures seen { IfOk result (λ d. Sums d
+        (λ x free h. deal_branches x free (seen_branches P.Phase branches.now.items)
+        (deal_block x free (seen_block P.Phase block.now) h)
+        (returns_in_block (seen_block P.Phase block.now)) h)
+        (returns_in_branches (seen_branches P.Phase branches.now.items)
+        (returns_in_block (seen_block P.Phase block.now)))) }
+    ensures piles { OnOk result
+        (Piles
+        (scopes_of_branches (seen_branches P.Phase branches.now.items)
+        ++ scopes (seen_block P.Phase block.now)) pile_of.old.items pile_of.new.items) }
+{
+    let other = deals_of_block(alloc, pile_of, block)?;
+    deals_of_branches(alloc, pile_of, branches, other)
+}
+
+/// The same for a `while`.
+#[tactic(none)]
+#[cycle(deals)]
+fn deals_of_while<P: Phase>(
+    alloc: Global,
+    pile_of: &mut Vec<Life>,
+    e: &Expr<P>,
+    block: &Block<P>,
+) -> Result<Deals, Memory>
+    ensures seen { IfOk result (λ d. Sums d
+        (λ x free h. spec.chain (returns_in_block (seen_block P.Phase block.now))
+        (spec.once (touches.kept (touched_at x free h (seen_expression P.Phase e.now))))
+        (spec.turns (deal_block x free (seen_block P.Phase block.now) h)))
+        (returns_in_block (seen_block P.Phase block.now))) }
+    ensures piles { OnOk result
+        (Piles (scopes (seen_block P.Phase block.now)) pile_of.old.items pile_of.new.items) }
+{
+    let body = deals_of_block(alloc, pile_of, block)?;
+    let turns = turned(alloc, body)?;
+    meets(alloc, true, e, turns)
+}
+
+/// The same for a `for`.
+#[tactic(none)]
+#[cycle(deals)]
+fn deals_of_for<P: Phase>(
+    alloc: Global,
+    pile_of: &mut Vec<Life>,
+    name: &Ident<P>,
+    start: &Expr<P>,
+    end: &Expr<P>,
+    block: &Block<P>,
+) -> Result<Deals, Memory>
+    ensures seen { IfOk result (λ d. Sums d
+        (λ x free h. spec.chain (returns_in_block (seen_block P.Phase block.now))
+        (spec.once (touched_at x free h (seen_expression P.Phase start.now)))
+        (spec.chain (returns_in_block (seen_block P.Phase block.now))
+        (spec.once (touched_at x free h (seen_expression P.Phase end.now)))
+        (spec.turns (deal_block x free (seen_block P.Phase block.now)
+        (held_from x (declared (seen_name P.Phase name.now).name ∷ []) h)))))
+        (returns_in_block (seen_block P.Phase block.now))) }
+    ensures piles { OnOk result
+        (Piles
+        (scope (seen_name P.Phase name.now) (seen_block P.Phase block.now)
+        ∷ scopes (seen_block P.Phase block.now)) pile_of.old.items pile_of.new.items) }
+{
+    let turns = deals_of_turns(alloc, pile_of, name, block)?;
+    let behind = meets(alloc, false, end, turns)?;
+    meets(alloc, false, start, behind)
+}
+
 /// The same for the turns of a `for`, and its variable.
 #[cycle(deals)]
+#[tactic(none)]
 fn deals_of_turns<P: Phase>(
     alloc: Global,
     pile_of: &mut Vec<Life>,
@@ -214,6 +288,7 @@ fn deals_of_turns<P: Phase>(
 
 /// The same for a borrow statement.
 #[cycle(deals)]
+#[tactic(none)]
 fn deals_of_loan<P: Phase>(
     alloc: Global,
     pile_of: &mut Vec<Life>,
@@ -242,6 +317,7 @@ fn deals_of_loan<P: Phase>(
 
 /// The same for the branches of a conditional, and what is done where no test holds.
 #[cycle(deals)]
+#[tactic(none)]
 fn deals_of_branches<P: Phase>(
     alloc: Global,
     pile_of: &mut Vec<Life>,
@@ -267,6 +343,7 @@ fn deals_of_branches<P: Phase>(
 
 /// The same for a branch, and what is done where its test doesn't hold.
 #[cycle(deals)]
+#[tactic(none)]
 fn deals_of_branch<P: Phase>(
     alloc: Global,
     pile_of: &mut Vec<Life>,
@@ -288,6 +365,7 @@ fn deals_of_branch<P: Phase>(
 
 /// The same for a case.
 #[cycle(deals)]
+#[tactic(none)]
 fn deals_of_case<P: Phase>(
     alloc: Global,
     pile_of: &mut Vec<Life>,
@@ -312,6 +390,7 @@ fn deals_of_case<P: Phase>(
 
 /// The same for the arms of a case.
 #[cycle(deals)]
+#[tactic(none)]
 fn deals_of_arms<P: Phase>(
     alloc: Global,
     pile_of: &mut Vec<Life>,
@@ -335,6 +414,7 @@ fn deals_of_arms<P: Phase>(
 
 /// The same for an arm.
 #[cycle(deals)]
+#[tactic(none)]
 fn deals_of_arm<P: Phase>(
     alloc: Global,
     pile_of: &mut Vec<Life>,

@@ -39,6 +39,7 @@ impl<V: Drop> Table<V> {
     }
 
     /// The value of a name, if it has one.
+    #[tactic(none)]
     pub fn get(&self, name: &[u8]) -> Option<&V>
         ensures { option_copied result ≡ find name.now self.now }
     {
@@ -50,6 +51,7 @@ impl<V: Drop> Table<V> {
     /// # Errors
     ///
     /// Only for want of memory.
+    #[tactic(none)]
     pub fn put(&mut self, name: Vec<u8>, value: V) -> Result<(), Memory>
         ensures { OnOk result (Changes self.old self.new name.items (Some value)) }
     {
@@ -58,6 +60,7 @@ impl<V: Drop> Table<V> {
     }
 
     /// Takes out what a name has.
+    #[tactic(none)]
     pub fn remove(&mut self, name: &[u8])
         ensures { Changes self.old self.new name.now None }
     {
@@ -65,6 +68,7 @@ impl<V: Drop> Table<V> {
     }
 
     /// Takes out some name with its value, if there is one.
+    #[tactic(none)]
     pub fn pop(&mut self) -> Option<(Vec<u8>, V)>
         ensures none { IfNone result (self.old ≡ []) }
         ensures found { IfSome result (λ p. find p.0.items self.old ≡ Some p.1) }

@@ -124,6 +124,7 @@ pub(crate) fn borrowed(mode: BorrowMode) -> Touch
 
 /// What the name of a variable does, alone or with fields, by whether the variable is only looked at, and by
 /// whether it stands in a part that may be left out.
+#[tactic(none)]
 pub(crate) fn alone<P: Phase>(looked: bool, part: bool, fields: &Vec<Ident<P>>) -> Touch
     ensures { result
         ≡ alone looked part (map (plain_name P.name_bytes) (map (placed P.Phase) fields.now.items)) }
