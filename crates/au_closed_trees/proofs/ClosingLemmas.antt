@@ -396,10 +396,10 @@ module _ (change : Change Bytes Note (Unit {0}) ClosedNote (Callee ℕ)) where
       → block closed b' ≡ block_renoted change (block noted b)
       → statement closed (code.BorrowTyped at r' t' mode x' b' stop)
       ≡ statement_renoted change (statement noted old)
-  borrow_typed_closed old at r r' t t' mode x x' b b' stop is name text variable same =
+  borrow_typed_closed old at r r' t t' mode x x' b b' stop is name says variable same =
       borrow_typed_says closed at r' t' mode x' b' stop
       ∙ ap (λ m. borrow_typed at m (written t') mode (placed closed x') (block closed b') stop) name
-      ∙ ap (λ w. borrow_typed at (placed noted r) w mode (placed closed x') (block closed b') stop) text
+      ∙ ap (λ w. borrow_typed at (placed noted r) w mode (placed closed x') (block closed b') stop) says
       ∙ ap (λ m. borrow_typed at (placed noted r) (written t) mode m (block closed b') stop) variable
       ∙ ap (λ ss. borrow_typed at (placed noted r) (written t) mode (placed noted x) ss stop) same
       ∙ becomes old _ _ is (borrow_typed_says noted at r t mode x b stop)

@@ -81,4 +81,8 @@ add_arguments-loop-one-preserved g t c =
     found_more (argument_all noted) snoc_arguments (one_argument noted) (calls_in_arguments leads)
     (calls_in_arguments leads) (arguments_push noted) (arguments_lead leads)
     (map g.R.Finder.see c.args.found.now.items) _ _ c.deref-one-items.result.now c.loop-one.one-index
-    c.one-item.result c.loop-one.invariant c.loop-one-test.true c.one-item.is c.in_ok-add_argument.ensures
+    c.one-item.result c.loop-one.invariant c.loop-one-test.true c.one-item.is (c.in_ok-add_argument.ensures ∙ ap (λ r. _ ++ r) (sym (append-nil _)))
+
+pub add_expression-returns-in_ok-add_expression-in-If-2 : goal.add_expression-returns-in_ok-add_expression-in-If-2
+add_expression-returns-in_ok-add_expression-in-If-2 g t c =
+    grind (arith, common_steps, lemmas.if_calls)

@@ -75,7 +75,7 @@ add_branches-loop-one-preserved g t c =
     found_more (branch_all noted) snoc_branches (one_branch noted)
     (calls_in_branches leads) (calls_in_branches leads) (branches_push noted) (branches_lead leads)
     (map g.R.Finder.see c.args.found.now.items) _ _ c.deref-one-items.result.now c.loop-one.one-index
-    c.one-item.result c.loop-one.invariant c.loop-one-test.true c.one-item.is c.in_ok-add_branch.ensures
+    c.one-item.result c.loop-one.invariant c.loop-one-test.true c.one-item.is (c.in_ok-add_branch.ensures ∙ ap (λ r. _ ++ r) (sym (append-nil _)))
 
 pub add_arms-loop-one-init : goal.add_arms-loop-one-init
 add_arms-loop-one-init g t c = sym (append-nil (map g.R.Finder.see c.args.found.now.items))
@@ -86,4 +86,8 @@ add_arms-loop-one-preserved g t c =
     found_more (arm_all noted) snoc_arms (one_arm noted)
     (calls_in_arms leads) (calls_in_arms leads) (arms_push noted) (arms_lead leads)
     (map g.R.Finder.see c.args.found.now.items) _ _ c.deref-one-items.result.now c.loop-one.one-index
-    c.one-item.result c.loop-one.invariant c.loop-one-test.true c.one-item.is c.in_ok-add_arm.ensures
+    c.one-item.result c.loop-one.invariant c.loop-one-test.true c.one-item.is (c.in_ok-add_arm.ensures ∙ ap (λ r. _ ++ r) (sym (append-nil _)))
+
+pub add_statement-returns-in_ok-add_expression-in-For-2 : goal.add_statement-returns-in_ok-add_expression-in-For-2
+add_statement-returns-in_ok-add_expression-in-For-2 g t c =
+    grind (arith, common_steps, lemmas.for_statement_calls)
