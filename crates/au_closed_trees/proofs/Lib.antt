@@ -1,0 +1,4 @@
+mod CallLemmas
+mod ClosingLemmas
+mod LoopLemmas
+mod SnocLemmas

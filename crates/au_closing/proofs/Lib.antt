@@ -1,0 +1,5 @@
+mod ClosesLemmas
+mod GivenLemmas
+mod RowLemmas
+mod ShippedLemmas
+mod WalkLemmas

@@ -1,0 +1,4 @@
+pub mod Instances
+pub mod Leading
+pub mod Closes
+pub mod Views
