@@ -1,2 +1,1 @@
 pub mod TellLemmas
-pub mod ListLemmas

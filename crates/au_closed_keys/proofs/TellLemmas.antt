@@ -18,7 +18,7 @@ kind_one Int64 Int64 is = refl
 kind_one Index Index is = refl
 kind_one a b is = absurd cc
 
-place_one : (a b : DeclAt) → a.«module» ≡ b.«module» → a.decl ≡ b.decl → a ≡ b
+pub place_one : (a b : DeclAt) → a.«module» ≡ b.«module» → a.decl ≡ b.decl → a ≡ b
 place_one a b these those = λ i. record { «module» = these i; decl = those i }
 
 -- no closed type begins with what ends a list of them

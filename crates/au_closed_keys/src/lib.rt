@@ -4,4 +4,4 @@
 pub mod keys;
 pub mod laws;
 
-pub use keys::add_key;
+pub use keys::{add_key, add_number};

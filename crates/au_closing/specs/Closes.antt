@@ -23,7 +23,7 @@ use Rattle.au_closed_trees.specs.Calls.{calls_in_block}
 use Rattle.au_closed_trees.specs.Changes.{Change}
 use Rattle.au_closed_trees.specs.ClosedNotes.{Callee, ClosedNote, ClosedStatements}
 use Rattle.au_closed_trees.specs.Renoted.{block_renoted}
-use Rattle.au_bodies.specs.Bodies.{BodyOf, body_of, constant_seen, value_of}
+use Rattle.au_closing.specs.Bodies.{BodyOf, body_of, constant_seen, value_of}
 use Rattle.au_given_types.specs.Given.{Given, closed_or_unit, closed_under}
 use Rattle.au_closing.specs.Instances.{Instance, instance_of, numbered, same_instance}
 use Rattle.au_closing.specs.Leading.{call_leads, module_name}

@@ -121,7 +121,7 @@ module _ (program : List ModuleParts) (rows : List Row) where
 
   -- the same of a class
   abbrev pub class_leads : DeclAt → Bytes → ClosedType → Callee (Option Instance)
-  class_leads class name t = method_leads name t (closed_row rows (heads_of program) t class)
+  class_leads at name t = method_leads name t (closed_row rows (heads_of program) t at)
 
   -- what is called under what is given, by the note of the call's expression
   abbrev pub called_leads : Given → Note → Target → Option Called → Callee (Option Instance)

@@ -143,9 +143,6 @@ fn numbered_lead<K: Listed>(known: &K, lead: Lead) -> Result<Callee, Memory>
 }
 
 impl<'a, K: Listed> Closer for BodyCloser<'a, K> {
-    ghost use Rattle.au_closing.specs.Views.{change_seen};
-    ghost use Rattle.au_given_types.specs.Views.{given_said};
-
     ghost change = { λ closer.
         change_seen closer.sight (K.instances closer.known.now) (K.literal_of closer.known.now)
         closer.params.now (given_said closer.given.now) };

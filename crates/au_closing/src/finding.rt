@@ -2,7 +2,8 @@
 
 ghost use Rattle.std.specs.Prelude.{◌≡◌, IfOk};
 ghost use Rattle.au_closed_trees.specs.Calls as calls;
-ghost use Rattle.au_closing.specs.Views.{instances_said, leads_of};
+ghost use Rattle.au_closing.specs.Instances.{Instance as InstanceSeen};
+ghost use Rattle.au_closing.specs.Views.{instance_said, instances_said, leads_of};
 ghost use Rattle.au_given_types.specs.Views.{given_said};
 ghost use Rattle.au_notes.specs.contracts.noted.NotedPhase.TheImpl.{ghosts as noted};
 ghost use Rattle.au_syntax.specs.Views.{block};
@@ -24,10 +25,6 @@ struct CallFinder<'a> {
 }
 
 impl<'a> Finder for CallFinder<'a> {
-    ghost use Rattle.au_closing.specs.Instances.{Instance as InstanceSeen};
-    ghost use Rattle.au_closing.specs.Views.{instance_said, leads_of};
-    ghost use Rattle.au_given_types.specs.Views.{given_said};
-
     type Found = Instance;
 
     ghost Seen = { InstanceSeen };

@@ -1,11 +1,11 @@
 -- The walk as the code goes along it.
-use Rattle.std.proofs.Common.{◌≡◌, ◌≤◌, ◌<◌, ◌+◌, ◌-◌, ℕ, zero, suc, Bool, List, [], ◌∷◌, ◌++◌, Option, Result, Ok, Err, IfOk, length, map, drop, get_or, refl, sym, ap, ◌∙◌, subst, length-append, arith}
+use Rattle.std.proofs.Common.{◌≡◌, ◌≤◌, ◌<◌, ◌+◌, ◌-◌, ℕ, zero, suc, Bool, List, [], ◌∷◌, ◌++◌, Option, Result, Ok, Err, IfOk, length, map, drop, get_or, refl, sym, ap, ◌∙◌, length-append, arith}
 use Rattle.std.proofs.lemmas.List.{length-map, drop_more, drop_all, get_or-map}
 use Rattle.au_base.specs.declared.limits.Limit.{Limit}
 use Rattle.au_reach.specs.declared.faults.WalkFault.{WalkFault}
 use Rattle.au_reach.specs.declared.faults.WalkFault.TheVariants as faults
-use Rattle.au_reach.specs.Reached.{TellsSame, Lists}
-use Rattle.au_reach.specs.Walks.{Walked, on_ok, at_first, adds_within, IsWithin, Refused, walk, listed}
+use Rattle.au_reach.specs.Reached.{Lists}
+use Rattle.au_reach.specs.Walks.{Walked, on_ok, at_first, adds_within, IsWithin, walk}
 use Rattle.au_reach.specs.Finding.{Gives, by_key, puts_to, adds_to, walks, Finds_all, Refuses}
 use Rattle.au_reach.proofs.HasLemmas.{adds_more}
 use Rattle.au_reach.proofs.KeyLemmas.{keys_tell}
@@ -73,12 +73,13 @@ module _ {I A : Type 0} (see : I → A) (key_of : A → List ℕ) (tells : (a b 
   -- the starts are put
   pub first_put : (none : List I) (ks : List A) → none ≡ [] → adds_to key_of told_of full most (map see none) starts ≡ Ok ks → IsWithin (by_key key_of) told_of most ks × Rest ks 0
   first_put none ks empty put =
-      let added : adds_to key_of told_of full most [] starts ≡ Ok ks = sym (ap (λ (l : List I). adds_to key_of told_of full most (map see l) starts) empty) ∙ put in
-      ((adds_is (by_key key_of) told_of full most (keys_tell key_of tells) [] starts ks added (fine_first (by_key key_of) told_of full most (keys_tell key_of tells) next starts)).1,
+      let added : adds_to key_of told_of full most [] starts ≡ Ok ks = sym (ap (λ (l : List I). adds_to key_of told_of full most (map see l) starts) empty) ∙ put in (
+        (adds_is (by_key key_of) told_of full most (keys_tell key_of tells) [] starts ks added (fine_first (by_key key_of) told_of full most (keys_tell key_of tells) next starts)).1,
         λ f fuel.
-          let all : f ≡ suc most = omega arith in
-          ap (λ (o : Walked A Limit). on_ok o (λ l. walk (by_key key_of) told_of full most next (suc most) l 0)) added
-          ∙ sym (ap (λ (n : ℕ). walk (by_key key_of) told_of full most next n ks 0) all))
+            let all : f ≡ suc most = omega arith in
+            ap (λ (o : Walked A Limit). on_ok o (λ l. walk (by_key key_of) told_of full most next (suc most) l 0)) added
+            ∙ sym (ap (λ (n : ℕ). walk (by_key key_of) told_of full most next n ks 0) all),
+      )
 
   place_of : (items : List I) (i : ℕ) (x : I) → i < length items → x ≡ get_or items i x → drop i (map see items) ≡ see x ∷ drop (i + 1) (map see items)
   place_of items i x below here =
@@ -96,12 +97,14 @@ module _ {I A : Type 0} (see : I → A) (key_of : A → List ℕ) (tells : (a b 
       let size : length (map see more) ≡ length (map see items ++ longer.0) = ap length (added.0 ∙ longer.1) in
       let sum = length-append (map see items) longer.0 in
       let these = length-map items see in
-      let those = length-map more see in
-      (added.1, omega arith,
+      let those = length-map more see in (
+        added.1,
+        omega arith,
         λ f fuel.
-          rest (suc f) (omega arith)
-          ∙ walk_turn (by_key key_of) told_of full most next f i (map see items) (map see more) (drop (i + 1) (map see items)) (see x) (place_of items i x below here)
-            (ap (adds_to key_of told_of full most (map see items)) (sym is) ∙ put))
+            rest (suc f) (omega arith)
+            ∙ walk_turn (by_key key_of) told_of full most next f i (map see items) (map see more) (drop (i + 1) (map see items)) (see x) (place_of items i x below here)
+            (ap (adds_to key_of told_of full most (map see items)) (sym is) ∙ put),
+      )
 
   -- what follows it passes a limit
   pub turn_stops : (items : List I) (i : ℕ) (x : I) (ys : List A) (limit : Limit) → i < length items → x ≡ get_or items i x → ys ≡ next (see x) → IsWithin (by_key key_of) told_of most (map see items)
@@ -111,7 +114,7 @@ module _ {I A : Type 0} (see : I → A) (key_of : A → List ℕ) (tells : (a b 
       let these = length-map items see in
       rest (suc (most - i)) (omega arith)
       ∙ walk_stops (by_key key_of) told_of full most next (most - i) i (map see items) (drop (i + 1) (map see items)) (see x) limit (place_of items i x below here)
-        (ap (adds_to key_of told_of full most (map see items)) (sym is) ∙ put)
+      (ap (adds_to key_of told_of full most (map see items)) (sym is) ∙ put)
 
   -- no element is left
   pub turns_end : (items : List I) (i : ℕ) → length items ≤ i → i ≤ length items → IsWithin (by_key key_of) told_of most (map see items) → Rest (map see items) i

@@ -1,6 +1,7 @@
 -- Elements by their keys.
-use Rattle.std.proofs.Common.{◌≡◌, ◌<◌, ◌==◌, ℕ, Bool, true, false, not, ◌||◌, List, [], ◌∷◌, ◌++◌, Option, None, Some, Result, Ok, Err, Vec, length, map, refl, sym, ap, ◌∙◌, eqb-true}
-use Rattle.std.specs.List.{list_any}
+use Rattle.std.proofs.Common.{◌≡◌, ◌==◌, ℕ, Bool, true, false, not, ◌||◌, List, [], ◌∷◌, ◌++◌, Option, None, Some, Ok, Err, Vec, length, map, refl, sym, ap, ◌∙◌, cond, nat_lt, ◌+◌}
+use Rattle.std.specs.List.{list_any, position, prefix_len}
+use Rattle.std.proofs.lemmas.List.{length-map}
 use Rattle.std.specs.Str.{bytes_eq}
 use Rattle.std.specs.Global.{Global}
 use Rattle.std.specs.Cmp.Lexicographic.{nat_list_eq_equiv}
@@ -31,6 +32,17 @@ any_among : (value : Vec ℕ Global) (ks : List (Vec ℕ Global)) → list_any (
 unfolding among
 any_among value [] = refl
 any_among value (k ∷ ks) = ap (λ b. bytes_eq value.items k.items || b) (any_among value ks)
+
+prefix_among : (test : List ℕ → Bool) (ks : List (Vec ℕ Global)) → prefix_len (λ (k : Vec ℕ Global). test k.items) ks ≡ prefix_len test (map numbers ks)
+prefix_among test [] = refl
+prefix_among test (k ∷ ks) = ap (λ n. cond (test k.items) (1 + n) 0) (prefix_among test ks)
+
+-- the place of a key among the code's is that among what they say
+pub place_among : (test : List ℕ → Bool) (ks : List (Vec ℕ Global)) → position (λ (k : Vec ℕ Global). test k.items) ks ≡ position test (map numbers ks)
+place_among test ks =
+    let here = prefix_among (λ k. not (test k)) ks in
+    let many = sym (length-map ks numbers) in
+    λ i. cond (nat_lt (here i) (many i)) (Some (here i)) None
 
 module _ {A : Type 0} (key_of : A → List ℕ) where
   -- where elements with one key are equal, comparing keys tells whether elements are

@@ -1,7 +1,7 @@
 -- The walk that lists what is reached, within limits: `over` says what is wrong with an element itself, if
 -- anything, and the list has at most `most` elements, where `full` is what is wrong with one more.
 use Rattle.std.specs.Prelude.{◌≡◌, ◌==◌, ◌+◌, ◌≤◌, ℕ, zero, suc, Bool, true, false, List, [], ◌∷◌, ◌++◌, Option, None, Some, Result, Ok, Err, length, drop}
-use Rattle.au_reach.specs.Reached.{has, Has, adds, all_next}
+use Rattle.au_reach.specs.Reached.{has, Has, Reached, adds, all_next}
 
 -- a walk's answer: a list, or what is wrong with the first element that passes a limit
 abbrev pub Walked : Type 0 → Type 0 → Type 0
@@ -62,6 +62,7 @@ module _ {A W : Type 0} (same : A → A → Bool) (over : A → Option W) (full 
 
     -- A list is how the list of what is reached begins, and an element comes next: the list has the starts, and
     -- what follows some of its own first elements, in order and each once, up to that element, which is new.
+    -- It has nothing that isn't reached.
     pub record Begins (starts ks : List A) (x : A) : Type 0 where
       pub looked : List A
       pub later : List A
@@ -71,6 +72,7 @@ module _ {A W : Type 0} (same : A → A → Bool) (over : A → Option W) (full 
       pub order : starts ++ all_next next looked ≡ front ++ x ∷ behind
       pub added : ks ≡ adds same [] front
       pub is_new : has same ks x ≡ false
+      pub reached : (y : A) → Has same ks y → Reached same next starts y
 
     -- the first element, breadth first, that passes a limit, and what is wrong with it
     pub record Refused (starts : List A) (w : W) : Type 0 where

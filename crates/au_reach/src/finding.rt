@@ -1,7 +1,8 @@
 //! The walk that lists what is reached.
 
-ghost use Rattle.std.specs.Prelude.{◌≤◌, length, map, IfOk, OnOk};
-ghost use Rattle.au_reach.specs.Finding.{Finds_all, Gives, IsKeyed, Refuses, adds_to, by_key, found_in, puts_to, walks};
+ghost use Rattle.std.specs.Prelude.{◌≡◌, map, position, IfOk, OnOk};
+ghost use Rattle.std.specs.Str.{bytes_eq};
+ghost use Rattle.au_reach.specs.Finding.{Finds_all, Gives, IsKeyed, Refuses, adds_to, by_key, found_in, numbers, puts_to, walks};
 ghost use Rattle.au_reach.specs.Reached.{Lists};
 ghost use Rattle.au_reach.specs.Walks.{IsWithin};
 
@@ -13,9 +14,25 @@ use std::alloc::Global;
 
 /// Elements in the order in which they were found, each once, and their keys.
 #[derive(Drop)]
-pub(crate) struct Finds<I> {
+pub struct Finds<I> {
     list: Vec<I>,
     keys: IndexSet<Vec<u32>>,
+}
+
+impl<I> Finds<I> {
+    /// The elements in the order in which they were found.
+    pub fn list(&self) -> &[I]
+        ensures { result.now ≡ self.now.list.items }
+    {
+        self.list.as_slice()
+    }
+
+    /// The place of the element of a key, if there is one. It is found without a walk through the elements.
+    pub fn place(&self, key: &Vec<u32>) -> Option<usize>
+        ensures { result ≡ position (bytes_eq key.now.items) (map numbers self.now.keys.keys) }
+    {
+        self.keys.get_index_of(key)
+    }
 }
 
 /// What is reached from the starts, breadth first, each element once: the starts, and then what follows the
@@ -31,11 +48,12 @@ pub fn reach<G: Ground>(
     starts: Vec<G::Item>,
     full: Limit,
     most: usize,
-) -> Result<Vec<G::Item>, WalkFault>
-    ensures lists { IfOk result (λ list.
-        Lists (by_key G.key_of) (G.next_of ground.now) (map G.see starts.items) (map G.see list.items)) }
-    ensures within { IfOk result (λ list. IsWithin (by_key G.key_of) G.told_of most (map G.see list.items)) }
-    ensures finds { Finds_all (λ list. map G.see list.items) result (by_key G.key_of) G.told_of most
+) -> Result<Finds<G::Item>, WalkFault>
+    ensures keyed { IfOk result (IsKeyed G.see G.key_of) }
+    ensures lists { IfOk result (λ finds.
+        Lists (by_key G.key_of) (G.next_of ground.now) (map G.see starts.items) (found_in G.see finds)) }
+    ensures within { IfOk result (λ finds. IsWithin (by_key G.key_of) G.told_of most (found_in G.see finds)) }
+    ensures finds { Finds_all (found_in G.see) result (by_key G.key_of) G.told_of most
         (G.next_of ground.now) (map G.see starts.items) }
     ensures refuses { Refuses result (by_key G.key_of) G.told_of full most
         (G.next_of ground.now) (map G.see starts.items) }
@@ -50,8 +68,9 @@ fn walk_from<G: Ground>(
     starts: Vec<G::Item>,
     full: Limit,
     most: usize,
-) -> Result<Vec<G::Item>, WalkFault>
-    ensures { Gives (λ list. map G.see list.items) result
+) -> Result<Finds<G::Item>, WalkFault>
+    ensures keyed { IfOk result (IsKeyed G.see G.key_of) }
+    ensures gives { Gives (found_in G.see) result
         (walks G.key_of G.told_of full most (G.next_of ground.now) (map G.see starts.items)) }
 {
     let mut finds = Finds {
@@ -65,8 +84,7 @@ fn walk_from<G: Ground>(
         put_all::<G>(alloc, &mut finds, next, full, most)?;
         at += 1;
     }
-    let Finds { list, keys: _ } = finds;
-    Ok(list)
+    Ok(finds)
 }
 
 /// Puts elements at the end in their order, each if it isn't there yet.

@@ -7,4 +7,5 @@ pub mod grounds;
 pub mod laws;
 
 pub use faults::WalkFault;
+pub use finding::{Finds, reach};
 pub use grounds::Ground;
