@@ -68,6 +68,11 @@ listed_after other more sc = []
 
 -- ---- blocks
 
+-- what is listed under what was told: nothing if nothing was
+abbrev pub under : {A : Type 0} → Option A → (A → List VariableLives) → List VariableLives
+under None listing = []
+under (Some one) listing = listing one
+
 abbrev mutual
   -- the variables that are declared in a block
   pub listed_in : PlainStatements → Scope → List VariableLives
@@ -75,7 +80,8 @@ abbrev mutual
   listed_in (statements s more) sc =
       (listed_inside s sc ++ listed_after s more (after s sc)) ++ listed_in more (after s sc)
 
-  -- those inside of a statement
+  -- Those inside of a statement: a variable that is declared for a block comes before those that the block
+  -- declares. A `for` and a borrow statement have some only if their bounds or their reference have a type.
   pub listed_inside : PlainStatement → Scope → List VariableLives
   listed_inside (skip at) sc = []
   listed_inside (declare at binding name t e) sc = []
@@ -86,46 +92,53 @@ abbrev mutual
   listed_inside (conditional_else at bs b) sc = listed_in_branches bs sc ++ listed_in b sc
   listed_inside (case_of at e all) sc = listed_in_arms all sc
   listed_inside (while_loop at e b) sc = listed_in b sc
-  listed_inside (for_loop at name a z b) sc = listed_for sc name b (told (bounds_type sc a z))
+  listed_inside (for_loop at name a z b) sc =
+      under (told (bounds_type sc a z))
+      (λ t. listed (with_variable (fixed_variable name.name t) sc) name b
+      ++ listed_in b (with_variable (fixed_variable name.name t) sc))
   listed_inside (borrow_in at kind x r region b stop) sc =
-      listed_lent sc r region.name b (told (lent_reference sc kind x.name region.name))
+      under (told (lent_reference sc kind x.name region.name))
+      (λ t. listed (with_reference r.name region.name t sc) r b
+      ++ listed_in b (with_reference r.name region.name t sc))
   listed_inside (borrow_typed at r t mode x b stop) sc =
-      listed_typed sc r b (told (judge_borrow sc t mode x.name))
+      under (told (judge_borrow sc t mode x.name))
+      (λ y. listed (with_reference r.name y.0 y.1 sc) r b
+      ++ listed_in b (with_reference r.name y.0 y.1 sc))
   listed_inside (discard at e) sc = []
   listed_inside (return_of at e) sc = []
-
-  -- a variable that is declared for a block, and those that the block declares
-  pub listed_with : Placed Bytes → PlainStatements → Scope → List VariableLives
-  listed_with name b sc = listed sc name b ++ listed_in b sc
-
-  -- those of a `for`, if its bounds have a type
-  pub listed_for : Scope → Placed Bytes → PlainStatements → Option Meaning → List VariableLives
-  listed_for sc name b None = []
-  listed_for sc name b (Some t) = listed_with name b (with_variable (fixed_variable name.name t) sc)
-
-  -- those of a borrow statement without a written type, if its reference has a type
-  pub listed_lent : Scope → Placed Bytes → Bytes → PlainStatements → Option Meaning → List VariableLives
-  listed_lent sc r region b None = []
-  listed_lent sc r region b (Some t) = listed_with r b (with_reference r.name region t sc)
-
-  -- those of a borrow statement with a written type, if its reference has a region and a type
-  pub listed_typed : Scope → Placed Bytes → PlainStatements → Option (Bytes × Meaning) → List VariableLives
-  listed_typed sc r b None = []
-  listed_typed sc r b (Some y) = listed_with r b (with_reference r.name y.0 y.1 sc)
 
   -- those of the blocks of branches
   pub listed_in_branches : PlainBranches → Scope → List VariableLives
   listed_in_branches no_branches sc = []
   listed_in_branches (branches e b more) sc = listed_in b sc ++ listed_in_branches more sc
 
-  -- those of an arm, and of several
-  pub listed_arm : Scope → List (Bound Bytes) → PlainStatements → List VariableLives
-  listed_arm sc binds b = listed_binds (with_bound binds sc) binds b ++ listed_in b (with_bound binds sc)
-
+  -- those of arms: what an arm binds, and what its block declares
   pub listed_in_arms : PlainArms → Scope → List VariableLives
   listed_in_arms no_arms sc = []
   listed_in_arms (arms when' name binds b more) sc =
-      listed_arm sc binds b ++ listed_in_arms more sc
+      (listed_binds (with_bound binds sc) binds b ++ listed_in b (with_bound binds sc))
+      ++ listed_in_arms more sc
+
+-- a variable that is declared for a block, and those that the block declares
+abbrev pub listed_with : Placed Bytes → PlainStatements → Scope → List VariableLives
+listed_with name b sc = listed sc name b ++ listed_in b sc
+
+-- those of a `for`, if its bounds have a type
+abbrev pub listed_for : Scope → Placed Bytes → PlainStatements → Option Meaning → List VariableLives
+listed_for sc name b found =
+    under found (λ t. listed_with name b (with_variable (fixed_variable name.name t) sc))
+
+-- those of a borrow statement without a written type, if its reference has a type
+abbrev pub listed_lent : Scope → Placed Bytes → Bytes → PlainStatements → Option Meaning → List VariableLives
+listed_lent sc r region b found = under found (λ t. listed_with r b (with_reference r.name region t sc))
+
+-- those of a borrow statement with a written type, if its reference has a region and a type
+abbrev pub listed_typed : Scope → Placed Bytes → PlainStatements → Option (Bytes × Meaning) → List VariableLives
+listed_typed sc r b found = under found (λ y. listed_with r b (with_reference r.name y.0 y.1 sc))
+
+-- those of an arm
+abbrev pub listed_arm : Scope → List (Bound Bytes) → PlainStatements → List VariableLives
+listed_arm sc binds b = listed_binds (with_bound binds sc) binds b ++ listed_in b (with_bound binds sc)
 
 -- ---- bodies
 
