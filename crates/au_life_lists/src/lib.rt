@@ -1,0 +1,11 @@
+//! The lists of lives of a program: the variables of each function whose types aren't Free, in the order in
+//! which they are declared, each with its type and with where it is mentioned.
+#![tactic(auto)]
+
+mod entering;
+mod functions;
+mod listing;
+mod programs;
+mod variables;
+
+pub use programs::lives_of;
