@@ -40,12 +40,12 @@ use Rattle.au_rules.specs.declared.faults.DeclFault.TheVariants as rules
 use Rattle.au_rules.specs.DeclFaults.{decl_fault}
 use Rattle.au_rules.specs.Good.{AllDeclarationsAreGood}
 use Rattle.au_rules.proofs.AcceptedLemmas as declaring
-use Rattle.au_outcomes.specs.Accepted.{Accepted, AreAcceptedAs, is_behind, program_files}
+use Rattle.au_outcomes.specs.Accepted.{Accepted, AreAcceptedAs, is_behind}
 use Rattle.au_outcomes.specs.Halts.{IsUnhad}
 use Rattle.au_outcomes.specs.Outcomes.{BytesCome, Comes, IsFirst}
 use Rattle.au_outcomes.specs.Programs.{AcceptedCome, IsUnprinting, PrintingComes, PrintsSo, ReadsCome, bodies_outcome}
 use Rattle.au_outcomes.specs.Programs.{class_outcome, declaration_outcome, import_outcome, judged_by, life_outcome}
-use Rattle.au_outcomes.specs.Programs.{module_outcome, modules_outcome, program_outcome, type_outcome}
+use Rattle.au_outcomes.specs.Programs.{module_outcome, modules_outcome, program_files, program_outcome, type_outcome}
 use Rattle.au_outcomes.specs.Trees.{AreRead, FirstHalts, Halts, ReadFile}
 use Rattle.au_outcomes.specs.declared.outcomes.Aim.{Aim}
 use Rattle.au_outcomes.specs.declared.outcomes.Aim.TheVariants as aims
@@ -265,6 +265,7 @@ accepted_come_behind : (aim : Aim) (reads : List ReadFile) (x : Outcome) → Acc
     → is_behind x ≡ true
 accepted_come_behind aims.Run reads x h = printing_behind reads x h
 accepted_come_behind aims.Check reads x h = ap is_behind h
+accepted_come_behind aims.Explain reads x h = ap is_behind h
 
 -- ---- accepted files
 

@@ -54,6 +54,7 @@ module _ (aim : Aim) (files : Files) (names : List (List ℕ)) where
   ]
   few_had (outcome.Refused refusal) h = inr h
   few_had outcome.Accepted h = inr h
+  few_had (outcome.Explained lives) h = inr h
   few_had (outcome.Prints first) h = inr h
 
   pub unhad_few : (x : Outcome) → IsFirst (λ one. IsUnhad files one x) files names → FewCome aim files names x
@@ -65,6 +66,8 @@ module _ (aim : Aim) (files : Files) (names : List (List ℕ)) where
   unhad_few (outcome.Refused refusal) h =
       absurd (first_any (λ one. IsUnhad files one (outcome.Refused refusal)) files names h).1
   unhad_few outcome.Accepted h = absurd (first_any (λ one. IsUnhad files one outcome.Accepted) files names h).1
+  unhad_few (outcome.Explained lives) h =
+      absurd (first_any (λ one. IsUnhad files one (outcome.Explained lives)) files names h).1
   unhad_few (outcome.Prints first) h =
       absurd (first_any (λ one. IsUnhad files one (outcome.Prints first)) files names h).1
 
@@ -76,6 +79,7 @@ module _ (aim : Aim) (files : Files) (names : List (List ℕ)) where
   files_few all (outcome.Passes limit) are h proper = inr (all, are, h)
   files_few all (outcome.Refused refusal) are h proper = (all, are, h)
   files_few all outcome.Accepted are h proper = (all, are, h)
+  files_few all (outcome.Explained lives) are h proper = (all, are, h)
   files_few all (outcome.Prints first) are h proper = (all, are, h)
 
 -- a file behind those that can be had

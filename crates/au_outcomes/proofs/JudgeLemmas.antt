@@ -24,7 +24,7 @@ use Rattle.au_shipped.specs.Shipped.{file_says, shipped_files}
 use Rattle.au_syntax.specs.declared.wholes.FileTree.{FileTree}
 use Rattle.au_syntax.specs.Plain.{PlainModule}
 use Rattle.au_outcomes.specs.Halts.{Says, known_or_memory}
-use Rattle.au_outcomes.specs.Programs.{bodies_outcome, class_outcome, declaration_outcome, import_outcome, judged_by}
+use Rattle.au_outcomes.specs.Programs.{AreJudgedAs, bodies_outcome, class_outcome, declaration_outcome, import_outcome, judged_by}
 use Rattle.au_outcomes.specs.Programs.{life_outcome, module_outcome, modules_outcome, program_outcome}
 use Rattle.au_outcomes.specs.Programs.{shipped_entries, type_outcome}
 use Rattle.au_outcomes.specs.declared.halts.Halt.{Halt}
@@ -56,11 +56,15 @@ pub program_is : (given files : List Entry) (parts : List ModuleParts) → given
 program_is given files parts same are none =
     files_judged files (subst (λ l. programs.refusal_of l ≡ None) same none) ∙ ap modules_outcome (sym (are ∙ ap modules_of same))
 
-pub program_says : {T : Type 0} (given files : List Entry) (parts : List ModuleParts) (r : Result T Halt) → given ≡ files → parts ≡ modules_of given → programs.refusal_of given ≡ None
-    → Says r (λ _. modules_outcome parts ≡ None) (λ x. modules_outcome parts ≡ Some x)
-    → Says r (λ _. program_outcome files ≡ None) (λ x. program_outcome files ≡ Some x)
-program_says given files parts r same are none h =
-    subst (λ o. Says r (λ _. o ≡ None) (λ x. o ≡ Some x)) (sym (program_is given files parts same are none)) h
+pub program_says : {T : Type 0} (held : T → List ModuleParts) (given files : List Entry) (parts : List ModuleParts)
+    (r : Result T Halt) → given ≡ files → parts ≡ modules_of given → programs.refusal_of given ≡ None
+    → Says r (λ n. (modules_outcome parts ≡ None) × (held n ≡ parts)) (λ x. modules_outcome parts ≡ Some x)
+    → Says r (λ n. AreJudgedAs files (held n)) (λ x. program_outcome files ≡ Some x)
+program_says held given files parts r same are none h =
+    subst (λ p. Says r (λ n. (program_outcome files ≡ None) × (held n ≡ p)) (λ x. program_outcome files ≡ Some x))
+    (are ∙ ap modules_of same)
+    (subst (λ o. Says r (λ n. (o ≡ None) × (held n ≡ parts)) (λ x. o ≡ Some x))
+    (sym (program_is given files parts same are none)) h)
 
 -- ---- modules
 
@@ -103,11 +107,12 @@ module _ (parts : List ModuleParts) where
       → modules_outcome parts ≡ bodies_outcome parts
   modules_are good declared = names_judged good ∙ declarations_judged declared
 
-  pub modules_say : {T : Type 0} (r : Result T Halt) → importing.refusal_of parts ≡ None → decl_fault parts ≡ None
-      → Says r (λ _. bodies_outcome parts ≡ None) (λ x. bodies_outcome parts ≡ Some x)
-      → Says r (λ _. modules_outcome parts ≡ None) (λ x. modules_outcome parts ≡ Some x)
-  modules_say r good declared h =
-      subst (λ o. Says r (λ _. o ≡ None) (λ x. o ≡ Some x)) (sym (modules_are good declared)) h
+  pub modules_say : {T : Type 0} (Held : T → Type 0) (r : Result T Halt) → importing.refusal_of parts ≡ None
+      → decl_fault parts ≡ None
+      → Says r (λ n. (bodies_outcome parts ≡ None) × Held n) (λ x. bodies_outcome parts ≡ Some x)
+      → Says r (λ n. (modules_outcome parts ≡ None) × Held n) (λ x. modules_outcome parts ≡ Some x)
+  modules_say Held r good declared h =
+      subst (λ o. Says r (λ n. (o ≡ None) × Held n) (λ x. o ≡ Some x)) (sym (modules_are good declared)) h
 
   -- ---- bodies
 

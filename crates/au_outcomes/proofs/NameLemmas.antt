@@ -118,6 +118,7 @@ few_outcome aim files names (outcome.Missing name) h = refl
 few_outcome aim files names (outcome.Passes limit) h = refl
 few_outcome aim files names (outcome.Refused refusal) h = bytes_found aim h.0 (outcome.Refused refusal) h.2
 few_outcome aim files names outcome.Accepted h = refl
+few_outcome aim files names (outcome.Explained lives) h = refl
 few_outcome aim files names (outcome.Prints first) h = refl
 
 pub comes_outcome : (aim : Aim) (files : Files) (names : List (List ℕ)) (x : Outcome) → Comes aim files names x

@@ -118,6 +118,7 @@ accepted_same : (aim : Aim) (reads : List ReadFile) (x y : Outcome) → Accepted
     → AcceptedCome aim reads y → x ≡ y
 accepted_same aims.Run reads x y a b = printing_same reads x y a b
 accepted_same aims.Check reads x y a b = a ∙ sym b
+accepted_same aims.Explain reads x y a b = a ∙ sym b
 
 -- what is judged is one thing
 one_some : (o : Option Outcome) (x y : Outcome) → o ≡ Some x → o ≡ Some y → x ≡ y
@@ -130,7 +131,7 @@ some_or_none o x a b = let e : Some x ≡ None = sym a ∙ b in cc
 reads_same : (aim : Aim) (reads : List ReadFile) (x y : Outcome) → ReadsCome aim reads x → ReadsCome aim reads y
     → x ≡ y
 reads_same aim reads x y a b =
-    let judged = program_outcome (shipped_entries ++ entries 0 reads) in
+    let judged = program_outcome (program_files reads) in
     elim a [
       | inl p ↦ elim b [
         | inl q ↦ one_some judged x y p q
@@ -202,10 +203,11 @@ accepted_found : (aim : Aim) (reads : List ReadFile) (x : Outcome) → AcceptedC
     → is_of_files x ≡ true
 accepted_found aims.Run reads x h = printing_found reads x h
 accepted_found aims.Check reads x h = ap is_of_files h
+accepted_found aims.Explain reads x h = ap is_of_files h
 
 reads_found : (aim : Aim) (reads : List ReadFile) (x : Outcome) → ReadsCome aim reads x → is_of_files x ≡ true
 reads_found aim reads x h = elim h [
-  | inl p ↦ program_found (shipped_entries ++ entries 0 reads) x p
+  | inl p ↦ program_found (program_files reads) x p
   | inr p ↦ accepted_found aim reads x p.1
 ]
 

@@ -1,11 +1,10 @@
 -- Which files are accepted: those of a program that the written rules derive, and whose variables have good
 -- lives.
-use Rattle.std.specs.Prelude.{ℕ, ◌≤◌, ◌++◌, Bool, true, false, List, length}
+use Rattle.std.specs.Prelude.{ℕ, ◌≤◌, Bool, true, false, List, length}
 use Rattle.au_base.specs.Outside.{Files}
 use Rattle.au_classes.specs.Good.{InstancesAreGood}
 use Rattle.au_derivations.specs.Trees.{NotedParts}
 use Rattle.au_modules.specs.Accepted.{IsProgram}
-use Rattle.au_modules.specs.Programs.{Entry, ModuleParts, modules_of}
 use Rattle.au_name_faults.specs.Good.{AllNamesAreGood}
 use Rattle.au_noting_programs.specs.Faults.{IsDerived}
 use Rattle.au_program_lives.specs.Good.{AllLivesAreGood}
@@ -16,18 +15,10 @@ use Rattle.au_refusals.specs.declared.refusals.Refusal.TheVariants.{Pair, Import
 use Rattle.au_refusals.specs.declared.refusals.Refusal.TheVariants.{Typing, Linear}
 use Rattle.au_rules.specs.Good.{AllDeclarationsAreGood}
 use Rattle.au_outcomes.specs.Outcomes.{AreFiles, most_files}
-use Rattle.au_outcomes.specs.Programs.{entries, shipped_entries}
+use Rattle.au_outcomes.specs.Programs.{program_files, program_modules}
 use Rattle.au_outcomes.specs.Trees.{AreRead, ReadFile}
 use Rattle.au_outcomes.specs.declared.outcomes.Outcome.{Outcome}
 use Rattle.au_outcomes.specs.declared.outcomes.Outcome.TheVariants as outcome
-
--- the files of a program: the shipped ones, and then those that were read
-abbrev pub program_files : List ReadFile → List Entry
-program_files reads = shipped_entries ++ entries 0 reads
-
--- its modules
-abbrev pub program_modules : List ReadFile → List ModuleParts
-program_modules reads = modules_of (program_files reads)
 
 -- Files of these names are accepted, with these bytes and as these trees: they are as few as they may be. They have
 -- these bytes, and none is too large. Each is cut into tokens that are the words of its tree, within the limits. With
@@ -64,12 +55,13 @@ is_unbuilt (Instance fault) = false
 is_unbuilt (Typing fault) = false
 is_unbuilt (Linear fault) = false
 
--- whether files come to this behind the steps that judge whether they are accepted: that is told, or the
--- program prints, or a file is none that prints, which is refused as what isn't built yet
+-- whether files come to this behind the steps that judge whether they are accepted: that is told, or
+-- the lives of its variables are, or the program prints, or a file is none that prints, which is refused as what isn't built yet
 abbrev pub is_behind : Outcome → Bool
 is_behind outcome.NoJob = false
 is_behind (outcome.Missing name) = false
 is_behind (outcome.Passes limit) = false
 is_behind (outcome.Refused refusal) = is_unbuilt refusal
 is_behind outcome.Accepted = true
+is_behind (outcome.Explained lives) = true
 is_behind (outcome.Prints first) = true

@@ -18,6 +18,7 @@ is_outcome (outcome.Missing name) = true
 is_outcome (outcome.Passes limit) = true
 is_outcome (outcome.Refused refusal) = is_refusal refusal
 is_outcome outcome.Accepted = true
+is_outcome (outcome.Explained lives) = true
 is_outcome (outcome.Prints first) = true
 
 -- the limit of a file's bytes, with the one count that passes it
@@ -73,6 +74,7 @@ FewCome aim files names (outcome.Passes limit) =
     ⊎ FilesCome aim files names (outcome.Passes limit)
 FewCome aim files names (outcome.Refused refusal) = FilesCome aim files names (outcome.Refused refusal)
 FewCome aim files names outcome.Accepted = FilesCome aim files names outcome.Accepted
+FewCome aim files names (outcome.Explained lives) = FilesCome aim files names (outcome.Explained lives)
 FewCome aim files names (outcome.Prints first) = FilesCome aim files names (outcome.Prints first)
 
 -- What a program comes to of which this is asked, by the names of its files.

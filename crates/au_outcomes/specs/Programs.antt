@@ -4,6 +4,7 @@
 -- and where it's run, each file in order is one that prints.
 use Rattle.std.specs.Prelude.{◌≡◌, ◌⊎◌, ◌+◌, ℕ, List, [], ◌∷◌, ◌++◌, map, Option, None, Some}
 use Rattle.std.specs.Option.{option_or}
+use Rattle.au_explain.specs.declared.lists.Lives.{Lives}
 use Rattle.au_printing.specs.declared.files.First.{First}
 use Rattle.au_printing.specs.Files.{Reads}
 use Rattle.au_modules.specs.declared.faults.ModuleFault.{ModuleFault}
@@ -18,6 +19,7 @@ use Rattle.au_classes.specs.Faults.{instance_fault}
 use Rattle.au_imports.specs.declared.faults.ImportFault.{ImportFault}
 use Rattle.au_imports.specs.declared.faults.ImportFault.TheVariants as imports
 use Rattle.au_imports.specs.Importing as importing
+use Rattle.au_life_lists.specs.Programs.{program_lives}
 use Rattle.au_notes.specs.declared.faults.TypeFault.{TypeFault}
 use Rattle.au_notes.specs.declared.faults.TypeFault.TheVariants as typing
 use Rattle.au_noting_programs.specs.Faults.{type_fault}
@@ -42,6 +44,14 @@ entries file (one ∷ rest) = record { file = file; tree = one.tree } ∷ entrie
 -- the files that are shipped
 unfoldable pub shipped_entries : List Entry
 shipped_entries = map (λ (f : ℕ × PlainModule). record { file = f.0; tree = f.1 }) shipped_files
+
+-- the files of a program: the shipped ones, and then those that were read
+abbrev pub program_files : List ReadFile → List Entry
+program_files reads = shipped_entries ++ entries 0 reads
+
+-- its modules
+abbrev pub program_modules : List ReadFile → List ModuleParts
+program_modules reads = modules_of (program_files reads)
 
 -- what a program comes to whose files aren't those of modules: want of memory is no cause of the files
 abbrev pub module_outcome : ModuleFault → Option Outcome
@@ -117,14 +127,23 @@ PrintingComes (one ∷ []) arisen = IsUnprinting one arisen ⊎ PrintsSo one ari
 PrintingComes (one ∷ next ∷ rest) arisen =
     IsUnprinting one arisen ⊎ (((first : First) × Reads first one.tokens) × PrintingComes (next ∷ rest) arisen)
 
--- What accepted files come to: where no more is asked they are accepted, and where their program is run it is
--- seen what they print.
+-- Nothing is refused of files, and these are their modules.
+abbrev pub AreJudgedAs : List Entry → List ModuleParts → Type 0
+AreJudgedAs files parts = (program_outcome files ≡ None) × (parts ≡ modules_of files)
+
+-- the lives of the variables of a program whose files were read
+abbrev pub read_lives : List ReadFile → Lives
+read_lives reads = program_lives (program_modules reads)
+
+-- What accepted files come to: where no more is asked they are accepted, where they are explained they come to
+-- the lives of their variables, and where their program is run it is seen what they print.
 abbrev pub AcceptedCome : Aim → List ReadFile → Outcome → Type 0
 AcceptedCome aims.Run reads arisen = PrintingComes reads arisen
 AcceptedCome aims.Check reads arisen = arisen ≡ outcome.Accepted
+AcceptedCome aims.Explain reads arisen = arisen ≡ outcome.Explained (read_lives reads)
 
 -- What a program comes to whose files were read.
 abbrev pub ReadsCome : Aim → List ReadFile → Outcome → Type 0
 ReadsCome aim reads arisen =
-    (program_outcome (shipped_entries ++ entries 0 reads) ≡ Some arisen)
-    ⊎ ((program_outcome (shipped_entries ++ entries 0 reads) ≡ None) × AcceptedCome aim reads arisen)
+    (program_outcome (program_files reads) ≡ Some arisen)
+    ⊎ ((program_outcome (program_files reads) ≡ None) × AcceptedCome aim reads arisen)

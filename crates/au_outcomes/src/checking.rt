@@ -98,6 +98,6 @@ fn outcome_of(alloc: Global, aim: Aim, all: &[Vec<u8>]) -> Result<Outcome, Halt>
     ensures is_read { is_read_halt result ≡ false }
 {
     let Sources { trees, printings } = read_all(alloc, all)?;
-    judge(alloc, trees)?;
-    accepted_outcome(aim, printings)
+    let noted = judge(alloc, trees)?;
+    accepted_outcome(alloc, aim, &noted, printings)
 }

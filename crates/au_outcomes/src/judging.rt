@@ -2,13 +2,14 @@
 
 ghost use Rattle.std.specs.Prelude.{◌≡◌, ◌<◌, ◌≤◌, ◌++◌, List, Some, None, IfOk, IsTrue, false, map, length};
 ghost use Rattle.std.specs.List.{list_all};
+ghost use Rattle.au_life_lists.specs.Programs.{program_lives};
 ghost use Rattle.au_modules.specs.Counts.{are_few, has_few};
 ghost use Rattle.au_modules.specs.Programs.{entry};
 ghost use Rattle.au_modules.specs.Slots as slots;
 ghost use Rattle.au_outcomes.specs.Halts.{Says, is_read_halt};
 ghost use Rattle.au_outcomes.specs.Outcomes.{most_files};
-ghost use Rattle.au_outcomes.specs.Programs.{AcceptedCome, PrintingComes, bodies_outcome, modules_outcome};
-ghost use Rattle.au_outcomes.specs.Programs.{program_outcome, shipped_entries};
+ghost use Rattle.au_outcomes.specs.Programs.{AcceptedCome, AreJudgedAs, PrintingComes, bodies_outcome};
+ghost use Rattle.au_outcomes.specs.Programs.{modules_outcome, program_modules, program_outcome, shipped_entries};
 ghost use Rattle.au_outcomes.specs.Reading.{AllPrintSo, first_stop};
 ghost use Rattle.au_outcomes.specs.Trees.{ReadFile};
 ghost use Rattle.au_outcomes.specs.declared.outcomes.Outcome.TheVariants as outcome;
@@ -19,8 +20,9 @@ use crate::reading::Printing;
 use au_base::{Memory, Pos};
 use au_classes::declare;
 use au_imports::{Resolved, resolve};
+use au_life_lists::lives_of;
 use au_modules::{Modules, gather};
-use au_noting_programs::note_program;
+use au_noting_programs::{NotedProgram, note_program};
 use au_printing::First;
 use au_program_lives::check_linear;
 use au_refusals::Refusal;
@@ -30,11 +32,11 @@ use au_syntax::FileTree;
 use std::alloc::Global;
 
 /// Judges the files of a program, and then their modules.
-pub fn judge(alloc: Global, own: Vec<FileTree>) -> Result<(), Halt>
+pub fn judge(alloc: Global, own: Vec<FileTree>) -> Result<NotedProgram, Halt>
     requires few { length own.items ≤ most_files }
     requires declared { IsTrue (list_all has_few (map entry own.items)) }
     ensures comes { Says result
-        (λ _. program_outcome (shipped_entries ++ map entry own.items) ≡ None)
+        (λ noted. AreJudgedAs (shipped_entries ++ map entry own.items) (slots.modules noted))
         (λ arisen. program_outcome (shipped_entries ++ map entry own.items) ≡ Some arisen) }
     ensures is_read { is_read_halt result ≡ false }
 {
@@ -45,9 +47,10 @@ pub fn judge(alloc: Global, own: Vec<FileTree>) -> Result<(), Halt>
 
 /// Judges the modules of a program: their names and promises, then their declarations, then what stands in
 /// bodies.
-fn judge_modules(alloc: Global, modules: Modules) -> Result<(), Halt>
+fn judge_modules(alloc: Global, modules: Modules) -> Result<NotedProgram, Halt>
     ensures comes { Says result
-        (λ _. modules_outcome (slots.modules modules) ≡ None)
+        (λ noted. (modules_outcome (slots.modules modules) ≡ None)
+        × (slots.modules noted ≡ slots.modules modules))
         (λ arisen. modules_outcome (slots.modules modules) ≡ Some arisen) }
     ensures is_read { is_read_halt result ≡ false }
 {
@@ -57,16 +60,17 @@ fn judge_modules(alloc: Global, modules: Modules) -> Result<(), Halt>
 }
 
 /// Judges what stands in the bodies of a program: its instances, then types, then the lives of variables.
-fn judge_bodies(alloc: Global, resolved: Resolved) -> Result<(), Halt>
+fn judge_bodies(alloc: Global, resolved: Resolved) -> Result<NotedProgram, Halt>
     ensures comes { Says result
-        (λ _. bodies_outcome (slots.modules resolved) ≡ None)
+        (λ noted. (bodies_outcome (slots.modules resolved) ≡ None)
+        × (slots.modules noted ≡ slots.modules resolved))
         (λ arisen. bodies_outcome (slots.modules resolved) ≡ Some arisen) }
     ensures is_read { is_read_halt result ≡ false }
 {
     let classes = declare(alloc, &resolved)?;
     let noted = note_program(alloc, resolved, classes)?;
     check_linear(alloc, noted.program())?;
-    Ok(())
+    Ok(noted)
 }
 
 /// The shipped files, and these behind them.
@@ -82,21 +86,40 @@ fn with_shipped(alloc: Global, own: Vec<FileTree>) -> Result<Vec<FileTree>, Memo
     Ok(files)
 }
 
-/// What accepted files come to that print so: where no more is asked they are accepted, and where their
-/// program is run it is seen what they print.
-pub fn accepted_outcome(aim: Aim, printings: Vec<Printing>) -> Result<Outcome, Halt>
+/// What accepted files come to that print so, whose program is this: where no more is asked they are
+/// accepted, where they are explained they come to the lives of their variables, and where their program is
+/// run it is seen what they print.
+pub fn accepted_outcome(
+    alloc: Global,
+    aim: Aim,
+    noted: &NotedProgram,
+    printings: Vec<Printing>,
+) -> Result<Outcome, Halt>
     requires { 0 < length printings.items }
     ensures comes { (reads : List ReadFile) → AllPrintSo printings.items reads
+        → slots.modules noted.now ≡ program_modules reads
         → Says result (AcceptedCome aim reads) (AcceptedCome aim reads) }
     ensures is_read { is_read_halt result ≡ false }
 {
     match aim {
         Aim::Check => Ok(Outcome::Accepted),
+        Aim::Explain => explained(alloc, noted),
         Aim::Run => {
             let first = printed(printings)?;
             Ok(Outcome::Prints(first))
         }
     }
+}
+
+/// The lives of the variables of an accepted program.
+fn explained(alloc: Global, noted: &NotedProgram) -> Result<Outcome, Halt>
+    ensures comes { Says result
+        (λ arisen. arisen ≡ outcome.Explained (program_lives (slots.modules noted.now)))
+        (λ arisen. arisen ≡ outcome.Explained (program_lives (slots.modules noted.now))) }
+    ensures is_read { is_read_halt result ≡ false }
+{
+    let lives = lives_of(alloc, noted)?;
+    Ok(Outcome::Explained(lives))
 }
 
 /// What the program prints, whose files print so: the first that doesn't print ends it, and the last one

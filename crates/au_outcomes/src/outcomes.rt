@@ -1,6 +1,7 @@
 //! What a program comes to before it runs, and why it is not run.
 
 use au_base::{Limit, Text};
+use au_explain::Lives;
 use au_printing::First;
 use au_refusals::Refusal;
 
@@ -11,6 +12,8 @@ pub enum Aim {
     Run,
     /// To be judged, and no more.
     Check,
+    /// To tell the lives of its variables.
+    Explain,
 }
 
 /// What words and files come to, where nothing fails and memory is there.
@@ -26,6 +29,8 @@ pub enum Outcome {
     Refused(Refusal),
     /// The program is accepted, and no more is asked of it.
     Accepted,
+    /// The program is accepted, and these are the lives of its variables.
+    Explained(Lives),
     /// The program prints, and returns an exit code.
     Prints(First),
 }

@@ -75,7 +75,6 @@ place_text names at =
 
 -- the word for what isn't built yet, as its line says it
 abbrev pub unbuilt_word : Unbuilt → List ℕ
-unbuilt_word unbuilt.Explain = codes "explain"
 unbuilt_word unbuilt.Compile = codes "compile"
 unbuilt_word unbuilt.Entry = codes "entry"
 unbuilt_word unbuilt.Steps = codes "steps"

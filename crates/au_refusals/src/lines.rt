@@ -210,7 +210,6 @@ fn unbuilt_word(what: Unbuilt) -> &'static [u8]
     ensures { result.now ≡ lines.unbuilt_word what }
 {
     match what {
-        Unbuilt::Explain => b"explain",
         Unbuilt::Compile => b"compile",
         Unbuilt::Entry => b"entry",
         Unbuilt::Steps => b"steps",

@@ -36,8 +36,6 @@ pub enum Refusal {
 /// What words ask for that is not built yet.
 #[derive(Clone, Copy, Debug, PartialEq, Eq)]
 pub enum Unbuilt {
-    /// The command `explain`.
-    Explain,
     /// The command `compile`.
     Compile,
     /// A run from an entry that is named.

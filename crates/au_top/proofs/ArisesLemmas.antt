@@ -36,6 +36,8 @@ module _ (words names : List (List ℕ)) (task : Task) (files : Files) (aim : Ai
       (task, job, same, subst (λ asked. Asks asked files names (outcome.Refused refusal)) built comes)
   arises_from outcome.Accepted job same built comes =
       (task, job, same, subst (λ asked. Asks asked files names outcome.Accepted) built comes)
+  arises_from (outcome.Explained lives) job same built comes =
+      (task, job, same, subst (λ asked. Asks asked files names (outcome.Explained lives)) built comes)
   arises_from (outcome.Prints first) job same built comes =
       (task, job, same, subst (λ asked. Asks asked files names (outcome.Prints first)) built comes)
 
@@ -57,6 +59,7 @@ arises_outcome words files names (outcome.Missing other) h = refl
 arises_outcome words files names (outcome.Passes limit) h = refl
 arises_outcome words files names (outcome.Refused refusal) h = asks_outcome (asked_of h.0) files names (outcome.Refused refusal) h.3
 arises_outcome words files names outcome.Accepted h = refl
+arises_outcome words files names (outcome.Explained lives) h = refl
 arises_outcome words files names (outcome.Prints first) h = refl
 
 -- a job that asks for nothing that isn't built asks for files

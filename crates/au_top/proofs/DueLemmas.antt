@@ -5,7 +5,7 @@ use Rattle.au_base.specs.declared.statuses.Status.TheVariants as status
 use Rattle.au_base.specs.Outside.{Files, Adds, Counts, HasRisen}
 use Rattle.au_top.specs.Calls.{IsPaid, CameTo, HasComeBehind, HasPassed, HasRun, HasSucceeded, IsMissingSo}
 use Rattle.au_top.specs.Calls.{IsRefusedSo, Pays, is_decided}
-use Rattle.au_outcomes.specs.Accepted.{Accepted, is_behind}
+use Rattle.au_outcomes.specs.Accepted.{Accepted, AreAcceptedAs, is_behind}
 use Rattle.au_outcomes.specs.Halts.{AreTold, is_missing}
 use Rattle.au_words.specs.Jobs.{Task, IsJob, IsNoJob}
 use Rattle.au_words.proofs.JobLemmas.{one_job}
@@ -14,13 +14,16 @@ use Rattle.au_outcomes.specs.declared.outcomes.Aim.{Aim}
 use Rattle.au_outcomes.specs.declared.outcomes.Aim.TheVariants as aims
 use Rattle.au_top.specs.Jobs.{asked_by, asked_of}
 use Rattle.au_outcomes.specs.Outcomes.{AreFiles, BytesCome, Comes, FewCome, is_outcome, most_files}
-use Rattle.au_top.specs.Dues.{Arises, Asks, Due, IsAcceptedJob, IsCheck, IsUnread, Owes, accepted_due, due_of}
-use Rattle.au_outcomes.specs.Trees.{HasNoTree, HasTokens, IsRead}
+use Rattle.au_top.specs.Dues.{Arises, Asks, Due, IsAcceptedJob, IsCheck, IsExplain, IsUnread, Owes, accepted_due}
+use Rattle.au_top.specs.Dues.{due_of, explained_due}
+use Rattle.au_outcomes.specs.Programs.{read_lives}
+use Rattle.au_outcomes.specs.Trees.{HasNoTree, HasTokens, IsRead, ReadFile}
 use Rattle.au_refusals.specs.declared.refusals.Unbuilt.{Unbuilt}
 use Rattle.au_outcomes.specs.declared.outcomes.Outcome.{Outcome}
 use Rattle.au_outcomes.specs.declared.outcomes.Outcome.TheVariants as outcome
 use Rattle.au_top.proofs.ArisesLemmas.{arises_outcome}
-use Rattle.au_outcomes.proofs.AcceptedLemmas.{accepted_behind, behind_accepted, checked_accepted, not_both}
+use Rattle.au_outcomes.proofs.AcceptedLemmas.{accepted_behind, behind_accepted, checked_accepted, comes_asked}
+use Rattle.au_outcomes.proofs.AcceptedLemmas.{not_both}
 use Rattle.au_outcomes.proofs.FetchLemmas.{few_had}
 use Rattle.au_outcomes.proofs.HaltLemmas.{IsHalt, first_halt, read_at, treeless}
 use Rattle.au_outcomes.proofs.NameLemmas.{comes_same, files_same, first_or_files, many_or_few}
@@ -38,6 +41,7 @@ is_arisen words files names (outcome.Missing other) h = inr h
 is_arisen words files names (outcome.Passes limit) h = inr h
 is_arisen words files names (outcome.Refused refusal) h = inr h
 is_arisen words files names outcome.Accepted h = inr h
+is_arisen words files names (outcome.Explained lives) h = inr h
 is_arisen words files names (outcome.Prints first) h = inr h
 
 -- what is asked for comes to one thing
@@ -120,6 +124,7 @@ came_refused words told faults faults' ends out out' err err' paid is =
     so names (outcome.Passes limit) err err' good e adds = absurd cc
     so names (outcome.Refused refusal) err err' good e adds = (refusal, good, refl, adds)
     so names outcome.Accepted err err' good e adds = absurd cc
+    so names (outcome.Explained lives) err err' good e adds = absurd cc
     so names (outcome.Prints first) err err' good e adds = absurd (no_refusal first.success e)
 
 -- a status of an exit code
@@ -159,6 +164,7 @@ came_limit words told faults faults' ends out out' err err' paid is =
     so names (outcome.Passes limit) err err' e adds = (limit, refl, adds)
     so names (outcome.Refused refusal) err err' e adds = absurd cc
     so names outcome.Accepted err err' e adds = absurd cc
+    so names (outcome.Explained lives) err err' e adds = absurd cc
     so names (outcome.Prints first) err err' e adds = absurd (no_exit first.success status.Limit (sym e) refl)
 
 -- the line of a missing file was paid for a file that is missing
@@ -177,6 +183,7 @@ came_missing words told faults faults' ends out out' err err' paid is =
     so names (outcome.Passes limit) err err' e adds = absurd cc
     so names (outcome.Refused refusal) err err' e adds = absurd cc
     so names outcome.Accepted err err' e adds = absurd cc
+    so names (outcome.Explained lives) err err' e adds = absurd cc
     so names (outcome.Prints first) err err' e adds = absurd (no_exit first.success status.Missing (sym e) refl)
 
 -- a miss was counted for a file that is missing
@@ -187,6 +194,7 @@ missing_is names (outcome.Missing name) e = refl
 missing_is names (outcome.Passes limit) e = absurd cc
 missing_is names (outcome.Refused refusal) e = absurd cc
 missing_is names outcome.Accepted e = absurd cc
+missing_is names (outcome.Explained lives) e = absurd cc
 missing_is names (outcome.Prints first) e = absurd (no_exit first.success status.Missing (sym e) refl)
 
 pub missed : (names : List (List ℕ)) (arisen : Outcome) (old new : ℕ)
@@ -204,6 +212,7 @@ due_decided names (outcome.Missing name) = refl
 due_decided names (outcome.Passes limit) = refl
 due_decided names (outcome.Refused refusal) = refl
 due_decided names outcome.Accepted = refl
+due_decided names (outcome.Explained lives) = refl
 due_decided names (outcome.Prints first) = exit_decided first.success
 
 pub undecided : {T : Type 0} (names : List (List ℕ)) (arisen : Outcome) (ends other : Status)
@@ -225,6 +234,7 @@ failed_so names (outcome.Missing name) out out' e adds = absurd cc
 failed_so names (outcome.Passes limit) out out' e adds = absurd cc
 failed_so names (outcome.Refused refusal) out out' e adds = absurd cc
 failed_so names outcome.Accepted out out' e adds = absurd cc
+failed_so names (outcome.Explained lives) out out' e adds = absurd cc
 failed_so names (outcome.Prints first) out out' e adds = prints_so false names first out out' e adds
 
 succeeded_so : (names : List (List ℕ)) (arisen : Outcome) (out out' : Option (List ℕ))
@@ -234,7 +244,8 @@ succeeded_so names outcome.NoJob out out' e adds = absurd cc
 succeeded_so names (outcome.Missing name) out out' e adds = absurd cc
 succeeded_so names (outcome.Passes limit) out out' e adds = absurd cc
 succeeded_so names (outcome.Refused refusal) out out' e adds = absurd cc
-succeeded_so names outcome.Accepted out out' e adds = inr (refl, adds)
+succeeded_so names outcome.Accepted out out' e adds = inr (inl (refl, adds))
+succeeded_so names (outcome.Explained lives) out out' e adds = inr (inr (lives, refl, adds))
 succeeded_so names (outcome.Prints first) out out' e adds = inl (prints_so true names first out out' e adds)
 
 pub came_success : (words : List (List ℕ)) (told : Option Files) (faults faults' : ℕ) (ends : Status)
@@ -262,6 +273,7 @@ came_words words told faults faults' ends out out' err err' paid is =
     so files names (outcome.Passes limit) arises e = absurd cc
     so files names (outcome.Refused refusal) arises e = absurd cc
     so files names outcome.Accepted arises e = absurd cc
+    so files names (outcome.Explained lives) arises e = absurd cc
     so files names (outcome.Prints first) arises e = absurd (no_words first.success e)
 
 pub came_no_job : (words : List (List ℕ)) (told : Option Files) (faults faults' : ℕ) (ends : Status) (out out' err err' : Option (List ℕ)) → IsPaid words told faults faults' ends out out' err err' → IsNoJob words → is_decided ends ≡ true → ends ≡ status.Words
@@ -401,6 +413,20 @@ check_accepted words files names arisen task check arises past =
           checked_accepted files names arisen comes.1 past
     ]
 
+-- accepted files that are explained come to the lives of their variables
+explain_tells : (words : List (List ℕ)) (files : Files) (names all : List (List ℕ)) (arisen : Outcome) (task : Task)
+    (reads : List ReadFile) → IsExplain words task → Arises words files names arisen
+    → AreAcceptedAs files task.files all reads → arisen ≡ outcome.Explained (read_lives reads)
+explain_tells words files names all arisen task reads job arises good =
+    elim (is_arisen words files names arisen arises) [
+      | inl p ↦ absurd (p.0 task job.0)
+      | inr p ↦
+          let comes =
+          job_comes words files names arisen task aims.Explain job.0 (ap (asked_by task) job.1) p in
+          comes_asked aims.Explain files names all reads arisen
+          (subst (λ ns. AreAcceptedAs files ns all reads) comes.0 good) comes.1
+    ]
+
 -- success comes behind alone
 success_behind : (names : List (List ℕ)) (arisen : Outcome) → status.Success ≡ (due_of names arisen).status
     → is_behind arisen ≡ true
@@ -409,6 +435,7 @@ success_behind names (outcome.Missing name) e = absurd cc
 success_behind names (outcome.Passes limit) e = absurd cc
 success_behind names (outcome.Refused refusal) e = absurd cc
 success_behind names outcome.Accepted e = refl
+success_behind names (outcome.Explained lives) e = refl
 success_behind names (outcome.Prints first) e = refl
 
 module _
@@ -448,6 +475,29 @@ module _
               let one : good.0 ≡ task = one_job words good.0 task good.2 check.0 in
               subst (Accepted files) (ap (λ (t : Task). t.files) one) good.4,
         )
+
+    -- The lives of the variables of files that are explained and accepted are told.
+    pub came_explained : (task : Task) (all : List (List ℕ)) (reads : List ReadFile) → IsExplain words task
+        → AreAcceptedAs files task.files all reads
+        → Pays (explained_due (read_lives reads)) ends out out' err err'
+    came_explained task all reads job good =
+        let h = came words told faults faults' ends out out' err err' paid decided in
+        let same : h.0 ≡ files = subst (λ t. AreTold t h.0) is h.1 in
+        let arises : Arises words files h.2 h.3 = subst (λ f. Arises words f h.2 h.3) same h.4 in
+        subst (λ o. Pays (due_of h.2 o) ends out out' err err')
+        (explain_tells words files h.2 all h.3 task reads job arises good) h.5
+
+    -- Only files that are accepted are explained with success.
+    pub came_explained_only : (task : Task) → IsExplain words task → ends ≡ status.Success
+        → Accepted files task.files
+    came_explained_only task job succeeds =
+        let h = came words told faults faults' ends out out' err err' paid decided in
+        let same : h.0 ≡ files = subst (λ t. AreTold t h.0) is h.1 in
+        let arises : Arises words files h.2 h.3 = subst (λ f. Arises words f h.2 h.3) same h.4 in
+        let past = success_behind h.2 h.3 (sym succeeds ∙ h.5.status) in
+        let good = arises_accepted words files h.2 h.3 arises past in
+        let one : good.0 ≡ task = one_job words good.0 task good.2 job.0 in
+        subst (Accepted files) (ap (λ (t : Task). t.files) one) good.4
 
 -- what was answered for an outcome was paid for it
 pub paid_so : (words names given : List (List ℕ)) (told : Option Files) (faults faults' : ℕ) (arisen : Outcome) (ends : Status) (out out' err err' : Option (List ℕ)) → given ≡ names →

@@ -1,13 +1,16 @@
 -- Fronts of pieces that stand one behind another.
-use Rattle.std.proofs.Common.{◌≡◌, ℕ, ◌+◌, ◌<◌, min, List, ◌++◌, length, take, drop, get_or, Option, Result, Ok, Err, OnOk, OnErr, IfOk, IfErr, IsOkUnless, ap, ◌∙◌, sym, refl, subst, inr, arith}
+use Rattle.std.proofs.Common.{◌≡◌, ℕ, ◌+◌, ◌<◌, min, List, ◌++◌, length, take, drop, get_or, Option, Result, Ok, Err, OnOk, OnErr, IfOk, IfErr, IsOkUnless, ap, ◌∙◌, sym, refl, subst, inl, inr, arith}
 use Rattle.std.specs.List.{flat_map}
 use Rattle.std.proofs.Math.Seq.{take-append-add}
 use Rattle.std.proofs.lemmas.List.{take-append-le, take_min, take-append-drop, drop_more}
 use Rattle.std.proofs.lemmas.Grind.{flat_map-append}
 use Rattle.au_base.specs.declared.statuses.Status.{Status}
+use Rattle.au_base.specs.declared.statuses.Status.TheVariants as status
 use Rattle.au_base.specs.Outside.{Adds, AddsFront, HasRisen}
+use Rattle.au_explain.specs.Lines.{life_text}
+use Rattle.au_explain.specs.declared.lists.Lives.{Lives}
 use Rattle.au_top.specs.Calls.{Pays, Fails}
-use Rattle.au_top.specs.Dues.{due_line}
+use Rattle.au_top.specs.Dues.{due_line, explained_due}
 use Rattle.au_top.specs.declared.answering.AnswerFault.{AnswerFault}
 use Rattle.au_top.specs.declared.answering.AnswerFault.TheVariants as answer
 use Rattle.au_base.proofs.OutsideLemmas.{adds_both, adds_none}
@@ -47,3 +50,23 @@ said_fails (Ok s) ends text out err err' faults errors errors' unless front rise
 said_fails (Err answer.Write) ends text out err err' faults errors errors' unless front risen =
     record { out_bytes = (0, adds_none out); err_bytes = front; risen = inr (refl, risen) }
 said_fails (Err answer.Memory) ends text out err err' faults errors errors' unless front risen = let e : answer.Memory ≡ answer.Write = unless in cc
+
+-- lives that were told, or were cut
+pub lives_pay : (r : Result Status AnswerFault) (lives : Lives) (out out' err : Option (List ℕ))
+    → IfOk r (λ s. s ≡ status.Success) → OnOk r (Adds out out' (life_text lives))
+    → IfOk r (λ s. Pays (explained_due lives) s out out' err err)
+lives_pay (Ok s) lives out out' err same adds =
+    record { status = same; out_bytes = adds; err_bytes = adds_none err }
+lives_pay (Err e) lives out out' err same adds = tt
+
+pub lives_fail : (r : Result Status AnswerFault) (lives : Lives) (out out' err : Option (List ℕ))
+    (faults faults' errors : ℕ) → (r ≡ Err answer.Write → AddsFront out out' (life_text lives))
+    → (r ≡ Err answer.Write → HasRisen faults faults')
+    → (r ≡ Err answer.Memory → (out' ≡ out) × (faults' ≡ faults))
+    → IfErr r (λ e. Fails e (explained_due lives) out out' err err faults faults' errors errors)
+lives_fail (Ok s) lives out out' err faults faults' errors front risen memory = tt
+lives_fail (Err answer.Write) lives out out' err faults faults' errors front risen memory =
+    record { out_bytes = front refl; err_bytes = (0, adds_none err); risen = inl (risen refl, refl, refl) }
+lives_fail (Err answer.Memory) lives out out' err faults faults' errors front risen memory =
+    let same = memory refl in
+    record { out_bytes = same.0; err_bytes = refl; out_quiet = same.1; err_quiet = refl }

@@ -4,6 +4,8 @@ use Rattle.au_base.specs.declared.limits.Limit.{Limit}
 use Rattle.au_base.specs.declared.statuses.Status.{Status}
 use Rattle.au_base.specs.declared.statuses.Status.TheVariants as status
 use Rattle.au_base.specs.Outside.{Files, Adds, AddsFront, HasRisen}
+use Rattle.au_explain.specs.Lines.{life_text}
+use Rattle.au_explain.specs.declared.lists.Lives.{Lives}
 use Rattle.au_words.specs.Jobs.{Task, IsJob}
 use Rattle.au_outcomes.specs.Accepted.{is_behind}
 use Rattle.au_outcomes.specs.Halts.{AreTold, StopsIn}
@@ -108,11 +110,17 @@ HasRun success out out' names arisen =
 abbrev pub IsSaidAccepted : Option (List ℕ) → Option (List ℕ) → List (List ℕ) → Outcome → Type 0
 IsSaidAccepted out out' names arisen = (arisen ≡ outcome.Accepted) × Adds out out' accepted_line
 
--- The program ran and returned the exit code of success, or it is checked and accepted.
+-- Files are accepted, and the text of the lives of their variables stands on `out`.
+abbrev pub IsExplained : Option (List ℕ) → Option (List ℕ) → List (List ℕ) → Outcome → Type 0
+IsExplained out out' names arisen =
+    (lives : Lives) × (arisen ≡ outcome.Explained lives) × Adds out out' (life_text lives)
+
+-- The program ran and returned the exit code of success, or it is checked and accepted, or explained.
 abbrev pub HasSucceeded : Option (List ℕ) → Option (List ℕ) → List (List ℕ) → Outcome → Type 0
-HasSucceeded out out' names arisen = HasRun true out out' names arisen ⊎ IsSaidAccepted out out' names arisen
+HasSucceeded out out' names arisen =
+    HasRun true out out' names arisen ⊎ (IsSaidAccepted out out' names arisen ⊎ IsExplained out out' names arisen)
 
 -- The steps that judge whether files are accepted have refused nothing, and what came behind them was paid:
--- that they are accepted, or what the program prints, or that a file doesn't print.
+-- that they are accepted, or the lives of their variables, or what the program prints, or that a file doesn't print.
 abbrev pub HasComeBehind : Status → (out out' err err' : Option (List ℕ)) → List (List ℕ) → Outcome → Type 0
 HasComeBehind ends out out' err err' names arisen = IsTrue (is_behind arisen) × Pays (due_of names arisen) ends out out' err err'

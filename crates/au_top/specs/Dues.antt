@@ -5,6 +5,8 @@ use Rattle.std.specs.List.{flat_map}
 use Rattle.au_base.specs.declared.statuses.Status.{Status}
 use Rattle.au_base.specs.declared.statuses.Status.TheVariants as status
 use Rattle.au_base.specs.Outside.{Files}
+use Rattle.au_explain.specs.Lines.{life_text}
+use Rattle.au_explain.specs.declared.lists.Lives.{Lives}
 use Rattle.au_printing.specs.declared.files.Print.{Print}
 use Rattle.au_words.specs.Jobs.{Task, IsJob, IsNoJob}
 use Rattle.au_words.specs.declared.jobs.Command.TheVariants as command
@@ -58,6 +60,10 @@ due_line ends text = record { status = ends; out = []; err = text }
 abbrev pub accepted_due : Due
 accepted_due = record { status = status.Success; out = accepted_line; err = [] }
 
+-- what is due for a program that is accepted, where the lives of its variables are told
+abbrev pub explained_due : Lives → Due
+explained_due lives = record { status = status.Success; out = life_text lives; err = [] }
+
 -- what is due for each outcome
 abbrev pub due_of : List (List ℕ) → Outcome → Due
 due_of names outcome.NoJob = due_line status.Words words_line
@@ -65,6 +71,7 @@ due_of names (outcome.Missing name) = due_line status.Missing (missing_line name
 due_of names (outcome.Passes limit) = due_line status.Limit (limit_line limit)
 due_of names (outcome.Refused refusal) = due_line status.Refused (refusal_line names refusal)
 due_of names outcome.Accepted = accepted_due
+due_of names (outcome.Explained lives) = explained_due lives
 due_of names (outcome.Prints first) = record {
   status = if first.success then status.Success else status.Failure;
   out = flat_map printed first.prints;
@@ -93,3 +100,7 @@ IsAcceptedJob words files =
 -- The words are this job, a `check`.
 abbrev pub IsCheck : List (List ℕ) → Task → Type 0
 IsCheck words task = IsJob words task × (task.command ≡ command.Check)
+
+-- The words are this job, an `explain`.
+abbrev pub IsExplain : List (List ℕ) → Task → Type 0
+IsExplain words task = IsJob words task × (task.command ≡ command.Explain)

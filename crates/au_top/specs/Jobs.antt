@@ -22,7 +22,7 @@ asked_of_run task =
 abbrev pub asked_by : Task → Command → Result Aim Unbuilt
 asked_by task command.Run = asked_of_run task
 asked_by task command.Compile = Err unbuilt.Compile
-asked_by task command.Explain = Err unbuilt.Explain
+asked_by task command.Explain = Ok aims.Explain
 asked_by task command.Check = Ok aims.Check
 
 -- the same of what is asked for

@@ -1,14 +1,16 @@
 //! What a call writes, and the status with which it ends.
 
-ghost use Rattle.std.specs.Prelude.{◌≡◌, OnOk, OnErr, IfOk, IfErr, IsOkUnless, IsTrue, map, if◌then◌else◌};
+ghost use Rattle.std.specs.Prelude.{◌≡◌, Err, OnOk, OnErr, IfOk, IfErr, IsOkUnless, IsTrue, map, if◌then◌else◌};
 ghost use Rattle.std.specs.List.{flat_map};
 ghost use Rattle.std.specs.String.{string_bytes};
 ghost use Rattle.au_base.specs.Outside.{HasRisen, Adds, AddsFront};
+ghost use Rattle.au_explain.specs.Lines.{life_text};
 ghost use Rattle.au_top.specs.Calls.{Fails, Pays};
 ghost use Rattle.au_outcomes.specs.Outcomes.{is_outcome};
 ghost use Rattle.au_top.specs.Dues.{printed, due_of};
 
 use au_base::{Memory, Sink, Status, WriteFault, put_all};
+use au_explain::{Lives, PrintFault, explain};
 use au_outcomes::Outcome;
 use au_printing::{First, Print};
 use au_refusals::{limit_line, missing_line, refusal_text};
@@ -93,8 +95,26 @@ fn say<E: Sink>(err: &mut E, line: &[u8], status: Status) -> Result<Status, Answ
     Ok(status)
 }
 
-/// Writes what is due for an outcome: a line on `err`, or what the program prints, or that it is accepted, on
-/// `out`.
+/// Writes the text of the lives of the variables of a program, and ends with success.
+fn put_lives<O: Sink>(alloc: Global, lives: &Lives, out: &mut O) -> Result<Status, AnswerFault>
+    ensures ok { IfOk result (λ ends. ends ≡ Status.Success) }
+    ensures written { OnOk result (Adds (O.written out.old) (O.written out.new) (life_text lives.now)) }
+    ensures quiet { OnOk result (O.faults out.new ≡ O.faults out.old) }
+    ensures front { result ≡ Err AnswerFault.Write
+        → AddsFront (O.written out.old) (O.written out.new) (life_text lives.now) }
+    ensures risen { result ≡ Err AnswerFault.Write → HasRisen (O.faults out.old) (O.faults out.new) }
+    ensures memory { result ≡ Err AnswerFault.Memory
+        → (O.written out.new ≡ O.written out.old) × (O.faults out.new ≡ O.faults out.old) }
+{
+    match explain(alloc, lives, out) {
+        Ok(()) => Ok(Status::Success),
+        Err(PrintFault::Write) => Err(AnswerFault::Write),
+        Err(PrintFault::Memory) => Err(AnswerFault::Memory),
+    }
+}
+
+/// Writes what is due for an outcome: a line on `err`, or what the program prints, or that it is accepted, or
+/// the lives of its variables, on `out`.
 /// `names` are the names of the program's files.
 pub fn answer<O: Sink, E: Sink>(
     alloc: Global,
@@ -129,6 +149,7 @@ pub fn answer<O: Sink, E: Sink>(
             put_all(out, ACCEPTED_LINE)?;
             Ok(Status::Success)
         }
+        Outcome::Explained(lives) => put_lives(alloc, lives, out),
         Outcome::Prints(first) => {
             put_prints(out, first.prints.as_slice())?;
             Ok(exit_status(first))

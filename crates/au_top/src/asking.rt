@@ -21,7 +21,7 @@ pub fn asked_of(job: &Job) -> Result<Aim, Unbuilt>
 {
     match job.command {
         Command::Check => Ok(Aim::Check),
-        Command::Explain => Err(Unbuilt::Explain),
+        Command::Explain => Ok(Aim::Explain),
         Command::Compile => Err(Unbuilt::Compile),
         Command::Run => asked_of_run(job),
     }

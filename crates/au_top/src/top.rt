@@ -1,15 +1,17 @@
 //! The call that the program is.
 
-ghost use Rattle.std.specs.Prelude.{◌≡◌, ◌≢◌, ◌↔◌, ◌⊎◌, Some, false, IfOk, IsTrue, map};
+ghost use Rattle.std.specs.Prelude.{◌≡◌, ◌≢◌, ◌↔◌, ◌⊎◌, ℕ, List, Some, false, IfOk, IsTrue, map};
 ghost use Rattle.std.specs.String.{string_bytes};
 ghost use Rattle.au_base.specs.Outside.{Files, HasRisen, Counts};
 ghost use Rattle.au_words.specs.Jobs.{IsNoJob, Task};
 ghost use Rattle.au_top.specs.Calls.{CameTo, FailsBehind, HasComeBehind, HasPassed, HasRun, HasSucceeded};
 ghost use Rattle.au_top.specs.Calls.{IsCut, IsMissingSo, IsPaid, IsRefusedSo, IsUntouched, MayOwe, Pays, is_decided};
-ghost use Rattle.au_outcomes.specs.Accepted.{Accepted};
+ghost use Rattle.au_outcomes.specs.Accepted.{Accepted, AreAcceptedAs};
 ghost use Rattle.au_outcomes.specs.Halts.{AreTold, is_read_fault, is_missing};
+ghost use Rattle.au_outcomes.specs.Programs.{read_lives};
+ghost use Rattle.au_outcomes.specs.Trees.{ReadFile};
 ghost use Rattle.au_top.specs.Dues.{Arises, AsksForNoFile, AsksForTooMany, Due, IsAcceptedJob, IsCheck};
-ghost use Rattle.au_top.specs.Dues.{IsUnread, Owes, accepted_due};
+ghost use Rattle.au_top.specs.Dues.{IsExplain, IsUnread, Owes, accepted_due, explained_due};
 
 use crate::answering::{AnswerFault, answer};
 use crate::asking::asked_of;
@@ -56,6 +58,15 @@ pub fn austral<S: Shelf, I: Source, O: Sink, E: Sink>(
         → IsCheck (map string_bytes words.now) task → IsTrue (is_decided result)
         → Accepted files task.files ↔ Pays accepted_due result
         (O.written out.old) (O.written out.new) (E.written err.old) (E.written err.new) }
+    // Where files are told, a job `explain` writes the lives of the variables of its files' program, and ends
+    // with 0, where the files are accepted, and it ends with 0 only there.
+    ensures explained { (files : Files) (task : Task) (all : List (List ℕ)) (reads : List ReadFile)
+        → S.files shelf.old ≡ Some files → IsExplain (map string_bytes words.now) task
+        → IsTrue (is_decided result) → AreAcceptedAs files task.files all reads
+        → Pays (explained_due (read_lives reads)) result
+        (O.written out.old) (O.written out.new) (E.written err.old) (E.written err.new) }
+    ensures explained_only { (files : Files) (task : Task) → S.files shelf.old ≡ Some files
+        → IsExplain (map string_bytes words.now) task → result ≡ Status.Success → Accepted files task.files }
     // 64 comes exactly where the words are no job.
     ensures words { result ≡ Status.Words → IsNoJob (map string_bytes words.now) }
     ensures no_job { IsNoJob (map string_bytes words.now) → IsTrue (is_decided result) → result ≡ Status.Words }
@@ -67,7 +78,8 @@ pub fn austral<S: Shelf, I: Source, O: Sink, E: Sink>(
         (HasPassed (E.written err.old) (E.written err.new)) }
     ensures missing_file { result ≡ Status.Missing → CameTo (map string_bytes words.now) (S.files shelf.old)
         (IsMissingSo (E.written err.old) (E.written err.new)) }
-    // 0 and 1 come by the exit code, with all that the program prints, and 0 where it's checked and accepted.
+    // 0 and 1 come by the exit code, with all that the program prints, and 0 where it's checked and accepted,
+    // or where the lives of its variables are told.
     ensures success { result ≡ Status.Success → CameTo (map string_bytes words.now) (S.files shelf.old)
         (HasSucceeded (O.written out.old) (O.written out.new)) }
     ensures failure { result ≡ Status.Failure → CameTo (map string_bytes words.now) (S.files shelf.old)

@@ -16,6 +16,6 @@ returns-in_err-modules-clause-comes c =
 
 pub returns-clause-comes : goal.returns-clause-comes
 returns-clause-comes c =
-    program_says (map entry c.in_ok-files.files.items) (shipped_entries ++ map entry c.args.own.items)
+    program_says (λ n. slots.modules n) (map entry c.in_ok-files.files.items) (shipped_entries ++ map entry c.args.own.items)
     (slots.modules c.in_ok-modules.modules) _ c.in_ok-files.ensures.files
     c.in_ok-modules.ensures.modules c.in_ok-modules.ensures.accepted c.judge_modules.ensures.comes

@@ -1,5 +1,5 @@
 -- The first that is refused ends it: of instances, then of types, then of lives.
-use Rattle.std.proofs.Common.{◌≡◌, ◌⊎◌, Some, None, ◌∙◌, refl, subst}
+use Rattle.std.proofs.Common.{◌≡◌, ◌⊎◌, Some, None, ◌∙◌, ap, refl, subst}
 use Rattle.std.proofs.lemmas.Result.{err_from_is_err_and}
 use Rattle.au_classes.proofs.AcceptedLemmas as standing
 use Rattle.au_modules.specs.Slots as slots
@@ -47,9 +47,11 @@ returns-in_err-check_linear-clause-is_read c =
     rw (p.1, p.2) (unread (Unit {0}) (life_outcome c.in_err-check_linear.field-0.0))
 
 pub returns-clause-comes : goal.returns-clause-comes
-returns-clause-comes c =
-    bodies_good (slots.modules c.args.resolved)
-    (standing.good_accepted _ c.in_ok-classes.ensures.good)
-    c.in_ok-noted.ensures.accepted
-    (subst (λ m. linear_fault (slots.modules m) ≡ None) (c.program.ensures ∙ c.in_ok-noted.ensures.program)
-    c.in_ok-check_linear.ensures.accepted)
+returns-clause-comes c = (
+  bodies_good (slots.modules c.args.resolved)
+      (standing.good_accepted _ c.in_ok-classes.ensures.good)
+      c.in_ok-noted.ensures.accepted
+      (subst (λ m. linear_fault (slots.modules m) ≡ None) (c.program.ensures ∙ c.in_ok-noted.ensures.program)
+      c.in_ok-check_linear.ensures.accepted),
+  ap slots.modules c.in_ok-noted.ensures.program,
+)

@@ -4,10 +4,11 @@ use Rattle.std.specs.String.{string_bytes}
 use Rattle.au_base.proofs.OutsideLemmas.{adds_none}
 use Rattle.au_base.specs.declared.statuses.Status.TheVariants.{Memory, ReadFault, WriteFault}
 use Rattle.au_refusals.specs.Lines.{read_fault_line}
+use Rattle.au_top.specs.Calls.{is_decided}
 use Rattle.au_top.specs.Dues.{due_line}
 use Rattle.au_top.proofs.ArisesLemmas.{arises_outcome, read_risen}
 use Rattle.au_top.proofs.DueLemmas.{came_missing, missed, undecided}
-use Rattle.au_top.proofs.DueLemmas.{paid_so, pays_owed, came_accepted, came_checked, came_words, came_no_job, came_refused, came_unread, came_limit, came_success, came_failure}
+use Rattle.au_top.proofs.DueLemmas.{paid_so, pays_owed, came_accepted, came_checked, came_explained, came_explained_only, came_words, came_no_job, came_refused, came_unread, came_limit, came_success, came_failure}
 use Rattle.au_top.proofs.top.austral.Goals as goal
 
 pub answer-requires : goal.answer-requires
@@ -81,6 +82,34 @@ returns-in-Ok-answer-clause-checked g c = λ files task is check decided.
     let err' = g.E.Sink.written c.answer.new.err in
     let paid = paid_so words (map string_bytes c.in-Ok.names.items) (map string_bytes c.as_slice.result.now) told faults faults' c.in-Ok.outcome ends out out' err err' (ap (map string_bytes) c.as_slice.ensures.value) c.in-Ok.ensures.arises c.in-Ok-answer.ensures.pays in
     came_checked words told faults faults' ends out out' err err' files paid decided is task check
+
+pub returns-in-Ok-answer-clause-explained : goal.returns-in-Ok-answer-clause-explained
+returns-in-Ok-answer-clause-explained g c = λ files task is check decided.
+    let words = map string_bytes c.args.words.now in
+    let told = g.S.Shelf.files c.args.shelf.now in
+    let faults = g.S.Shelf.faults c.args.shelf.now in
+    let faults' = g.S.Shelf.faults c.outcome_of.new.shelf in
+    let ends = c.in-Ok-answer.status in
+    let out = g.O.Sink.written c.args.out.now in
+    let out' = g.O.Sink.written c.answer.new.out in
+    let err = g.E.Sink.written c.args.err.now in
+    let err' = g.E.Sink.written c.answer.new.err in
+    let paid = paid_so words (map string_bytes c.in-Ok.names.items) (map string_bytes c.as_slice.result.now) told faults faults' c.in-Ok.outcome ends out out' err err' (ap (map string_bytes) c.as_slice.ensures.value) c.in-Ok.ensures.arises c.in-Ok-answer.ensures.pays in
+    came_explained words told faults faults' ends out out' err err' files paid decided is task all reads job good
+
+pub returns-in-Ok-answer-clause-explained_only : goal.returns-in-Ok-answer-clause-explained_only
+returns-in-Ok-answer-clause-explained_only g c = λ files task is check decided.
+    let words = map string_bytes c.args.words.now in
+    let told = g.S.Shelf.files c.args.shelf.now in
+    let faults = g.S.Shelf.faults c.args.shelf.now in
+    let faults' = g.S.Shelf.faults c.outcome_of.new.shelf in
+    let ends = c.in-Ok-answer.status in
+    let out = g.O.Sink.written c.args.out.now in
+    let out' = g.O.Sink.written c.answer.new.out in
+    let err = g.E.Sink.written c.args.err.now in
+    let err' = g.E.Sink.written c.answer.new.err in
+    let paid = paid_so words (map string_bytes c.in-Ok.names.items) (map string_bytes c.as_slice.result.now) told faults faults' c.in-Ok.outcome ends out out' err err' (ap (map string_bytes) c.as_slice.ensures.value) c.in-Ok.ensures.arises c.in-Ok-answer.ensures.pays in
+    came_explained_only words told faults faults' ends out out' err err' files paid (ap is_decided succeeds) is task job succeeds
 
 pub returns-in-Ok-answer-clause-refused : goal.returns-in-Ok-answer-clause-refused
 returns-in-Ok-answer-clause-refused g c = λ is.
