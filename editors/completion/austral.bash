@@ -2,7 +2,7 @@
 _austral() {
   local word=${COMP_WORDS[COMP_CWORD]} before= last
   if [ "$COMP_CWORD" -eq 1 ]; then
-    mapfile -t COMPREPLY < <(compgen -W 'check run' -- "$word")
+    mapfile -t COMPREPLY < <(compgen -W 'check explain run' -- "$word")
     return
   fi
   # A part is file names joined by commas: the last one is completed.

@@ -15,5 +15,6 @@ end
 
 complete -c austral -f
 complete -c austral -n __austral_no_command -a check -d 'Say whether the program is accepted'
+complete -c austral -n __austral_no_command -a explain -d 'Write where each resource is born, lent and consumed'
 complete -c austral -n __austral_no_command -a run -d 'Judge the program and run it, where it only prints'
 complete -c austral -n 'not __austral_no_command' -a '(__austral_files)'
