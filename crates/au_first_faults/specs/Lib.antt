@@ -1,0 +1,4 @@
+pub mod Clauses
+pub mod NodeClauses
+pub mod CallClauses
+pub mod FirstFaults
