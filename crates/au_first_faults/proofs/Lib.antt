@@ -5,3 +5,6 @@ pub mod NodeLemmas
 pub mod WholeCallLemmas
 pub mod CallTellLemmas
 pub mod TellLemmas
+pub mod StatementClauseLemmas
+pub mod OwnLemmas
+pub mod BlockLemmas

@@ -20,10 +20,11 @@ use Rattle.au_typing.proofs.FoundParts.{paired_found}
 use Rattle.au_typing.proofs.Refused.{noting_is_given}
 use Rattle.au_typing.proofs.Sound.{sound}
 use Rattle.au_typing.proofs.SoundParts.{paired_sound}
+use Rattle.au_typing.proofs.Steps.{bind_found}
 use Rattle.au_first_faults.specs.Clauses.{Clause, TellsFirst, has_type}
 use Rattle.au_first_faults.specs.FirstFaults.{FirstFault, PairNoted, a_leaf, of_a_part, of_the_node}
 use Rattle.au_first_faults.specs.NodeClauses.{of_arrow, of_borrow, of_borrowed_part, of_leaf, of_path}
-use Rattle.au_first_faults.proofs.ClauseLemmas.{Tells, arrow_tells, bind_failed, borrow_part_tells, borrow_tells, fails_first, first_fails, known_tells, literal_tells, noted_tells, path_tells}
+use Rattle.au_first_faults.proofs.ClauseLemmas.{Tells, arrow_tells, bind_failed, bind_fails, borrow_part_tells, borrow_tells, fails_first, first_fails, known_tells, literal_tells, noted_tells, path_tells}
 
 pub not_logical : (op : BinaryOperator) → is_arithmetic op ≡ true → is_logical op ≡ false
 not_logical And h = absurd cc
@@ -131,7 +132,7 @@ module _ (scope : Scope) where
       (noting_is_given scope a (mode_of x) x (p.first, refl, p.first_is))
       (noting_is_given scope b (mode_of y) y (p.second, refl, p.second_is)) p.modes
 
-  pair_made : (a b : PlainExpression) (mode : Mode) (z : NotedExpression × NotedExpression)
+  pub pair_made : (a b : PlainExpression) (mode : Mode) (z : NotedExpression × NotedExpression)
       → paired (is_bare a) (is_bare b) (note_expression scope a) (note_expression scope b) mode ≡ Ok z
       → PairNoted scope a b mode z.0 z.1
   pair_made a b mode z h =
@@ -139,8 +140,51 @@ module _ (scope : Scope) where
       mode z (sound scope a) (sound scope b) h in
       record { first = i.0; second = i.1; first_is = i.2; second_is = i.3; modes = i.4 }
 
+  -- two operands, of which one fails in its turn
+  abbrev pair : PlainExpression → PlainExpression → Mode → Bool → Bool → Noting (NotedExpression × NotedExpression)
+  pair a b mode x y = paired x y (note_expression scope a) (note_expression scope b) mode
+
+  tests : (a b : PlainExpression) (mode : Mode) (x y : Bool) → is_bare a ≡ x → is_bare b ≡ y
+      → pair a b mode (is_bare a) (is_bare b) ≡ pair a b mode x y
+  tests a b mode x y left right =
+      ap (λ (t : Bool). pair a b mode t (is_bare b)) left ∙ ap (pair a b mode x) right
+
+  second_fails : (a b d e : PlainExpression) (mode first : Mode) (second : NotedExpression → Mode)
+      (pack : NotedExpression → NotedExpression → Noting (NotedExpression × NotedExpression)) (n : NotedExpression)
+      (f : Fault) → IsNoting scope d first n → note_expression scope e (second n) ≡ Err f
+      → (note_expression scope d first >>= λ x. note_expression scope e (second x) >>= pack x) ≡ Err f
+  second_fails a b d e mode first second pack n f is h =
+      bind_found (λ (x : NotedExpression). note_expression scope e (second x) >>= pack x)
+      (noting_is_given scope d first n is)
+      ∙ bind_fails (pack n) h
+
+  pub pair_fails : (a b d : PlainExpression) (mode own : Mode) (f : Fault) → Paired scope a b mode d own
+      → note_expression scope d own ≡ Err f
+      → paired (is_bare a) (is_bare b) (note_expression scope a) (note_expression scope b) mode ≡ Err f
+  pair_fails a b d mode own f (both_bare_first x y) h =
+      tests a b mode true true x y
+      ∙ bind_fails (λ (n : NotedExpression). note_expression scope b mode >>= behind_it n) h
+  pair_fails a b d mode own f (none_bare_first x y) h =
+      tests a b mode false false x y
+      ∙ bind_fails (λ (n : NotedExpression). note_expression scope b mode >>= behind_it n) h
+  pair_fails a b d mode own f (left_first x y) h =
+      tests a b mode false true x y
+      ∙ bind_fails (λ (n : NotedExpression). note_expression scope b (Some (type_of n)) >>= behind_it n) h
+  pair_fails a b d mode own f (right_first x y) h =
+      tests a b mode true false x y
+      ∙ bind_fails (λ (n : NotedExpression). note_expression scope a (Some (type_of n)) >>= before n) h
+  pair_fails a b d mode own f (both_bare_next n x y is) h =
+      tests a b mode true true x y ∙ second_fails a b a b mode mode (λ m. mode) behind_it n f is h
+  pair_fails a b d mode own f (none_bare_next n x y is) h =
+      tests a b mode false false x y ∙ second_fails a b a b mode mode (λ m. mode) behind_it n f is h
+  pair_fails a b d mode own f (right_next n x y is) h =
+      tests a b mode false true x y
+      ∙ second_fails a b a b mode mode (λ m. Some (type_of m)) behind_it n f is h
+  pair_fails a b d mode own f (left_next n x y is) h =
+      tests a b mode true false x y ∙ second_fails a b b a mode mode (λ m. Some (type_of m)) before n f is h
+
   -- what fails of two operands
-  abbrev PairFails : PlainExpression → PlainExpression → Mode → Fault → Type 0
+  abbrev pub PairFails : PlainExpression → PlainExpression → Mode → Fault → Type 0
   PairFails a b mode f =
       (d : PlainExpression) × (own : Mode) × Paired scope a b mode d own × FirstFault scope d own f
 
@@ -176,19 +220,19 @@ module _ (scope : Scope) where
           later z.0 (sound scope d first z.0 z.1)
           (bind_failed (note_expression scope e (second z.0)) (λ y. Ok (pack z.0 y)) f z.2)
 
-  by_kinds : (x y : Bool) (a b : PlainExpression) (mode : Mode) (f : Fault) → is_bare a ≡ x → is_bare b ≡ y
+  pub pair_failed : (x y : Bool) (a b : PlainExpression) (mode : Mode) (f : Fault) → is_bare a ≡ x → is_bare b ≡ y
       → Telling scope a → Telling scope b
       → paired x y (note_expression scope a) (note_expression scope b) mode ≡ Err f → PairFails a b mode f
-  by_kinds true true a b mode f left right tells_a tells_b h =
+  pair_failed true true a b mode f left right tells_a tells_b h =
       two_in_turn a b a b mode mode (λ x. mode) (λ x y. (x, y)) f (both_bare_first left right)
       (λ x is. both_bare_next x left right is) tells_a tells_b h
-  by_kinds false false a b mode f left right tells_a tells_b h =
+  pair_failed false false a b mode f left right tells_a tells_b h =
       two_in_turn a b a b mode mode (λ x. mode) (λ x y. (x, y)) f (none_bare_first left right)
       (λ x is. none_bare_next x left right is) tells_a tells_b h
-  by_kinds true false a b mode f left right tells_a tells_b h =
+  pair_failed true false a b mode f left right tells_a tells_b h =
       two_in_turn a b b a mode mode (λ x. Some (type_of x)) (λ x y. (y, x)) f (right_first left right)
       (λ x is. left_next x left right is) tells_b tells_a h
-  by_kinds false true a b mode f left right tells_a tells_b h =
+  pair_failed false true a b mode f left right tells_a tells_b h =
       two_in_turn a b a b mode mode (λ x. Some (type_of x)) (λ x y. (x, y)) f (left_first left right)
       (λ x is. right_next x left right is) tells_a tells_b h
 
@@ -210,6 +254,6 @@ module _ (scope : Scope) where
           × (paired (is_bare a) (is_bare b) (note_expression scope a) (note_expression scope b) pair ≡ Ok z)
           × (next z ≡ Err f)) → FirstFault scope e mode f
       by (inl failed) =
-          let k = by_kinds (is_bare a) (is_bare b) a b pair f refl refl tells_a tells_b failed in
+          let k = pair_failed (is_bare a) (is_bare b) a b pair f refl refl tells_a tells_b failed in
           of_a_part e k.0 mode k.1 f (judged k.0 k.1 k.2) k.3
       by (inr z) = of_rest z.0 (pair_made a b pair z.0 z.1) z.2

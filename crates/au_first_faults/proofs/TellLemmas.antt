@@ -40,7 +40,7 @@ use Rattle.au_typing.specs.Faults.{different}
 
 -- ---- written types
 
-not_meant : (o : Outcome Meaning) (f : Fault) → outcome_noted o ≡ Err f
+pub not_meant : (o : Outcome Meaning) (f : Fault) → outcome_noted o ≡ Err f
     → (reason : Reason) × (o ≡ fails reason) × (f ≡ why (reason_why reason))
 not_meant (means t) f h = absurd cc
 not_meant (fails reason) f h = (reason, refl, sym (same_fault (why (reason_why reason)) f h))

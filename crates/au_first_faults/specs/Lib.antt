@@ -2,3 +2,5 @@ pub mod Clauses
 pub mod NodeClauses
 pub mod CallClauses
 pub mod FirstFaults
+pub mod StatementClauses
+pub mod FirstInStatements
