@@ -186,7 +186,7 @@ own_fault_fails sc s f (of_the_statement t g h) = breaks_fail sc t g h
 
 -- ---- blocks in statements
 
-block_given : (ss : PlainStatements) (sc : Scope) (b : NotedStatements) → BlockNoted ss sc b
+pub block_given : (ss : PlainStatements) (sc : Scope) (b : NotedStatements) → BlockNoted ss sc b
     → note_block ss sc ≡ Ok b
 block_given ss sc b h = ap (λ x. note_block x sc) (sym h.1) ∙ block_found b sc h.0
 

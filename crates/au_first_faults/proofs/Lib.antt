@@ -8,3 +8,6 @@ pub mod TellLemmas
 pub mod StatementClauseLemmas
 pub mod OwnLemmas
 pub mod BlockLemmas
+pub mod BodyLemmas
+pub mod ProgramLemmas
+pub mod OneLemmas

@@ -4,3 +4,4 @@ pub mod CallClauses
 pub mod FirstFaults
 pub mod StatementClauses
 pub mod FirstInStatements
+pub mod FirstInPrograms
