@@ -1,0 +1,72 @@
+use Rattle.std.proofs.Common.{refl}
+use Rattle.au_effects.specs.Calls.{shipped}
+use Rattle.au_ints.specs.Operations.{converted, trapped, wrapped}
+use Rattle.au_ints.specs.Orders.{truth_of}
+use Rattle.au_low.specs.Instructions.{act}
+use Rattle.au_low.specs.Runs.{exec}
+use Rattle.au_meaning.specs.Meanings.{call_at}
+use Rattle.au_meaning.specs.Statements.{while_turns, for_turns}
+use Rattle.au_meaning.specs.Ticks.{follows, ticked}
+use Rattle.au_lowered.proofs.laws.samples_are_lowered.Goals as goal
+
+pub returns : goal.returns
+unfolding act call_at converted exec follows for_turns shipped ticked trapped truth_of while_turns wrapped
+returns c = record {
+  hello = record {
+    lowers = record { is = refl; agrees = record { ending = refl; output = refl; left = refl; events = refl } };
+    steps = record { least = refl; most = refl };
+  };
+  overflow = record {
+    lowers = record { is = refl; agrees = record { ending = refl; output = refl; left = refl; events = refl } };
+    steps = record { least = refl; most = refl };
+  };
+  counting = record {
+    lowers = record { is = refl; agrees = record { ending = refl; output = refl; left = refl; events = refl } };
+    steps = record { least = refl; most = refl };
+  };
+  turns = record {
+    lowers = record { is = refl; agrees = record { ending = refl; output = refl; left = refl; events = refl } };
+    steps = record { least = refl; most = refl };
+  };
+  branching = record {
+    lowers = record { is = refl; agrees = record { ending = refl; output = refl; left = refl; events = refl } };
+    steps = record { least = refl; most = refl };
+  };
+  short = record {
+    lowers = record { is = refl; agrees = record { ending = refl; output = refl; left = refl; events = refl } };
+    steps = record { least = refl; most = refl };
+  };
+  parts = record {
+    lowers = record { is = refl; agrees = record { ending = refl; output = refl; left = refl; events = refl } };
+    steps = record { least = refl; most = refl };
+  };
+  once = record {
+    lowers = record { is = refl; agrees = record { ending = refl; output = refl; left = refl; events = refl } };
+    steps = record { least = refl; most = refl };
+  };
+  twice = record { is = refl; agrees = record { ending = refl; output = refl; left = refl; events = refl } };
+  cases = record {
+    lowers = record { is = refl; agrees = record { ending = refl; output = refl; left = refl; events = refl } };
+    steps = record { least = refl; most = refl };
+  };
+  naming = record {
+    lowers = record { is = refl; agrees = record { ending = refl; output = refl; left = refl; events = refl } };
+    steps = record { least = refl; most = refl };
+  };
+  generic = record {
+    lowers = record { is = refl; agrees = record { ending = refl; output = refl; left = refl; events = refl } };
+    steps = record { least = refl; most = refl };
+  };
+  aborting = record {
+    lowers = record { is = refl; agrees = record { ending = refl; output = refl; left = refl; events = refl } };
+    steps = record { least = refl; most = refl };
+  };
+  shipped = record {
+    lowers = record { is = refl; agrees = record { ending = refl; output = refl; left = refl; events = refl } };
+    steps = record { least = refl; most = refl };
+  };
+  rooted = record {
+    lowers = record { is = refl; agrees = record { ending = refl; output = refl; left = refl; events = refl } };
+    steps = record { least = refl; most = refl };
+  };
+}

@@ -1,0 +1,239 @@
+-- Programs with the forms that the other samples haven't, and the code of each, which was written by hand.
+use Rattle.std.specs.Prelude.{◌≡◌, ℕ, Bool, true, false, List, [], ◌∷◌, ◌++◌, Some, None, pos, negsuc, codes}
+use Rattle.au_base.specs.declared.kinds.IntKind.TheVariants.{Nat8, Int8}
+use Rattle.au_effects.specs.Values as values
+use Rattle.au_effects.specs.Worlds.{Deed, opened, used, closed}
+use Rattle.au_ints.specs.declared.operations.WrapOp.TheVariants as wrap_op
+use Rattle.au_low.specs.declared.code.Code.{Code}
+use Rattle.au_low.specs.declared.endings.Ending.{Ending}
+use Rattle.au_low.specs.declared.endings.Ending.TheVariants.{Exit}
+use Rattle.au_low.specs.declared.instructions.Instr.{Instr}
+use Rattle.au_low.specs.declared.instructions.Instr.TheVariants as instr
+use Rattle.au_low.specs.declared.instructions.Mode.TheVariants as mode
+use Rattle.au_low.specs.Runs.{low_run}
+use Rattle.au_meaning.specs.Samples.{Note, Tree, Sample, Instance, here, word, noted, linear, at_type, bytes, free_name, operated, called_tree, block, variable, prints, succeeds, main, byte, plain, pair, maybe_of, exit_code, maybe}
+use Rattle.au_meaning.specs.Shown.{Line, line, alone, does, says, name, is, counted}
+use Rattle.au_shipped.specs.declared.prims.ShippedCall.TheVariants as prim
+use Rattle.au_syntax.specs.declared.expressions.BorrowMode.TheVariants as borrowing
+use Rattle.au_syntax.specs.declared.types.Access.TheVariants as access
+use Rattle.au_syntax.specs.Expressions.{Node, negative, nil, path, arrow, named_call, parenthesized, dereference, borrow, borrow_part, typed, arguments, no_arguments}
+use Rattle.au_syntax.specs.Plain.{Bytes}
+use Rattle.au_syntax.specs.Statements.{skip, destructure, assign_through, conditional, conditional_else, case_of, while_loop, for_loop, borrow_in, borrow_typed, discard, return_of, branches, no_branches, arms, no_arms}
+use Rattle.au_syntax.specs.Types as written
+use Rattle.au_syntax.specs.Types.{Bound, WrittenType}
+use Rattle.au_types.specs.declared.types.Region.{Region}
+use Rattle.au_types.specs.declared.types.Region.TheVariants.{Static}
+use Rattle.au_types.specs.Types as type
+use Rattle.au_lowered.specs.Samples as closing
+use Rattle.au_lowered.specs.Samples.{LowersInStep, by_hand, taking}
+use Rattle.au_lowered.specs.Shown.{put, make, ship, print, succeed, entry}
+
+-- ---- trees
+
+abbrev pub fails : Line
+fails = return_of here (called_tree (noted (plain exit_code)) (codes "ExitFailure") [])
+
+abbrev pub written_byte : WrittenType
+written_byte = written.named (word (codes "Nat8")) written.no_types
+
+-- a field that is bound to a variable
+abbrev pub bound : Bytes → Bytes → Bound Bytes
+bound field name =
+    record { name = record { name = word field; alias = Some (word name) }; of = written_byte }
+
+-- ---- conditionals and loops
+
+-- `if false then printLn(1); else if true then printLn((2 : Nat8)); end if;`
+-- `while true do return ExitFailure(); end while; ..`
+abbrev pub chain : List Sample
+chain = alone (
+    conditional here (
+    branches (is false) (block (prints byte (bytes 1) ∷ []))
+    (branches (is true)
+    (block (prints byte (parenthesized (noted byte) (typed (noted byte) (bytes 2) written_byte)) ∷ []))
+    no_branches))
+    ∷ while_loop here (is true) (block (fails ∷ []))
+    ∷ succeeds ∷ [])
+
+abbrev pub chain_code : Code
+chain_code = entry [] (exit_code ∷ []) 0 (
+    instr.PushBool false ∷ instr.JumpNot 6 ∷ put 1 ∷ print prim.PrintLnInt (
+    instr.Jump 11
+    ∷ instr.PushBool true ∷ instr.JumpNot 11 ∷ put 2 ∷ print prim.PrintLnInt (
+    instr.PushBool true ∷ instr.JumpNot 15 ∷ make 0 1 [] ∷ instr.Return ∷ succeed 0)))
+
+-- `if false then return ExitFailure(); else skip; end if;`
+-- `case Absent() of when Present(value as v: Nat8) do return ExitFailure(); when Absent do skip; end case; ..`
+abbrev pub returning : List Sample
+returning = alone (
+    conditional_else here (branches (is false) (block (fails ∷ [])) no_branches) (block (skip here ∷ []))
+    ∷ case_of here (called_tree (noted (maybe_of byte)) (codes "Absent") [])
+    (arms here (word (codes "Present")) (bound (codes "value") (codes "v") ∷ []) (block (fails ∷ []))
+    (arms here (word (codes "Absent")) [] (block (skip here ∷ [])) no_arms))
+    ∷ succeeds ∷ [])
+
+abbrev pub returning_code : Code
+returning_code = entry [] (exit_code ∷ maybe ∷ []) 1 (
+    instr.PushBool false ∷ instr.JumpNot 4 ∷ make 0 1 [] ∷ instr.Return
+    ∷ make 1 0 [] ∷ instr.Case 0 (8 ∷ 6 ∷ []) ∷ make 0 1 [] ∷ instr.Return
+    ∷ succeed 0)
+
+-- ---- slots
+
+-- `if true then var a: Nat8 := 1; var b: Nat8 := 2; printLn(b); end if;`
+-- `let { right as y: Nat8, left as x: Nat8 } := Pair(right => 3, left => 4); printLn(x);`
+-- `for i from 1 to 1 do var c: Nat8 := i; printLn(c); end for; ..`
+abbrev pub slots : List Sample
+slots = alone (
+    conditional here (branches (is true) (block (
+    variable (codes "a") (bytes 1) ∷ variable (codes "b") (bytes 2) ∷ prints byte (name (codes "b")) ∷ []))
+    no_branches)
+    ∷ destructure here (bound (codes "right") (codes "y") ∷ bound (codes "left") (codes "x") ∷ [])
+    (named_call (noted (plain pair)) (word (codes "Pair"))
+    (arguments (word (codes "right")) (bytes 3) (arguments (word (codes "left")) (bytes 4) no_arguments)) tt)
+    ∷ prints byte (name (codes "x"))
+    ∷ for_loop here (word (codes "i")) (bytes 1) (bytes 1) (block (
+    variable (codes "c") (name (codes "i")) ∷ prints byte (name (codes "c")) ∷ []))
+    ∷ succeeds ∷ [])
+
+abbrev pub slots_code : Code
+slots_code = entry [] (pair ∷ exit_code ∷ []) 6 (
+    instr.PushBool true ∷ instr.JumpNot 9
+    ∷ put 1 ∷ instr.Store 0 ∷ put 2 ∷ instr.Store 1 ∷ instr.Look 1 [] ∷ print prim.PrintLnInt (
+    put 3 ∷ put 4 ∷ make 0 0 (1 ∷ 0 ∷ []) ∷ instr.Take 0
+    ∷ instr.Look 0 [] ∷ print prim.PrintLnInt (
+    put 1 ∷ instr.Store 2 ∷ put 1 ∷ instr.Store 3 ∷ instr.ForTest 2 3 29
+    ∷ instr.Look 2 [] ∷ instr.Store 4 ∷ instr.Look 4 [] ∷ instr.Store 5
+    ∷ instr.Look 5 [] ∷ print prim.PrintLnInt (
+    instr.ForStep 2 3 21 ∷ succeed 1))))
+
+-- ---- calls and texts
+
+-- `printLn(modularAdd(y => 10, x => 250)); printLn(x => 7); toNat8(5); printLn(-5);`
+-- `printLn("b"); printLn("a"); printLn("b"); ..`
+abbrev pub orders : List Sample
+orders = alone (
+    prints byte (named_call (noted byte) (word (codes "modularAdd"))
+    (arguments (word (codes "y")) (bytes 10) (arguments (word (codes "x")) (bytes 250) no_arguments)) tt)
+    ∷ discard here (named_call (at_type byte type.unit) (word (codes "printLn"))
+    (arguments (word (codes "x")) (bytes 7) no_arguments) tt)
+    ∷ does (maybe_of byte) (codes "toNat8") (bytes 5 ∷ [])
+    ∷ prints (type.integer Int8) (negative (noted (type.integer Int8)) (record { value = pos 5; digits = 1 }))
+    ∷ prints type.text (says (codes "b")) ∷ prints type.text (says (codes "a"))
+    ∷ prints type.text (says (codes "b"))
+    ∷ succeeds ∷ [])
+
+abbrev pub orders_code : Code
+orders_code = entry (codes "b" ∷ codes "a" ∷ []) (exit_code ∷ []) 0 (
+    put 10 ∷ put 250 ∷ instr.Wrap wrap_op.Add Nat8 (1 ∷ 0 ∷ []) ∷ print prim.PrintLnInt (
+    put 7 ∷ print prim.PrintLnInt (
+    put 5 ∷ instr.Convert Nat8 ∷ instr.Discard
+    ∷ instr.Push Int8 (negsuc 4) ∷ print prim.PrintLnInt (
+    instr.PushText 0 ∷ print prim.PrintLnText (
+    instr.PushText 1 ∷ print prim.PrintLnText (
+    instr.PushText 0 ∷ print prim.PrintLnText (succeed 0)))))))
+
+-- what each is lowered to, and that it does what it means
+pub record FormsAreLowered : Type 0 where
+  pub chain : LowersInStep (closing.alone 0 ∷ []) chain chain_code
+  pub returning : LowersInStep (closing.alone 0 ∷ []) returning returning_code
+  pub slots : LowersInStep (closing.alone 0 ∷ []) slots slots_code
+  pub orders : LowersInStep (closing.alone 0 ∷ []) orders orders_code
+
+-- ---- references, which the meaning hasn't yet
+
+-- a note of a reference to a pair
+abbrev pub reads_pair : Node Note
+reads_pair = noted (type.reads (plain pair) Static)
+
+abbrev pub writes_pair : Node Note
+writes_pair = linear (type.writes (plain pair) Static)
+
+abbrev pub left_of : Bytes → Tree
+left_of r = arrow (noted byte) (word r) (word (codes "left") ∷ [])
+
+-- `function first(r: &[Pair, R]): Nat8 is return r->left; end;`
+abbrev pub first : Sample
+first = record {
+  name = codes "first";
+  parameters = (codes "r", type.reads (plain pair) Static) ∷ [];
+  body = block (return_of here (left_of (codes "r")) ∷ []);
+}
+
+-- `function bump(w: &![Pair, R]): Unit is w->left := 6; return nil; end;`
+abbrev pub bump : Sample
+bump = record {
+  name = codes "bump";
+  parameters = (codes "w", type.writes (plain pair) Static) ∷ [];
+  body = block (
+      assign_through here (word (codes "w")) (word (codes "left") ∷ []) (bytes 6)
+      ∷ return_of here (nil (noted type.unit)) ∷ []);
+}
+
+-- `borrow! p as w in R do`
+-- `    w->left := 5; bump(&~w);`
+-- `    borrow s: &![Pair, S] := &~w do printLn(s->left); end borrow;`
+-- `end borrow;`
+abbrev pub writing : Line
+writing = borrow_in here access.Write (word (codes "p")) (word (codes "w")) (word (codes "R")) (block (
+    assign_through here (word (codes "w")) (word (codes "left") ∷ []) (bytes 5)
+    ∷ does type.unit (codes "bump") (borrow writes_pair borrowing.Reborrow (word (codes "w")) ∷ [])
+    ∷ borrow_typed here (word (codes "s")) written_byte borrowing.Reborrow (word (codes "w"))
+    (block (prints byte (left_of (codes "s")) ∷ [])) here
+    ∷ [])) here
+
+-- `borrow p as r in R do`
+-- `    printLn(!(&(r->right))); printLn(first(&p)); let d: Pair := !(r);`
+-- `end borrow;`
+abbrev pub reading : Line
+reading = borrow_in here access.Read (word (codes "p")) (word (codes "r")) (word (codes "R")) (block (
+    prints byte (dereference (noted byte) (parenthesized (noted byte)
+    (borrow_part reads_pair (word (codes "r")) (word (codes "right") ∷ []))))
+    ∷ prints byte (called_tree (noted byte) (codes "first")
+    (borrow reads_pair borrowing.Read (word (codes "p")) ∷ []))
+    ∷ variable (codes "d") (dereference (noted (plain pair)) (parenthesized writes_pair
+    (path writes_pair (word (codes "r")) [])))
+    ∷ [])) here
+
+-- `var p: Pair := Pair(1, 2);`, these two, and
+-- `bump(&!p); borrow p as r in R do return ExitSuccess(); end borrow;`
+abbrev pub lending : List Sample
+lending = main (
+    variable (codes "p") (called_tree (noted (plain pair)) (codes "Pair") (bytes 1 ∷ bytes 2 ∷ []))
+    ∷ writing ∷ reading
+    ∷ does type.unit (codes "bump") (borrow writes_pair borrowing.Write (word (codes "p")) ∷ [])
+    ∷ borrow_in here access.Read (word (codes "p")) (word (codes "r")) (word (codes "R")) (block (succeeds ∷ [])) here
+    ∷ []) ∷ first ∷ bump ∷ []
+
+abbrev pub lending_code : Code
+lending_code = by_hand [] (pair ∷ exit_code ∷ []) (
+    closing.plain 3 (
+    put 1 ∷ put 2 ∷ make 0 0 (0 ∷ 1 ∷ []) ∷ instr.Store 0
+    ∷ instr.Bind 0 1 mode.Write
+    ∷ put 5 ∷ instr.Put 1 (0 ∷ [])
+    ∷ instr.Again 1 ∷ instr.Call 2 (0 ∷ []) ∷ instr.Close 1 ∷ instr.Discard
+    ∷ instr.Bind 1 2 mode.Again ∷ instr.Read 2 (0 ∷ []) ∷ print prim.PrintLnInt (
+    instr.Close 1 ∷ instr.Close 0
+    ∷ instr.Bind 0 1 mode.Read
+    ∷ instr.Part 1 (1 ∷ []) ∷ instr.Deref ∷ print prim.PrintLnInt (
+    instr.Open 0 mode.Read ∷ instr.Call 1 (0 ∷ []) ∷ ship prim.PrintLnInt ∷ instr.Close 1 ∷ instr.Discard
+    ∷ instr.Look 1 [] ∷ instr.Deref ∷ instr.Store 2
+    ∷ instr.Close 0
+    ∷ instr.Open 0 mode.Write ∷ instr.Call 2 (0 ∷ []) ∷ instr.Close 0 ∷ instr.Discard
+    ∷ instr.Bind 0 1 mode.Read ∷ succeed 1)))
+    ∷ taking 1 1 (instr.Read 0 (0 ∷ []) ∷ instr.Return ∷ [])
+    ∷ taking 1 1 (put 6 ∷ instr.Put 0 (0 ∷ []) ∷ instr.PushUnit ∷ instr.Return ∷ []) ∷ [])
+
+-- its instances
+abbrev pub lent : List Instance
+lent = closing.alone 0 ∷ closing.alone 1 ∷ closing.alone 2 ∷ []
+
+-- what it is lowered to, and what that does
+pub record ReferencesAreLowered : Type 0 where
+  pub is : closing.code_of lent lending ≡ lending_code
+  pub ending : (low_run true lending_code [] 299).ending ≡ Exit true
+  pub output : (low_run true lending_code [] 299).output ≡ line 6 ++ line 2 ++ line 6
+  pub events : (low_run true lending_code [] 299).events ≡
+      opened 0 ∷ used 0 ∷ opened 1 ∷ used 1 ∷ closed 1 ∷ opened 2 ∷ used 2 ∷ closed 2 ∷ closed 0
+      ∷ opened 3 ∷ used 3 ∷ opened 4 ∷ used 4 ∷ closed 4 ∷ used 3 ∷ closed 3
+      ∷ opened 5 ∷ used 5 ∷ closed 5 ∷ opened 6 ∷ closed 6 ∷ []

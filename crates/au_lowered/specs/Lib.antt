@@ -1,0 +1,9 @@
+pub mod Drafts
+pub mod Slots
+pub mod Expressions
+pub mod Statements
+pub mod Programs
+pub mod Agreeing
+pub mod Samples
+pub mod Shown
+pub mod Forms
