@@ -1,5 +1,5 @@
 -- A dealing that clears a variable makes its life good.
-use Rattle.std.proofs.Common.{◌≡◌, ℕ, ◌≤◌, ◌<◌, ◌==◌, Bool, true, false, not, ◌&&◌, [], Some, None, nat_lt, sym, ap, ◌∙◌, arith}
+use Rattle.std.proofs.Common.{◌≡◌, ℕ, ◌≤◌, ◌<◌, ◌==◌, Bool, true, false, not, ◌&&◌, [], Some, None, nat_lt, refl, sym, ap, ◌∙◌, arith}
 use Rattle.std.proofs.lemmas.Bool.{eqb-true, ltb-true}
 use Rattle.au_syntax.specs.Plain.{Bytes, PlainStatements}
 use Rattle.au_lives.specs.declared.lives.Sort.{Sort}
@@ -8,7 +8,9 @@ use Rattle.au_lives.specs.Lives.{unlent, is_free, keeps_in_parts, GoodLife}
 use Rattle.au_lives.specs.Walks.{Reach, reach, ◌>>=◌, finish}
 use Rattle.au_lives.proofs.WholeLemmas.{yes_good}
 use Rattle.au_clearing.specs.Touches.{Touch, Untouched, Quiet, Written, Consumed, Broken}
-use Rattle.au_clearing.specs.Dealings.{Dealing, deal_block, returns_in_block, is_whole, is_spent, clears}
+use Rattle.au_lives.specs.Scopes.{Scope}
+use Rattle.au_clearing.specs.declared.dealings.Life.{Life}
+use Rattle.au_clearing.specs.Dealings.{Dealing, deal_block, returns_in_block, is_whole, is_spent, clears, by_type, life_of}
 use Rattle.au_clearing.proofs.BooleanLemmas.{and_left, and_right}
 use Rattle.au_clearing.proofs.TouchLemmas.{rank, parts_kept}
 use Rattle.au_clearing.proofs.DealingLemmas.{most}
@@ -70,3 +72,20 @@ module _ (x : Bytes) (sort : Sort) (b : PlainStatements) where
     where
       alive : (o : Reach) → Lands (reach (Some []) None) o d → Has o.live → d.lives ≡ true
       alive o l p = (landed_live (reach (Some []) None) o d l p).1
+
+-- what is known of a variable, where it clears it
+pub life_clears : (s : Scope) (sort : Sort) (life : Life) → life ≡ life_of s →
+    clears sort life.returns (by_type (is_free sort) life.dealings) ≡ true →
+    GoodLife s.name.name sort s.block
+life_clears s sort life is h =
+    cleared_good s.name.name sort s.block
+    (sym (dealing_is sort)
+    ∙ sym (ap (λ (life : Life). clears sort life.returns (by_type (is_free sort) life.dealings)) is)
+    ∙ h)
+  where
+    dealing_is : (sort : Sort) →
+        clears sort (life_of s).returns (by_type (is_free sort) (life_of s).dealings)
+        ≡ clears sort (returns_in_block s.block) (deal_block s.name.name (is_free sort) s.block unlent)
+    dealing_is sorts.Free = refl
+    dealing_is sorts.WriteReference = refl
+    dealing_is sorts.Other = refl

@@ -1,7 +1,8 @@
 -- Numbers and touches of dealings that are put together.
-use Rattle.std.proofs.Common.{◌≡◌, ℕ, zero, suc, ◌+◌, ◌≤◌, ◌<◌, Bool, true, false, arith, if◌then◌else◌}
+use Rattle.std.proofs.Common.{◌≡◌, ◌≢◌, ℕ, zero, suc, ◌+◌, ◌≤◌, ◌<◌, Bool, true, false, refl, ap, arith, if◌then◌else◌}
 use Rattle.au_syntax.specs.declared.types.Access.{Access}
 use Rattle.au_lives.specs.Lives.{Hold, unlent, read_lent, write_lent, hidden}
+use Rattle.au_uses.specs.Choices.{counted}
 use Rattle.au_clearing.specs.Touches.{behind_spent}
 use Rattle.au_clearing.specs.Dealings.{Dealing, sum, chain, fork, turns, lend, lend_by}
 use Rattle.au_clearing.proofs.TouchLemmas.{rank, two, worse_rank, behind_rank, kept_above, lent_rank}
@@ -59,3 +60,10 @@ lend_above b a hidden d = omega arith
 pub lend_rank : (b : Bool) (a : Access) (h : Hold) (d : Dealing) (r : ℕ) → rank (lend_by b a h d).touch ≤ r →
     rank d.touch ≤ r
 lend_rank b a h d r le = let e = lend_above b a h d in omega (arith, e, le)
+
+pub sum_none : (m n : ℕ) → m ≡ 0 → sum m n ≡ n
+sum_none m n h = ap (λ m. sum m n) h
+
+pub sum_some : (m n : ℕ) → m ≢ 0 → sum m n ≡ counted (m + n)
+sum_some zero n h = absurd (h refl)
+sum_some (suc m) n h = refl

@@ -1,8 +1,13 @@
 pub mod AbsentLemmas
 pub mod BooleanLemmas
 pub mod ClearLemmas
+pub mod CombiningLemmas
 pub mod DealingLemmas
 pub mod GoingLemmas
+pub mod ItemLemmas
 pub mod KeepingLemmas
+pub mod MentionLemmas
+pub mod SumLemmas
+pub mod TableLemmas
 pub mod TouchLemmas
 pub mod WalkLemmas

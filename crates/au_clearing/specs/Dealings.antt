@@ -8,19 +8,16 @@ use Rattle.au_lives.specs.declared.lives.Sort.{Sort}
 use Rattle.au_lives.specs.declared.lives.Sort.TheVariants as sorts
 use Rattle.au_lives.specs.Paths.{lent as lent_name, declared, declared_by, bound_names, access_of}
 use Rattle.au_lives.specs.Lives.{Hold, unlent, read_lent, write_lent, hidden, held_from, is_free}
+use Rattle.au_lives.specs.Scopes.{Scope}
 use Rattle.au_uses.specs.Choices.{counted}
+pub use Rattle.au_clearing.specs.declared.dealings.Dealing.{Dealing}
+use Rattle.au_clearing.specs.declared.dealings.Dealings.{Dealings}
+use Rattle.au_clearing.specs.declared.dealings.Life.{Life}
 use Rattle.au_clearing.specs.Touches.{Touch, Untouched, Quiet, Written, Broken, worse, kept, is_consumed, behind_spent, lent, touch_at, touched_at}
 
--- how a part of a body deals with a variable that it finds alive, on all its paths together
-pub record Dealing : Type 0 where
-  -- what its steps do at most
-  pub touch : Touch
-  -- whether a path may go on with the variable alive
-  pub lives : Bool
-  -- whether a path may go on with the variable consumed
-  pub spends : Bool
-  -- how many returns no path reaches with the variable alive, as far as can be counted
-  pub spared : ℕ
+-- A dealing says what the steps do at most; whether a path that finds the variable alive may go on with it
+-- alive, or with it consumed; and how many of the returns are reached by no path with it alive, as far as can
+-- be counted.
 
 abbrev pub dealing : Touch → Bool → Bool → ℕ → Dealing
 dealing t l s n = record { touch = t; lives = l; spends = s; spared = n }
@@ -177,3 +174,18 @@ clears sorts.Other n d = is_whole d.touch && is_spent n d
 -- the dealing of the block that is the scope of x clears x
 abbrev pub is_cleared : Bytes → Sort → PlainStatements → Bool
 is_cleared x sort b = clears sort (returns_in_block b) (deal_block x (is_free sort) b unlent)
+
+-- how a part deals with a variable whose type isn't Free, or is
+abbrev pub by_type : Bool → Dealings → Dealing
+by_type false d = d.owned
+by_type true d = d.free
+
+-- what is known of a variable: how its scope deals with it, and how many returns there are
+abbrev pub life_of : Scope → Life
+life_of s = record {
+  dealings = record {
+    owned = deal_block s.name.name false s.block unlent;
+    free = deal_block s.name.name true s.block unlent;
+  };
+  returns = returns_in_block s.block;
+}

@@ -10,19 +10,8 @@ use Rattle.au_syntax.specs.Expressions.{number, negative, text, truth, nil, path
 use Rattle.au_syntax.specs.Plain.{Bytes, PlainExpression, PlainExpressions, PlainArguments}
 use Rattle.au_lives.specs.Mentions.{Counts, counts, unmentioned, is_variable, may_skip}
 use Rattle.au_lives.specs.Lives.{Hold, unlent, read_lent, write_lent, hidden}
-
--- what a step does to a variable, at most: what stands further down is worse
-pub data Touch : Type 0 where
-  -- it doesn't mention it
-  Untouched : Touch
-  -- it borrows it for reading, or looks at it
-  Quiet : Touch
-  -- it borrows it once for writing, and does nothing else to it
-  Written : Touch
-  -- it consumes it once, and does nothing else to it
-  Consumed : Touch
-  -- it may break its life
-  Broken : Touch
+pub use Rattle.au_clearing.specs.declared.touches.Touch.{Touch}
+pub use Rattle.au_clearing.specs.declared.touches.Touch.TheVariants.{Untouched, Quiet, Written, Consumed, Broken}
 
 -- The variable is mentioned so in a step that touches it so: not at all; neither consumed nor write-borrowed;
 -- write-borrowed once and no more; consumed once and no more; or anyhow.
