@@ -36,8 +36,8 @@ abbrev pub is_parameter : Meaning → Bool
 is_parameter (parameter name) = true
 is_parameter t = false
 
--- What is wanted of a bare argument: the parameter's type, where it is fixed, and nothing where that is a type
--- parameter alone.
+-- What is wanted of a bare argument: the parameter's type, where it is fixed, and nothing where that is a
+-- type parameter alone.
 pub data BareWants : Bindings → Meaning → Mode → Type 0 where
   its_type : (s : Bindings) (t : Meaning) → fixed s t ≡ true → BareWants s t (Some (substituted s t))
   nothing : (s : Bindings) (t : Meaning) → fixed s t ≡ false → is_parameter t ≡ true → BareWants s t None
