@@ -215,12 +215,11 @@ branches_given : (sc : Scope) (tests : PlainBranches) (noted : List NotedExpress
     → BlocksNoted sc tests → (all : NotedBranches) × (note_branches tests noted sc ≡ Ok all)
 branches_given sc no_branches noted even g = (no_branches, refl)
 branches_given sc (branches e block rest) (a ∷ noted) even g =
-    let more = branches_given sc rest noted even g.1 in
-    (
+    let more = branches_given sc rest noted even g.1 in (
       branches a g.0.0 more.0,
       then_found (λ b. note_branches rest noted sc then λ all. Ok (branches a b all))
-      (block_given block sc g.0.0 g.0.1)
-      ∙ then_found (λ all. Ok (branches a g.0.0 all)) more.1,
+          (block_given block sc g.0.0 g.0.1)
+          ∙ then_found (λ all. Ok (branches a g.0.0 all)) more.1,
     )
 branches_given sc (branches e block rest) [] even g = absurd even
 
@@ -429,8 +428,7 @@ from_arm : (at : Pos) (n : Placed Bytes) (binds : List (Bound Bytes)) (block : P
 from_arm at n binds block rest sc f one more (inl failed) =
     (block, with_bound binds sc, in_this_arm at n binds block rest, one failed)
 from_arm at n binds block rest sc f one more (inr (b, gave, failed)) =
-    let k = more (only_then (note_arms rest sc) (λ all. arms at n binds b all) f failed) in
-    (
+    let k = more (only_then (note_arms rest sc) (λ all. arms at n binds b all) f failed) in (
       k.0,
       k.1,
       in_a_later_arm at n binds block k.0 rest k.1 b (block_sound block (with_bound binds sc) b gave) k.2,

@@ -66,13 +66,12 @@ module _ (scope : Scope) where
       → (half : Half) × (first_step (is_bare p) (note_expression scope p) t s ≡ Ok (half, q)) × IsHalf p half
   first_step_goes p t s q (waits e u r bare) =
       (None, ap (λ b. first_step b (note_expression scope e) u r) bare, bare)
-  first_step_goes p t s q (is_taken e u r m a bare good is h) =
-      (
-        Some a,
-        ap (λ b. first_step b (note_expression scope e) u r) bare
+  first_step_goes p t s q (is_taken e u r m a bare good is h) = (
+    Some a,
+    ap (λ b. first_step b (note_expression scope e) u r) bare
         ∙ bind_found half_of (taken_goes scope (fixed r u) e a u r m good is h),
-        bare,
-      )
+    bare,
+  )
 
   -- where the first pass fails
   abbrev pub FailsInFirst : List PlainExpression → List Meaning → Bindings → Fault → Type 0
@@ -142,11 +141,10 @@ module _ (scope : Scope) where
   first_goes [] [] s q g = ([], ap (λ (r : Bindings). Ok ([], r)) (sym g), tt)
   first_goes (p ∷ ps) (t ∷ ts) s q g =
       let one = first_step_goes p t s g.0 g.1 in
-      let rest = first_goes ps ts g.0 q g.2 in
-      (
+      let rest = first_goes ps ts g.0 q g.2 in (
         one.0 ∷ rest.0,
         bind_found (λ (w : Half × Bindings). first (ops_of scope ps) ts w.1 >>= put_before w.0) one.1
-        ∙ bind_found (put_before one.0) rest.1,
+            ∙ bind_found (put_before one.0) rest.1,
         (one.2, rest.2),
       )
   first_goes [] (t ∷ ts) s q g = absurd g
@@ -265,11 +263,10 @@ module _ (scope : Scope) where
   second_goes [] [] [] s q is g = ([], ap (λ (r : Bindings). Ok ([], r)) (sym g))
   second_goes (p ∷ ps) (half ∷ halves) (t ∷ ts) s q is g =
       let one = second_step_goes half p t s g.0 is.0 g.1 in
-      let rest = second_goes ps halves ts g.0 q is.1 g.2 in
-      (
+      let rest = second_goes ps halves ts g.0 q is.1 g.2 in (
         one.0 ∷ rest.0,
         bind_found (λ (w : NotedExpression × Bindings). second (ops_of scope ps) halves ts w.1 >>= put_before w.0)
-        one.1 ∙ bind_found (put_before one.0) rest.1,
+            one.1 ∙ bind_found (put_before one.0) rest.1,
       )
   second_goes [] [] (t ∷ ts) s q is g = absurd g
   second_goes (p ∷ ps) (half ∷ halves) [] s q is g = absurd g

@@ -40,11 +40,10 @@ one_of_program outside program f g one other =
 
 pub no_noting : (scope : Scope) (e : PlainExpression) (mode : Mode)
     → ((f : Fault) × FirstFault scope e mode f) ↔ (¬ ((a : NotedExpression) × IsNoting scope e mode a))
-no_noting scope e mode =
-    (
-      λ (f, first). (refused_exactly scope e mode).0 (f, fault_fails scope e mode f first),
-      λ none. let k = (refused_exactly scope e mode).1 none in (k.0, tells scope e mode k.0 k.1),
-    )
+no_noting scope e mode = (
+  λ (f, first). (refused_exactly scope e mode).0 (f, fault_fails scope e mode f first),
+  λ none. let k = (refused_exactly scope e mode).1 none in (k.0, tells scope e mode k.0 k.1),
+)
 
 no_block_fault : (f : StatementFault) (b : NotedStatements)
     → ◌≡◌ {A = Judged NotedStatements} (Err f) (Ok b) → ⊥
@@ -52,11 +51,10 @@ no_block_fault f b h = cc
 
 pub no_block_noting : (ss : PlainStatements) (sc : Scope)
     → ((f : StatementFault) × FaultIn ss sc f) ↔ (¬ ((b : NotedStatements) × BlockNoted ss sc b))
-no_block_noting ss sc =
-    (
-      λ (f, first). λ (b, noted). no_block_fault f b (sym (fault_in_fails ss sc f first) ∙ block_given ss sc b noted),
-      by (note_block ss sc) refl,
-    )
+no_block_noting ss sc = (
+  λ (f, first). λ (b, noted). no_block_fault f b (sym (fault_in_fails ss sc f first) ∙ block_given ss sc b noted),
+  by (note_block ss sc) refl,
+)
   where
     by : (r : Judged NotedStatements) → note_block ss sc ≡ r → ¬ ((b : NotedStatements) × BlockNoted ss sc b)
         → (f : StatementFault) × FaultIn ss sc f
@@ -66,12 +64,11 @@ no_block_noting ss sc =
 pub no_derivation : (outside : ℕ → Part → Outside) (program : List ModuleParts)
     → ((f : StatementFault) × ProgramFault outside program f)
     ↔ (¬ ((noted : List NotedParts) × Derives outside program noted))
-no_derivation outside program =
-    (
-      λ (f, first). λ (noted, derives).
+no_derivation outside program = (
+  λ (f, first). λ (noted, derives).
       not_refused outside program noted f (program_fails outside program f first) derives,
-      by (note_program outside program) refl,
-    )
+  by (note_program outside program) refl,
+)
   where
     by : (r : Judged (List NotedParts)) → note_program outside program ≡ r
         → ¬ ((noted : List NotedParts) × Derives outside program noted)

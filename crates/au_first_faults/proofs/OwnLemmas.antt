@@ -52,8 +52,7 @@ module _ (sc : Scope) where
   part_is t [] of h = sym (ok_same t of h)
   part_is t (field ∷ path) of h =
       let step = bind_ok (known_or (unknown field.name) (field_type sc t field.name))
-      (λ (next : Meaning). part_type sc next path) of h in
-      (
+      (λ (next : Meaning). part_type sc next path) of h in (
         step.0,
         known_ok (unknown field.name) (field_type sc t field.name) step.0 step.1,
         part_is step.0 path of step.2,
@@ -323,12 +322,11 @@ module _ (sc : Scope) where
       → (noted : List NotedExpression) × (note_tests sc tests ≡ Ok noted)
   tests_given no_branches g = ([], refl)
   tests_given (branches e block rest) g =
-      let more = tests_given rest g.1 in
-      (
+      let more = tests_given rest g.1 in (
         g.0.0 ∷ more.0,
         bind_found (λ (a : NotedExpression). note_tests sc rest >>= λ (all : List NotedExpression). Ok (a ∷ all))
-        (noting_is_given sc e (Some mean.truth) g.0.0 g.0.1)
-        ∙ bind_found (λ (all : List NotedExpression). Ok (g.0.0 ∷ all)) more.1,
+            (noting_is_given sc e (Some mean.truth) g.0.0 g.0.1)
+            ∙ bind_found (λ (all : List NotedExpression). Ok (g.0.0 ∷ all)) more.1,
       )
 
   pub tests_are : (tests : PlainBranches) (noted : List NotedExpression) → note_tests sc tests ≡ Ok noted

@@ -128,8 +128,7 @@ module _ (outside : Outside) where
       → erase_block b ≡ body
       → (x : NotedStatements) × (note_body outside at generics header body stop ≡ Ok x)
   method_given at generics header body stop b good is =
-      let k = declaration_given (function_body at generics header body stop)
-      (
+      let k = declaration_given (function_body at generics header body stop) (
         function_body at generics header b stop,
         good,
         ap (λ y. function_body at generics header y stop) is,
@@ -178,7 +177,7 @@ module _ (outside : Outside) where
           inr (
             (b, g.0, g.1),
             more (only_then (note_methods outside generics rest)
-            (λ all. record { header = m.header; body = b; stop = m.stop } ∷ all) f failed),
+                (λ all. record { header = m.header; body = b; stop = m.stop } ∷ all) f failed),
           )
 
   -- ---- declarations
@@ -254,11 +253,10 @@ module _ (outside : Outside) where
   each_given [] g = ([], refl)
   each_given (d ∷ rest) g =
       let one = declaration_given d g.0 in
-      let more = each_given rest g.1 in
-      (
+      let more = each_given rest g.1 in (
         one.0 ∷ more.0,
         then_found (λ a. note_declarations outside rest then λ all. Ok (a ∷ all)) one.1
-        ∙ then_found (λ all. Ok (one.0 ∷ all)) more.1,
+            ∙ then_found (λ all. Ok (one.0 ∷ all)) more.1,
       )
 
   each_is : (ds : List PlainDeclaration) (all : List NotedDeclaration) → note_declarations outside ds ≡ Ok all
@@ -345,8 +343,7 @@ module _ (outside : ℕ → Part → Outside) where
       (λ i. note_part (outside place Body) m.body
       then λ body. Ok (record { name = m.name; interface = i; body = body })) a h in
       let body = then_gave (note_part (outside place Body) m.body)
-      (λ b. Ok (record { name = m.name; interface = interface.0; body = b })) a interface.2 in
-      (
+      (λ b. Ok (record { name = m.name; interface = interface.0; body = b })) a interface.2 in (
         part_is (outside place Interface) m.interface interface.0 interface.1,
         part_is (outside place Body) m.body body.0 body.1,
       )
@@ -366,8 +363,8 @@ module _ (outside : ℕ → Part → Outside) where
       inr (
         part_is (outside place Interface) m.interface i noted,
         inl (part_tells (outside place Body) m.body f
-        (only_then (note_part (outside place Body) m.body)
-        (λ body. parts_of m.name i body) f failed)),
+            (only_then (note_part (outside place Body) m.body)
+            (λ body. parts_of m.name i body) f failed)),
       )
 
   modules_tell : (place : ℕ) (ms : List ModuleParts) (f : StatementFault) → note_modules outside place ms ≡ Err f

@@ -28,14 +28,19 @@ pub record Call : Type 0 where
   pub mistaken : List Typed → Why
   pub args : List PlainExpression
 
+abbrev pub written_call : Bytes → (List Typed → Option (List Meaning)) → (List Typed → Why) →
+    List PlainExpression → Call
+written_call name takes mistaken args =
+    record { name = name; takes = takes; mistaken = mistaken; args = args }
+
 -- An expression is such a call, by position or by labels.
 pub data IsCall : PlainExpression → Call → Type 0 where
   by_position : (u : Node (Unit {0})) (f : Placed Bytes) (es : PlainExpressions) (c : Unit {0})
       → IsCall (call u f es c)
-      (record { name = f.name; takes = in_order (count_of es); mistaken = another_number; args = items_of es })
+      (written_call f.name (in_order (count_of es)) another_number (items_of es))
   by_label : (u : Node (Unit {0})) (f : Placed Bytes) (es : PlainArguments) (c : Unit {0})
       → IsCall (named_call u f es c)
-      (record { name = f.name; takes = by_labels (labels_of es); mistaken = other_labels; args = values_of es })
+      (written_call f.name (by_labels (labels_of es)) other_labels (values_of es))
 
 -- ---- the passes over the arguments
 

@@ -24,20 +24,20 @@ use Rattle.au_first_faults.specs.NodeClauses.{of_arithmetic, of_choice, of_compa
 
 -- Two operands have good notes, with the modes of a pair.
 pub record PairNoted (scope : Scope) (a b : PlainExpression) (mode : Mode) (x y : NotedExpression) : Type 0
-    where
-  pub first : AllGood scope x
-  pub second : AllGood scope y
-  pub first_is : erase x ≡ a
-  pub second_is : erase y ≡ b
-  pub modes : PairedModes (is_bare a) (is_bare b) mode (note_of x) (note_of y)
+  where
+    pub first : AllGood scope x
+    pub second : AllGood scope y
+    pub first_is : erase x ≡ a
+    pub second_is : erase y ≡ b
+    pub modes : PairedModes (is_bare a) (is_bare b) mode (note_of x) (note_of y)
 
 -- a type parameter alone
 abbrev pub is_parameter : Meaning → Bool
 is_parameter (parameter name) = true
 is_parameter t = false
 
--- What is wanted of a bare argument: the parameter's type, where it is fixed, and nothing where that is a type
--- parameter alone.
+-- What is wanted of a bare argument: the parameter's type, where it is fixed, and nothing where that is a
+-- type parameter alone.
 pub data BareWants : Bindings → Meaning → Mode → Type 0 where
   its_type : (s : Bindings) (t : Meaning) → fixed s t ≡ true → BareWants s t (Some (substituted s t))
   nothing : (s : Bindings) (t : Meaning) → fixed s t ≡ false → is_parameter t ≡ true → BareWants s t None

@@ -74,7 +74,8 @@ pub data ExpressionNext (sc : Scope) : PlainStatement → PlainExpression → Mo
       → ExpressionNext sc (conditional at tests) e (Some mean.truth)
   of_tests_with_else : (at : Pos) (tests : PlainBranches) (block : PlainStatements) (e : PlainExpression)
       → TestNext sc tests e → ExpressionNext sc (conditional_else at tests block) e (Some mean.truth)
-  of_case_of : (at : Pos) (e : PlainExpression) (all : PlainArms) → ExpressionNext sc (case_of at e all) e None
+  of_case_of : (at : Pos) (e : PlainExpression) (all : PlainArms)
+      → ExpressionNext sc (case_of at e all) e None
   of_while : (at : Pos) (e : PlainExpression) (block : PlainStatements)
       → ExpressionNext sc (while_loop at e block) e (Some mean.truth)
   of_for : (at : Pos) (name : Placed Bytes) (first last : PlainExpression) (block : PlainStatements)
@@ -98,8 +99,8 @@ pub data StatementBreaks (sc : Scope) : PlainStatement → Fault → Type 0 wher
   a_case : (at : Pos) (e : PlainExpression) (all : PlainArms) (f : Fault) (x : NotedExpression)
       → IsNoting sc e None x → TellsFirst (of_case sc (heads_of all) (type_of x)) f
       → StatementBreaks sc (case_of at e all) f
-  bounds : (at : Pos) (name : Placed Bytes) (first last : PlainExpression) (block : PlainStatements) (f : Fault)
-      (x y : NotedExpression) → PairNoted sc first last None x y → TellsFirst (of_bounds x y) f
+  bounds : (at : Pos) (name : Placed Bytes) (first last : PlainExpression) (block : PlainStatements)
+      (f : Fault) (x y : NotedExpression) → PairNoted sc first last None x y → TellsFirst (of_bounds x y) f
       → StatementBreaks sc (for_loop at name first last block) f
   a_borrow : (at : Pos) (kind : Access) (x r region : Placed Bytes) (block : PlainStatements) (stop : Pos)
       (f : Fault) → TellsFirst (of_lent sc (mode_for kind) x.name (λ of. [])) f

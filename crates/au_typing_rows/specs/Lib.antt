@@ -1,0 +1,4 @@
+pub mod Things
+pub mod Expressions
+pub mod Statements
+pub mod Bodies
