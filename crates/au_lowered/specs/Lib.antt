@@ -7,3 +7,4 @@ pub mod Agreeing
 pub mod Samples
 pub mod Shown
 pub mod Forms
+pub mod Laws

@@ -1,6 +1,7 @@
 //! Laws of the definitions, each as the contract of a call that does nothing.
 
 ghost use Rattle.au_lowered.specs.Forms.{FormsAreLowered, ReferencesAreLowered};
+ghost use Rattle.au_lowered.specs.Laws.{BlocksFit, BodiesKeepLabels, ExpressionsFit};
 ghost use Rattle.au_lowered.specs.Shown.{SamplesAreLowered};
 
 /// The sample programs that show the meaning have the code that was written by hand, and it does what they
@@ -17,4 +18,15 @@ pub fn forms_are_lowered()
 /// A program with references has the code that was written by hand, and this is what the code does.
 pub fn references_are_lowered()
     ensures { ReferencesAreLowered }
+{}
+
+/// Code has as many instructions at each place of a function, and its labels lead to no place behind it.
+pub fn code_fits<T, C>()
+    ensures expressions { ExpressionsFit T C }
+    ensures blocks { BlocksFit T C }
+{}
+
+/// The labels of a body that returns on every path are places of its instructions.
+pub fn bodies_keep_labels<T, C>()
+    ensures { BodiesKeepLabels T C }
 {}
