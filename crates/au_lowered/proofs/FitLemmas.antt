@@ -30,7 +30,7 @@ labels_append k n (x ∷ xs) ys a b = (a.0, labels_append k n xs ys a.1 b)
 -- ---- one piece behind another
 
 -- how long two pieces are
-length_both : (a b : Written) (p : ℕ) → length ((a >> b) p) ≡ length (a p) + length (b (p + length (a p)))
+pub length_both : (a b : Written) (p : ℕ) → length ((a >> b) p) ≡ length (a p) + length (b (p + length (a p)))
 length_both a b p = length-append (a p) (b (p + length (a p)))
 
 -- the labels of two pieces at a place
@@ -97,7 +97,7 @@ fits_given None write fits = fits_nothing
 fits_given (Some a) write fits = fits a
 
 -- an instruction that stands where no block has returned before it
-length_unless : (r : Bool) (i : Instr) (p : ℕ) → length (unless r i p) ≡ count_unless r
+pub length_unless : (r : Bool) (i : Instr) (p : ℕ) → length (unless r i p) ≡ count_unless r
 length_unless true i p = refl
 length_unless false i p = refl
 
@@ -135,16 +135,15 @@ unless_labels false i k n p e = (e, tt)
 
 module _ (r : Bool) (a b : Written) where
   -- where the second branch begins, the jump to its end, and the end
-  next : ℕ → ℕ
+  abbrev pub next : ℕ → ℕ
   next p = p + 1 + length (a (p + 1)) + count_unless r
 
   jump : ℕ → Instr
-  unfolding next
   jump p = instr.Jump (next p + length (b (next p)))
 
-  either_length : (p : ℕ)
+  pub either_length : (p : ℕ)
       → length (either r a b p) ≡ length (a (p + 1)) + count_unless r + length (b (next p)) + 1
-  unfolding next jump
+  unfolding jump
   either_length p =
       let many = length_three (plain (instr.JumpNot (next p))) (a (p + 1)) (unless r (jump p) (next p)) (b (next p)) in
       let last = length_unless r (jump p) (next p) in
@@ -163,7 +162,7 @@ module _ (r : Bool) (a b : Written) where
       → LabelsBefore k (p + length (either r a b p)) (unless r (jump p) (next p))
       → LabelsBefore k (next p + length (b (next p))) (b (next p))
       → LabelsBefore k (p + length (either r a b p)) (either r a b p)
-  unfolding next jump
+  unfolding jump
   either_before k p long first middle last =
       let many = either_length p in
       let end = p + length (either r a b p) in (
@@ -176,7 +175,7 @@ module _ (r : Bool) (a b : Written) where
 
 -- two branches
 pub fits_either : (r : Bool) {a b : Written} → Fits 0 a → Fits 0 b → Fits 0 (either r a b)
-unfolding next jump
+unfolding jump
 fits_either r {a} {b} fa fb = record {
   steady = λ p q. either_steady r a b fa fb p q;
   long = λ p. omega arith;
@@ -189,7 +188,7 @@ fits_either r {a} {b} fa fb = record {
 
 -- two branches of which the first returns on every path
 pub fits_returning : {k : ℕ} {a b : Written} → Fits k a → Fits k b → Fits k (either true a b)
-unfolding next jump
+unfolding jump
 fits_returning {k} {a} {b} fa fb = record {
   steady = λ p q. either_steady true a b fa fb p q;
   long = λ p.
@@ -297,16 +296,15 @@ arms_end = record { steady = λ p q. refl; before = λ p. tt; starts = λ p. tt 
 
 module _ (r : Bool) (tag : Option ℕ) (a : Written) (others : ℕ → ArmsWritten) where
   -- where the other arms begin, and the jump to their end
-  behind : ℕ → ℕ
+  abbrev pub behind : ℕ → ℕ
   behind p = p + length (a p) + count_unless r
 
   leap : ℕ → Instr
-  unfolding behind
   leap p = instr.Jump (behind p + length (others (behind p)).code)
 
-  arm_length : (p : ℕ) → length (arm_then r tag a others p).code
+  pub arm_length : (p : ℕ) → length (arm_then r tag a others p).code
       ≡ length (a p) + count_unless r + length (others (behind p)).code
-  unfolding behind leap
+  unfolding leap
   arm_length p =
       let many = length_all (a p) (unless r (leap p) (behind p)) (others (behind p)).code in
       let last = length_unless r (leap p) (behind p) in
@@ -323,7 +321,7 @@ module _ (r : Bool) (tag : Option ℕ) (a : Written) (others : ℕ → ArmsWritt
       → LabelsBefore k (p + length (arm_then r tag a others p).code) (unless r (leap p) (behind p))
       → ArmsFit k others
       → LabelsBefore k (p + length (arm_then r tag a others p).code) (arm_then r tag a others p).code
-  unfolding behind leap
+  unfolding leap
   arm_before k p own middle fo =
       let many = arm_length p in
       let end = p + length (arm_then r tag a others p).code in
@@ -335,7 +333,7 @@ module _ (r : Bool) (tag : Option ℕ) (a : Written) (others : ℕ → ArmsWritt
 
   arm_starts : (k p : ℕ) → k ≤ length (a p) → ArmsFit k others
       → StartsBefore k (p + length (arm_then r tag a others p).code) (arm_then r tag a others p).starts
-  unfolding behind leap
+  unfolding leap
   arm_starts k p long fo =
       let many = arm_length p in (
         omega (arith, many, long),
@@ -346,7 +344,7 @@ module _ (r : Bool) (tag : Option ℕ) (a : Written) (others : ℕ → ArmsWritt
 -- an arm and others
 pub arms_fit : (r : Bool) (tag : Option ℕ) {a : Written} {others : ℕ → ArmsWritten} → Fits 0 a → ArmsFit 0 others
     → ArmsFit 0 (arm_then r tag a others)
-unfolding behind leap
+unfolding leap
 arms_fit r tag {a} {others} fa fo = record {
   steady = λ p q. arm_steady r tag a others fa fo p q;
   before = λ p.

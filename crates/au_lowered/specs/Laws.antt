@@ -77,7 +77,8 @@ module _ {N T C : Type 0} where
 -- ---- laws
 
 module _ (T C : Type 0) where
-  -- The code of an expression has as many instructions at each place, and its labels lead to no place behind it.
+  -- The code of an expression has as many instructions at each place, and its labels lead to no place behind
+  -- it.
   abbrev pub ExpressionsFit : Type 0
   ExpressionsFit = (see : View ℕ T C) (scope : Scope) (e : Expression Bytes T C) → Fits 0 (code see scope e)
 

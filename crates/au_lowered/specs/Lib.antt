@@ -8,3 +8,4 @@ pub mod Samples
 pub mod Shown
 pub mod Forms
 pub mod Laws
+pub mod Standing

@@ -3,6 +3,7 @@
 ghost use Rattle.au_lowered.specs.Forms.{FormsAreLowered, ReferencesAreLowered};
 ghost use Rattle.au_lowered.specs.Laws.{BlocksFit, BodiesKeepLabels, ExpressionsFit};
 ghost use Rattle.au_lowered.specs.Shown.{SamplesAreLowered};
+ghost use Rattle.au_lowered.specs.Standing.{PartsStand};
 
 /// The sample programs that show the meaning have the code that was written by hand, and it does what they
 /// mean.
@@ -29,4 +30,9 @@ pub fn code_fits<T, C>()
 /// The labels of a body that returns on every path are places of its instructions.
 pub fn bodies_keep_labels<T, C>()
     ensures { BodiesKeepLabels T C }
+{}
+
+/// Where code stands in a function, its parts stand in a row, and its labels are the places between them.
+pub fn parts_stand()
+    ensures { PartsStand }
 {}
