@@ -1,0 +1,4 @@
+pub mod FitLemmas
+pub mod TreeLemmas
+pub mod ReturnLemmas
+pub mod StandLemmas

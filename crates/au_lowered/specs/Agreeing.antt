@@ -1,5 +1,5 @@
--- What it means that a run of lowered code and one of the meaning do the same: lowered code tells texts and types
--- by their numbers.
+-- What it means that a run of lowered code and one of the meaning do the same: lowered code tells texts and
+-- types by their numbers.
 use Rattle.std.specs.Prelude.{◌≡◌, ℕ, ◌*◌, nat_le, IsTrue, Bool, List, map}
 use Rattle.au_closed_types.specs.Types.{ClosedType}
 use Rattle.au_effects.specs.Answers as answer
@@ -37,10 +37,10 @@ ending_numbered texts (abort fault) = Abort (abort_kind (fault_numbered texts fa
 ending_numbered texts running = Steps
 ending_numbered texts stuck = Stuck
 
--- A run of the code of a program does what a run of its meaning does: it ends in the same way, and has the same
--- output, input left and events.
-pub record Agrees {T C : Type 0} (functions : List (Function ℕ T C)) (meant : source.Outcome) (ran : low.Outcome)
-    : Type 0 where
+-- A run of the code of a program does what a run of its meaning does: it ends in the same way, and has the
+-- same output, input left and events.
+pub record Agrees {T C : Type 0} (functions : List (Function ℕ T C)) (meant : source.Outcome)
+    (ran : low.Outcome) : Type 0 where
   pub ending : ran.ending ≡ ending_numbered (texts_in functions) meant.ending
   pub output : ran.output ≡ meant.world.output
   pub left : ran.left ≡ meant.world.left

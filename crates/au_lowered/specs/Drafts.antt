@@ -63,7 +63,7 @@ either returns a b place =
     let chosen = a (place + 1) in
     let l = place + 1 + length chosen + count_unless returns in
     let other = b l in
-    plain (JumpNot l) ∷ (chosen ++ unless returns (Jump (l + length other)) l ++ other)
+    plain (JumpNot l) ∷ (chosen ++ (unless returns (Jump (l + length other)) l ++ other))
 
 -- the same, where there may be no b
 abbrev pub branch : Bool → Written → Option Written → Written

@@ -27,8 +27,8 @@ abbrev pub numbers_from : {A : Type 0} → ℕ → List A → List ℕ
 numbers_from n [] = []
 numbers_from n (x ∷ rest) = n ∷ numbers_from (n + 1) rest
 
--- for each parameter, in declared order, the number of its argument, in the order of the text: of arguments by
--- position, and of arguments with these labels
+-- for each parameter, in declared order, the number of its argument, in the order of the text: of arguments
+-- by position, and of arguments with these labels
 abbrev pub by_position : List Bytes → List ℕ
 by_position parameters = numbers_from 0 parameters
 
@@ -73,8 +73,8 @@ abbrev pub taken : Bool → Variable → Written
 taken true x = does (instr.Look x.number [])
 taken false x = does (instr.Move x.number)
 
--- the operand of `!`: a variable, alone or in parentheses, is looked at, and of another expression this is the
--- code
+-- the operand of `!`: a variable, alone or in parentheses, is looked at, and of another expression this is
+-- the code
 abbrev pub looked_at : Option Variable → Written → Written
 looked_at None other = other
 looked_at (Some x) other = taken true x

@@ -11,19 +11,20 @@ use Rattle.au_low.specs.declared.instructions.Instr.{Instr}
 use Rattle.au_low.specs.declared.instructions.Instr.TheVariants as instr
 use Rattle.au_low.specs.declared.instructions.Mode.TheVariants as mode
 use Rattle.au_low.specs.Runs.{low_run}
-use Rattle.au_meaning.specs.Samples.{Note, Tree, Sample, Instance, here, word, noted, linear, at_type, bytes, free_name, operated, called_tree, block, variable, prints, succeeds, main, byte, plain, pair, maybe_of, exit_code, maybe}
+use Rattle.au_meaning.specs.Samples.{Note, Tree, Sample, Instance, here, word, noted, linear, at_type, bytes, free_name, operated, called_tree, block, variable, prints, succeeds, main, byte, plain, pair, key, maybe_of, exit_code, maybe}
 use Rattle.au_meaning.specs.Shown.{Line, line, alone, does, says, name, is, counted}
 use Rattle.au_shipped.specs.declared.prims.ShippedCall.TheVariants as prim
 use Rattle.au_syntax.specs.declared.expressions.BorrowMode.TheVariants as borrowing
 use Rattle.au_syntax.specs.declared.types.Access.TheVariants as access
 use Rattle.au_syntax.specs.Expressions.{Node, negative, nil, path, arrow, named_call, parenthesized, dereference, borrow, borrow_part, typed, arguments, no_arguments}
 use Rattle.au_syntax.specs.Plain.{Bytes}
-use Rattle.au_syntax.specs.Statements.{skip, destructure, assign_through, conditional, conditional_else, case_of, while_loop, for_loop, borrow_in, borrow_typed, discard, return_of, branches, no_branches, arms, no_arms}
+use Rattle.au_syntax.specs.Statements.{skip, destructure, assign, assign_through, conditional, conditional_else, case_of, while_loop, for_loop, borrow_in, borrow_typed, discard, return_of, branches, no_branches, arms, no_arms}
 use Rattle.au_syntax.specs.Types as written
 use Rattle.au_syntax.specs.Types.{Bound, WrittenType}
 use Rattle.au_types.specs.declared.types.Region.{Region}
 use Rattle.au_types.specs.declared.types.Region.TheVariants.{Static}
 use Rattle.au_types.specs.Types as type
+use Rattle.au_lowered.specs.Programs.{instructions_of}
 use Rattle.au_lowered.specs.Samples as closing
 use Rattle.au_lowered.specs.Samples.{LowersInStep, by_hand, taking}
 use Rattle.au_lowered.specs.Shown.{put, make, ship, print, succeed, entry}
@@ -63,7 +64,8 @@ chain_code = entry [] (exit_code ∷ []) 0 (
     instr.PushBool true ∷ instr.JumpNot 15 ∷ make 0 1 [] ∷ instr.Return ∷ succeed 0)))
 
 -- `if false then return ExitFailure(); else skip; end if;`
--- `case Absent() of when Present(value as v: Nat8) do return ExitFailure(); when Absent do skip; end case; ..`
+-- `case Absent() of when Present(value as v: Nat8) do return ExitFailure();`
+-- `when Absent do skip; end case; ..`
 abbrev pub returning : List Sample
 returning = alone (
     conditional_else here (branches (is false) (block (fails ∷ [])) no_branches) (block (skip here ∷ []))
@@ -133,12 +135,74 @@ orders_code = entry (codes "b" ∷ codes "a" ∷ []) (exit_code ∷ []) 0 (
     instr.PushText 1 ∷ print prim.PrintLnText (
     instr.PushText 0 ∷ print prim.PrintLnText (succeed 0)))))))
 
+-- ---- rounds
+
+-- `function plain(x: Key): Nat8 is let { code as v: Nat8 } := x; return v; end;`
+abbrev pub key_opened : Line
+key_opened =
+    destructure here (bound (codes "code") (codes "v") ∷ []) (path (linear (plain key)) (word (codes "x")) [])
+
+abbrev pub key_with : Tree → Tree
+key_with e =
+    named_call (linear (plain key)) (word (codes "Key")) (arguments (word (codes "code")) e no_arguments) tt
+
+abbrev pub added : Tree → Tree → Tree
+added a b = called_tree (noted byte) (codes "modularAdd") (a ∷ b ∷ [])
+
+abbrev pub of_key : Bytes → Tree → Sample
+of_key function e = record {
+  name = function;
+  parameters = (codes "x", plain key) ∷ [];
+  body = block (key_opened ∷ return_of here e ∷ []);
+}
+
+-- `function f(x: Key): Nat8 is`
+-- `    let { code as v: Nat8 } := x; return plain(Key(code => modularAdd(v, 1)));`
+-- `end;`
+-- `let rounds: Nat8 := 10; var sum: Nat8 := 0;`
+-- `for k from 1 to rounds do sum := modularAdd(sum, f(Key(code => k))); end for; printLn(sum); ..`
+abbrev pub rounds : List Sample
+rounds = main (
+    variable (codes "rounds") (bytes 10)
+    ∷ variable (codes "sum") (bytes 0)
+    ∷ for_loop here (word (codes "k")) (bytes 1) (name (codes "rounds")) (block (
+    assign here (word (codes "sum")) [] (added (name (codes "sum"))
+    (called_tree (noted byte) (codes "f") (key_with (name (codes "k")) ∷ []))) ∷ []))
+    ∷ prints byte (name (codes "sum")) ∷ succeeds ∷ [])
+    ∷ of_key (codes "plain") (name (codes "v"))
+    ∷ of_key (codes "f")
+    (called_tree (noted byte) (codes "plain") (key_with (added (name (codes "v")) (bytes 1)) ∷ []))
+    ∷ []
+
+abbrev pub rounds_code : Code
+rounds_code = by_hand [] (key ∷ exit_code ∷ []) (
+    closing.plain 5 (
+    put 10 ∷ instr.Store 0 ∷ put 0 ∷ instr.Store 1
+    ∷ put 1 ∷ instr.Store 2 ∷ instr.Look 0 [] ∷ instr.Store 3 ∷ instr.ForTest 2 3 18
+    ∷ instr.Look 2 [] ∷ instr.Store 4
+    ∷ instr.Look 1 [] ∷ instr.Look 4 [] ∷ make 0 0 (0 ∷ []) ∷ instr.Call 1 (0 ∷ [])
+    ∷ instr.Wrap wrap_op.Add Nat8 [] ∷ instr.Set 1 []
+    ∷ instr.ForStep 2 3 9
+    ∷ instr.Look 1 [] ∷ print prim.PrintLnInt (succeed 1))
+    ∷ taking 1 2 (
+    instr.Move 0 ∷ instr.Take 1
+    ∷ instr.Look 1 [] ∷ put 1 ∷ instr.Wrap wrap_op.Add Nat8 [] ∷ make 0 0 (0 ∷ []) ∷ instr.Call 2 (0 ∷ [])
+    ∷ instr.Return ∷ [])
+    ∷ taking 1 2 (instr.Move 0 ∷ instr.Take 1 ∷ instr.Look 1 [] ∷ instr.Return ∷ []) ∷ [])
+
+-- its instances, in the order in which calls reach them
+abbrev pub met : List Instance
+met = closing.alone 0 ∷ closing.alone 2 ∷ closing.alone 1 ∷ []
+
 -- what each is lowered to, and that it does what it means
 pub record FormsAreLowered : Type 0 where
   pub chain : LowersInStep (closing.alone 0 ∷ []) chain chain_code
   pub returning : LowersInStep (closing.alone 0 ∷ []) returning returning_code
   pub slots : LowersInStep (closing.alone 0 ∷ []) slots slots_code
   pub orders : LowersInStep (closing.alone 0 ∷ []) orders orders_code
+  pub in_rounds : LowersInStep met rounds rounds_code
+  pub instructions : instructions_of (closing.closed_over met rounds) ≡ 35
+  pub steps : (low_run true rounds_code [] 299).made ≡ 224
 
 -- ---- references, which the meaning hasn't yet
 
@@ -202,7 +266,8 @@ lending = main (
     variable (codes "p") (called_tree (noted (plain pair)) (codes "Pair") (bytes 1 ∷ bytes 2 ∷ []))
     ∷ writing ∷ reading
     ∷ does type.unit (codes "bump") (borrow writes_pair borrowing.Write (word (codes "p")) ∷ [])
-    ∷ borrow_in here access.Read (word (codes "p")) (word (codes "r")) (word (codes "R")) (block (succeeds ∷ [])) here
+    ∷ borrow_in here access.Read (word (codes "p")) (word (codes "r")) (word (codes "R"))
+    (block (succeeds ∷ [])) here
     ∷ []) ∷ first ∷ bump ∷ []
 
 abbrev pub lending_code : Code

@@ -7,3 +7,5 @@ pub mod Agreeing
 pub mod Samples
 pub mod Shown
 pub mod Forms
+pub mod Laws
+pub mod Standing

@@ -91,8 +91,8 @@ function_code texts types f = record {
   code = map (numbered texts types) (body_of f);
 }
 
--- The code that a closed program is lowered to, by what is told of each of its types: the function of a number
--- is the instance of that number, and the entry is 0.
+-- The code that a closed program is lowered to, by what is told of each of its types: the function of a
+-- number is the instance of that number, and the entry is 0.
 abbrev pub lowered : {T C : Type 0} → (ClosedType → LowType) → List (Function ℕ T C) → Code
 lowered told functions =
     let texts = texts_in functions in

@@ -73,7 +73,8 @@ row text home linear = record { text = text; «module» = home; linear = linear 
 abbrev pub row_at : DeclAt → LowType
 row_at at =
     if same_place at exit_code then row (codes "Austral.Pervasive:ExitCode") (codes "Austral.Pervasive") false
-    else if same_place at root_capability then row (codes "Austral.Pervasive:RootCapability") (codes "Austral.Pervasive") true
+    else if same_place at root_capability
+    then row (codes "Austral.Pervasive:RootCapability") (codes "Austral.Pervasive") true
     else if same_place at pair then row (codes "Main:Pair") (codes "Main") false
     else if same_place at key then row (codes "Main:Key") (codes "Main") true
     else row (codes "Main:Maybe[Nat8]") (codes "Main") false
@@ -103,9 +104,9 @@ taking params slots instrs = record { params = params; slots = slots; code = ins
 -- A sample has this code, and the code does what the sample means.
 pub record Lowers (instances : List Instance) (samples : List Sample) (code : Code) : Type 0 where
   pub is : code_of instances samples ≡ code
-  pub agrees : Agrees (closed_over instances samples) (given samples 99) (low_run true code [] 299)
+  pub agrees : Agrees (closed_over instances samples) (given samples 299) (low_run true code [] 299)
 
 -- Besides, it does so step by step. Where no rule applies, a tick was made that has no step.
 pub record LowersInStep (instances : List Instance) (samples : List Sample) (code : Code) : Type 0 where
   pub lowers : Lowers instances samples code
-  pub steps : InStep (given samples 99) (low_run true code [] 299)
+  pub steps : InStep (given samples 299) (low_run true code [] 299)

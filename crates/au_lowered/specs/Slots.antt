@@ -62,7 +62,8 @@ with_field slot name (Some field) scope = with_name name (slot + field.0) (Some 
 abbrev pub with_fields : List Field → ℕ → List (Bound Bytes) → Scope → Scope
 with_fields fields slot [] scope = scope
 with_fields fields slot (b ∷ rest) scope =
-    with_fields fields slot rest (with_field slot (bound_name b.name) (field_of b.name.name.name fields) scope)
+    with_fields fields slot rest
+    (with_field slot (bound_name b.name) (field_of b.name.name.name fields) scope)
 
 module _ {I T C : Type 0} (see : View I T C) where
   -- the fields of the case of a number of what an expression is, by its note
@@ -125,4 +126,6 @@ module _ {I T C : Type 0} (see : View I T C) where
     pub room_of_arms : ℕ → T → Arms Bytes T C → ℕ
     room_of_arms slot note no_arms = slot
     room_of_arms slot note (arms at name binds block rest) =
-        max (room_of_block (slot + length (fields_of_case note name.name)) block) (room_of_arms slot note rest)
+        max
+        (room_of_block (slot + length (fields_of_case note name.name)) block)
+        (room_of_arms slot note rest)

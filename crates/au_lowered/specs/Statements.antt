@@ -1,5 +1,5 @@
--- The code of statements and blocks: one equation for each form. Each is given how many borrow statements stand
--- round it, how many slots are in use before it, and what is in scope.
+-- The code of statements and blocks: one equation for each form. Each is given how many borrow statements
+-- stand round it, how many slots are in use before it, and what is in scope.
 use Rattle.std.specs.Prelude.{ℕ, zero, suc, ◌+◌, max, Bool, true, false, ◌||◌, List, [], ◌∷◌, ◌++◌, length, Option, Some, None, if◌then◌else◌, unwrap_or}
 use Rattle.au_derivations.specs.Returns.{block_returns}
 use Rattle.au_low.specs.declared.instructions.Instr.TheVariants as instr
@@ -19,9 +19,9 @@ use Rattle.au_lowered.specs.Slots.{mode_of, with_reference, with_fields, fields_
 
 -- ---- pieces
 
--- The turns of `for`, whose counter and last number are in slots from one on, and whose variable is in the slot
--- behind them: `FORTEST(s, s+1, end) t: LOOK(s) STORE(s+2) block FORSTEP(s, s+1, t) end:`, without the step
--- where the block returns on every path.
+-- The turns of `for`, whose counter and last number are in slots from one on, and whose variable is in the
+-- slot behind them: `FORTEST(s, s+1, end) t: LOOK(s) STORE(s+2) block FORSTEP(s, s+1, t) end:`, without the
+-- step where the block returns on every path.
 abbrev pub turns : Bool → ℕ → Written → Written
 turns returns slot block place =
     let t = place + 1 in
@@ -39,8 +39,8 @@ mode_in borrowing.Reborrow = mode.Again
 -- the block returns on every path
 abbrev pub lends : Bool → ℕ → ℕ → BorrowMode → Option Variable → Written → Written
 lends returns around slot mode variable block =
-    given variable (λ x.
-    does (instr.Bind x.number slot (mode_in mode)) >> block >> unless returns (instr.Close around))
+    given variable (λ x. does (instr.Bind x.number slot (mode_in mode)))
+    >> block >> unless returns (instr.Close around)
 
 -- ---- arms
 
@@ -62,7 +62,7 @@ arm_then unneeded tag block others place =
     let rest = others next in
     record {
       starts = (tag, place) ∷ rest.starts;
-      code = own ++ unless unneeded (instr.Jump (next + length rest.code)) next ++ rest.code;
+      code = own ++ (unless unneeded (instr.Jump (next + length rest.code)) next ++ rest.code);
     }
 
 -- where the arm of a case begins
@@ -102,10 +102,12 @@ module _ {T C : Type 0} (see : View ℕ T C) where
         whole see around scope e >> does (instr.Take slot)
     statement around slot scope (assign at x path e) =
         whole see around scope e
-        >> part_of see (variable_of scope x.name) (names_of path) (λ s numbers. does (instr.Set s numbers))
+        >> part_of see (variable_of scope x.name) (names_of path) (λ s numbers.
+        does (instr.Set s numbers))
     statement around slot scope (assign_through at r path e) =
         whole see around scope e
-        >> part_behind see (variable_of scope r.name) (names_of path) (λ s numbers. does (instr.Put s numbers))
+        >> part_behind see (variable_of scope r.name) (names_of path) (λ s numbers.
+        does (instr.Put s numbers))
     statement around slot scope (conditional at tests) =
         unwrap_or (tests_of around slot scope tests None) nothing
     statement around slot scope (conditional_else at tests other) =

@@ -13,19 +13,40 @@ pub returns : goal.returns
 unfolding act call_at converted exec follows for_turns shipped ticked trapped truth_of while_turns wrapped
 returns c = record {
   chain = record {
-    lowers = record { is = refl; agrees = record { ending = refl; output = refl; left = refl; events = refl } };
+    lowers = record {
+      is = refl;
+      agrees = record { ending = refl; output = refl; left = refl; events = refl };
+    };
     steps = record { least = refl; most = refl };
   };
   returning = record {
-    lowers = record { is = refl; agrees = record { ending = refl; output = refl; left = refl; events = refl } };
+    lowers = record {
+      is = refl;
+      agrees = record { ending = refl; output = refl; left = refl; events = refl };
+    };
     steps = record { least = refl; most = refl };
   };
   slots = record {
-    lowers = record { is = refl; agrees = record { ending = refl; output = refl; left = refl; events = refl } };
+    lowers = record {
+      is = refl;
+      agrees = record { ending = refl; output = refl; left = refl; events = refl };
+    };
     steps = record { least = refl; most = refl };
   };
   orders = record {
-    lowers = record { is = refl; agrees = record { ending = refl; output = refl; left = refl; events = refl } };
+    lowers = record {
+      is = refl;
+      agrees = record { ending = refl; output = refl; left = refl; events = refl };
+    };
     steps = record { least = refl; most = refl };
   };
+  in_rounds = record {
+    lowers = record {
+      is = refl;
+      agrees = record { ending = refl; output = refl; left = refl; events = refl };
+    };
+    steps = record { least = refl; most = refl };
+  };
+  instructions = refl;
+  steps = refl;
 }

@@ -13,60 +13,105 @@ pub returns : goal.returns
 unfolding act call_at converted exec follows for_turns shipped ticked trapped truth_of while_turns wrapped
 returns c = record {
   hello = record {
-    lowers = record { is = refl; agrees = record { ending = refl; output = refl; left = refl; events = refl } };
+    lowers = record {
+      is = refl;
+      agrees = record { ending = refl; output = refl; left = refl; events = refl };
+    };
     steps = record { least = refl; most = refl };
   };
   overflow = record {
-    lowers = record { is = refl; agrees = record { ending = refl; output = refl; left = refl; events = refl } };
+    lowers = record {
+      is = refl;
+      agrees = record { ending = refl; output = refl; left = refl; events = refl };
+    };
     steps = record { least = refl; most = refl };
   };
   counting = record {
-    lowers = record { is = refl; agrees = record { ending = refl; output = refl; left = refl; events = refl } };
+    lowers = record {
+      is = refl;
+      agrees = record { ending = refl; output = refl; left = refl; events = refl };
+    };
     steps = record { least = refl; most = refl };
   };
   turns = record {
-    lowers = record { is = refl; agrees = record { ending = refl; output = refl; left = refl; events = refl } };
+    lowers = record {
+      is = refl;
+      agrees = record { ending = refl; output = refl; left = refl; events = refl };
+    };
     steps = record { least = refl; most = refl };
   };
   branching = record {
-    lowers = record { is = refl; agrees = record { ending = refl; output = refl; left = refl; events = refl } };
+    lowers = record {
+      is = refl;
+      agrees = record { ending = refl; output = refl; left = refl; events = refl };
+    };
     steps = record { least = refl; most = refl };
   };
   short = record {
-    lowers = record { is = refl; agrees = record { ending = refl; output = refl; left = refl; events = refl } };
+    lowers = record {
+      is = refl;
+      agrees = record { ending = refl; output = refl; left = refl; events = refl };
+    };
     steps = record { least = refl; most = refl };
   };
   parts = record {
-    lowers = record { is = refl; agrees = record { ending = refl; output = refl; left = refl; events = refl } };
+    lowers = record {
+      is = refl;
+      agrees = record { ending = refl; output = refl; left = refl; events = refl };
+    };
     steps = record { least = refl; most = refl };
   };
   once = record {
-    lowers = record { is = refl; agrees = record { ending = refl; output = refl; left = refl; events = refl } };
+    lowers = record {
+      is = refl;
+      agrees = record { ending = refl; output = refl; left = refl; events = refl };
+    };
     steps = record { least = refl; most = refl };
   };
-  twice = record { is = refl; agrees = record { ending = refl; output = refl; left = refl; events = refl } };
+  twice = record {
+    is = refl;
+    agrees = record { ending = refl; output = refl; left = refl; events = refl };
+  };
   cases = record {
-    lowers = record { is = refl; agrees = record { ending = refl; output = refl; left = refl; events = refl } };
+    lowers = record {
+      is = refl;
+      agrees = record { ending = refl; output = refl; left = refl; events = refl };
+    };
     steps = record { least = refl; most = refl };
   };
   naming = record {
-    lowers = record { is = refl; agrees = record { ending = refl; output = refl; left = refl; events = refl } };
+    lowers = record {
+      is = refl;
+      agrees = record { ending = refl; output = refl; left = refl; events = refl };
+    };
     steps = record { least = refl; most = refl };
   };
   generic = record {
-    lowers = record { is = refl; agrees = record { ending = refl; output = refl; left = refl; events = refl } };
+    lowers = record {
+      is = refl;
+      agrees = record { ending = refl; output = refl; left = refl; events = refl };
+    };
     steps = record { least = refl; most = refl };
   };
   aborting = record {
-    lowers = record { is = refl; agrees = record { ending = refl; output = refl; left = refl; events = refl } };
+    lowers = record {
+      is = refl;
+      agrees = record { ending = refl; output = refl; left = refl; events = refl };
+    };
     steps = record { least = refl; most = refl };
   };
   shipped = record {
-    lowers = record { is = refl; agrees = record { ending = refl; output = refl; left = refl; events = refl } };
+    lowers = record {
+      is = refl;
+      agrees = record { ending = refl; output = refl; left = refl; events = refl };
+    };
     steps = record { least = refl; most = refl };
   };
   rooted = record {
-    lowers = record { is = refl; agrees = record { ending = refl; output = refl; left = refl; events = refl } };
+    lowers = record {
+      is = refl;
+      agrees = record { ending = refl; output = refl; left = refl; events = refl };
+    };
     steps = record { least = refl; most = refl };
   };
 }
