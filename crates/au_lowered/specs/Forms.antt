@@ -1,22 +1,20 @@
 -- Programs with the forms that the other samples haven't, and the code of each, which was written by hand.
-use Rattle.std.specs.Prelude.{◌≡◌, ℕ, Bool, true, false, List, [], ◌∷◌, ◌++◌, map, Option, Some, None, pos, negsuc, codes, if◌then◌else◌}
+use Rattle.std.specs.Prelude.{◌≡◌, ℕ, true, false, List, [], ◌∷◌, ◌++◌, map, Option, Some, None, pos, negsuc, codes, if◌then◌else◌}
 use Rattle.std.specs.Str.{bytes_eq}
 use Rattle.au_base.specs.declared.kinds.IntKind.TheVariants.{Nat8, Int8}
 use Rattle.au_closed_types.specs.Types as closed_type
 use Rattle.au_closed_types.specs.Types.{ClosedType}
 use Rattle.au_effects.specs.Values as values
-use Rattle.au_effects.specs.Worlds.{Deed, opened, used, closed}
+use Rattle.au_effects.specs.Worlds.{opened, used, closed}
 use Rattle.au_ints.specs.declared.operations.WrapOp.TheVariants as wrap_op
 use Rattle.au_low.specs.declared.code.Code.{Code}
-use Rattle.au_low.specs.declared.endings.Ending.{Ending}
 use Rattle.au_low.specs.declared.endings.Ending.TheVariants.{Exit}
-use Rattle.au_low.specs.declared.instructions.Instr.{Instr}
 use Rattle.au_low.specs.declared.instructions.Instr.TheVariants as instr
 use Rattle.au_low.specs.declared.instructions.Mode.TheVariants as mode
 use Rattle.au_low.specs.Runs.{low_run}
 use Rattle.au_meaning.specs.Views.{Callee, Function, ships}
-use Rattle.au_meaning.specs.Samples.{Note, Tree, Sample, Instance, here, word, noted, linear, at_type, bytes, free_name, operated, called_tree, block, variable, prints, succeeds, main, byte, plain, pair, key, maybe_of, exit_code, maybe}
-use Rattle.au_meaning.specs.Shown.{Line, line, alone, does, says, name, is, counted}
+use Rattle.au_meaning.specs.Samples.{Note, Tree, Sample, Instance, here, word, noted, linear, at_type, bytes, called_tree, block, variable, prints, succeeds, main, byte, plain, pair, key, maybe_of, exit_code, maybe}
+use Rattle.au_meaning.specs.Shown.{Line, line, alone, does, says, name, is}
 use Rattle.au_shipped.specs.declared.prims.ShippedCall.TheVariants as prim
 use Rattle.au_syntax.specs.declared.expressions.BorrowMode.TheVariants as borrowing
 use Rattle.au_syntax.specs.declared.types.Access.TheVariants as access
@@ -25,7 +23,6 @@ use Rattle.au_syntax.specs.Plain.{Bytes}
 use Rattle.au_syntax.specs.Statements.{skip, destructure, assign, assign_through, conditional, conditional_else, case_of, while_loop, for_loop, borrow_in, borrow_typed, discard, return_of, branches, no_branches, arms, no_arms}
 use Rattle.au_syntax.specs.Types as written
 use Rattle.au_syntax.specs.Types.{Bound, WrittenType}
-use Rattle.au_types.specs.declared.types.Region.{Region}
 use Rattle.au_types.specs.declared.types.Region.TheVariants.{Static}
 use Rattle.au_types.specs.Types as type
 use Rattle.au_lowered.specs.Drafts as drafts

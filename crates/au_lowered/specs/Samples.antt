@@ -1,18 +1,18 @@
 -- The sample programs that show the meaning, as closed programs.
-use Rattle.std.specs.Prelude.{◌≡◌, ℕ, ◌+◌, ◌==◌, ◌&&◌, zero, suc, Bool, true, false, List, [], ◌∷◌, ◌++◌, map, Option, Some, None, option_map, option_and_then, unwrap_or, slice_get, codes, if◌then◌else◌}
+use Rattle.std.specs.Prelude.{◌≡◌, ℕ, ◌==◌, ◌&&◌, Bool, true, false, List, [], ◌∷◌, map, Option, option_map, unwrap_or, slice_get, codes, if◌then◌else◌}
 use Rattle.std.specs.List.{filter_map, position_or_len}
 use Rattle.std.specs.Option.{option_or}
 use Rattle.au_closed_types.specs.Same.{same}
 use Rattle.au_closed_types.specs.Types as closed_type
-use Rattle.au_closed_types.specs.Types.{ClosedType, ClosedTypes}
+use Rattle.au_closed_types.specs.Types.{ClosedType}
 use Rattle.au_low.specs.declared.code.Code.{Code}
 use Rattle.au_low.specs.declared.code.Function as low
 use Rattle.au_low.specs.declared.code.LowType.{LowType}
 use Rattle.au_low.specs.declared.instructions.Instr.{Instr}
-use Rattle.au_low.specs.Runs.{Outcome, low_run}
+use Rattle.au_low.specs.Runs.{low_run}
 use Rattle.au_matching.specs.Bindings.{value_of}
 use Rattle.au_meaning.specs.Meanings.{mean}
-use Rattle.au_meaning.specs.Samples.{Note, Sample, Instance, functions, given, type_under, exit_code, root_capability, pair, key, maybe}
+use Rattle.au_meaning.specs.Samples.{Note, Sample, Instance, functions, given, type_under, exit_code, root_capability, pair, key}
 use Rattle.au_meaning.specs.Views.{Act, Callee, View, Function, invokes, makes, ships}
 use Rattle.au_syntax.specs.Plain.{Bytes}
 use Rattle.au_types.specs.declared.types.DeclAt.{DeclAt}
