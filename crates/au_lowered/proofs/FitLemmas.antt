@@ -1,9 +1,9 @@
 -- How many instructions the pieces of code have, and where their labels lead.
-use Rattle.std.proofs.Common.{◌≡◌, ℕ, zero, suc, ◌+◌, ◌≤◌, max, Bool, true, false, List, [], ◌∷◌, ◌++◌, length, length-append, Option, Some, None, refl, sym, ap, subst, ◌∙◌, arith, if◌then◌else◌}
+use Rattle.std.proofs.Common.{◌≡◌, ℕ, zero, suc, ◌+◌, ◌≤◌, Bool, true, false, List, [], ◌∷◌, ◌++◌, length, length-append, Option, Some, None, refl, sym, subst, arith, if◌then◌else◌}
 use Rattle.au_low.specs.declared.instructions.Instr.{Instr}
 use Rattle.au_low.specs.declared.instructions.Instr.TheVariants as instr
 use Rattle.au_meaning.specs.Statements.{is_tag}
-use Rattle.au_lowered.specs.Drafts.{Draft, plain, Written, ◌>>◌, nothing, one, does, given, unless, count_unless, when, either, branch, loop}
+use Rattle.au_lowered.specs.Drafts.{Draft, plain, Written, ◌>>◌, nothing, one, does, given, unless, count_unless, when, either, loop}
 use Rattle.au_lowered.specs.Laws.{labels_of, EachBefore, LabelsBefore, Fits}
 use Rattle.au_lowered.specs.Statements as lower
 use Rattle.au_lowered.specs.Statements.{ArmsWritten, arm_then, start_of, cases, turns}

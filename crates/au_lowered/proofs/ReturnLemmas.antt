@@ -1,20 +1,20 @@
 -- The labels of what returns on every path lead to places before its end.
-use Rattle.std.proofs.Common.{◌≡◌, ℕ, zero, suc, ◌+◌, ◌≤◌, Bool, true, false, not, ◌&&◌, ◌||◌, IsTrue, List, [], ◌∷◌, length, Option, Some, None, refl, sym, ap, subst, arith, unwrap_or}
-use Rattle.au_derivations.specs.Returns.{returns, block_returns, branches_return, arms_return, may_follow}
+use Rattle.std.proofs.Common.{◌≡◌, ℕ, ◌+◌, Bool, true, false, not, ◌&&◌, ◌||◌, IsTrue, [], length, Option, Some, None, refl, subst, arith, unwrap_or}
+use Rattle.au_derivations.specs.Returns.{returns, block_returns, branches_return, arms_return}
 use Rattle.au_low.specs.declared.instructions.Instr.TheVariants as instr
 use Rattle.au_meaning.specs.Expressions.{note_of}
 use Rattle.au_meaning.specs.Names.{Scope, Variable, variable_of, with_parameters}
-use Rattle.au_meaning.specs.Views.{Function, View}
+use Rattle.au_meaning.specs.Views.{View}
 use Rattle.au_syntax.specs.declared.expressions.BorrowMode.{BorrowMode}
 use Rattle.au_syntax.specs.Plain.{Bytes}
 use Rattle.au_syntax.specs.Statements.{Statement, Statements, Branches, Arms, skip, declare, destructure, assign, assign_through, conditional, conditional_else, case_of, while_loop, for_loop, borrow_in, borrow_typed, discard, return_of, no_statements, statements, no_branches, branches, no_arms, arms}
-use Rattle.au_lowered.specs.Drafts.{Draft, plain, Written, ◌>>◌, nothing, one, does, given, unless, either, branch}
+use Rattle.au_lowered.specs.Drafts.{plain, Written, nothing, branch}
 use Rattle.au_lowered.specs.Laws.{Fits, LabelsBefore, Tidy, BlockTidy, TestsTidy, ArmsTidy, BodiesKeepLabels}
 use Rattle.au_lowered.specs.Programs.{body_of}
 use Rattle.au_lowered.specs.Slots.{mode_of, tag_in}
 use Rattle.au_lowered.specs.Statements.{ArmsWritten, arm_then, lends, is_last, statement, block, tests_of, arms_of}
 use Rattle.au_lowered.proofs.FitLemmas.{fits_both, fits_last, fits_one, fits_given, fits_returning, ArmsFit, arms_end, arms_returning, fits_cases}
-use Rattle.au_lowered.proofs.TreeLemmas.{fits_expression, fits_whole, fits_statement, fits_block}
+use Rattle.au_lowered.proofs.TreeLemmas.{fits_expression, fits_whole, fits_statement}
 
 -- ---- truth values
 

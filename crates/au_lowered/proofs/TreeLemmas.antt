@@ -1,11 +1,11 @@
 -- All that is lowered fits: each clause of its definition is made of pieces that do.
-use Rattle.std.proofs.Common.{◌≡◌, ℕ, zero, suc, ◌+◌, ◌≤◌, Bool, true, false, ◌&&◌, ◌||◌, IsTrue, List, [], ◌∷◌, length, Option, Some, None, refl, sym, ap, subst, arith, unwrap_or}
+use Rattle.std.proofs.Common.{ℕ, ◌+◌, Bool, true, false, ◌||◌, List, [], ◌∷◌, Option, Some, None, refl, arith, unwrap_or}
 use Rattle.au_closed_types.specs.Types.{ClosedType}
-use Rattle.au_derivations.specs.Returns.{returns, block_returns, branches_return, arms_return, may_follow}
+use Rattle.au_derivations.specs.Returns.{block_returns}
 use Rattle.au_effects.specs.Values as values
 use Rattle.au_low.specs.declared.instructions.Instr.TheVariants as instr
-use Rattle.au_meaning.specs.Expressions.{Operation, computes, compares, is_and, is_or, operation_of, kind_in, compared_kind, note_of, names_of, labels}
-use Rattle.au_meaning.specs.Names.{Scope, Variable, variable_of, with_name}
+use Rattle.au_meaning.specs.Expressions.{Operation, computes, compares, is_and, is_or, operation_of, kind_in, note_of, names_of}
+use Rattle.au_meaning.specs.Names.{Scope, Variable, variable_of}
 use Rattle.au_meaning.specs.Views.{View, Callee, Act, invokes, makes, ships}
 use Rattle.au_meaning.specs.Worlds.{Value}
 use Rattle.au_shipped.specs.declared.prims.ShippedCall.{ShippedCall}
@@ -15,12 +15,12 @@ use Rattle.au_syntax.specs.declared.expressions.BorrowMode.TheVariants as borrow
 use Rattle.au_syntax.specs.Expressions.{Expression, Expressions, Arguments, number, negative, text, truth, nil, path, arrow, call, named_call, parenthesized, dereference, borrow, borrow_part, binary, negation, typed, choice, no_expressions, expressions, no_arguments, arguments}
 use Rattle.au_syntax.specs.Plain.{Bytes}
 use Rattle.au_syntax.specs.Statements.{Statement, Statements, Branches, Arms, skip, declare, destructure, assign, assign_through, conditional, conditional_else, case_of, while_loop, for_loop, borrow_in, borrow_typed, discard, return_of, no_statements, statements, no_branches, branches, no_arms, arms}
-use Rattle.au_lowered.specs.Drafts.{Draft, plain, pushes_text, Written, ◌>>◌, nothing, one, does, given, unless, either, when, branch, loop}
-use Rattle.au_lowered.specs.Expressions.{code, code_of_all, code_of_named, whole, opens, closing, literal, taken, looked_at, operand, borrows, ships_call, acts, calls, mention, part_of, part_behind, numbers_along, joins}
-use Rattle.au_lowered.specs.Laws.{Fits, Tidy, BlockTidy, TestsTidy, ArmsTidy}
-use Rattle.au_lowered.specs.Slots.{mode_of, with_reference, with_fields, fields_of_case, tag_in, kept, after}
-use Rattle.au_lowered.specs.Statements.{ArmsWritten, arm_then, cases, turns, lends, is_last, mode_in, statement, block, tests_of, arms_of}
-use Rattle.au_lowered.proofs.FitLemmas.{fits_both, fits_last, fits_nothing, fits_one, fits_given, fits_when, fits_either, fits_returning, fits_loop, fits_turns, ArmsFit, arms_end, arms_fit, arms_returning, fits_cases, fits_unless}
+use Rattle.au_lowered.specs.Drafts.{plain, pushes_text, Written, nothing, one, branch}
+use Rattle.au_lowered.specs.Expressions.{code, code_of_all, code_of_named, whole, opens, closing, literal, taken, looked_at, operand, borrows, ships_call, acts, calls, mention, part_of, part_behind, joins}
+use Rattle.au_lowered.specs.Laws.{Fits}
+use Rattle.au_lowered.specs.Slots.{mode_of, tag_in}
+use Rattle.au_lowered.specs.Statements.{lends, is_last, statement, block, tests_of, arms_of}
+use Rattle.au_lowered.proofs.FitLemmas.{fits_both, fits_nothing, fits_one, fits_given, fits_when, fits_either, fits_loop, fits_turns, ArmsFit, arms_end, arms_fit, fits_cases, fits_unless}
 
 -- what may be written fits, where something is
 abbrev FitsIf : ℕ → Option Written → Type 0

@@ -1,18 +1,20 @@
 -- Programs with the forms that the other samples haven't, and the code of each, which was written by hand.
-use Rattle.std.specs.Prelude.{◌≡◌, ℕ, Bool, true, false, List, [], ◌∷◌, ◌++◌, Some, None, pos, negsuc, codes}
+use Rattle.std.specs.Prelude.{◌≡◌, ℕ, true, false, List, [], ◌∷◌, ◌++◌, map, Option, Some, None, pos, negsuc, codes, if◌then◌else◌}
+use Rattle.std.specs.Str.{bytes_eq}
 use Rattle.au_base.specs.declared.kinds.IntKind.TheVariants.{Nat8, Int8}
+use Rattle.au_closed_types.specs.Types as closed_type
+use Rattle.au_closed_types.specs.Types.{ClosedType}
 use Rattle.au_effects.specs.Values as values
-use Rattle.au_effects.specs.Worlds.{Deed, opened, used, closed}
+use Rattle.au_effects.specs.Worlds.{opened, used, closed}
 use Rattle.au_ints.specs.declared.operations.WrapOp.TheVariants as wrap_op
 use Rattle.au_low.specs.declared.code.Code.{Code}
-use Rattle.au_low.specs.declared.endings.Ending.{Ending}
 use Rattle.au_low.specs.declared.endings.Ending.TheVariants.{Exit}
-use Rattle.au_low.specs.declared.instructions.Instr.{Instr}
 use Rattle.au_low.specs.declared.instructions.Instr.TheVariants as instr
 use Rattle.au_low.specs.declared.instructions.Mode.TheVariants as mode
 use Rattle.au_low.specs.Runs.{low_run}
-use Rattle.au_meaning.specs.Samples.{Note, Tree, Sample, Instance, here, word, noted, linear, at_type, bytes, free_name, operated, called_tree, block, variable, prints, succeeds, main, byte, plain, pair, key, maybe_of, exit_code, maybe}
-use Rattle.au_meaning.specs.Shown.{Line, line, alone, does, says, name, is, counted}
+use Rattle.au_meaning.specs.Views.{Callee, Function, ships}
+use Rattle.au_meaning.specs.Samples.{Note, Tree, Sample, Instance, here, word, noted, linear, at_type, bytes, called_tree, block, variable, prints, succeeds, main, byte, plain, pair, key, maybe_of, exit_code, maybe}
+use Rattle.au_meaning.specs.Shown.{Line, line, alone, does, says, name, is}
 use Rattle.au_shipped.specs.declared.prims.ShippedCall.TheVariants as prim
 use Rattle.au_syntax.specs.declared.expressions.BorrowMode.TheVariants as borrowing
 use Rattle.au_syntax.specs.declared.types.Access.TheVariants as access
@@ -21,12 +23,13 @@ use Rattle.au_syntax.specs.Plain.{Bytes}
 use Rattle.au_syntax.specs.Statements.{skip, destructure, assign, assign_through, conditional, conditional_else, case_of, while_loop, for_loop, borrow_in, borrow_typed, discard, return_of, branches, no_branches, arms, no_arms}
 use Rattle.au_syntax.specs.Types as written
 use Rattle.au_syntax.specs.Types.{Bound, WrittenType}
-use Rattle.au_types.specs.declared.types.Region.{Region}
 use Rattle.au_types.specs.declared.types.Region.TheVariants.{Static}
 use Rattle.au_types.specs.Types as type
-use Rattle.au_lowered.specs.Programs.{instructions_of}
+use Rattle.au_lowered.specs.Drafts as drafts
+use Rattle.au_lowered.specs.Expressions.{acts, by_labels, literal}
+use Rattle.au_lowered.specs.Programs.{instructions_of, text_number}
 use Rattle.au_lowered.specs.Samples as closing
-use Rattle.au_lowered.specs.Samples.{LowersInStep, by_hand, taking}
+use Rattle.au_lowered.specs.Samples.{LowersInStep, LowersOver, by_hand, taking}
 use Rattle.au_lowered.specs.Shown.{put, make, ship, print, succeed, entry}
 
 -- ---- trees
@@ -194,6 +197,54 @@ rounds_code = by_hand [] (key ∷ exit_code ∷ []) (
 abbrev pub met : List Instance
 met = closing.alone 0 ∷ closing.alone 2 ∷ closing.alone 1 ∷ []
 
+-- ---- a birth in a shipped call
+
+-- `Box[Nat8]`, as a type and as a closed one
+abbrev pub box_of_byte : type.Meaning
+box_of_byte = type.named closing.box (type.arguments (type.of_type byte) type.no_arguments)
+
+abbrev pub closed_box : ClosedType
+closed_box =
+    closed_type.named closing.box (closed_type.types (closed_type.integer Nat8) closed_type.no_types)
+
+-- what `makeBox` and `unbox` call
+abbrev pub box_calls : Bytes → Option (Callee ℕ)
+box_calls name =
+    if bytes_eq name (codes "makeBox")
+    then Some (record { parameters = codes "value" ∷ []; act = ships prim.MakeBox (Some closed_box) })
+    else if bytes_eq name (codes "unbox")
+    then Some (record { parameters = codes "box" ∷ []; act = ships prim.Unbox None })
+    else None
+
+-- `let b: Box[Nat8] := makeBox(7); printLn(unbox(b)); ..`
+abbrev pub boxing : List (Function ℕ Note (Unit {0}))
+boxing = map (closing.with_calls box_calls) (closing.closed_over (closing.alone 0 ∷ []) (alone (
+    variable (codes "b") (called_tree (linear box_of_byte) (codes "makeBox") (bytes 7 ∷ []))
+    ∷ prints byte (called_tree (noted byte) (codes "unbox")
+    (path (linear box_of_byte) (word (codes "b")) [] ∷ []))
+    ∷ succeeds ∷ [])))
+
+abbrev pub boxing_code : Code
+boxing_code = entry [] (closing.box ∷ exit_code ∷ []) 1 (
+    put 7 ∷ instr.Shipped prim.MakeBox (Some 0) [] ∷ instr.Store 0
+    ∷ instr.Move 0 ∷ ship prim.Unbox ∷ print prim.PrintLnInt (succeed 1))
+
+-- ---- pieces
+
+-- literals of constants, and shipped calls whose arguments aren't in declared order
+pub record PiecesAreShown : Type 0 where
+  pub of_unit : literal values.unit 7 ≡ drafts.plain instr.PushUnit ∷ []
+  pub of_truth : literal (values.truth true) 7 ≡ drafts.plain (instr.PushBool true) ∷ []
+  pub of_number : literal (values.number Int8 (negsuc 4)) 7 ≡ drafts.plain (instr.Push Int8 (negsuc 4)) ∷ []
+  pub of_text : literal (values.text (codes "a")) 7 ≡ drafts.pushes_text (codes "a") ∷ []
+  pub ordered : acts (ships prim.Swap None) (1 ∷ 0 ∷ []) 7
+      ≡ drafts.plain (instr.Shipped prim.Swap None (1 ∷ 0 ∷ [])) ∷ []
+  pub declared : acts (ships prim.Swap None) (0 ∷ 1 ∷ []) 7
+      ≡ drafts.plain (instr.Shipped prim.Swap None []) ∷ []
+  pub labelled : by_labels (codes "c" ∷ codes "a" ∷ codes "b" ∷ []) (codes "a" ∷ codes "b" ∷ codes "c" ∷ [])
+      ≡ 1 ∷ 2 ∷ 0 ∷ []
+  pub again : text_number (codes "a" ∷ codes "b" ∷ []) (codes "b") ≡ 1
+
 -- what each is lowered to, and that it does what it means
 pub record FormsAreLowered : Type 0 where
   pub chain : LowersInStep (closing.alone 0 ∷ []) chain chain_code
@@ -203,6 +254,8 @@ pub record FormsAreLowered : Type 0 where
   pub in_rounds : LowersInStep met rounds rounds_code
   pub instructions : instructions_of (closing.closed_over met rounds) ≡ 35
   pub steps : (low_run true rounds_code [] 299).made ≡ 224
+  pub in_boxing : LowersOver boxing boxing_code
+  pub pieces : PiecesAreShown
 
 -- ---- references, which the meaning hasn't yet
 

@@ -1,5 +1,5 @@
 -- What holds of all that is lowered: how many instructions it has, and where its labels lead.
-use Rattle.std.specs.Prelude.{◌≡◌, ℕ, ◌+◌, ◌≤◌, Bool, true, false, IsTrue, List, [], ◌∷◌, length}
+use Rattle.std.specs.Prelude.{◌≡◌, ℕ, ◌+◌, ◌≤◌, true, IsTrue, List, [], ◌∷◌, length}
 use Rattle.au_derivations.specs.Returns.{returns, block_returns, may_follow}
 use Rattle.au_low.specs.declared.instructions.Instr.{Instr}
 use Rattle.au_low.specs.declared.instructions.Instr.TheVariants.{Jump, JumpNot, ForTest, ForStep, Case}
@@ -7,7 +7,7 @@ use Rattle.au_meaning.specs.Names.{Scope}
 use Rattle.au_meaning.specs.Views.{Function, View}
 use Rattle.au_syntax.specs.Expressions.{Expression}
 use Rattle.au_syntax.specs.Plain.{Bytes}
-use Rattle.au_syntax.specs.Statements.{Statement, Statements, Branches, Arms, skip, declare, destructure, assign, assign_through, conditional, conditional_else, case_of, while_loop, for_loop, borrow_in, borrow_typed, discard, return_of, no_statements, statements, no_branches, branches, no_arms, arms}
+use Rattle.au_syntax.specs.Statements.{Statement, Statements, Branches, Arms, conditional, conditional_else, case_of, while_loop, for_loop, borrow_in, borrow_typed, no_statements, statements, no_branches, branches, no_arms, arms}
 use Rattle.au_lowered.specs.Drafts.{Draft, plain, Written}
 use Rattle.au_lowered.specs.Expressions.{code}
 use Rattle.au_lowered.specs.Programs.{body_of}

@@ -1,17 +1,20 @@
 -- The sample programs that show the meaning, as closed programs.
-use Rattle.std.specs.Prelude.{◌≡◌, ℕ, ◌+◌, ◌==◌, ◌&&◌, zero, suc, Bool, true, false, List, [], ◌∷◌, ◌++◌, map, Option, Some, None, option_map, option_and_then, unwrap_or, codes, if◌then◌else◌}
+use Rattle.std.specs.Prelude.{◌≡◌, ℕ, ◌==◌, ◌&&◌, Bool, true, false, List, [], ◌∷◌, map, Option, option_map, unwrap_or, slice_get, codes, if◌then◌else◌}
 use Rattle.std.specs.List.{filter_map, position_or_len}
+use Rattle.std.specs.Option.{option_or}
 use Rattle.au_closed_types.specs.Same.{same}
 use Rattle.au_closed_types.specs.Types as closed_type
-use Rattle.au_closed_types.specs.Types.{ClosedType, ClosedTypes}
+use Rattle.au_closed_types.specs.Types.{ClosedType}
 use Rattle.au_low.specs.declared.code.Code.{Code}
 use Rattle.au_low.specs.declared.code.Function as low
 use Rattle.au_low.specs.declared.code.LowType.{LowType}
 use Rattle.au_low.specs.declared.instructions.Instr.{Instr}
-use Rattle.au_low.specs.Runs.{Outcome, low_run}
+use Rattle.au_low.specs.Runs.{low_run}
 use Rattle.au_matching.specs.Bindings.{value_of}
-use Rattle.au_meaning.specs.Samples.{Note, Sample, Instance, functions, given, type_under, exit_code, root_capability, pair, key, maybe}
+use Rattle.au_meaning.specs.Meanings.{mean}
+use Rattle.au_meaning.specs.Samples.{Note, Sample, Instance, functions, given, type_under, exit_code, root_capability, pair, key}
 use Rattle.au_meaning.specs.Views.{Act, Callee, View, Function, invokes, makes, ships}
+use Rattle.au_syntax.specs.Plain.{Bytes}
 use Rattle.au_types.specs.declared.types.DeclAt.{DeclAt}
 use Rattle.au_types.specs.Rows.{same_place}
 use Rattle.au_types.specs.Types as type
@@ -70,6 +73,10 @@ at n t = record { function = n; given = (codes "T", type.of_type t) ∷ [] }
 abbrev pub row : List ℕ → List ℕ → Bool → LowType
 row text home linear = record { text = text; «module» = home; linear = linear }
 
+-- `Box`
+abbrev pub box : DeclAt
+box = record { «module» = 2; decl = 0 }
+
 abbrev pub row_at : DeclAt → LowType
 row_at at =
     if same_place at exit_code then row (codes "Austral.Pervasive:ExitCode") (codes "Austral.Pervasive") false
@@ -77,6 +84,7 @@ row_at at =
     then row (codes "Austral.Pervasive:RootCapability") (codes "Austral.Pervasive") true
     else if same_place at pair then row (codes "Main:Pair") (codes "Main") false
     else if same_place at key then row (codes "Main:Key") (codes "Main") true
+    else if same_place at box then row (codes "Standard.Box:Box[Nat8]") (codes "Standard.Box") true
     else row (codes "Main:Maybe[Nat8]") (codes "Main") false
 
 abbrev pub told_of : ClosedType → LowType
@@ -110,3 +118,18 @@ pub record Lowers (instances : List Instance) (samples : List Sample) (code : Co
 pub record LowersInStep (instances : List Instance) (samples : List Sample) (code : Code) : Type 0 where
   pub lowers : Lowers instances samples code
   pub steps : InStep (given samples 299) (low_run true code [] 299)
+
+-- The same of a closed program.
+pub record LowersOver (functions : List (Function ℕ Note (Unit {0}))) (code : Code) : Type 0 where
+  pub is : lowered told_of functions ≡ code
+  pub agrees : Agrees functions (mean (slice_get functions) 0 [] 299) (low_run true code [] 299)
+  pub steps : InStep (mean (slice_get functions) 0 [] 299) (low_run true code [] 299)
+
+-- a function in which some names are calls of their own
+abbrev pub with_calls : {T C : Type 0} → (Bytes → Option (Callee ℕ)) → Function ℕ T C → Function ℕ T C
+with_calls named f = record {
+  view = record f.view { callee = λ note c name. option_or (named name) (f.view.callee note c name) };
+  parameters = f.parameters;
+  first = f.first;
+  body = f.body;
+}

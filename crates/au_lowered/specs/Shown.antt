@@ -1,12 +1,12 @@
 -- The sample programs that show the meaning, and the code of each, which was written by hand.
-use Rattle.std.specs.Prelude.{◌≡◌, ℕ, Bool, true, false, List, [], ◌∷◌, ◌++◌, Some, None, pos, codes}
+use Rattle.std.specs.Prelude.{ℕ, true, false, List, [], ◌∷◌, Some, None, pos, codes}
 use Rattle.au_base.specs.declared.kinds.IntKind.TheVariants.{Nat8}
 use Rattle.au_ints.specs.declared.operations.IntOp.TheVariants as int_op
 use Rattle.au_ints.specs.declared.operations.Order.TheVariants as order
 use Rattle.au_ints.specs.declared.operations.WrapOp.TheVariants as wrap_op
 use Rattle.au_low.specs.declared.code.Code.{Code}
 use Rattle.au_low.specs.declared.instructions.Instr.{Instr}
-use Rattle.au_low.specs.declared.instructions.Instr.TheVariants.{Push, PushBool, PushUnit, PushText, Look, Move, Store, Set, Discard, Arith, Wrap, Compare, Not, Convert, Jump, JumpNot, ForTest, ForStep, Make, Take, Case, Call, Shipped, Return}
+use Rattle.au_low.specs.declared.instructions.Instr.TheVariants.{Push, PushBool, PushUnit, PushText, Look, Move, Store, Set, Discard, Arith, Wrap, Compare, Not, Jump, JumpNot, ForTest, ForStep, Make, Take, Case, Call, Shipped, Return}
 use Rattle.au_meaning.specs.Samples.{byte, exit_code, root_capability, pair, key, maybe}
 use Rattle.au_meaning.specs.Shown.{hello, overflow, counting, turns, branching, short, parts, once, twice, cases, naming, generic, aborting, shipped, rooted}
 use Rattle.au_shipped.specs.declared.prims.ShippedCall.{ShippedCall}

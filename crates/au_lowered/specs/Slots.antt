@@ -6,14 +6,13 @@ use Rattle.au_closed_types.specs.Types as types
 use Rattle.au_closed_types.specs.Types.{ClosedType}
 use Rattle.au_effects.specs.Parts.{along}
 use Rattle.au_meaning.specs.Expressions.{note_of}
-use Rattle.au_meaning.specs.Names.{Scope, Variable, variable_of, with_name, bound_name, field_of}
+use Rattle.au_meaning.specs.Names.{Scope, Variable, with_name, bound_name, field_of}
 use Rattle.au_meaning.specs.Statements.{fields_noted}
 use Rattle.au_meaning.specs.Views.{Field, View}
 use Rattle.au_syntax.specs.declared.expressions.BorrowMode.{BorrowMode}
 use Rattle.au_syntax.specs.declared.expressions.BorrowMode.TheVariants as borrow
 use Rattle.au_syntax.specs.declared.types.Access.{Access}
 use Rattle.au_syntax.specs.declared.types.Access.TheVariants as access
-use Rattle.au_syntax.specs.Expressions.{Expression}
 use Rattle.au_syntax.specs.Plain.{Bytes}
 use Rattle.au_syntax.specs.Statements.{Statement, Statements, Branches, Arms, skip, declare, destructure, assign, assign_through, conditional, conditional_else, case_of, while_loop, for_loop, borrow_in, borrow_typed, discard, return_of, no_statements, statements, no_branches, branches, no_arms, arms}
 use Rattle.au_syntax.specs.Types.{Bound}

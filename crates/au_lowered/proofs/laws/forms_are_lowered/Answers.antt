@@ -49,4 +49,19 @@ returns c = record {
   };
   instructions = refl;
   steps = refl;
+  in_boxing = record {
+    is = refl;
+    agrees = record { ending = refl; output = refl; left = refl; events = refl };
+    steps = record { least = refl; most = refl };
+  };
+  pieces = record {
+    of_unit = refl;
+    of_truth = refl;
+    of_number = refl;
+    of_text = refl;
+    ordered = refl;
+    declared = refl;
+    labelled = refl;
+    again = refl;
+  };
 }
