@@ -63,6 +63,7 @@ operations =
     ∷ is (operation (mention (codes "i")) operators.Divide (minus 1)) None int32
     ∷ fails (operation (mention (codes "a")) operators.Divide (minus 1)) None
     (shape (range_wanted kinds.Nat8))
+    ∷ fails (operation (whole 2147483648) operators.Add (mention (codes "y"))) None (unknown (codes "y"))
     ∷ is (operation (mention (codes "a")) operators.Equal (whole 1)) None mean.truth
     ∷ fails (operation (nil here) operators.Equal (nil here)) None (shape integer_wanted)
     ∷ is (operation (mention (codes "b")) operators.NotEqual (truth here true)) None mean.truth
