@@ -25,7 +25,7 @@ returns-in-Explained-clause-pays g c =
     let out = g.O.Sink.written c.args.out.now in
     let out' = g.O.Sink.written c.put_lives.new.out in
     let err = g.E.Sink.written c.args.err.now in
-    let told = lives_pay c.put_lives.result c.in-Explained.lives.now out out' err c.put_lives.ensures.ok c.put_lives.ensures.written in
+    let told = lives_pay c.put_lives.result c.in-Explained.lives out out' err c.put_lives.ensures.ok c.put_lives.ensures.written in
     subst (λ (due : Due). IfOk c.put_lives.result (λ s. Pays due s out out' err err))
     (sym (ap (due_of (map string_bytes c.args.names.now)) c.in-Explained.is)) told
 
@@ -37,7 +37,7 @@ returns-in-Explained-clause-fails g c =
     let faults = g.O.Sink.faults c.args.out.now in
     let faults' = g.O.Sink.faults c.put_lives.new.out in
     let errors = g.E.Sink.faults c.args.err.now in
-    let failed = lives_fail c.put_lives.result c.in-Explained.lives.now out out' err faults faults' errors
+    let failed = lives_fail c.put_lives.result c.in-Explained.lives out out' err faults faults' errors
     c.put_lives.ensures.front c.put_lives.ensures.risen c.put_lives.ensures.memory in
     subst (λ (due : Due). IfErr c.put_lives.result (λ e. Fails e due out out' err err faults faults' errors errors))
     (sym (ap (due_of (map string_bytes c.args.names.now)) c.in-Explained.is)) failed

@@ -84,7 +84,7 @@ returns-in-Ok-answer-clause-checked g c = λ files task is check decided.
     came_checked words told faults faults' ends out out' err err' files paid decided is task check
 
 pub returns-in-Ok-answer-clause-explained : goal.returns-in-Ok-answer-clause-explained
-returns-in-Ok-answer-clause-explained g c = λ files task is check decided.
+returns-in-Ok-answer-clause-explained g c = λ files task all reads is job decided good.
     let words = map string_bytes c.args.words.now in
     let told = g.S.Shelf.files c.args.shelf.now in
     let faults = g.S.Shelf.faults c.args.shelf.now in
@@ -98,7 +98,7 @@ returns-in-Ok-answer-clause-explained g c = λ files task is check decided.
     came_explained words told faults faults' ends out out' err err' files paid decided is task all reads job good
 
 pub returns-in-Ok-answer-clause-explained_only : goal.returns-in-Ok-answer-clause-explained_only
-returns-in-Ok-answer-clause-explained_only g c = λ files task is check decided.
+returns-in-Ok-answer-clause-explained_only g c = λ files task is job succeeds.
     let words = map string_bytes c.args.words.now in
     let told = g.S.Shelf.files c.args.shelf.now in
     let faults = g.S.Shelf.faults c.args.shelf.now in
