@@ -1,0 +1,4 @@
+pub mod ClosesLemmas
+mod GivenLemmas
+mod RowLemmas
+mod ShippedLemmas

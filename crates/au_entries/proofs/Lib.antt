@@ -1,0 +1,2 @@
+pub mod SeenLemmas
+mod PlaceLemmas
