@@ -2,3 +2,4 @@ pub mod Seen
 pub mod Standing
 pub mod Firsts
 pub mod Telling
+pub mod Allotting

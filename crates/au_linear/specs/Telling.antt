@@ -1,5 +1,5 @@
 -- What is told of the variables of a body.
-use Rattle.std.specs.Prelude.{◌≡◌, ℕ, List, [], ◌∷◌, Option, None, Some, Result, Ok, Err, length, drop}
+use Rattle.std.specs.Prelude.{◌≡◌, List, [], ◌∷◌, Option, Some, Result, Ok, Err, drop}
 use Rattle.au_lives.specs.declared.lives.Sort.{Sort}
 use Rattle.au_lives.specs.declared.lives.Sort.TheVariants as sorts
 use Rattle.au_lives.specs.Scopes.{Scope}
@@ -31,14 +31,6 @@ Tells (faults.Refused f) r =
     × ((refused.variable.scope.name.name ≡ f.variable)
     × ((refused.variable.scope.name.at ≡ f.at) × (refused.why ≡ refusal_of f.why))))
 Tells faults.Memory r = Unit {0}
-
--- Some variables whose sorts stand first in a list of sorts: none of them is refused, and the sorts behind
--- are left; or a fault tells which is.
-abbrev pub Sees : Result ℕ LinearFault → List Scope → List Sort → ℕ → Type 0
-Sees (Ok next) scopes sorts from =
-    (first_refused (sorted scopes (drop from sorts)) ≡ None)
-    × (drop next sorts ≡ drop (length scopes) (drop from sorts))
-Sees (Err f) scopes sorts from = Tells f (first_refused (sorted scopes (drop from sorts)))
 
 -- Each of some variables has a good life; or a fault tells which is the first that has none, and why.
 abbrev pub Judges : Result (Unit {0}) LinearFault → List Variable → Type 0

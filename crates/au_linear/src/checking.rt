@@ -4,32 +4,18 @@ ghost use Rattle.std.specs.Prelude.{◌≡◌, ◌≤◌, ◌++◌, drop, length
 ghost use Rattle.au_lives.specs.Scopes.{scope, scopes, scopes_after, scopes_inside, scopes_of_branches, scopes_of_arms, bound_over, scopes_of};
 ghost use Rattle.au_lives.specs.Paths.{bound_name};
 ghost use Rattle.au_linear.specs.Seen.{seen_name, seen_bind, seen_binds, seen_parameters, seen_statement, seen_statements, seen_block, seen_branches, seen_arms};
-ghost use Rattle.au_linear.specs.Telling.{asked, sorted, Sees, Judges};
+ghost use Rattle.au_linear.specs.Telling.{sorted, Judges};
+ghost use Rattle.au_linear.specs.declared.tasks.Task.TheVariants as task;
+ghost use Rattle.au_linear.specs.Allotting.{Sees, Decides};
 
 use crate::faults::{LinearFault, Refused, Why};
 use crate::judging::told;
+use crate::tasks::{Task, next_task, task_at, tasks_of};
 use au_base::{Memory, Name};
+use au_clearing::lives;
 use au_lives::lives::Sort;
 use au_syntax::{Arm, Bind, Block, Branch, Field, Ident, Phase, Stmt};
 use std::alloc::Global;
-
-/// The sort of this number.
-fn sort_at(sorts: &[Sort], from: usize) -> Sort
-    ensures { result ≡ asked (drop from sorts.now) }
-{
-    if from < sorts.len() {
-        sorts[from]
-    } else {
-        Sort::Other
-    }
-}
-
-/// The number behind, as far as there are sorts.
-fn next_sort(sorts: &[Sort], from: usize) -> usize
-    ensures { drop result sorts.now ≡ drop 1 (drop from sorts.now) }
-{
-    if from < sorts.len() { from + 1 } else { from }
-}
 
 /// The name of a variable.
 fn name_of<P: Phase>(alloc: Global, name: &Ident<P>) -> Result<Name, Memory>
@@ -39,25 +25,24 @@ fn name_of<P: Phase>(alloc: Global, name: &Ident<P>) -> Result<Name, Memory>
     Name::copy_of(alloc, bytes)
 }
 
-/// Whether the life of a variable over the statements from this number on is good.
-fn check_variable<P: Phase>(
+/// What is told of a variable over the statements from this number on, whose type asks for this.
+fn judge_variable<P: Phase>(
     alloc: Global,
     name: &Ident<P>,
+    sort: Sort,
     block: &Block<P>,
     from: usize,
-    sorts: &[Sort],
-    next: usize,
-) -> Result<usize, LinearFault>
+) -> Result<(), LinearFault>
     requires { from ≤ length block.now.statements.items }
-    ensures { Sees result
+    ensures { Decides result
         (scope (seen_name P.Phase name.now)
-        (seen_statements P.Phase (drop from block.now.statements.items)) ∷ [])
-        sorts.now next }
+        (seen_statements P.Phase (drop from block.now.statements.items)))
+        (task.Judge sort) }
 {
     let variable = name_of(alloc, name)?;
-    let found = told(alloc, &variable, sort_at(sorts, next), block, from)?;
+    let found = told(alloc, &variable, sort, block, from)?;
     match found {
-        None => Ok(next_sort(sorts, next)),
+        None => Ok(()),
         Some(why) => Err(LinearFault::Refused(Refused {
             variable,
             at: name.at,
@@ -66,24 +51,63 @@ fn check_variable<P: Phase>(
     }
 }
 
+/// What is told of a variable over the statements from this number on, by its task.
+fn check_task<P: Phase>(
+    alloc: Global,
+    name: &Ident<P>,
+    one: Task,
+    block: &Block<P>,
+    from: usize,
+) -> Result<(), LinearFault>
+    requires { from ≤ length block.now.statements.items }
+    ensures { Decides result
+        (scope (seen_name P.Phase name.now)
+        (seen_statements P.Phase (drop from block.now.statements.items)))
+        one }
+{
+    match one {
+        Task::Cleared => Ok(()),
+        Task::Judge(sort) => judge_variable(alloc, name, sort, block, from),
+    }
+}
+
+/// Whether the life of a variable over the statements from this number on is good.
+fn check_variable<P: Phase>(
+    alloc: Global,
+    name: &Ident<P>,
+    block: &Block<P>,
+    from: usize,
+    tasks: &[Task],
+    next: usize,
+) -> Result<usize, LinearFault>
+    requires { from ≤ length block.now.statements.items }
+    ensures { Sees result
+        (scope (seen_name P.Phase name.now)
+        (seen_statements P.Phase (drop from block.now.statements.items)) ∷ [])
+        tasks.now next }
+{
+    check_task(alloc, name, task_at(tasks, next), block, from)?;
+    Ok(next_task(tasks, next))
+}
+
 /// Whether the life of a variable that a field is bound to is good.
 fn check_bind<P: Phase>(
     alloc: Global,
     bind: &Bind<P>,
     block: &Block<P>,
     from: usize,
-    sorts: &[Sort],
+    tasks: &[Task],
     next: usize,
 ) -> Result<usize, LinearFault>
     requires { from ≤ length block.now.statements.items }
     ensures { Sees result
         (scope (bound_name (seen_bind P.Phase bind.now))
         (seen_statements P.Phase (drop from block.now.statements.items)) ∷ [])
-        sorts.now next }
+        tasks.now next }
 {
     match &bind.name.alias {
-        Some(alias) => check_variable(alloc, alias, block, from, sorts, next),
-        None => check_variable(alloc, &bind.name.name, block, from, sorts, next),
+        Some(alias) => check_variable(alloc, alias, block, from, tasks, next),
+        None => check_variable(alloc, &bind.name.name, block, from, tasks, next),
     }
 }
 
@@ -93,18 +117,18 @@ fn check_binds<P: Phase>(
     binds: &Vec<Bind<P>>,
     block: &Block<P>,
     from: usize,
-    sorts: &[Sort],
+    tasks: &[Task],
     next: usize,
 ) -> Result<usize, LinearFault>
     requires { from ≤ length block.now.statements.items }
     ensures { Sees result
         (bound_over (seen_binds P.Phase binds.now.items)
         (seen_statements P.Phase (drop from block.now.statements.items)))
-        sorts.now next }
+        tasks.now next }
 {
     let mut at = next;
     for one in binds {
-        at = check_bind(alloc, one, block, from, sorts, at)?;
+        at = check_bind(alloc, one, block, from, tasks, at)?;
     }
     Ok(at)
 }
@@ -114,16 +138,16 @@ fn check_parameters<P: Phase>(
     alloc: Global,
     parameters: &Vec<Field<P>>,
     block: &Block<P>,
-    sorts: &[Sort],
+    tasks: &[Task],
 ) -> Result<usize, LinearFault>
     ensures { Sees result
         (map (λ parameter. scope parameter.name (seen_block P.Phase block.now))
         (seen_parameters P.Phase parameters.now.items))
-        sorts.now 0 }
+        tasks.now 0 }
 {
     let mut at = 0;
     for one in parameters {
-        at = check_variable(alloc, &one.name, block, 0, sorts, at)?;
+        at = check_variable(alloc, &one.name, block, 0, tasks, at)?;
     }
     Ok(at)
 }
@@ -136,18 +160,18 @@ fn check_after<P: Phase>(
     stmt: &Stmt<P>,
     block: &Block<P>,
     from: usize,
-    sorts: &[Sort],
+    tasks: &[Task],
     next: usize,
 ) -> Result<usize, LinearFault>
     requires { from ≤ length block.now.statements.items }
     ensures { Sees result
         (scopes_after (seen_statement P.Phase stmt.now)
         (seen_statements P.Phase (drop from block.now.statements.items)))
-        sorts.now next }
+        tasks.now next }
 {
     match stmt {
-        Stmt::Let(_, _, name, _, _) => check_variable(alloc, name, block, from, sorts, next),
-        Stmt::Destructure(_, binds, _) => check_binds(alloc, binds, block, from, sorts, next),
+        Stmt::Let(_, _, name, _, _) => check_variable(alloc, name, block, from, tasks, next),
+        Stmt::Destructure(_, binds, _) => check_binds(alloc, binds, block, from, tasks, next),
         Stmt::Skip(_) => Ok(next),
         Stmt::Assign(_, _, _, _) => Ok(next),
         Stmt::AssignThrough(_, _, _, _) => Ok(next),
@@ -168,15 +192,15 @@ fn check_after<P: Phase>(
 fn check_block<P: Phase>(
     alloc: Global,
     block: &Block<P>,
-    sorts: &[Sort],
+    tasks: &[Task],
     next: usize,
 ) -> Result<usize, LinearFault>
-    ensures { Sees result (scopes (seen_block P.Phase block.now)) sorts.now next }
+    ensures { Sees result (scopes (seen_block P.Phase block.now)) tasks.now next }
 {
     let mut at = next;
     for (index, one) in block.statements.iter().enumerate() {
-        let behind = check_after(alloc, one, block, index + 1, sorts, at)?;
-        at = check_inside(alloc, one, sorts, behind)?;
+        let behind = check_after(alloc, one, block, index + 1, tasks, at)?;
+        at = check_inside(alloc, one, tasks, behind)?;
     }
     Ok(at)
 }
@@ -187,25 +211,25 @@ fn check_block<P: Phase>(
 fn check_inside<P: Phase>(
     alloc: Global,
     stmt: &Stmt<P>,
-    sorts: &[Sort],
+    tasks: &[Task],
     next: usize,
 ) -> Result<usize, LinearFault>
-    ensures { Sees result (scopes_inside (seen_statement P.Phase stmt.now)) sorts.now next }
+    ensures { Sees result (scopes_inside (seen_statement P.Phase stmt.now)) tasks.now next }
 {
     match stmt {
-        Stmt::If(_, branches) => check_branches(alloc, branches, sorts, next),
+        Stmt::If(_, branches) => check_branches(alloc, branches, tasks, next),
         Stmt::IfElse(_, branches, block) => {
-            let behind = check_branches(alloc, branches, sorts, next)?;
-            check_block(alloc, block, sorts, behind)
+            let behind = check_branches(alloc, branches, tasks, next)?;
+            check_block(alloc, block, tasks, behind)
         }
-        Stmt::Case(_, _, arms) => check_arms(alloc, arms, sorts, next),
-        Stmt::While(_, _, block) => check_block(alloc, block, sorts, next),
-        Stmt::For(_, name, _, _, block) => check_named(alloc, name, block, sorts, next),
+        Stmt::Case(_, _, arms) => check_arms(alloc, arms, tasks, next),
+        Stmt::While(_, _, block) => check_block(alloc, block, tasks, next),
+        Stmt::For(_, name, _, _, block) => check_named(alloc, name, block, tasks, next),
         Stmt::Borrow(_, _, names, block, _) => {
-            check_named(alloc, &names.reference, block, sorts, next)
+            check_named(alloc, &names.reference, block, tasks, next)
         }
         Stmt::BorrowTyped(_, reference, _, _, _, block, _) => {
-            check_named(alloc, reference, block, sorts, next)
+            check_named(alloc, reference, block, tasks, next)
         }
         Stmt::Skip(_) => Ok(next),
         Stmt::Let(_, _, _, _, _) => Ok(next),
@@ -223,16 +247,16 @@ fn check_named<P: Phase>(
     alloc: Global,
     name: &Ident<P>,
     block: &Block<P>,
-    sorts: &[Sort],
+    tasks: &[Task],
     next: usize,
 ) -> Result<usize, LinearFault>
     ensures { Sees result
         (scope (seen_name P.Phase name.now) (seen_block P.Phase block.now)
         ∷ scopes (seen_block P.Phase block.now))
-        sorts.now next }
+        tasks.now next }
 {
-    let behind = check_variable(alloc, name, block, 0, sorts, next)?;
-    check_block(alloc, block, sorts, behind)
+    let behind = check_variable(alloc, name, block, 0, tasks, next)?;
+    check_block(alloc, block, tasks, behind)
 }
 
 /// Whether the lives of the variables of some branches are good.
@@ -240,14 +264,14 @@ fn check_named<P: Phase>(
 fn check_branches<P: Phase>(
     alloc: Global,
     branches: &Vec<Branch<P>>,
-    sorts: &[Sort],
+    tasks: &[Task],
     next: usize,
 ) -> Result<usize, LinearFault>
-    ensures { Sees result (scopes_of_branches (seen_branches P.Phase branches.now.items)) sorts.now next }
+    ensures { Sees result (scopes_of_branches (seen_branches P.Phase branches.now.items)) tasks.now next }
 {
     let mut at = next;
     for one in branches {
-        at = check_branch(alloc, one, sorts, at)?;
+        at = check_branch(alloc, one, tasks, at)?;
     }
     Ok(at)
 }
@@ -257,12 +281,12 @@ fn check_branches<P: Phase>(
 fn check_branch<P: Phase>(
     alloc: Global,
     branch: &Branch<P>,
-    sorts: &[Sort],
+    tasks: &[Task],
     next: usize,
 ) -> Result<usize, LinearFault>
-    ensures { Sees result (scopes (seen_block P.Phase branch.now.block)) sorts.now next }
+    ensures { Sees result (scopes (seen_block P.Phase branch.now.block)) tasks.now next }
 {
-    check_block(alloc, &branch.block, sorts, next)
+    check_block(alloc, &branch.block, tasks, next)
 }
 
 /// Whether the lives of the variables of some arms are good.
@@ -270,14 +294,14 @@ fn check_branch<P: Phase>(
 fn check_arms<P: Phase>(
     alloc: Global,
     arms: &Vec<Arm<P>>,
-    sorts: &[Sort],
+    tasks: &[Task],
     next: usize,
 ) -> Result<usize, LinearFault>
-    ensures { Sees result (scopes_of_arms (seen_arms P.Phase arms.now.items)) sorts.now next }
+    ensures { Sees result (scopes_of_arms (seen_arms P.Phase arms.now.items)) tasks.now next }
 {
     let mut at = next;
     for one in arms {
-        at = check_arm(alloc, one, sorts, at)?;
+        at = check_arm(alloc, one, tasks, at)?;
     }
     Ok(at)
 }
@@ -287,16 +311,16 @@ fn check_arms<P: Phase>(
 fn check_arm<P: Phase>(
     alloc: Global,
     arm: &Arm<P>,
-    sorts: &[Sort],
+    tasks: &[Task],
     next: usize,
 ) -> Result<usize, LinearFault>
     ensures { Sees result
         (bound_over (seen_binds P.Phase arm.now.binds.items) (seen_block P.Phase arm.now.block)
         ++ scopes (seen_block P.Phase arm.now.block))
-        sorts.now next }
+        tasks.now next }
 {
-    let behind = check_binds(alloc, &arm.binds, &arm.block, 0, sorts, next)?;
-    check_block(alloc, &arm.block, sorts, behind)
+    let behind = check_binds(alloc, &arm.binds, &arm.block, 0, tasks, next)?;
+    check_block(alloc, &arm.block, tasks, behind)
 }
 
 /// Whether the lives of the parameters and of the variables of a body are good.
@@ -304,17 +328,20 @@ fn check_all<P: Phase>(
     alloc: Global,
     parameters: &Vec<Field<P>>,
     body: &Block<P>,
-    sorts: &[Sort],
+    tasks: &[Task],
 ) -> Result<usize, LinearFault>
     ensures { Sees result
-        (scopes_of (seen_parameters P.Phase parameters.now.items) (seen_block P.Phase body.now)) sorts.now 0 }
+        (scopes_of (seen_parameters P.Phase parameters.now.items) (seen_block P.Phase body.now)) tasks.now 0 }
 {
-    let behind = check_parameters(alloc, parameters, body, sorts)?;
-    check_block(alloc, body, sorts, behind)
+    let behind = check_parameters(alloc, parameters, body, tasks)?;
+    check_block(alloc, body, tasks, behind)
 }
 
 /// Whether the life of each variable of a function is good. The sorts say what the type of each variable
 /// asks, in text order with the parameters first; one that has none is to be consumed once.
+///
+/// One walk over the body clears most variables whose life is good; the scope of each other is walked for it
+/// alone.
 ///
 /// Refused is the first variable in text order whose life isn't good: where it is consumed in a loop, else
 /// where an expression that may leave out to look consumes it, else how a path breaks its life, and which
@@ -329,6 +356,8 @@ pub fn check_body<P: Phase>(
         (sorted (scopes_of (seen_parameters P.Phase parameters.now.items) (seen_block P.Phase body.now))
         sorts.now) }
 {
-    check_all(alloc, parameters, body, sorts)?;
+    let found = lives(alloc, parameters, body)?;
+    let tasks = tasks_of(alloc, found, sorts)?;
+    check_all(alloc, parameters, body, tasks.as_slice())?;
     Ok(())
 }

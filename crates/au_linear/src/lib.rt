@@ -12,6 +12,7 @@ pub mod meeting;
 pub mod placing;
 pub mod reaches;
 pub mod sought;
+pub mod tasks;
 pub mod walks;
 
 pub use checking::check_body;

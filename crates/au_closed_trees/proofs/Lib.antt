@@ -1,0 +1,4 @@
+mod CallLemmas
+mod ClosingLemmas
+pub mod LoopLemmas
+pub mod SnocLemmas

@@ -1,0 +1,5 @@
+pub mod ClosedNotes
+pub mod Changes
+pub mod Renoted
+pub mod Calls
+pub mod Views
