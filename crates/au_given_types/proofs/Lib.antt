@@ -1,1 +1,1 @@
-mod GivenLemmas
+pub mod GivenLemmas

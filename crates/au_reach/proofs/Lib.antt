@@ -5,3 +5,4 @@ pub mod RefusedLemmas
 pub mod FoundLemmas
 pub mod KeyLemmas
 pub mod FindingLemmas
+pub mod TestLemmas
