@@ -55,11 +55,11 @@ fn read_line(alloc: Global, programs: &mut Vec<Program>, line: &[u8]) -> Result<
 
 /// Reads a line of a program.
 fn read_part(alloc: Global, program: &mut Program, line: &[u8]) -> Result<(), Memory> {
-    if line == b"count" {
+    if line == b"count".as_slice() {
         program.counts = true;
         return Ok(());
     }
-    if line == b"file" {
+    if line == b"file".as_slice() {
         program.files.push(Vec::new(alloc))?;
         return Ok(());
     }
