@@ -1,0 +1,13 @@
+-- Comparing keys is comparing closed types.
+use Rattle.std.proofs.Common.{◌≡◌}
+use Rattle.au_closed_types.specs.Same.{same}
+use Rattle.au_closed_types.proofs.SameLemmas.{same_is, same_self}
+use Rattle.au_closed_keys.specs.Keys.{key_of}
+use Rattle.au_closed_parts.specs.Telling.{type_one}
+use Rattle.au_reach.specs.Finding.{by_key}
+use Rattle.au_reach.proofs.KeyLemmas.{keys_tell}
+use Rattle.au_reach.proofs.TestLemmas.{same_tests}
+
+pub by_keys : by_key key_of ≡ same
+by_keys =
+    same_tests (by_key key_of) same (keys_tell key_of type_one) (record { agrees = same_is; itself = same_self })
