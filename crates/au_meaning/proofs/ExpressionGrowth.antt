@@ -2,12 +2,11 @@
 use Rattle.std.proofs.Common.{ℕ, Bool, true, false, List, [], ◌∷◌, Option, Some, None, ℤ, neg_ℤ}
 use Rattle.au_base.specs.declared.kinds.IntKind.{IntKind}
 use Rattle.au_effects.specs.Numbers.{computed, compared, negated}
-use Rattle.au_effects.specs.Values as values
 use Rattle.au_ints.specs.Ranges.{is_of_kind}
 use Rattle.au_syntax.specs.Expressions.{Expression, Expressions, Arguments, number, negative, text, truth, nil, path, arrow, call, named_call, parenthesized, dereference, borrow, borrow_part, binary, negation, typed, choice, no_expressions, expressions, no_arguments, arguments}
 use Rattle.au_syntax.specs.Plain.{Bytes}
 use Rattle.au_meaning.specs.Acts.{by_position, by_labels}
-use Rattle.au_meaning.specs.Expressions.{Operation, computes, compares, is_and, is_or, operation_of, kind_in, compared_kind, note_of, names_of, labels, labelled, literal, constant, copies, mentions, looks_into, operates, acts, calls, joins, eval, eval_all, eval_named}
+use Rattle.au_meaning.specs.Expressions.{Operation, computes, compares, is_and, is_or, operation_of, kind_in, compared_kind, note_of, names_of, labels, labelled, literal, copies, mentions, looks_into, operates, acts, calls, joins, eval, eval_all, eval_named}
 use Rattle.au_meaning.specs.Names.{Scope, Variable, variable_of, path_numbers}
 use Rattle.au_meaning.specs.Ticks.{Action}
 use Rattle.au_meaning.specs.Views.{View, Callee, Act, invokes, makes, ships}
@@ -19,18 +18,6 @@ use Rattle.au_meaning.proofs.Growing.{Grows, grows_bind, grows_pure, grows_stuck
 literal_grows : (kind : Option IntKind) (z : ℤ) → Grows (literal kind z) (literal kind z)
 literal_grows kind z = grows_needing kind (λ one. grows_where (is_of_kind one z) grows_pure)
 
-constant_grows : (value : Value) → Grows (constant value) (constant value)
-constant_grows values.unit = grows_pure
-constant_grows (values.truth b) = grows_pure
-constant_grows (values.number kind z) = literal_grows (Some kind) z
-constant_grows (values.text t) = grows_pure
-constant_grows (values.made tag birth fields) = grows_stuck
-constant_grows (values.reference lent place) = grows_stuck
-constant_grows (values.box birth) = grows_stuck
-constant_grows (values.buffer birth) = grows_stuck
-constant_grows (values.terminal birth) = grows_stuck
-constant_grows (values.root birth) = grows_stuck
-
 copies_grows : (free : Bool) (name : ℕ) → Grows (copies free name) (copies free name)
 copies_grows true name = looks_grows name []
 copies_grows false name = moves_grows name
@@ -39,7 +26,7 @@ module _ {I T C : Type 0} (see : View I T C) where
   mentions_grows : (note : T) (x : Option Variable) (name : Bytes)
       → Grows (mentions see note x name) (mentions see note x name)
   mentions_grows note (Some x) name = copies_grows (see.is_free note) x.number
-  mentions_grows note None name = grows_needing (see.constant note name) constant_grows
+  mentions_grows note None name = grows_needing (see.constant note name) (λ value. grows_pure)
 
   looks_into_grows : (x : Option Variable) (names : List Bytes)
       → Grows (looks_into see x names) (looks_into see x names)

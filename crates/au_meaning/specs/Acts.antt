@@ -109,16 +109,11 @@ abbrev pub field_value : List Field → List Value → Bytes → Option Value
 field_value fields values name = along (field_of name fields) (λ one. slice_get values one.0)
 
 -- of the values of these fields those that are bound, in the order of the text
-abbrev pub bound_among : List Field → List Value → List (Bound Bytes) → Option (List Value)
-bound_among fields values [] = Some []
-bound_among fields values (b ∷ rest) =
-    along (field_value fields values b.name.name.name) (λ value.
-    along (bound_among fields values rest) (λ others. Some (value ∷ others)))
-
--- the same, where there are as many values as fields
 abbrev pub bound_values : List Field → List Value → List (Bound Bytes) → Option (List Value)
-bound_values fields values binds =
-    if length values == length fields then bound_among fields values binds else None
+bound_values fields values [] = Some []
+bound_values fields values (b ∷ rest) =
+    along (field_value fields values b.name.name.name) (λ value.
+    along (bound_values fields values rest) (λ others. Some (value ∷ others)))
 
 -- ---- arguments
 

@@ -99,14 +99,6 @@ compared_kind other = None
 abbrev pub literal : Option IntKind → ℤ → Action Value
 literal kind z = needing kind (λ one. where_true (is_of_kind one z) (pure (values.number one z)))
 
--- the value of a constant, which is a literal
-abbrev pub constant : Value → Action Value
-constant values.unit = pure values.unit
-constant (values.truth b) = pure (values.truth b)
-constant (values.number kind z) = literal (Some kind) z
-constant (values.text t) = pure (values.text t)
-constant other = stuck
-
 -- what a variable holds is copied, where it is Free, and else moved
 abbrev pub copies : Bool → ℕ → Action Value
 copies true name = looks name []
@@ -122,7 +114,7 @@ module _ {I T C : Type 0} (see : View I T C) where
   -- A name: a variable is copied where it is Free, and else emptied; a constant is its value.
   abbrev pub mentions : T → Option Variable → Bytes → Action Value
   mentions note (Some x) name = copies (see.is_free note) x.number
-  mentions note None name = needing (see.constant note name) constant
+  mentions note None name = needing (see.constant note name) pure
 
   -- a part of a variable
   abbrev pub looks_into : Option Variable → List Bytes → Action Value
