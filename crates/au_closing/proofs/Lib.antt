@@ -1,0 +1,5 @@
+pub mod ClosesLemmas
+mod GivenLemmas
+mod PlaceLemmas
+mod RowLemmas
+mod ShippedLemmas
