@@ -7,7 +7,7 @@ use Rattle.au_effects.specs.Values as values
 use Rattle.au_syntax.specs.Plain.{Bytes}
 use Rattle.au_syntax.specs.Statements.{Statement, Statements, Branches, Arms, skip, declare, destructure, assign, assign_through, conditional, conditional_else, case_of, while_loop, for_loop, borrow_in, borrow_typed, discard, return_of, no_statements, statements, no_branches, branches, no_arms, arms}
 use Rattle.au_syntax.specs.Types.{Bound}
-use Rattle.au_meaning.specs.Acts.{bound_values}
+use Rattle.au_meaning.specs.Acts.{bound_counted}
 use Rattle.au_meaning.specs.Expressions.{names_of, note_of}
 use Rattle.au_meaning.specs.Names.{Scope, Variable, variable_of, with_bound, path_numbers, names_in, names_in_block, names_in_tests}
 use Rattle.au_meaning.specs.Statements.{Flow, falls, returns, and_then, leaves, within, while_turns, for_turns, both_numbers, ranges, either, binds_fields, fields_noted, means_case, after, with_counter, assigns, takes_apart, run, run_all, run_tests, run_arms, run_block}
@@ -94,7 +94,7 @@ either_grows false g h = h
 binds_grow : (name : ℕ) (binds : List (Bound Bytes)) (fields : Option (List Field)) (held : List Value)
     → Grows (binds_fields name binds fields held) (binds_fields name binds fields held)
 binds_grow name binds fields held =
-    grows_needing (along fields (λ known. bound_values known held binds)) (λ bound.
+    grows_needing (along fields (λ known. bound_counted known held binds)) (λ bound.
     grows_does (values_continue name bound))
 
 -- ---- statements

@@ -115,6 +115,11 @@ bound_values fields values (b ∷ rest) =
     along (field_value fields values b.name.name.name) (λ value.
     along (bound_values fields values rest) (λ others. Some (value ∷ others)))
 
+-- the same, where there are as many values as fields
+abbrev pub bound_counted : List Field → List Value → List (Bound Bytes) → Option (List Value)
+bound_counted fields values binds =
+    if length values == length fields then bound_values fields values binds else None
+
 -- ---- arguments
 
 -- positional arguments, where there are as many as parameters

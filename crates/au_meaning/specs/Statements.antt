@@ -9,7 +9,7 @@ use Rattle.au_syntax.specs.Expressions.{Expression}
 use Rattle.au_syntax.specs.Plain.{Bytes}
 use Rattle.au_syntax.specs.Statements.{Statement, Statements, Branches, Arms, skip, declare, destructure, assign, assign_through, conditional, conditional_else, case_of, while_loop, for_loop, borrow_in, borrow_typed, discard, return_of, no_statements, statements, no_branches, branches, no_arms, arms}
 use Rattle.au_syntax.specs.Types.{Bound}
-use Rattle.au_meaning.specs.Acts.{holds, with_values, sets, emptied, apart, bound_values}
+use Rattle.au_meaning.specs.Acts.{holds, with_values, sets, emptied, apart, bound_counted}
 use Rattle.au_meaning.specs.Expressions.{names_of, note_of, chosen, eval}
 use Rattle.au_meaning.specs.Names.{Scope, Variable, variable_of, with_name, with_bound, path_numbers, names_in, names_in_block, names_in_tests}
 use Rattle.au_meaning.specs.Ticks.{Action, pure, stuck, over, tick, needing, where_true, does, ◌>>=◌, ◌>>◌}
@@ -77,10 +77,10 @@ abbrev pub either : Bool → Action Flow → Action Flow → Action Flow
 either true one other = one
 either false one other = other
 
--- the fields of a value that are bound are held by names from one on
+-- the fields of a value that are bound are held by names from one on: it has as many as its type
 abbrev pub binds_fields : ℕ → List (Bound Bytes) → Option (List Field) → List Value → Action (Unit {0})
 binds_fields name binds fields held =
-    needing (along fields (λ known. bound_values known held binds)) (λ bound. does (with_values name bound))
+    needing (along fields (λ known. bound_counted known held binds)) (λ bound. does (with_values name bound))
 
 -- ---- statements
 
