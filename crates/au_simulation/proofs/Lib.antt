@@ -22,3 +22,4 @@ pub mod TellLemmas
 pub mod GrowthLemmas
 pub mod BetweenLemmas
 pub mod CaseLemmas
+pub mod EndLemmas

@@ -35,7 +35,8 @@ module _ {A : Type 0} (same_as : A → A → Bool) (tells : TellsSame same_as) w
   same_back x y t = let is = tells.agrees x y t in subst (λ z. same_as z x ≡ true) is (tells.itself x)
 
   -- an element stands at its place
-  at_place : (xs : List A) (x : A) → Has same_as xs x → slice_get xs (position_or_len (λ one. same_as one x) xs) ≡ Some x
+  at_place : (xs : List A) (x : A) → Has same_as xs x → slice_get xs (position_or_len (λ one. same_as one x)
+      xs) ≡ Some x
   at_place [] x h = absurd (grind arith)
   at_place (y ∷ ys) x h = by_test (same_as y x) refl (at_place ys x) h
     where
@@ -44,35 +45,46 @@ module _ {A : Type 0} (same_as : A → A → Bool) (tells : TellsSame same_as) w
           → Has same_as (y ∷ ys) x
           → slice_get (y ∷ ys) (position_or_len (λ one. same_as one x) (y ∷ ys)) ≡ Some x
       by_test true e ih h =
-          ap (λ b. slice_get (y ∷ ys) (cond (not b) (1 + position_or_len (λ one. same_as one x) ys) 0)) e ∙ ap (λ z. Some z) (tells.agrees y x e)
+          ap (λ b. slice_get (y ∷ ys) (cond (not b) (1 + position_or_len (λ one. same_as one x) ys) 0)) e
+          ∙ ap (λ z. Some z) (tells.agrees y x e)
       by_test false e ih h =
           let n = position_or_len (λ one. same_as one x) ys in
           let more : 1 + n ≡ suc n = omega arith in
-          let later : Has same_as ys x = ⊎_elim (λ t. absurd (true≢false (sym (same_back x y t) ∙ e))) (λ k. k) (or_split (same_as x y) (has same_as ys x) h) in
-          ap (λ b. slice_get (y ∷ ys) (cond (not b) (1 + n) 0)) e ∙ ap (λ k. slice_get (y ∷ ys) k) more ∙ ih later
+          let later : Has same_as ys x = ⊎_elim (λ t. absurd (true≢false (sym (same_back x y t)
+          ∙ e))) (λ k. k) (or_split (same_as x y) (has same_as ys x) h) in
+          ap (λ b. slice_get (y ∷ ys) (cond (not b) (1 + n) 0)) e ∙ ap (λ k. slice_get (y ∷ ys) k) more
+          ∙ ih later
 
   -- an element that was added
-  added_at : (xs : List A) (x : A) → Has same_as xs x → slice_get (adds same_as [] xs) (position_or_len (λ one. same_as one x) (adds same_as [] xs)) ≡ Some x
+  added_at : (xs : List A) (x : A) → Has same_as xs x → slice_get (adds same_as [] xs) (position_or_len (λ
+      one. same_as one x) (adds same_as [] xs)) ≡ Some x
   added_at xs x h = at_place (adds same_as [] xs) x (adds_takes same_as tells [] xs x h)
 
 bytes_tell : TellsSame bytes_eq
-bytes_tell = record { agrees = λ x y e. (bytes_eq-Decides x y).0 e; itself = λ x. (bytes_eq-Decides x x).1 refl }
+bytes_tell = record {
+  agrees = λ x y e. (bytes_eq-Decides x y).0 e;
+  itself = λ x. (bytes_eq-Decides x x).1
+      refl;
+}
 
 types_tell : TellsSame same
 types_tell = record { agrees = λ x y e. same_is x y e; itself = λ x. same_self x }
 
 -- ---- what is named
 
-has_text : (drafts : List Draft) (p : ℕ) (text : Bytes) → slice_get drafts p ≡ Some (pushes_text text) → Has bytes_eq (texts_named drafts) text
+has_text : (drafts : List Draft) (p : ℕ) (text : Bytes) → slice_get drafts p ≡ Some (pushes_text text)
+    → Has bytes_eq (texts_named drafts) text
 has_text [] p text e = absurd (grind arith)
 has_text (pushes_text t ∷ rest) zero text e =
     let is : pushes_text t ≡ pushes_text text = cc in
     let same : t ≡ text = cc in
-    or_left (bytes_eq text t) (has bytes_eq (texts_named rest) text) ((bytes_eq-Decides text t).1 (sym same))
+    or_left (bytes_eq text t) (has bytes_eq (texts_named rest) text) ((bytes_eq-Decides text t).1 (sym
+    same))
 has_text (plain i ∷ rest) zero text e = absurd (grind arith)
 has_text (makes_case of tag order home ∷ rest) zero text e = absurd (grind arith)
 has_text (ships_birth call of order ∷ rest) zero text e = absurd (grind arith)
-has_text (pushes_text t ∷ rest) (suc p) text e = or_right (bytes_eq text t) (has bytes_eq (texts_named rest) text) (has_text rest p text e)
+has_text (pushes_text t ∷ rest) (suc p) text e = or_right (bytes_eq text t) (has bytes_eq (texts_named rest)
+    text) (has_text rest p text e)
 has_text (plain i ∷ rest) (suc p) text e = has_text rest p text e
 has_text (makes_case of tag order home ∷ rest) (suc p) text e = has_text rest p text e
 has_text (ships_birth call of order ∷ rest) (suc p) text e = has_text rest p text e
@@ -84,7 +96,8 @@ names_type (pushes_text text) = None
 names_type (makes_case of tag order home) = Some of
 names_type (ships_birth call of order) = Some of
 
-has_type : (drafts : List Draft) (p : ℕ) (draft : Draft) (of : ClosedType) → slice_get drafts p ≡ Some draft → names_type draft ≡ Some of → Has same (types_named drafts) of
+has_type : (drafts : List Draft) (p : ℕ) (draft : Draft) (of : ClosedType) → slice_get drafts p ≡ Some draft
+    → names_type draft ≡ Some of → Has same (types_named drafts) of
 has_type [] p draft of e n = absurd (grind arith)
 has_type (first ∷ rest) zero draft of e n =
     let is : first ≡ draft = cc in
@@ -93,12 +106,16 @@ has_type (first ∷ rest) zero draft of e n =
     here : (d : Draft) → names_type d ≡ Some of → Has same (types_named (d ∷ rest)) of
     here (plain i) k = absurd (grind arith)
     here (pushes_text text) k = absurd (grind arith)
-    here (makes_case t tag order home) k = let is : t ≡ of = cc in or_left (same of t) (has same (types_named rest) of) (subst (λ x. same x t ≡ true) is (same_self t))
-    here (ships_birth call t order) k = let is : t ≡ of = cc in or_left (same of t) (has same (types_named rest) of) (subst (λ x. same x t ≡ true) is (same_self t))
+    here (makes_case t tag order home) k = let is : t ≡ of = cc in or_left (same of t) (has same
+        (types_named rest) of) (subst (λ x. same x t ≡ true) is (same_self t))
+    here (ships_birth call t order) k = let is : t ≡ of = cc in or_left (same of t) (has same (types_named
+        rest) of) (subst (λ x. same x t ≡ true) is (same_self t))
 has_type (plain i ∷ rest) (suc p) draft of e n = has_type rest p draft of e n
 has_type (pushes_text text ∷ rest) (suc p) draft of e n = has_type rest p draft of e n
-has_type (makes_case t tag order home ∷ rest) (suc p) draft of e n = or_right (same of t) (has same (types_named rest) of) (has_type rest p draft of e n)
-has_type (ships_birth call t order ∷ rest) (suc p) draft of e n = or_right (same of t) (has same (types_named rest) of) (has_type rest p draft of e n)
+has_type (makes_case t tag order home ∷ rest) (suc p) draft of e n = or_right (same of t) (has same
+    (types_named rest) of) (has_type rest p draft of e n)
+has_type (ships_birth call t order ∷ rest) (suc p) draft of e n = or_right (same of t) (has same
+    (types_named rest) of) (has_type rest p draft of e n)
 
 texts_both : (xs ys : List Draft) → texts_named (xs ++ ys) ≡ texts_named xs ++ texts_named ys
 texts_both [] ys = refl
@@ -118,9 +135,14 @@ types_both (ships_birth call of order ∷ rest) ys = ap (λ all. of ∷ all) (ty
 
 each_in : (labels : List ℕ) (many count : ℕ) → many ≡ count → EachBefore 1 many labels → EachIn count labels
 each_in [] many count e h = tt
-each_in (label ∷ rest) many count e h = (lt-ltb label count (omega (arith, h.0, e)), each_in rest many count e h.1)
+each_in (label ∷ rest) many count e h = (
+  lt-ltb label count (omega (arith, h.0, e)),
+  each_in rest many count
+      e h.1,
+)
 
-labels_at : (drafts : List Draft) (p many : ℕ) (i : Instr) → slice_get drafts p ≡ Some (plain i) → LabelsBefore 1 many drafts → EachBefore 1 many (labels_in i)
+labels_at : (drafts : List Draft) (p many : ℕ) (i : Instr) → slice_get drafts p ≡ Some (plain i)
+    → LabelsBefore 1 many drafts → EachBefore 1 many (labels_in i)
 labels_at [] p many i e h = absurd (grind arith)
 labels_at (draft ∷ rest) zero many i e h =
     let is : draft ≡ plain i = cc in
@@ -129,24 +151,29 @@ labels_at (draft ∷ rest) (suc p) many i e h = labels_at rest p many i e h.1
 
 module _ {T C : Type 0} where
   -- what a function names is named in all functions
-  text_of_all : (functions : List (Function ℕ T C)) (i : ℕ) (f : Function ℕ T C) (text : Bytes) → slice_get functions i ≡ Some f
+  text_of_all : (functions : List (Function ℕ T C)) (i : ℕ) (f : Function ℕ T C) (text : Bytes)
+      → slice_get functions i ≡ Some f
       → Has bytes_eq (texts_named (body_of f)) text → Has bytes_eq (texts_named (bodies functions)) text
   text_of_all [] i f text e h = absurd (grind arith)
   text_of_all (g ∷ rest) zero f text e h =
       let is : g ≡ f = cc in
       subst (λ all. Has bytes_eq all text) (sym (texts_both (body_of g) (bodies rest)))
-      (has_front bytes_eq (texts_named (body_of g)) (texts_named (bodies rest)) text (subst (λ x. Has bytes_eq (texts_named (body_of x)) text) (sym is) h))
+      (has_front bytes_eq (texts_named (body_of g)) (texts_named (bodies rest)) text (subst (λ x. Has
+      bytes_eq (texts_named (body_of x)) text) (sym is) h))
   text_of_all (g ∷ rest) (suc i) f text e h =
       subst (λ all. Has bytes_eq all text) (sym (texts_both (body_of g) (bodies rest)))
-      (has_back bytes_eq (texts_named (body_of g)) (texts_named (bodies rest)) text (text_of_all rest i f text e h))
+      (has_back bytes_eq (texts_named (body_of g)) (texts_named (bodies rest)) text (text_of_all rest i f
+      text e h))
 
-  type_of_all : (functions : List (Function ℕ T C)) (i : ℕ) (f : Function ℕ T C) (of : ClosedType) → slice_get functions i ≡ Some f
+  type_of_all : (functions : List (Function ℕ T C)) (i : ℕ) (f : Function ℕ T C) (of : ClosedType)
+      → slice_get functions i ≡ Some f
       → Has same (types_named (body_of f)) of → Has same (types_named (bodies functions)) of
   type_of_all [] i f of e h = absurd (grind arith)
   type_of_all (g ∷ rest) zero f of e h =
       let is : g ≡ f = cc in
       subst (λ all. Has same all of) (sym (types_both (body_of g) (bodies rest)))
-      (has_front same (types_named (body_of g)) (types_named (bodies rest)) of (subst (λ x. Has same (types_named (body_of x)) of) (sym is) h))
+      (has_front same (types_named (body_of g)) (types_named (bodies rest)) of (subst (λ x. Has same
+      (types_named (body_of x)) of) (sym is) h))
   type_of_all (g ∷ rest) (suc i) f of e h =
       subst (λ all. Has same all of) (sym (types_both (body_of g) (bodies rest)))
       (has_back same (types_named (body_of g)) (types_named (bodies rest)) of (type_of_all rest i f of e h))
@@ -155,30 +182,36 @@ module _ {T C : Type 0} where
     by : Coding
     by = coding told functions
 
-    numbered_same : (draft : Draft) → programs.numbered (texts_in functions) (types_in functions) draft ≡ numbered (coding told functions) draft
+    numbered_same : (draft : Draft) → programs.numbered (texts_in functions) (types_in functions) draft
+        ≡ numbered (coding told functions) draft
     numbered_same (plain i) = refl
     numbered_same (pushes_text text) = refl
     numbered_same (makes_case of tag order home) = refl
     numbered_same (ships_birth call of order) = refl
 
     function_there : (i : ℕ) (f : Function ℕ T C) → slice_get functions i ≡ Some f
-        → slice_get (lowered told functions).functions i ≡ Some (function_code (texts_in functions) (types_in functions) f)
+        → slice_get (lowered told functions).functions i
+        ≡ Some (function_code (texts_in functions) (types_in functions) f)
     function_there i f e =
         slice_get-map (function_code (texts_in functions) (types_in functions)) functions i
         ∙ ap (λ o. option_map (function_code (texts_in functions) (types_in functions)) o) e
 
     code_is : (i : ℕ) (f : Function ℕ T C) → slice_get functions i ≡ Some f
-        → instructions (slice_get (lowered told functions).functions i) ≡ map (programs.numbered (texts_in functions) (types_in functions)) (body_of f)
+        → instructions (slice_get (lowered told functions).functions i)
+        ≡ map (programs.numbered (texts_in functions) (types_in functions)) (body_of f)
     code_is i f e = ap (λ o. instructions o) (function_there i f e)
 
     type_there : (of : ClosedType) → Has same (types_named (bodies functions)) of
         → slice_get (lowered told functions).types (type_number (types_in functions) of) ≡ Some (told of)
     type_there of h =
         let all = entry_types functions ++ types_named (bodies functions) in
-        let there = added_at same types_tell all of (has_back same (entry_types functions) (types_named (bodies functions)) of h) in
-        slice_get-map told (types_in functions) (type_number (types_in functions) of) ∙ ap (λ o. option_map told o) there
+        let there = added_at same types_tell all of (has_back same (entry_types functions) (types_named
+        (bodies functions)) of h) in
+        slice_get-map told (types_in functions) (type_number (types_in functions) of)
+        ∙ ap (λ o. option_map told o) there
 
-    pub placed_in : (i : ℕ) (f : Function ℕ T C) → slice_get functions i ≡ Some f → GoodFunction told functions f
+    pub placed_in : (i : ℕ) (f : Function ℕ T C) → slice_get functions i ≡ Some f
+        → GoodFunction told functions f
         → Placed (coding told functions) i (λ p. slice_get (body_of f) p)
     placed_in i f e good = record {
       has = λ p draft h.
@@ -187,24 +220,37 @@ module _ {T C : Type 0} where
           ∙ ap (λ o. option_map (programs.numbered (texts_in functions) (types_in functions)) o) h
           ∙ ap (λ x. Some x) (numbered_same draft);
       labels = λ p x h.
-          let many : length (body_of f) ≡ length (instructions (slice_get (lowered told functions).functions i)) =
-              sym (length-map (body_of f) (programs.numbered (texts_in functions) (types_in functions))) ∙ ap (λ all. length all) (sym (code_is i f e)) in
-          each_in (labels_in x) (length (body_of f)) (length (instructions (slice_get (lowered told functions).functions i))) many
+          let many : length (body_of f) ≡ length (instructions (slice_get (lowered told functions).functions
+          i)) =
+          sym (length-map (body_of f) (programs.numbered (texts_in functions) (types_in functions)))
+          ∙ ap (λ all. length all) (sym (code_is i f e)) in
+          each_in (labels_in x) (length (body_of f)) (length (instructions (slice_get (lowered told
+          functions).functions i))) many
           (labels_at (body_of f) p (length (body_of f)) x h (bodies_keep_labels f good.returns good.tidy));
       texts = λ p text h.
           let named = text_of_all functions i f text e (has_text (body_of f) p text h) in
-          let there = added_at bytes_eq bytes_tell (texts_named (bodies functions)) text named in
-          (get_or_from_slice_get (texts_in functions) (text_number (texts_in functions) text) text [] there,
-          lt-ltb (text_number (texts_in functions) text) (length (texts_in functions)) (slice_get_within (texts_in functions) (text_number (texts_in functions) text) text there));
-      types = λ p of tag order home h.
-          (told of, type_there of (type_of_all functions i f of e (has_type (body_of f) p (makes_case of tag order home) of h refl)));
+          let there = added_at bytes_eq bytes_tell (texts_named (bodies functions)) text named in (
+            get_or_from_slice_get (texts_in functions) (text_number (texts_in functions) text) text []
+                there,
+            lt-ltb (text_number (texts_in functions) text) (length (texts_in functions)) (slice_get_within
+                (texts_in functions) (text_number (texts_in functions) text) text there),
+          );
+      types = λ p of tag order home h. (
+        told of,
+        type_there of (type_of_all functions i f of e (has_type (body_of f) p (makes_case of tag
+            order home) of h refl)),
+      );
       births = λ p call of order h.
-          let there = type_there of (type_of_all functions i f of e (has_type (body_of f) p (ships_birth call of order) of h refl)) in
-          lt-ltb (type_number (types_in functions) of) (length (lowered told functions).types) (slice_get_within (lowered told functions).types (type_number (types_in functions) of) (told of) there);
+          let there = type_there of (type_of_all functions i f of e (has_type (body_of f) p (ships_birth
+          call of order) of h refl)) in
+          lt-ltb (type_number (types_in functions) of) (length (lowered told functions).types)
+          (slice_get_within (lowered told functions).types (type_number (types_in functions) of) (told
+          of) there);
     }
 
     -- a program has its functions in the code that it is lowered to
-    pub has_program : GoodProgram told functions → HasProgram (coding told functions) (λ i. slice_get functions i)
+    pub has_program : GoodProgram told functions → HasProgram (coding told functions) (λ i. slice_get
+        functions i)
     has_program good i f e = record {
       low_function = function_code (texts_in functions) (types_in functions) f;
       there = function_there i f e;

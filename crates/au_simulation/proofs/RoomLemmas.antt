@@ -19,9 +19,12 @@ module _ {I T C : Type 0} (see : View I T C) where
     room_least (conditional_else at tests block) slot = let a = block_least block slot in omega (arith, a)
     room_least (case_of at e all) slot = arms_least all slot (note_of e)
     room_least (while_loop at e block) slot = block_least block slot
-    room_least (for_loop at name first last block) slot = let a = block_least block (slot + 3) in omega (arith, a)
-    room_least (borrow_in at access x r region block stop) slot = let a = block_least block (slot + 1) in omega (arith, a)
-    room_least (borrow_typed at r t mode x block stop) slot = let a = block_least block (slot + 1) in omega (arith, a)
+    room_least (for_loop at name first last block) slot = let a = block_least block (slot + 3) in omega
+        (arith, a)
+    room_least (borrow_in at access x r region block stop) slot = let a = block_least block (slot + 1) in
+        omega (arith, a)
+    room_least (borrow_typed at r t mode x block stop) slot = let a = block_least block (slot + 1) in omega
+        (arith, a)
     room_least (discard at e) slot = le_refl slot
     room_least (return_of at e) slot = le_refl slot
 
@@ -35,4 +38,5 @@ module _ {I T C : Type 0} (see : View I T C) where
 
     arms_least : (all : Arms Bytes T C) (slot : ℕ) (note : T) → slot ≤ room_of_arms see slot note all
     arms_least no_arms slot note = le_refl slot
-    arms_least (arms at name binds block rest) slot note = let a = arms_least rest slot note in omega (arith, a)
+    arms_least (arms at name binds block rest) slot note = let a = arms_least rest slot note in omega
+        (arith, a)

@@ -61,7 +61,8 @@ module _ (by : Coding) where
   ending_of running = Steps
   ending_of stuck = Stuck
 
-  -- What a run from a place shows: what is seen of the meaning that had so many ticks, after some steps; and the
+  -- What a run from a place shows: what is seen of the meaning that had so many ticks, after some steps;
+  -- and the
   -- same after more, where it has ended.
   pub record Shows (s : Spot) (meant_outcome : Outcome) : Type 0 where
     pub steps : ℕ
@@ -74,7 +75,8 @@ module _ (by : Coding) where
       events = told by meant_outcome.world;
       made = steps;
     }
-    pub stays : is_over meant_outcome.ending ≡ true → (more : ℕ) → exec by.code (steps + more) (run_at s 0) ≡ exec by.code steps (run_at s 0)
+    pub stays : is_over meant_outcome.ending ≡ true → (more : ℕ) → exec by.code (steps + more) (run_at s 0)
+        ≡ exec by.code steps (run_at s 0)
 
   -- where nothing is claimed of a run that is stuck
   abbrev pub Claims : Spot → Outcome → Type 0
@@ -85,7 +87,15 @@ module _ (by : Coding) where
       → Leads by.code s n (ended (ending_of end) w.output w.left (told by w)) l 0
       → Shows s (record { world = w; made = n - l; ending = end })
   shows_end s n l end w is lead =
-      let seen_so : (more : ℕ) → exec by.code (lead.steps + more) (run_at s 0) ≡ record { ending = ending_of end; output = w.output; left = w.left; events = told by w; made = 0 + lead.steps } = λ more. lead.by more 0 in
+      let seen_so : (more : ℕ) → exec by.code (lead.steps + more) (run_at s 0)
+      ≡ record {
+        ending = ending_of end;
+        output = w.output;
+        left = w.left;
+        events = told by w;
+        made = 0
+            + lead.steps;
+      } = λ more. lead.by more 0 in
       let none : lead.steps + 0 ≡ lead.steps = omega arith in
       let count : 0 + lead.steps ≡ lead.steps = omega arith in
       let here = sym (ap (λ k. exec by.code k (run_at s 0)) none) ∙ seen_so 0 in
@@ -93,7 +103,14 @@ module _ (by : Coding) where
         steps = lead.steps;
         least = omega (arith, lead.least, lead.most);
         most = omega (arith, lead.least, lead.most);
-        here = here ∙ ap (λ k. record { ending = ending_of end; output = w.output; left = w.left; events = told by w; made = k }) count;
+        here = here ∙ ap (λ k. record {
+          ending = ending_of end;
+          output = w.output;
+          left = w.left;
+          events =
+              told by w;
+          made = k;
+        }) count;
         stays = λ over more. seen_so more ∙ sym here;
       }
 
@@ -102,7 +119,8 @@ module _ (by : Coding) where
   exit_of None = stuck
   exit_of (Some success) = exit success
 
-  case_same : (a b : Bool) → (if a then exit true else if b then exit false else stuck) ≡ exit_of (if a then Some true else if b then Some false else None)
+  case_same : (a b : Bool) → (if a then exit true else if b then exit false else stuck)
+      ≡ exit_of (if a then Some true else if b then Some false else None)
   case_same true b = refl
   case_same false true = refl
   case_same false false = refl
@@ -121,38 +139,66 @@ module _ (by : Coding) where
   exit_same (values.root id) = refl
 
   -- a value that the entry returns
-  shows_value : (s : Spot) (n l : ℕ) (v : Both by) (names : Names) (slots : Slots) (c : Common by) (o : Option Bool)
+  shows_value : (s : Spot) (n l : ℕ) (v : Both by) (names : Names) (slots : Slots) (c : Common by) (o :
+      Option Bool)
       → low.exit_in (ran by v) ≡ o → Leads by.code s n (gone by entry_frame v slots c) l 0
-      → Claims s (record { world = ends_frame (world by entry_frame names c); made = n - l; ending = exit_of o })
+      → Claims s (record {
+        world = ends_frame (world by entry_frame names c);
+        made = n - l;
+        ending = exit_of
+            o;
+      })
   shows_value s n l v names slots c None e lead claim = absurd (claim refl)
   shows_value s n l v names slots c (Some b) e lead claim =
       let m = machine by entry_frame 0 [] slots c in
-      let there : gone by entry_frame v slots c ≡ ended (Exit b) c.output c.left (told by (world by entry_frame names c)) =
-          ap (λ o. reached (spot by entry_frame 0 [] slots c) (machines.having o (λ success. machines.exits success (machines.in_world (machines.frame_ended m) m)))) e
-          ∙ ap (λ deeds. ended (Exit b) c.output c.left deeds) (sym (deeds_both by.of c.store.deeds)) in
-      shows_end s n l (exit b) (ends_frame (world by entry_frame names c)) refl (leads_to by.code there lead)
+      let there : gone by entry_frame v slots c ≡ ended (Exit b) c.output c.left (told by (world by
+      entry_frame names c)) =
+      ap (λ o. reached (spot by entry_frame 0 [] slots c) (machines.having o (λ success. machines.exits
+      success (machines.in_world (machines.frame_ended m) m)))) e
+      ∙ ap (λ deeds. ended (Exit b) c.output c.left deeds) (sym (deeds_both by.of c.store.deeds)) in
+      shows_end s n l (exit b) (ends_frame (world by entry_frame names c)) refl (leads_to by.code there
+      lead)
 
   -- what the body of the entry does
   pub shows_body : {H : Names → Slots → Type 0} {q : ℕ} (s : Spot) (n : ℕ) (r : Out Flow)
-      → Sim by entry_frame (flow_aim by entry_frame H q) 0 s n r → Claims s (seen n (follows r leaves_frame))
+      → Sim by entry_frame (flow_aim by entry_frame H q) 0 s n r
+      → Claims s (seen n (follows r leaves_frame))
   unfolding follows
   shows_body {H} {q} s n (gives flow w l) g claim = by_way g.follows.b g.follows.is g.follows.leads claim
     where
       by_way : (b : Way by) → flow ≡ way_meant by b
           → Leads by.code s n (lands by entry_frame q b g.follows.slots g.follows.c) l 0
           → Claims s (seen n (leaves_frame flow w l))
-      by_way falls is lead = subst (λ x. Claims s (seen n (leaves_frame x w l))) (sym is) (λ no. absurd (no refl))
+      by_way falls is lead = subst (λ x. Claims s (seen n (leaves_frame x w l))) (sym is) (λ no. absurd (no
+          refl))
       by_way (returns v) is lead =
           subst (λ x. Claims s (seen n (leaves_frame x w l))) (sym is)
-          (subst (λ x. Claims s (record { world = ends_frame x; made = n - l; ending = exit_in (meant by v) })) (sym g.follows.in_world)
-          (subst (λ end. Claims s (record { world = ends_frame (world by entry_frame g.follows.names g.follows.c); made = n - l; ending = end })) (sym (exit_same v))
-          (shows_value s n l v g.follows.names g.follows.slots g.follows.c (low.exit_in (ran by v)) refl lead)))
+          (subst (λ x. Claims s (record {
+            world = ends_frame x;
+            made = n - l;
+            ending = exit_in (meant by v);
+          })) (sym g.follows.in_world)
+          (subst (λ end. Claims s (record {
+            world = ends_frame (world by entry_frame g.follows.names
+                g.follows.c);
+            made = n - l;
+            ending = end;
+          })) (sym (exit_same v))
+          (shows_value s n l v g.follows.names g.follows.slots g.follows.c (low.exit_in (ran by v)) refl
+          lead)))
   shows_body s n (aborts fault w l) g claim = shows_end s n l (abort fault) w refl g.follows
   shows_body s n (cut w) g claim = record {
     steps = g.follows.steps;
     least = g.follows.least;
     most = g.follows.most;
-    here = g.follows.cuts 0 ∙ ap (λ k. record { ending = Steps; output = w.output; left = w.left; events = told by w; made = k }) (let e : 0 + g.follows.steps ≡ g.follows.steps = omega arith in e);
+    here = g.follows.cuts 0 ∙ ap (λ k. record {
+      ending = Steps;
+      output = w.output;
+      left = w.left;
+      events =
+          told by w;
+      made = k;
+    }) (let e : 0 + g.follows.steps ≡ g.follows.steps = omega arith in e);
     stays = λ over more. absurd (grind arith);
   }
   shows_body s n (no_rule w l) g claim = absurd (claim refl)
@@ -164,22 +210,31 @@ module _ (by : Coding) where
   no_frame c = source_world by [] c
 
   -- the body of a function that is called
-  abbrev pub called_in : {T C : Type 0} → (ℕ → Option (Function ℕ T C)) → Function ℕ T C → List Value → ℕ → Action Value
-  called_in functions fn args depth = does (begins (new_names fn.first args (names_in_block fn.body))) >> (run_block fn.view (call_at functions depth) depth (fn.first + length args) (scope_of fn) fn.body >>= leaves_frame)
+  abbrev pub called_in : {T C : Type 0} → (ℕ → Option (Function ℕ T C)) → Function ℕ T C → List Value → ℕ
+      → Action Value
+  called_in functions fn args depth = does (begins (new_names fn.first args (names_in_block fn.body))) >>
+      (run_block fn.view (call_at functions depth) depth (fn.first + length args) (scope_of fn) fn.body >>=
+      leaves_frame)
 
   module _ {T C : Type 0} (functions : ℕ → Option (Function ℕ T C)) (has : HasProgram by functions) where
     -- a run that begins with these arguments
-    pub enters_if : (fn : Function ℕ T C) (args : List (Both by)) (c : Common by) (ticks : ℕ) → functions 0 ≡ Some fn
+    pub enters_if : (fn : Function ℕ T C) (args : List (Both by)) (c : Common by) (ticks : ℕ) → functions 0
+        ≡ Some fn
         → (b : Bool) → (length (all_meant by args) == length fn.parameters) ≡ b
         → Claims (spot by entry_frame 0 [] (new_slots (slots_of fn) (all_ran by args)) c)
-            (seen ticks (where_true b (called_in functions fn (all_meant by args) ticks) (no_frame c) ticks))
+        (seen ticks (where_true b (called_in functions fn (all_meant by args) ticks) (no_frame c) ticks))
     unfolding follows
     enters_if fn args c ticks known false t = λ no. absurd (no refl)
     enters_if fn args c ticks known true t =
         let s = spot by entry_frame 0 [] (new_slots (slots_of fn) (all_ran by args)) c in
         let count = length-map args (meant by) in
-        let e : length args ≡ length fn.parameters = sym count ∙ eqb-true (length (all_meant by args)) (length fn.parameters) t in
+        let e : length args ≡ length fn.parameters = sym count
+        ∙ eqb-true (length (all_meant by args)) (length fn.parameters) t in
         let new = new_names fn.first (all_meant by args) (names_in_block fn.body) in
-        let body = body_runs by functions has entry_frame ticks ticks fn args c (has 0 fn known) (good_at by functions has ticks) (le_refl ticks) e in
-        subst (λ n. Claims s (seen ticks (follows (run_block fn.view (call_at functions ticks) ticks (fn.first + n) (scope_of fn) fn.body (world by entry_frame new c) ticks) leaves_frame))) (sym count)
-        (shows_body s ticks (run_block fn.view (call_at functions ticks) ticks (fn.first + length args) (scope_of fn) fn.body (world by entry_frame new c) ticks) body)
+        let body = body_runs by functions has entry_frame ticks ticks fn args c (has 0 fn known) (good_at by
+        functions has ticks) (le_refl ticks) e in
+        subst (λ n. Claims s (seen ticks (follows (run_block fn.view (call_at functions ticks) ticks
+        (fn.first + n) (scope_of fn) fn.body (world by entry_frame new c) ticks) leaves_frame))) (sym
+        count)
+        (shows_body s ticks (run_block fn.view (call_at functions ticks) ticks (fn.first + length args)
+        (scope_of fn) fn.body (world by entry_frame new c) ticks) body)

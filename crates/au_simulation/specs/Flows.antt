@@ -31,7 +31,8 @@ module _ (by : Coding) where
 module _ (by : Coding) (f : Frame) where
   -- where a frame leads that returns a value
   abbrev pub gone : Both by → Slots → Common by → Reach
-  gone v slots c = reached (spot by f 0 [] slots c) (low.returns f.waiting (ran by v) (machine by f 0 [] slots c))
+  gone v slots c = reached (spot by f 0 [] slots c) (low.returns f.waiting (ran by v) (machine by f 0 []
+      slots c))
 
   -- where a statement leads that ends at a place
   abbrev pub lands : ℕ → Way by → Slots → Common by → Reach
@@ -46,9 +47,11 @@ module _ (by : Coding) (f : Frame) (get : ℕ → Option Draft) (depth wide room
   abbrev pub Behind : Bool → List (Entry by) → Names → Slots → Type 0
   Behind out scope names slots = (out ≡ false) × Agree by wide room scope names slots
 
-  -- What holds behind a statement: these are the scopes of the meaning and of the code, with what was declared,
+  -- What holds behind a statement: these are the scopes of the meaning and of the code, with what was
+  -- declared,
   -- and the next number and the next slot.
-  pub record Declared (scope : List (Entry by)) (numbers slots : Scope) (number slot : ℕ) (names : Names) (held : Slots)
+  pub record Declared (scope : List (Entry by)) (numbers slots : Scope) (number slot : ℕ) (names : Names)
+      (held : Slots)
       : Type 0 where
     pub new : List (Entry by)
     pub numbers_are : numbers ≡ numbers_in by (new ++ scope)
@@ -61,7 +64,8 @@ module _ (by : Coding) (f : Frame) (get : ℕ → Option Draft) (depth wide room
       (out ≡ false) × Declared scope numbers slots number slot names held
 
   -- a statement or a block, with so many steps to spare
-  pub record Does (scope : List (Entry by)) (write : Written) (m : Action Flow) (Holds : Names → Slots → Type 0) : Type 0 where
+  pub record Does (scope : List (Entry by)) (write : Written) (m : Action Flow) (Holds : Names → Slots
+      → Type 0) : Type 0 where
     pub runs : (p q : ℕ) (names : Names) (slots : Slots) (c : Common by) (n : ℕ)
         → Stands get write p q → Agree by wide room scope names slots → n ≤ depth
         → Sim by f (flow_aim by f Holds q) 0 (spot by f p [] slots c) n (m (world by f names c) n)
@@ -71,9 +75,9 @@ module _ (by : Coding) (f : Frame) (get : ℕ → Option Draft) (depth wide room
     pub runs : (p q : ℕ) (names : Names) (slots : Slots) (c : Common by) (n : ℕ)
         → Stands get write p q → Agree by wide room scope names slots → n ≤ depth
         → Sim by f
-            (record {
-              view = meant by;
-              holds = λ v names slots. Agree by wide room scope names slots;
-              target = λ v slots c. at (spot by f q (v ∷ []) slots c);
-            })
-            5 (spot by f p [] slots c) n (m (world by f names c) n)
+        (record {
+          view = meant by;
+          holds = λ v names slots. Agree by wide room scope names slots;
+          target = λ v slots c. at (spot by f q (v ∷ []) slots c);
+        })
+        5 (spot by f p [] slots c) n (m (world by f names c) n)

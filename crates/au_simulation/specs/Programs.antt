@@ -43,7 +43,8 @@ EntryTakes (p ∷ []) = Unit {0}
 EntryTakes (p ∷ q ∷ more) = ⊥
 
 module _ {T C : Type 0} (told : ClosedType → LowType) (functions : List (Function ℕ T C)) where
-  -- A function whose code does what it means: each path of its body returns, nothing follows a return, it binds
+  -- A function whose code does what it means: each path of its body returns, nothing follows a return, it
+  -- binds
   -- each field once, and code can follow its view.
   pub record GoodFunction (f : Function ℕ T C) : Type 0 where
     pub returns : block_returns f.body ≡ true

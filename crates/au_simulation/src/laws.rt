@@ -1,6 +1,6 @@
 //! Laws of the definitions, each as the contract of a call that does nothing.
 
-ghost use Rattle.au_simulation.specs.Laws.{CutsLieBetween, ExpressionsRun, RunsFollow};
+ghost use Rattle.au_simulation.specs.Laws.{CutsLieBetween, EndingsMeet, ExpressionsRun, RunsFollow};
 
 /// The code of an expression does what the expression means.
 pub fn expressions_run<T, C>()
@@ -16,4 +16,9 @@ pub fn runs_follow<T, C>()
 /// many.
 pub fn cuts_lie_between<T, C>()
     ensures { CutsLieBetween T C }
+{}
+
+/// Where a run of the code has ended, so has one of the meaning with as many ticks, and they agree.
+pub fn endings_meet<T, C>()
+    ensures { EndingsMeet T C }
 {}

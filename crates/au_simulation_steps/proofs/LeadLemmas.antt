@@ -12,10 +12,12 @@ use Rattle.au_simulation_steps.specs.Runs.{Reach, at, ended, lost, reached, run_
 
 module _ (code : Code) where
   -- what is seen is seen by equal words
-  seen_same : (r : Reach) (k m n : ℕ) (o p : Outcome) → m ≡ n → p ≡ o → Seen code r k m o → Seen code r k n p
+  seen_same : (r : Reach) (k m n : ℕ) (o p : Outcome) → m ≡ n → p ≡ o → Seen code r k m o
+      → Seen code r k n p
   seen_same (at s) k m n o p e q h = subst (λ i. p ≡ exec code k (run_at s i)) e (q ∙ h)
   seen_same (ended ending output left deeds) k m n o p e q h =
-      subst (λ i. p ≡ record { ending = ending; output = output; left = left; events = deeds; made = i }) e (q ∙ h)
+      subst (λ i. p ≡ record { ending = ending; output = output; left = left; events = deeds; made = i }) e
+      (q ∙ h)
   seen_same lost k m n o p e q h = tt
 
   -- one instruction
@@ -65,8 +67,14 @@ module _ (code : Code) where
   }
 
   -- fewer steps to spare
-  pub leads_spare : {s : Spot} {r : Reach} {n l d e : ℕ} → e ≤ d → Leads code s n r l d → Leads code s n r l e
-  leads_spare le a = record { steps = a.steps; least = a.least; most = omega (arith, a.most, le); by = a.by }
+  pub leads_spare : {s : Spot} {r : Reach} {n l d e : ℕ} → e ≤ d → Leads code s n r l d
+      → Leads code s n r l e
+  leads_spare le a = record {
+    steps = a.steps;
+    least = a.least;
+    most = omega (arith, a.most, le);
+    by = a.by;
+  }
 
   -- a tick and its instruction
   pub leads_tick : (s : Spot) (i : Instr) (n : ℕ) → fetched code s.machine ≡ Some i
@@ -101,12 +109,19 @@ module _ (code : Code) where
   leads_to {s} {r} {t} {n} {l} {e} q a = subst (λ x. Leads code s n x l e) q a
 
 -- a run, and then one that is cut off
-pub cut_on : (by : Coding) {s t : Spot} {w : World} {n m e : ℕ} → Leads by.code s n (at t) m e → CutOff by t m w → CutOff by s n w
+pub cut_on : (by : Coding) {s t : Spot} {w : World} {n m e : ℕ} → Leads by.code s n (at t) m e
+    → CutOff by t m w → CutOff by s n w
 cut_on by {s} {t} {w} {n} {m} {e} a b = record {
   steps = a.steps + b.steps;
   least = omega (arith, a.least, b.least);
   most = omega (arith, a.most, b.most);
   cuts = λ made.
       let p : made + a.steps + b.steps ≡ made + (a.steps + b.steps) = omega arith in
-      a.by b.steps made ∙ b.cuts (made + a.steps) ∙ ap (λ i. record { ending = Steps; output = w.output; left = w.left; events = told by w; made = i }) p;
+      a.by b.steps made ∙ b.cuts (made + a.steps) ∙ ap (λ i. record {
+        ending = Steps;
+        output = w.output;
+        left = w.left;
+        events = told by w;
+        made = i;
+      }) p;
 }

@@ -46,7 +46,8 @@ module _ {T S : Type 0} (f : T → S) where
       → part path (value_to f value) ≡ option_map (value_to f) (part path value)
   part_to [] value = refl
   part_to (index ∷ path) value =
-      ap (λ o. along o (part path)) (field_to index value) ∙ along_to path (field index value) (λ one. part_to path one)
+      ap (λ o. along o (part path)) (field_to index value)
+      ∙ along_to path (field index value) (λ one. part_to path one)
 
   nth_with : (index : ℕ) (change : Value T → Value T) (also : Value S → Value S)
       → ((value : Value T) → also (value_to f value) ≡ value_to f (change value)) → (fields : Fields T)
@@ -63,7 +64,8 @@ module _ {T S : Type 0} (f : T → S) where
   field_with index change also e (truth b) = refl
   field_with index change also e (number kind z) = refl
   field_with index change also e (text t) = refl
-  field_with index change also e (made tag birth fields) = ap (λ fs. made tag birth fs) (nth_with index change also e fields)
+  field_with index change also e (made tag birth fields) = ap (λ fs. made tag birth fs) (nth_with index
+      change also e fields)
   field_with index change also e (reference borrow place) = refl
   field_with index change also e (box birth) = refl
   field_with index change also e (buffer birth) = refl
@@ -74,13 +76,15 @@ module _ {T S : Type 0} (f : T → S) where
       → with_part path (value_to f new) (value_to f value) ≡ value_to f (with_part path new value)
   with_part_to [] new value = refl
   with_part_to (index ∷ path) new value =
-      field_with index (with_part path new) (with_part path (value_to f new)) (λ v. with_part_to path new v) value
+      field_with index (with_part path new) (with_part path (value_to f new)) (λ v. with_part_to path new v)
+      value
 
   pub listed_to : (fields : Fields T) → listed (fields_to f fields) ≡ map (value_to f) (listed fields)
   listed_to no_fields = refl
   listed_to (field_then value rest) = ap (λ vs. value_to f value ∷ vs) (listed_to rest)
 
-  pub fields_of_to : (values : List (Value T)) → fields_of (map (value_to f) values) ≡ fields_to f (fields_of values)
+  pub fields_of_to : (values : List (Value T)) → fields_of (map (value_to f) values)
+      ≡ fields_to f (fields_of values)
   fields_of_to [] = refl
   fields_of_to (value ∷ rest) = ap (λ fs. field_then (value_to f value) fs) (fields_of_to rest)
 
@@ -98,7 +102,8 @@ module _ {T S : Type 0} (f : T → S) where
   number_in_to (terminal birth) = refl
   number_in_to (root birth) = refl
 
-  number_of_to : (kind : IntKind) (value : Value T) → number_of kind (value_to f value) ≡ number_of kind value
+  number_of_to : (kind : IntKind) (value : Value T) → number_of kind (value_to f value)
+      ≡ number_of kind value
   number_of_to kind value = ap (λ o. if_of kind o) (number_in_to value)
 
   pub truth_in_to : (value : Value T) → truth_in (value_to f value) ≡ truth_in value
@@ -134,7 +139,8 @@ module _ {T S : Type 0} (f : T → S) where
   both_to go also e (Some a) None = refl
   both_to go also e (Some a) (Some b) = e a b
 
-  or_fault_to : (kind : IntKind) (z : Option ℤ) → number_or_fault kind z ≡ result_to f (number_or_fault kind z)
+  or_fault_to : (kind : IntKind) (z : Option ℤ) → number_or_fault kind z
+      ≡ result_to f (number_or_fault kind z)
   or_fault_to kind None = refl
   or_fault_to kind (Some z) = refl
 
@@ -142,7 +148,7 @@ module _ {T S : Type 0} (f : T → S) where
   numbers_to : (kind : IntKind) (go : ℤ → ℤ → Result T) (also : ℤ → ℤ → Result S)
       → ((x y : ℤ) → also x y ≡ result_to f (go x y)) → (a b : Value T)
       → on_both also (number_of kind (value_to f a)) (number_of kind (value_to f b))
-          ≡ result_to f (on_both go (number_of kind a) (number_of kind b))
+      ≡ result_to f (on_both go (number_of kind a) (number_of kind b))
   numbers_to kind go also e a b =
       ap₂ (λ x y. on_both also x y) (number_of_to kind a) (number_of_to kind b)
       ∙ both_to go also e (number_of kind a) (number_of kind b)
@@ -150,7 +156,8 @@ module _ {T S : Type 0} (f : T → S) where
   pub computed_to : (op : IntOp) (kind : IntKind) (a b : Value T)
       → computed op kind (value_to f a) (value_to f b) ≡ result_to f (computed op kind a b)
   computed_to op kind a b =
-      numbers_to kind (λ x y. number_or_fault kind (trapped op kind x y)) (λ x y. number_or_fault kind (trapped op kind x y))
+      numbers_to kind (λ x y. number_or_fault kind (trapped op kind x y)) (λ x y. number_or_fault kind
+      (trapped op kind x y))
       (λ x y. or_fault_to kind (trapped op kind x y)) a b
 
   pub wrapped_to : (op : WrapOp) (kind : IntKind) (a b : Value T)
@@ -179,13 +186,16 @@ module _ {T S : Type 0} (f : T → S) where
   pub negated_to : (a : Value T) → negated (value_to f a) ≡ result_to f (negated a)
   negated_to a = ap (λ b. turned b) (truth_in_to a) ∙ turned_to (truth_in a)
 
-  optional_to : (kind : IntKind) (z : Option ℤ) → optional (at_kind kind z) ≡ value_to f (optional (at_kind kind z))
+  optional_to : (kind : IntKind) (z : Option ℤ) → optional (at_kind kind z)
+      ≡ value_to f (optional (at_kind kind z))
   optional_to kind None = refl
   optional_to kind (Some z) = refl
 
-  from_to : (kind : IntKind) (o : Option (IntKind × ℤ)) → converted_from kind o ≡ result_to f (converted_from kind o)
+  from_to : (kind : IntKind) (o : Option (IntKind × ℤ)) → converted_from kind o
+      ≡ result_to f (converted_from kind o)
   from_to kind None = refl
   from_to kind (Some one) = ap (λ v. answer.value v) (optional_to kind (converted kind one.1))
 
-  pub converted_to : (kind : IntKind) (a : Value T) → converted_value kind (value_to f a) ≡ result_to f (converted_value kind a)
+  pub converted_to : (kind : IntKind) (a : Value T) → converted_value kind (value_to f a)
+      ≡ result_to f (converted_value kind a)
   converted_to kind a = ap (λ o. converted_from kind o) (number_in_to a) ∙ from_to kind (number_in a)

@@ -56,7 +56,8 @@ module _ (by : Coding) (f : Frame) where
   sim_spare (no_rule w l) le g = record { follows = tt }
 
   -- what gave something
-  pub sim_given : {A B : Type 0} (aim : Aim by A B) {s : Spot} {n l e : ℕ} (b : B) (names : Names) (slots : Slots)
+  pub sim_given : {A B : Type 0} (aim : Aim by A B) {s : Spot} {n l e : ℕ} (b : B) (names : Names) (slots :
+      Slots)
       (c : Common by) → aim.holds b names slots → Leads by.code s n (aim.target b slots c) l e
       → Sim by f aim e s n (gives (aim.view b) (world by f names c) l)
   sim_given aim b names slots c h lead = record {
@@ -73,11 +74,13 @@ module _ (by : Coding) (f : Frame) where
   }
 
   -- where no rule applies
-  pub sim_stuck : {A B : Type 0} {aim : Aim by A B} {s : Spot} {n l e : ℕ} {w : World} → Sim by f aim e s n (no_rule w l)
+  pub sim_stuck : {A B : Type 0} {aim : Aim by A B} {s : Spot} {n l e : ℕ} {w : World}
+      → Sim by f aim e s n (no_rule w l)
   sim_stuck = record { follows = tt }
 
   -- a run that is cut off where no tick is left
-  cut_here : (s : Spot) (w : World) → s.output ≡ w.output → s.left ≡ w.left → s.machine.world.deeds ≡ told by w
+  cut_here : (s : Spot) (w : World) → s.output ≡ w.output → s.left ≡ w.left → s.machine.world.deeds
+      ≡ told by w
       → CutOff by s 0 w
   unfolding exec
   cut_here s w output left deeds = record {
@@ -96,44 +99,53 @@ module _ (by : Coding) (f : Frame) where
   sim_tick m w (suc l) output left deeds go = go l refl
 
   -- one action and then another
-  bound : {A A2 B2 : Type 0} {B : Type 0} (aim : Aim by A B) {aim2 : Aim by A2 B2} {s : Spot} {n l d e : ℕ} {a : A} {w : World} (k : A → Action A2)
+  bound : {A A2 B2 : Type 0} {B : Type 0} (aim : Aim by A B) {aim2 : Aim by A2 B2} {s : Spot} {n l d e : ℕ}
+      {a : A} {w : World} (k : A → Action A2)
       → (g : Given by f aim d s n a w l) → Sim by f aim2 e s n (k (aim.view g.b) (world by f g.names g.c) l)
       → Sim by f aim2 e s n (k a w l)
   bound aim {aim2} {s} {n} {l} {d} {e} {a} {w} k g is =
       let in_a = subst (λ x. Sim by f aim2 e s n (k x (world by f g.names g.c) l)) (sym g.is) is in
       subst (λ x. Sim by f aim2 e s n (k a x l)) (sym g.in_world) in_a
 
-  pub sim_bind_more : {A B A2 B2 : Type 0} (view : B → A) (holds : B → Names → Slots → Type 0) (mid : B → Slots → Common by → Spot)
+  pub sim_bind_more : {A B A2 B2 : Type 0} (view : B → A) (holds : B → Names → Slots → Type 0) (mid : B
+      → Slots → Common by → Spot)
       {aim2 : Aim by A2 B2} {s : Spot} {n d e : ℕ} (r : Out A) (k : A → Action A2)
       → Sim by f (aim_at view holds mid) d s n r
-      → ((b : B) (names : Names) (slots : Slots) (c : Common by) (l : ℕ) → holds b names slots → 8 * l + d ≤ 8 * n
-          → Sim by f aim2 e (mid b slots c) l (k (view b) (world by f names c) l))
+      → ((b : B) (names : Names) (slots : Slots) (c : Common by) (l : ℕ) → holds b names slots
+      → 8 * l + d ≤ 8 * n
+      → Sim by f aim2 e (mid b slots c) l (k (view b) (world by f names c) l))
       → Sim by f aim2 (d + e) s n (follows r k)
   unfolding follows
   sim_bind_more view holds mid {n = n} {d = d} (gives a w l) k g go =
       let x = g.follows in
       let le : 8 * l + d ≤ 8 * n = omega (arith, x.leads.most) in
-      bound (aim_at view holds mid) k x (sim_on (k (view x.b) (world by f x.names x.c) l) x.leads (go x.b x.names x.slots x.c l x.held le))
+      bound (aim_at view holds mid) k x (sim_on (k (view x.b) (world by f x.names x.c) l) x.leads (go x.b
+      x.names x.slots x.c l x.held le))
   sim_bind_more view holds mid (aborts fault w l) k g go = record { follows = g.follows }
   sim_bind_more view holds mid (cut w) k g go = record { follows = g.follows }
   sim_bind_more view holds mid (no_rule w l) k g go = record { follows = tt }
 
-  pub sim_bind : {A B A2 B2 : Type 0} (view : B → A) (holds : B → Names → Slots → Type 0) (mid : B → Slots → Common by → Spot)
+  pub sim_bind : {A B A2 B2 : Type 0} (view : B → A) (holds : B → Names → Slots → Type 0) (mid : B → Slots
+      → Common by → Spot)
       {aim2 : Aim by A2 B2} {s : Spot} {n d e : ℕ} (r : Out A) (k : A → Action A2)
       → Sim by f (aim_at view holds mid) d s n r
       → ((b : B) (names : Names) (slots : Slots) (c : Common by) (l : ℕ) → holds b names slots → l ≤ n
-          → Sim by f aim2 e (mid b slots c) l (k (view b) (world by f names c) l))
+      → Sim by f aim2 e (mid b slots c) l (k (view b) (world by f names c) l))
       → Sim by f aim2 e s n (follows r k)
   sim_bind view holds mid {n = n} r k g go =
       sim_spare (follows r k) (omega arith)
-      (sim_bind_more view holds mid r k g (λ b names slots c l h le. go b names slots c l h (omega (arith, le))))
+      (sim_bind_more view holds mid r k g (λ b names slots c l h le. go b names slots c l h (omega (
+        arith,
+        le,
+      ))))
 
   -- what was given is seen in another way
-  pub sim_map : {A B A2 B2 : Type 0} (aim : Aim by A B) {aim2 : Aim by A2 B2} {s : Spot} {n d e : ℕ} (r : Out A) (k : A → Action A2)
+  pub sim_map : {A B A2 B2 : Type 0} (aim : Aim by A B) {aim2 : Aim by A2 B2} {s : Spot} {n d e : ℕ} (r :
+      Out A) (k : A → Action A2)
       → Sim by f aim d s n r
       → ((b : B) (names : Names) (slots : Slots) (c : Common by) (l : ℕ) → aim.holds b names slots
-          → Leads by.code s n (aim.target b slots c) l d
-          → Sim by f aim2 e s n (k (aim.view b) (world by f names c) l))
+      → Leads by.code s n (aim.target b slots c) l d
+      → Sim by f aim2 e s n (k (aim.view b) (world by f names c) l))
       → Sim by f aim2 e s n (follows r k)
   unfolding follows
   sim_map aim (gives a w l) k g go =
@@ -144,11 +156,12 @@ module _ (by : Coding) (f : Frame) where
   sim_map aim (no_rule w l) k g go = record { follows = tt }
 
   -- the same action, aimed in another way
-  pub sim_aim : {A B : Type 0} (aim aim2 : Aim by A B) {s : Spot} {n d e : ℕ} (r : Out A) → Sim by f aim d s n r
+  pub sim_aim : {A B : Type 0} (aim aim2 : Aim by A B) {s : Spot} {n d e : ℕ} (r : Out A)
+      → Sim by f aim d s n r
       → ((b : B) → aim.view b ≡ aim2.view b)
       → ((b : B) (names : Names) (slots : Slots) → aim.holds b names slots → aim2.holds b names slots)
       → ((b : B) (names : Names) (slots : Slots) (c : Common by) (l : ℕ) → aim.holds b names slots
-          → Leads by.code s n (aim.target b slots c) l d → Leads by.code s n (aim2.target b slots c) l e)
+      → Leads by.code s n (aim.target b slots c) l d → Leads by.code s n (aim2.target b slots c) l e)
       → Sim by f aim2 e s n r
   sim_aim aim aim2 (gives a w l) g views helds leads =
       let x = g.follows in
@@ -169,25 +182,29 @@ module _ (by : Coding) (f : Frame) where
   sim_aim aim aim2 (no_rule w l) g views helds leads = record { follows = tt }
 
   -- an instruction without a tick behind an action
-  pub sim_more : {A B : Type 0} (view : B → A) (holds holds2 : B → Names → Slots → Type 0) (mid mid2 : B → Slots → Common by → Spot)
+  pub sim_more : {A B : Type 0} (view : B → A) (holds holds2 : B → Names → Slots → Type 0) (mid mid2 : B
+      → Slots → Common by → Spot)
       {s : Spot} {n e : ℕ} (r : Out A) (i : B → Instr)
       → ((b : B) (slots : Slots) (c : Common by) → fetched by.code (mid b slots c).machine ≡ Some (i b))
       → ((b : B) (names : Names) (slots : Slots) (c : Common by) → holds b names slots
-          → reached (mid b slots c) (act by.code (i b) (mid b slots c).machine) ≡ at (mid2 b slots c))
+      → reached (mid b slots c) (act by.code (i b) (mid b slots c).machine) ≡ at (mid2 b slots c))
       → ((b : B) (names : Names) (slots : Slots) → holds b names slots → holds2 b names slots)
       → Sim by f (aim_at view holds mid) (suc e) s n r
       → Sim by f (aim_at view holds2 mid2) e s n r
   sim_more view holds holds2 mid mid2 r i is goes helds g =
       sim_aim (aim_at view holds mid) (aim_at view holds2 mid2) r g (λ b. refl) helds
-      (λ b names slots c l h lead. leads_to by.code (goes b names slots c h) (leads_more by.code (i b) (is b slots c) lead))
+      (λ b names slots c l h lead. leads_to by.code (goes b names slots c h) (leads_more by.code (i b) (is b
+      slots c) lead))
 
   -- what needs something, and what needs a fact
-  pub sim_needing : {X A B : Type 0} {aim : Aim by A B} {e : ℕ} {s : Spot} {n l : ℕ} {w : World} (o : Option X) (go : X → Action A)
+  pub sim_needing : {X A B : Type 0} {aim : Aim by A B} {e : ℕ} {s : Spot} {n l : ℕ} {w : World} (o : Option
+      X) (go : X → Action A)
       → ((x : X) → o ≡ Some x → Sim by f aim e s n (go x w l)) → Sim by f aim e s n (needing o go w l)
   sim_needing None go sim = record { follows = tt }
   sim_needing (Some x) go sim = sim x refl
 
-  pub sim_where : {A B : Type 0} {aim : Aim by A B} {e : ℕ} {s : Spot} {n l : ℕ} {w : World} (b : Bool) (m : Action A)
+  pub sim_where : {A B : Type 0} {aim : Aim by A B} {e : ℕ} {s : Spot} {n l : ℕ} {w : World} (b : Bool) (m :
+      Action A)
       → (b ≡ true → Sim by f aim e s n (m w l)) → Sim by f aim e s n (where_true b m w l)
   sim_where true m sim = sim refl
   sim_where false m sim = record { follows = tt }

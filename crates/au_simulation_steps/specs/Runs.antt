@@ -1,4 +1,5 @@
--- A run of the machine that leads from one place to another while the meaning makes ticks, and what it means
+-- A run of the machine that leads from one place to another while the meaning makes ticks, and what it
+-- means
 -- that the machine does what an action of the meaning does.
 use Rattle.std.specs.Prelude.{◌≡◌, ℕ, ◌+◌, ◌*◌, ◌≤◌, List, ◌++◌}
 use Rattle.au_effects.specs.Worlds.{Deed}
@@ -39,7 +40,8 @@ Seen code (ended ending output left deeds) steps made outcome =
     outcome ≡ record { ending = ending; output = output; left = left; events = deeds; made = made }
 Seen code lost steps made outcome = Unit {0}
 
--- From a place a run leads somewhere, while of n ticks all but l are made: it makes as many steps or more, and
+-- From a place a run leads somewhere, while of n ticks all but l are made: it makes as many steps or more,
+-- and
 -- eight times as many or fewer, with some to spare.
 pub record Leads (code : Code) (s : Spot) (n : ℕ) (r : Reach) (l spare : ℕ) : Type 0 where
   pub steps : ℕ
@@ -64,7 +66,8 @@ pub record CutOff (by : Coding) (s : Spot) (n : ℕ) (w : World) : Type 0 where
 abbrev pub aborted : Coding → Fault → World → Reach
 aborted by fault w = ended (Abort (abort_kind (fault_to by.text fault))) w.output w.left (told by w)
 
--- What a run is to lead to where an action gives something that is the picture of a B: what the picture is, what
+-- What a run is to lead to where an action gives something that is the picture of a B: what the picture is,
+-- what
 -- names and slots hold then, and where the machine is.
 pub record Aim (by : Coding) (A B : Type 0) : Type 1 where
   pub view : B → A
@@ -77,7 +80,8 @@ abbrev pub aim_at : {by : Coding} {A B : Type 0} → (B → A) → (B → Names 
 aim_at view holds spot = record { view = view; holds = holds; target = λ b slots c. at (spot b slots c) }
 
 module _ (by : Coding) (f : Frame) {A B : Type 0} (aim : Aim by A B) where
-  -- An action gave something: it is the picture of something, in a world that is one, and the run leads there.
+  -- An action gave something: it is the picture of something, in a world that is one, and the run leads
+  -- there.
   pub record Given (spare : ℕ) (s : Spot) (n : ℕ) (a : A) (w : World) (l : ℕ) : Type 0 where
     pub b : B
     pub names : Names
@@ -88,7 +92,8 @@ module _ (by : Coding) (f : Frame) {A B : Type 0} (aim : Aim by A B) where
     pub held : aim.holds b names slots
     pub leads : Leads by.code s n (aim.target b slots c) l spare
 
-  -- A run does what an action does that had n ticks: by what the action came to. Nothing is said where no rule
+  -- A run does what an action does that had n ticks: by what the action came to. Nothing is said where no
+  -- rule
   -- applies.
   abbrev pub Follows : ℕ → Spot → ℕ → Out A → Type 0
   Follows spare s n (action.gives a w l) = Given spare s n a w l

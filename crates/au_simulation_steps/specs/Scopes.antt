@@ -1,4 +1,5 @@
--- The variables in scope, each with the number that the meaning gives it and the slot that the code gives it,
+-- The variables in scope, each with the number that the meaning gives it and the slot that the code gives
+-- it,
 -- and what it means that a frame's names and its slots hold the same for them.
 use Rattle.std.specs.Prelude.{◌≡◌, ◌≢◌, ℕ, ◌<◌, List, [], ◌∷◌, length, Option, Some, None, option_map, slice_get}
 use Rattle.au_closed_types.specs.Types.{ClosedType}
@@ -15,12 +16,14 @@ module _ (by : Coding) where
   -- the scope of the meaning, and that of the code
   abbrev pub numbers_in : List Entry → Scope
   numbers_in [] = []
-  numbers_in (variable name number slot of ∷ rest) = record { name = name; number = number; of = of } ∷ numbers_in rest
+  numbers_in (variable name number slot of ∷ rest) = record { name = name; number = number; of = of } ∷
+      numbers_in rest
   numbers_in (kept slot value ∷ rest) = numbers_in rest
 
   abbrev pub slots_in : List Entry → Scope
   slots_in [] = []
-  slots_in (variable name number slot of ∷ rest) = record { name = name; number = slot; of = of } ∷ slots_in rest
+  slots_in (variable name number slot of ∷ rest) = record { name = name; number = slot; of = of } ∷ slots_in
+      rest
   slots_in (kept slot value ∷ rest) = slots_in rest
 
   -- a name and a slot hold the same
@@ -31,7 +34,8 @@ module _ (by : Coding) where
 
   abbrev pub Held : List Entry → Names → Slots → Type 0
   Held [] names slots = Unit {0}
-  Held (variable name number slot of ∷ rest) names slots = Same number slot names slots × Held rest names slots
+  Held (variable name number slot of ∷ rest) names slots = Same number slot names slots
+      × Held rest names slots
   Held (kept slot value ∷ rest) names slots =
       (slice_get slots slot ≡ Some (Some (ran by value))) × Held rest names slots
 
@@ -50,7 +54,8 @@ module _ (by : Coding) where
   -- no two have one number or one slot
   abbrev pub Distinct : List Entry → Type 0
   Distinct [] = Unit {0}
-  Distinct (variable name number slot of ∷ rest) = NumberFree number rest × SlotFree slot rest × Distinct rest
+  Distinct (variable name number slot of ∷ rest) = NumberFree number rest × SlotFree slot rest
+      × Distinct rest
   Distinct (kept slot value ∷ rest) = SlotFree slot rest × Distinct rest
 
   -- numbers and slots are below these

@@ -48,7 +48,8 @@ module _ (by : Coding) where
   abbrev pub all_ran : List Both → List Low
   all_ran values = map ran values
 
-  -- What both have besides frames: births, borrows and deeds; and the open borrows, the output, and the bytes
+  -- What both have besides frames: births, borrows and deeds; and the open borrows, the output, and the
+  -- bytes
   -- of the input that are left.
   pub record Common : Type 0 where
     pub store : effects.World Word ClosedType
