@@ -1,2 +1,3 @@
+mod NamingLemmas
 mod PlaceLemmas
 mod TypeLemmas

@@ -4,5 +4,6 @@
 pub mod entries;
 mod finding;
 mod forms;
+pub mod laws;
 
 pub use entries::{Begin, EntryFault, entry_of};
