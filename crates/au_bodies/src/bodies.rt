@@ -67,8 +67,8 @@ fn method_in<'a>(
     }
 }
 
-/// The body that a declaration of the module at a place has under a name: a function's, or that of a method of
-/// an instance.
+/// The body that a declaration of the module at a place has under a name: a function's, or that of a method
+/// of an instance.
 fn body_in<'a>(place: u16, name: &Text, decl: &'a Decl<Noted>) -> Option<Body<'a>>
     ensures { option_map body_said result ≡ spec.body_in place name.now (trees.declaration noted decl.now) }
 {

@@ -16,8 +16,8 @@ returns-then-eq c =
     let name = c.args.name.now in
     let one = c.one-item.result in
     let is : is_method name (method_body noted one) ≡ true =
-        (λ i. bytes_eq (sym c.as_bytes.ensures i) (sym c.as_bytes-in-loop-one.ensures.bytes i))
-        ∙ sym c.eq.ensures ∙ c.if-eq.true in
+    (λ i. bytes_eq (sym c.as_bytes.ensures i) (sym c.as_bytes-in-loop-one.ensures.bytes i))
+    ∙ sym c.eq.ensures ∙ c.if-eq.true in
     found_here (method_body noted) (is_method name) c.deref-one-items.result.now c.loop-one.one-index one
     c.loop-one-test.true c.one-item.is c.loop-one.invariant c.args.methods.now.items
     c.deref-one-items.ensures.value is

@@ -19,16 +19,16 @@ returns-in-Some c =
     let xs = c.deref.result.now in
     let found = c.in-Some.definitions.now in
     let here : slice_get c.args.all.now.items place ≡ Some found =
-        sym (ap (λ r. slice_get r place) c.deref.ensures.value)
-        ∙ slice_get_read xs (length xs) place found refl (c.in-Some.ensures.lookup.3).0 c.in-Some.ensures.lookup.1 in
+    sym (ap (λ r. slice_get r place) c.deref.ensures.value)
+    ∙ slice_get_read xs (length xs) place found refl (c.in-Some.ensures.lookup.3).0 c.in-Some.ensures.lookup.1 in
     let within : place < length program =
-        subst (λ n. place < n) c.requires.many (slice_get_within c.args.all.now.items place found here) in
+    subst (λ n. place < n) c.requires.many (slice_get_within c.args.all.now.items place found here) in
     let m = there program place within in
     let all = declarations_seen (body_tree (Some m.0)) in
     let sight = sight_in c.sight_at-sight.result in
     let same = c.sight_at-sight.ensures m.0 m.1 in
     let answer =
-        subst (λ s. AreDefinitions s all found
-        → IfOk c.index_in.result (λ index. index ≡ position (defines s says) all))
-        same (c.index_in.ensures all) (c.requires.each place found here m.0 m.1) in
+    subst (λ s. AreDefinitions s all found
+    → IfOk c.index_in.result (λ index. index ≡ position (defines s says) all))
+    same (c.index_in.ensures all) (c.requires.each place found here m.0 m.1) in
     subst (λ o. IfOk c.index_in.result (λ index. index ≡ defining_in program place o says)) (sym m.1) answer

@@ -1,0 +1,4 @@
+pub mod Keys
+pub mod Told
+pub mod Views
+pub mod Telling
