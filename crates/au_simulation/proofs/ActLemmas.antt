@@ -1,20 +1,18 @@
 -- What calls do with their arguments.
-use Rattle.std.proofs.Common.{◌≡◌, ℕ, zero, suc, ◌+◌, ◌<◌, ◌≤◌, Bool, true, false, if◌then◌else◌, ◌==◌, List, [], ◌∷◌, ◌++◌, length, map, reverse, Option, Some, None, refl, sym, ap, ap₂, subst, ◌∙◌, arith, eqb-true, eq-eqb, slice_get, true≢false}
+use Rattle.std.proofs.Common.{◌≡◌, ℕ, zero, suc, ◌+◌, ◌≤◌, true, List, [], ◌∷◌, ◌++◌, length, reverse, Option, Some, None, refl, sym, ap, subst, ◌∙◌, arith, true≢false}
 use Rattle.std.proofs.lemmas.List.{length-map}
 use Rattle.std.specs.List.{position_or_len}
 use Rattle.std.specs.Str.{bytes_eq}
 use Rattle.au_base.specs.declared.kinds.IntKind.{IntKind}
 use Rattle.au_ints.specs.declared.operations.WrapOp.{WrapOp}
 use Rattle.au_closed_types.specs.Types.{ClosedType}
-use Rattle.au_effects.specs.Answers as answer
 use Rattle.au_effects.specs.Calls.{shipped}
 use Rattle.au_effects.specs.Numbers.{wrapped_around, converted_value}
 use Rattle.au_low.specs.declared.instructions.Instr.TheVariants as instr
 use Rattle.au_low.specs.Instructions as low
 use Rattle.au_low.specs.Instructions.{act}
-use Rattle.au_low.specs.Machines as machines
 use Rattle.au_low.specs.Machines.{Low, ordered, ordered_if, having}
-use Rattle.au_lowered.specs.Drafts.{Draft, plain, makes_case, ships_birth, Written, nothing, does, given}
+use Rattle.au_lowered.specs.Drafts.{Draft, plain, makes_case, Written, nothing, does}
 use Rattle.au_lowered.specs.Expressions as code
 use Rattle.au_lowered.specs.Standing.{Stands, PartsStandIn}
 use Rattle.au_lowered.proofs.StandLemmas.{parts_stand}
@@ -22,20 +20,19 @@ use Rattle.au_meaning.specs.Acts as acts
 use Rattle.au_meaning.specs.Expressions as meaning
 use Rattle.au_meaning.specs.Ticks.{Action, stuck, needing, comes}
 use Rattle.au_meaning.specs.Views.{View, Callee, Act, invokes, makes, ships}
-use Rattle.au_meaning.specs.Worlds.{Value, World}
+use Rattle.au_meaning.specs.Worlds.{Value}
 use Rattle.au_shipped.specs.declared.prims.ShippedCall.{ShippedCall}
 use Rattle.au_shipped.specs.declared.prims.ShippedCall.TheVariants as prim
 use Rattle.au_syntax.specs.Plain.{Bytes}
-use Rattle.au_simulation_steps.specs.Maps.{value_to, result_to}
 use Rattle.au_simulation_steps.specs.Scopes.{Entry, Agree}
-use Rattle.au_simulation_steps.specs.Sides.{Coding, Word, Both, Names, Slots, Common, Frame, Spot, machine, spot, world, meant, ran, all_meant, all_ran}
-use Rattle.au_simulation_steps.specs.Runs.{Reach, at, Leads, Aim, aim_at, Sim}
+use Rattle.au_simulation_steps.specs.Sides.{Coding, Word, Both, Names, Slots, Common, Frame, machine, spot, world, meant, ran, all_meant, all_ran}
+use Rattle.au_simulation_steps.specs.Runs.{at, aim_at, Sim}
 use Rattle.au_simulation_steps.proofs.CallLemmas.{popped_all, make_runs}
 use Rattle.au_simulation_steps.proofs.LeadLemmas.{leads_to}
 use Rattle.au_simulation_steps.proofs.MapLemmas.{wrapped_to, converted_to}
 use Rattle.au_simulation_steps.proofs.SimLemmas.{sim_spare, sim_stuck, sim_aim, sim_needing}
 use Rattle.au_simulation_steps.proofs.StepLemmas.{comes_runs}
-use Rattle.au_simulation.specs.Premises.{GoodView, Placed, GoodCalls, Once, is_plain, numbered}
+use Rattle.au_simulation.specs.Premises.{GoodView, Placed, GoodCalls, Once, is_plain}
 use Rattle.au_simulation.specs.Rows.{value_aim, OnAll}
 use Rattle.au_simulation.proofs.OrderLemmas.{numbers_length, positions_ordered, position_found, labels_ordered, declared_or_not}
 use Rattle.au_simulation.proofs.ShippedLemmas.{PlainCall, shipped_runs, print_text_plain, print_int_plain, print_bool_plain, print_line_text_plain, print_line_int_plain, print_line_bool_plain, surrender_plain, abort_plain, span_plain}

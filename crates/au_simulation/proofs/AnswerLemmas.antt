@@ -1,10 +1,9 @@
 -- A shipped call tells more, and unsays nothing.
-use Rattle.std.proofs.Common.{◌≡◌, ℕ, ◌+◌, ◌-◌, Bool, true, false, if◌then◌else◌, List, [], ◌∷◌, ◌++◌, length, take, Option, Some, None, slice_get, set, refl, sym, ap, subst, ◌∙◌, append-nil, append_assoc, codes, pos}
+use Rattle.std.proofs.Common.{ℕ, ◌-◌, Bool, true, false, if◌then◌else◌, List, [], ◌∷◌, ◌++◌, length, Option, Some, None, slice_get, set, refl, sym, ap, ◌∙◌, append-nil, append_assoc, codes, pos}
 use Rattle.au_shipped.specs.declared.prims.ShippedCall.{ShippedCall}
 use Rattle.au_shipped.specs.declared.prims.ShippedCall.TheVariants as prim
-use Rattle.au_effects.specs.Answers as answer
 use Rattle.au_effects.specs.Answers.{Answer, gives, writes, waits, aborts, none}
-use Rattle.au_effects.specs.Calls.{untyped, of_one, of_two, of_three, of_none, given, use_of, buffer_use, shipped, reference_in, buffer_in, elements_in, last_taken, element_copied, element_replaced, buffer_ended, byte_read, index_in, natural_in, root_in, box_in, terminal_in, swap_call, write_byte, in_line, with_elements}
+use Rattle.au_effects.specs.Calls.{untyped, of_one, of_two, of_three, of_none, given, use_of, buffer_use, shipped, reference_in, buffer_in, elements_in, last_taken, element_copied, element_replaced, buffer_ended, byte_read, index_in, natural_in, root_in, box_in, terminal_in, with_elements}
 use Rattle.au_base.specs.declared.kinds.IntKind.TheVariants.{Nat8, Index}
 use Rattle.au_effects.specs.Numbers.{number_in, number_of, truth_in, text_in, number_bytes, truth_bytes}
 use Rattle.au_effects.specs.Parts.{along, part, with_part}

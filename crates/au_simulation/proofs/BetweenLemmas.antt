@@ -1,18 +1,16 @@
 -- A run that is cut off lies between two runs of the meaning.
-use Rattle.std.proofs.Common.{◌≡◌, ℕ, zero, suc, ◌+◌, ◌-◌, ◌*◌, ◌/◌, ◌<◌, ◌≤◌, Bool, true, false, ◌==◌, if◌then◌else◌, List, [], ◌∷◌, ◌++◌, map, Option, Some, None, refl, sym, ap, subst, ◌∙◌, arith, slice_get, nat_lt, nat_le, leb-true, ltb-true, ltb-false, true≢false, IsTrue}
+use Rattle.std.proofs.Common.{◌≡◌, ℕ, ◌+◌, ◌-◌, ◌*◌, ◌/◌, ◌≤◌, Bool, true, false, ◌==◌, if◌then◌else◌, List, map, refl, sym, ap, subst, ◌∙◌, arith, slice_get, nat_lt, leb-true, ltb-true, ltb-false, true≢false}
 use Rattle.std.proofs.Math.Nat.{le_refl}
 use Rattle.au_closed_types.specs.Types.{ClosedType}
-use Rattle.au_effects.specs.Answers as answer
 use Rattle.au_effects.specs.Values as values
 use Rattle.au_low.specs.declared.code.LowType.{LowType}
-use Rattle.au_low.specs.declared.endings.Ending.{Ending}
-use Rattle.au_low.specs.declared.endings.Ending.TheVariants.{Exit, Abort, Steps, Stuck}
+use Rattle.au_low.specs.declared.endings.Ending.TheVariants.{Steps}
 use Rattle.au_low.specs.Runs as low
 use Rattle.au_low.specs.Runs.{low_run, abort_kind}
-use Rattle.au_lowered.specs.Agreeing.{event_numbered, ending_numbered, fault_numbered}
+use Rattle.au_lowered.specs.Agreeing.{event_numbered, ending_numbered}
 use Rattle.au_lowered.specs.Programs.{lowered, texts_in, types_in}
 use Rattle.au_meaning.specs.Laws.{Begins, is_over}
-use Rattle.au_meaning.specs.Meanings.{mean, seen, exit_in, begun, call_at, parameters_of, first_world}
+use Rattle.au_meaning.specs.Meanings.{mean, seen, exit_in}
 use Rattle.au_meaning.specs.Ticks.{Out, gives, aborts, cut, no_rule}
 use Rattle.au_meaning.specs.Views.{Function}
 use Rattle.au_meaning.specs.Worlds.{Value, Ending as Meant, Outcome, exit, abort, running, stuck}

@@ -1,5 +1,5 @@
 -- The code of statements and blocks does what they mean.
-use Rattle.std.proofs.Common.{◌≡◌, ℕ, zero, suc, ◌+◌, ◌*◌, ◌<◌, ◌≤◌, max, Bool, true, false, ◌&&◌, ◌||◌, List, [], ◌∷◌, ◌++◌, Option, Some, None, refl, sym, ap, subst, ◌∙◌, arith, unwrap_or, ℤ, length, slice_get, nat_lt, if◌then◌else◌, ltb-true, ltb-false}
+use Rattle.std.proofs.Common.{◌≡◌, ℕ, suc, ◌+◌, ◌<◌, ◌≤◌, Bool, true, false, ◌&&◌, ◌||◌, List, [], ◌∷◌, ◌++◌, Option, Some, None, refl, sym, ap, subst, ◌∙◌, arith, unwrap_or, ℤ, length, slice_get, nat_lt, if◌then◌else◌, ltb-true, ltb-false}
 use Rattle.std.proofs.lemmas.List.{length-map}
 use Rattle.au_base.specs.declared.kinds.IntKind.{IntKind}
 use Rattle.au_closed_types.specs.Types.{ClosedType}
@@ -36,7 +36,7 @@ use Rattle.au_syntax.specs.Plain.{Bytes}
 use Rattle.au_syntax.specs.Types.{Bound}
 use Rattle.au_simulation_steps.specs.Scopes.{Entry, variable, kept as keeps, numbers_in, slots_in, Held, Scoped, Agree}
 use Rattle.au_simulation_steps.specs.Maps.{fields_to}
-use Rattle.au_simulation_steps.specs.Sides.{Coding, Word, Both, Names, Slots, Common, Frame, Spot, machine, spot, world, meant, ran, all_meant, all_ran}
+use Rattle.au_simulation_steps.specs.Sides.{Coding, Word, Both, Names, Slots, Common, Frame, Spot, machine, spot, world, meant, all_meant, all_ran}
 use Rattle.au_simulation_steps.specs.Runs as reach
 use Rattle.au_simulation_steps.specs.Runs.{reached, Leads, Aim, Sim}
 use Rattle.au_simulation_steps.proofs.LeadLemmas.{leads_to, leads_tick}
@@ -50,8 +50,8 @@ use Rattle.au_simulation_steps.proofs.FrameLemmas.{number_free, slot_free, under
 use Rattle.au_simulation.proofs.ForLemmas.{loop_scope, for_does}
 use Rattle.au_simulation.proofs.RoomLemmas.{block_least}
 use Rattle.au_simulation.specs.Premises.{GoodView, Placed, GoodCalls, Once}
-use Rattle.au_simulation.specs.Flows.{flow_aim, Behind, Declared, After, Does, Whole}
-use Rattle.au_simulation.specs.Trees.{BindsOnce, BindsOnce_in, BindsOnce_in_tests, BindsOnce_in_arms}
+use Rattle.au_simulation.specs.Flows.{flow_aim, Behind, After, Does, Whole}
+use Rattle.au_simulation.specs.Trees.{BindsOnce, BlockBindsOnce, TestsBindOnce, ArmsBindOnce}
 use Rattle.au_simulation.proofs.CaseLemmas.{label_of, label_in, counted_tag, tag_is, arm_ends}
 use Rattle.au_simulation.proofs.DestructureLemmas.{destructure_does}
 use Rattle.au_simulation.proofs.TakeLemmas.{filled, named, named_is}
@@ -658,7 +658,7 @@ module _ {T C : Type 0} (by : Coding) (see : View ℕ T C) (invoke : ℕ → Lis
     -- statements one after another
     pub all_do : (b : Statements Bytes T C) (around number slot : ℕ) (scope : List (Entry by))
         → Scoped by number slot scope
-        → number + names_in_block b ≤ wide → room_of_block see slot b ≤ most → BindsOnce_in b
+        → number + names_in_block b ≤ wide → room_of_block see slot b ≤ most → BlockBindsOnce b
         → Does_so scope (written.block see around slot (slots_in by scope) b) (run_all see invoke depth
         number (numbers_in by scope) b) (Behind_so (out.block_returns b) scope)
     all_do no_statements around number slot scope scoped fits rooms good =
@@ -708,7 +708,7 @@ module _ {T C : Type 0} (by : Coding) (see : View ℕ T C) (invoke : ℕ → Lis
     -- the arm of the case that is met, from its beginning
     pub arms_do : (all : Arms Bytes T C) (around number slot : ℕ) (scope : List (Entry by)) (note : T)
         → Scoped by number slot scope
-        → number + names_in_arms all ≤ wide → room_of_arms see slot note all ≤ most → BindsOnce_in_arms all
+        → number + names_in_arms all ≤ wide → room_of_arms see slot note all ≤ most → ArmsBindOnce all
         → ArmsRun around number slot scope note all
     arms_do no_arms around number slot scope note scoped fits rooms good p q stands tag vs n l s names slots
         c ag le lead = record { follows = tt }
@@ -728,7 +728,7 @@ module _ {T C : Type 0} (by : Coding) (see : View ℕ T C) (invoke : ℕ → Lis
     pub tests_do : (tests : Branches Bytes T C) (around number slot : ℕ) (scope : List (Entry by)) (o :
         Option Written) (m : Action Flow) (last : Bool)
         → Scoped by number slot scope → number + names_in_tests tests ≤ wide
-        → room_of_tests see slot tests ≤ most → BindsOnce_in_tests tests
+        → room_of_tests see slot tests ≤ most → TestsBindOnce tests
         → Does_so scope (unwrap_or o nothing) m (Behind_so last scope)
         → Does_so scope (unwrap_or (written.tests_of see around slot (slots_in by scope) tests o) nothing)
         (run_tests see invoke depth number (numbers_in by scope) tests m) (Behind_so
@@ -752,7 +752,7 @@ module _ {T C : Type 0} (by : Coding) (see : View ℕ T C) (invoke : ℕ → Lis
   -- a block, at the end of which its names are emptied
   pub block_does : (b : Statements Bytes T C) (around number slot : ℕ) (scope : List (Entry by))
       → Scoped by number slot scope
-      → number + names_in_block b ≤ wide → room_of_block see slot b ≤ most → BindsOnce_in b
+      → number + names_in_block b ≤ wide → room_of_block see slot b ≤ most → BlockBindsOnce b
       → Does_so scope (written.block see around slot (slots_in by scope) b) (emptying see number b (run_all
       see invoke depth number (numbers_in by scope) b)) (Behind_so (out.block_returns b) scope)
   block_does b around number slot scope scoped fits rooms good =

@@ -1,23 +1,22 @@
 -- Conditional expressions, `and` and `or`.
-use Rattle.std.proofs.Common.{◌≡◌, ℕ, zero, suc, ◌+◌, ◌*◌, ◌≤◌, Bool, true, false, List, [], ◌∷◌, ◌++◌, Option, Some, None, refl, sym, ap, subst, ◌∙◌, arith, slice_get, nat_lt, le_trans}
+use Rattle.std.proofs.Common.{ℕ, suc, ◌+◌, ◌≤◌, Bool, true, false, List, ◌∷◌, Option, refl, sym, ap, arith}
 use Rattle.au_effects.specs.Values as values
-use Rattle.au_low.specs.declared.instructions.Instr.{Instr}
 use Rattle.au_low.specs.declared.instructions.Instr.TheVariants as instr
 use Rattle.au_low.specs.Instructions.{act}
-use Rattle.au_lowered.specs.Drafts.{Draft, plain, Written, ◌>>◌, one, does, either, unless}
+use Rattle.au_lowered.specs.Drafts.{Draft, plain, Written, ◌>>◌, does, either}
 use Rattle.au_lowered.specs.Standing.{Stands, PartsStandIn}
 use Rattle.au_lowered.proofs.StandLemmas.{parts_stand}
 use Rattle.au_meaning.specs.Expressions.{chosen}
-use Rattle.au_meaning.specs.Ticks.{Action, pure, tick, ticked, ◌>>=◌}
-use Rattle.au_meaning.specs.Worlds.{Value, World}
+use Rattle.au_meaning.specs.Ticks.{Action, pure, tick, ◌>>=◌}
+use Rattle.au_meaning.specs.Worlds.{Value}
 use Rattle.au_simulation_steps.specs.Scopes.{Entry, Agree}
-use Rattle.au_simulation_steps.specs.Sides.{Coding, Word, Both, Names, Slots, Common, Frame, Spot, spot, world, meant}
-use Rattle.au_simulation_steps.specs.Runs.{Reach, at, reached, Leads, Aim, aim_at, Sim}
-use Rattle.au_simulation_steps.proofs.LeadLemmas.{leads_more, leads_to, leads_spare}
+use Rattle.au_simulation_steps.specs.Sides.{Coding, Both, Names, Slots, Common, Frame, Spot, spot, world, meant}
+use Rattle.au_simulation_steps.specs.Runs.{at, Leads, Sim}
+use Rattle.au_simulation_steps.proofs.LeadLemmas.{leads_more, leads_to}
 use Rattle.au_simulation_steps.proofs.SimLemmas.{sim_on, sim_spare, sim_given, sim_bind, sim_bind_more, sim_more}
 use Rattle.au_simulation_steps.proofs.StepLemmas.{ticks_at}
 use Rattle.au_simulation_steps.proofs.MoveLemmas.{jump_reach, choose_by, choose_runs}
-use Rattle.au_simulation.specs.Premises.{numbered, EachIn, Placed}
+use Rattle.au_simulation.specs.Premises.{Placed}
 use Rattle.au_simulation.specs.Rows.{value_aim, Gives}
 
 module _ (by : Coding) (f : Frame) (get : ℕ → Option Draft) (placed : Placed by f.function get) (depth wide

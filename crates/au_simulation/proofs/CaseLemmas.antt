@@ -1,27 +1,24 @@
 -- The labels of a case, and the end of an arm.
-use Rattle.std.proofs.Common.{◌≡◌, ℕ, zero, suc, ◌+◌, ◌*◌, ◌<◌, ◌≤◌, max, Bool, true, false, ◌==◌, ◌||◌, List, [], ◌∷◌, ◌++◌, length, Option, Some, None, refl, sym, ap, subst, ◌∙◌, arith, slice_get, nat_lt, if◌then◌else◌, eqb-true, true≢false, ltb-true, ltb-false}
+use Rattle.std.proofs.Common.{◌≡◌, ℕ, zero, suc, ◌<◌, ◌≤◌, Bool, true, false, ◌==◌, ◌||◌, List, [], ◌∷◌, ◌++◌, length, Option, Some, None, refl, sym, ap, subst, ◌∙◌, arith, slice_get, nat_lt, eqb-true, true≢false, ltb-true, ltb-false}
 use Rattle.std.proofs.lemmas.List.{length-append}
-use Rattle.au_effects.specs.Parts.{along}
 use Rattle.au_low.specs.declared.instructions.Instr.TheVariants as instr
-use Rattle.au_lowered.specs.Drafts.{Draft, plain, Written, unless}
-use Rattle.au_lowered.specs.Slots.{tag_in}
+use Rattle.au_lowered.specs.Drafts.{Draft, unless}
 use Rattle.au_lowered.specs.Standing.{Stands, ArmsStand}
-use Rattle.au_lowered.specs.Statements.{ArmsWritten, start_of, count_of_cases, labels_of, is_last, arms_of}
+use Rattle.au_lowered.specs.Statements.{start_of, count_of_cases, labels_of, is_last, arms_of}
 use Rattle.au_meaning.specs.Names.{Scope}
 use Rattle.au_meaning.specs.Statements.{Flow, is_tag}
-use Rattle.au_meaning.specs.Ticks.{Out, Action}
+use Rattle.au_meaning.specs.Ticks.{Out}
 use Rattle.au_meaning.specs.Views.{View}
-use Rattle.au_meaning.specs.Worlds.{Value}
 use Rattle.au_syntax.specs.Plain.{Bytes}
 use Rattle.au_syntax.specs.Statements.{Arms, arms, no_arms}
 use Rattle.au_simulation_steps.specs.Scopes.{Entry}
-use Rattle.au_simulation_steps.specs.Sides.{Coding, Frame, Spot, Names, Slots}
+use Rattle.au_simulation_steps.specs.Sides.{Coding, Frame, Spot}
 use Rattle.au_simulation_steps.specs.Runs.{Sim}
 use Rattle.au_simulation_steps.proofs.FrameLemmas.{get_at}
 use Rattle.au_simulation_steps.proofs.SimLemmas.{sim_spare}
 use Rattle.au_simulation.specs.Flows.{flow_aim, Behind}
 use Rattle.au_simulation.specs.Premises.{EachIn, Placed}
-use Rattle.au_simulation.proofs.FlowLemmas.{flow_holds, jump_runs}
+use Rattle.au_simulation.proofs.FlowLemmas.{jump_runs}
 
 get_left : {A : Type 0} (xs ys : List A) (n : ℕ) → n < length xs → slice_get (xs ++ ys) n ≡ slice_get xs n
 get_left [] ys n h = absurd (omega (arith, h))

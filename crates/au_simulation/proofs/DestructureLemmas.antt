@@ -1,5 +1,5 @@
 -- A record is taken apart by a statement.
-use Rattle.std.proofs.Common.{◌≡◌, ℕ, zero, suc, ◌+◌, ◌<◌, ◌≤◌, Bool, true, false, ◌==◌, List, [], ◌∷◌, ◌++◌, length, Option, Some, None, refl, sym, ap, ap₂, subst, ◌∙◌, arith}
+use Rattle.std.proofs.Common.{◌≡◌, ℕ, suc, ◌+◌, ◌≤◌, Bool, true, false, ◌==◌, List, [], ◌∷◌, length, Option, Some, None, refl, sym, ap, subst, ◌∙◌, arith}
 use Rattle.std.proofs.lemmas.List.{length-map}
 use Rattle.au_effects.specs.Parts.{along}
 use Rattle.au_effects.specs.Values as values
@@ -19,12 +19,12 @@ use Rattle.au_meaning.specs.Statements.{Flow}
 use Rattle.au_meaning.specs.Ticks as ticks
 use Rattle.au_meaning.specs.Ticks.{Out, Action, gives, pure, tick, follows, needing, where_true, ◌>>=◌}
 use Rattle.au_meaning.specs.Views.{Field}
-use Rattle.au_meaning.specs.Worlds.{Value, World}
+use Rattle.au_meaning.specs.Worlds.{Value}
 use Rattle.au_syntax.specs.Plain.{Bytes}
 use Rattle.au_syntax.specs.Types.{Bound}
 use Rattle.au_simulation_steps.specs.Maps.{fields_to}
 use Rattle.au_simulation_steps.specs.Scopes.{Entry, numbers_in, slots_in, Scoped, Agree}
-use Rattle.au_simulation_steps.specs.Sides.{Coding, Word, Both, Names, Slots, Common, Frame, machine, spot, world, meant, ran, all_meant, all_ran}
+use Rattle.au_simulation_steps.specs.Sides.{Coding, Word, Both, Names, Slots, Common, Frame, machine, spot, world, meant, all_meant, all_ran}
 use Rattle.au_simulation_steps.specs.Runs.{at, reached, Sim}
 use Rattle.au_simulation_steps.proofs.LeadLemmas.{leads_spare, leads_to, leads_tick}
 use Rattle.au_simulation_steps.proofs.MapLemmas.{listed_to}

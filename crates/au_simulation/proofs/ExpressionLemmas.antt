@@ -1,27 +1,25 @@
 -- The code of an expression does what the expression means: one row for each form.
-use Rattle.std.proofs.Common.{◌≡◌, ℕ, zero, suc, ◌+◌, ◌*◌, ◌≤◌, Bool, true, false, List, [], ◌∷◌, ◌++◌, length, reverse, Option, Some, None, refl, sym, ap, subst, ◌∙◌, arith, le_trans, neg_ℤ}
-use Rattle.std.proofs.lemmas.List.{length-map}
-use Rattle.au_lowered.specs.Drafts.{Draft, Written, ◌>>◌, nothing, one, does, given, either}
+use Rattle.std.proofs.Common.{◌≡◌, ℕ, suc, List, [], ◌∷◌, ◌++◌, length, reverse, Option, refl, ap, arith, le_trans, neg_ℤ}
+use Rattle.au_lowered.specs.Drafts.{Draft, Written, ◌>>◌, nothing}
 use Rattle.au_lowered.specs.Expressions as code
-use Rattle.au_lowered.specs.Standing.{Stands, PartsStandIn}
+use Rattle.au_lowered.specs.Standing.{PartsStandIn}
 use Rattle.au_lowered.proofs.StandLemmas.{parts_stand}
 use Rattle.au_meaning.specs.Expressions as meaning
 use Rattle.au_meaning.specs.Expressions.{eval, eval_all, eval_named, note_of, names_of, labels, labelled, Operation, computes, compares, is_and, is_or, operation_of, kind_in, compared_kind}
-use Rattle.au_meaning.specs.Acts as acts
-use Rattle.au_meaning.specs.Ticks.{Action, pure, stuck, tick, ticked, needing, follows, ◌>>=◌}
-use Rattle.au_meaning.specs.Views.{View, Callee, Act, invokes, makes, ships}
-use Rattle.au_meaning.specs.Worlds.{Value, World}
+use Rattle.au_meaning.specs.Ticks.{Action, pure, stuck, tick, ◌>>=◌}
+use Rattle.au_meaning.specs.Views.{View}
+use Rattle.au_meaning.specs.Worlds.{Value}
 use Rattle.au_syntax.specs.Expressions.{Expression, Expressions, Arguments, number, negative, text, truth, nil, path, arrow, call, named_call, parenthesized, dereference, borrow, borrow_part, binary, negation, typed, choice, no_expressions, expressions, no_arguments, arguments}
 use Rattle.au_syntax.specs.Plain.{Bytes}
 use Rattle.au_simulation_steps.specs.Scopes.{Entry, numbers_in, slots_in, Agree, Distinct}
-use Rattle.au_simulation_steps.specs.Sides.{Coding, Word, Both, Names, Slots, Common, Frame, Spot, spot, world, meant, ran, all_meant, all_ran}
-use Rattle.au_simulation_steps.specs.Runs.{Reach, at, Aim, aim_at, Sim}
+use Rattle.au_simulation_steps.specs.Sides.{Coding, Frame, spot, world, meant, all_meant}
+use Rattle.au_simulation_steps.specs.Runs.{at}
 use Rattle.au_simulation_steps.proofs.CallLemmas.{pushed_more}
 use Rattle.au_simulation_steps.proofs.LeadLemmas.{leads_none, leads_to}
-use Rattle.au_simulation_steps.proofs.SimLemmas.{sim_spare, sim_given, sim_stuck, sim_bind, sim_map}
+use Rattle.au_simulation_steps.proofs.SimLemmas.{sim_given, sim_stuck, sim_bind, sim_map}
 use Rattle.au_simulation_steps.proofs.StepLemmas.{ticks_at}
 use Rattle.au_simulation.specs.Premises.{GoodView, Placed, GoodCalls}
-use Rattle.au_simulation.specs.Rows.{value_aim, values_aim, Gives, GivesAll, OnOne, OnTwo, OnAll}
+use Rattle.au_simulation.specs.Rows.{values_aim, Gives, GivesAll, OnAll}
 use Rattle.au_simulation.proofs.BranchLemmas.{choice_runs, and_runs, or_runs}
 use Rattle.au_simulation.proofs.RowLemmas.{truth_runs, nil_runs, text_runs, number_runs, mention_runs, part_runs, one_runs, two_runs, not_runs, computes_runs, compares_runs}
 use Rattle.au_simulation.proofs.ActLemmas.{calls_run, named_run}

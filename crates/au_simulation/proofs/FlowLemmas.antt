@@ -1,5 +1,5 @@
 -- Statements one after another, blocks that end, and jumps behind them.
-use Rattle.std.proofs.Common.{◌≡◌, ℕ, zero, suc, ◌+◌, ◌*◌, ◌<◌, ◌≤◌, Bool, true, false, ◌&&◌, ◌||◌, List, [], ◌∷◌, ◌++◌, length, Option, Some, None, refl, sym, ap, ap₂, subst, ◌∙◌, arith, set, slice_get, true≢false, le_trans}
+use Rattle.std.proofs.Common.{◌≡◌, ℕ, zero, suc, ◌+◌, ◌*◌, ◌≤◌, Bool, true, false, List, [], ◌∷◌, Option, Some, None, refl, sym, ap, subst, ◌∙◌, arith, set, true≢false}
 use Rattle.std.proofs.lemmas.List.{length-set}
 use Rattle.au_low.specs.declared.instructions.Instr.{Instr}
 use Rattle.au_low.specs.declared.instructions.Instr.TheVariants as instr
@@ -7,28 +7,26 @@ use Rattle.au_low.specs.Instructions as low
 use Rattle.au_low.specs.Instructions.{act}
 use Rattle.au_low.specs.Machines as machines
 use Rattle.au_low.specs.Machines.{Machine, Waiting}
-use Rattle.au_lowered.specs.Drafts.{Draft, plain, Written, ◌>>◌, nothing, does, unless}
-use Rattle.au_lowered.specs.Expressions.{whole, closing, opens}
-use Rattle.au_lowered.specs.Expressions as code
+use Rattle.au_lowered.specs.Drafts.{Draft, plain, Written, ◌>>◌, unless}
+use Rattle.au_lowered.specs.Expressions.{closing}
 use Rattle.au_lowered.specs.Standing.{Stands, PartsStandIn}
 use Rattle.au_lowered.proofs.StandLemmas.{parts_stand}
-use Rattle.au_meaning.specs.Acts as acts
-use Rattle.au_meaning.specs.Acts.{emptied, with_value}
+use Rattle.au_meaning.specs.Acts.{emptied}
 use Rattle.au_meaning.specs.Statements as meaning
 use Rattle.au_meaning.specs.Statements.{Flow, and_then, leaves}
-use Rattle.au_meaning.specs.Ticks.{Out, Action, gives, aborts, cut, no_rule, pure, follows}
-use Rattle.au_meaning.specs.Worlds.{Value, World}
-use Rattle.au_simulation_steps.specs.Scopes.{Entry, Agree, Held, Under, Scoped}
-use Rattle.au_simulation_steps.specs.Sides.{Coding, Word, Both, Names, Slots, Common, Frame, Spot, machine, spot, world, meant, ran}
-use Rattle.au_simulation_steps.specs.Runs.{Reach, at, reached, Leads, Aim, aim_at, Sim}
+use Rattle.au_meaning.specs.Ticks.{Out, Action, gives, follows}
+use Rattle.au_meaning.specs.Worlds.{Value}
+use Rattle.au_simulation_steps.specs.Scopes.{Entry, Agree, Under}
+use Rattle.au_simulation_steps.specs.Sides.{Coding, Both, Names, Slots, Common, Frame, Spot, machine, spot, world, meant, ran}
+use Rattle.au_simulation_steps.specs.Runs.{at, reached, Leads, Sim}
 use Rattle.au_simulation_steps.proofs.FrameLemmas.{held_name, number_free}
-use Rattle.au_simulation_steps.proofs.LeadLemmas.{leads_spare, leads_more, leads_to, leads_tick, leads_none}
-use Rattle.au_simulation_steps.proofs.SimLemmas.{sim_on, sim_spare, sim_given, sim_stuck, sim_bind_more, sim_map, sim_aim, sim_more}
-use Rattle.au_simulation_steps.proofs.StepLemmas.{meant_set, ticks_at}
+use Rattle.au_simulation_steps.proofs.LeadLemmas.{leads_spare, leads_more, leads_to}
+use Rattle.au_simulation_steps.proofs.SimLemmas.{sim_on, sim_spare, sim_given, sim_map, sim_aim, sim_more}
+use Rattle.au_simulation_steps.proofs.StepLemmas.{meant_set}
 use Rattle.au_simulation_steps.proofs.MoveLemmas.{jump_reach, close_goes}
-use Rattle.au_simulation.specs.Premises.{numbered, EachIn, Placed}
+use Rattle.au_simulation.specs.Premises.{Placed}
 use Rattle.au_simulation.specs.Rows.{Gives}
-use Rattle.au_simulation.specs.Flows.{Way, falls, returns, way_meant, OnFalls, gone, lands, flow_aim, Behind, Does, Whole}
+use Rattle.au_simulation.specs.Flows.{Way, falls, returns, way_meant, OnFalls, gone, lands, flow_aim, Behind, Whole}
 
 -- names of which so many from one on are emptied
 abbrev pub names_emptied : ℕ → ℕ → Names → Names

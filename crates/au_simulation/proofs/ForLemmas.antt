@@ -1,12 +1,10 @@
 -- `for`.
-use Rattle.std.proofs.Common.{◌≡◌, ℕ, zero, suc, ◌+◌, ◌*◌, ◌<◌, ◌≤◌, Bool, true, false, not, if◌then◌else◌, List, [], ◌∷◌, ◌++◌, length, Option, Some, None, refl, sym, ap, ap₂, subst, subst₂, ◌∙◌, arith, set, slice_get, nat_lt, lt-ltb, true≢false, ℤ, pos, ◌+ℤ◌, int_lt, le_trans}
-use Rattle.std.specs.Prelude.{option_map}
+use Rattle.std.proofs.Common.{◌≡◌, ℕ, zero, suc, ◌+◌, ◌<◌, ◌≤◌, Bool, true, false, not, if◌then◌else◌, List, [], ◌∷◌, Option, Some, None, refl, sym, ap, ap₂, subst, subst₂, ◌∙◌, arith, set, ℤ, pos, ◌+ℤ◌, int_lt, le_trans}
 use Rattle.std.proofs.lemmas.List.{length-set}
 use Rattle.au_base.specs.declared.kinds.IntKind.{IntKind}
 use Rattle.au_closed_types.specs.Types.{ClosedType}
 use Rattle.au_effects.specs.Numbers.{number_in, same_kind}
 use Rattle.au_effects.specs.Parts.{along}
-use Rattle.au_effects.specs.Places.{at as held_at}
 use Rattle.au_effects.specs.Values as values
 use Rattle.au_low.specs.declared.instructions.Instr.TheVariants as instr
 use Rattle.au_low.specs.Instructions as low
@@ -22,21 +20,20 @@ use Rattle.au_meaning.specs.Statements as meaning
 use Rattle.au_meaning.specs.Statements.{Flow, and_then, leaves, within, for_turns, ranges, both_numbers}
 use Rattle.au_meaning.specs.Ticks as ticks
 use Rattle.au_meaning.specs.Ticks.{Out, Action, gives, pure, tick, ticked, follows, where_true, ◌>>=◌}
-use Rattle.au_meaning.specs.Worlds.{Value, World}
+use Rattle.au_meaning.specs.Worlds.{Value}
 use Rattle.au_syntax.specs.Plain.{Bytes}
-use Rattle.au_simulation_steps.specs.Maps.{value_to}
-use Rattle.au_simulation_steps.specs.Scopes.{Entry, variable, kept, numbers_in, slots_in, Held, Scoped, Agree, SlotFree}
+use Rattle.au_simulation_steps.specs.Scopes.{Entry, variable, kept, Scoped, Agree, SlotFree}
 use Rattle.au_simulation_steps.specs.Sides.{Coding, Word, Both, Names, Slots, Common, Frame, Spot, machine, spot, world, meant, ran}
-use Rattle.au_simulation_steps.specs.Runs.{Reach, at, reached, Leads, Aim, aim_at, Sim}
+use Rattle.au_simulation_steps.specs.Runs.{at, reached, Leads, aim_at, Sim}
 use Rattle.au_simulation_steps.proofs.FrameLemmas.{set_same, set_other, held_other, held_slot, number_free, slot_free, under_more}
 use Rattle.au_simulation_steps.proofs.LeadLemmas.{leads_spare, leads_more, leads_to, leads_tick}
 use Rattle.au_simulation_steps.proofs.MapLemmas.{number_in_to}
-use Rattle.au_simulation_steps.proofs.SimLemmas.{sim_on, sim_spare, sim_given, sim_stuck, sim_bind, sim_more, sim_where}
-use Rattle.au_simulation_steps.proofs.StepLemmas.{Is, meant_set, ran_at, ran_set, ticks_at}
-use Rattle.au_simulation_steps.proofs.MoveLemmas.{InCode, jump_goes, store_goes}
+use Rattle.au_simulation_steps.proofs.SimLemmas.{sim_on, sim_spare, sim_given, sim_stuck, sim_bind, sim_where}
+use Rattle.au_simulation_steps.proofs.StepLemmas.{meant_set, ran_at, ran_set, ticks_at}
+use Rattle.au_simulation_steps.proofs.MoveLemmas.{jump_goes, store_goes}
 use Rattle.au_simulation.specs.Premises.{Placed}
-use Rattle.au_simulation.specs.Flows.{Way, falls, returns, way_meant, OnFalls, lands, flow_aim, Behind, Does, Whole}
-use Rattle.au_simulation.proofs.FlowLemmas.{names_emptied, flow_holds, then_runs, leaves_run, agree_emptied}
+use Rattle.au_simulation.specs.Flows.{falls, flow_aim, Behind, Does, Whole}
+use Rattle.au_simulation.proofs.FlowLemmas.{flow_holds, then_runs, leaves_run, agree_emptied}
 
 -- a value that is a number
 pub number_is : {T : Type 0} (v : values.Value T) (kind : IntKind) (z : ℤ) → number_in v ≡ Some (kind, z)

@@ -1,9 +1,7 @@
 -- A call does what the function means.
-use Rattle.std.proofs.Common.{◌≡◌, ℕ, zero, suc, ◌+◌, ◌-◌, ◌*◌, ◌<◌, ◌≤◌, Bool, true, false, ◌==◌, List, [], ◌∷◌, ◌++◌, length, map, reverse, take, replicate, Option, Some, None, refl, sym, ap, ap₂, subst, subst₂, ◌∙◌, arith, slice_get, nat_lt, lt-ltb, eq-eqb, eqb-true, append_assoc, le_trans}
+use Rattle.std.proofs.Common.{◌≡◌, ℕ, zero, suc, ◌+◌, ◌-◌, ◌<◌, ◌≤◌, ◌==◌, List, [], ◌∷◌, ◌++◌, length, map, reverse, replicate, Option, Some, None, refl, sym, ap, subst, subst₂, ◌∙◌, arith, slice_get, lt-ltb, eq-eqb, eqb-true, append_assoc}
 use Rattle.std.proofs.Math.Nat.{le_refl}
 use Rattle.std.proofs.lemmas.List.{length-append, length-map, length-replicate, take_at}
-use Rattle.au_closed_types.specs.Types.{ClosedType}
-use Rattle.au_low.specs.declared.code.Function as low_code
 use Rattle.au_low.specs.declared.instructions.Instr.TheVariants as instr
 use Rattle.au_low.specs.Instructions as low
 use Rattle.au_low.specs.Instructions.{act, instructions}
@@ -11,27 +9,26 @@ use Rattle.au_low.specs.Machines as machines
 use Rattle.au_low.specs.Machines.{Low, Machine, Waiting, new_slots, having, ordered, popping_all}
 use Rattle.au_lowered.specs.Drafts.{Draft}
 use Rattle.au_lowered.specs.Programs.{body_of, slots_of}
-use Rattle.au_lowered.specs.Slots.{room_of_block}
 use Rattle.au_lowered.specs.Standing.{HasAt, Stands}
 use Rattle.au_lowered.specs.Statements.{block}
 use Rattle.au_derivations.specs.Returns.{block_returns}
-use Rattle.au_meaning.specs.Acts.{in_store, new_names, begins, ends_frame, frame_in}
+use Rattle.au_meaning.specs.Acts.{in_store, new_names, ends_frame, frame_in}
 use Rattle.au_meaning.specs.Meanings.{call_at, enters, leaves_frame, scope_of}
 use Rattle.au_meaning.specs.Names.{with_parameters, names_in_block}
 use Rattle.au_meaning.specs.Statements.{Flow, run_block}
-use Rattle.au_meaning.specs.Ticks.{Out, Action, gives, aborts, cut, no_rule, follows}
+use Rattle.au_meaning.specs.Ticks.{Out, gives, aborts, cut, no_rule, follows}
 use Rattle.au_meaning.specs.Views.{Field, Function}
-use Rattle.au_meaning.specs.Worlds.{Value, World}
-use Rattle.au_simulation_steps.specs.Scopes.{Entry, variable, numbers_in, slots_in, Held, Same, Distinct, Under, Scoped, Agree}
-use Rattle.au_simulation_steps.specs.Sides.{Coding, Word, Both, Names, Slots, Common, Frame, Spot, machine, spot, world, meant, ran, all_meant, all_ran}
-use Rattle.au_simulation_steps.specs.Runs.{Reach, at, reached, Leads, Aim, aim_at, Sim}
+use Rattle.au_meaning.specs.Worlds.{Value}
+use Rattle.au_simulation_steps.specs.Scopes.{Entry, variable, numbers_in, slots_in, Held, Same, Scoped, Agree}
+use Rattle.au_simulation_steps.specs.Sides.{Coding, Both, Names, Slots, Common, Frame, Spot, machine, spot, world, meant, ran, all_meant, all_ran}
+use Rattle.au_simulation_steps.specs.Runs.{at, reached, Leads, Aim, aim_at, Sim}
 use Rattle.au_simulation_steps.proofs.CallLemmas.{popped_all}
 use Rattle.au_simulation_steps.proofs.FrameLemmas.{get_at, number_free, slot_free, under_more}
 use Rattle.au_simulation_steps.proofs.LeadLemmas.{leads_to, leads_tick}
-use Rattle.au_simulation_steps.proofs.SimLemmas.{sim_on, sim_spare, sim_given, sim_map, sim_needing, sim_where}
+use Rattle.au_simulation_steps.proofs.SimLemmas.{sim_on, sim_spare, sim_given, sim_where}
 use Rattle.au_simulation_steps.proofs.StepLemmas.{Is}
-use Rattle.au_simulation.specs.Flows.{Way, falls, returns, way_meant, OnFalls, gone, lands, flow_aim, Behind, Does}
-use Rattle.au_simulation.specs.Premises.{GoodView, Placed, GoodCalls}
+use Rattle.au_simulation.specs.Flows.{Way, falls, returns, way_meant, gone, lands, flow_aim, Behind}
+use Rattle.au_simulation.specs.Premises.{GoodCalls}
 use Rattle.au_simulation.specs.Programs.{HasFunction, HasProgram}
 use Rattle.au_simulation.proofs.BlockLemmas.{block_does}
 use Rattle.au_simulation.proofs.RoomLemmas.{block_least}

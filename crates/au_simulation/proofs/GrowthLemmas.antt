@@ -1,5 +1,5 @@
 -- A run that makes more steps goes on from what it did with fewer.
-use Rattle.std.proofs.Common.{◌≡◌, ℕ, zero, suc, ◌+◌, Bool, true, false, List, [], ◌∷◌, ◌++◌, Option, Some, None, refl, sym, ap, subst, ◌∙◌, arith}
+use Rattle.std.proofs.Common.{◌≡◌, ℕ, zero, suc, ◌+◌, Bool, List, [], ◌++◌, Option, Some, None, refl, subst, arith}
 use Rattle.au_effects.specs.Calls.{arity, of_one, byte_read}
 use Rattle.au_low.specs.declared.code.Code.{Code}
 use Rattle.au_low.specs.declared.instructions.Instr.{Instr}

@@ -1,5 +1,5 @@
 -- Branches and `while`.
-use Rattle.std.proofs.Common.{◌≡◌, ℕ, zero, suc, ◌+◌, ◌*◌, ◌<◌, ◌≤◌, Bool, true, false, ◌&&◌, List, [], ◌∷◌, ◌++◌, Option, Some, None, refl, sym, ap, subst, ◌∙◌, arith, unwrap_or, true≢false}
+use Rattle.std.proofs.Common.{◌≡◌, ℕ, zero, suc, ◌+◌, ◌<◌, ◌≤◌, Bool, true, false, ◌&&◌, List, [], ◌∷◌, Option, Some, None, refl, ap, ◌∙◌, arith, unwrap_or}
 use Rattle.au_low.specs.declared.instructions.Instr.TheVariants as instr
 use Rattle.au_lowered.specs.Drafts.{Draft, plain, Written, ◌>>◌, nothing, when, either, branch, loop}
 use Rattle.au_lowered.specs.Standing.{Stands, InLoop, PartsStandIn}
@@ -10,8 +10,8 @@ use Rattle.au_meaning.specs.Statements.{Flow, and_then, while_turns}
 use Rattle.au_meaning.specs.Ticks.{Action, pure, tick, ◌>>=◌}
 use Rattle.au_meaning.specs.Worlds.{Value}
 use Rattle.au_simulation_steps.specs.Scopes.{Entry, Agree}
-use Rattle.au_simulation_steps.specs.Sides.{Coding, Both, Names, Slots, Common, Frame, spot, world, meant}
-use Rattle.au_simulation_steps.specs.Runs.{Aim, Sim}
+use Rattle.au_simulation_steps.specs.Sides.{Coding, Names, Slots, Common, Frame, spot, world, meant}
+use Rattle.au_simulation_steps.specs.Runs.{Sim}
 use Rattle.au_simulation_steps.proofs.LeadLemmas.{leads_spare}
 use Rattle.au_simulation_steps.proofs.SimLemmas.{sim_on, sim_spare, sim_given, sim_bind}
 use Rattle.au_simulation_steps.proofs.StepLemmas.{ticks_at}

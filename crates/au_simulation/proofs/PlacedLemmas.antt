@@ -1,5 +1,5 @@
 -- The code that a program is lowered to has its functions.
-use Rattle.std.proofs.Common.{◌≡◌, ◌⊎◌, inl, inr, ⊎_elim, true≢false, ℕ, zero, suc, ◌+◌, ◌<◌, ◌≤◌, Bool, true, false, not, cond, ◌||◌, List, [], ◌∷◌, ◌++◌, length, map, Option, Some, None, refl, sym, ap, ap₂, subst, ◌∙◌, arith, slice_get, slice_index_or, get_or, nat_lt, lt-ltb, ltb-true}
+use Rattle.std.proofs.Common.{◌≡◌, ⊎_elim, true≢false, ℕ, zero, suc, ◌+◌, Bool, true, false, not, cond, List, [], ◌∷◌, ◌++◌, length, map, Option, Some, None, refl, sym, ap, subst, ◌∙◌, arith, slice_get, lt-ltb}
 use Rattle.std.specs.Prelude.{option_map}
 use Rattle.std.specs.List.{position_or_len}
 use Rattle.std.specs.Str.{bytes_eq}
@@ -13,7 +13,7 @@ use Rattle.au_reach.specs.Reached.{has, Has, adds, TellsSame}
 use Rattle.au_reach.proofs.HasLemmas.{or_left, or_right, or_split, has_front, has_back, adds_takes}
 use Rattle.au_low.specs.declared.code.LowType.{LowType}
 use Rattle.au_low.specs.declared.instructions.Instr.{Instr}
-use Rattle.au_low.specs.Instructions.{instructions, text_bytes}
+use Rattle.au_low.specs.Instructions.{instructions}
 use Rattle.au_lowered.specs.Drafts.{Draft, plain, pushes_text, makes_case, ships_birth}
 use Rattle.au_lowered.specs.Laws.{LabelsBefore, EachBefore, labels_in}
 use Rattle.au_lowered.specs.Laws as laws
@@ -21,11 +21,10 @@ use Rattle.au_lowered.specs.Programs as programs
 use Rattle.au_lowered.specs.Programs.{body_of, slots_of, bodies, texts_named, types_named, entry_types, texts_in, types_in, text_number, type_number, function_code, lowered}
 use Rattle.au_lowered.proofs.ReturnLemmas.{bodies_keep_labels}
 use Rattle.au_meaning.specs.Views.{Function}
-use Rattle.au_shipped.specs.declared.prims.ShippedCall.{ShippedCall}
 use Rattle.au_syntax.specs.Plain.{Bytes}
 use Rattle.au_simulation_steps.specs.Sides.{Coding}
-use Rattle.au_simulation.specs.Premises.{GoodView, Placed, EachIn, numbered}
-use Rattle.au_simulation.specs.Programs.{HasFunction, HasProgram, coding, GoodFunction, GoodProgram}
+use Rattle.au_simulation.specs.Premises.{Placed, EachIn, numbered}
+use Rattle.au_simulation.specs.Programs.{HasProgram, coding, GoodFunction, GoodProgram}
 
 -- ---- what stands in a list
 

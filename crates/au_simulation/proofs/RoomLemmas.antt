@@ -1,7 +1,7 @@
 -- Slots that are in use stay so.
-use Rattle.std.proofs.Common.{◌≡◌, ℕ, ◌+◌, ◌≤◌, max, List, length, arith, le_trans}
+use Rattle.std.proofs.Common.{ℕ, ◌+◌, ◌≤◌, arith}
 use Rattle.std.proofs.Math.Nat.{le_refl}
-use Rattle.au_lowered.specs.Slots.{room, room_of_block, room_of_tests, room_of_arms, kept, fields_in, fields_of_case}
+use Rattle.au_lowered.specs.Slots.{room, room_of_block, room_of_tests, room_of_arms}
 use Rattle.au_meaning.specs.Expressions.{note_of}
 use Rattle.au_meaning.specs.Views.{View}
 use Rattle.au_syntax.specs.Statements.{Statement, Statements, Branches, Arms, skip, declare, destructure, assign, assign_through, conditional, conditional_else, case_of, while_loop, for_loop, borrow_in, borrow_typed, discard, return_of, no_statements, statements, no_branches, branches, no_arms, arms}

@@ -1,13 +1,11 @@
 -- The rows of expressions: each does what its clause of the meaning does, where its parts do.
-use Rattle.std.proofs.Common.{◌≡◌, ◌≢◌, ◌⊎◌, inl, inr, ℕ, zero, suc, ◌+◌, ◌*◌, ◌<◌, ◌≤◌, Bool, true, false, cond, if◌then◌else◌, List, [], ◌∷◌, ◌++◌, length, map, reverse, Option, Some, None, refl, sym, ap, ap₂, subst, subst₂, ◌∙◌, arith, slice_get, set, nat_lt, ℤ, le_trans}
-use Rattle.std.specs.Prelude.{option_map}
+use Rattle.std.proofs.Common.{◌≡◌, inl, inr, ℕ, suc, ◌+◌, Bool, true, false, List, [], ◌∷◌, Option, Some, None, refl, sym, ap, subst, subst₂, ◌∙◌, arith, ℤ, le_trans}
 use Rattle.std.proofs.lemmas.List.{length-set}
 use Rattle.au_base.specs.declared.kinds.IntKind.{IntKind}
 use Rattle.au_ints.specs.Ranges.{is_of_kind}
 use Rattle.au_ints.specs.declared.operations.IntOp.{IntOp}
 use Rattle.au_ints.specs.declared.operations.Order.{Order}
-use Rattle.au_closed_types.specs.Types.{ClosedType}
-use Rattle.au_effects.specs.Numbers.{computed, compared, negated, truth_in}
+use Rattle.au_effects.specs.Numbers.{computed, compared, negated}
 use Rattle.au_effects.specs.Values as values
 use Rattle.au_low.specs.declared.instructions.Instr.{Instr}
 use Rattle.au_low.specs.declared.instructions.Instr.TheVariants as instr
@@ -15,30 +13,27 @@ use Rattle.au_low.specs.Instructions as low
 use Rattle.au_low.specs.Instructions.{act, instructions}
 use Rattle.au_low.specs.Machines as machines
 use Rattle.au_low.specs.Machines.{goes, pushes}
-use Rattle.au_lowered.specs.Drafts.{Draft, plain, pushes_text, Written, ◌>>◌, one, does, given, either, unless}
+use Rattle.au_lowered.specs.Drafts.{Draft, plain, pushes_text, Written, ◌>>◌, one, does, given}
 use Rattle.au_lowered.specs.Expressions as code
-use Rattle.au_lowered.specs.Standing.{Stands, PartsStandIn}
+use Rattle.au_lowered.specs.Standing.{PartsStandIn}
 use Rattle.au_lowered.proofs.StandLemmas.{parts_stand}
 use Rattle.au_meaning.specs.Acts.{looks}
 use Rattle.au_meaning.specs.Expressions as meaning
 use Rattle.au_meaning.specs.Expressions.{literal, chosen, Operation, computes, compares, is_and, is_or, kind_in, compared_kind}
-use Rattle.au_meaning.specs.Names.{Variable, variable_of, path_numbers}
-use Rattle.au_meaning.specs.Ticks.{Out, Action, pure, stuck, tick, ticked, follows, needing, where_true, comes, ◌>>=◌, no_rule}
+use Rattle.au_meaning.specs.Names.{variable_of, path_numbers}
+use Rattle.au_meaning.specs.Ticks.{Action, pure, stuck, tick, ticked, needing, comes, ◌>>=◌}
 use Rattle.au_meaning.specs.Views.{View}
 use Rattle.au_meaning.specs.Worlds.{Value, World}
 use Rattle.au_syntax.specs.Plain.{Bytes}
-use Rattle.au_simulation_steps.specs.Maps.{value_to}
-use Rattle.au_simulation_steps.specs.Scopes.{Entry, numbers_in, slots_in, Agree, Held, Distinct}
-use Rattle.au_simulation_steps.specs.Sides.{Coding, Word, Both, Names, Slots, Common, Frame, Spot, machine, spot, world, meant, ran, all_meant, all_ran}
-use Rattle.au_simulation_steps.specs.Runs.{Reach, at, reached, Leads, Aim, aim_at, Sim}
+use Rattle.au_simulation_steps.specs.Scopes.{Entry, numbers_in, slots_in, Agree, Distinct}
+use Rattle.au_simulation_steps.specs.Sides.{Coding, Word, Both, Names, Slots, Common, Frame, machine, spot, world, meant}
+use Rattle.au_simulation_steps.specs.Runs.{Sim}
 use Rattle.au_simulation_steps.proofs.FrameLemmas.{Found, Means, means}
-use Rattle.au_simulation_steps.proofs.LeadLemmas.{leads_more, leads_to, leads_tick}
 use Rattle.au_simulation_steps.proofs.MapLemmas.{computed_to, compared_to, negated_to}
-use Rattle.au_simulation_steps.proofs.SimLemmas.{sim_on, sim_spare, sim_given, sim_stuck, sim_bind, sim_bind_more, sim_more, sim_needing, sim_where}
-use Rattle.au_simulation_steps.proofs.StepLemmas.{Is, ticks_at, push_runs, comes_runs, look_runs, move_runs}
-use Rattle.au_simulation_steps.proofs.MoveLemmas.{InCode, jump_reach, choose_by, choose_runs}
-use Rattle.au_simulation.specs.Premises.{HasLiteral, numbered, EachIn, Placed}
-use Rattle.au_simulation.specs.Rows.{value_aim, values_aim, Gives, GivesAll, OnOne, OnTwo, OnAll}
+use Rattle.au_simulation_steps.proofs.SimLemmas.{sim_spare, sim_stuck, sim_bind, sim_bind_more, sim_where}
+use Rattle.au_simulation_steps.proofs.StepLemmas.{ticks_at, push_runs, comes_runs, look_runs, move_runs}
+use Rattle.au_simulation.specs.Premises.{HasLiteral, numbered, Placed}
+use Rattle.au_simulation.specs.Rows.{value_aim, Gives, OnOne, OnTwo}
 
 module _ (by : Coding) (f : Frame) (get : ℕ → Option Draft) (placed : Placed by f.function get) (depth wide
     room : ℕ) (scope : List (Entry by)) where

@@ -1,33 +1,30 @@
 -- A run of the code of a program, from its beginning.
-use Rattle.std.proofs.Common.{◌≡◌, ℕ, zero, suc, ◌+◌, ◌-◌, ◌*◌, ◌<◌, ◌≤◌, Bool, true, false, not, cond, ◌==◌, ◌&&◌, if◌then◌else◌, List, [], ◌∷◌, ◌++◌, length, map, replicate, Option, Some, None, refl, sym, ap, ap₂, subst, ◌∙◌, arith, slice_get, nat_lt, lt-ltb, eq-eqb, codes, IsTrue, nat_le, le-leb}
+use Rattle.std.proofs.Common.{◌≡◌, ℕ, suc, ◌+◌, ◌-◌, ◌*◌, ◌<◌, ◌≤◌, true, false, not, cond, ◌==◌, ◌&&◌, if◌then◌else◌, List, [], ◌∷◌, ◌++◌, length, map, replicate, Option, Some, None, refl, sym, ap, ap₂, subst, ◌∙◌, arith, slice_get, nat_lt, lt-ltb, eq-eqb, codes, le-leb}
 use Rattle.std.specs.List.{position_or_len}
-use Rattle.std.proofs.lemmas.List.{length-map}
 use Rattle.au_closed_types.specs.Same.{same}
 use Rattle.au_closed_types.specs.Types.{ClosedType}
 use Rattle.au_closed_types.proofs.SameLemmas.{same_self}
 use Rattle.au_effects.specs.Answers as answer
-use Rattle.au_effects.specs.Parts.{along}
 use Rattle.au_effects.specs.Values as values
 use Rattle.au_effects.specs.Worlds as effects
 use Rattle.au_effects.specs.Worlds.{Deed, nothing, bears}
 use Rattle.au_low.specs.declared.code.LowType.{LowType}
-use Rattle.au_low.specs.declared.endings.Ending.{Ending}
 use Rattle.au_low.specs.declared.endings.Ending.TheVariants.{Abort}
 use Rattle.au_low.specs.Machines.{Low, new_slots}
 use Rattle.au_low.specs.Runs as runs
 use Rattle.au_low.specs.Runs.{abort_kind, exec, low_run, run_from, first, entry_begins, first_machine, root_slots}
-use Rattle.au_lowered.specs.Agreeing.{Agrees, InStep, event_numbered, fault_numbered, ending_numbered}
+use Rattle.au_lowered.specs.Agreeing.{event_numbered, fault_numbered, ending_numbered}
 use Rattle.au_lowered.specs.Programs.{slots_of, texts_in, types_in, type_number, lowered, takes_root, bodies, types_named, function_code}
 use Rattle.au_lowered.specs.Programs as programs
-use Rattle.au_meaning.specs.Meanings.{call_at, enters, seen, first_world, root_born, begun, parameters_of, mean}
-use Rattle.au_meaning.specs.Ticks.{Out, Action, follows}
+use Rattle.au_meaning.specs.Meanings.{call_at, seen, first_world, root_born, begun, mean}
+use Rattle.au_meaning.specs.Ticks.{Action, follows}
 use Rattle.au_meaning.specs.Views.{Field, Function}
 use Rattle.au_meaning.specs.Worlds as source
 use Rattle.au_meaning.specs.Worlds.{Value, World, Outcome, exit, abort, running, stuck}
 use Rattle.au_reach.specs.Reached.{adds}
 use Rattle.au_reach.proofs.HasLemmas.{adds_more}
 use Rattle.au_simulation_steps.specs.Maps.{deed_to, fault_to}
-use Rattle.au_simulation_steps.specs.Sides.{Coding, Both, Common, spot, machine, told, all_meant}
+use Rattle.au_simulation_steps.specs.Sides.{Both, Common, spot, all_meant}
 use Rattle.au_simulation_steps.specs.Runs.{run_at}
 use Rattle.au_simulation.specs.Programs.{coding, EntryTakes, GoodProgram}
 use Rattle.au_simulation.specs.Laws.{Follows}

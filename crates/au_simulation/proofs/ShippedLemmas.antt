@@ -1,5 +1,5 @@
 -- Shipped calls that have to do with no reference, box, buffer or terminal.
-use Rattle.std.proofs.Common.{◌≡◌, ℕ, zero, suc, ◌+◌, ◌≤◌, Bool, true, false, List, [], ◌∷◌, ◌++◌, length, map, reverse, Option, Some, None, refl, sym, ap, ap₂, subst, ◌∙◌, arith, slice_get, pos}
+use Rattle.std.proofs.Common.{◌≡◌, ℕ, suc, ◌+◌, Bool, true, false, List, [], ◌∷◌, ◌++◌, length, reverse, Option, Some, None, refl, sym, ap, subst, ◌∙◌, arith, pos}
 use Rattle.std.specs.Prelude.{option_map}
 use Rattle.au_base.specs.declared.kinds.IntKind.TheVariants.{Index}
 use Rattle.au_closed_types.specs.Types.{ClosedType}
@@ -14,21 +14,18 @@ use Rattle.au_low.specs.declared.instructions.Instr.{Instr}
 use Rattle.au_low.specs.declared.instructions.Instr.TheVariants as instr
 use Rattle.au_low.specs.Instructions as low
 use Rattle.au_low.specs.Instructions.{act, text_bytes}
-use Rattle.au_low.specs.Machines as machines
 use Rattle.au_low.specs.Machines.{having, ordered_if}
 use Rattle.au_meaning.specs.Acts as acts
-use Rattle.au_meaning.specs.Ticks as ticks
 use Rattle.au_shipped.specs.declared.prims.ShippedCall.{ShippedCall}
 use Rattle.au_shipped.specs.declared.prims.ShippedCall.TheVariants as prim
 use Rattle.au_syntax.specs.Plain.{Bytes}
-use Rattle.au_simulation_steps.specs.Maps.{value_to, fault_to, world_to, answer_to}
-use Rattle.au_simulation_steps.specs.Scopes.{Entry, Agree}
-use Rattle.au_simulation_steps.specs.Sides.{Coding, Word, Both, Names, Slots, Common, Frame, Spot, machine, spot, world, meant, ran, all_meant, all_ran}
-use Rattle.au_simulation_steps.specs.Runs.{Reach, at, reached, Leads, Aim, aim_at, Sim}
+use Rattle.au_simulation_steps.specs.Maps.{value_to, world_to, answer_to}
+use Rattle.au_simulation_steps.specs.Sides.{Coding, Word, Both, Names, Slots, Common, Frame, machine, spot, world, meant, all_meant, all_ran}
+use Rattle.au_simulation_steps.specs.Runs.{at, reached}
 use Rattle.au_simulation_steps.proofs.CallLemmas.{popped_all, spends_to}
 use Rattle.au_simulation_steps.proofs.LeadLemmas.{leads_to, leads_tick, leads_spare}
 use Rattle.au_simulation_steps.proofs.MapLemmas.{number_in_to, truth_in_to, text_in_to}
-use Rattle.au_simulation_steps.proofs.SimLemmas.{sim_spare, sim_stuck, sim_given}
+use Rattle.au_simulation_steps.proofs.SimLemmas.{sim_spare, sim_given}
 use Rattle.au_simulation_steps.proofs.StepLemmas.{Is, Pushes, pushing, push_runs, abort_reach}
 
 -- whether a call waits for no input

@@ -1,38 +1,36 @@
 -- The rows of statements.
-use Rattle.std.proofs.Common.{◌≡◌, ℕ, zero, suc, ◌+◌, ◌*◌, ◌<◌, ◌≤◌, Bool, true, false, ◌&&◌, ◌||◌, List, [], ◌∷◌, ◌++◌, length, Option, Some, None, refl, sym, ap, ap₂, subst, subst₂, ◌∙◌, arith, set, slice_get, true≢false, le_trans, inl, inr, ◌⊎◌, unwrap_or}
+use Rattle.std.proofs.Common.{◌≡◌, ℕ, suc, ◌+◌, ◌<◌, ◌≤◌, Bool, false, List, [], ◌∷◌, length, Option, Some, None, refl, sym, ap, subst, subst₂, ◌∙◌, arith, set, inl, inr}
 use Rattle.std.specs.Prelude.{option_map}
 use Rattle.std.proofs.lemmas.List.{length-set}
 use Rattle.au_closed_types.specs.Types.{ClosedType}
 use Rattle.au_low.specs.declared.instructions.Instr.{Instr}
 use Rattle.au_low.specs.declared.instructions.Instr.TheVariants as instr
 use Rattle.au_low.specs.Instructions.{act}
-use Rattle.au_lowered.specs.Drafts.{Draft, plain, Written, ◌>>◌, nothing, does, given, unless, when, branch, loop}
-use Rattle.au_lowered.specs.Drafts as drafts
+use Rattle.au_lowered.specs.Drafts.{Draft, plain, Written, ◌>>◌, nothing, does, given}
 use Rattle.au_lowered.specs.Expressions as code
-use Rattle.au_lowered.specs.Standing.{Stands, PartsStandIn}
+use Rattle.au_lowered.specs.Standing.{PartsStandIn}
 use Rattle.au_lowered.proofs.StandLemmas.{parts_stand}
-use Rattle.au_meaning.specs.Acts.{holds, with_value, sets}
-use Rattle.au_meaning.specs.Expressions.{chosen}
-use Rattle.au_meaning.specs.Names.{Scope, Variable, variable_of, path_numbers}
+use Rattle.au_meaning.specs.Acts.{holds, sets}
+use Rattle.au_meaning.specs.Names.{Scope, variable_of, path_numbers}
 use Rattle.au_meaning.specs.Statements as meaning
 use Rattle.au_meaning.specs.Statements.{Flow, and_then, leaves, while_turns}
 use Rattle.au_meaning.specs.Ticks as ticks
 use Rattle.au_meaning.specs.Ticks.{Out, Action, gives, pure, stuck, over, tick, ticked, follows, needing, ◌>>=◌}
 use Rattle.au_meaning.specs.Views.{View}
-use Rattle.au_meaning.specs.Worlds.{Value, World}
+use Rattle.au_meaning.specs.Worlds.{Value}
 use Rattle.au_syntax.specs.Plain.{Bytes}
-use Rattle.au_simulation_steps.specs.Scopes.{Entry, variable, kept, numbers_in, slots_in, Same, Held, Distinct, Under, Scoped, Agree}
-use Rattle.au_simulation_steps.specs.Sides.{Coding, Word, Both, Names, Slots, Common, Frame, Spot, machine, spot, world, meant, ran}
-use Rattle.au_simulation_steps.specs.Runs.{Reach, at, reached, Leads, Aim, aim_at, Sim}
+use Rattle.au_simulation_steps.specs.Scopes.{Entry, variable, numbers_in, slots_in, Distinct, Scoped, Agree}
+use Rattle.au_simulation_steps.specs.Sides.{Coding, Both, Names, Slots, Common, Frame, spot, world, meant, ran}
+use Rattle.au_simulation_steps.specs.Runs.{at, reached, Sim}
 use Rattle.au_simulation_steps.proofs.FrameLemmas.{Found, Means, means, set_same, held_other, number_free, slot_free, under_more}
-use Rattle.au_simulation_steps.proofs.LeadLemmas.{leads_spare, leads_more, leads_to, leads_tick, leads_none}
-use Rattle.au_simulation_steps.proofs.SimLemmas.{sim_on, sim_spare, sim_given, sim_stuck, sim_bind, sim_bind_more, sim_map}
+use Rattle.au_simulation_steps.proofs.LeadLemmas.{leads_spare, leads_to, leads_tick, leads_none}
+use Rattle.au_simulation_steps.proofs.SimLemmas.{sim_spare, sim_given, sim_stuck, sim_bind}
 use Rattle.au_simulation_steps.proofs.StepLemmas.{meant_set, ticks_at}
-use Rattle.au_simulation_steps.proofs.MoveLemmas.{store_goes, set_runs, choose_by}
-use Rattle.au_simulation.specs.Premises.{numbered, EachIn, Placed}
+use Rattle.au_simulation_steps.proofs.MoveLemmas.{store_goes, set_runs}
+use Rattle.au_simulation.specs.Premises.{Placed}
 use Rattle.au_simulation.specs.Rows.{Gives}
-use Rattle.au_simulation.specs.Flows.{Way, falls, returns, way_meant, OnFalls, gone, lands, flow_aim, Behind, Declared, After, Does, Whole}
-use Rattle.au_simulation.proofs.FlowLemmas.{flow_holds, then_runs, leaves_run, agree_emptied, return_reach, jump_runs, whole_runs}
+use Rattle.au_simulation.specs.Flows.{falls, returns, flow_aim, Behind, After, Does, Whole}
+use Rattle.au_simulation.proofs.FlowLemmas.{return_reach}
 
 module _ (by : Coding) (f : Frame) (get : ℕ → Option Draft) (placed : Placed by f.function get) (depth wide
     room : ℕ) where

@@ -1,23 +1,23 @@
 -- Values that are taken apart: their fields go to slots, and those that are bound to names.
-use Rattle.std.proofs.Common.{◌≡◌, ◌≢◌, ℕ, zero, suc, ◌+◌, ◌<◌, ◌≤◌, Bool, true, false, cond, List, [], ◌∷◌, ◌++◌, length, map, Option, Some, None, refl, sym, ap, ap₂, subst, subst₂, ◌∙◌, arith, slice_get, set, nat_lt, lt-ltb, true≢false, append_assoc, if◌then◌else◌}
+use Rattle.std.proofs.Common.{◌≡◌, ◌≢◌, ℕ, zero, suc, ◌+◌, ◌<◌, ◌≤◌, Bool, true, false, List, [], ◌∷◌, ◌++◌, length, Option, Some, None, refl, sym, ap, subst, subst₂, ◌∙◌, arith, slice_get, set, nat_lt, lt-ltb, true≢false, append_assoc, if◌then◌else◌}
 use Rattle.std.specs.Prelude.{option_map}
 use Rattle.std.specs.Str.{bytes_eq}
-use Rattle.std.proofs.lemmas.List.{length-set, length-map}
-use Rattle.std.proofs.lemmas.Option.{slice_get-map, slice_get_within}
+use Rattle.std.proofs.lemmas.List.{length-set}
+use Rattle.std.proofs.lemmas.Option.{slice_get-map}
 use Rattle.std.proofs.lemmas.Slice.Eq.{bytes_eq-Decides}
 use Rattle.au_closed_types.specs.Types.{ClosedType}
 use Rattle.au_effects.specs.Parts.{along}
 use Rattle.au_low.specs.Machines as machines
 use Rattle.au_low.specs.Machines.{Low}
 use Rattle.au_lowered.specs.Slots.{with_fields, with_field}
-use Rattle.au_meaning.specs.Acts.{with_value, with_values, bound_values, field_value}
-use Rattle.au_meaning.specs.Names.{Scope, with_name, with_bound, bound_name, field_of, field_from}
+use Rattle.au_meaning.specs.Acts.{with_values, bound_values}
+use Rattle.au_meaning.specs.Names.{with_name, with_bound, bound_name, field_of, field_from}
 use Rattle.au_meaning.specs.Views.{Field}
-use Rattle.au_meaning.specs.Worlds.{Value, World}
+use Rattle.au_meaning.specs.Worlds.{Value}
 use Rattle.au_syntax.specs.Plain.{Bytes}
 use Rattle.au_syntax.specs.Types.{Bound}
-use Rattle.au_simulation_steps.specs.Scopes.{Entry, variable, kept, numbers_in, slots_in, Same, Held, NumberFree, SlotFree, Distinct, Under}
-use Rattle.au_simulation_steps.specs.Sides.{Coding, Both, Names, Slots, Common, Frame, machine, world, meant, ran, all_meant, all_ran}
+use Rattle.au_simulation_steps.specs.Scopes.{Entry, variable, numbers_in, slots_in, Same, Held, SlotFree, Distinct, Under}
+use Rattle.au_simulation_steps.specs.Sides.{Coding, Both, Names, Slots, Common, Frame, machine, world, meant, ran, all_meant}
 use Rattle.au_simulation_steps.proofs.FrameLemmas.{set_same, set_other, held_name, held_slot, number_free, slot_free, under_more}
 use Rattle.au_simulation_steps.proofs.StepLemmas.{meant_set, ran_set, slots_are}
 use Rattle.au_simulation.specs.Binds.{fields_bound}

@@ -1,34 +1,32 @@
 -- A value is taken apart, and names hold its fields.
-use Rattle.std.proofs.Common.{◌≡◌, ℕ, zero, suc, ◌+◌, ◌<◌, ◌≤◌, Bool, true, false, ◌==◌, List, [], ◌∷◌, ◌++◌, length, map, Option, Some, None, refl, sym, ap, ap₂, subst, subst₂, ◌∙◌, arith, slice_get, eqb-true, eq-eqb, if◌then◌else◌}
+use Rattle.std.proofs.Common.{◌≡◌, ℕ, ◌+◌, ◌<◌, ◌≤◌, Bool, true, false, ◌==◌, List, [], ◌∷◌, ◌++◌, length, Option, Some, None, refl, sym, ap, ◌∙◌, arith, eqb-true, if◌then◌else◌}
 use Rattle.std.specs.Prelude.{option_map}
 use Rattle.std.proofs.lemmas.List.{length-map}
 use Rattle.std.proofs.lemmas.Option.{slice_get-map}
 use Rattle.au_closed_types.specs.Types.{ClosedType}
 use Rattle.au_effects.specs.Parts.{along}
-use Rattle.au_effects.specs.Values as values
 use Rattle.au_effects.specs.Values.{Fields, made, listed}
 use Rattle.au_effects.specs.Worlds.{spends}
 use Rattle.au_low.specs.Instructions as low
 use Rattle.au_low.specs.Machines as machines
 use Rattle.au_low.specs.Machines.{Low, Machine, Next, having}
 use Rattle.au_lowered.specs.Slots.{known, with_fields}
-use Rattle.au_meaning.specs.Acts as acts
-use Rattle.au_meaning.specs.Acts.{in_store, with_values, bound_values}
+use Rattle.au_meaning.specs.Acts.{in_store, bound_values}
 use Rattle.au_meaning.specs.Names.{with_bound}
 use Rattle.au_meaning.specs.Views.{Field}
-use Rattle.au_meaning.specs.Worlds.{Value, World}
+use Rattle.au_meaning.specs.Worlds.{Value}
 use Rattle.au_syntax.specs.Plain.{Bytes}
 use Rattle.au_syntax.specs.Types.{Bound}
-use Rattle.au_simulation_steps.specs.Maps.{value_to, fields_to}
-use Rattle.au_simulation_steps.specs.Scopes.{Entry, numbers_in, slots_in, Held, Distinct, Under, Scoped, Agree}
-use Rattle.au_simulation_steps.specs.Sides.{Coding, Word, Both, Names, Slots, Common, Frame, machine, spot, world, meant, ran, all_meant, all_ran}
+use Rattle.au_simulation_steps.specs.Maps.{fields_to}
+use Rattle.au_simulation_steps.specs.Scopes.{Entry, numbers_in, slots_in, Scoped, Agree}
+use Rattle.au_simulation_steps.specs.Sides.{Coding, Word, Both, Names, Slots, Common, Frame, machine, world, ran, all_meant, all_ran}
 use Rattle.au_simulation_steps.proofs.CallLemmas.{spends_to}
 use Rattle.au_simulation_steps.proofs.FrameLemmas.{under_more}
 use Rattle.au_simulation_steps.proofs.MapLemmas.{listed_to}
 use Rattle.au_meaning.specs.Acts.{bound_counted}
 use Rattle.au_simulation.specs.Binds.{fields_bound}
 use Rattle.au_simulation.specs.Premises.{Once}
-use Rattle.au_simulation.proofs.TakeLemmas.{filled, filled_is, filled_length, filled_at, held_filled, named, named_is, free_first, Taken, take_all}
+use Rattle.au_simulation.proofs.TakeLemmas.{filled, filled_is, filled_length, filled_at, held_filled, named, free_first, take_all}
 
 module _ (by : Coding) (f : Frame) where
   -- a value with a birth is consumed

@@ -1,43 +1,32 @@
 -- A run of the code of a program does what the program means.
-use Rattle.std.proofs.Common.{◌≡◌, ◌≢◌, ℕ, zero, suc, ◌+◌, ◌-◌, ◌*◌, ◌<◌, ◌≤◌, Bool, true, false, ◌==◌, ◌&&◌, cond, if◌then◌else◌, List, [], ◌∷◌, ◌++◌, length, map, replicate, Option, Some, None, refl, sym, ap, ap₂, subst, ◌∙◌, arith, slice_get, nat_lt, lt-ltb, eqb-true, eq-eqb, codes, IsTrue, nat_le, le-leb}
+use Rattle.std.proofs.Common.{◌≡◌, ℕ, ◌+◌, ◌-◌, ◌*◌, ◌≤◌, Bool, true, false, ◌==◌, if◌then◌else◌, List, [], length, Option, Some, None, refl, sym, ap, subst, ◌∙◌, arith, eqb-true}
 use Rattle.std.proofs.Math.Nat.{le_refl}
 use Rattle.std.proofs.lemmas.List.{length-map}
-use Rattle.std.proofs.lemmas.Option.{slice_get_within}
-use Rattle.au_closed_types.specs.Types.{ClosedType}
-use Rattle.au_effects.specs.Answers as answer
-use Rattle.au_effects.specs.Parts.{along}
 use Rattle.au_effects.specs.Values as values
-use Rattle.au_effects.specs.Worlds as effects
-use Rattle.au_effects.specs.Worlds.{Deed, nothing, bears}
-use Rattle.au_low.specs.declared.code.Code.{Code}
 use Rattle.au_low.specs.declared.endings.Ending.{Ending}
 use Rattle.au_low.specs.declared.endings.Ending.TheVariants.{Exit, Abort, Steps, Stuck}
 use Rattle.au_low.specs.Instructions as low
 use Rattle.au_low.specs.Machines as machines
 use Rattle.au_low.specs.Machines.{Low, new_slots}
-use Rattle.au_low.specs.Runs as runs
-use Rattle.au_low.specs.Runs.{abort_kind, exec, low_run, run_from, first, entry_begins, first_machine, root_slots}
-use Rattle.au_derivations.specs.Returns.{block_returns}
-use Rattle.au_lowered.specs.Agreeing.{Agrees, InStep, event_numbered, fault_numbered, ending_numbered}
-use Rattle.au_lowered.specs.Programs.{slots_of, body_of, texts_in, types_in, text_number, type_number, lowered, takes_root}
+use Rattle.au_low.specs.Runs.{abort_kind, exec}
+use Rattle.au_lowered.specs.Programs.{slots_of}
 use Rattle.au_meaning.specs.Acts.{new_names, begins, ends_frame}
 use Rattle.au_meaning.specs.Laws.{is_over}
-use Rattle.au_meaning.specs.Meanings.{call_at, enters, leaves_frame, scope_of, exit_in, seen, first_world, root_born, begun, parameters_of, mean}
+use Rattle.au_meaning.specs.Meanings.{call_at, leaves_frame, scope_of, exit_in, seen}
 use Rattle.au_meaning.specs.Names.{names_in_block}
-use Rattle.au_meaning.specs.Statements as meaning
 use Rattle.au_meaning.specs.Statements.{Flow, run_block}
 use Rattle.au_meaning.specs.Ticks.{Out, Action, gives, aborts, cut, no_rule, follows, where_true, does, ◌>>◌, ◌>>=◌}
-use Rattle.au_meaning.specs.Views.{Field, Function}
+use Rattle.au_meaning.specs.Views.{Function}
 use Rattle.au_meaning.specs.Worlds as source
 use Rattle.au_meaning.specs.Worlds.{Value, World, Outcome, exit, abort, running, stuck}
-use Rattle.au_simulation_steps.specs.Maps.{deed_to, fault_to}
+use Rattle.au_simulation_steps.specs.Maps.{fault_to}
 use Rattle.au_simulation_steps.specs.Sides.{source as source_world}
-use Rattle.au_simulation_steps.specs.Sides.{Coding, Word, Both, Names, Slots, Common, Frame, Spot, spot, machine, world, told, meant, ran, all_meant, all_ran}
-use Rattle.au_simulation_steps.specs.Runs.{Reach, at, ended, lost, reached, run_at, Leads, CutOff, Sim}
+use Rattle.au_simulation_steps.specs.Sides.{Coding, Both, Names, Slots, Common, Frame, Spot, spot, machine, world, told, meant, ran, all_meant, all_ran}
+use Rattle.au_simulation_steps.specs.Runs.{ended, reached, run_at, Leads, Sim}
 use Rattle.au_simulation_steps.proofs.LeadLemmas.{leads_to}
 use Rattle.au_simulation_steps.proofs.StepLemmas.{deeds_both}
-use Rattle.au_simulation.specs.Flows.{Way, falls, returns, way_meant, gone, lands, flow_aim, Behind}
-use Rattle.au_simulation.specs.Programs.{HasFunction, HasProgram, coding, EntryTakes, GoodProgram}
+use Rattle.au_simulation.specs.Flows.{Way, falls, returns, way_meant, gone, lands, flow_aim}
+use Rattle.au_simulation.specs.Programs.{HasProgram}
 use Rattle.au_simulation.proofs.FunctionLemmas.{body_runs, good_at}
 
 -- the frame of an entry
@@ -62,8 +51,7 @@ module _ (by : Coding) where
   ending_of stuck = Stuck
 
   -- What a run from a place shows: what is seen of the meaning that had so many ticks, after some steps;
-  -- and the
-  -- same after more, where it has ended.
+  -- and the same after more, where it has ended.
   pub record Shows (s : Spot) (meant_outcome : Outcome) : Type 0 where
     pub steps : ℕ
     pub least : meant_outcome.made ≤ steps

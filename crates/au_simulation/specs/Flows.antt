@@ -1,5 +1,5 @@
 -- What it means that written code does what a statement or a block of the meaning does.
-use Rattle.std.specs.Prelude.{◌≡◌, ℕ, ◌+◌, ◌≤◌, Bool, true, false, List, [], ◌∷◌, ◌++◌, Option}
+use Rattle.std.specs.Prelude.{◌≡◌, ℕ, ◌≤◌, Bool, false, List, [], ◌∷◌, ◌++◌, Option}
 use Rattle.au_low.specs.Instructions as low
 use Rattle.au_lowered.specs.Drafts.{Draft, Written}
 use Rattle.au_lowered.specs.Standing.{Stands}
@@ -48,8 +48,7 @@ module _ (by : Coding) (f : Frame) (get : ℕ → Option Draft) (depth wide room
   Behind out scope names slots = (out ≡ false) × Agree by wide room scope names slots
 
   -- What holds behind a statement: these are the scopes of the meaning and of the code, with what was
-  -- declared,
-  -- and the next number and the next slot.
+  -- declared, and the next number and the next slot.
   pub record Declared (scope : List (Entry by)) (numbers slots : Scope) (number slot : ℕ) (names : Names)
       (held : Slots)
       : Type 0 where

@@ -1,5 +1,5 @@
 -- What is wanted of a view, of the code of a function, and of calls.
-use Rattle.std.specs.Prelude.{◌≡◌, ℕ, suc, ◌+◌, ◌<◌, Bool, true, false, List, [], ◌∷◌, ◌++◌, length, map, reverse, Option, Some, None, slice_get, nat_lt}
+use Rattle.std.specs.Prelude.{◌≡◌, ℕ, suc, ◌+◌, ◌<◌, Bool, true, false, List, [], ◌∷◌, ◌++◌, length, reverse, Option, Some, slice_get, nat_lt}
 use Rattle.std.specs.Str.{bytes_eq}
 use Rattle.au_closed_types.specs.Types.{ClosedType}
 use Rattle.au_effects.specs.Values as values
@@ -17,7 +17,7 @@ use Rattle.au_meaning.specs.Worlds.{Value}
 use Rattle.au_shipped.specs.declared.prims.ShippedCall.{ShippedCall}
 use Rattle.au_shipped.specs.declared.prims.ShippedCall.TheVariants as prim
 use Rattle.au_simulation_steps.specs.Sides.{Coding, Both, Names, Slots, Common, Frame, spot, world, meant, all_meant, all_ran}
-use Rattle.au_simulation_steps.specs.Runs.{Aim, aim_at, Sim}
+use Rattle.au_simulation_steps.specs.Runs.{aim_at, Sim}
 use Rattle.au_syntax.specs.Plain.{Bytes}
 
 -- ---- views
@@ -55,9 +55,8 @@ is_plain prim.SpanLength = true
 is_plain other = false
 
 module _ {T C : Type 0} (by : Coding) (see : View ℕ T C) where
-  -- A view that code can follow: constants have literals, parameters have names of their own, no shipped
-  -- call
-  -- takes a reference, and a type of the code is linear where the view says so.
+  -- A view that code can follow: constants have literals, parameters have names of their own, shipped calls
+  -- are plain, and a type of the code is linear where the view says so.
   pub record GoodView : Type 0 where
     pub constants : (note : T) (name : Bytes) (value : Value) → see.constant note name ≡ Some value
         → HasLiteral value
@@ -84,8 +83,7 @@ EachIn many (label ∷ rest) = (nat_lt label many ≡ true) × EachIn many rest
 
 module _ (by : Coding) (function : ℕ) (get : ℕ → Option Draft) where
   -- The code of a function has what is written at each place, its labels are places of the function, and
-  -- the
-  -- texts and types that it names are there.
+  -- the texts and types that it names are there.
   pub record Placed : Type 0 where
     pub has : (p : ℕ) (draft : Draft) → get p ≡ Some draft
         → slice_get (instructions (slice_get by.code.functions function)) p ≡ Some (numbered by draft)
@@ -102,18 +100,16 @@ module _ (by : Coding) (function : ℕ) (get : ℕ → Option Draft) where
 -- ---- calls
 
 -- A call of a function, from any frame, does what its meaning does: the names and the slots of the frame
--- stay as
--- they are, and the result is pushed.
+-- stay as they are, and the result is pushed.
 abbrev pub GoodCalls : Coding → (ℕ → List Value → Action Value) → ℕ → Type 0
 GoodCalls by invoke depth =
-    (f : Frame) (i : ℕ) (order : List ℕ) (vs args ops : List (Both by)) (p l : ℕ) (names : Names) (slots :
-    Slots)
-    (c : Common by) → l < depth
+    (f : Frame) (i : ℕ) (order : List ℕ) (vs args ops : List (Both by)) (p l : ℕ) (names : Names)
+    (slots : Slots) (c : Common by) → l < depth
     → slice_get (instructions (slice_get by.code.functions f.function)) p ≡ Some (instr.Call i order)
-    → length vs ≡ length order → length vs ≡ length args → ordered order (all_ran by vs)
-    ≡ Some (all_ran by args)
+    → length vs ≡ length order → length vs ≡ length args
+    → ordered order (all_ran by vs) ≡ Some (all_ran by args)
     → Sim by f
     (aim_at (meant by) (λ (v : Both by) (n : Names) (s : Slots). (n ≡ names) × (s ≡ slots))
     (λ (v : Both by) (s : Slots) (after : Common by). spot by f (p + 1) (v ∷ ops) s after))
-    6 (spot by f p (reverse vs ++ ops) slots c) (suc l) (invoke i (all_meant by args) (world by f names c)
-    l)
+    6 (spot by f p (reverse vs ++ ops) slots c) (suc l)
+    (invoke i (all_meant by args) (world by f names c) l)

@@ -1,5 +1,5 @@
 -- Code that has the functions of a program.
-use Rattle.std.specs.Prelude.{◌≡◌, ℕ, ◌+◌, true, List, [], ◌∷◌, length, Option, Some, slice_get}
+use Rattle.std.specs.Prelude.{◌≡◌, ℕ, true, List, [], ◌∷◌, length, Option, Some, slice_get}
 use Rattle.au_closed_types.specs.Types.{ClosedType}
 use Rattle.au_derivations.specs.Returns.{block_returns}
 use Rattle.au_lowered.specs.Laws.{BlockTidy}
@@ -8,7 +8,7 @@ use Rattle.au_low.specs.declared.code.Function as low
 use Rattle.au_low.specs.declared.code.LowType.{LowType}
 use Rattle.au_meaning.specs.Views.{Field, Function}
 use Rattle.au_simulation.specs.Premises.{GoodView, Placed}
-use Rattle.au_simulation.specs.Trees.{BindsOnce_in}
+use Rattle.au_simulation.specs.Trees.{BlockBindsOnce}
 use Rattle.au_simulation_steps.specs.Sides.{Coding}
 
 module _ {T C : Type 0} (by : Coding) where
@@ -20,7 +20,7 @@ module _ {T C : Type 0} (by : Coding) where
     pub slots : low_function.slots ≡ slots_of f
     pub placed : Placed by i (λ p. slice_get (body_of f) p)
     pub view : GoodView by f.view
-    pub whole : BindsOnce_in f.body
+    pub whole : BlockBindsOnce f.body
 
   -- it has all of a program
   abbrev pub HasProgram : (ℕ → Option (Function ℕ T C)) → Type 0
@@ -44,12 +44,11 @@ EntryTakes (p ∷ q ∷ more) = ⊥
 
 module _ {T C : Type 0} (told : ClosedType → LowType) (functions : List (Function ℕ T C)) where
   -- A function whose code does what it means: each path of its body returns, nothing follows a return, it
-  -- binds
-  -- each field once, and code can follow its view.
+  -- binds each field once, and code can follow its view.
   pub record GoodFunction (f : Function ℕ T C) : Type 0 where
     pub returns : block_returns f.body ≡ true
     pub tidy : BlockTidy f.body
-    pub whole : BindsOnce_in f.body
+    pub whole : BlockBindsOnce f.body
     pub view : GoodView (coding told functions) f.view
 
   pub record GoodProgram : Type 0 where

@@ -1,7 +1,6 @@
 -- What it means that written code does what an action of the meaning does: for expressions, for arguments,
--- and
--- for what is done with values that were pushed.
-use Rattle.std.specs.Prelude.{◌≡◌, ℕ, ◌≤◌, suc, List, [], ◌∷◌, ◌++◌, length, reverse, Option}
+-- and for what is done with values that were pushed.
+use Rattle.std.specs.Prelude.{◌≡◌, ℕ, ◌≤◌, suc, List, ◌∷◌, ◌++◌, length, reverse, Option}
 use Rattle.au_lowered.specs.Drafts.{Draft, Written}
 use Rattle.au_lowered.specs.Standing.{Stands}
 use Rattle.au_meaning.specs.Ticks.{Action}

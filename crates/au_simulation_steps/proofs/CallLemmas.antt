@@ -1,27 +1,20 @@
 -- Arguments that are popped, values with births, and shipped calls.
-use Rattle.std.proofs.Common.{◌≡◌, ◌≢◌, ℕ, zero, suc, ◌+◌, ◌-◌, ◌<◌, ◌≤◌, Bool, true, false, cond, if◌then◌else◌, List, [], ◌∷◌, ◌++◌, length, map, take, drop, reverse, Option, Some, None, refl, sym, ap, ap₂, subst, ◌∙◌, arith, slice_get, set, nat_lt, lt-ltb, append_assoc}
-use Rattle.std.specs.Prelude.{option_map}
+use Rattle.std.proofs.Common.{◌≡◌, ℕ, suc, ◌+◌, ◌<◌, Bool, true, false, if◌then◌else◌, List, [], ◌∷◌, ◌++◌, length, map, take, drop, reverse, Option, Some, None, refl, sym, ap, ap₂, subst, ◌∙◌, arith, slice_get, set, nat_lt, lt-ltb, append_assoc}
 use Rattle.std.proofs.lemmas.List.{length-append, length-map, length-reverse, map-append, map-set, reverse-append, reverse-reverse, take_at, drop_at}
-use Rattle.std.proofs.lemmas.Option.{slice_get-map}
-use Rattle.au_base.specs.declared.kinds.IntKind.{IntKind}
 use Rattle.au_closed_types.specs.Types.{ClosedType}
 use Rattle.au_low.specs.declared.code.LowType.{LowType}
-use Rattle.au_low.specs.declared.instructions.Instr.{Instr}
 use Rattle.au_low.specs.declared.instructions.Instr.TheVariants as instr
 use Rattle.au_low.specs.Instructions as low
 use Rattle.au_low.specs.Instructions.{act}
 use Rattle.au_low.specs.Machines as machines
 use Rattle.au_low.specs.Machines.{Low, Machine, Next, goes, pushes, having, popping_all, ordered}
-use Rattle.au_effects.specs.Parts.{along}
-use Rattle.au_effects.specs.Values as values
 use Rattle.au_effects.specs.Values.{Value, made, fields_of}
 use Rattle.au_effects.specs.Worlds as effects
 use Rattle.au_effects.specs.Worlds.{World, Held, Deed, nothing, tells, bears, ends, spends}
 use Rattle.au_meaning.specs.Acts as acts
-use Rattle.au_meaning.specs.Ticks.{Out, Action, gives, follows}
-use Rattle.au_simulation_steps.specs.Maps.{value_to, fields_to, held_to, deed_to, world_to}
-use Rattle.au_simulation_steps.specs.Sides.{Coding, Word, Both, Names, Slots, Common, Frame, Spot, machine, spot, world, meant, ran, all_meant, all_ran}
-use Rattle.au_simulation_steps.specs.Runs.{Reach, at, reached, Leads, Aim, Sim}
+use Rattle.au_meaning.specs.Ticks.{gives, follows}
+use Rattle.au_simulation_steps.specs.Maps.{held_to, deed_to, world_to}
+use Rattle.au_simulation_steps.specs.Sides.{Coding, Word, Both, Names, Slots, Common, Frame, machine, spot, world, meant, ran, all_meant, all_ran}
 use Rattle.au_simulation_steps.proofs.MapLemmas.{fields_of_to}
 use Rattle.au_simulation_steps.proofs.StepLemmas.{Is, Pushes, push_runs}
 

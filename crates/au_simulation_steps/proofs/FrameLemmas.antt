@@ -1,19 +1,18 @@
 -- What names and slots hold, and how it changes.
-use Rattle.std.proofs.Common.{◌≡◌, ◌≢◌, ◌⊎◌, inl, inr, ⊎_elim, ℕ, zero, suc, ◌+◌, ◌-◌, ◌<◌, ◌≤◌, Bool, true, false, cond, List, [], ◌∷◌, ◌++◌, length, Option, Some, None, refl, sym, ap, subst, ◌∙◌, arith, slice_get, set, le_trans}
+use Rattle.std.proofs.Common.{◌≡◌, ◌≢◌, ◌⊎◌, inl, inr, ℕ, zero, suc, ◌<◌, ◌≤◌, Bool, true, false, cond, List, [], ◌∷◌, ◌++◌, length, Option, Some, None, refl, sym, ap, ◌∙◌, arith, slice_get, set, le_trans}
 use Rattle.std.specs.Prelude.{option_map}
 use Rattle.std.specs.Str.{bytes_eq}
-use Rattle.std.specs.List.{find}
 use Rattle.std.proofs.lemmas.Option.{slice_get_within}
-use Rattle.std.proofs.lemmas.List.{length-append, length-set, set_at}
+use Rattle.std.proofs.lemmas.List.{set_at}
 use Rattle.au_closed_types.specs.Types.{ClosedType}
 use Rattle.au_effects.specs.Values as values
 use Rattle.au_effects.specs.Worlds as effects
 use Rattle.au_effects.specs.Parts.{along}
 use Rattle.au_effects.specs.Places.{name_at, name_set, with_name}
-use Rattle.au_meaning.specs.Names.{Variable, variable_of}
+use Rattle.au_meaning.specs.Names.{variable_of}
 use Rattle.au_syntax.specs.Plain.{Bytes}
 use Rattle.au_simulation_steps.specs.Sides.{Coding, Names, Slots, Both, meant, ran}
-use Rattle.au_simulation_steps.specs.Scopes.{Entry, variable, kept, numbers_in, slots_in, Same, Held, NumberFree, SlotFree, Distinct, Under, Scoped, Agree}
+use Rattle.au_simulation_steps.specs.Scopes.{Entry, variable, kept, numbers_in, slots_in, Same, Held, NumberFree, SlotFree, Distinct, Under}
 
 -- ---- lists
 

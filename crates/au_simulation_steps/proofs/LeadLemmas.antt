@@ -1,10 +1,10 @@
 -- Runs one after another.
-use Rattle.std.proofs.Common.{◌≡◌, ℕ, zero, suc, ◌+◌, ◌*◌, ◌≤◌, List, ◌++◌, Option, Some, None, refl, sym, ap, subst, ◌∙◌, arith, slice_get}
+use Rattle.std.proofs.Common.{◌≡◌, ℕ, suc, ◌+◌, ◌≤◌, Some, refl, ap, subst, ◌∙◌, arith}
 use Rattle.au_low.specs.declared.code.Code.{Code}
 use Rattle.au_low.specs.declared.endings.Ending.TheVariants.{Steps}
 use Rattle.au_low.specs.declared.instructions.Instr.{Instr}
 use Rattle.au_low.specs.Instructions.{act}
-use Rattle.au_low.specs.Machines.{Machine, Next, goes, writes, waits, exits, aborts, stuck}
+use Rattle.au_low.specs.Machines.{Next, goes, writes, waits, exits, aborts, stuck}
 use Rattle.au_low.specs.Runs.{Outcome, exec, next, next_if, fetched, on_next}
 use Rattle.au_meaning.specs.Worlds.{World}
 use Rattle.au_simulation_steps.specs.Sides.{Coding, Spot, told}

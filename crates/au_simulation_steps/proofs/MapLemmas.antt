@@ -1,5 +1,5 @@
 -- What is done with values commutes with a change of their texts.
-use Rattle.std.proofs.Common.{◌≡◌, ℕ, zero, suc, Bool, true, false, not, ◌++◌, List, [], ◌∷◌, Option, Some, None, refl, ap, ap₂, sym, ◌∙◌, map, if◌then◌else◌, slice_get, set, ℤ, length}
+use Rattle.std.proofs.Common.{◌≡◌, ℕ, zero, suc, Bool, List, [], ◌∷◌, Option, Some, None, refl, ap, ap₂, ◌∙◌, map, ℤ}
 use Rattle.std.specs.Prelude.{option_map}
 use Rattle.au_base.specs.declared.kinds.IntKind.{IntKind}
 use Rattle.au_ints.specs.declared.operations.IntOp.{IntOp}

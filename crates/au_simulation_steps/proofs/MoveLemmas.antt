@@ -1,8 +1,6 @@
 -- One instruction for each action of a statement, and jumps.
-use Rattle.std.proofs.Common.{◌≡◌, ◌≢◌, ℕ, zero, suc, ◌+◌, ◌-◌, ◌<◌, ◌≤◌, Bool, true, false, cond, if◌then◌else◌, List, [], ◌∷◌, ◌++◌, length, map, take, drop, Option, Some, None, refl, sym, ap, ap₂, subst, ◌∙◌, arith, slice_get, set, nat_lt, lt-ltb}
+use Rattle.std.proofs.Common.{◌≡◌, ℕ, suc, ◌+◌, ◌-◌, ◌<◌, Bool, true, false, if◌then◌else◌, List, [], ◌∷◌, ◌++◌, length, take, drop, Option, Some, None, refl, sym, ap, ap₂, subst, ◌∙◌, arith, slice_get, set, nat_lt, lt-ltb}
 use Rattle.std.specs.Prelude.{option_map}
-use Rattle.std.proofs.lemmas.List.{length-append, length-set, length-map}
-use Rattle.au_low.specs.declared.instructions.Instr.{Instr}
 use Rattle.au_low.specs.declared.instructions.Instr.TheVariants as instr
 use Rattle.au_low.specs.Instructions as low
 use Rattle.au_low.specs.Instructions.{act, instructions, jumps, jumps_unless}
@@ -10,23 +8,21 @@ use Rattle.au_low.specs.Machines as machines
 use Rattle.au_low.specs.Machines.{Machine, Next, goes, pushes, having}
 use Rattle.au_effects.specs.Numbers.{truth_in}
 use Rattle.au_effects.specs.Parts.{along, part, with_part}
-use Rattle.au_effects.specs.Places.{name_at, name_set, exchanged, set_over, base_set, base_at}
+use Rattle.au_effects.specs.Places.{name_at, name_set, exchanged, set_over, base_set}
 use Rattle.au_effects.specs.Values as values
 use Rattle.au_effects.specs.Worlds as effects
-use Rattle.au_meaning.specs.Acts as acts
-use Rattle.au_meaning.specs.Acts.{holds, sets, stored, place_of, frame_in}
+use Rattle.au_meaning.specs.Acts.{sets, stored, place_of, frame_in}
 use Rattle.au_meaning.specs.Expressions.{chosen}
-use Rattle.au_meaning.specs.Ticks.{Out, Action, gives, aborts, cut, no_rule, pure, stuck, needing, by_truth, found_in, takes, follows, ◌>>◌}
-use Rattle.au_meaning.specs.Worlds.{Value, World}
+use Rattle.au_meaning.specs.Ticks.{Action, needing, by_truth, found_in, follows, ◌>>◌}
 use Rattle.au_simulation_steps.specs.Maps.{value_to}
-use Rattle.au_simulation_steps.specs.Sides.{Coding, Word, Both, Names, Slots, Common, Frame, Spot, machine, spot, world, meant, ran}
+use Rattle.au_simulation_steps.specs.Sides.{Coding, Word, Both, Names, Slots, Common, Frame, machine, spot, world, meant, ran}
 use Rattle.au_simulation_steps.specs.Scopes.{Same}
-use Rattle.au_simulation_steps.specs.Runs.{Reach, at, reached, Leads, Aim, Sim}
-use Rattle.au_simulation_steps.proofs.FrameLemmas.{last_name, last_set}
+use Rattle.au_simulation_steps.specs.Runs.{at, reached, Leads, Aim, Sim}
+use Rattle.au_simulation_steps.proofs.FrameLemmas.{last_set}
 use Rattle.au_simulation_steps.proofs.LeadLemmas.{leads_tick, leads_to}
 use Rattle.au_simulation_steps.proofs.MapLemmas.{part_to, with_part_to, truth_in_to}
-use Rattle.au_simulation_steps.proofs.SimLemmas.{sim_on, sim_given}
-use Rattle.au_simulation_steps.proofs.StepLemmas.{Is, frame_is, meant_at, ran_at, meant_set, ran_set, slots_are}
+use Rattle.au_simulation_steps.proofs.SimLemmas.{sim_on}
+use Rattle.au_simulation_steps.proofs.StepLemmas.{Is, frame_is, meant_at, ran_at, ran_set, slots_are}
 
 -- ---- places
 

@@ -1,15 +1,14 @@
 -- A run does what joined actions do, where it does what each of them does.
-use Rattle.std.proofs.Common.{◌≡◌, ℕ, zero, suc, ◌+◌, ◌*◌, ◌≤◌, Bool, true, false, List, ◌++◌, Option, Some, None, refl, sym, ap, subst, ◌∙◌, arith}
+use Rattle.std.proofs.Common.{◌≡◌, ℕ, zero, suc, ◌+◌, ◌*◌, ◌≤◌, Bool, true, false, Option, Some, None, refl, sym, subst, ◌∙◌, arith}
 use Rattle.std.proofs.Math.Nat.{le_refl}
-use Rattle.au_low.specs.declared.endings.Ending.TheVariants.{Steps}
 use Rattle.au_low.specs.declared.instructions.Instr.{Instr}
 use Rattle.au_low.specs.Instructions.{act}
-use Rattle.au_low.specs.Runs.{Outcome, exec, fetched}
-use Rattle.au_meaning.specs.Ticks.{Out, Action, gives, aborts, cut, no_rule, pure, follows, ticked, needing, where_true}
+use Rattle.au_low.specs.Runs.{exec, fetched}
+use Rattle.au_meaning.specs.Ticks.{Out, Action, gives, aborts, cut, no_rule, follows, ticked, needing, where_true}
 use Rattle.au_meaning.specs.Worlds.{World}
-use Rattle.au_simulation_steps.specs.Sides.{Coding, Names, Slots, Common, Frame, Spot, spot, world, told}
-use Rattle.au_simulation_steps.specs.Runs.{Reach, at, ended, lost, reached, run_at, Leads, CutOff, Aim, aim_at, Given, Follows, Sim, aborted}
-use Rattle.au_simulation_steps.proofs.LeadLemmas.{leads_none, leads_on, leads_spare, leads_tick, leads_more, leads_to, cut_on}
+use Rattle.au_simulation_steps.specs.Sides.{Coding, Names, Slots, Common, Frame, Spot, world, told}
+use Rattle.au_simulation_steps.specs.Runs.{at, reached, Leads, CutOff, Aim, aim_at, Given, Sim}
+use Rattle.au_simulation_steps.proofs.LeadLemmas.{leads_on, leads_spare, leads_more, leads_to, cut_on}
 
 module _ (by : Coding) (f : Frame) where
   -- what a run leads to does what an action does

@@ -1,39 +1,31 @@
 -- One instruction for each action that makes a tick: constants, variables and operations on values.
-use Rattle.std.proofs.Common.{◌≡◌, ◌≢◌, ◌⊎◌, inl, inr, ℕ, zero, suc, ◌+◌, ◌-◌, ◌<◌, ◌≤◌, Bool, true, false, not, cond, if◌then◌else◌, List, [], ◌∷◌, ◌++◌, length, map, reverse, take, drop, Option, Some, None, refl, sym, ap, ap₂, subst, ◌∙◌, arith, slice_get, set, nat_lt, ℤ}
+use Rattle.std.proofs.Common.{◌≡◌, ℕ, suc, ◌+◌, ◌-◌, List, [], ◌∷◌, ◌++◌, length, map, Option, Some, None, refl, sym, ap, ap₂, subst, ◌∙◌, arith, slice_get, set}
 use Rattle.std.specs.Prelude.{option_map}
-use Rattle.std.proofs.lemmas.List.{length-append, length-set, length-map}
-use Rattle.au_base.specs.declared.kinds.IntKind.{IntKind}
-use Rattle.au_ints.specs.Ranges.{is_of_kind}
-use Rattle.au_low.specs.declared.code.Code.{Code}
-use Rattle.au_low.specs.declared.endings.Ending.TheVariants.{Abort}
+use Rattle.std.proofs.lemmas.List.{length-append}
 use Rattle.au_low.specs.declared.instructions.Instr.{Instr}
 use Rattle.au_low.specs.declared.instructions.Instr.TheVariants as instr
 use Rattle.au_low.specs.Instructions as low
 use Rattle.au_low.specs.Instructions.{act, instructions, jumps, jumps_unless}
 use Rattle.au_low.specs.Machines as machines
 use Rattle.au_low.specs.Machines.{Machine, Next, goes, pushes, having}
-use Rattle.au_low.specs.Runs.{abort_kind, fetched}
 use Rattle.au_effects.specs.Answers as answer
 use Rattle.au_effects.specs.Answers.{Fault, Result}
-use Rattle.au_effects.specs.Parts.{along, part, with_part}
-use Rattle.au_effects.specs.Places.{at as held_at, name_at, exchanged, set_over}
-use Rattle.au_effects.specs.Values as values
+use Rattle.au_effects.specs.Parts.{along, part}
+use Rattle.au_effects.specs.Places.{at as held_at, name_at}
 use Rattle.au_effects.specs.Worlds as effects
 use Rattle.au_effects.specs.Worlds.{Deed}
-use Rattle.au_meaning.specs.Ticks as ticks
-use Rattle.au_meaning.specs.Ticks.{Out, Action, gives, aborts, cut, no_rule, pure, stuck, follows, ticked, needing, where_true, comes}
+use Rattle.au_meaning.specs.Ticks.{Out, Action, gives, pure, follows, ticked, needing, comes}
 use Rattle.au_meaning.specs.Acts as acts
 use Rattle.au_meaning.specs.Acts.{looks, moves, holds, sets, place_of, with_value, frame_in}
-use Rattle.au_meaning.specs.Worlds.{Value, World}
-use Rattle.au_closed_types.specs.Types.{ClosedType}
-use Rattle.au_simulation_steps.specs.Maps.{value_to, deed_to, fault_to, result_to, world_to}
-use Rattle.au_simulation_steps.specs.Scopes.{Entry, Same, Held, Agree, Distinct, NumberFree, SlotFree}
-use Rattle.au_simulation_steps.specs.Sides.{Coding, Word, Both, Names, Slots, Common, Frame, Spot, machine, spot, world, told, meant, ran}
-use Rattle.au_simulation_steps.specs.Runs.{Reach, at, ended, lost, reached, run_at, Leads, CutOff, Aim, aim_at, Given, Sim, aborted}
+use Rattle.au_meaning.specs.Worlds.{Value}
+use Rattle.au_simulation_steps.specs.Maps.{value_to, deed_to, fault_to, result_to}
+use Rattle.au_simulation_steps.specs.Scopes.{Same}
+use Rattle.au_simulation_steps.specs.Sides.{Coding, Word, Both, Names, Slots, Common, Frame, Spot, machine, spot, world, meant, ran}
+use Rattle.au_simulation_steps.specs.Runs.{at, reached, Aim, aim_at, Sim, aborted}
 use Rattle.au_simulation_steps.proofs.FrameLemmas.{last_name, last_set, get_at}
-use Rattle.au_simulation_steps.proofs.LeadLemmas.{leads_none, leads_on, leads_spare, leads_tick, leads_more, leads_to, cut_on}
-use Rattle.au_simulation_steps.proofs.MapLemmas.{part_to, with_part_to, computed_to, compared_to, negated_to}
-use Rattle.au_simulation_steps.proofs.SimLemmas.{sim_on, sim_spare, sim_given, sim_tick, sim_bind, sim_more}
+use Rattle.au_simulation_steps.proofs.LeadLemmas.{leads_spare, leads_tick, leads_to}
+use Rattle.au_simulation_steps.proofs.MapLemmas.{part_to}
+use Rattle.au_simulation_steps.proofs.SimLemmas.{sim_given, sim_tick}
 
 -- an event of both sides, and why a program aborts on both
 deed_both : {B D : Type 0} (g : B → D) (deed : Deed B) → deed_to g (deed_to (λ (t : B). t) deed)

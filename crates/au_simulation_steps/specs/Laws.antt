@@ -1,11 +1,11 @@
--- What holds of values whose texts are changed.
-use Rattle.std.specs.Prelude.{◌≡◌, ℕ}
-use Rattle.au_base.specs.declared.kinds.IntKind.{IntKind}
-use Rattle.au_effects.specs.Numbers.{computed}
-use Rattle.au_effects.specs.Values.{Value}
-use Rattle.au_ints.specs.declared.operations.IntOp.{IntOp}
-use Rattle.au_simulation_steps.specs.Maps.{value_to, result_to}
+-- What holds of runs that lead somewhere.
+use Rattle.std.specs.Prelude.{ℕ, ◌+◌}
+use Rattle.au_low.specs.declared.code.Code.{Code}
+use Rattle.au_simulation_steps.specs.Runs.{Reach, at, Leads}
+use Rattle.au_simulation_steps.specs.Sides.{Spot}
 
-abbrev pub ComputingCommutes : Type 0
-ComputingCommutes = (f : ℕ → ℕ) (op : IntOp) (kind : IntKind) (a b : Value ℕ)
-    → computed op kind (value_to f a) (value_to f b) ≡ result_to f (computed op kind a b)
+-- A run that leads to a place, and one that leads on from there, are one run: it has the steps to spare of
+-- both.
+abbrev pub RunsJoin : Type 0
+RunsJoin = (code : Code) (s t : Spot) (r : Reach) (n m l spare more : ℕ) → Leads code s n (at t) m spare
+    → Leads code t m r l more → Leads code s n r l (spare + more)

@@ -1,6 +1,5 @@
 -- A run of the machine that leads from one place to another while the meaning makes ticks, and what it
--- means
--- that the machine does what an action of the meaning does.
+-- means that the machine does what an action of the meaning does.
 use Rattle.std.specs.Prelude.{◌≡◌, ℕ, ◌+◌, ◌*◌, ◌≤◌, List, ◌++◌}
 use Rattle.au_effects.specs.Worlds.{Deed}
 use Rattle.au_low.specs.declared.code.Code.{Code}
@@ -41,8 +40,7 @@ Seen code (ended ending output left deeds) steps made outcome =
 Seen code lost steps made outcome = Unit {0}
 
 -- From a place a run leads somewhere, while of n ticks all but l are made: it makes as many steps or more,
--- and
--- eight times as many or fewer, with some to spare.
+-- and eight times as many or fewer, with some to spare.
 pub record Leads (code : Code) (s : Spot) (n : ℕ) (r : Reach) (l spare : ℕ) : Type 0 where
   pub steps : ℕ
   pub least : n ≤ l + steps
@@ -67,8 +65,7 @@ abbrev pub aborted : Coding → Fault → World → Reach
 aborted by fault w = ended (Abort (abort_kind (fault_to by.text fault))) w.output w.left (told by w)
 
 -- What a run is to lead to where an action gives something that is the picture of a B: what the picture is,
--- what
--- names and slots hold then, and where the machine is.
+-- what names and slots hold then, and where the machine is.
 pub record Aim (by : Coding) (A B : Type 0) : Type 1 where
   pub view : B → A
   pub holds : B → Names → Slots → Type 0
@@ -93,8 +90,7 @@ module _ (by : Coding) (f : Frame) {A B : Type 0} (aim : Aim by A B) where
     pub leads : Leads by.code s n (aim.target b slots c) l spare
 
   -- A run does what an action does that had n ticks: by what the action came to. Nothing is said where no
-  -- rule
-  -- applies.
+  -- rule applies.
   abbrev pub Follows : ℕ → Spot → ℕ → Out A → Type 0
   Follows spare s n (action.gives a w l) = Given spare s n a w l
   Follows spare s n (action.aborts fault w l) = Leads by.code s n (aborted by fault w) l 0

@@ -49,8 +49,7 @@ module _ (by : Coding) where
   all_ran values = map ran values
 
   -- What both have besides frames: births, borrows and deeds; and the open borrows, the output, and the
-  -- bytes
-  -- of the input that are left.
+  -- bytes of the input that are left.
   pub record Common : Type 0 where
     pub store : effects.World Word ClosedType
     pub lent : List Borrow

@@ -1,8 +1,8 @@
 //! Laws of the definitions, each as the contract of a call that does nothing.
 
-ghost use Rattle.au_simulation_steps.specs.Laws.{ComputingCommutes};
+ghost use Rattle.au_simulation_steps.specs.Laws.{RunsJoin};
 
-/// What is computed of two values stays the same where their texts are changed.
-pub fn computing_commutes()
-    ensures { ComputingCommutes }
+/// A run that leads to a place, and one that leads on from there, are one run.
+pub fn runs_join()
+    ensures { RunsJoin }
 {}

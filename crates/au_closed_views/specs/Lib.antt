@@ -1,0 +1,4 @@
+pub mod Shipped
+pub mod Surroundings
+pub mod Programs
+pub mod Views

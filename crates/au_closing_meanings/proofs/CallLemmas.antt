@@ -1,0 +1,155 @@
+-- Calls do the same where notes are closed, and so do bodies.
+use Rattle.std.proofs.Common.{◌≡◌, ℕ, ◌+◌, ◌==◌, Bool, List, length, Option, Some, None, refl, sym, ap, ◌∙◌}
+use Rattle.std.specs.Prelude.{[], ◌∷◌, map, slice_get}
+use Rattle.std.specs.Option.{option_map}
+use Rattle.std.proofs.lemmas.Option.{slice_get_past}
+use Rattle.au_syntax.specs.Plain.{Bytes}
+use Rattle.au_syntax.specs.Statements.{Statements}
+use Rattle.au_types.specs.declared.parameters.Parameter.{Parameter}
+use Rattle.au_types.specs.declared.types.DeclAt.{DeclAt}
+use Rattle.au_modules.specs.Programs.{ModuleParts}
+use Rattle.au_names.specs.HeadsOf.{heads_of}
+use Rattle.au_closed_types.specs.Types.{ClosedType}
+use Rattle.au_typing.specs.Notes.{Note}
+use Rattle.au_derivations.specs.Trees.{NotedParts}
+use Rattle.au_given_types.specs.Given.{Given, closed_under}
+use Rattle.au_closed_trees.specs.Changes.{Change}
+use Rattle.au_closed_trees.specs.ClosedNotes.{Callee, ClosedNote, constructor, instance, shipped}
+use Rattle.au_closed_trees.specs.Renoted.{block_renoted}
+use Rattle.au_closing.specs.Bodies.{constant_seen, value_of}
+use Rattle.au_closing.specs.Closes.{ClosedFunction, change_of, mention_closed, note_closed}
+use Rattle.au_closing.specs.Instances.{Instance, instance_of, numbered, place_in, same_instance}
+use Rattle.au_closing.specs.Leading.{call_leads, module_name}
+use Rattle.au_closing.proofs.ClosesLemmas.{instances_told}
+use Rattle.au_reach.specs.Reached.{Has}
+use Rattle.au_reach.proofs.HasLemmas.{has_it}
+use Rattle.au_meaning.specs.Acts.{begins, new_names}
+use Rattle.au_meaning.specs.Expressions.{calls, acts, copies, mentions}
+use Rattle.au_meaning.specs.Meanings.{enters, leaves_frame}
+use Rattle.au_meaning.specs.Names.{Variable, with_parameters}
+use Rattle.au_meaning.specs.Ticks.{Action, pure, stuck, needing, where_true, does, ◌>>=◌, ◌>>◌}
+use Rattle.au_meaning.specs.Views as views
+use Rattle.au_meaning.specs.Views.{Act, Field, View, invokes, makes, ships}
+use Rattle.au_meaning.specs.Worlds.{Value}
+use Rattle.au_closed_views.specs.Surroundings.{call_noted, constant_noted, field_names, is_free, view_in, with_parameters as with_their_names}
+use Rattle.au_renoted_meanings.specs.Agreement.{AgreeOnTypes, AgreeOnMention, AgreeOnCall, EachOfBlock}
+use Rattle.au_renoted_meanings.proofs.SameStatements.{names_same_block, one_meaning}
+use Rattle.au_closing_meanings.specs.Closed.{names_at, surroundings_of}
+use Rattle.au_closing_meanings.specs.Generic.{Mention, constant_of, fields_in, free_over, lead_does, mentions_named, names_of_instance, view_under}
+use Rattle.au_closing_meanings.proofs.EachLemmas.{Within}
+
+-- ---- bodies
+
+-- a function does the same with other notes
+pub enters_same : {I J T C U D : Type 0} (change : Change Bytes T C U D) (one : View I T C) (two : View J U D)
+    (agree : AgreeOnTypes change one two) (invoke : I → List Value → Action Value)
+    (other : J → List Value → Action Value) (depth first : ℕ) (parameters : List Field)
+    (body : Statements Bytes T C)
+    → EachOfBlock (AgreeOnMention change one two) (AgreeOnCall change one two invoke other) body
+    → enters invoke depth (Some (record { view = one; parameters = parameters; first = first; body = body }))
+    ≡ enters other depth
+    (Some (record { view = two; parameters = parameters; first = first; body = block_renoted change body }))
+enters_same change one two agree invoke other depth first parameters body ok =
+    λ i args. where_true (length args == length parameters) (do
+      does (begins (new_names first args (names_same_block change body i)))
+      flow ← one_meaning change one two invoke other depth (first + length args)
+          (with_parameters first parameters []) body agree ok i
+      leaves_frame flow)
+
+-- ---- calls
+
+-- a call of what has parameters does the same where what is done with arguments is the same
+calls_known : {I J T C U D : Type 0} (one : View I T C) (two : View J U D) (invoke : I → List Value → Action Value)
+    (other : J → List Value → Action Value) (act : Act I) (act2 : Act J)
+    → acts one invoke act ≡ acts two other act2
+    → (names : Option (List Bytes)) (order : List Bytes → Option (List Value))
+    → calls one invoke (option_map (λ (all : List Bytes). record { parameters = all; act = act }) names) order
+    ≡ calls two other (option_map (λ (all : List Bytes). record { parameters = all; act = act2 }) names) order
+calls_known one two invoke other act act2 same None order = refl
+calls_known one two invoke other act act2 same (Some names) order = λ i. needing (order names) (same i)
+
+module _ (program : List ModuleParts) (noted : List NotedParts) (all : List Instance)
+    (functions : List ClosedFunction) (place : ℕ) (params : List Parameter) (given : Given) where
+  abbrev one : View Instance Mention (Unit {0})
+  one = view_under program noted place params given
+
+  abbrev two : View ℕ ClosedNote (Callee ℕ)
+  two = view_in (surroundings_of program functions (module_name program place))
+
+  -- what becomes of notes of mentions
+  abbrev pub closer : Change Bytes Mention (Unit {0}) ClosedNote (Callee ℕ)
+  closer = record {
+    note = λ m. note_closed given m.note;
+    mention = λ m name.
+        mention_closed (heads_of program) (value_of program noted) params given m.note
+        (constant_seen program place name);
+    callee = λ m c name. numbered all (call_leads program place given m.note name);
+  }
+
+  type_mentioned : (note : Note) (constant : Option DeclAt)
+      → Some (closed_under given note.of)
+      ≡ Some (mention_closed (heads_of program) (value_of program noted) params given note constant).of
+  type_mentioned note None = refl
+  type_mentioned note (Some at) = refl
+
+  pub types_agree : AgreeOnTypes closer one two
+  types_agree = record {
+    notes = λ m. refl;
+    mentions = λ m name. type_mentioned m.note (constant_seen program place name);
+    fields = refl;
+    tags = refl;
+  }
+
+  -- ---- mentions
+
+  free_same : (note : Note) (constant : Option DeclAt)
+      → free_over program noted params note constant
+      ≡ is_free (mention_closed (heads_of program) (value_of program noted) params given note constant)
+  free_same note None = refl
+  free_same note (Some at) = refl
+
+  value_same : (note : Note) (constant : Option DeclAt)
+      → constant_of program noted constant
+      ≡ constant_noted (mention_closed (heads_of program) (value_of program noted) params given note constant)
+  value_same note None = refl
+  value_same note (Some at) = refl
+
+  -- a name that is mentioned does the same
+  pub mention_agrees : (note : Note) (name : Bytes)
+      → AgreeOnMention closer one two (mentions_named.mention note name) name
+  mention_agrees note name None =
+      λ i. needing (value_same note (constant_seen program place name) i) pure
+  mention_agrees note name (Some x) =
+      λ i. copies (free_same note (constant_seen program place name) i) x.number
+
+  -- ---- calls
+
+  module _ (invoke : Instance → List Value → Action Value) (other : ℕ → List Value → Action Value)
+      (same : (x : Instance) → Has same_instance all x → invoke x ≡ other (place_in x all))
+      (known : (x : Instance) → Has same_instance all x
+      → names_of_instance program noted x ≡ names_at functions (place_in x all))
+      (none : names_at functions (length all) ≡ None) where
+    lead_same : (note : Note) (lead : Callee (Option Instance)) → Within same_instance all (instance_of lead)
+        → (order : List Bytes → Option (List Value))
+        → calls one invoke (lead_does program noted place (closed_under given note.of) lead) order
+        ≡ calls two other
+        (call_noted (surroundings_of program functions (module_name program place)) (note_closed given note)
+        (numbered all lead)) order
+    lead_same note (instance None) w order =
+        ap (λ names. calls two other (with_their_names names (invokes (length all))) order) (sym none)
+    lead_same note (instance (Some x)) w order =
+        let here = w x (has_it same_instance instances_told [] [] x) in
+        calls_known one two invoke other (invokes x) (invokes (place_in x all)) (same x here)
+        (names_of_instance program noted x) order
+        ∙ ap (λ names. calls two other (with_their_names names (invokes (place_in x all))) order) (known x here)
+    lead_same note (constructor made tag) w order =
+        let home = module_name program place in
+        calls_known one two invoke other (makes made tag home) (makes made tag home) refl
+        (option_map field_names (fields_in program made tag)) order
+    lead_same note (shipped call) w order = refl
+
+    -- a call does the same, where what it leads to is listed
+    pub call_agrees : (note : Note) (c : Unit {0}) (name : Bytes)
+        → Within same_instance all (instance_of (call_leads program place given note name))
+        → AgreeOnCall closer one two invoke other (mentions_named.note note) (mentions_named.callee note c name) name
+    call_agrees note c name w = lead_same note (call_leads program place given note name) w

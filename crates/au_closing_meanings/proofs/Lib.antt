@@ -1,0 +1,4 @@
+mod TwiceLemmas
+mod EachLemmas
+mod CallLemmas
+mod KeptLemmas

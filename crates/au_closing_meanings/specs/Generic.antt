@@ -1,0 +1,143 @@
+-- The meaning of a program with notes: each function and method is run from its own tree, under the closed
+-- types that are given for its type parameters.
+use Rattle.std.specs.Prelude.{ℕ, Bool, false, List, Option, None, Some, map, position, slice_get}
+use Rattle.std.specs.Option.{option_and_then, option_map}
+use Rattle.std.specs.Str.{bytes_eq}
+use Rattle.au_syntax.specs.declared.modules.Part.TheVariants.{Body}
+use Rattle.au_syntax.specs.Plain.{Bytes}
+use Rattle.au_types.specs.declared.parameters.Parameter.{Parameter}
+use Rattle.au_types.specs.declared.types.DeclAt.{DeclAt}
+use Rattle.au_universes.specs.Universes.{is_free, is_linear, universe_of}
+use Rattle.au_modules.specs.Programs.{ModuleParts}
+use Rattle.au_names.specs.HeadsOf.{heads_of}
+use Rattle.au_generics.specs.Meanings.{written_params}
+use Rattle.au_outsides.specs.Written.{types_at}
+use Rattle.au_closed_types.specs.Types.{ClosedType}
+use Rattle.au_instances.specs.ClosedInstances.{closed_universe}
+use Rattle.au_typing.specs.Notes.{Note}
+use Rattle.au_derivations.specs.Trees.{NotedParts}
+use Rattle.au_given_types.specs.Given.{Given, closed_under}
+use Rattle.au_closed_parts.specs.Parts.{ClosedCase, ClosedField, cases_of, field_under}
+use Rattle.au_closed_trees.specs.Changes.{Change}
+use Rattle.au_closed_trees.specs.ClosedNotes.{Callee, constructor, instance, shipped}
+use Rattle.au_closed_trees.specs.Renoted.{block_renoted}
+use Rattle.au_closing.specs.Bodies.{BodyOf, body_of, constant_seen, value_of}
+use Rattle.au_closing.specs.Instances.{Instance}
+use Rattle.au_closing.specs.Leading.{call_leads, module_name}
+use Rattle.au_meaning.specs.Views as views
+use Rattle.au_meaning.specs.Views.{Act, Field, Function, View, invokes, makes, ships}
+use Rattle.au_meaning.specs.Worlds.{Value}
+use Rattle.au_closed_views.specs.Shipped.{born, shipped_parameters}
+use Rattle.au_closed_views.specs.Surroundings.{field_names, literal_value}
+
+-- ---- mentions
+
+-- the note of an expression and, where the expression mentions a variable or a constant, its name
+pub record Mention : Type 0 where
+  pub note : Note
+  pub name : Option Bytes
+
+-- the notes of a tree become those: the same is written at the same places
+abbrev pub mentions_named : Change Bytes Note (Unit {0}) Mention (Unit {0})
+mentions_named = record {
+  note = λ note. record { note = note; name = None };
+  mention = λ note name. record { note = note; name = Some name };
+  callee = λ note c name. c;
+}
+
+-- ---- closed types
+
+-- a field or a parameter
+abbrev pub field_seen : ClosedField → Field
+field_seen one = record { name = one.name; of = one.of }
+
+-- the fields of a case
+abbrev pub fields_seen : ClosedCase → List Field
+fields_seen one = map field_seen one.fields
+
+module _ (program : List ModuleParts) where
+  -- the number of the case of a type that a name means
+  abbrev pub tag_in : ClosedType → Bytes → Option ℕ
+  tag_in of name = position (λ (one : ClosedCase). bytes_eq one.name name) (cases_of program of)
+
+  -- the fields of the case of a number
+  abbrev pub fields_in : ClosedType → ℕ → Option (List Field)
+  fields_in of tag = option_map fields_seen (slice_get (cases_of program of) tag)
+
+  -- whether a type is linear
+  abbrev pub linear_in : ClosedType → Bool
+  linear_in of = is_linear (closed_universe (heads_of program) of)
+
+-- ---- calls
+
+-- what a call does, where the names of the parameters of what is called are known
+abbrev pub with_names : Option (List Bytes) → Act Instance → Option (views.Callee Instance)
+with_names names act = option_map (λ (all : List Bytes). record { parameters = all; act = act }) names
+
+module _ (program : List ModuleParts) (noted : List NotedParts) where
+  -- the parameters of a body under what is given for its type parameters
+  abbrev pub parameters_under : Given → BodyOf → List Field
+  parameters_under given body =
+      map field_seen
+      (map (field_under (types_at program body.place Body) (heads_of program) (written_params body.generics) given)
+      body.header.parameters)
+
+  -- the names of the parameters of an instance, where its body is there
+  abbrev pub names_of_instance : Instance → Option (List Bytes)
+  names_of_instance one =
+      option_map (λ (body : BodyOf). field_names (parameters_under one.given body)) (body_of program noted one.of)
+
+  -- what a call in the text of the module at a place does, whose expression is of a closed type, by what it
+  -- leads to
+  abbrev pub lead_does : ℕ → ClosedType → Callee (Option Instance) → Option (views.Callee Instance)
+  lead_does place of (instance None) = None
+  lead_does place of (instance (Some one)) = with_names (names_of_instance one) (invokes one)
+  lead_does place of (constructor made tag) =
+      with_names (option_map field_names (fields_in program made tag)) (makes made tag (module_name program place))
+  lead_does place of (shipped call) = with_names (Some (shipped_parameters call)) (ships call (born call of))
+
+  -- ---- names
+
+  -- the value of the constant of a declaration, if it is one
+  abbrev pub constant_of : Option DeclAt → Option Value
+  constant_of None = None
+  constant_of (Some at) = option_map literal_value (value_of program noted at)
+
+  -- whether the variable of a name is of a type that is Free over these type parameters; a name that means a
+  -- constant is not that of a variable
+  abbrev pub free_over : List Parameter → Note → Option DeclAt → Bool
+  free_over params note None = is_free (universe_of (heads_of program) params note.of)
+  free_over params note (Some at) = false
+
+  -- the same of an expression in the module at a place, which may mention nothing
+  abbrev pub mentions_free : ℕ → List Parameter → Note → Option Bytes → Bool
+  mentions_free place params note None = false
+  mentions_free place params note (Some name) = free_over params note (constant_seen program place name)
+
+  -- ---- functions
+
+  -- what is known at a tree in the text of the module at a place, over these type parameters and under what is
+  -- given for them
+  abbrev pub view_under : ℕ → List Parameter → Given → View Instance Mention (Unit {0})
+  view_under place params given = record {
+    type_of = λ m. Some (closed_under given m.note.of);
+    is_free = λ m. mentions_free place params m.note m.name;
+    callee = λ m c name. lead_does place (closed_under given m.note.of) (call_leads program place given m.note name);
+    constant = λ m name. constant_of (constant_seen program place name);
+    tag = tag_in program;
+    fields = fields_in program;
+    is_linear = linear_in program;
+  }
+
+  -- a body as it is run under what is given for its type parameters, whose first name has this number
+  abbrev pub function_under : ℕ → Given → BodyOf → Function Instance Mention (Unit {0})
+  function_under first given body = record {
+    view = view_under body.place (written_params body.generics) given;
+    parameters = parameters_under given body;
+    first = first;
+    body = block_renoted mentions_named body.block;
+  }
+
+  -- the functions of the program as they are run, each with a number for its first name
+  abbrev pub generic_functions : (Instance → ℕ) → Instance → Option (Function Instance Mention (Unit {0}))
+  generic_functions first one = option_map (function_under (first one) one.given) (body_of program noted one.of)

@@ -1,0 +1,3 @@
+pub mod Generic
+pub mod Closed
+pub mod Kept

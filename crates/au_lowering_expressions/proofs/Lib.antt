@@ -1,0 +1,4 @@
+pub mod WroteLemmas
+pub mod CodeLemmas
+pub mod PartLemmas
+pub mod LoopLemmas

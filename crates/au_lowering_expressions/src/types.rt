@@ -1,0 +1,70 @@
+//! What is asked of the closed types that are noted.
+
+ghost use Rattle.std.specs.Prelude.{◌≡◌, Some};
+ghost use Rattle.std.specs.Option.{option_copied, option_map};
+ghost use Rattle.au_closed_types.specs.Views.{closed_meaning};
+ghost use Rattle.au_lowered.specs.Slots as slots;
+ghost use Rattle.au_meaning.specs.Expressions as meant;
+
+use au_base::IntKind;
+use au_closed_types::Closed;
+
+/// The kind that a type is, if it is one.
+#[tactic(auto, using(au_closed_types::proofs::ClosedLemmas::closed_steps))]
+pub fn kind_in(of: &Closed) -> Option<IntKind>
+    ensures { result ≡ meant.kind_in (Some (closed_meaning of.now)) }
+{
+    match of {
+        Closed::Unit => None,
+        Closed::Bool => None,
+        Closed::Int(kind) => Some(*kind),
+        Closed::Text => None,
+        Closed::Named { .. } => None,
+        Closed::Read(_) => None,
+        Closed::Write(_) => None,
+    }
+}
+
+/// What is compared: numbers of a kind, or truth values, which have none.
+#[tactic(auto, using(au_closed_types::proofs::ClosedLemmas::closed_steps))]
+pub fn compared_kind(of: &Closed) -> Option<Option<IntKind>>
+    ensures { result ≡ meant.compared_kind (Some (closed_meaning of.now)) }
+{
+    match of {
+        Closed::Unit => None,
+        Closed::Bool => Some(None),
+        Closed::Int(kind) => Some(Some(*kind)),
+        Closed::Text => None,
+        Closed::Named { .. } => None,
+        Closed::Read(_) => None,
+        Closed::Write(_) => None,
+    }
+}
+
+/// What a reference refers to.
+#[tactic(auto, using(au_closed_types::proofs::ClosedLemmas::closed_steps))]
+fn behind_type(of: &Closed) -> Option<&Closed>
+    ensures { option_map closed_meaning (option_copied result)
+        ≡ slots.behind (Some (closed_meaning of.now)) }
+{
+    match of {
+        Closed::Unit => None,
+        Closed::Bool => None,
+        Closed::Int(_) => None,
+        Closed::Text => None,
+        Closed::Named { .. } => None,
+        Closed::Read(to) => Some(&**to),
+        Closed::Write(to) => Some(&**to),
+    }
+}
+
+/// The same, where the type may not be known.
+pub fn behind(of: &Option<Closed>) -> Option<&Closed>
+    ensures { option_map closed_meaning (option_copied result)
+        ≡ slots.behind (option_map closed_meaning of.now) }
+{
+    match of {
+        None => None,
+        Some(known) => behind_type(known),
+    }
+}

@@ -1,0 +1,2 @@
+pub mod SameExpressions
+pub mod SameStatements

@@ -1,0 +1,11 @@
+//! Laws of the definitions, each as the contract of a call that does nothing.
+
+ghost use Rattle.au_closed_trees.specs.Changes.{Change};
+ghost use Rattle.au_meaning.specs.Views.{View};
+ghost use Rattle.au_renoted_meanings.specs.Agreement.{OneMeaning};
+ghost use Rattle.au_syntax.specs.Plain.{Bytes};
+
+/// Where two views agree, a block has the meaning that it has with other notes.
+pub fn blocks_have_one_meaning<I, J, T, C, U, D>()
+    ensures { (change : Change Bytes T C U D) (one : View I T C) (two : View J U D) → OneMeaning change one two }
+{}
