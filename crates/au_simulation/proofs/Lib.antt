@@ -23,3 +23,4 @@ pub mod GrowthLemmas
 pub mod BetweenLemmas
 pub mod CaseLemmas
 pub mod EndLemmas
+pub mod WitnessLemmas

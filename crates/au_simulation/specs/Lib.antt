@@ -5,3 +5,4 @@ pub mod Trees
 pub mod Programs
 pub mod Laws
 pub mod Binds
+pub mod Witness

@@ -1,6 +1,7 @@
 //! Laws of the definitions, each as the contract of a call that does nothing.
 
 ghost use Rattle.au_simulation.specs.Laws.{CutsLieBetween, EndingsMeet, ExpressionsRun, RunsFollow};
+ghost use Rattle.au_simulation.specs.Witness.{SomeProgramIsGood};
 
 /// The code of an expression does what the expression means.
 pub fn expressions_run<T, C>()
@@ -21,4 +22,9 @@ pub fn cuts_lie_between<T, C>()
 /// Where a run of the code has ended, so has one of the meaning with as many ticks, and they agree.
 pub fn endings_meet<T, C>()
     ensures { EndingsMeet T C }
+{}
+
+/// There is a program of which the other laws speak, and it exits.
+pub fn some_program_is_good()
+    ensures { SomeProgramIsGood }
 {}
