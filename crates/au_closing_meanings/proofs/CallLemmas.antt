@@ -1,15 +1,13 @@
 -- Calls do the same where notes are closed, and so do bodies.
-use Rattle.std.proofs.Common.{◌≡◌, ℕ, ◌+◌, ◌==◌, Bool, List, length, Option, Some, None, refl, sym, ap, ◌∙◌}
-use Rattle.std.specs.Prelude.{[], ◌∷◌, map, slice_get}
+use Rattle.std.proofs.Common.{◌≡◌, ℕ, ◌+◌, ◌==◌, List, length, Option, Some, None, refl, sym, ap, ◌∙◌}
+use Rattle.std.specs.Prelude.{[]}
 use Rattle.std.specs.Option.{option_map}
-use Rattle.std.proofs.lemmas.Option.{slice_get_past}
 use Rattle.au_syntax.specs.Plain.{Bytes}
 use Rattle.au_syntax.specs.Statements.{Statements}
 use Rattle.au_types.specs.declared.parameters.Parameter.{Parameter}
 use Rattle.au_types.specs.declared.types.DeclAt.{DeclAt}
 use Rattle.au_modules.specs.Programs.{ModuleParts}
 use Rattle.au_names.specs.HeadsOf.{heads_of}
-use Rattle.au_closed_types.specs.Types.{ClosedType}
 use Rattle.au_typing.specs.Notes.{Note}
 use Rattle.au_derivations.specs.Trees.{NotedParts}
 use Rattle.au_given_types.specs.Given.{Given, closed_under}
@@ -17,19 +15,18 @@ use Rattle.au_closed_trees.specs.Changes.{Change}
 use Rattle.au_closed_trees.specs.ClosedNotes.{Callee, ClosedNote, constructor, instance, shipped}
 use Rattle.au_closed_trees.specs.Renoted.{block_renoted}
 use Rattle.au_closing.specs.Bodies.{constant_seen, value_of}
-use Rattle.au_closing.specs.Closes.{ClosedFunction, change_of, mention_closed, note_closed}
+use Rattle.au_closing.specs.Closes.{ClosedFunction, mention_closed, note_closed}
 use Rattle.au_closing.specs.Instances.{Instance, instance_of, numbered, place_in, same_instance}
 use Rattle.au_closing.specs.Leading.{call_leads, module_name}
 use Rattle.au_closing.proofs.ClosesLemmas.{instances_told}
 use Rattle.au_reach.specs.Reached.{Has}
 use Rattle.au_reach.proofs.HasLemmas.{has_it}
 use Rattle.au_meaning.specs.Acts.{begins, new_names}
-use Rattle.au_meaning.specs.Expressions.{calls, acts, copies, mentions}
+use Rattle.au_meaning.specs.Expressions.{calls, acts, copies}
 use Rattle.au_meaning.specs.Meanings.{enters, leaves_frame}
-use Rattle.au_meaning.specs.Names.{Variable, with_parameters}
-use Rattle.au_meaning.specs.Ticks.{Action, pure, stuck, needing, where_true, does, ◌>>=◌, ◌>>◌}
-use Rattle.au_meaning.specs.Views as views
-use Rattle.au_meaning.specs.Views.{Act, Field, View, invokes, makes, ships}
+use Rattle.au_meaning.specs.Names.{with_parameters}
+use Rattle.au_meaning.specs.Ticks.{Action, pure, needing, where_true, does, ◌>>=◌, ◌>>◌}
+use Rattle.au_meaning.specs.Views.{Act, Field, View, invokes, makes}
 use Rattle.au_meaning.specs.Worlds.{Value}
 use Rattle.au_closed_views.specs.Surroundings.{call_noted, constant_noted, field_names, is_free, view_in, with_parameters as with_their_names}
 use Rattle.au_renoted_meanings.specs.Agreement.{AgreeOnTypes, AgreeOnMention, AgreeOnCall, EachOfBlock}

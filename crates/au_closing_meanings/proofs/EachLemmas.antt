@@ -1,5 +1,5 @@
 -- What is said of each mention and of each call of a tree, from what the calls lead to.
-use Rattle.std.proofs.Common.{◌≡◌, Bool, List, ◌++◌}
+use Rattle.std.proofs.Common.{Bool, List, ◌++◌}
 use Rattle.au_closed_trees.specs.Calls.{calls_in, calls_in_all, calls_in_arguments, calls_in_statement, calls_in_block, calls_in_branches, calls_in_arms}
 use Rattle.au_closed_trees.specs.Changes.{Change}
 use Rattle.au_closed_trees.specs.Renoted.{expression_renoted, expressions_renoted, arguments_renoted, statement_renoted, block_renoted, branches_renoted, arms_renoted}

@@ -1,5 +1,5 @@
 -- Closing keeps meaning: by induction on how deep calls go.
-use Rattle.std.proofs.Common.{◌≡◌, ℕ, zero, suc, ◌≤◌, Bool, true, false, List, [], ◌∷◌, ◌++◌, length, map, Option, Some, None, refl, sym, ap, subst, ◌∙◌}
+use Rattle.std.proofs.Common.{◌≡◌, ℕ, zero, suc, ◌≤◌, List, [], ◌∷◌, length, Option, Some, None, refl, sym, ap, subst, ◌∙◌}
 use Rattle.std.specs.Prelude.{slice_get, if◌then◌else◌}
 use Rattle.std.specs.Option.{option_map}
 use Rattle.std.proofs.Math.Nat.{le_refl}
@@ -9,7 +9,6 @@ use Rattle.au_syntax.specs.Plain.{Bytes}
 use Rattle.au_modules.specs.Programs.{ModuleParts}
 use Rattle.au_generics.specs.Meanings.{written_params}
 use Rattle.au_derivations.specs.Trees.{NotedParts}
-use Rattle.au_typing.specs.Notes.{Note}
 use Rattle.au_reach.specs.Reached.{Has}
 use Rattle.au_reach.proofs.HasLemmas.{has_it}
 use Rattle.au_closed_trees.specs.Calls.{calls_in_block}
@@ -24,11 +23,11 @@ use Rattle.au_meaning.specs.Meanings.{begun, call_at, enters, first_world, mean,
 use Rattle.au_meaning.specs.Ticks.{Action}
 use Rattle.au_meaning.specs.Views.{Function}
 use Rattle.au_meaning.specs.Worlds.{Value}
-use Rattle.au_closed_views.specs.Surroundings.{view_in}
+use Rattle.au_closed_views.specs.Surroundings.{Surroundings, view_in}
 use Rattle.au_renoted_meanings.specs.Agreement.{AgreeOnMention, AgreeOnCall}
 use Rattle.au_closing_meanings.specs.Closed.{closed_functions, function_closed, names_at, surroundings_of}
 use Rattle.au_closing_meanings.specs.Generic.{Mention, function_under, generic_functions, mentions_named, names_of_instance, parameters_under, view_under}
-use Rattle.au_closing_meanings.specs.Kept.{KeepsMeaning, NumberAlike}
+use Rattle.au_closing_meanings.specs.Kept.{KeepsMeaning, NumberAlike, ProgramsSay, SaysWhatIs}
 use Rattle.au_closing_meanings.proofs.CallLemmas.{call_agrees, closer, enters_same, mention_agrees, types_agree}
 use Rattle.au_closing_meanings.proofs.EachLemmas.{Within, each_block}
 use Rattle.au_closing_meanings.proofs.TwiceLemmas.{block_twice}
@@ -164,7 +163,32 @@ module _ (program : List ModuleParts) (noted : List NotedParts) (entry : Instanc
         (first_world input) ticks))
         ∙ ap (λ n. mean made n input ticks) is.1
 
+-- ---- what is known round closed trees
+
+pub what_is : ProgramsSay
+what_is program functions = record {
+  parameters = λ home number. refl;
+  homes = λ home. refl;
+  tags = λ home of name. refl;
+  fields = λ home of tag. refl;
+  linear = λ home of. refl;
+}
+
+-- it is what the program says
+round_is : (program : List ModuleParts) (functions : List ClosedFunction) (round : Bytes → Surroundings)
+    → SaysWhatIs program functions round → surroundings_of program functions ≡ round
+round_is program functions round says =
+    λ i home. record {
+      parameters = λ number. sym (says.parameters home number) i;
+      home = sym (says.homes home) i;
+      tag = λ of name. sym (says.tags home of name) i;
+      fields = λ of tag. sym (says.fields home of tag) i;
+      is_linear = λ of. sym (says.linear home of) i;
+    }
+
 -- closing keeps the meaning of a program
 pub meaning_kept : KeepsMeaning
-meaning_kept program noted entry functions closes first numbers alike input ticks =
+meaning_kept program noted entry functions closes first numbers alike round says input ticks =
     meaning_same program noted entry functions closes first numbers alike input ticks
+    ∙ ap (λ around. mean (closed_functions around functions numbers) 0 input ticks)
+    (round_is program functions round says)

@@ -1,7 +1,7 @@
 -- A tree whose notes become others twice is the tree whose notes become those at once.
 use Rattle.std.proofs.Common.{◌≡◌, refl}
 use Rattle.au_closed_trees.specs.Changes.{Change}
-use Rattle.au_closed_trees.specs.Renoted.{renoted, mentioned, called, expression_renoted, expressions_renoted, arguments_renoted, statement_renoted, block_renoted, branches_renoted, arms_renoted}
+use Rattle.au_closed_trees.specs.Renoted.{renoted, called, expression_renoted, expressions_renoted, arguments_renoted, statement_renoted, block_renoted, branches_renoted, arms_renoted}
 use Rattle.au_syntax.specs.Expressions.{Expression, Expressions, Arguments, number, negative, text, truth, nil, path, arrow, call, named_call, parenthesized, dereference, borrow, borrow_part, binary, negation, typed, choice, no_expressions, expressions, no_arguments, arguments}
 use Rattle.au_syntax.specs.Statements.{Statement, Statements, Branches, Arms, skip, declare, destructure, assign, assign_through, conditional, conditional_else, case_of, while_loop, for_loop, borrow_in, borrow_typed, discard, return_of, no_statements, statements, no_branches, branches, no_arms, arms}
 

@@ -1,7 +1,7 @@
 -- The meaning of a program with notes: each function and method is run from its own tree, under the closed
 -- types that are given for its type parameters.
 use Rattle.std.specs.Prelude.{ℕ, Bool, false, List, Option, None, Some, map, position, slice_get}
-use Rattle.std.specs.Option.{option_and_then, option_map}
+use Rattle.std.specs.Option.{option_map}
 use Rattle.std.specs.Str.{bytes_eq}
 use Rattle.au_syntax.specs.declared.modules.Part.TheVariants.{Body}
 use Rattle.au_syntax.specs.Plain.{Bytes}

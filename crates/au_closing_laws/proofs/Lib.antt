@@ -1,0 +1,4 @@
+mod CallLemmas
+mod ScopeLemmas
+mod RowLemmas
+mod SoundLemmas

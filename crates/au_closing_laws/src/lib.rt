@@ -1,0 +1,4 @@
+//! Why each call of a reached instance leads somewhere.
+#![tactic(auto)]
+
+pub mod laws;
