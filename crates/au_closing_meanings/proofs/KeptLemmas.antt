@@ -1,5 +1,5 @@
 -- Closing keeps meaning: by induction on how deep calls go.
-use Rattle.std.proofs.Common.{◌≡◌, ℕ, zero, suc, ◌≤◌, List, [], ◌∷◌, length, Option, Some, None, refl, sym, ap, subst, ◌∙◌}
+use Rattle.std.proofs.Common.{◌≡◌, Bool, true, ℕ, zero, suc, ◌≤◌, List, [], ◌∷◌, length, Option, Some, None, refl, sym, ap, subst, ◌∙◌}
 use Rattle.std.specs.Prelude.{slice_get, if◌then◌else◌}
 use Rattle.std.specs.Option.{option_map}
 use Rattle.std.proofs.Math.Nat.{le_refl}
@@ -14,22 +14,27 @@ use Rattle.au_reach.proofs.HasLemmas.{has_it}
 use Rattle.au_closed_trees.specs.Calls.{calls_in_block}
 use Rattle.au_closed_trees.specs.ClosedNotes.{Callee, ClosedNote, ClosedStatements}
 use Rattle.au_closed_trees.specs.Renoted.{block_renoted}
-use Rattle.au_closing.specs.Bodies.{BodyOf, body_of}
-use Rattle.au_closing.specs.Closes.{ClosedFunction, ClosesFunctions, body_closed, calls_in_body, instance_closed}
+use Rattle.au_closing.specs.Bodies.{BodyOf, body_of, constant_seen}
+use Rattle.au_typing.specs.Notes.{Note}
+use Rattle.au_given_types.specs.Given.{closed_under}
+use Rattle.au_closed_types.specs.Types.{ClosedType}
+use Rattle.au_tree_types.specs.Notes.{said_in_block}
+use Rattle.au_closing.specs.Closes.{ClosedFunction, ClosesFunctions, body_closed, calls_in_body, change_of, instance_closed}
 use Rattle.au_closing.specs.Instances.{Instance, instance_of, place_in, same_instance}
 use Rattle.au_closing.specs.Leading.{call_leads, module_name}
 use Rattle.au_closing.proofs.ClosesLemmas.{called_too, entry_first, instances_told, place_back}
 use Rattle.au_meaning.specs.Meanings.{begun, call_at, enters, first_world, mean, parameters_of, seen}
 use Rattle.au_meaning.specs.Ticks.{Action}
-use Rattle.au_meaning.specs.Views.{Function}
+use Rattle.au_meaning.specs.Views.{Field, Function}
 use Rattle.au_meaning.specs.Worlds.{Value}
 use Rattle.au_closed_views.specs.Surroundings.{Surroundings, view_in}
-use Rattle.au_renoted_meanings.specs.Agreement.{AgreeOnMention, AgreeOnCall}
-use Rattle.au_closing_meanings.specs.Closed.{closed_functions, function_closed, names_at, surroundings_of}
-use Rattle.au_closing_meanings.specs.Generic.{Mention, function_under, generic_functions, mentions_named, names_of_instance, parameters_under, view_under}
-use Rattle.au_closing_meanings.specs.Kept.{KeepsMeaning, NumberAlike, ProgramsSay, SaysWhatIs}
-use Rattle.au_closing_meanings.proofs.CallLemmas.{call_agrees, closer, enters_same, mention_agrees, types_agree}
-use Rattle.au_closing_meanings.proofs.EachLemmas.{Within, each_block}
+use Rattle.au_renoted_meanings.specs.Agreement.{AgreeOnMention, AgreeOnCall, Counts, FieldsCount, FoundCount}
+use Rattle.au_closing_meanings.specs.Closed.{closed_functions, function_closed, names_at, parameters_seen}
+use Rattle.au_closing_meanings.specs.Generic.{Mention, fields_in, function_under, generic_functions, mentions_named, names_of_instance, parameters_under, view_under}
+use Rattle.au_closing_meanings.specs.Kept.{KeepsMeaning, NumberAlike, ProgramsSay, SaysWhatIs, TypesCount}
+use Rattle.au_closing_meanings.proofs.CallLemmas.{call_agrees, closer, enters_same, mention_agrees, type_mentioned, types_agree}
+use Rattle.au_closing_meanings.proofs.EachLemmas.{AllKnown, Within, each_block}
+use Rattle.au_closing_meanings.proofs.SaidLemmas.{block_same}
 use Rattle.au_closing_meanings.proofs.TwiceLemmas.{block_twice}
 
 -- ---- what is listed is there
@@ -87,13 +92,15 @@ module _ (program : List ModuleParts) (noted : List NotedParts) (entry : Instanc
 
   -- ---- calls and runs
 
-  module _ (first : Instance → ℕ) (numbers : ℕ → ℕ) (alike : NumberAlike all first numbers) where
+  module _ (first : Instance → ℕ) (numbers : ℕ → ℕ) (alike : NumberAlike all first numbers)
+      (round : Bytes → Surroundings) (known : ClosedType → Bool)
+      (says : SaysWhatIs known program functions round) (counts : TypesCount known program functions) where
     -- the functions as they are run, generic and closed
     abbrev whole : Instance → Option (Function Instance Mention (Unit {0}))
     whole = generic_functions program noted first
 
     abbrev made : ℕ → Option (Function ℕ ClosedNote (Callee ℕ))
-    made = closed_functions (surroundings_of program functions) functions numbers
+    made = closed_functions round functions numbers
 
     -- what the calls of an instance's body lead to is listed
     calls_within : (one : Instance) → Has same_instance all one → (body : BodyOf)
@@ -104,30 +111,50 @@ module _ (program : List ModuleParts) (noted : List NotedParts) (entry : Instanc
         λ x h. called_too program noted entry all closes.lists one x here
         (subst (λ b. Has same_instance (calls_in_body program noted one.given b) x) (sym is) h)
 
+    -- the types that are noted in a body count once they are closed
+    notes_known : (one : Instance) (body : BodyOf)
+        → slice_get functions (place_in one all) ≡ Some (body_closed program noted all one.given body)
+        → AllKnown known (said_in_block (λ (note : Note). closed_under one.given note.of ∷ []) body.block)
+    notes_known one body at =
+        let params = written_params body.generics in
+        subst (AllKnown known)
+        (block_same (change_of program noted all body.place params one.given)
+        (λ (note : Note). closed_under one.given note.of ∷ []) (λ (n : ClosedNote). n.of ∷ []) (λ note. refl)
+        (λ note name. ap (λ t. t ∷ [])
+        (sym (type_mentioned program noted all body.place params one.given note (constant_seen program body.place name))))
+        body.block)
+        (counts.notes (place_in one all) (body_closed program noted all one.given body) at)
+
     -- a body does the same as its closed tree, where the calls of both do
     body_same : (invoke : Instance → List Value → Action Value) (other : ℕ → List Value → Action Value)
         → ((x : Instance) → Has same_instance all x → invoke x ≡ other (place_in x all))
         → (depth number : ℕ) (one : Instance) → Has same_instance all one → (body : BodyOf)
+        → slice_get functions (place_in one all) ≡ Some (body_closed program noted all one.given body)
         → body_of program noted one.of ≡ Some body
         → enters invoke depth (Some (function_under program noted number one.given body))
         ≡ enters other depth
-        (Some (function_closed (surroundings_of program functions) number
-        (body_closed program noted all one.given body)))
-    body_same invoke other same depth number one here body is =
+        (Some (function_closed round number (body_closed program noted all one.given body)))
+    body_same invoke other same depth number one here body at is =
         let params = written_params body.generics in
         let view = view_under program noted body.place params one.given in
-        let closed = view_in (surroundings_of program functions (module_name program body.place)) in
-        let change = closer program noted all functions body.place params one.given in
+        let closed = view_in (round (module_name program body.place)) in
+        let change = closer program noted all body.place params one.given in
         let parameters = parameters_under program noted one.given body in
-        enters_same change view closed
-        (types_agree program noted all functions body.place params one.given)
+        let mention_says =
+            mention_agrees program noted all body.place params one.given functions round known says counts in
+        let call_says =
+            call_agrees program noted all body.place params one.given functions round known says counts invoke other
+            same names_there none_behind in
+        enters_same known change view closed
+        (types_agree program noted all body.place params one.given functions round known says counts)
         invoke other depth number parameters (block_renoted mentions_named body.block)
+        (counts.parameters (place_in one all) (body_closed program noted all one.given body) at)
         (each_block same_instance all
-        (λ note c name. instance_of (call_leads program body.place one.given note name))
-        mentions_named (AgreeOnMention change view closed) (AgreeOnCall change view closed invoke other)
-        (mention_agrees program noted all functions body.place params one.given)
-        (call_agrees program noted all functions body.place params one.given invoke other same names_there none_behind)
-        body.block (calls_within one here body is))
+        (λ note c name. instance_of (call_leads program body.place one.given note name)) known
+        (λ note. closed_under one.given note.of) mentions_named (λ m. Counts known (view.type_of m))
+        (AgreeOnMention known change view closed) (AgreeOnCall known change view closed invoke other)
+        (λ note k. k) (λ note name k. k) mention_says call_says
+        body.block (calls_within one here body is) (notes_known one body at))
         ∙ ap (λ (tree : ClosedStatements). enters other depth
         (Some (record { view = closed; parameters = parameters; first = number; body = tree })))
         (block_twice mentions_named change body.block)
@@ -141,11 +168,11 @@ module _ (program : List ModuleParts) (noted : List NotedParts) (entry : Instanc
         let invoke = call_at whole depth in
         let other = call_at made depth in
         ap (λ b. enters invoke depth (option_map (function_under program noted (first one) one.given) b)) is.1
-        ∙ body_same invoke other (closing_at depth) depth (first one) one here is.0 is.1
-        ∙ ap (λ n. enters other depth (Some (function_closed (surroundings_of program functions) n
+        ∙ body_same invoke other (closing_at depth) depth (first one) one here is.0 is.2 is.1
+        ∙ ap (λ n. enters other depth (Some (function_closed round n
         (body_closed program noted all one.given is.0)))) (alike one here)
         ∙ sym (ap (λ f. enters other depth
-        (option_map (function_closed (surroundings_of program functions) (numbers (place_in one all))) f)) is.2)
+        (option_map (function_closed round (numbers (place_in one all))) f)) is.2)
 
     -- the parameters of an instance are the same
     parameters_same : (one : Instance) → Has same_instance all one
@@ -154,7 +181,7 @@ module _ (program : List ModuleParts) (noted : List NotedParts) (entry : Instanc
         let is = there one here in
         ap (λ b. parameters_of (option_map (function_under program noted (first one) one.given) b)) is.1
         ∙ sym (ap (λ f. parameters_of
-        (option_map (function_closed (surroundings_of program functions) (numbers (place_in one all))) f)) is.2)
+        (option_map (function_closed round (numbers (place_in one all))) f)) is.2)
 
     meaning_same : (input : List ℕ) (ticks : ℕ) → mean whole entry input ticks ≡ mean made 0 input ticks
     meaning_same input ticks =
@@ -165,30 +192,32 @@ module _ (program : List ModuleParts) (noted : List NotedParts) (entry : Instanc
 
 -- ---- what is known round closed trees
 
-pub what_is : ProgramsSay
-what_is program functions = record {
-  parameters = λ home number. refl;
-  homes = λ home. refl;
-  tags = λ home of name. refl;
-  fields = λ home of tag. refl;
-  linear = λ home of. refl;
-}
+fields_count : (fields : List Field) → FieldsCount (λ of. true) fields
+fields_count [] = tt
+fields_count (f ∷ rest) = (refl, fields_count rest)
 
--- it is what the program says
-round_is : (program : List ModuleParts) (functions : List ClosedFunction) (round : Bytes → Surroundings)
-    → SaysWhatIs program functions round → surroundings_of program functions ≡ round
-round_is program functions round says =
-    λ i home. record {
-      parameters = λ number. sym (says.parameters home number) i;
-      home = sym (says.homes home) i;
-      tag = λ of name. sym (says.tags home of name) i;
-      fields = λ of tag. sym (says.fields home of tag) i;
-      is_linear = λ of. sym (says.linear home of) i;
-    }
+found_count : (fields : Option (List Field)) → FoundCount (λ of. true) fields
+found_count None = tt
+found_count (Some fields) = fields_count fields
+
+-- the program itself says what is, of all types
+pub what_is : ProgramsSay
+what_is program functions = (
+  record {
+    parameters = λ home number. refl;
+    homes = λ home. refl;
+    tags = λ home of k name. refl;
+    fields = λ home of k tag. refl;
+    linear = λ home of k. refl;
+  },
+  record {
+    parameters = λ number f at. fields_count (parameters_seen f);
+    notes = λ number f at of h. refl;
+    inside = λ of k tag. found_count (fields_in program of tag);
+  },
+)
 
 -- closing keeps the meaning of a program
 pub meaning_kept : KeepsMeaning
-meaning_kept program noted entry functions closes first numbers alike round says input ticks =
-    meaning_same program noted entry functions closes first numbers alike input ticks
-    ∙ ap (λ around. mean (closed_functions around functions numbers) 0 input ticks)
-    (round_is program functions round says)
+meaning_kept program noted entry functions closes first numbers alike round known says counts input ticks =
+    meaning_same program noted entry functions closes first numbers alike round known says counts input ticks

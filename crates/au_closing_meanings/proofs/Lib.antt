@@ -1,4 +1,5 @@
 mod TwiceLemmas
 mod EachLemmas
+mod SaidLemmas
 mod CallLemmas
 mod KeptLemmas

@@ -1,15 +1,18 @@
 -- When closing keeps the meaning of a program.
-use Rattle.std.specs.Prelude.{◌≡◌, ℕ, List}
+use Rattle.std.specs.Prelude.{◌≡◌, ℕ, Bool, true, List, [], ◌∷◌, Some, Contains, slice_get}
 use Rattle.au_syntax.specs.Plain.{Bytes}
 use Rattle.au_closed_types.specs.Types.{ClosedType}
 use Rattle.au_modules.specs.Programs.{ModuleParts}
 use Rattle.au_derivations.specs.Trees.{NotedParts}
 use Rattle.au_reach.specs.Reached.{Has}
+use Rattle.au_closed_trees.specs.ClosedNotes.{ClosedNote, ClosedStatements}
+use Rattle.au_tree_types.specs.Notes.{said_in_block}
+use Rattle.au_renoted_meanings.specs.Agreement.{FieldsCount, FoundCount}
 use Rattle.au_closing.specs.Closes.{ClosedFunction, ClosesFunctions}
 use Rattle.au_closing.specs.Instances.{Instance, place_in, same_instance}
 use Rattle.au_meaning.specs.Meanings.{mean}
 use Rattle.au_closed_views.specs.Surroundings.{Surroundings}
-use Rattle.au_closing_meanings.specs.Closed.{closed_functions, names_at, surroundings_of}
+use Rattle.au_closing_meanings.specs.Closed.{closed_functions, names_at, parameters_seen, surroundings_of}
 use Rattle.au_closing_meanings.specs.Generic.{fields_in, generic_functions, linear_in, tag_in}
 
 -- instances of a list number their names as the functions in their places do
@@ -17,14 +20,32 @@ abbrev pub NumberAlike : List Instance → (Instance → ℕ) → (ℕ → ℕ) 
 NumberAlike all first numbers =
     (one : Instance) → Has same_instance all one → first one ≡ numbers (place_in one all)
 
--- what is known round closed trees is what the program itself says, in each module and of each type
-pub record SaysWhatIs (program : List ModuleParts) (functions : List ClosedFunction) (round : Bytes → Surroundings)
-    : Type 0 where
+-- the types that are noted in a closed tree
+abbrev pub types_noted : ClosedStatements → List ClosedType
+types_noted = said_in_block (λ (n : ClosedNote). n.of ∷ [])
+
+-- What is known round closed trees is what the program itself says, in each module and of each type that
+-- counts.
+pub record SaysWhatIs (known : ClosedType → Bool) (program : List ModuleParts) (functions : List ClosedFunction)
+    (round : Bytes → Surroundings) : Type 0 where
   pub parameters : (home : Bytes) (number : ℕ) → (round home).parameters number ≡ names_at functions number
   pub homes : (home : Bytes) → (round home).home ≡ home
-  pub tags : (home : Bytes) (of : ClosedType) (name : Bytes) → (round home).tag of name ≡ tag_in program of name
-  pub fields : (home : Bytes) (of : ClosedType) (tag : ℕ) → (round home).fields of tag ≡ fields_in program of tag
-  pub linear : (home : Bytes) (of : ClosedType) → (round home).is_linear of ≡ linear_in program of
+  pub tags : (home : Bytes) (of : ClosedType) → known of ≡ true → (name : Bytes)
+      → (round home).tag of name ≡ tag_in program of name
+  pub fields : (home : Bytes) (of : ClosedType) → known of ≡ true → (tag : ℕ)
+      → (round home).fields of tag ≡ fields_in program of tag
+  pub linear : (home : Bytes) (of : ClosedType) → known of ≡ true
+      → (round home).is_linear of ≡ linear_in program of
+
+-- The types of the parameters of closed functions count, those that are noted in their trees, and those of the
+-- fields of a type that counts.
+pub record TypesCount (known : ClosedType → Bool) (program : List ModuleParts) (functions : List ClosedFunction)
+    : Type 0 where
+  pub parameters : (number : ℕ) (f : ClosedFunction) → slice_get functions number ≡ Some f
+      → FieldsCount known (parameters_seen f)
+  pub notes : (number : ℕ) (f : ClosedFunction) → slice_get functions number ≡ Some f → (of : ClosedType)
+      → Contains (types_noted f.body) of → known of ≡ true
+  pub inside : (of : ClosedType) → known of ≡ true → (tag : ℕ) → FoundCount known (fields_in program of tag)
 
 -- From an entry a program with notes does exactly what the program does that it closes to, on each input and
 -- for each number of ticks. No premise says that it is typed: where no rule applies to the one, none applies
@@ -35,14 +56,16 @@ KeepsMeaning =
     → (closes : ClosesFunctions program noted entry functions)
     → (first : Instance → ℕ) (numbers : ℕ → ℕ)
     → NumberAlike closes.instances first numbers
-    → (round : Bytes → Surroundings)
-    → SaysWhatIs program functions round
+    → (round : Bytes → Surroundings) (known : ClosedType → Bool)
+    → SaysWhatIs known program functions round
+    → TypesCount known program functions
     → (input : List ℕ) (ticks : ℕ)
     → mean (generic_functions program noted first) entry input ticks
     ≡ mean (closed_functions round functions numbers) 0 input ticks
 
--- what the program itself says is what is
+-- what the program itself says is what is, where all types count
 abbrev pub ProgramsSay : Type 0
 ProgramsSay =
     (program : List ModuleParts) (functions : List ClosedFunction)
-    → SaysWhatIs program functions (surroundings_of program functions)
+    → SaysWhatIs (λ of. true) program functions (surroundings_of program functions)
+    × TypesCount (λ of. true) program functions
