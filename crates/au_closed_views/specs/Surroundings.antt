@@ -74,7 +74,8 @@ module _ (round : Surroundings) where
   call_noted note (instance number) = with_parameters (round.parameters number) (invokes number)
   call_noted note (constructor of tag) =
       with_parameters (option_map field_names (round.fields of tag)) (makes of tag round.home)
-  call_noted note (shipped call) = with_parameters (Some (shipped_parameters call)) (ships call (born call note.of))
+  call_noted note (shipped call) = with_parameters (Some (shipped_parameters call))
+      (ships call (born call note.of))
 
   -- the view of a tree with these surroundings
   abbrev pub view_in : View ℕ ClosedNote (Callee ℕ)

@@ -51,7 +51,7 @@ module _ {T C U D A : Type 0} (same : A → A → Bool) (all : List A) (leads : 
     (mentions_noted : (n : T) (name : Bytes) → known (type_of n) ≡ true → noted (change.mention n name))
     (mentions : (n : T) (name : Bytes) → mention (change.mention n name) name)
     (calls : (n : T) (c : C) (name : Bytes) → known (type_of n) ≡ true → Within same all (leads n c name)
-        → claim (change.note n) (change.callee n c name) name) where
+    → claim (change.note n) (change.callee n c name) name) where
   abbrev types : T → List ClosedType
   types n = type_of n ∷ []
 
@@ -86,25 +86,28 @@ module _ {T C U D A : Type 0} (same : A → A → Bool) (all : List A) (leads : 
     each (nil n) w k = tt
     each (path n x fields) w k = mentions n.note x.name
     each (arrow n x fields) w k = tt
-    each (call n f es c) w k =
-        (calls n.note c f.name (known_first known _ _ k)
-        (front same all (leads n.note c f.name) (calls_in_all leads es) w),
-        each_all es (back same all (leads n.note c f.name) (calls_in_all leads es) w) (known_later known _ _ k))
-    each (named_call n f es c) w k =
-        (calls n.note c f.name (known_first known _ _ k)
-        (front same all (leads n.note c f.name) (calls_in_arguments leads es) w),
-        each_named es (back same all (leads n.note c f.name) (calls_in_arguments leads es) w)
-        (known_later known _ _ k))
+    each (call n f es c) w k = (
+      calls n.note c f.name (known_first known _ _ k)
+          (front same all (leads n.note c f.name) (calls_in_all leads es) w),
+      each_all es (back same all (leads n.note c f.name) (calls_in_all leads es) w) (known_later known _ _ k),
+    )
+    each (named_call n f es c) w k = (
+      calls n.note c f.name (known_first known _ _ k)
+          (front same all (leads n.note c f.name) (calls_in_arguments leads es) w),
+      each_named es (back same all (leads n.note c f.name) (calls_in_arguments leads es) w)
+          (known_later known _ _ k),
+    )
     each (parenthesized n e) w k = each e w (known_later known _ _ k)
     each (dereference n e) w k = tt
     each (borrow n m x) w k = tt
     each (borrow_part n x fields) w k = tt
     each (binary n op a b) w k =
-        let rest = known_later known _ (said_in types a ++ said_in types b) k in
-        (each a (front same all (calls_in leads a) (calls_in leads b) w)
-        (known_front known (said_in types a) (said_in types b) rest),
-        each b (back same all (calls_in leads a) (calls_in leads b) w)
-        (known_back known (said_in types a) (said_in types b) rest))
+        let rest = known_later known _ (said_in types a ++ said_in types b) k in (
+          each a (front same all (calls_in leads a) (calls_in leads b) w)
+              (known_front known (said_in types a) (said_in types b) rest),
+          each b (back same all (calls_in leads a) (calls_in leads b) w)
+              (known_back known (said_in types a) (said_in types b) rest),
+        )
     each (negation n e) w k = each e w (known_later known _ _ k)
     each (typed n e t) w k = each e w (known_later known _ _ k)
     each (choice n c a b) w k =
@@ -112,30 +115,33 @@ module _ {T C U D A : Type 0} (same : A → A → Bool) (all : List A) (leads : 
         let others = front same all some (calls_in leads b) w in
         let these = said_in types c ++ said_in types a in
         let rest = known_later known _ (these ++ said_in types b) k in
-        let two = known_front known these (said_in types b) rest in
-        (each c (front same all (calls_in leads c) (calls_in leads a) others)
-        (known_front known (said_in types c) (said_in types a) two),
-        each a (back same all (calls_in leads c) (calls_in leads a) others)
-        (known_back known (said_in types c) (said_in types a) two),
-        each b (back same all some (calls_in leads b) w) (known_back known these (said_in types b) rest))
+        let two = known_front known these (said_in types b) rest in (
+          each c (front same all (calls_in leads c) (calls_in leads a) others)
+              (known_front known (said_in types c) (said_in types a) two),
+          each a (back same all (calls_in leads c) (calls_in leads a) others)
+              (known_back known (said_in types c) (said_in types a) two),
+          each b (back same all some (calls_in leads b) w) (known_back known these (said_in types b) rest),
+        )
 
     each_all : (es : Expressions Bytes T C) → Within same all (calls_in_all leads es)
         → AllKnown known (said_in_all types es) → EachInAll mention claim (expressions_renoted change es)
     each_all no_expressions w k = tt
-    each_all (expressions e rest) w k =
-        (each e (front same all (calls_in leads e) (calls_in_all leads rest) w)
-        (known_front known (said_in types e) (said_in_all types rest) k),
-        each_all rest (back same all (calls_in leads e) (calls_in_all leads rest) w)
-        (known_back known (said_in types e) (said_in_all types rest) k))
+    each_all (expressions e rest) w k = (
+      each e (front same all (calls_in leads e) (calls_in_all leads rest) w)
+          (known_front known (said_in types e) (said_in_all types rest) k),
+      each_all rest (back same all (calls_in leads e) (calls_in_all leads rest) w)
+          (known_back known (said_in types e) (said_in_all types rest) k),
+    )
 
     each_named : (es : Arguments Bytes T C) → Within same all (calls_in_arguments leads es)
         → AllKnown known (said_in_arguments types es) → EachNamed mention claim (arguments_renoted change es)
     each_named no_arguments w k = tt
-    each_named (arguments label e rest) w k =
-        (each e (front same all (calls_in leads e) (calls_in_arguments leads rest) w)
-        (known_front known (said_in types e) (said_in_arguments types rest) k),
-        each_named rest (back same all (calls_in leads e) (calls_in_arguments leads rest) w)
-        (known_back known (said_in types e) (said_in_arguments types rest) k))
+    each_named (arguments label e rest) w k = (
+      each e (front same all (calls_in leads e) (calls_in_arguments leads rest) w)
+          (known_front known (said_in types e) (said_in_arguments types rest) k),
+      each_named rest (back same all (calls_in leads e) (calls_in_arguments leads rest) w)
+          (known_back known (said_in types e) (said_in_arguments types rest) k),
+    )
 
   mutual
     each_of : (s : Statement Bytes T C) → Within same all (calls_in_statement leads s)
@@ -146,32 +152,38 @@ module _ {T C U D A : Type 0} (same : A → A → Bool) (all : List A) (leads : 
     each_of (assign at n fields e) w k = each e w k
     each_of (assign_through at n fields e) w k = tt
     each_of (conditional at tests) w k = each_tests tests w k
-    each_of (conditional_else at tests b) w k =
-        (each_tests tests (front same all (calls_in_branches leads tests) (calls_in_block leads b) w)
-        (known_front known (said_in_branches types tests) (said_in_block types b) k),
-        each_block b (back same all (calls_in_branches leads tests) (calls_in_block leads b) w)
-        (known_back known (said_in_branches types tests) (said_in_block types b) k))
+    each_of (conditional_else at tests b) w k = (
+      each_tests tests (front same all (calls_in_branches leads tests) (calls_in_block leads b) w)
+          (known_front known (said_in_branches types tests) (said_in_block types b) k),
+      each_block b (back same all (calls_in_branches leads tests) (calls_in_block leads b) w)
+          (known_back known (said_in_branches types tests) (said_in_block types b) k),
+    )
     each_of (case_of at e cases) w k =
-        let first = known_front known (said_in types e) (said_in_arms types cases) k in
-        (here e first, each e (front same all (calls_in leads e) (calls_in_arms leads cases) w) first,
-        each_arms cases (back same all (calls_in leads e) (calls_in_arms leads cases) w)
-        (known_back known (said_in types e) (said_in_arms types cases) k))
-    each_of (while_loop at e b) w k =
-        (each e (front same all (calls_in leads e) (calls_in_block leads b) w)
-        (known_front known (said_in types e) (said_in_block types b) k),
-        each_block b (back same all (calls_in leads e) (calls_in_block leads b) w)
-        (known_back known (said_in types e) (said_in_block types b) k))
+        let first = known_front known (said_in types e) (said_in_arms types cases) k in (
+          here e first,
+          each e (front same all (calls_in leads e) (calls_in_arms leads cases) w) first,
+          each_arms cases (back same all (calls_in leads e) (calls_in_arms leads cases) w)
+              (known_back known (said_in types e) (said_in_arms types cases) k),
+        )
+    each_of (while_loop at e b) w k = (
+      each e (front same all (calls_in leads e) (calls_in_block leads b) w)
+          (known_front known (said_in types e) (said_in_block types b) k),
+      each_block b (back same all (calls_in leads e) (calls_in_block leads b) w)
+          (known_back known (said_in types e) (said_in_block types b) k),
+    )
     each_of (for_loop at n a z b) w k =
         let some = calls_in leads a ++ calls_in leads z in
         let others = front same all some (calls_in_block leads b) w in
         let these = said_in types a ++ said_in types z in
         let two = known_front known these (said_in_block types b) k in
-        let first = known_front known (said_in types a) (said_in types z) two in
-        (here a first, each a (front same all (calls_in leads a) (calls_in leads z) others) first,
-        each z (back same all (calls_in leads a) (calls_in leads z) others)
-        (known_back known (said_in types a) (said_in types z) two),
-        each_block b (back same all some (calls_in_block leads b) w)
-        (known_back known these (said_in_block types b) k))
+        let first = known_front known (said_in types a) (said_in types z) two in (
+          here a first,
+          each a (front same all (calls_in leads a) (calls_in leads z) others) first,
+          each z (back same all (calls_in leads a) (calls_in leads z) others)
+              (known_back known (said_in types a) (said_in types z) two),
+          each_block b (back same all some (calls_in_block leads b) w)
+              (known_back known these (said_in_block types b) k),
+        )
     each_of (borrow_in at access x r region b stop) w k = tt
     each_of (borrow_typed at r t mode x b stop) w k = tt
     each_of (discard at e) w k = each e w k
@@ -180,11 +192,12 @@ module _ {T C U D A : Type 0} (same : A → A → Bool) (all : List A) (leads : 
     pub each_block : (b : Statements Bytes T C) → Within same all (calls_in_block leads b)
         → AllKnown known (said_in_block types b) → EachOfBlock noted mention claim (block_renoted change b)
     each_block no_statements w k = tt
-    each_block (statements s rest) w k =
-        (each_of s (front same all (calls_in_statement leads s) (calls_in_block leads rest) w)
-        (known_front known (said_in_statement types s) (said_in_block types rest) k),
-        each_block rest (back same all (calls_in_statement leads s) (calls_in_block leads rest) w)
-        (known_back known (said_in_statement types s) (said_in_block types rest) k))
+    each_block (statements s rest) w k = (
+      each_of s (front same all (calls_in_statement leads s) (calls_in_block leads rest) w)
+          (known_front known (said_in_statement types s) (said_in_block types rest) k),
+      each_block rest (back same all (calls_in_statement leads s) (calls_in_block leads rest) w)
+          (known_back known (said_in_statement types s) (said_in_block types rest) k),
+    )
 
     each_tests : (tests : Branches Bytes T C) → Within same all (calls_in_branches leads tests)
         → AllKnown known (said_in_branches types tests) → EachOfTests noted mention claim (branches_renoted change tests)
@@ -193,19 +206,21 @@ module _ {T C U D A : Type 0} (same : A → A → Bool) (all : List A) (leads : 
         let some = calls_in leads e ++ calls_in_block leads b in
         let others = front same all some (calls_in_branches leads rest) w in
         let these = said_in types e ++ said_in_block types b in
-        let two = known_front known these (said_in_branches types rest) k in
-        (each e (front same all (calls_in leads e) (calls_in_block leads b) others)
-        (known_front known (said_in types e) (said_in_block types b) two),
-        each_block b (back same all (calls_in leads e) (calls_in_block leads b) others)
-        (known_back known (said_in types e) (said_in_block types b) two),
-        each_tests rest (back same all some (calls_in_branches leads rest) w)
-        (known_back known these (said_in_branches types rest) k))
+        let two = known_front known these (said_in_branches types rest) k in (
+          each e (front same all (calls_in leads e) (calls_in_block leads b) others)
+              (known_front known (said_in types e) (said_in_block types b) two),
+          each_block b (back same all (calls_in leads e) (calls_in_block leads b) others)
+              (known_back known (said_in types e) (said_in_block types b) two),
+          each_tests rest (back same all some (calls_in_branches leads rest) w)
+              (known_back known these (said_in_branches types rest) k),
+        )
 
     each_arms : (cases : Arms Bytes T C) → Within same all (calls_in_arms leads cases)
         → AllKnown known (said_in_arms types cases) → EachOfArms noted mention claim (arms_renoted change cases)
     each_arms no_arms w k = tt
-    each_arms (arms at n binds b rest) w k =
-        (each_block b (front same all (calls_in_block leads b) (calls_in_arms leads rest) w)
-        (known_front known (said_in_block types b) (said_in_arms types rest) k),
-        each_arms rest (back same all (calls_in_block leads b) (calls_in_arms leads rest) w)
-        (known_back known (said_in_block types b) (said_in_arms types rest) k))
+    each_arms (arms at n binds b rest) w k = (
+      each_block b (front same all (calls_in_block leads b) (calls_in_arms leads rest) w)
+          (known_front known (said_in_block types b) (said_in_arms types rest) k),
+      each_arms rest (back same all (calls_in_block leads b) (calls_in_arms leads rest) w)
+          (known_back known (said_in_block types b) (said_in_arms types rest) k),
+    )

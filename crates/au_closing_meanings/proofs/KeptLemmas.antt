@@ -141,10 +141,10 @@ module _ (program : List ModuleParts) (noted : List NotedParts) (entry : Instanc
         let change = closer program noted all body.place params one.given in
         let parameters = parameters_under program noted one.given body in
         let mention_says =
-            mention_agrees program noted all body.place params one.given functions round known says counts in
+        mention_agrees program noted all body.place params one.given functions round known says counts in
         let call_says =
-            call_agrees program noted all body.place params one.given functions round known says counts invoke other
-            same names_there none_behind in
+        call_agrees program noted all body.place params one.given functions round known says counts invoke other
+        same names_there none_behind in
         enters_same known change view closed
         (types_agree program noted all body.place params one.given functions round known says counts)
         invoke other depth number parameters (block_renoted mentions_named body.block)

@@ -55,13 +55,15 @@ module _ (round : Surroundings) (scope : Scope) where
   said_code e = code (view_in round) scope (expression closed e)
 
   -- that of an expression with this form
-  says : (d : List Draft) (e : ClosedExpr) (form : Expression Bytes ClosedNote (Rattle.au_closed_trees.specs.ClosedNotes.Callee ℕ))
+  says : (d : List Draft) (e : ClosedExpr) (form : Expression Bytes ClosedNote
+      (Rattle.au_closed_trees.specs.ClosedNotes.Callee ℕ))
       → expression closed e ≡ form → wrote (said_code e) d ≡ wrote (code (view_in round) scope form) d
   says d e form is = ap (λ x. wrote (code (view_in round) scope x) d) is
 
   module _ (d : List Draft) where
     pub number_code : (s : ClosedSite) (l : Literal)
-        → wrote (said_code (expr.Number s l)) d ≡ wrote (integer (view_in round) (node closed s).note l.value) d
+        → wrote (said_code (expr.Number s l)) d ≡ wrote
+        (integer (view_in round) (node closed s).note l.value) d
     number_code s l = says d _ _ (exprs.number_says closed s l)
 
     pub negative_code : (s : ClosedSite) (l : Literal)
@@ -80,7 +82,8 @@ module _ (round : Surroundings) (scope : Scope) where
     pub nil_code : (s : ClosedSite) → wrote (said_code (expr.Nil s)) d ≡ wrote (does instr.PushUnit) d
     nil_code s = says d _ _ (exprs.nil_says closed s)
 
-    path_is : (n : Rattle.au_syntax.specs.Expressions.Node ClosedNote) (x : Placed Bytes) (fields : List (Placed Bytes))
+    path_is : (n : Rattle.au_syntax.specs.Expressions.Node ClosedNote) (x : Placed Bytes)
+        (fields : List (Placed Bytes))
         → code {C = Rattle.au_closed_trees.specs.ClosedNotes.Callee ℕ} (view_in round) scope (path n x fields)
         ≡ path_code (view_in round) scope n.note x.name fields
     path_is n x [] = refl

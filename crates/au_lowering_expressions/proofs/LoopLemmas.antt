@@ -26,14 +26,16 @@ module _ (round : Surroundings) (scope : Scope) where
       let rest = code_of_all (view_in round) scope (expression_all closed (drop (i + 1) xs)) in
       ap (wrote rest) (written ∙ ap (λ y. wrote (said_code round scope y) d) is)
       ∙ sym (wrote_row (said_code round scope (get_or xs i x)) rest d)
-      ∙ sym (at_drop_more (λ es. wrote (code_of_all (view_in round) scope (expression_all closed es)) d) xs i x inside)
+      ∙ sym (at_drop_more (λ es. wrote (code_of_all (view_in round) scope (expression_all closed es)) d) xs
+      i x inside)
       ∙ so_far
 
   pub all_end : (xs : List ClosedExpr) (i : ℕ) (d whole : List Draft) → length xs ≤ i
       → wrote (code_of_all (view_in round) scope (expression_all closed (drop i xs))) d ≡ whole → d ≡ whole
   all_end xs i d whole ends so_far =
       sym (wrote_nothing d)
-      ∙ sym (at_drop_all (λ es. wrote (code_of_all (view_in round) scope (expression_all closed es)) d) xs i ends)
+      ∙ sym (at_drop_all (λ es. wrote (code_of_all (view_in round) scope (expression_all closed es)) d) xs i
+      ends)
       ∙ so_far
 
   pub named_step : (xs : List ClosedArgument) (i : ℕ) (x : ClosedArgument) (d more whole : List Draft)
@@ -44,14 +46,16 @@ module _ (round : Surroundings) (scope : Scope) where
       let rest = code_of_named (view_in round) scope (argument_all closed (drop (i + 1) xs)) in
       ap (wrote rest) (written ∙ ap (λ (y : ClosedArgument). wrote (said_code round scope y.value) d) is)
       ∙ sym (wrote_row (said_code round scope (get_or xs i x).value) rest d)
-      ∙ sym (at_drop_more (λ es. wrote (code_of_named (view_in round) scope (argument_all closed es)) d) xs i x inside)
+      ∙ sym (at_drop_more (λ es. wrote (code_of_named (view_in round) scope (argument_all closed es)) d) xs
+      i x inside)
       ∙ so_far
 
   pub named_end : (xs : List ClosedArgument) (i : ℕ) (d whole : List Draft) → length xs ≤ i
       → wrote (code_of_named (view_in round) scope (argument_all closed (drop i xs))) d ≡ whole → d ≡ whole
   named_end xs i d whole ends so_far =
       sym (wrote_nothing d)
-      ∙ sym (at_drop_all (λ es. wrote (code_of_named (view_in round) scope (argument_all closed es)) d) xs i ends)
+      ∙ sym (at_drop_all (λ es. wrote (code_of_named (view_in round) scope (argument_all closed es)) d) xs i
+      ends)
       ∙ so_far
 
 -- ---- whether a borrow is opened
@@ -74,7 +78,8 @@ opens_step xs i x inside is =
 pub opens_named_step : (xs : List ClosedArgument) (i : ℕ) (x : ClosedArgument) → i < length xs
     → x ≡ get_or xs i x
     → one_opens_named (argument_all closed (drop i xs))
-    ≡ (if opens (expression closed x.value) then true else one_opens_named (argument_all closed (drop (i + 1) xs)))
+    ≡ (if opens (expression closed x.value) then true else one_opens_named
+    (argument_all closed (drop (i + 1) xs)))
 opens_named_step xs i x inside is =
     at_drop_more (λ es. one_opens_named (argument_all closed es)) xs i x inside
     ∙ first_of (opens (expression closed (get_or xs i x).value))

@@ -99,12 +99,14 @@ operand_is scope (choice n c a b) other = refl
 -- ---- names with and without fields
 
 -- a name alone is its variable, and a part of one isn't alone
-pub alone_path : {T : Type 0} (C : Type 0) (scope : Scope) (n : Node T) (x : Placed Bytes) (fields : List (Placed Bytes))
+pub alone_path : {T : Type 0} (C : Type 0) (scope : Scope) (n : Node T) (x : Placed Bytes)
+    (fields : List (Placed Bytes))
     → length fields ≡ 0 → alone {C = C} scope (path n x fields) ≡ variable_of scope x.name
 alone_path C scope n x [] is = refl
 alone_path C scope n x (field ∷ rest) is = absurd (omega arith)
 
-pub alone_part : {T : Type 0} (C : Type 0) (scope : Scope) (n : Node T) (x : Placed Bytes) (fields : List (Placed Bytes))
+pub alone_part : {T : Type 0} (C : Type 0) (scope : Scope) (n : Node T) (x : Placed Bytes)
+    (fields : List (Placed Bytes))
     → length fields ≢ 0 → alone {C = C} scope (path n x fields) ≡ None
 alone_part C scope n x [] isnt = absurd (isnt refl)
 alone_part C scope n x (field ∷ rest) isnt = refl

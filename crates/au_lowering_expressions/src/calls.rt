@@ -91,7 +91,8 @@ pub fn put_call<R: Lookup>(
     out: &mut Vec<Draft>,
 ) -> Result<(), Memory>
     ensures { OnOk result (drafts_said out.new.items
-        ≡ wrote (calls (call_noted (R.round lookup.now) (closed_note note.now) (callee_said callee.now)) placed)
+        ≡ wrote (calls (call_noted (R.round lookup.now) (closed_note note.now) (callee_said callee.now))
+        placed)
         (drafts_said out.old.items)) }
 {
     let found = lookup.called(alloc, note, callee)?;

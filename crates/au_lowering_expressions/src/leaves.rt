@@ -200,7 +200,8 @@ pub fn put_path<R: Lookup>(
     out: &mut Vec<Draft>,
 ) -> Result<(), Memory>
     ensures { OnOk result (drafts_said out.new.items
-        ≡ wrote (path_code (view_in (R.round lookup.now)) (scope_said scope.now) (closed_note note.now) name.now
+        ≡ wrote (path_code (view_in (R.round lookup.now)) (scope_said scope.now) (closed_note note.now)
+        name.now
         (map (placed closed) fields.now.items)) (drafts_said out.old.items)) }
 {
     if fields.is_empty() {
@@ -358,7 +359,8 @@ pub fn put_alone(
     of: &Expr<ClosedTrees>,
     out: &mut Vec<Draft>,
 ) -> Result<bool, Memory>
-    ensures found { IfOk result (λ found. found ≡ is_some (alone_in (scope_said scope.now) (expression closed of.now))) }
+    ensures found { IfOk result (λ found. found ≡ is_some
+        (alone_in (scope_said scope.now) (expression closed of.now))) }
     ensures written { OnOk result (drafts_said out.new.items
         ≡ wrote (spec.looked_at (alone_in (scope_said scope.now) (expression closed of.now)) nothing)
         (drafts_said out.old.items)) }

@@ -42,7 +42,8 @@ pub fn by_position(alloc: Global, parameters: &Vec<Name>) -> Result<Vec<u32>, Me
 /// The number of the argument with a label, and how many there are where none has it.
 fn argument_of(name: &Name, labels: &Vec<Argument<ClosedTrees>>) -> Result<u32, Memory>
     ensures { IfOk result (λ number. number
-        ≡ position_or_len (λ label. bytes_eq label name.now) (labels_in (argument_all closed labels.now.items))) }
+        ≡ position_or_len (λ label. bytes_eq label name.now)
+        (labels_in (argument_all closed labels.now.items))) }
 {
     let mut number = 0;
     for one in labels {

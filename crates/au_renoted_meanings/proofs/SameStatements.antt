@@ -102,7 +102,7 @@ module _ {I J T C U D : Type 0} (known : ClosedType → Bool) (change : Change B
   module _ (invoke : I → List Value → Action Value) (other : J → List Value → Action Value) (depth : ℕ) where
     value_same : {scope scope2 : Scope} (e : Expression Bytes T C)
         → EachIn (AgreeOnMention known change one two)
-          (AgreeOnCall known change one two invoke other) e → ScopeCounts known scope → scope ≡ scope2
+        (AgreeOnCall known change one two invoke other) e → ScopeCounts known scope → scope ≡ scope2
         → eval one invoke scope e ≡ eval two other scope2 (expression_renoted change e)
     value_same e ok h s = eval_same known change one two agree invoke other e ok h s
 

@@ -48,44 +48,44 @@ module _ {T C : Type 0} (mentioned : T → Bytes → Type 0) (called : T → C �
 -- the same in statements, and what is said of the note of an expression whose type counts: of a value that
 -- gets a name, of one that is taken apart, and of the first bound of a loop
 module _ {T C : Type 0} (noted : T → Type 0) (mentioned : T → Bytes → Type 0) (called : T → C → Bytes → Type 0)
-    where
-  -- in an expression of a statement
-  abbrev pub EachHere : Expression Bytes T C → Type 0
-  EachHere e = EachIn mentioned called e
+  where
+    -- in an expression of a statement
+    abbrev pub EachHere : Expression Bytes T C → Type 0
+    EachHere e = EachIn mentioned called e
 
-  abbrev mutual
-    -- in a statement
-    pub EachOf : Statement Bytes T C → Type 0
-    EachOf (skip at) = Unit {0}
-    EachOf (declare at binding name t e) = noted (note_of e) × EachHere e
-    EachOf (destructure at binds e) = noted (note_of e) × EachHere e
-    EachOf (assign at x fields e) = EachHere e
-    EachOf (assign_through at r fields e) = Unit {0}
-    EachOf (conditional at tests) = EachOfTests tests
-    EachOf (conditional_else at tests block) = EachOfTests tests × EachOfBlock block
-    EachOf (case_of at e all) = noted (note_of e) × EachHere e × EachOfArms all
-    EachOf (while_loop at e block) = EachHere e × EachOfBlock block
-    EachOf (for_loop at name first last block) =
-        noted (note_of first) × EachHere first × EachHere last × EachOfBlock block
-    EachOf (borrow_in at access x r region block stop) = Unit {0}
-    EachOf (borrow_typed at r t mode x block stop) = Unit {0}
-    EachOf (discard at e) = EachHere e
-    EachOf (return_of at e) = EachHere e
+    abbrev mutual
+      -- in a statement
+      pub EachOf : Statement Bytes T C → Type 0
+      EachOf (skip at) = Unit {0}
+      EachOf (declare at binding name t e) = noted (note_of e) × EachHere e
+      EachOf (destructure at binds e) = noted (note_of e) × EachHere e
+      EachOf (assign at x fields e) = EachHere e
+      EachOf (assign_through at r fields e) = Unit {0}
+      EachOf (conditional at tests) = EachOfTests tests
+      EachOf (conditional_else at tests block) = EachOfTests tests × EachOfBlock block
+      EachOf (case_of at e all) = noted (note_of e) × EachHere e × EachOfArms all
+      EachOf (while_loop at e block) = EachHere e × EachOfBlock block
+      EachOf (for_loop at name first last block) =
+          noted (note_of first) × EachHere first × EachHere last × EachOfBlock block
+      EachOf (borrow_in at access x r region block stop) = Unit {0}
+      EachOf (borrow_typed at r t mode x block stop) = Unit {0}
+      EachOf (discard at e) = EachHere e
+      EachOf (return_of at e) = EachHere e
 
-    -- in a block
-    pub EachOfBlock : Statements Bytes T C → Type 0
-    EachOfBlock no_statements = Unit {0}
-    EachOfBlock (statements s rest) = EachOf s × EachOfBlock rest
+      -- in a block
+      pub EachOfBlock : Statements Bytes T C → Type 0
+      EachOfBlock no_statements = Unit {0}
+      EachOfBlock (statements s rest) = EachOf s × EachOfBlock rest
 
-    -- in the branches of a conditional
-    pub EachOfTests : Branches Bytes T C → Type 0
-    EachOfTests no_branches = Unit {0}
-    EachOfTests (branches e block rest) = EachHere e × EachOfBlock block × EachOfTests rest
+      -- in the branches of a conditional
+      pub EachOfTests : Branches Bytes T C → Type 0
+      EachOfTests no_branches = Unit {0}
+      EachOfTests (branches e block rest) = EachHere e × EachOfBlock block × EachOfTests rest
 
-    -- in the arms of a case
-    pub EachOfArms : Arms Bytes T C → Type 0
-    EachOfArms no_arms = Unit {0}
-    EachOfArms (arms at name binds block rest) = EachOfBlock block × EachOfArms rest
+      -- in the arms of a case
+      pub EachOfArms : Arms Bytes T C → Type 0
+      EachOfArms no_arms = Unit {0}
+      EachOfArms (arms at name binds block rest) = EachOfBlock block × EachOfArms rest
 
 -- ---- the types that count
 

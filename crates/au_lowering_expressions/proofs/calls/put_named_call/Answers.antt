@@ -12,6 +12,7 @@ use Rattle.au_lowering_expressions.proofs.calls.put_named_call.Goals as goal
 
 pub returns-in-None : goal.returns-in-None
 returns-in-None g c =
-    none_written _ (λ (one : Callee ℕ). acts one.act ((by_labels (labels (argument_all closed c.args.labels.now.items))) one.parameters))
+    none_written _ (λ (one : Callee ℕ). acts one.act
+    ((by_labels (labels (argument_all closed c.args.labels.now.items))) one.parameters))
     (drafts_said c.args.out.now.items)
     (sym c.in_ok-found.ensures ∙ ap (option_map called_said) c.in-None.is)

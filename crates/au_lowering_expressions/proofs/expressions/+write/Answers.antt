@@ -158,9 +158,11 @@ write_all-loop-one-preserved g t c =
 pub write_all-returns : goal.write_all-returns
 write_all-returns g t c =
     loops.all_end (g.R.Lookup.round c.args.lookup.now) (scope_said c.args.scope.now)
-    c.deref-one-items.result.now c.loop-one.one-index (drafts_said c.loop-one.out.items) _ c.loop-one-test.false
+    c.deref-one-items.result.now c.loop-one.one-index (drafts_said c.loop-one.out.items) _
+    c.loop-one-test.false
     (c.loop-one.invariant
-    ∙ ap (λ es. wrote (code_of_all (view_in (g.R.Lookup.round c.args.lookup.now)) (scope_said c.args.scope.now)
+    ∙ ap (λ es. wrote (code_of_all (view_in (g.R.Lookup.round c.args.lookup.now))
+    (scope_said c.args.scope.now)
     (expression_all closed es)) (drafts_said c.args.out.now.items)) c.deref-one-items.ensures.value)
 
 pub write_arguments-loop-one-preserved : goal.write_arguments-loop-one-preserved
@@ -172,7 +174,9 @@ write_arguments-loop-one-preserved g t c =
 pub write_arguments-returns : goal.write_arguments-returns
 write_arguments-returns g t c =
     loops.named_end (g.R.Lookup.round c.args.lookup.now) (scope_said c.args.scope.now)
-    c.deref-one-items.result.now c.loop-one.one-index (drafts_said c.loop-one.out.items) _ c.loop-one-test.false
+    c.deref-one-items.result.now c.loop-one.one-index (drafts_said c.loop-one.out.items) _
+    c.loop-one-test.false
     (c.loop-one.invariant
-    ∙ ap (λ es. wrote (code_of_named (view_in (g.R.Lookup.round c.args.lookup.now)) (scope_said c.args.scope.now)
+    ∙ ap (λ es. wrote (code_of_named (view_in (g.R.Lookup.round c.args.lookup.now))
+    (scope_said c.args.scope.now)
     (argument_all closed es)) (drafts_said c.args.out.now.items)) c.deref-one-items.ensures.value)

@@ -9,5 +9,6 @@ use Rattle.au_lowering_expressions.proofs.expressions.put_arith.Goals as goal
 
 pub returns-in-None : goal.returns-in-None
 returns-in-None c =
-    none_written (meant.kind_in (Some (closed_note c.args.note.now).of)) (λ kind. does (instr.Arith c.args.op kind)) (drafts_said c.args.out.now.items)
+    none_written (meant.kind_in (Some (closed_note c.args.note.now).of))
+    (λ kind. does (instr.Arith c.args.op kind)) (drafts_said c.args.out.now.items)
     (sym c.kind_in.ensures ∙ c.in-None.is)

@@ -9,5 +9,6 @@ use Rattle.au_lowering_expressions.proofs.expressions.put_compare.Goals as goal
 
 pub returns-in-None : goal.returns-in-None
 returns-in-None c =
-    none_written (meant.compared_kind (Some (closed_note c.args.note.now).of)) (λ kind. does (instr.Compare c.args.order kind)) (drafts_said c.args.out.now.items)
+    none_written (meant.compared_kind (Some (closed_note c.args.note.now).of))
+    (λ kind. does (instr.Compare c.args.order kind)) (drafts_said c.args.out.now.items)
     (sym c.compared_kind.ensures ∙ c.in-None.is)

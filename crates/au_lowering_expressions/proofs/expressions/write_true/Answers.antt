@@ -9,6 +9,7 @@ use Rattle.au_lowering_expressions.proofs.expressions.write_true.Goals as goal
 pub returns : goal.returns
 returns c =
     first_written (does pushes_true) (drafts_said c.args.out.now.items) (drafts_said c.put.new.out.items)
-    (drafts_said c.put-2.new.out.items) (drafts_said c.end_first.new.out.items) c.len-test.result c.len-jump.result
+    (drafts_said c.put-2.new.out.items) (drafts_said c.end_first.new.out.items) c.len-test.result
+    c.len-jump.result
     (cc (length-map c.args.out.now.items draft_said)) c.in_ok-put.ensures c.in_ok-put-2.ensures
     (cc (length-map c.put-2.new.out.items draft_said)) c.in_ok-end_first.ensures

@@ -19,7 +19,8 @@ returns-then-is_empty t c =
     ∙ eqb-true p.fields.len 0 (sym c.is_empty.ensures ∙ c.if-is_empty.true) in
     c.find_local.ensures
     ∙ sym (ap (alone scope) (ap (expression closed) p.is ∙ path_says closed p.field-0 p.name p.fields)
-    ∙ alone_path (Callee ℕ) scope (node closed p.field-0) (placed closed p.name) (map (placed closed) p.fields.items) none)
+    ∙ alone_path (Callee ℕ) scope (node closed p.field-0) (placed closed p.name)
+    (map (placed closed) p.fields.items) none)
 
 pub returns-else-is_empty : goal.returns-else-is_empty
 returns-else-is_empty t c =
@@ -29,4 +30,5 @@ returns-else-is_empty t c =
     λ e. eqb-false p.fields.len 0 (sym c.is_empty.ensures ∙ c.if-is_empty.false)
     (p.fields.ok.0 ∙ sym (length-map p.fields.items (placed closed)) ∙ e) in
     sym (ap (alone scope) (ap (expression closed) p.is ∙ path_says closed p.field-0 p.name p.fields)
-    ∙ alone_part (Callee ℕ) scope (node closed p.field-0) (placed closed p.name) (map (placed closed) p.fields.items) some)
+    ∙ alone_part (Callee ℕ) scope (node closed p.field-0) (placed closed p.name)
+    (map (placed closed) p.fields.items) some)

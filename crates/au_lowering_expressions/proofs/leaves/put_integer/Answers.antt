@@ -9,5 +9,6 @@ use Rattle.au_lowering_expressions.proofs.leaves.put_integer.Goals as goal
 
 pub returns-in-None : goal.returns-in-None
 returns-in-None g c =
-    none_written (meant.kind_in (Some (closed_note c.args.note.now).of)) (λ kind. does (instr.Push kind c.args.value)) (drafts_said c.args.out.now.items)
+    none_written (meant.kind_in (Some (closed_note c.args.note.now).of))
+    (λ kind. does (instr.Push kind c.args.value)) (drafts_said c.args.out.now.items)
     (sym c.kind_in.ensures ∙ c.in-None.is)

@@ -9,7 +9,8 @@ use Rattle.au_lowering_expressions.proofs.locals.find_local.Goals as goal
 pub loop-one-preserved : goal.loop-one-preserved
 loop-one-preserved c =
     c.innermost-found.ensures
-    ∙ ap (λ o. if bytes_eq c.one-item.result.name c.args.name.now then Some (local_said c.one-item.result) else o)
+    ∙ ap (λ o. if bytes_eq c.one-item.result.name c.args.name.now then Some (local_said c.one-item.result)
+    else o)
     c.loop-one.invariant
     ∙ sym (ap (λ s. variable_of s c.args.name.now)
     (scope_step c.args.scope.now c.loop-one.one-index c.one-item.result c.loop-one-test.true c.one-item.is))

@@ -7,7 +7,8 @@ use Rattle.au_lowering_expressions.proofs.opening.+opens.Given as goal
 -- none so far opens a borrow, so those that are left decide
 abbrev pub invariant-one_opens-loop-one : goal.invariant-one_opens-loop-one
 invariant-one_opens-loop-one l =
-    one_opens (expression_all closed (drop l.one-index l.one-items)) ≡ one_opens (expression_all closed l.one-items)
+    one_opens (expression_all closed (drop l.one-index l.one-items)) ≡ one_opens
+    (expression_all closed l.one-items)
 
 abbrev pub invariant-one_opens_named-loop-one : goal.invariant-one_opens_named-loop-one
 invariant-one_opens_named-loop-one l =

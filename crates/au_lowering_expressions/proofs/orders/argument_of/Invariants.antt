@@ -11,5 +11,6 @@ abbrev pub invariant-loop-one : goal.invariant-loop-one
 invariant-loop-one l =
     (l.number ≡ l.one-index)
     × (l.number
-    + position_or_len (λ label. bytes_eq label l.name) (labels (argument_all closed (drop l.one-index l.one-items)))
+    + position_or_len (λ label. bytes_eq label l.name)
+    (labels (argument_all closed (drop l.one-index l.one-items)))
     ≡ position_or_len (λ label. bytes_eq label l.name) (labels (argument_all closed l.one-items)))

@@ -5,6 +5,7 @@ use Rattle.au_lowering_expressions.proofs.orders.by_position.Goals as goal
 
 pub loop-number-preserved : goal.loop-number-preserved
 loop-number-preserved c =
-    numbers_step c.args.parameters.now.items c.loop-number.number c.loop-number.order.items c.push.new.self.items
+    numbers_step c.args.parameters.now.items c.loop-number.number c.loop-number.order.items
+    c.push.new.self.items
     c.in_ok-number.number (grind (arith, common_steps)) c.loop-number.invariant c.in_ok-number.ensures
     (grind (arith, common_steps))

@@ -12,7 +12,8 @@ use Rattle.au_lowering_expressions.proofs.parts.numbers_from.Given as goal
 -- the numbers so far, and those of the names that are left, are those of all
 abbrev pub invariant-loop-one : goal.invariant-loop-one
 invariant-loop-one g l =
-    behind_them l.numbers.items (numbers_along (view_in (g.R.Lookup.round l.lookup)) (Some (closed_meaning l.at))
+    behind_them l.numbers.items (numbers_along (view_in (g.R.Lookup.round l.lookup))
+    (Some (closed_meaning l.at))
     (names_of (map (placed closed) (drop l.one-index l.one-items))))
     ≡ numbers_along (view_in (g.R.Lookup.round l.lookup)) (Some (closed_meaning l.fn.from))
     (names_of (map (placed closed) l.one-items))
