@@ -1,0 +1,58 @@
+use Rattle.std.proofs.Common.{◌≡◌, ℕ, ◌+◌, Option, length, map, ap, sym, ◌∙◌, arith}
+use Rattle.au_closed_trees.specs.contracts.phase.ClosedTreesPhase.TheImpl.{ghosts as closed}
+use Rattle.au_closed_trees.specs.Views.{closed_note}
+use Rattle.au_closed_types.specs.Views.{closed_meaning}
+use Rattle.au_closed_views.specs.Surroundings.{view_in}
+use Rattle.au_effects.specs.Parts.{along}
+use Rattle.au_lowered.specs.Slots.{fields_of_case, known, with_fields}
+use Rattle.au_lowering_expressions.specs.Views.{scope_said}
+use Rattle.au_lowering_statements.proofs.BlockLemmas.{begins_same, known_same, no_fields}
+use Rattle.au_meaning.specs.Statements.{fields_noted}
+use Rattle.au_syntax.specs.Views.{bound}
+use Rattle.au_lowering_statements.proofs.arms.enter_arm.Goals as goal
+
+pub returns-in-None-clause-next : goal.returns-in-None-clause-next
+returns-in-None-clause-next g c =
+    let see = view_in (g.R.Lookup.round c.args.lookup.now) in
+    let note = closed_note c.args.note.now in
+    let none : length (fields_of_case see note c.args.name.now) ≡ 0 =
+    ap (λ (o : Option ℕ). length (known (along o (fields_noted see note))))
+    (sym c.tag.ensures ∙ c.in-None.is) in
+    omega (arith, none)
+
+pub returns-in-None-clause-said : goal.returns-in-None-clause-said
+returns-in-None-clause-said g c =
+    let see = view_in (g.R.Lookup.round c.args.lookup.now) in
+    let note = closed_note c.args.note.now in
+    let scope = scope_said c.args.scope.now.items in
+    let binds = map (bound closed) c.args.binds.now.items in
+    sym (ap (λ (o : Option ℕ). with_fields (known (along o (fields_noted see note))) c.args.slot binds scope)
+    (sym c.tag.ensures ∙ c.in-None.is)
+    ∙ no_fields c.args.slot binds scope)
+
+pub returns-in-None-clause-keeps : goal.returns-in-None-clause-keeps
+returns-in-None-clause-keeps g c = begins_same c.args.scope.now.items
+
+pub returns-in_ok-next-in-Some-clause-next : goal.returns-in_ok-next-in-Some-clause-next
+returns-in_ok-next-in-Some-clause-next g c =
+    let round = g.R.Lookup.round c.args.lookup.now in
+    let note = closed_note c.args.note.now in
+    c.in_ok-next-in-Some.ensures
+    ∙ ap (λ n. c.args.slot + n)
+    (c.count.ensures
+    ∙ ap length (sym (known_same (round.fields (closed_meaning c.args.note.now.of) c.in-Some.tag)))
+    ∙ sym (ap (λ (o : Option ℕ). length (known (along o (fields_noted (view_in round) note))))
+    (sym c.tag.ensures ∙ c.in-Some.is)))
+
+pub returns-in_ok-next-in-Some-clause-said : goal.returns-in_ok-next-in-Some-clause-said
+returns-in_ok-next-in-Some-clause-said g c =
+    let round = g.R.Lookup.round c.args.lookup.now in
+    let note = closed_note c.args.note.now in
+    let scope = scope_said c.args.scope.now.items in
+    let binds = map (bound closed) c.args.binds.now.items in
+    c.in_ok-bind_fields-in-Some.ensures.said
+    ∙ ap (λ fields. with_fields fields c.args.slot binds scope)
+    (sym (known_same (round.fields (closed_meaning c.args.note.now.of) c.in-Some.tag)))
+    ∙ sym (ap (λ (o : Option ℕ). with_fields (known (along o (fields_noted (view_in round) note)))
+    c.args.slot binds scope)
+    (sym c.tag.ensures ∙ c.in-Some.is))

@@ -1,0 +1,35 @@
+use Rattle.std.proofs.Common.{map, refl, ap, sym, ◌∙◌}
+use Rattle.std.proofs.lemmas.List.{at_drop_all}
+use Rattle.au_closed_trees.specs.contracts.phase.ClosedTreesPhase.TheImpl.{ghosts as closed}
+use Rattle.au_closed_types.specs.Views.{closed_meaning}
+use Rattle.au_closed_views.specs.Surroundings.{fields_in}
+use Rattle.au_lowered.specs.Slots.{with_fields}
+use Rattle.au_lowering_expressions.specs.Views.{scope_said}
+use Rattle.au_lowering_statements.proofs.BlockLemmas.{begins_more, begins_same, fields_step}
+use Rattle.au_syntax.specs.Views.{bound}
+use Rattle.au_lowering_statements.proofs.entering.bind_fields.Goals as goal
+
+pub loop-one-init : goal.loop-one-init
+loop-one-init g c = (begins_same c.args.scope.now.items, refl)
+
+pub loop-one-preserved : goal.loop-one-preserved
+loop-one-preserved g c = (
+  begins_more c.args.scope.now.items c.loop-one.scope.items c.bind_field.new.scope.items
+      c.loop-one.invariant.0 c.in_ok-bind_field.ensures.keeps,
+  fields_step (fields_in (g.R.Lookup.round c.args.lookup.now) (closed_meaning c.args.of.now) c.args.tag)
+      c.args.slot c.deref-one-items.result.now c.loop-one.one-index c.one-item.result _ _ _
+      c.loop-one-test.true c.one-item.is c.in_ok-bind_field.ensures.said c.loop-one.invariant.1,
+)
+
+pub returns-clause-said : goal.returns-clause-said
+returns-clause-said g c =
+    let fields = fields_in (g.R.Lookup.round c.args.lookup.now) (closed_meaning c.args.of.now) c.args.tag in
+    sym (at_drop_all (λ all. with_fields fields c.args.slot (map (bound closed) all)
+    (scope_said c.loop-one.scope.items))
+    c.deref-one-items.result.now c.loop-one.one-index c.loop-one-test.false)
+    ∙ c.loop-one.invariant.1
+    ∙ ap (λ all. with_fields fields c.args.slot (map (bound closed) all) (scope_said c.args.scope.now.items))
+    c.deref-one-items.ensures.value
+
+pub returns-clause-keeps : goal.returns-clause-keeps
+returns-clause-keeps g c = c.loop-one.invariant.0

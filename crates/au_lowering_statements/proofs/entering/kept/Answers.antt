@@ -1,0 +1,45 @@
+use Rattle.std.proofs.Common.{arith}
+use Rattle.au_syntax.proofs.StatementLemmas as says
+use Rattle.au_lowering_statements.proofs.entering.kept.Goals as goal
+
+pub returns-in-Skip : goal.returns-in-Skip
+returns-in-Skip g c = grind (arith, says.skip_says)
+
+pub returns-in-Let : goal.returns-in-Let
+returns-in-Let g c = grind (arith, says.let_says)
+
+pub returns-in-Destructure : goal.returns-in-Destructure
+returns-in-Destructure g c = grind (arith, says.destructure_says)
+
+pub returns-in-Assign : goal.returns-in-Assign
+returns-in-Assign g c = grind (arith, says.assign_says)
+
+pub returns-in-AssignThrough : goal.returns-in-AssignThrough
+returns-in-AssignThrough g c = grind (arith, says.assign_through_says)
+
+pub returns-in-If : goal.returns-in-If
+returns-in-If g c = grind (arith, says.if_says)
+
+pub returns-in-IfElse : goal.returns-in-IfElse
+returns-in-IfElse g c = grind (arith, says.if_else_says)
+
+pub returns-in-Case : goal.returns-in-Case
+returns-in-Case g c = grind (arith, says.case_says)
+
+pub returns-in-While : goal.returns-in-While
+returns-in-While g c = grind (arith, says.while_says)
+
+pub returns-in-For : goal.returns-in-For
+returns-in-For g c = grind (arith, says.for_says)
+
+pub returns-in-Borrow : goal.returns-in-Borrow
+returns-in-Borrow g c = grind (arith, says.borrow_says)
+
+pub returns-in-BorrowTyped : goal.returns-in-BorrowTyped
+returns-in-BorrowTyped g c = grind (arith, says.borrow_typed_says)
+
+pub returns-in-Call : goal.returns-in-Call
+returns-in-Call g c = grind (arith, says.call_says)
+
+pub returns-in-Return : goal.returns-in-Return
+returns-in-Return g c = grind (arith, says.return_says)
