@@ -52,7 +52,8 @@ use Rattle.au_closing_meanings.proofs.EachLemmas.{Within}
 
 -- a function does the same with other notes
 pub enters_same : {I J T C U D : Type 0} (known : ClosedType → Bool) (change : Change Bytes T C U D)
-    (one : View I T C) (two : View J U D) (agree : AgreeOnTypes known change one two) (invoke : I → List Value → Action Value)
+    (one : View I T C) (two : View J U D) (agree : AgreeOnTypes known change one two)
+    (invoke : I → List Value → Action Value)
     (other : J → List Value → Action Value) (depth first : ℕ) (parameters : List Field)
     (body : Statements Bytes T C)
     → FieldsCount known parameters
@@ -64,13 +65,15 @@ enters_same known change one two agree invoke other depth first parameters body 
     λ i args. where_true (length args == length parameters) (do
       does (begins (new_names first args (names_same_block change body i)))
       flow ← one_meaning known change one two invoke other depth (first + length args)
-          (with_parameters first parameters []) body agree (parameters_count known first parameters count [] tt) ok i
+          (with_parameters first parameters []) body agree
+          (parameters_count known first parameters count [] tt) ok i
       leaves_frame flow)
 
 -- ---- calls
 
 -- a call of what has parameters does the same where what is done with arguments is the same
-calls_known : {I J T C U D : Type 0} (one : View I T C) (two : View J U D) (invoke : I → List Value → Action Value)
+calls_known : {I J T C U D : Type 0} (one : View I T C) (two : View J U D)
+    (invoke : I → List Value → Action Value)
     (other : J → List Value → Action Value) (act : Act I) (act2 : Act J)
     → acts one invoke act ≡ acts two other act2
     → (names : Option (List Bytes)) (order : List Bytes → Option (List Value))
@@ -79,23 +82,40 @@ calls_known : {I J T C U D : Type 0} (one : View I T C) (two : View J U D) (invo
 calls_known one two invoke other act act2 same None order = refl
 calls_known one two invoke other act act2 same (Some names) order = λ i. needing (order names) (same i)
 
+-- the same of what has fields, where what is done is the same where the fields are known
+makes_known : {I J T C U D : Type 0} (one : View I T C) (two : View J U D)
+    (invoke : I → List Value → Action Value) (other : J → List Value → Action Value) (act : Act I) (act2 : Act J)
+    (fields : Option (List Field))
+    → ((all : List Field) → fields ≡ Some all → acts one invoke act ≡ acts two other act2)
+    → (order : List Bytes → Option (List Value))
+    → calls one invoke
+    (option_map (λ (all : List Bytes). record { parameters = all; act = act }) (option_map field_names fields)) order
+    ≡ calls two other
+    (option_map (λ (all : List Bytes). record { parameters = all; act = act2 }) (option_map field_names fields)) order
+makes_known one two invoke other act act2 None same order = refl
+makes_known one two invoke other act act2 (Some all) same order =
+    λ i. needing (order (field_names all)) (same all refl i)
+
 -- a call that leads to a constructor makes a value of this type
 abbrev MakesOf : ClosedType → Callee (Option Instance) → Type 0
 MakesOf of (instance one) = Unit {0}
 MakesOf of (constructor made tag) = made ≡ of
 MakesOf of (shipped call) = Unit {0}
 
-shipped_makes : (of : ClosedType) (call : Option ShippedCall) (one : Instance) → MakesOf of (shipped_or call one)
+shipped_makes : (of : ClosedType) (call : Option ShippedCall) (one : Instance)
+    → MakesOf of (shipped_or call one)
 shipped_makes of None one = tt
 shipped_makes of (Some call) one = tt
 
-method_makes : (program : List ModuleParts) (rows : List Row) (of : ClosedType) (name : Bytes) (t : ClosedType)
+method_makes : (program : List ModuleParts) (rows : List Row) (of : ClosedType) (name : Bytes)
+    (t : ClosedType)
     (row : Option Row) → MakesOf of (method_leads program rows name t row)
 method_makes program rows of name t None = tt
 method_makes program rows of name t (Some row) = shipped_makes of _ _
 
 called_makes : (program : List ModuleParts) (rows : List Row) (given : Given) (note : Note) (target : Target)
-    (called : Option Called) → MakesOf (closed_under given note.of) (called_leads program rows given note target called)
+    (called : Option Called)
+    → MakesOf (closed_under given note.of) (called_leads program rows given note target called)
 called_makes program rows given note target None = tt
 called_makes program rows given note target (Some (a_function name names)) =
     shipped_makes (closed_under given note.of) _ _
@@ -104,7 +124,8 @@ called_makes program rows given note target (Some (a_method name param)) =
     (closed_under given (substituted (unwrap_or note.call []) (parameter param))) _
 called_makes program rows given note target (Some (a_maker place)) = refl
 
-target_makes : (program : List ModuleParts) (rows : List Row) (given : Given) (note : Note) (target : Option Target)
+target_makes : (program : List ModuleParts) (rows : List Row) (given : Given) (note : Note)
+    (target : Option Target)
     → MakesOf (closed_under given note.of) (target_leads program rows given note target)
 target_makes program rows given note None = tt
 target_makes program rows given note (Some target) = called_makes program rows given note target _
@@ -174,7 +195,8 @@ module _ (program : List ModuleParts) (noted : List NotedParts) (all : List Inst
         (named : (x : Instance) → Has same_instance all x
         → names_of_instance program noted x ≡ names_at functions (place_in x all))
         (none : names_at functions (length all) ≡ None) where
-      lead_same : (note : Note) → known (closed_under given note.of) ≡ true → (lead : Callee (Option Instance))
+      lead_same : (note : Note) → known (closed_under given note.of) ≡ true
+          → (lead : Callee (Option Instance))
           → MakesOf (closed_under given note.of) lead
           → Within same_instance all (instance_of lead)
           → (order : List Bytes → Option (List Value))
@@ -191,9 +213,11 @@ module _ (program : List ModuleParts) (noted : List NotedParts) (all : List Inst
           (named x here ∙ sym (says.parameters home (place_in x all)))
       lead_same note k (constructor made tag) is w order =
           let counts_too : known made ≡ true = ap known is ∙ k in
-          calls_known one two invoke other (makes made tag home) (makes made tag (round home).home)
-          (λ i args. makes_value (sym (says.linear home made counts_too) i) made tag (sym (says.homes home) i) args)
-          (option_map field_names (fields_in program made tag)) order
+          makes_known one two invoke other (makes made tag home) (makes made tag (round home).home)
+          (fields_in program made tag)
+          (λ fields there i args. makes_value
+          (sym (says.linear home made counts_too (tag, fields, there)) i) made tag (sym (says.homes home) i) args)
+          order
           ∙ ap (λ fields. calls two other
           (with_their_names (option_map field_names fields) (makes made tag (round home).home)) order)
           (sym (says.fields home made counts_too tag))
@@ -207,4 +231,5 @@ module _ (program : List ModuleParts) (noted : List NotedParts) (all : List Inst
           (mentions_named.callee note c name) name
       call_agrees note c name k w =
           lead_same note k (call_leads program place given note name)
-          (target_makes program (rows_of program) given note (tables.find name (seen_at Callables program place Body))) w
+          (target_makes program (rows_of program) given note
+          (tables.find name (seen_at Callables program place Body))) w

@@ -89,7 +89,8 @@ module _ {T C U D A : Type 0} (same : A → A → Bool) (all : List A) (leads : 
     each (call n f es c) w k = (
       calls n.note c f.name (known_first known _ _ k)
           (front same all (leads n.note c f.name) (calls_in_all leads es) w),
-      each_all es (back same all (leads n.note c f.name) (calls_in_all leads es) w) (known_later known _ _ k),
+      each_all es (back same all (leads n.note c f.name) (calls_in_all leads es) w)
+          (known_later known _ _ k),
     )
     each (named_call n f es c) w k = (
       calls n.note c f.name (known_first known _ _ k)
@@ -200,7 +201,8 @@ module _ {T C U D A : Type 0} (same : A → A → Bool) (all : List A) (leads : 
     )
 
     each_tests : (tests : Branches Bytes T C) → Within same all (calls_in_branches leads tests)
-        → AllKnown known (said_in_branches types tests) → EachOfTests noted mention claim (branches_renoted change tests)
+        → AllKnown known (said_in_branches types tests)
+        → EachOfTests noted mention claim (branches_renoted change tests)
     each_tests no_branches w k = tt
     each_tests (branches e b rest) w k =
         let some = calls_in leads e ++ calls_in_block leads b in
@@ -216,7 +218,8 @@ module _ {T C U D A : Type 0} (same : A → A → Bool) (all : List A) (leads : 
         )
 
     each_arms : (cases : Arms Bytes T C) → Within same all (calls_in_arms leads cases)
-        → AllKnown known (said_in_arms types cases) → EachOfArms noted mention claim (arms_renoted change cases)
+        → AllKnown known (said_in_arms types cases)
+        → EachOfArms noted mention claim (arms_renoted change cases)
     each_arms no_arms w k = tt
     each_arms (arms at n binds b rest) w k = (
       each_block b (front same all (calls_in_block leads b) (calls_in_arms leads rest) w)

@@ -54,7 +54,8 @@ first_there [] entry e = absurd cc
 first_there (k ∷ all) entry e =
     let here : k ≡ entry = cc in
     let itself = instances_told.itself entry in (
-      subst (λ x. Has same_instance (x ∷ all) entry) (sym here) (has_it same_instance instances_told [] all entry),
+      subst (λ x. Has same_instance (x ∷ all) entry) (sym here)
+          (has_it same_instance instances_told [] all entry),
       ap (λ x. place_in entry (x ∷ all)) here ∙ ap (λ b. if b then 0 else suc (place_in entry all)) itself,
     )
 
@@ -81,7 +82,8 @@ module _ (program : List ModuleParts) (noted : List NotedParts) (entry : Instanc
       let same : length functions ≡ length all =
       sym (length-map functions Some) ∙ ap length closes.closed
       ∙ length-map all (instance_closed program noted all) in
-      ap (option_map _) (slice_get_past functions (length all) (subst (λ n. n ≤ length all) (sym same) (le_refl (length all))))
+      ap (option_map _) (slice_get_past functions (length all)
+      (subst (λ n. n ≤ length all) (sym same) (le_refl (length all))))
 
   -- the names of the parameters are the same
   names_there : (one : Instance) → Has same_instance all one
@@ -106,7 +108,8 @@ module _ (program : List ModuleParts) (noted : List NotedParts) (entry : Instanc
     calls_within : (one : Instance) → Has same_instance all one → (body : BodyOf)
         → body_of program noted one.of ≡ Some body
         → Within same_instance all
-        (calls_in_block (λ note c name. instance_of (call_leads program body.place one.given note name)) body.block)
+        (calls_in_block (λ note c name. instance_of
+        (call_leads program body.place one.given note name)) body.block)
     calls_within one here body is =
         λ x h. called_too program noted entry all closes.lists one x here
         (subst (λ b. Has same_instance (calls_in_body program noted one.given b) x) (sym is) h)
@@ -121,7 +124,8 @@ module _ (program : List ModuleParts) (noted : List NotedParts) (entry : Instanc
         (block_same (change_of program noted all body.place params one.given)
         (λ (note : Note). closed_under one.given note.of ∷ []) (λ (n : ClosedNote). n.of ∷ []) (λ note. refl)
         (λ note name. ap (λ t. t ∷ [])
-        (sym (type_mentioned program noted all body.place params one.given note (constant_seen program body.place name))))
+        (sym (type_mentioned program noted all body.place params one.given note
+        (constant_seen program body.place name))))
         body.block)
         (counts.notes (place_in one all) (body_closed program noted all one.given body) at)
 
@@ -208,7 +212,7 @@ what_is program functions = (
     homes = λ home. refl;
     tags = λ home of k name. refl;
     fields = λ home of k tag. refl;
-    linear = λ home of k. refl;
+    linear = λ home of k has. refl;
   },
   record {
     parameters = λ number f at. fields_count (parameters_seen f);

@@ -3,3 +3,5 @@ mod EachLemmas
 mod SaidLemmas
 mod CallLemmas
 mod KeptLemmas
+mod InRowLemmas
+mod ListedLemmas

@@ -29,7 +29,8 @@ module _ {N T C U D A : Type 0} (change : Change N T C U D) (said : T → List A
     in_same (typed n e t) = λ i. notes n.note i ++ in_same e i
     in_same (choice n c a b) = λ i. notes n.note i ++ in_same c i ++ in_same a i ++ in_same b i
 
-    all_same : (es : Expressions N T C) → said_in_all told (expressions_renoted change es) ≡ said_in_all said es
+    all_same : (es : Expressions N T C) → said_in_all told (expressions_renoted change es)
+        ≡ said_in_all said es
     all_same no_expressions = refl
     all_same (expressions e rest) = λ i. in_same e i ++ all_same rest i
 
@@ -56,7 +57,8 @@ module _ {N T C U D A : Type 0} (change : Change N T C U D) (said : T → List A
     statement_same (discard at e) = in_same e
     statement_same (return_of at e) = in_same e
 
-    pub block_same : (b : Statements N T C) → said_in_block told (block_renoted change b) ≡ said_in_block said b
+    pub block_same : (b : Statements N T C) → said_in_block told (block_renoted change b)
+        ≡ said_in_block said b
     block_same no_statements = refl
     block_same (statements s rest) = λ i. statement_same s i ++ block_same rest i
 

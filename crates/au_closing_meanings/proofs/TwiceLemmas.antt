@@ -28,7 +28,8 @@ module _ {N T C U D V E : Type 0} (one : Change N T C U D) (other : Change N U D
         λ i. call (renoted (both one other) n) f (expressions_twice es i) (called (both one other) n f c)
     expression_twice (named_call n f es c) =
         λ i. named_call (renoted (both one other) n) f (arguments_twice es i) (called (both one other) n f c)
-    expression_twice (parenthesized n e) = λ i. parenthesized (renoted (both one other) n) (expression_twice e i)
+    expression_twice (parenthesized n e) = λ i. parenthesized (renoted (both one other) n)
+        (expression_twice e i)
     expression_twice (dereference n e) = λ i. dereference (renoted (both one other) n) (expression_twice e i)
     expression_twice (borrow n m x) = refl
     expression_twice (borrow_part n x fields) = refl
@@ -37,17 +38,20 @@ module _ {N T C U D V E : Type 0} (one : Change N T C U D) (other : Change N U D
     expression_twice (negation n e) = λ i. negation (renoted (both one other) n) (expression_twice e i)
     expression_twice (typed n e t) = λ i. typed (renoted (both one other) n) (expression_twice e i) t
     expression_twice (choice n c a b) =
-        λ i. choice (renoted (both one other) n) (expression_twice c i) (expression_twice a i) (expression_twice b i)
+        λ i. choice (renoted (both one other) n) (expression_twice c i) (expression_twice a i)
+        (expression_twice b i)
 
     expressions_twice : (es : Expressions N T C)
         → expressions_renoted other (expressions_renoted one es) ≡ expressions_renoted (both one other) es
     expressions_twice no_expressions = refl
-    expressions_twice (expressions e rest) = λ i. expressions (expression_twice e i) (expressions_twice rest i)
+    expressions_twice (expressions e rest) = λ i. expressions (expression_twice e i)
+        (expressions_twice rest i)
 
     arguments_twice : (es : Arguments N T C)
         → arguments_renoted other (arguments_renoted one es) ≡ arguments_renoted (both one other) es
     arguments_twice no_arguments = refl
-    arguments_twice (arguments label e rest) = λ i. arguments label (expression_twice e i) (arguments_twice rest i)
+    arguments_twice (arguments label e rest) = λ i. arguments label (expression_twice e i)
+        (arguments_twice rest i)
 
   mutual
     pub statement_twice : (s : Statement N T C)
@@ -58,14 +62,16 @@ module _ {N T C U D V E : Type 0} (one : Change N T C U D) (other : Change N U D
     statement_twice (assign at n fields e) = λ i. assign at n fields (expression_twice e i)
     statement_twice (assign_through at n fields e) = λ i. assign_through at n fields (expression_twice e i)
     statement_twice (conditional at tests) = λ i. conditional at (branches_twice tests i)
-    statement_twice (conditional_else at tests b) = λ i. conditional_else at (branches_twice tests i) (block_twice b i)
+    statement_twice (conditional_else at tests b) = λ i. conditional_else at (branches_twice tests i)
+        (block_twice b i)
     statement_twice (case_of at e all) = λ i. case_of at (expression_twice e i) (arms_twice all i)
     statement_twice (while_loop at e b) = λ i. while_loop at (expression_twice e i) (block_twice b i)
     statement_twice (for_loop at n a z b) =
         λ i. for_loop at n (expression_twice a i) (expression_twice z i) (block_twice b i)
     statement_twice (borrow_in at access x r region b stop) =
         λ i. borrow_in at access x r region (block_twice b i) stop
-    statement_twice (borrow_typed at r t mode x b stop) = λ i. borrow_typed at r t mode x (block_twice b i) stop
+    statement_twice (borrow_typed at r t mode x b stop) = λ i. borrow_typed at r t mode x
+        (block_twice b i) stop
     statement_twice (discard at e) = λ i. discard at (expression_twice e i)
     statement_twice (return_of at e) = λ i. return_of at (expression_twice e i)
 

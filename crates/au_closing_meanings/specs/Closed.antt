@@ -40,4 +40,5 @@ module _ (round : Bytes → Surroundings) where
 
   -- the closed functions as they are run, by their numbers, each with a number for its first name
   abbrev pub closed_functions : List ClosedFunction → (ℕ → ℕ) → ℕ → Option (Function ℕ ClosedNote (Callee ℕ))
-  closed_functions functions first number = option_map (function_closed (first number)) (slice_get functions number)
+  closed_functions functions first number = option_map (function_closed (first number))
+      (slice_get functions number)

@@ -1,6 +1,6 @@
 -- The meaning of a program with notes: each function and method is run from its own tree, under the closed
 -- types that are given for its type parameters.
-use Rattle.std.specs.Prelude.{ℕ, Bool, false, List, Option, None, Some, map, position, slice_get}
+use Rattle.std.specs.Prelude.{ℕ, Bool, false, List, Option, None, Some, map}
 use Rattle.std.specs.Option.{option_map}
 use Rattle.std.specs.Str.{bytes_eq}
 use Rattle.au_syntax.specs.declared.modules.Part.TheVariants.{Body}
@@ -27,6 +27,7 @@ use Rattle.au_closing.specs.Leading.{call_leads, module_name}
 use Rattle.au_meaning.specs.Views as views
 use Rattle.au_meaning.specs.Views.{Act, Field, Function, View, invokes, makes, ships}
 use Rattle.au_meaning.specs.Worlds.{Value}
+use Rattle.au_closed_views.specs.Programs.{Case, case_from, fields_at}
 use Rattle.au_closed_views.specs.Shipped.{born, shipped_parameters}
 use Rattle.au_closed_views.specs.Surroundings.{field_names, literal_value}
 
@@ -51,18 +52,22 @@ mentions_named = record {
 abbrev pub field_seen : ClosedField → Field
 field_seen one = record { name = one.name; of = one.of }
 
--- the fields of a case
-abbrev pub fields_seen : ClosedCase → List Field
-fields_seen one = map field_seen one.fields
+-- a case, or a record
+abbrev pub case_seen : ClosedCase → Case
+case_seen one = record { name = one.name; fields = map field_seen one.fields }
 
 module _ (program : List ModuleParts) where
+  -- the cases of a type in declared order
+  abbrev pub cases_in : ClosedType → List Case
+  cases_in of = map case_seen (cases_of program of)
+
   -- the number of the case of a type that a name means
   abbrev pub tag_in : ClosedType → Bytes → Option ℕ
-  tag_in of name = position (λ (one : ClosedCase). bytes_eq one.name name) (cases_of program of)
+  tag_in of name = case_from 0 name (cases_in of)
 
   -- the fields of the case of a number
   abbrev pub fields_in : ClosedType → ℕ → Option (List Field)
-  fields_in of tag = option_map fields_seen (slice_get (cases_of program of) tag)
+  fields_in of tag = fields_at tag (cases_in of)
 
   -- whether a type is linear
   abbrev pub linear_in : ClosedType → Bool
@@ -79,13 +84,15 @@ module _ (program : List ModuleParts) (noted : List NotedParts) where
   abbrev pub parameters_under : Given → BodyOf → List Field
   parameters_under given body =
       map field_seen
-      (map (field_under (types_at program body.place Body) (heads_of program) (written_params body.generics) given)
+      (map (field_under (types_at program body.place Body) (heads_of program)
+      (written_params body.generics) given)
       body.header.parameters)
 
   -- the names of the parameters of an instance, where its body is there
   abbrev pub names_of_instance : Instance → Option (List Bytes)
   names_of_instance one =
-      option_map (λ (body : BodyOf). field_names (parameters_under one.given body)) (body_of program noted one.of)
+      option_map (λ (body : BodyOf). field_names (parameters_under one.given body))
+      (body_of program noted one.of)
 
   -- what a call in the text of the module at a place does, whose expression is of a closed type, by what it
   -- leads to
@@ -93,7 +100,8 @@ module _ (program : List ModuleParts) (noted : List NotedParts) where
   lead_does place of (instance None) = None
   lead_does place of (instance (Some one)) = with_names (names_of_instance one) (invokes one)
   lead_does place of (constructor made tag) =
-      with_names (option_map field_names (fields_in program made tag)) (makes made tag (module_name program place))
+      with_names (option_map field_names (fields_in program made tag))
+      (makes made tag (module_name program place))
   lead_does place of (shipped call) = with_names (Some (shipped_parameters call)) (ships call (born call of))
 
   -- ---- names
@@ -122,7 +130,8 @@ module _ (program : List ModuleParts) (noted : List NotedParts) where
   view_under place params given = record {
     type_of = λ m. Some (closed_under given m.note.of);
     is_free = λ m. mentions_free place params m.note m.name;
-    callee = λ m c name. lead_does place (closed_under given m.note.of) (call_leads program place given m.note name);
+    callee = λ m c name. lead_does place (closed_under given m.note.of)
+        (call_leads program place given m.note name);
     constant = λ m name. constant_of (constant_seen program place name);
     tag = tag_in program;
     fields = fields_in program;
@@ -140,4 +149,5 @@ module _ (program : List ModuleParts) (noted : List NotedParts) where
 
   -- the functions of the program as they are run, each with a number for its first name
   abbrev pub generic_functions : (Instance → ℕ) → Instance → Option (Function Instance Mention (Unit {0}))
-  generic_functions first one = option_map (function_under (first one) one.given) (body_of program noted one.of)
+  generic_functions first one = option_map (function_under (first one) one.given)
+      (body_of program noted one.of)

@@ -10,6 +10,7 @@ use Rattle.au_tree_types.specs.Notes.{said_in_block}
 use Rattle.au_renoted_meanings.specs.Agreement.{FieldsCount, FoundCount}
 use Rattle.au_closing.specs.Closes.{ClosedFunction, ClosesFunctions}
 use Rattle.au_closing.specs.Instances.{Instance, place_in, same_instance}
+use Rattle.au_meaning.specs.Views.{Field}
 use Rattle.au_meaning.specs.Meanings.{mean}
 use Rattle.au_closed_views.specs.Surroundings.{Surroundings}
 use Rattle.au_closing_meanings.specs.Closed.{closed_functions, names_at, parameters_seen, surroundings_of}
@@ -24,9 +25,14 @@ NumberAlike all first numbers =
 abbrev pub types_noted : ClosedStatements → List ClosedType
 types_noted = said_in_block (λ (n : ClosedNote). n.of ∷ [])
 
+-- a type has a case
+abbrev pub HasCase : List ModuleParts → ClosedType → Type 0
+HasCase program of = (tag : ℕ) × (all : List Field) × (fields_in program of tag ≡ Some all)
+
 -- What is known round closed trees is what the program itself says, in each module and of each type that
--- counts.
-pub record SaysWhatIs (known : ClosedType → Bool) (program : List ModuleParts) (functions : List ClosedFunction)
+-- counts; whether a type is linear matters only where it has a case.
+pub record SaysWhatIs (known : ClosedType → Bool) (program : List ModuleParts)
+    (functions : List ClosedFunction)
     (round : Bytes → Surroundings) : Type 0 where
   pub parameters : (home : Bytes) (number : ℕ) → (round home).parameters number ≡ names_at functions number
   pub homes : (home : Bytes) → (round home).home ≡ home
@@ -34,12 +40,13 @@ pub record SaysWhatIs (known : ClosedType → Bool) (program : List ModuleParts)
       → (round home).tag of name ≡ tag_in program of name
   pub fields : (home : Bytes) (of : ClosedType) → known of ≡ true → (tag : ℕ)
       → (round home).fields of tag ≡ fields_in program of tag
-  pub linear : (home : Bytes) (of : ClosedType) → known of ≡ true
+  pub linear : (home : Bytes) (of : ClosedType) → known of ≡ true → HasCase program of
       → (round home).is_linear of ≡ linear_in program of
 
 -- The types of the parameters of closed functions count, those that are noted in their trees, and those of the
 -- fields of a type that counts.
-pub record TypesCount (known : ClosedType → Bool) (program : List ModuleParts) (functions : List ClosedFunction)
+pub record TypesCount (known : ClosedType → Bool) (program : List ModuleParts)
+    (functions : List ClosedFunction)
     : Type 0 where
   pub parameters : (number : ℕ) (f : ClosedFunction) → slice_get functions number ≡ Some f
       → FieldsCount known (parameters_seen f)
@@ -52,7 +59,8 @@ pub record TypesCount (known : ClosedType → Bool) (program : List ModuleParts)
 -- to the other.
 abbrev pub KeepsMeaning : Type 0
 KeepsMeaning =
-    (program : List ModuleParts) (noted : List NotedParts) (entry : Instance) (functions : List ClosedFunction)
+    (program : List ModuleParts) (noted : List NotedParts) (entry : Instance)
+    (functions : List ClosedFunction)
     → (closes : ClosesFunctions program noted entry functions)
     → (first : Instance → ℕ) (numbers : ℕ → ℕ)
     → NumberAlike closes.instances first numbers

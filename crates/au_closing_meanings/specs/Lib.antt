@@ -1,3 +1,5 @@
 pub mod Generic
 pub mod Closed
 pub mod Kept
+pub mod InRow
+pub mod Listed

@@ -1,10 +1,24 @@
-//! Closing keeps the meaning of a program, as the contract of a call that does nothing.
+//! Closing keeps the meaning of a program, as contracts of calls that do nothing.
 
+ghost use Rattle.au_closing_meanings.specs.InRow.{KeepsMeaningInRow};
+ghost use Rattle.au_closing_meanings.specs.Listed.{RowsMadeSay};
 ghost use Rattle.au_closing_meanings.specs.Kept.{KeepsMeaning, ProgramsSay};
 
-/// From its entry a program with notes does exactly what the closed program does that it closes to, where what
-/// is known round closed trees is what the program itself says.
+/// From its entry a program with notes does exactly what the closed program does that it closes to, where
+/// what is known round closed trees is what the program itself says of all types that count.
 pub fn closing_keeps_meaning()
     ensures keeps { KeepsMeaning }
     ensures says { ProgramsSay }
+{}
+
+/// The same of closed programs with the rows of their types, whose functions number their names one after
+/// another.
+pub fn closing_keeps_meaning_in_row()
+    ensures { KeepsMeaningInRow }
+{}
+
+/// Rows that are made for a list of declared types say what the program itself says, of those in the list and
+/// of all types that aren't declared.
+pub fn rows_made_say_what_is()
+    ensures { RowsMadeSay }
 {}

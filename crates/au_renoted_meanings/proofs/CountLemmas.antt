@@ -96,14 +96,17 @@ module _ {I J T C U D : Type 0} (known : ClosedType → Bool) (change : Change B
 
   step_same : (names : List Bytes)
       → ((of : ClosedType) → known of ≡ true
-      → path_numbers (λ of. one.fields of 0) (Some of) names ≡ path_numbers (λ of. two.fields of 0) (Some of) names)
-      → (f : Option (ℕ × ClosedType)) → FieldCounts known f → along f (stepped one names) ≡ along f (stepped two names)
+      → path_numbers (λ of. one.fields of 0) (Some of) names
+      ≡ path_numbers (λ of. two.fields of 0) (Some of) names)
+      → (f : Option (ℕ × ClosedType)) → FieldCounts known f → along f (stepped one names)
+      ≡ along f (stepped two names)
   step_same names same None c = refl
   step_same names same (Some f) c = λ i. along (same f.1 c i) (λ rest. Some (f.0 ∷ rest))
 
   steps_same : (name : Bytes) (names : List Bytes)
       → ((of : ClosedType) → known of ≡ true
-      → path_numbers (λ of. one.fields of 0) (Some of) names ≡ path_numbers (λ of. two.fields of 0) (Some of) names)
+      → path_numbers (λ of. one.fields of 0) (Some of) names
+      ≡ path_numbers (λ of. two.fields of 0) (Some of) names)
       → (fields : Option (List Field)) → FoundCount known fields
       → along (along fields (field_of name)) (stepped one names)
       ≡ along (along fields (field_of name)) (stepped two names)
@@ -117,5 +120,6 @@ module _ {I J T C U D : Type 0} (known : ClosedType → Bool) (change : Change B
   paths_same [] o c = refl
   paths_same (name ∷ names) None c = refl
   paths_same (name ∷ names) (Some of) c =
-      steps_same name names (λ t there. paths_same names (Some t) there) (one.fields of 0) (agree.inside of c 0)
+      steps_same name names (λ t there. paths_same names (Some t) there) (one.fields of 0)
+      (agree.inside of c 0)
       ∙ ap (λ fields. along (along fields (field_of name)) (stepped two names)) (agree.fields of c 0)

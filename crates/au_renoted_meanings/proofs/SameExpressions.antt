@@ -17,7 +17,8 @@ use Rattle.au_syntax.specs.Expressions.{Expression, Expressions, Arguments, numb
 use Rattle.au_syntax.specs.Plain.{Bytes}
 
 -- an operation on two values is by types alone
-operates_same : {I J T U C D : Type 0} (one : View I T C) (two : View J U D) (op : Operation) (whole first : T)
+operates_same : {I J T U C D : Type 0} (one : View I T C) (two : View J U D) (op : Operation)
+    (whole first : T)
     (whole2 first2 : U) → one.type_of whole ≡ two.type_of whole2 → one.type_of first ≡ two.type_of first2
     → (a b : Value) → operates one op whole first a b ≡ operates two op whole2 first2 a b
 operates_same one two (computes op) whole first whole2 first2 p q a b =
@@ -112,7 +113,8 @@ module _ {I J T C U D : Type 0} (known : ClosedType → Bool) (change : Change B
       eval_same (borrow n mode x) ok h s = refl
       eval_same (borrow_part n r fields) ok h s = refl
       eval_same (binary n op a b) ok h s =
-          joins_same (operation_of op) n.note (note_of a) (change.note n.note) (note_of (expression_renoted change a))
+          joins_same (operation_of op) n.note (note_of a) (change.note n.note)
+          (note_of (expression_renoted change a))
           (agree.notes n.note) (type_same a) (eval_same a ok.0 h s) (eval_same b ok.1 h s)
       eval_same (negation n e) ok h s = λ i. do
         x ← eval_same e ok h s i

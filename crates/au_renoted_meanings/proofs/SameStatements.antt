@@ -1,5 +1,5 @@
 -- Statements and blocks, along the equations of their parts, of the numbers of names and of what is in scope.
-use Rattle.std.proofs.Common.{◌≡◌, ℕ, suc, ◌+◌, ◌==◌, Bool, true, false, List, [], ◌∷◌, length, Option, Some, None, refl, ap, ◌∙◌}
+use Rattle.std.proofs.Common.{◌≡◌, ℕ, suc, ◌+◌, ◌==◌, Bool, List, length, Option, Some, None, refl, ap, ◌∙◌}
 use Rattle.au_closed_trees.specs.Changes.{Change}
 use Rattle.au_closed_trees.specs.Renoted.{expression_renoted, statement_renoted, block_renoted, branches_renoted, arms_renoted}
 use Rattle.au_closed_types.specs.Types.{ClosedType}
@@ -7,7 +7,7 @@ use Rattle.au_effects.specs.Parts.{along}
 use Rattle.au_effects.specs.Values as values
 use Rattle.au_meaning.specs.Acts.{holds, sets, apart}
 use Rattle.au_meaning.specs.Expressions.{note_of, names_of, chosen, eval}
-use Rattle.au_meaning.specs.Names.{Scope, Variable, variable_of, with_name, with_bound, path_numbers, names_in, names_in_block, names_in_tests, names_in_arms}
+use Rattle.au_meaning.specs.Names.{Scope, Variable, variable_of, with_name, with_bound, names_in, names_in_block, names_in_tests, names_in_arms}
 use Rattle.au_meaning.specs.Statements.{Flow, falls, returns, and_then, within, while_turns, ranges, either, is_tag, binds_fields, fields_noted, means_case, after, assigns, takes_apart, run, run_all, run_tests, run_arms}
 use Rattle.au_meaning.specs.Ticks.{Action, pure, tick, needing, where_true, ◌>>=◌, ◌>>◌}
 use Rattle.au_meaning.specs.Views.{View}
@@ -40,11 +40,13 @@ module _ {T C U D : Type 0} (change : Change Bytes T C U D) where
     names_same (discard at e) = refl
     names_same (return_of at e) = refl
 
-    pub names_same_block : (block : Statements Bytes T C) → names_in_block block ≡ names_in_block (block_renoted change block)
+    pub names_same_block : (block : Statements Bytes T C) → names_in_block block
+        ≡ names_in_block (block_renoted change block)
     names_same_block no_statements = refl
     names_same_block (statements s rest) = λ i. names_same s i + names_same_block rest i
 
-    pub names_same_tests : (tests : Branches Bytes T C) → names_in_tests tests ≡ names_in_tests (branches_renoted change tests)
+    pub names_same_tests : (tests : Branches Bytes T C) → names_in_tests tests
+        ≡ names_in_tests (branches_renoted change tests)
     names_same_tests no_branches = refl
     names_same_tests (branches e block rest) = λ i. names_same_block block i + names_same_tests rest i
 
@@ -78,7 +80,8 @@ module _ {I J T C U D : Type 0} (known : ClosedType → Bool) (change : Change B
       → assigns one x names value ≡ assigns two x names value
   assigns_same None c names value = refl
   assigns_same (Some x) c names value =
-      λ i. needing (paths_same known change one two agree names x.of c i) (λ path. sets x.number path value >> pure falls)
+      λ i. needing (paths_same known change one two agree names x.of c i)
+      (λ path. sets x.number path value >> pure falls)
 
   assigns_seen : (scope scope2 : Scope) → ScopeCounts known scope → scope ≡ scope2 → (name : Bytes)
       → (names : List Bytes) (value : Value)
@@ -130,7 +133,8 @@ module _ {I J T C U D : Type 0} (known : ClosedType → Bool) (change : Change B
           → EachOf NoteCounts (AgreeOnMention known change one two)
           (AgreeOnCall known change one two invoke other) s → number ≡ number2
           → ScopeCounts known scope → scope ≡ scope2
-          → run one invoke depth number scope s ≡ run two other depth number2 scope2 (statement_renoted change s)
+          → run one invoke depth number scope s
+          ≡ run two other depth number2 scope2 (statement_renoted change s)
       run_same (skip at) ok p h s = refl
       run_same (declare at binding name t e) ok p h s =
           λ i. do
@@ -202,13 +206,15 @@ module _ {I J T C U D : Type 0} (known : ClosedType → Bool) (change : Change B
             tick (chosen (within (p i) (names_same_block change block i) (all_same block ok.1 p h s i))
                 (tests_same rest ok.2 (λ j. p j + names_same_block change block j) h s q i) value)
 
-      arms_same : {number number2 : ℕ} {scope scope2 : Scope} (e : Expression Bytes T C) → NoteCounts (note_of e)
+      arms_same : {number number2 : ℕ} {scope scope2 : Scope} (e : Expression Bytes T C)
+          → NoteCounts (note_of e)
           → (all : Arms Bytes T C)
           → EachOfArms NoteCounts (AgreeOnMention known change one two)
           (AgreeOnCall known change one two invoke other) all
           → number ≡ number2 → ScopeCounts known scope → scope ≡ scope2 → (parts : ℕ × List Value)
           → run_arms one invoke depth number scope (note_of e) all parts
-          ≡ run_arms two other depth number2 scope2 (note_of (expression_renoted change e)) (arms_renoted change all) parts
+          ≡ run_arms two other depth number2 scope2 (note_of (expression_renoted change e))
+          (arms_renoted change all) parts
       arms_same e c no_arms ok p h s parts = refl
       arms_same e c (arms at name binds block rest) ok p h s parts =
           λ i. either (means_same e c name.name parts.0 i)
@@ -225,5 +231,6 @@ pub one_meaning : {I J T C U D : Type 0} (known : ClosedType → Bool) (change :
     (one : View I T C) (two : View J U D) → OneMeaning known change one two
 one_meaning known change one two invoke other depth number scope block agree h ok =
     λ i. within number (names_same_block change block i)
-    (all_same known change one two agree invoke other depth {number = number} {number2 = number} {scope = scope}
+    (all_same known change one two agree invoke other depth {number = number} {number2 = number}
+    {scope = scope}
     {scope2 = scope} block ok refl h refl i)

@@ -47,7 +47,8 @@ module _ {T C : Type 0} (mentioned : T → Bytes → Type 0) (called : T → C �
 
 -- the same in statements, and what is said of the note of an expression whose type counts: of a value that
 -- gets a name, of one that is taken apart, and of the first bound of a loop
-module _ {T C : Type 0} (noted : T → Type 0) (mentioned : T → Bytes → Type 0) (called : T → C → Bytes → Type 0)
+module _ {T C : Type 0} (noted : T → Type 0) (mentioned : T → Bytes → Type 0)
+    (called : T → C → Bytes → Type 0)
   where
     -- in an expression of a statement
     abbrev pub EachHere : Expression Bytes T C → Type 0
