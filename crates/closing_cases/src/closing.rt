@@ -45,8 +45,11 @@ fn trees_of(alloc: Global, files: &Vec<Vec<u8>>) -> Option<Vec<FileTree>> {
     let Ok(mut trees) = shipped(alloc) else {
         return None;
     };
-    for (number, bytes) in files.iter().enumerate() {
-        let tree = tree_of(alloc, number as u16, bytes.as_slice())?;
+    for (index, bytes) in files.iter().enumerate() {
+        let Ok(number) = u16::try_from(index) else {
+            return None;
+        };
+        let tree = tree_of(alloc, number, bytes.as_slice())?;
         if trees.push(tree).is_err() {
             return None;
         }
