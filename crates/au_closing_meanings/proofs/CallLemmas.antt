@@ -84,14 +84,17 @@ calls_known one two invoke other act act2 same (Some names) order = λ i. needin
 
 -- the same of what has fields, where what is done is the same where the fields are known
 makes_known : {I J T C U D : Type 0} (one : View I T C) (two : View J U D)
-    (invoke : I → List Value → Action Value) (other : J → List Value → Action Value) (act : Act I) (act2 : Act J)
+    (invoke : I → List Value → Action Value) (other : J → List Value → Action Value) (act : Act I)
+    (act2 : Act J)
     (fields : Option (List Field))
     → ((all : List Field) → fields ≡ Some all → acts one invoke act ≡ acts two other act2)
     → (order : List Bytes → Option (List Value))
     → calls one invoke
-    (option_map (λ (all : List Bytes). record { parameters = all; act = act }) (option_map field_names fields)) order
+    (option_map (λ (all : List Bytes). record { parameters = all; act = act })
+    (option_map field_names fields)) order
     ≡ calls two other
-    (option_map (λ (all : List Bytes). record { parameters = all; act = act2 }) (option_map field_names fields)) order
+    (option_map (λ (all : List Bytes). record { parameters = all; act = act2 })
+    (option_map field_names fields)) order
 makes_known one two invoke other act act2 None same order = refl
 makes_known one two invoke other act act2 (Some all) same order =
     λ i. needing (order (field_names all)) (same all refl i)
@@ -216,7 +219,8 @@ module _ (program : List ModuleParts) (noted : List NotedParts) (all : List Inst
           makes_known one two invoke other (makes made tag home) (makes made tag (round home).home)
           (fields_in program made tag)
           (λ fields there i args. makes_value
-          (sym (says.linear home made counts_too (tag, fields, there)) i) made tag (sym (says.homes home) i) args)
+          (sym (says.linear home made counts_too (tag, fields, there)) i) made tag
+          (sym (says.homes home) i) args)
           order
           ∙ ap (λ fields. calls two other
           (with_their_names (option_map field_names fields) (makes made tag (round home).home)) order)

@@ -147,8 +147,8 @@ module _ (program : List ModuleParts) (noted : List NotedParts) (entry : Instanc
         let mention_says =
         mention_agrees program noted all body.place params one.given functions round known says counts in
         let call_says =
-        call_agrees program noted all body.place params one.given functions round known says counts invoke other
-        same names_there none_behind in
+        call_agrees program noted all body.place params one.given functions round known says counts invoke
+        other same names_there none_behind in
         enters_same known change view closed
         (types_agree program noted all body.place params one.given functions round known says counts)
         invoke other depth number parameters (block_renoted mentions_named body.block)

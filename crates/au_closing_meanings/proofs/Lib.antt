@@ -5,3 +5,5 @@ mod CallLemmas
 mod KeptLemmas
 mod InRowLemmas
 mod ListedLemmas
+mod CoveredLemmas
+mod ListedCountLemmas

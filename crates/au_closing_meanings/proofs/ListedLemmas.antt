@@ -1,5 +1,5 @@
 -- Rows that are made for a list of declared types say what the program itself says.
-use Rattle.std.proofs.Common.{◌≡◌, Bool, true, false, ◌||◌, ◌⊎◌, inl, inr, ⊎_elim, List, [], ◌∷◌, map, Option, Some, None, refl, sym, ap, ◌∙◌}
+use Rattle.std.proofs.Common.{◌≡◌, Bool, true, false, ◌⊎◌, inl, inr, ⊎_elim, List, [], ◌∷◌, map, Some, None, refl, sym, ap, ◌∙◌}
 use Rattle.std.specs.Prelude.{cond}
 use Rattle.au_closed_parts.specs.Parts.{ClosedCase, cases_of}
 use Rattle.au_closed_types.proofs.SameLemmas.{same_is, same_self}
@@ -16,7 +16,8 @@ use Rattle.au_closing_meanings.specs.Listed.{RowsMadeSay, counts_by, row_for, ro
 module _ (program : List ModuleParts) where
   -- a type has no row, or its own
   row_either : (all : List ClosedType) (of : ClosedType)
-      → (row_in (rows_for program all) of ≡ None) ⊎ (row_in (rows_for program all) of ≡ Some (row_for program of))
+      → (row_in (rows_for program all) of ≡ None) ⊎
+      (row_in (rows_for program all) of ≡ Some (row_for program of))
   row_either [] of = inl refl
   row_either (k ∷ all) of = by (same k of) refl (row_either all of)
     where
@@ -40,7 +41,8 @@ module _ (program : List ModuleParts) where
       by true e later = ap (λ t. Some (row_for program t)) (same_is k of e)
       by false e later =
           ⊎_elim
-          (λ here. let wrong : false ≡ true = sym e ∙ ap (λ t. same k t) (same_is of k here) ∙ same_self k in absurd cc)
+          (λ here. let wrong : false ≡ true = sym e ∙ ap (λ t. same k t)
+          (same_is of k here) ∙ same_self k in absurd cc)
           later (or_split (same of k) (has same all of) h)
 
   -- a type that counts has its own row, or no row and no case
@@ -66,7 +68,8 @@ rows_say program all = record {
   tags = λ of k name.
       ⊎_elim (λ p. ap (λ o. along o (λ (row : Row). case_from 0 name row.cases)) p)
       (λ q. ap (λ o. along o (λ (row : Row). case_from 0 name row.cases)) q.0
-      ∙ sym (ap (λ (cs : List ClosedCase). case_from 0 name (map case_seen cs)) q.1)) (stands program all of k);
+      ∙ sym (ap (λ (cs : List ClosedCase). case_from 0 name (map case_seen cs)) q.1))
+      (stands program all of k);
   fields = λ of k tag.
       ⊎_elim (λ p. ap (λ o. along o (λ (row : Row). fields_at tag row.cases)) p)
       (λ q. ap (λ o. along o (λ (row : Row). fields_at tag row.cases)) q.0

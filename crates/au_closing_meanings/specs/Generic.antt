@@ -2,7 +2,6 @@
 -- types that are given for its type parameters.
 use Rattle.std.specs.Prelude.{ℕ, Bool, false, List, Option, None, Some, map}
 use Rattle.std.specs.Option.{option_map}
-use Rattle.std.specs.Str.{bytes_eq}
 use Rattle.au_syntax.specs.declared.modules.Part.TheVariants.{Body}
 use Rattle.au_syntax.specs.Plain.{Bytes}
 use Rattle.au_types.specs.declared.parameters.Parameter.{Parameter}
@@ -124,8 +123,8 @@ module _ (program : List ModuleParts) (noted : List NotedParts) where
 
   -- ---- functions
 
-  -- what is known at a tree in the text of the module at a place, over these type parameters and under what is
-  -- given for them
+  -- what is known at a tree in the text of the module at a place, over these type parameters and under what
+  -- is given for them
   abbrev pub view_under : ℕ → List Parameter → Given → View Instance Mention (Unit {0})
   view_under place params given = record {
     type_of = λ m. Some (closed_under given m.note.of);

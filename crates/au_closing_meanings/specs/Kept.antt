@@ -43,8 +43,8 @@ pub record SaysWhatIs (known : ClosedType → Bool) (program : List ModuleParts)
   pub linear : (home : Bytes) (of : ClosedType) → known of ≡ true → HasCase program of
       → (round home).is_linear of ≡ linear_in program of
 
--- The types of the parameters of closed functions count, those that are noted in their trees, and those of the
--- fields of a type that counts.
+-- The types of the parameters of closed functions count, those that are noted in their trees, and those of
+-- the fields of a type that counts.
 pub record TypesCount (known : ClosedType → Bool) (program : List ModuleParts)
     (functions : List ClosedFunction)
     : Type 0 where

@@ -1,7 +1,7 @@
 //! Closing keeps the meaning of a program, as contracts of calls that do nothing.
 
 ghost use Rattle.au_closing_meanings.specs.InRow.{KeepsMeaningInRow};
-ghost use Rattle.au_closing_meanings.specs.Listed.{RowsMadeSay};
+ghost use Rattle.au_closing_meanings.specs.Listed.{ListedCount, RowsMadeSay};
 ghost use Rattle.au_closing_meanings.specs.Kept.{KeepsMeaning, ProgramsSay};
 
 /// From its entry a program with notes does exactly what the closed program does that it closes to, where
@@ -21,4 +21,10 @@ pub fn closing_keeps_meaning_in_row()
 /// of all types that aren't declared.
 pub fn rows_made_say_what_is()
     ensures { RowsMadeSay }
+{}
+
+/// By a list of declared types in which those of closed functions stand, with those of their fields, the
+/// types count that have to.
+pub fn listed_types_count()
+    ensures { ListedCount }
 {}
