@@ -2,7 +2,7 @@ mod TwiceLemmas
 mod EachLemmas
 mod SaidLemmas
 mod CallLemmas
-mod KeptLemmas
+pub mod KeptLemmas
 mod InRowLemmas
 mod ListedLemmas
 mod CoveredLemmas

@@ -1,0 +1,10 @@
+mod RenotedLemmas
+mod OnceLemmas
+mod DerivedLemmas
+mod ClosedLemmas
+mod CodeLemmas
+mod MeaningLemmas
+mod GoodLemmas
+mod AskedLemmas
+mod ConstantLemmas
+mod JoinedLemmas

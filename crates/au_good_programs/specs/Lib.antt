@@ -1,0 +1,4 @@
+pub mod Formed
+pub mod Suits
+pub mod Followed
+pub mod Asked
