@@ -1,5 +1,5 @@
 -- The code of a closed program does what the noted program means that it is made of.
-use Rattle.std.proofs.Common.{◌≡◌, ℕ, zero, suc, List, [], ◌∷◌, Option, Some, None, refl, sym, ap, subst, ◌∙◌, true≢false}
+use Rattle.std.proofs.Common.{◌≡◌, ℕ, true, zero, suc, List, [], ◌∷◌, Option, Some, None, refl, sym, ap, subst, ◌∙◌, true≢false}
 use Rattle.std.specs.Prelude.{slice_get}
 use Rattle.std.specs.Option.{option_map}
 use Rattle.au_syntax.specs.Plain.{Bytes}
@@ -11,7 +11,7 @@ use Rattle.au_closed_views.specs.Shipped.{shipped_parameters}
 use Rattle.au_closed_views.specs.Surroundings.{Surroundings}
 use Rattle.au_closing_meanings.specs.Closed.{closed_functions, function_closed, surroundings_of}
 use Rattle.au_closing_meanings.specs.Generic.{generic_functions}
-use Rattle.au_closing_meanings.proofs.KeptLemmas.{meaning_kept}
+use Rattle.au_closing_meanings.proofs.KeptLemmas.{meaning_kept, what_is}
 use Rattle.au_meaning.specs.Meanings.{mean}
 use Rattle.au_meaning.specs.Views.{Function, ships}
 use Rattle.au_shipped.specs.declared.prims.ShippedCall.TheVariants as prim
@@ -49,6 +49,7 @@ pub derived_follow : DerivedProgramsFollow
 derived_follow program noted derived entry functions closes first numbers alike told linear once
     fields_once plain begins input ticks claim =
     let round = surroundings_of program functions in
+    let says = what_is program functions in
     let all = functions_of program numbers functions in
     let which = λ (i : ℕ) (g : Function ℕ ClosedNote (Callee ℕ)) (e : slice_get all i ≡ Some g).
     from_closed round (numbers i) (slice_get functions i) g (sym (in_order round functions numbers i) ∙ e) in
@@ -67,7 +68,8 @@ derived_follow program noted derived entry functions closes first numbers alike 
     let same : mean (λ i. slice_get all i) 0 input ticks
     ≡ mean (generic_functions program noted first) entry input ticks =
     (λ j. mean (λ i. in_order round functions numbers i j) 0 input ticks)
-    ∙ sym (meaning_kept program noted entry functions closes first numbers alike input ticks) in
+    ∙ sym (meaning_kept program noted entry functions closes first numbers alike
+    (surroundings_of program functions) (λ of. true) says.0 says.1 input ticks) in
     subst (λ m. Follows told all input m) same
     (followed_follow ClosedNote (Callee ℕ) told all followed input ticks
     (λ e. claim (sym (ap (λ m. m.ending) same) ∙ e)))

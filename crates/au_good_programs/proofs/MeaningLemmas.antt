@@ -1,19 +1,20 @@
 -- The meaning of a tree that suits is the same by a guarded view.
-use Rattle.std.proofs.Common.{◌≡◌, ℕ, zero, suc, ◌+◌, ◌==◌, List, [], ◌∷◌, length, Option, Some, None, refl, ap, subst, ◌∙◌, arith}
+use Rattle.std.proofs.Common.{◌≡◌, ℕ, Bool, true, zero, suc, ◌+◌, ◌==◌, List, [], ◌∷◌, length, Option, Some, None, refl, ap, subst, ◌∙◌, arith}
 use Rattle.std.specs.Prelude.{slice_get}
 use Rattle.std.specs.Option.{option_map}
 use Rattle.std.proofs.lemmas.Option.{slice_get-map}
 use Rattle.au_closed_trees.specs.Changes.{Change}
+use Rattle.au_closed_types.specs.Types.{ClosedType}
 use Rattle.au_closed_trees.specs.Renoted.{expression_renoted, expressions_renoted, arguments_renoted, statement_renoted, block_renoted, branches_renoted, arms_renoted}
 use Rattle.au_meaning.specs.Acts.{begins, new_names}
-use Rattle.au_meaning.specs.Expressions.{acts, calls}
+use Rattle.au_meaning.specs.Expressions.{acts, calls, note_of}
 use Rattle.au_meaning.specs.Meanings.{begun, call_at, enters, first_world, leaves_frame, mean, parameters_of, scope_of, seen}
 use Rattle.au_meaning.specs.Names.{Scope, names_in_block}
 use Rattle.au_meaning.specs.Statements.{run_block}
 use Rattle.au_meaning.specs.Ticks.{Action, does, needing, pure, where_true, ◌>>=◌, ◌>>◌}
-use Rattle.au_meaning.specs.Views.{Act, Callee, Function, View, invokes, makes, ships}
+use Rattle.au_meaning.specs.Views.{Act, Callee, Field, Function, View, invokes, makes, ships}
 use Rattle.au_meaning.specs.Worlds.{Value}
-use Rattle.au_renoted_meanings.specs.Agreement.{AgreeOnTypes, AgreeOnMention, AgreeOnCall, EachIn, EachInAll, EachNamed, EachOf, EachOfBlock, EachOfTests, EachOfArms}
+use Rattle.au_renoted_meanings.specs.Agreement.{AgreeOnTypes, AgreeOnMention, AgreeOnCall, Counts, FieldsCount, FoundCount, ScopeCounts, EachIn, EachInAll, EachNamed, EachOf, EachOfBlock, EachOfTests, EachOfArms}
 use Rattle.au_renoted_meanings.proofs.SameStatements.{one_meaning}
 use Rattle.au_syntax.specs.Expressions.{Expression, Expressions, Arguments, number, negative, text, truth, nil, path, arrow, call, named_call, parenthesized, dereference, borrow, borrow_part, binary, negation, typed, choice, no_expressions, expressions, no_arguments, arguments}
 use Rattle.au_syntax.specs.Plain.{Bytes}
@@ -88,11 +89,33 @@ module _ {T C : Type 0} where
     arms_itself no_arms = refl
     arms_itself (arms at n binds b rest) = λ i. arms at n binds (block_itself b i) (arms_itself rest i)
 
+-- ---- all types count
+
+abbrev every : ClosedType → Bool
+every of = true
+
+all_count : (fields : List Field) → FieldsCount every fields
+all_count [] = tt
+all_count (one ∷ rest) = (refl, all_count rest)
+
+found_counts : (o : Option (List Field)) → FoundCount every o
+found_counts None = tt
+found_counts (Some all) = all_count all
+
+type_counts : (o : Option ClosedType) → Counts every o
+type_counts None = tt
+type_counts (Some of) = refl
+
+scope_counts : (scope : Scope) → ScopeCounts every scope
+scope_counts [] = tt
+scope_counts (x ∷ rest) = (type_counts x.of, scope_counts rest)
+
 -- ---- what suits, two views agree on
 
 module _ {T C : Type 0} (see : View ℕ T C) (mentioned : T → Bytes → Type 0) (called : T → C → Bytes → Type 0)
     (mention : (n : T) (name : Bytes) → CanMention see n name → mentioned n name)
-    (claim : (n : T) (c : C) (name : Bytes) → CanCall see n c name → called n c name) where
+    (claim : (n : T) (c : C) (name : Bytes) → CanCall see n c name → called n c name)
+    (noted : T → Type 0) (fine : (n : T) → noted n) where
   mutual
     each : (e : Expression Bytes T C) → Suits see e → EachIn mentioned called e
     each (number n l) ok = tt
@@ -122,31 +145,31 @@ module _ {T C : Type 0} (see : View ℕ T C) (mentioned : T → Bytes → Type 0
     each_named (arguments label e rest) ok = (each e ok.0, each_named rest ok.1)
 
   mutual
-    each_of : (s : Statement Bytes T C) → SuitsIn see s → EachOf mentioned called s
+    each_of : (s : Statement Bytes T C) → SuitsIn see s → EachOf noted mentioned called s
     each_of (skip at) ok = tt
-    each_of (declare at b n t e) ok = each e ok
-    each_of (destructure at binds e) ok = each e ok
+    each_of (declare at b n t e) ok = (fine (note_of e), each e ok)
+    each_of (destructure at binds e) ok = (fine (note_of e), each e ok)
     each_of (assign at n fields e) ok = each e ok
     each_of (assign_through at n fields e) ok = tt
     each_of (conditional at tests) ok = each_test tests ok
     each_of (conditional_else at tests b) ok = (each_test tests ok.0, each_block b ok.1)
-    each_of (case_of at e all) ok = (each e ok.0, each_arm all ok.1)
+    each_of (case_of at e all) ok = (fine (note_of e), each e ok.0, each_arm all ok.1)
     each_of (while_loop at e b) ok = (each e ok.0, each_block b ok.1)
-    each_of (for_loop at n a z b) ok = (each a ok.0, each z ok.1, each_block b ok.2)
+    each_of (for_loop at n a z b) ok = (fine (note_of a), each a ok.0, each z ok.1, each_block b ok.2)
     each_of (borrow_in at access x r region b stop) ok = tt
     each_of (borrow_typed at r t mode x b stop) ok = tt
     each_of (discard at e) ok = each e ok
     each_of (return_of at e) ok = each e ok
 
-    each_block : (b : Statements Bytes T C) → SuitsBlock see b → EachOfBlock mentioned called b
+    each_block : (b : Statements Bytes T C) → SuitsBlock see b → EachOfBlock noted mentioned called b
     each_block no_statements ok = tt
     each_block (statements s rest) ok = (each_of s ok.0, each_block rest ok.1)
 
-    each_test : (tests : Branches Bytes T C) → SuitsTests see tests → EachOfTests mentioned called tests
+    each_test : (tests : Branches Bytes T C) → SuitsTests see tests → EachOfTests noted mentioned called tests
     each_test no_branches ok = tt
     each_test (branches e b rest) ok = (each e ok.0, each_block b ok.1, each_test rest ok.2)
 
-    each_arm : (all : Arms Bytes T C) → SuitsArms see all → EachOfArms mentioned called all
+    each_arm : (all : Arms Bytes T C) → SuitsArms see all → EachOfArms noted mentioned called all
     each_arm no_arms ok = tt
     each_arm (arms at n binds b rest) ok = (each_block b ok.0, each_arm rest ok.1)
 
@@ -154,7 +177,7 @@ module _ {T C : Type 0} (see : View ℕ T C) (mentioned : T → Bytes → Type 0
 
 module _ {T C : Type 0} (see : View ℕ T C) where
   mentions_agree : (n : T) (name : Bytes) → CanMention see n name
-      → AgreeOnMention (staying T C) (guarded see) see n name
+      → AgreeOnMention every (staying T C) (guarded see) see n name
   mentions_agree n name ok None = ap (λ o. needing o pure) (passing_same has_literal (see.constant n name) ok)
   mentions_agree n name ok (Some x) = refl
 
@@ -171,20 +194,28 @@ module _ {T C : Type 0} (see : View ℕ T C) where
     call_by (Some one) order = λ i. needing (order one.parameters) (λ args. act_same one.act args i)
 
     calls_agree : (n : T) (c : C) (name : Bytes) → CanCall see n c name
-        → AgreeOnCall (staying T C) (guarded see) see invoke other n c name
+        → AgreeOnCall every (staying T C) (guarded see) see invoke other n c name
     calls_agree n c name ok order =
         ap (λ o. calls (guarded see) invoke o order) (passing_same is_followed (see.callee n c name) ok)
         ∙ call_by (see.callee n c name) order
 
-    types_agree : AgreeOnTypes (staying T C) (guarded see) see
-    types_agree = record { notes = λ n. refl; mentions = λ n name. refl; fields = refl; tags = refl }
+    types_agree : AgreeOnTypes every (staying T C) (guarded see) see
+    types_agree = record {
+      notes = λ n. refl;
+      mentions = λ n name. refl;
+      fields = λ of k tag. refl;
+      inside = λ of k tag. found_counts (see.fields of tag);
+      tags = λ of k name. refl;
+    }
 
     block_means : (depth next : ℕ) (scope : Scope) (b : Statements Bytes T C) → SuitsBlock see b
         → run_block (guarded see) invoke depth next scope b ≡ run_block see other depth next scope b
     block_means depth next scope b ok =
-        one_meaning (staying T C) (guarded see) see invoke other depth next scope b types_agree
-        (each_block see (AgreeOnMention (staying T C) (guarded see) see)
-        (AgreeOnCall (staying T C) (guarded see) see invoke other) mentions_agree calls_agree b ok)
+        one_meaning every (staying T C) (guarded see) see invoke other depth next scope b types_agree
+        (scope_counts scope)
+        (each_block see (AgreeOnMention every (staying T C) (guarded see) see)
+        (AgreeOnCall every (staying T C) (guarded see) see invoke other) mentions_agree calls_agree
+        (λ n. Counts every (see.type_of n)) (λ n. type_counts (see.type_of n)) b ok)
         ∙ ap (run_block see other depth next scope) (block_itself b)
 
 -- ---- programs
