@@ -1,0 +1,11 @@
+mod TableLemmas
+mod CallLemmas
+mod BodyLemmas
+mod MeantLemmas
+mod FitLemmas
+mod GenericsLemmas
+mod PutLemmas
+mod SameLemmas
+mod DefinitionLemmas
+mod FunctionLemmas
+mod TypedLemmas

@@ -1,0 +1,4 @@
+//! Why the calls of a program with notes are typed.
+#![tactic(auto)]
+
+pub mod laws;
