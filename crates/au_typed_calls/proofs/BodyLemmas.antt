@@ -1,12 +1,12 @@
 -- Each body of a derived program is good, in a scope with what its module's body sees and with its type
 -- parameters.
-use Rattle.std.proofs.Common.{◌≡◌, ℕ, zero, suc, ◌+◌, Bool, true, false, cond, List, [], ◌∷◌, find, Option, None, Some, Result, Ok, Err, refl, sym, ap, ◌∙◌, subst, arith}
+use Rattle.std.proofs.Common.{◌≡◌, ℕ, zero, suc, ◌+◌, Bool, true, false, cond, List, [], ◌∷◌, find, Option, None, Some, Ok, Err, refl, subst, arith}
 use Rattle.std.specs.Prelude.{Contains, slice_get}
 use Rattle.std.specs.Option.{option_and_then, option_map}
 use Rattle.std.proofs.lemmas.Option.{none-some, same_Some}
 use Rattle.au_syntax.specs.declared.modules.Part.{Part}
 use Rattle.au_syntax.specs.declared.modules.Part.TheVariants.{Body}
-use Rattle.au_syntax.specs.Modules.{Constrained, Header, constant, opaque_type, record_type, union_type, function, class, instance, constant_body, function_body, instance_body}
+use Rattle.au_syntax.specs.Modules.{Constrained, constant, opaque_type, record_type, union_type, function, class, instance, constant_body, function_body, instance_body}
 use Rattle.au_syntax.specs.Plain.{Bytes}
 use Rattle.au_syntax.specs.Types.{Labelled, WrittenType}
 use Rattle.au_types.specs.Types.{Meaning}
@@ -19,7 +19,7 @@ use Rattle.au_outsides.specs.Outsides.{outside_of}
 use Rattle.au_typing.specs.Faults.{Noting, ◌>>=◌}
 use Rattle.au_typing.specs.Lookups.{written_type}
 use Rattle.au_typing.proofs.Steps.{ok_same}
-use Rattle.au_derivations.specs.Bodies.{GoodBody, GoodMethods, body_scope, generics_in, outer_scope, with_parameters, with_result}
+use Rattle.au_derivations.specs.Bodies.{GoodBody, GoodMethods, generics_in, outer_scope, with_parameters, with_result}
 use Rattle.au_derivations.specs.Derivations.{GoodDeclaration, GoodDeclarations, GoodModules, GoodPart}
 use Rattle.au_derivations.specs.InScope.{fixed_variable, with_variable}
 use Rattle.au_derivations.specs.Trees.{NotedDeclaration, NotedEntry, NotedMethod, NotedParts}

@@ -1,6 +1,6 @@
 -- Each call of a good block is good by the rule of calls, in a scope with what is outside of the function and
 -- with its type parameters.
-use Rattle.std.proofs.Common.{◌≡◌, ◌⊎◌, inl, inr, Bool, false, List, [], ◌∷◌, ◌++◌, Ok, Err, refl, sym, ap, ◌∙◌, subst, arith}
+use Rattle.std.proofs.Common.{◌≡◌, ◌⊎◌, inl, inr, Bool, false, List, [], ◌∷◌, ◌++◌, Ok, Err, subst, arith}
 use Rattle.std.specs.Prelude.{Contains}
 use Rattle.std.proofs.lemmas.List.Elements.{Contains-append_cases}
 use Rattle.au_syntax.specs.Expressions.{number, negative, text, truth, nil, path, arrow, call, named_call, parenthesized, dereference, borrow, borrow_part, binary, negation, typed, choice, no_expressions, expressions, no_arguments, arguments}
@@ -11,7 +11,7 @@ use Rattle.au_types.specs.Types.{Meaning}
 use Rattle.au_generics.specs.Bounds.{Bounded}
 use Rattle.au_names.specs.Importing.{given_name}
 use Rattle.au_scopes.specs.Scopes.{Outside, Scope}
-use Rattle.au_typing.specs.Calls.{GoodCall, in_order, by_labels}
+use Rattle.au_typing.specs.Calls.{in_order, by_labels}
 use Rattle.au_typing.specs.Faults.{Noting}
 use Rattle.au_typing.specs.Good.{AllGood, AllGoodIn, AllGoodLabelled, count_of, items_of, labels_of, shown, values_of}
 use Rattle.au_typing.specs.Lookups.{written_type}

@@ -1,25 +1,21 @@
 -- The body of a function that is declared is there: in the body of its module, or the function is shipped.
-use Rattle.std.proofs.Common.{◌≡◌, ◌⊎◌, inl, inr, ℕ, zero, suc, ◌+◌, Bool, true, false, List, [], ◌∷◌, ◌++◌, find, map, Option, None, Some, refl, sym, ap, ◌∙◌, subst, true≢false, arith}
+use Rattle.std.proofs.Common.{◌≡◌, ◌⊎◌, inl, inr, ℕ, zero, suc, ◌+◌, Bool, true, false, List, [], ◌∷◌, ◌++◌, Option, None, Some, refl, sym, ap, ◌∙◌, subst, arith}
 use Rattle.std.specs.Prelude.{Contains, slice_get}
 use Rattle.std.specs.List.{position, position_or_len}
 use Rattle.std.specs.Option.{option_and_then, option_map}
 use Rattle.std.proofs.lemmas.List.Folds.{find_at}
 use Rattle.std.proofs.lemmas.Option.{get_or_from_slice_get, none-some, same_Some, slice_get-map, slice_get_within}
 use Rattle.au_base.specs.declared.places.Pos.{Pos}
-use Rattle.au_shipped.specs.declared.prims.ShippedCall.{ShippedCall}
-use Rattle.au_shipped.specs.Calls.{prim_of}
 use Rattle.au_syntax.specs.declared.modules.Part.{Part}
 use Rattle.au_syntax.specs.declared.modules.Part.TheVariants.{Interface, Body}
-use Rattle.au_syntax.specs.Forms.{formed_declaration}
 use Rattle.au_syntax.specs.Modules.{Constrained, Header, constant, opaque_type, record_type, union_type, function, class, instance, constant_body, function_body, instance_body}
-use Rattle.au_syntax.specs.Plain.{Bytes, PlainDeclaration, PlainStatements}
+use Rattle.au_syntax.specs.Plain.{Bytes, PlainDeclaration}
 use Rattle.au_types.specs.declared.types.DeclAt.{DeclAt}
 use Rattle.au_modules.specs.Programs.{Entry, ModuleParts}
-use Rattle.au_modules.specs.Seen.{body_tree}
 use Rattle.au_names.specs.declared.targets.Target.{Target}
 use Rattle.au_names.specs.Exporting.{declarations_seen}
 use Rattle.au_names.specs.Owned.{declarations_in}
-use Rattle.au_names.specs.Standing.{Standing, body_standing as bodies_standing, module_standing, standing_at, standing_from, standing_in}
+use Rattle.au_names.specs.Standing.{Standing, body_standing as bodies_standing, standing_at, standing_from, standing_in}
 use Rattle.au_promises.specs.Agreeing.{Sight, sight_of}
 use Rattle.au_promises.specs.Fulfilled.{AllFulfil, Each, OfSignature, SameGeneric}
 use Rattle.au_promises.specs.Promises.{defines}

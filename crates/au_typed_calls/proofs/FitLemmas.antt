@@ -1,6 +1,6 @@
 -- What a good call puts for the type parameters of what it calls: a type for each that isn't a region, which
 -- has its universe and its classes.
-use Rattle.std.proofs.Common.{◌≡◌, ◌⊎◌, inl, inr, Bool, true, false, cond, List, [], ◌∷◌, ◌++◌, Option, None, Some, refl, sym, ap, ◌∙◌, subst, true≢false}
+use Rattle.std.proofs.Common.{◌≡◌, ◌⊎◌, inl, inr, Bool, true, false, cond, List, [], ◌∷◌, Option, None, Some, refl, sym, ap, ◌∙◌, subst}
 use Rattle.std.specs.Prelude.{Contains, option_to_list, unwrap_or}
 use Rattle.std.specs.Option.{option_or}
 use Rattle.std.specs.Str.{bytes_eq}
@@ -19,13 +19,13 @@ use Rattle.au_matching.specs.Fixed.{is_a_type}
 use Rattle.au_matching.specs.Substituted.{substituted, type_for}
 use Rattle.au_universes.specs.Forming.{takes}
 use Rattle.au_universes.specs.Universes.{universe_of}
-use Rattle.au_generics.specs.Bounds.{Bounded, constrains, parameters}
+use Rattle.au_generics.specs.Bounds.{constrains, parameters}
 use Rattle.au_instances.specs.Instances.{Holds, Known}
 use Rattle.au_instances.specs.Pairs.{Pair, constraints_of}
 use Rattle.au_instances.specs.Tables.{IsTable}
 use Rattle.au_instances.proofs.PairLemmas.{constraint_listed, none_holds}
 use Rattle.au_instances.proofs.TableLemmas.{Contains-cases, Contains-first}
-use Rattle.au_scopes.specs.Scopes.{Callable, Scope, Typed}
+use Rattle.au_scopes.specs.Scopes.{Scope, Typed}
 use Rattle.au_typing.specs.Calls.{GoodCall, Shown, first_lacking, first_left, first_misfit, is_given, lacking_at, value_fits, wanted_of}
 use Rattle.au_typing.specs.Lookups.{parameters_in}
 use Rattle.au_typing.specs.Notes.{Note}

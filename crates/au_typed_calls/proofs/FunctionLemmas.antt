@@ -1,20 +1,15 @@
 -- A function that is called in a body of an accepted program is typed.
-use Rattle.std.proofs.Common.{◌≡◌, ◌⊎◌, inl, inr, ℕ, Bool, true, false, List, [], ◌∷◌, map, Option, None, Some, refl, sym, ap, ◌∙◌, subst, true≢false}
+use Rattle.std.proofs.Common.{◌≡◌, ◌⊎◌, inl, inr, ℕ, List, map, Option, None, Some, refl, sym, ap, ◌∙◌, subst, true≢false}
 use Rattle.std.specs.Prelude.{Contains, IsTrue, slice_get}
-use Rattle.std.specs.Option.{option_map}
 use Rattle.std.proofs.lemmas.Option.{none-some, same_Some}
 use Rattle.au_base.specs.declared.places.Pos.{Pos}
-use Rattle.au_shipped.specs.declared.prims.ShippedCall.{ShippedCall}
-use Rattle.au_shipped.specs.Calls.{prim_of}
 use Rattle.au_syntax.specs.declared.declarations.Universe.{Universe}
 use Rattle.au_syntax.specs.declared.modules.Part.{Part}
 use Rattle.au_syntax.specs.declared.modules.Part.TheVariants.{Interface, Body}
 use Rattle.au_syntax.specs.Forms.{formed_declaration}
 use Rattle.au_syntax.specs.Modules.{Constrained, Header, function, function_body}
-use Rattle.au_syntax.specs.Plain.{Bytes, PlainDeclaration, PlainStatements}
+use Rattle.au_syntax.specs.Plain.{Bytes, PlainStatements}
 use Rattle.au_tables.specs.declared.spaces.Space.TheVariants.{Types}
-use Rattle.au_types.specs.declared.headings.Head.{Head}
-use Rattle.au_types.specs.declared.parameters.Parameter.{Parameter}
 use Rattle.au_types.specs.declared.types.DeclAt.{DeclAt}
 use Rattle.au_types.specs.Types.{Meaning}
 use Rattle.au_modules.specs.Programs.{Entry, ModuleParts}
@@ -22,7 +17,7 @@ use Rattle.au_names.specs.declared.targets.Target.{Target}
 use Rattle.au_names.specs.HeadsOf.{heads_of}
 use Rattle.au_names.specs.Meanings.{declared_by}
 use Rattle.au_names.specs.Owned.{declarations_in}
-use Rattle.au_names.specs.Standing.{Standing, standing_at}
+use Rattle.au_names.specs.Standing.{Standing}
 use Rattle.au_promises.specs.Agreeing.{sight_of}
 use Rattle.au_promises.specs.Fulfilled.{AllFulfil, Each, SameGeneric}
 use Rattle.au_generics.specs.declared.reading.Meant.{Meant}
@@ -36,11 +31,11 @@ use Rattle.au_rules.specs.Good.{AllDeclarationsAreGood}
 use Rattle.au_scopes.specs.Scopes.{Callable, Typed}
 use Rattle.au_outsides.specs.Called.{callable, declared_callable, function_called}
 use Rattle.au_outsides.specs.Written.{all_typed, meant_in, seen_in, types_at}
-use Rattle.au_derivations.specs.Trees.{NotedParts, erase_program}
+use Rattle.au_derivations.specs.Trees.{NotedParts}
 use Rattle.au_noting_programs.specs.Faults.{IsDerived}
 use Rattle.au_closed_parts.specs.TypeNames.{type_names}
 use Rattle.au_closing.specs.Bodies.{BodyOf, body_of}
-use Rattle.au_closing_laws.specs.Targets.{Call, FunctionIsTyped, IsFor, IsTypeOf, bounds_in, bounds_of, calls_listed, function_has_body, function_is_shipped, scope_of}
+use Rattle.au_closing_laws.specs.Targets.{Call, FunctionIsTyped, IsFor, IsTypeOf, bounds_in, bounds_of, calls_listed, function_has_body, function_is_shipped}
 use Rattle.au_typed_calls.specs.Calls.{IsMeant, put_for}
 use Rattle.au_typed_calls.specs.Premises.{AreOfParts, FunctionsAreShipped, PutTypesStand}
 use Rattle.au_typed_calls.proofs.GenericsLemmas.{bounds_meant, misfit_none}

@@ -1,5 +1,5 @@
 -- The type parameters of each body of a program mean something where all declarations are good.
-use Rattle.std.proofs.Common.{◌≡◌, ℕ, zero, suc, ◌+◌, Bool, true, false, cond, List, [], ◌∷◌, ◌++◌, find, flat_map, length, map, Option, None, Some, refl, sym, ap, ◌∙◌, subst, arith}
+use Rattle.std.proofs.Common.{◌≡◌, ℕ, zero, suc, ◌+◌, false, List, [], ◌∷◌, find, flat_map, length, Option, None, Some, refl, sym, ap, ◌∙◌, subst, arith}
 use Rattle.std.specs.Prelude.{◌≢◌, Contains, if◌then◌else◌, is_some, slice_get}
 use Rattle.std.specs.Option.{option_and_then, option_map, option_or}
 use Rattle.std.proofs.lemmas.List.Elements.{Contains-append_left, Contains-append_right}
@@ -22,20 +22,18 @@ use Rattle.au_names.specs.Meanings.{declared_by}
 use Rattle.au_names.specs.Owned.{declarations_in}
 use Rattle.au_names.specs.Standing.{Standing, standing_at}
 use Rattle.au_mentions.specs.Mentions.{type_parameters}
-use Rattle.au_generics.specs.declared.reading.Misfit.{Misfit}
 use Rattle.au_generics.specs.declared.reading.Misfit.TheVariants.{NoClass, OfRegion}
-use Rattle.au_generics.specs.Bounds.{Bounded}
-use Rattle.au_generics.specs.Meanings.{class_in, class_meant, first_misfit, is_constrained_region, judged, misfit_of, name_misfit, no_class, with_classes, written_params}
+use Rattle.au_generics.specs.Meanings.{class_in, class_meant, first_misfit, is_constrained_region, judged, no_class, written_params}
 use Rattle.au_formed.specs.Good.{IsGoodWriting, IsWellMade}
-use Rattle.au_formed.specs.Text.{Spot, module_spots, spots_from, text, text_from, visible_at, visible_in}
-use Rattle.au_formed.specs.Writings.{Writing, a_class, a_universe, bound_writings, class_writings, generic_writings, header_writings, instance_writings, method_writings, writings}
+use Rattle.au_formed.specs.Text.{Spot, module_spots, spots_from, text_from, visible_in}
+use Rattle.au_formed.specs.Writings.{Writing, a_class, a_universe, bound_writings, class_writings, generic_writings, header_writings, instance_writings, writings}
 use Rattle.au_rules.specs.Good.{AllDeclarationsAreGood}
 use Rattle.au_instances.proofs.TableLemmas.{Contains-first, Contains-rest}
 use Rattle.au_outsides.specs.Written.{seen_in, types_at}
 use Rattle.au_derivations.specs.Bodies.{generics_in}
 use Rattle.au_derivations.specs.Trees.{NotedDeclaration, NotedEntry, NotedMethod, NotedParts, erase_declaration, erase_parts, erase_program}
 use Rattle.au_noting_programs.specs.Faults.{IsDerived}
-use Rattle.au_closing.specs.Bodies.{BodyOf, body_at, body_in, body_of, body_of_parts, body_standing, declared_in, defining, defining_index, is_method, method_body, noted_at}
+use Rattle.au_closing.specs.Bodies.{BodyOf, body_at, body_in, body_of, body_of_parts, body_standing, declared_in, defining_index, is_method, method_body, noted_at}
 use Rattle.au_closing_laws.specs.Targets.{bounds_in, bounds_of}
 use Rattle.au_typed_calls.specs.Calls.{outside_at}
 

@@ -1,26 +1,22 @@
 -- What is called by a good call is there: its name means a declaration that has something under the name.
-use Rattle.std.proofs.Common.{◌≡◌, ℕ, ◌<◌, Bool, true, false, cond, List, [], ◌∷◌, find, length, map, Option, None, Some, refl, sym, ap, ◌∙◌, subst, arith}
-use Rattle.std.specs.Prelude.{Contains, nat_lt, slice_get}
+use Rattle.std.proofs.Common.{◌≡◌, Bool, cond, List, find, length, map, Option, None, Some, refl, sym, ap, ◌∙◌, subst}
+use Rattle.std.specs.Prelude.{Contains}
 use Rattle.std.specs.List.{position, position_or_len}
 use Rattle.std.specs.Option.{option_map}
 use Rattle.std.proofs.lemmas.Bool.{lt-ltb}
 use Rattle.std.proofs.lemmas.List.Folds.{find_at}
-use Rattle.std.proofs.lemmas.Option.{none-some, same_Some, slice_get_within}
+use Rattle.std.proofs.lemmas.Option.{none-some, slice_get_within}
 use Rattle.au_syntax.specs.declared.modules.Part.TheVariants.{Body}
 use Rattle.au_syntax.specs.Modules.{Header, Variant, constant, opaque_type, record_type, union_type, function, class, instance, constant_body, function_body, instance_body}
 use Rattle.au_syntax.specs.Plain.{Bytes, PlainDeclaration}
 use Rattle.au_tables.specs.declared.spaces.Space.TheVariants.{Callables}
 use Rattle.au_tables.specs.Tables as tables
-use Rattle.au_types.specs.declared.parameters.Parameter.{Parameter}
-use Rattle.au_types.specs.declared.types.DeclAt.{DeclAt}
 use Rattle.au_modules.specs.Programs.{ModuleParts}
 use Rattle.au_names.specs.declared.targets.Target.{Target}
 use Rattle.au_names.specs.Standing.{Standing, standing_at}
-use Rattle.au_generics.specs.Bounds.{Bounded}
 use Rattle.au_generics.specs.Meanings.{parameter}
-use Rattle.au_scopes.specs.Scopes.{Callable, Outside, Scope}
+use Rattle.au_scopes.specs.Scopes.{Callable, Outside}
 use Rattle.au_outsides.specs.Called.{callable_at, callable_standing, case_called, declared_callable, is_case, is_method, method_called}
-use Rattle.au_outsides.specs.Outsides.{outside_of}
 use Rattle.au_outsides.specs.Written.{seen_at}
 use Rattle.au_derivations.specs.Bodies.{generics_in}
 use Rattle.au_derivations.specs.Trees.{NotedParts}

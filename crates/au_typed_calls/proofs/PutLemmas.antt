@@ -1,25 +1,20 @@
 -- What the calls of a derived program put for type parameters fits, where its body stands.
-use Rattle.std.proofs.Common.{◌≡◌, true, List, [], Some, refl, sym, ap, ◌∙◌, subst}
-use Rattle.std.specs.Prelude.{IsTrue, unwrap_or}
+use Rattle.std.proofs.Common.{◌≡◌, true, List, Some, sym, subst}
 use Rattle.au_syntax.specs.declared.declarations.Universe.{Universe}
 use Rattle.au_syntax.specs.Plain.{Bytes}
 use Rattle.au_types.specs.declared.types.DeclAt.{DeclAt}
-use Rattle.au_types.specs.Types.{Meaning, parameter}
-use Rattle.au_matching.specs.Substituted.{substituted}
 use Rattle.au_universes.specs.Forming.{takes}
 use Rattle.au_universes.specs.Universes.{universe_of}
-use Rattle.au_generics.specs.Bounds.{Bounded, constrains, parameters}
+use Rattle.au_generics.specs.Bounds.{Bounded, parameters}
 use Rattle.au_modules.specs.Programs.{ModuleParts}
-use Rattle.au_names.specs.HeadsOf.{heads_of}
 use Rattle.au_instances.specs.Instances.{Holds}
 use Rattle.au_instances.specs.Pairs.{constraints_of}
 use Rattle.au_instances.specs.Tables.{IsTable}
 use Rattle.au_classes.specs.Good.{InstancesAreGood}
-use Rattle.au_classes.specs.Rows.{rows_of}
 use Rattle.au_scopes.specs.Scopes.{Outside}
 use Rattle.au_derivations.specs.Bodies.{generics_in}
 use Rattle.au_closing.specs.Bodies.{BodyOf}
-use Rattle.au_closing_laws.specs.Targets.{Call, HoldsIn, IsTypeOf, bounds_of, scope_of}
+use Rattle.au_closing_laws.specs.Targets.{Call, HoldsIn, IsTypeOf, bounds_of}
 use Rattle.au_typed_calls.specs.Calls.{AreMeant, IsGoodCall, Suits, outside_at, put_for}
 use Rattle.au_typed_calls.proofs.FitLemmas.{put_constrained, put_of_class, put_taken}
 use Rattle.au_typed_calls.proofs.TableLemmas.{good_table}

@@ -1,9 +1,8 @@
 -- The calls of an accepted program are typed.
-use Rattle.std.proofs.Common.{◌≡◌, ◌⊎◌, inl, inr, ℕ, Bool, true, false, cond, List, [], ◌∷◌, find, Option, None, Some, refl, sym, ap, ◌∙◌, subst}
+use Rattle.std.proofs.Common.{◌≡◌, ◌⊎◌, inl, inr, ℕ, false, cond, List, [], ◌∷◌, find, Option, None, Some, refl, sym, ap, ◌∙◌, subst}
 use Rattle.std.specs.Prelude.{◌≢◌, Contains, slice_get}
 use Rattle.std.specs.List.{position, position_or_len}
 use Rattle.std.specs.Option.{option_map}
-use Rattle.std.specs.Str.{bytes_eq}
 use Rattle.std.proofs.lemmas.List.Folds.{find_at}
 use Rattle.std.proofs.lemmas.Option.{none-some, same_Some}
 use Rattle.std.proofs.lemmas.Slice.Eq.{bytes_eq-Decides}
@@ -14,19 +13,17 @@ use Rattle.au_syntax.specs.declared.modules.Part.TheVariants.{Interface, Body}
 use Rattle.au_syntax.specs.Modules.{Header, InUniverse, constant, opaque_type, record_type, union_type, function, class, instance, constant_body, function_body, instance_body}
 use Rattle.au_syntax.specs.Names.{Placed}
 use Rattle.au_syntax.specs.Plain.{Bytes, PlainDeclaration}
-use Rattle.au_types.specs.declared.parameters.Parameter.{Parameter}
 use Rattle.au_types.specs.declared.types.DeclAt.{DeclAt}
 use Rattle.au_types.specs.Types.{Meaning}
 use Rattle.au_types.specs.Universes.{universe_in}
 use Rattle.au_modules.specs.Programs.{ModuleParts}
 use Rattle.au_names.specs.declared.targets.Target.{Target}
-use Rattle.au_names.specs.HeadsOf.{heads_of}
 use Rattle.au_names.specs.Owned.{declarations_in}
 use Rattle.au_names.specs.Standing.{Standing, standing_at}
 use Rattle.au_promises.specs.Fulfilled.{AllFulfil}
 use Rattle.au_generics.specs.Bounds.{Bounded, parameters}
 use Rattle.au_generics.specs.Meanings.{parameter}
-use Rattle.au_formed.specs.Writings.{a_universe, header_writings, writings}
+use Rattle.au_formed.specs.Writings.{a_universe, writings}
 use Rattle.au_instances.proofs.TableLemmas.{Contains-first}
 use Rattle.au_classes.specs.Good.{InstancesAreGood}
 use Rattle.au_rules.specs.Good.{AllDeclarationsAreGood}
@@ -40,7 +37,7 @@ use Rattle.au_closing.specs.Bodies.{BodyOf, body_of}
 use Rattle.au_closing.specs.Leading as leading
 use Rattle.au_closing.specs.Leading.{Called, a_function, a_maker, a_method, called_of, called_standing}
 use Rattle.au_closing_laws.specs.Targets.{Call, CallIsTyped, IsTyped, IsTypeOf, MethodIsTyped, NameIsTyped, calls_listed}
-use Rattle.au_typed_calls.specs.Calls.{IsMeant, put_for}
+use Rattle.au_typed_calls.specs.Calls.{IsMeant}
 use Rattle.au_typed_calls.specs.Premises.{Premises}
 use Rattle.au_typed_calls.proofs.DefinitionLemmas.{IsThere, listed_at, stands_in}
 use Rattle.au_typed_calls.proofs.FunctionLemmas.{typed_here, typed_promised}

@@ -1,5 +1,5 @@
 -- What the rules of typing give of a call in a body.
-use Rattle.std.specs.Prelude.{◌≡◌, List, [], Option, None, Some, IsTrue, unwrap_or}
+use Rattle.std.specs.Prelude.{◌≡◌, List, [], Option, Some, IsTrue, unwrap_or}
 use Rattle.au_syntax.specs.declared.declarations.Universe.{Universe}
 use Rattle.au_syntax.specs.Plain.{Bytes}
 use Rattle.au_syntax.specs.declared.modules.Part.TheVariants.{Body}
@@ -44,15 +44,21 @@ module _ (program : List ModuleParts) where
   abbrev pub outside_at : BodyOf → Outside
   outside_at body = outside_of program body.place Body
 
+  -- a call in a body is good, with what is seen there and with the body's type parameters
+  abbrev pub IsGoodIn : BodyOf → Call → Type 0
+  IsGoodIn body call =
+      IsGoodCall (outside_at body) (generics_in (outside_at body) body.generics) call
+
   -- A call in a body is good, and what its name means is called: the name means a declaration that is found,
   -- which has something that is called under the name, and that is what the rule of calls was used with.
   pub record IsMeant (body : BodyOf) (call : Call) : Type 0 where
-    pub is_good : IsGoodCall (outside_at body) (generics_in (outside_at body) body.generics) call
+    pub is_good : IsGoodIn body call
     pub target : Target
     pub means : tables.find call.1 (seen_at Callables program body.place Body) ≡ Some target
     pub declared : Standing
     pub found : standing_at program target.at ≡ Some declared
-    pub has : declared_callable program declared target.at target.name declared.says ≡ Some is_good.good.called
+    pub has : declared_callable program declared target.at target.name declared.says
+        ≡ Some is_good.good.called
     pub called : Called
     pub is_called : called_of target.name declared.says ≡ Some called
 
@@ -62,7 +68,7 @@ module _ (program : List ModuleParts) where
 
   -- A type in a body suits a type parameter of others: the parameter takes its universe, and each class that
   -- constrains the parameter holds of it.
-  pub record Suits (body : BodyOf) (others : List Bounded) (name : Bytes) (universe : Universe) (t : Meaning) :
-      Type 0 where
+  pub record Suits (body : BodyOf) (others : List Bounded) (name : Bytes) (universe : Universe)
+      (t : Meaning) : Type 0 where
     pub taken : IsTrue (takes universe (universe_of (heads_of program) (scope_of program body) t))
     pub holds : (class : DeclAt) → IsTrue (constrains others name class) → HoldsIn program body class t

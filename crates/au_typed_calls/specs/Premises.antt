@@ -1,5 +1,5 @@
 -- What is known of an accepted program besides its rules, and is taken here as it is.
-use Rattle.std.specs.Prelude.{◌≡◌, ℕ, List, None, Some, Contains, IsTrue, slice_get}
+use Rattle.std.specs.Prelude.{◌≡◌, List, None, Some, Contains, IsTrue, slice_get}
 use Rattle.au_base.specs.declared.places.Pos.{Pos}
 use Rattle.au_shipped.specs.declared.prims.ShippedCall.{ShippedCall}
 use Rattle.au_shipped.specs.Calls.{prim_of}
@@ -19,19 +19,19 @@ use Rattle.au_modules.specs.Programs.{ModuleParts}
 use Rattle.au_names.specs.declared.targets.Target.{Target}
 use Rattle.au_names.specs.HeadsOf.{heads_of}
 use Rattle.au_names.specs.Standing.{Standing, standing_at}
-use Rattle.au_derivations.specs.Bodies.{generics_in}
 use Rattle.au_derivations.specs.Trees.{NotedParts}
 use Rattle.au_closing.specs.Bodies.{BodyOf, body_of}
 use Rattle.au_closing.specs.Leading.{module_name}
 use Rattle.au_closing_laws.specs.Targets.{Call, IsTypeOf, MethodIsThere, calls_listed, scope_of}
-use Rattle.au_typed_calls.specs.Calls.{IsGoodCall, outside_at, put_for}
+use Rattle.au_typed_calls.specs.Calls.{IsGoodIn, put_for}
 
 module _ (program : List ModuleParts) where
   -- Each declaration is one that its part may have: functions without bodies stand in interfaces, and those
   -- with them in bodies. So it is of what was parsed.
   abbrev pub AreOfParts : Type 0
   AreOfParts =
-      (at : DeclAt) (d : Standing) → standing_at program at ≡ Some d → IsTrue (formed_declaration d.part d.says)
+      (at : DeclAt) (d : Standing) → standing_at program at ≡ Some d
+      → IsTrue (formed_declaration d.part d.says)
 
   -- A function of a module that has no body is shipped. So it is of the interfaces that are shipped, and each
   -- other module has a body.
@@ -48,7 +48,7 @@ module _ (program : List ModuleParts) where
   PutTypesStand noted =
       (target : Target) (body : BodyOf) → body_of program noted target ≡ Some body
       → (call : Call) → Contains (calls_listed body.block) call
-      → (one : IsGoodCall (outside_at program body) (generics_in (outside_at program body) body.generics) call)
+      → (one : IsGoodIn program body call)
       → (p : Bytes) (universe : Universe) → IsTypeOf (parameters one.good.called.generics) p universe
       → StandsOver (heads_of program) (scope_of program body) (put_for call.0 p)
 

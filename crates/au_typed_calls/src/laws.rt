@@ -6,7 +6,6 @@ ghost use Rattle.au_syntax.specs.Plain.{Bytes};
 ghost use Rattle.au_types.specs.declared.types.DeclAt.{DeclAt};
 ghost use Rattle.au_generics.specs.Bounds.{parameters};
 ghost use Rattle.au_rules.specs.Good.{AllDeclarationsAreGood};
-ghost use Rattle.au_derivations.specs.Bodies.{generics_in};
 ghost use Rattle.au_classes.specs.Good.{InstancesAreGood};
 ghost use Rattle.au_classes.specs.Rows.{rows_of};
 ghost use Rattle.au_closing.specs.Bodies.{BodyOf, body_of};
@@ -18,16 +17,16 @@ ghost use Rattle.au_names.specs.declared.targets.Target.{Target as TargetSeen};
 ghost use Rattle.au_noting_programs.specs.Faults.{IsDerived};
 ghost use Rattle.au_promises.specs.Fulfilled.{AllFulfil};
 ghost use Rattle.au_typed_calls.specs.Premises.{Premises};
-ghost use Rattle.au_typed_calls.specs.Calls.{AreMeant, IsGoodCall, IsMeant, Suits, outside_at, put_for};
+ghost use Rattle.au_typed_calls.specs.Calls.{AreMeant, IsGoodIn, IsMeant, Suits, put_for};
 
 /// The rows of the instances of a program are a table where the rule on instances holds.
 pub fn instances_are_a_table()
     ensures { (program : List ModuleParts) → InstancesAreGood program → IsTable (rows_of program) }
 {}
 
-/// Each call in a body of a derived program is good by the rule of calls, in a scope with what the body of its
-/// module sees and with the type parameters of the body; and its name means a declaration that has what is
-/// called.
+/// Each call in a body of a derived program is good by the rule of calls, in a scope with what the body of
+/// its module sees and with the type parameters of the body; and its name means a declaration that has what
+/// is called.
 pub fn calls_are_meant()
     ensures { (program : List ModuleParts) (noted : List NotedParts)
         → IsDerived program noted
@@ -56,7 +55,7 @@ pub fn calls_put_what_fits()
         → (body : BodyOf)
         → AreMeant program body
         → (call : Call)
-        → (one : IsGoodCall (outside_at program body) (generics_in (outside_at program body) body.generics) call)
+        → (one : IsGoodIn program body call)
         → (p : Bytes) (universe : Universe)
         → IsTypeOf (parameters one.good.called.generics) p universe
         → Suits program body one.good.called.generics p universe (put_for call.0 p) }
@@ -65,16 +64,16 @@ pub fn calls_put_what_fits()
         → (body : BodyOf)
         → AreMeant program body
         → (call : Call)
-        → (one : IsGoodCall (outside_at program body) (generics_in (outside_at program body) body.generics) call)
+        → (one : IsGoodIn program body call)
         → (p : Bytes) (universe : Universe) (class : DeclAt)
         → IsTypeOf (parameters one.good.called.generics) p universe
         → one.good.called.class ≡ Some (p, class)
         → HoldsIn program body class (put_for call.0 p) }
 {}
 
-/// The calls of a derived program are typed where its declarations and instances are good and its bodies fulfil
-/// their interfaces, under what is taken besides: declarations are of their parts, what has no body is shipped,
-/// methods are there in the rows of their classes, and the types that calls put stand.
+/// The calls of a derived program are typed where its declarations and instances are good and its bodies
+/// fulfil their interfaces, under what is taken besides: declarations are of their parts, functions that have
+/// no body are shipped, methods are there in the rows of their classes, and the types that calls put stand.
 pub fn accepted_programs_are_typed()
     ensures { (program : List ModuleParts) (noted : List NotedParts)
         → IsDerived program noted
