@@ -1,0 +1,2 @@
+pub mod BorrowLemmas
+pub mod LoopLemmas

@@ -1,0 +1,5 @@
+pub mod TableLemmas
+pub mod NumberLemmas
+pub mod CodedLemmas
+pub mod RowLemmas
+pub mod LowerLemmas
