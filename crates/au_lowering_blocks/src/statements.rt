@@ -33,7 +33,7 @@ use au_lowering_statements::{
     Start, either, end_case, end_jumps, enter, enter_arm, further, is_last, kept, put_bind,
     put_case, put_end, put_put, put_set, put_start, put_unless,
 };
-use au_syntax::{Access, Arm, Block, BorrowMode, Branch, Expr, Stmt};
+use au_syntax::{Access, Arm, Block, BorrowMode, Branch, Stmt};
 use std::alloc::Global;
 
 /// Writes what a test that is true does, and lets the test go behind it.

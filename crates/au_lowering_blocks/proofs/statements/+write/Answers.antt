@@ -23,7 +23,7 @@ use Rattle.au_lowering_blocks.specs.Pieces.{arm_to, counted, ended, turn_from}
 use Rattle.au_lowering_blocks.proofs.LoopLemmas as loops
 use Rattle.au_lowering_blocks.proofs.LoopLemmas.{arm_is_last, tests_follow}
 use Rattle.au_meaning.specs.Names.{Scope, variable_of}
-use Rattle.au_syntax.specs.Views.{arm_all, block, bound, expression, placed, statement, statement_all}
+use Rattle.au_syntax.specs.Views.{block, bound, expression, placed, statement, statement_all}
 use Rattle.au_lowering_blocks.proofs.statements.+write.Goals as goal
 
 -- ---- statements
@@ -279,7 +279,8 @@ write_tests-loop-one-preserved g t c =
             (drafts_said c.loop-one.out.items) (drafts_said c.write_test.new.out.items) after
             c.loop-one-test.true c.one-item.is
             (tests_follow c.args.more _ _ xs i c.either-followed.ensures count)
-            (subst (λ s. Holed (one_test round c.args.around c.args.slot (scope_said s) c.either-followed.result x)
+            (subst (λ s. Holed
+            (one_test round c.args.around c.args.slot (scope_said s) c.either-followed.result x)
             c.loop-one.jumps.items (drafts_said c.loop-one.out.items)
             c.write_test.new.jumps.items (drafts_said c.write_test.new.out.items))
             before.1.0 c.in_ok-write_test.ensures.code)
@@ -420,7 +421,8 @@ write_arms-returns-clause-starts g t c = λ b.
     c.loop-one.one-index (length (drafts_said c.loop-one.out.items)) _ _ c.loop-one-test.false
     (c.loop-one.invariant.1.1.1 b).1
     ∙ ap (λ xs. starts_said c.args.starts.now.items
-    ++ loops.begins_at round c.args.around c.args.slot scope note xs (length (drafts_said c.args.out.now.items)))
+    ++ loops.begins_at round c.args.around c.args.slot scope note xs
+    (length (drafts_said c.args.out.now.items)))
     c.deref-one-items.ensures.value
 
 pub write_cases-returns-clause-code : goal.write_cases-returns-clause-code
@@ -462,7 +464,8 @@ write_block-loop-one-preserved g t c =
           (drafts_said c.write_statement.new.out.items) _ c.loop-one-test.true c.one-item.is
           c.in_ok-write_statement.ensures.code
           (c.in_ok-enter.ensures.said
-          ∙ ap (λ s. after (view_in round) c.loop-one.slot (statement closed c.one-item.result) (scope_said s))
+          ∙ ap (λ s.
+          after (view_in round) c.loop-one.slot (statement closed c.one-item.result) (scope_said s))
           same)
           (c.in_ok-slot.ensures ∙ ap (λ n. c.loop-one.slot + n) c.kept.ensures)
           c.loop-one.invariant.1,
