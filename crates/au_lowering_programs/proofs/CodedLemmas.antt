@@ -87,8 +87,9 @@ drafts_by texts types (d ∷ ds) = λ i. draft_by texts types d i ∷ drafts_by 
 pub functions_by : (texts : List Bytes) (types : List ClosedType) (all : List Drafted)
     → map (function_by texts (map key_of types)) all ≡ map (function_of texts types) all
 functions_by texts types [] = refl
-functions_by texts types (f ∷ rest) = λ i. record
-    { params = f.params; slots = f.slots; code = drafts_by texts types f.drafts i } ∷ functions_by texts types rest i
+functions_by texts types (f ∷ rest) =
+    λ i. record { params = f.params; slots = f.slots; code = drafts_by texts types f.drafts i }
+    ∷ functions_by texts types rest i
 
 -- ---- functions
 

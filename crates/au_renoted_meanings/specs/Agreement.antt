@@ -136,8 +136,7 @@ module _ {I J T C U D : Type 0} (known : ClosedType → Bool) (change : Change B
       (order : List Bytes → Option (List Value)) → calls one invoke (one.callee n c name) order
       ≡ calls two other (two.callee (change.note n) (change.callee n c name) name) order
 
-  -- they agree on each mention and each call of a block, where the types that are noted count
-  -- as far as it matters
+  -- they agree on each mention and each call of a block, and the types that are noted where it matters count
   abbrev pub AgreeInBlock : (I → List Value → Action Value) → (J → List Value → Action Value)
       → Statements Bytes T C → Type 0
   AgreeInBlock invoke other =
