@@ -1,0 +1,130 @@
+//! The code of functions, with texts and types that stand for themselves.
+
+ghost use Rattle.std.specs.Prelude.{◌≡◌, IfOk, OnOk, Some, length, map};
+ghost use Rattle.au_closed_functions.specs.Views.{function_said, functions_said};
+ghost use Rattle.au_closed_parts.specs.Views.{fields_said};
+ghost use Rattle.au_closed_trees.specs.contracts.phase.ClosedTreesPhase.TheImpl.{ghosts as closed};
+ghost use Rattle.au_closed_types.specs.Views.{closed_meaning};
+ghost use Rattle.au_closed_views.specs.Surroundings.{view_in};
+ghost use Rattle.au_lowered.specs.Statements as statements;
+ghost use Rattle.au_lowering.specs.Drafts.{drafted_from};
+ghost use Rattle.au_lowering.specs.Views.{rows_held};
+ghost use Rattle.au_lowering_expressions.specs.Views.{drafts_said, scope_said};
+ghost use Rattle.au_lowering_programs.specs.Closed.{body_seen, fields_seen};
+ghost use Rattle.au_lowering_programs.specs.Views.{all_said, drafted_said};
+ghost use Rattle.au_meaning.specs.Names.{with_name, with_parameters};
+ghost use Rattle.au_syntax.specs.Views.{block};
+
+use crate::lookups::Round;
+use crate::seen::SeenRow;
+use au_base::Memory;
+use au_closed_functions::ClosedFunction;
+use au_closed_parts::ClosedField;
+use au_closed_trees::ClosedTrees;
+use au_closed_types::copy_closed;
+use au_closed_views::Lookup;
+use au_lowering_blocks::write_block;
+use au_lowering_expressions::{Draft, Local};
+use au_lowering_programs::Drafted;
+use au_lowering_statements::{declare, further, room_of_block};
+use au_syntax::Block;
+use std::alloc::Global;
+
+/// Declares a parameter in a slot.
+fn declare_parameter(
+    alloc: Global,
+    scope: &mut Vec<Local>,
+    slot: u32,
+    one: &ClosedField,
+) -> Result<(), Memory>
+    ensures { OnOk result (scope_said scope.new.items
+        ≡ with_name one.now.name slot (Some (closed_meaning one.now.of)) (scope_said scope.old.items)) }
+{
+    let of = copy_closed(alloc, &one.of)?;
+    declare(alloc, scope, &one.name, slot, Some(of))
+}
+
+/// Declares parameters, which have the first slots, and answers how many there are.
+fn declare_parameters(
+    alloc: Global,
+    scope: &mut Vec<Local>,
+    parameters: &Vec<ClosedField>,
+) -> Result<u32, Memory>
+    ensures count { IfOk result (λ count. count ≡ length parameters.now.items) }
+    ensures said { OnOk result (scope_said scope.new.items
+        ≡ with_parameters 0 (fields_seen (fields_said parameters.now.items)) (scope_said scope.old.items)) }
+{
+    let mut slot = 0;
+    for one in parameters {
+        declare_parameter(alloc, scope, slot, one)?;
+        slot = further(slot, 1)?;
+    }
+    Ok(slot)
+}
+
+/// The instructions of a block, where so many slots are in use.
+#[tactic(auto, using(crate::proofs::DraftLemmas::first_wrote))]
+fn body_of<R: Lookup>(
+    alloc: Global,
+    lookup: &R,
+    params: u32,
+    scope: &mut Vec<Local>,
+    of: &Block<ClosedTrees>,
+) -> Result<Vec<Draft>, Memory>
+    ensures { IfOk result (λ made. drafts_said made.items
+        ≡ statements.block (view_in (R.round lookup.now)) 0 params (scope_said scope.old.items)
+        (block closed of.now) 0) }
+{
+    let mut out = Vec::new(alloc);
+    write_block(alloc, lookup, 0, params, scope, of, &mut out)?;
+    Ok(out)
+}
+
+/// The code of a function.
+fn draft_function(
+    alloc: Global,
+    functions: &Vec<ClosedFunction>,
+    rows: &Vec<SeenRow<'_>>,
+    one: &ClosedFunction,
+) -> Result<Drafted, Memory>
+    ensures { IfOk result (λ made. drafted_said made
+        ≡ drafted_from (map body_seen (functions_said functions.now.items)) (rows_held rows.now.items)
+        (body_seen (function_said one.now))) }
+{
+    let lookup = Round {
+        functions,
+        rows,
+        home: &one.home,
+    };
+    let mut scope = Vec::new(alloc);
+    let params = declare_parameters(alloc, &mut scope, &one.parameters)?;
+    let slots = room_of_block(&lookup, params, &one.body)?;
+    let drafts = body_of(alloc, &lookup, params, &mut scope, &one.body)?;
+    Ok(Drafted {
+        params,
+        slots,
+        drafts,
+    })
+}
+
+/// The code of the functions of a program.
+///
+/// # Errors
+///
+/// Only for want of memory. It is also what is answered where a place or a slot has more than 32 bits.
+pub fn draft_functions(
+    alloc: Global,
+    functions: &Vec<ClosedFunction>,
+    rows: &Vec<SeenRow<'_>>,
+) -> Result<Vec<Drafted>, Memory>
+    ensures { IfOk result (λ made. all_said made.items
+        ≡ map (drafted_from (map body_seen (functions_said functions.now.items)) (rows_held rows.now.items))
+        (map body_seen (functions_said functions.now.items))) }
+{
+    let mut made = Vec::new(alloc);
+    for one in functions {
+        let drafted = draft_function(alloc, functions, rows, one)?;
+        made.push(drafted)?;
+    }
+    Ok(made)
+}
