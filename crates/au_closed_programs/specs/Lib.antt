@@ -1,3 +1,5 @@
+pub mod Defined
+pub mod FunctionViews
 pub mod Programs
 pub mod Views
 pub mod Answers

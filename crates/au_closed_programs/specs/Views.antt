@@ -2,7 +2,7 @@
 use Rattle.std.specs.Prelude.{List, map}
 use Rattle.au_closed_types.specs.Views.{closed_meaning}
 use Rattle.au_closed_parts.specs.Views.{cases_said}
-use Rattle.au_closed_functions.specs.Views.{functions_said}
+use Rattle.au_closed_programs.specs.FunctionViews.{functions_said}
 use Rattle.au_closed_programs.specs.declared.programs.ClosedProgram as found
 use Rattle.au_closed_programs.specs.declared.rows.TypeRow as found_row
 use Rattle.au_closed_programs.specs.Programs.{ClosedProgram, TypeRow}

@@ -2,7 +2,7 @@
 
 ghost use Rattle.std.specs.Prelude.{◌≡◌, Bool, IfOk, Some, map};
 ghost use Rattle.au_classes.specs.Rows.{rows_of};
-ghost use Rattle.au_closed_functions.specs.Views.{functions_said};
+ghost use Rattle.au_closed_programs.specs.FunctionViews.{functions_said};
 ghost use Rattle.au_closed_programs.specs.Answers.{Answers, PassesNoLimit, TellsNoLimit};
 ghost use Rattle.au_closed_programs.specs.Programs.{ClosesTypes};
 ghost use Rattle.au_closed_programs.specs.Views.{rows_said};
@@ -13,12 +13,13 @@ ghost use Rattle.au_names.specs.declared.targets.Target.{Target};
 ghost use Rattle.au_noting_programs.specs.Said.{modules_said};
 ghost use Rattle.au_syntax.specs.Plain.{Bytes};
 
+use crate::calls::Bodies;
+use crate::defining::all_definitions;
 use crate::faults::CloseFault;
+use crate::listing::closed_functions;
 use crate::programs::ClosedProgram;
 use crate::types::closed_types;
 use au_base::{Memory, Name};
-use au_bodies::all_definitions;
-use au_closed_functions::{Bodies, closed_functions};
 use au_closing::Instance;
 use au_entries::{Begin, EntryFault, entry_of};
 use au_imports::Resolved;

@@ -1,7 +1,7 @@
 //! Closed programs.
 
+use crate::functions::ClosedFunction;
 use crate::rows::TypeRow;
-use au_closed_functions::ClosedFunction;
 
 /// A program as the list of its instances, from an entry.
 #[derive(Drop)]

@@ -7,15 +7,19 @@ ghost use Rattle.au_closed_programs.specs.Views.{row_said, rows_said};
 ghost use Rattle.au_closed_types.specs.Texts.{text_of};
 ghost use Rattle.au_closed_types.specs.Views.{closed_meaning};
 ghost use Rattle.au_closing.specs.Leading.{module_name};
+ghost use Rattle.au_instances.specs.ClosedInstances as instances;
 ghost use Rattle.au_modules.specs.Slots as slots;
 ghost use Rattle.au_names.specs.HeadsOf.{heads_of};
+ghost use Rattle.au_universes.specs.Universes as universes;
 
-use crate::universes::is_linear;
 use au_base::{Memory, Text};
 use au_closed_keys::add_key;
 use au_closed_parts::{ClosedCase, cases_of};
 use au_closed_types::{Closed, closed_text, copy_closed};
 use au_imports::Resolved;
+use au_instances::universes::closed_universe;
+use au_types::Heads;
+use au_universes::TypeUniverse;
 use std::alloc::Global;
 use std::cmp::Ordering;
 
@@ -34,6 +38,17 @@ pub struct TypeRow {
     pub linear: bool,
     /// Its cases in declared order; of a record, the record itself.
     pub cases: Vec<ClosedCase>,
+}
+
+/// Whether a closed type is Linear.
+fn is_linear(heads: &Heads, of: &Closed) -> bool
+    ensures { result ≡ universes.is_linear (instances.closed_universe heads.now (closed_meaning of.now)) }
+{
+    match closed_universe(heads, of) {
+        TypeUniverse::Free => false,
+        TypeUniverse::Linear => true,
+        TypeUniverse::AnyUniverse => false,
+    }
 }
 
 /// The key of a closed type.

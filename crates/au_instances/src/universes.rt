@@ -16,7 +16,7 @@ use au_universes::TypeUniverse;
 /// The universe of a closed type. A declared type without a row counts as `Type`.
 #[tactic(auto, using(au_closed_types::proofs::ClosedLemmas::closed_steps))]
 #[cycle(closed_universe)]
-pub(crate) fn closed_universe(heads: &Heads, of: &Closed) -> TypeUniverse
+pub fn closed_universe(heads: &Heads, of: &Closed) -> TypeUniverse
     ensures { result ≡ spec.closed_universe heads.now (closed_meaning of.now) }
 {
     match of {

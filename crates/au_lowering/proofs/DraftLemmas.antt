@@ -3,12 +3,12 @@ use Rattle.std.proofs.Common.{◌≡◌, ℕ, ◌+◌, List, [], ◌∷◌, leng
 use Rattle.std.proofs.Common.{Option, None, Some, slice_get}
 use Rattle.std.specs.Option.{option_map}
 use Rattle.std.proofs.lemmas.Option.{slice_get-map}
-use Rattle.au_closed_functions.specs.declared.functions.ClosedFunction as found
-use Rattle.au_closed_functions.specs.Views.{function_said, functions_said}
+use Rattle.au_closed_programs.specs.declared.functions.ClosedFunction as found
+use Rattle.au_closed_programs.specs.FunctionViews.{function_said, functions_said}
 use Rattle.au_closed_views.specs.Programs.{Body, Row, functions_from, functions_seen}
 use Rattle.au_lowering.specs.Drafts.{drafted_from}
-use Rattle.au_lowering_programs.specs.Closed.{body_seen}
-use Rattle.au_lowering_programs.specs.Drafted.{drafted}
+use Rattle.au_lowering.specs.Closed.{body_seen}
+use Rattle.au_lowering.specs.Drafted.{drafted}
 use Rattle.au_lowered.specs.Drafts.{Written}
 use Rattle.au_lowering_expressions.specs.Wrote.{wrote}
 use Rattle.au_meaning.specs.Names.{names_in_block}

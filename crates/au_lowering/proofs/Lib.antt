@@ -1,1 +1,6 @@
+pub mod TableLemmas
+pub mod NumberLemmas
+pub mod CodedLemmas
+pub mod RowLemmas
+pub mod LowerLemmas
 pub mod DraftLemmas

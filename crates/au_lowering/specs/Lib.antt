@@ -1,2 +1,8 @@
-pub mod Drafts
 pub mod Views
+pub mod Drafts
+pub mod Keyed
+pub mod Drafted
+pub mod DraftViews
+pub mod Closed
+pub mod Rows
+pub mod Answers

@@ -3,7 +3,7 @@ use Rattle.std.specs.Prelude.{List, map}
 use Rattle.au_closed_parts.specs.Views.{case_said}
 use Rattle.au_closed_types.specs.Views.{closed_meaning}
 use Rattle.au_closed_views.specs.Programs.{Case, Row}
-use Rattle.au_lowering_programs.specs.Closed.{case_seen}
+use Rattle.au_lowering.specs.Closed.{case_seen}
 use Rattle.au_lowering.specs.declared.seen.SeenCase.{SeenCase}
 use Rattle.au_lowering.specs.declared.seen.SeenRow.{SeenRow}
 

@@ -1,7 +1,7 @@
 //! The code of functions, with texts and types that stand for themselves.
 
 ghost use Rattle.std.specs.Prelude.{◌≡◌, IfOk, OnOk, Some, length, map};
-ghost use Rattle.au_closed_functions.specs.Views.{function_said, functions_said};
+ghost use Rattle.au_closed_programs.specs.FunctionViews.{function_said, functions_said};
 ghost use Rattle.au_closed_parts.specs.Views.{fields_said};
 ghost use Rattle.au_closed_trees.specs.contracts.phase.ClosedTreesPhase.TheImpl.{ghosts as closed};
 ghost use Rattle.au_closed_types.specs.Views.{closed_meaning};
@@ -10,22 +10,22 @@ ghost use Rattle.au_lowered.specs.Statements as statements;
 ghost use Rattle.au_lowering.specs.Drafts.{drafted_from};
 ghost use Rattle.au_lowering.specs.Views.{rows_held};
 ghost use Rattle.au_lowering_expressions.specs.Views.{drafts_said, scope_said};
-ghost use Rattle.au_lowering_programs.specs.Closed.{body_seen, fields_seen};
-ghost use Rattle.au_lowering_programs.specs.Views.{all_said, drafted_said};
+ghost use Rattle.au_lowering.specs.Closed.{body_seen, fields_seen};
+ghost use Rattle.au_lowering.specs.DraftViews.{all_said, drafted_said};
 ghost use Rattle.au_meaning.specs.Names.{with_name, with_parameters};
 ghost use Rattle.au_syntax.specs.Views.{block};
 
+use crate::functions::Drafted;
 use crate::lookups::Round;
 use crate::seen::SeenRow;
 use au_base::Memory;
-use au_closed_functions::ClosedFunction;
 use au_closed_parts::ClosedField;
+use au_closed_programs::ClosedFunction;
 use au_closed_trees::ClosedTrees;
 use au_closed_types::copy_closed;
 use au_closed_views::Lookup;
 use au_lowering_blocks::write_block;
 use au_lowering_expressions::{Draft, Local};
-use au_lowering_programs::Drafted;
 use au_lowering_statements::{declare, further, room_of_block};
 use au_syntax::Block;
 use std::alloc::Global;

@@ -2,7 +2,7 @@
 
 ghost use Rattle.std.specs.Prelude.{◌≡◌, IfOk, Some, map, slice_get};
 ghost use Rattle.std.specs.Option.{option_copied, option_map};
-ghost use Rattle.au_closed_functions.specs.Views.{function_said, functions_said};
+ghost use Rattle.au_closed_programs.specs.FunctionViews.{function_said, functions_said};
 ghost use Rattle.au_closed_types.specs.Views.{closed_meaning};
 ghost use Rattle.au_closed_views.specs.Programs.{Body, fields_at, row_in};
 ghost use Rattle.au_closed_views.specs.Shipped as shipped;
@@ -10,13 +10,13 @@ ghost use Rattle.au_closed_views.specs.Surroundings.{field_names, with_parameter
 ghost use Rattle.au_closed_views.specs.Views.{called_said};
 ghost use Rattle.au_effects.specs.Parts.{along};
 ghost use Rattle.au_lowering.specs.Views.{case_in, rows_held};
-ghost use Rattle.au_lowering_programs.specs.Closed.{body_seen};
+ghost use Rattle.au_lowering.specs.Closed.{body_seen};
 ghost use Rattle.au_meaning.specs.Views.{invokes, makes, ships};
 
 use crate::rows::{case_at, count_of, field_in as field_of_case, find_row, names_of, tag_in};
 use crate::seen::{SeenCase, SeenRow};
 use au_base::{Memory, Name};
-use au_closed_functions::ClosedFunction;
+use au_closed_programs::ClosedFunction;
 use au_closed_trees::{Callee, ClosedNote};
 use au_closed_types::{Closed, copy_closed};
 use au_closed_views::{Act, Called, Found, Lookup, born, shipped_parameters};
@@ -126,10 +126,10 @@ fn shipped_called(alloc: Global, call: ShippedCall, of: &Closed) -> Result<Optio
 
 impl<'a> Lookup for Round<'a> {
     ghost use Rattle.std.specs.Prelude.{map};
-    ghost use Rattle.au_closed_functions.specs.Views.{functions_said};
+    ghost use Rattle.au_closed_programs.specs.FunctionViews.{functions_said};
     ghost use Rattle.au_closed_views.specs.Programs.{surroundings};
     ghost use Rattle.au_lowering.specs.Views.{rows_held};
-    ghost use Rattle.au_lowering_programs.specs.Closed.{body_seen};
+    ghost use Rattle.au_lowering.specs.Closed.{body_seen};
 
     ghost round = { λ r. surroundings (map body_seen (functions_said r.functions.now.items))
         (rows_held r.rows.now.items) r.home.now };

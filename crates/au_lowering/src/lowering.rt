@@ -2,17 +2,19 @@
 
 ghost use Rattle.std.specs.Prelude.{◌≡◌, IfOk, map};
 ghost use Rattle.au_closed_programs.specs.Views.{program_said};
-ghost use Rattle.au_lowering_programs.specs.Answers.{TellsLimit};
-ghost use Rattle.au_lowering_programs.specs.Closed.{code_of, functions_of, is_too_long};
-ghost use Rattle.au_lowering_programs.specs.Drafted.{drafted};
-ghost use Rattle.au_lowering_programs.specs.Views.{all_said};
+ghost use Rattle.au_lowering.specs.Answers.{TellsLimit};
+ghost use Rattle.au_lowering.specs.Closed.{code_of, functions_of, is_too_long};
+ghost use Rattle.au_lowering.specs.Drafted.{drafted};
+ghost use Rattle.au_lowering.specs.DraftViews.{all_said};
 
+use crate::coding::lower_drafted;
 use crate::drafting::draft_functions;
+use crate::faults::LowerFault;
+use crate::functions::Drafted;
 use crate::rows::see_rows;
 use au_base::Memory;
 use au_closed_programs::ClosedProgram;
 use au_low::Code;
-use au_lowering_programs::{Drafted, LowerFault, lower_drafted};
 use std::alloc::Global;
 
 /// The drafts of the functions of a closed program.

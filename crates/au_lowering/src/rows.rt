@@ -9,7 +9,7 @@ ghost use Rattle.au_closed_views.specs.Programs.{case_from, row_in};
 ghost use Rattle.au_closed_views.specs.Surroundings.{field_names};
 ghost use Rattle.au_closed_views.specs.Views.{found_said};
 ghost use Rattle.au_lowering.specs.Views.{case_in, row_held, rows_held};
-ghost use Rattle.au_lowering_programs.specs.Closed.{case_seen, fields_seen, row_seen};
+ghost use Rattle.au_lowering.specs.Closed.{case_seen, fields_seen, row_seen};
 ghost use Rattle.au_meaning.specs.Names.{field_of};
 
 use crate::seen::{SeenCase, SeenRow};

@@ -3,7 +3,7 @@
 use crate::closing::{Closing, closing_of};
 use crate::programs::Program;
 use au_base::{Limit, LimitKind, Memory, Pos};
-use au_closed_functions::ClosedFunction;
+use au_closed_programs::ClosedFunction;
 use au_closed_parts::{ClosedCase, ClosedField};
 use au_closed_programs::{CloseFault, ClosedProgram, TypeRow};
 use au_closed_types::{Closed, closed_text};

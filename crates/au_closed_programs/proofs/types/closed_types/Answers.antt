@@ -4,7 +4,7 @@ use Rattle.au_closed_types.specs.Same.{same}
 use Rattle.au_closed_types.specs.Views.{closed_meaning}
 use Rattle.au_reach.specs.Finding.{found_in}
 use Rattle.au_reach.specs.Reached.{Lists}
-use Rattle.au_closed_functions.specs.Views.{functions_said}
+use Rattle.au_closed_programs.specs.FunctionViews.{functions_said}
 use Rattle.au_closed_parts.specs.Occurring.{follows}
 use Rattle.au_closed_programs.specs.Programs.{row_of, types_in_functions}
 use Rattle.au_closed_programs.specs.Views.{rows_said}

@@ -1,7 +1,7 @@
 use Rattle.std.proofs.Common.{◌≡◌, drop}
 use Rattle.au_closed_parts.specs.Views.{fields_said}
 use Rattle.au_lowering_expressions.specs.Views.{scope_said}
-use Rattle.au_lowering_programs.specs.Closed.{fields_seen}
+use Rattle.au_lowering.specs.Closed.{fields_seen}
 use Rattle.au_meaning.specs.Names.{with_parameters}
 use Rattle.au_lowering.proofs.drafting.declare_parameters.Given as goal
 

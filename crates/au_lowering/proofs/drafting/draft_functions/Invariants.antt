@@ -1,9 +1,9 @@
 use Rattle.std.proofs.Common.{◌≡◌, map, take}
-use Rattle.au_closed_functions.specs.Views.{functions_said}
+use Rattle.au_closed_programs.specs.FunctionViews.{functions_said}
 use Rattle.au_lowering.specs.Drafts.{drafted_from}
 use Rattle.au_lowering.specs.Views.{rows_held}
-use Rattle.au_lowering_programs.specs.Closed.{body_seen}
-use Rattle.au_lowering_programs.specs.Views.{all_said}
+use Rattle.au_lowering.specs.Closed.{body_seen}
+use Rattle.au_lowering.specs.DraftViews.{all_said}
 use Rattle.au_lowering.proofs.drafting.draft_functions.Given as goal
 
 -- the functions so far

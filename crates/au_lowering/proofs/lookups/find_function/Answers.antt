@@ -1,7 +1,7 @@
 use Rattle.std.proofs.Common.{sym, ap, ◌∙◌}
 use Rattle.std.specs.Option.{option_map}
-use Rattle.au_closed_functions.specs.Views.{function_said}
-use Rattle.au_lowering_programs.specs.Closed.{body_seen}
+use Rattle.au_closed_programs.specs.FunctionViews.{function_said}
+use Rattle.au_lowering.specs.Closed.{body_seen}
 use Rattle.au_lowering.proofs.DraftLemmas.{body_at}
 use Rattle.au_lowering.proofs.lookups.find_function.Goals as goal
 

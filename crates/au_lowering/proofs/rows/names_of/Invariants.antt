@@ -1,7 +1,7 @@
 use Rattle.std.proofs.Common.{◌≡◌, ◌++◌, drop}
 use Rattle.au_closed_parts.specs.Views.{fields_said}
 use Rattle.au_closed_views.specs.Surroundings.{field_names}
-use Rattle.au_lowering_programs.specs.Closed.{fields_seen}
+use Rattle.au_lowering.specs.Closed.{fields_seen}
 use Rattle.au_lowering.proofs.rows.names_of.Given as goal
 
 -- the names so far and those that are left are all

@@ -1,7 +1,7 @@
 use Rattle.std.proofs.Common.{◌≡◌, map, take}
 use Rattle.au_closed_programs.specs.Views.{rows_said}
 use Rattle.au_lowering.specs.Views.{rows_held}
-use Rattle.au_lowering_programs.specs.Closed.{row_seen}
+use Rattle.au_lowering.specs.Closed.{row_seen}
 use Rattle.au_lowering.proofs.rows.see_rows.Given as goal
 
 -- the rows so far

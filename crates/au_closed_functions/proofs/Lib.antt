@@ -1,2 +1,0 @@
-mod KnownLemmas
-mod SightLemmas

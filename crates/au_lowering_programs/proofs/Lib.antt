@@ -1,5 +1,0 @@
-pub mod TableLemmas
-pub mod NumberLemmas
-pub mod CodedLemmas
-pub mod RowLemmas
-pub mod LowerLemmas
