@@ -1,0 +1,9 @@
+pub mod FirstLemmas
+pub mod ListLemmas
+pub mod TypeLemmas
+pub mod ExpressionLemmas
+pub mod StatementLemmas
+pub mod DeclarationLemmas
+pub mod FileLemmas
+pub mod ProgramLemmas
+pub mod OrderLemmas
