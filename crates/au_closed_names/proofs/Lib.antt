@@ -1,0 +1,3 @@
+mod MarkLemmas
+mod StandingLemmas
+pub mod OnceLemmas
