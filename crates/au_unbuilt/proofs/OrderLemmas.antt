@@ -110,7 +110,8 @@ first_among best (p ∷ ps) r is = by (is_before p best) refl is (first_among p 
         → (first_from (Some best) ps ≡ Some r → IsFirst best ps r) → IsFirst best (p ∷ ps) r
     by true q rest one other =
         let h = one rest in
-        let placed = ⊎_elim (λ e. (0, omega arith, sym e)) (λ c. Contains-append_right (p ∷ []) ps r c) h.1.1 in (
+        let placed = ⊎_elim (λ e. (0, omega arith, sym e))
+        (λ c. Contains-append_right (p ∷ []) ps r c) h.1.1 in (
           after_both best p r (after_before p best q) h.0,
           (All-cons (λ x. IsAfter x r) p ps h.0 h.1.0, inr placed),
         )

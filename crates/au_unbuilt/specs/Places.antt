@@ -1,7 +1,7 @@
 -- Where trees hold what isn't run yet, in the order of the text: a borrow, a dereference, a path or an
 -- assignment through a reference, the written type of a reference, and names of types and of what is called
--- that mean what isn't run. A tree keeps no place of `->`: that of a path or a statement with one is the place
--- of its first token.
+-- that mean what isn't run. A tree keeps no place of `->`: that of a path or a statement with one is the
+-- place of its first token.
 use Rattle.std.specs.Prelude.{Bool, if◌then◌else◌, List, [], ◌∷◌, ◌++◌}
 use Rattle.std.specs.List.{flat_map}
 use Rattle.au_base.specs.declared.places.Pos.{Pos}

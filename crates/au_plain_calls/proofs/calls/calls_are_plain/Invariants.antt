@@ -1,0 +1,10 @@
+use Rattle.std.proofs.Common.{◌≡◌, drop}
+use Rattle.au_closed_programs.specs.FunctionViews.{functions_said}
+use Rattle.au_plain_calls.specs.Plain.{functions_are_plain}
+use Rattle.au_plain_calls.proofs.calls.calls_are_plain.Given as goal
+
+-- each function so far passes, so those that are left decide
+abbrev pub invariant-loop-one : goal.invariant-loop-one
+invariant-loop-one l =
+    functions_are_plain (functions_said (drop l.one-index l.one-items))
+    ≡ functions_are_plain (functions_said l.one-items)
