@@ -4,6 +4,6 @@ mod SaidLemmas
 mod CallLemmas
 pub mod KeptLemmas
 mod InRowLemmas
-mod ListedLemmas
+pub mod ListedLemmas
 mod CoveredLemmas
-mod ListedCountLemmas
+pub mod ListedCountLemmas

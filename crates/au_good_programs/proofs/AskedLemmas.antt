@@ -5,13 +5,13 @@ use Rattle.au_syntax.specs.Expressions.{Expression, Expressions, Arguments, numb
 use Rattle.au_syntax.specs.Plain.{Bytes}
 use Rattle.au_syntax.specs.Statements.{Statement, Statements, Branches, Arms, skip, declare, destructure, assign, assign_through, conditional, conditional_else, case_of, while_loop, for_loop, borrow_in, borrow_typed, discard, return_of, no_statements, statements, no_branches, branches, no_arms, arms}
 use Rattle.au_modules.specs.Programs.{ModuleParts}
+use Rattle.au_closed_types.specs.Types.{ClosedType}
 use Rattle.au_closed_trees.specs.ClosedNotes.{Callee, ClosedNote, instance, constructor, shipped}
 use Rattle.au_closed_trees.specs.declared.notes.Literal.{Literal}
 use Rattle.au_closing.specs.Closes.{ClosedFunction}
 use Rattle.au_closed_views.specs.Shipped.{shipped_parameters}
 use Rattle.au_closed_views.specs.Surroundings.{Surroundings, field_names, literal_value, view_in, with_parameters}
-use Rattle.au_closing_meanings.specs.Closed.{names_at, surroundings_of}
-use Rattle.au_closing_meanings.specs.Generic.{fields_in}
+use Rattle.au_closing_meanings.specs.Closed.{surroundings_of}
 use Rattle.au_meaning.specs.Views.{Act, Field, invokes, makes}
 use Rattle.au_shipped.specs.declared.prims.ShippedCall.{ShippedCall}
 use Rattle.au_shipped.specs.declared.prims.ShippedCall.TheVariants as prim
@@ -127,11 +127,11 @@ literal_follows : (o : Option Literal)
 literal_follows None ok = refl
 literal_follows (Some literal) ok = ok literal refl
 
-module _ (program : List ModuleParts) (functions : List ClosedFunction) (once : ParametersAreOnce functions)
-    (fields_once : FieldsAreOnce program) (home : Bytes) where
-  abbrev round : Surroundings
-  round = surroundings_of program functions home
-
+-- where what is known round a tree has each name once
+module _ (round : Surroundings)
+    (once : (number : ℕ) (names : List Bytes) → round.parameters number ≡ Some names → are_once names ≡ true)
+    (fields_once : (of : ClosedType) (tag : ℕ) (fields : List Field) → round.fields of tag ≡ Some fields
+    → are_once (field_names fields) ≡ true) where
   mention_follows : (n : ClosedNote) (name : Bytes) → InRange n name → CanMention (view_in round) n name
   mention_follows n name ok = literal_follows n.literal ok
 
@@ -145,13 +145,14 @@ module _ (program : List ModuleParts) (functions : List ClosedFunction) (once : 
   call_follows : (n : ClosedNote) (c : Callee ℕ) (name : Bytes) → IsPlainCall n c name
       → CanCall (view_in round) n c name
   call_follows n (instance which) name ok =
-      known_follows (names_at functions which) (invokes which) (once which) refl
+      known_follows (round.parameters which) (invokes which) (once which) refl
   call_follows n (constructor of tag) name ok =
-      known_follows (option_map field_names (fields_in program of tag)) (makes of tag home)
-      (case_once (fields_in program of tag) (fields_once of tag)) refl
+      known_follows (option_map field_names (round.fields of tag)) (makes of tag round.home)
+      (case_once (round.fields of tag) (fields_once of tag)) refl
   call_follows n (shipped which) name ok = λ i. shipped_once which i && ok i
 
-  block_follows : (b : Statements Bytes ClosedNote (Callee ℕ)) → SaidOfBlock InRange IsPlainCall b
+  -- code can follow a block of which this is asked
+  pub block_follows : (b : Statements Bytes ClosedNote (Callee ℕ)) → SaidOfBlock InRange IsPlainCall b
       → SuitsBlock (view_in round) b
   block_follows b ok =
       more_block InRange (CanMention (view_in round)) IsPlainCall (CanCall (view_in round)) mention_follows
@@ -164,7 +165,7 @@ all_follow : (program : List ModuleParts) (functions : List ClosedFunction) → 
     → EachSuits (functions_in (surroundings_of program functions) numbers some)
 all_follow program functions once fields_once [] simple numbers = tt
 all_follow program functions once fields_once (f ∷ rest) simple numbers = (
-  block_follows program functions once fields_once f.home f.body (simple 0 f refl),
+  block_follows (surroundings_of program functions f.home) once fields_once f.body (simple 0 f refl),
   all_follow program functions once fields_once rest (λ i. simple (suc i)) (λ n. numbers (suc n)),
 )
 

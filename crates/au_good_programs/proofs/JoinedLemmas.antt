@@ -32,14 +32,14 @@ none_is_good told functions round good =
     prim.Swap None refl))
 
 -- each closed function stands under its number
-in_order : (round : Bytes → Surroundings) (functions : List ClosedFunction) (numbers : ℕ → ℕ) (i : ℕ)
+pub in_order : (round : Bytes → Surroundings) (functions : List ClosedFunction) (numbers : ℕ → ℕ) (i : ℕ)
     → slice_get (functions_in round numbers functions) i ≡ closed_functions round functions numbers i
 in_order round [] numbers i = refl
 in_order round (f ∷ rest) numbers zero = refl
 in_order round (f ∷ rest) numbers (suc i) = in_order round rest (λ n. numbers (suc n)) i
 
 -- what is said of each closed function is said of each in order
-from_closed : (round : Bytes → Surroundings) (number : ℕ) (o : Option ClosedFunction)
+pub from_closed : (round : Bytes → Surroundings) (number : ℕ) (o : Option ClosedFunction)
     (g : Function ℕ ClosedNote (Callee ℕ)) → option_map (function_closed round number) o ≡ Some g
     → (f : ClosedFunction) × (o ≡ Some f) × (function_closed round number f ≡ g)
 from_closed round number None g e = absurd cc

@@ -1,10 +1,10 @@
 mod RenotedLemmas
 mod OnceLemmas
 mod DerivedLemmas
-mod ClosedLemmas
-mod CodeLemmas
-mod MeaningLemmas
-mod GoodLemmas
-mod AskedLemmas
-mod ConstantLemmas
-mod JoinedLemmas
+pub mod ClosedLemmas
+pub mod CodeLemmas
+pub mod MeaningLemmas
+pub mod GoodLemmas
+pub mod AskedLemmas
+pub mod ConstantLemmas
+pub mod JoinedLemmas

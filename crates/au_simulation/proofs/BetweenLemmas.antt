@@ -31,7 +31,7 @@ exit_ends (values.made tag birth (values.field_then value rest)) e = grind arith
 exit_ends other e = grind arith
 
 -- how many ticks were made
-seen_within : (ticks : ℕ) (r : Out Value) → (seen ticks r).made ≤ ticks
+pub seen_within : (ticks : ℕ) (r : Out Value) → (seen ticks r).made ≤ ticks
 seen_within ticks (gives value world left) = omega arith
 seen_within ticks (aborts fault world left) = omega arith
 seen_within ticks (cut world) = le_refl ticks
@@ -65,7 +65,7 @@ module _ {T C : Type 0} (told : ClosedType → LowType) (functions : List (Funct
   abbrev ran_at : ℕ → low.Outcome
   ran_at limit = low_run true (lowered told functions) input limit
 
-  ends_so : (limit steps : ℕ) (m : Outcome) → (follows : Follows told functions input m) → is_over m.ending
+  pub ends_so : (limit steps : ℕ) (m : Outcome) → (follows : Follows told functions input m) → is_over m.ending
       ≡ true → (m.ending ≡ stuck → ⊥)
       → follows.steps ≤ limit → (ran_at limit).ending ≡ Steps → ⊥
   ends_so limit steps m follows over unstuck le cut_off =

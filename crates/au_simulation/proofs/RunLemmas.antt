@@ -92,7 +92,7 @@ module _ {T C : Type 0} (told_of : ClosedType → LowType) (functions : List (Fu
 module _ {T C : Type 0} (told_of : ClosedType → LowType) (fn : Function ℕ T C) (rest : List (Function ℕ T
     C)) (good : GoodProgram told_of (fn ∷ rest)) where
   -- an entry without parameters
-  begins_none : fn.parameters ≡ [] → (input : List ℕ) (limit : ℕ)
+  pub begins_none : fn.parameters ≡ [] → (input : List ℕ) (limit : ℕ)
       → low_run true (lowered told_of (fn ∷ rest)) input limit
       ≡ exec (lowered told_of (fn ∷ rest)) limit (run_at (spot (coding told_of (fn ∷ rest)) entry_frame 0 []
       (new_slots (slots_of fn) []) (first_common (coding told_of (fn ∷ rest)) input)) 0)
@@ -124,12 +124,12 @@ module _ {T C : Type 0} (told_of : ClosedType → LowType) (fn : Function ℕ T 
       ap (λ types. type_number types p.of) front.1
       ∙ ap (λ b. cond (not b) (1 + position_or_len (λ t. same t p.of) front.0) 0) (same_self p.of)
 
-  abbrev root_common : (p : Field) (input : List ℕ) → Common (coding told_of (fn ∷ rest))
+  abbrev pub root_common : (p : Field) (input : List ℕ) → Common (coding told_of (fn ∷ rest))
   root_common p input =
       let c = first_common (coding told_of (fn ∷ rest)) input in
       record c { store = bears p.of (codes "Austral.Pervasive") nothing c.store }
 
-  begins_root : (p : Field) → fn.parameters ≡ p ∷ [] → (input : List ℕ) (limit : ℕ)
+  pub begins_root : (p : Field) → fn.parameters ≡ p ∷ [] → (input : List ℕ) (limit : ℕ)
       → low_run true (lowered told_of (fn ∷ rest)) input limit
       ≡ exec (lowered told_of (fn ∷ rest)) limit (run_at (spot (coding told_of (fn ∷ rest)) entry_frame 0 []
       (new_slots (slots_of fn) (values.root 0 ∷ [])) (root_common p input)) 0)

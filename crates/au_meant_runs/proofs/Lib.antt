@@ -1,0 +1,6 @@
+mod NamedLemmas
+mod EndLemmas
+mod NumberingLemmas
+mod RowLemmas
+mod FollowedLemmas
+mod RunLemmas

@@ -1,0 +1,63 @@
+-- That runs of the code of a program show what the program means.
+use Rattle.std.specs.Prelude.{◌≡◌, ℕ, false, List, codes, Option, None, Some}
+use Rattle.au_shipped.specs.declared.prims.AbortKind.{AbortKind}
+use Rattle.au_shipped.specs.declared.prims.AbortKind.TheVariants as kind
+use Rattle.au_modules.specs.Programs.{ModuleParts}
+use Rattle.au_derivations.specs.Trees.{NotedParts}
+use Rattle.au_rules.specs.Good.{AllDeclarationsAreGood}
+use Rattle.au_noting_programs.specs.Faults.{IsDerived}
+use Rattle.au_closed_programs.specs.Programs.{ClosedProgram, Closes}
+use Rattle.au_good_programs.specs.Asked.{CallsArePlain}
+use Rattle.au_low.specs.declared.code.Code.{Code}
+use Rattle.au_low.specs.declared.endings.Ending.{Ending}
+use Rattle.au_low.specs.declared.endings.Ending.TheVariants as ending
+use Rattle.au_low.specs.Instructions.{text_bytes}
+use Rattle.au_low.specs.Runs.{low_run}
+use Rattle.au_lowering.specs.Closed.{code_of}
+use Rattle.au_meaning.specs.Worlds.{Outcome, stuck}
+use Rattle.au_meant_runs.specs.Meant.{means}
+use Rattle.au_meant_runs.specs.Shown.{Ended, Shows, aborts, exits, spent}
+use Rattle.au_syntax.specs.Plain.{Bytes}
+
+-- the words in which an abort of code is told: a called one has the number of its text
+abbrev pub kind_words : Code → AbortKind → Bytes
+kind_words code kind.Arithmetic = codes "arithmetic"
+kind_words code (kind.Called text) = text_bytes code text
+kind_words code kind.NotEmpty = codes "buffer not empty"
+kind_words code kind.Empty = codes "buffer empty"
+kind_words code kind.OutOfRange = codes "out of range"
+
+-- how a run of code ended, if it wasn't stuck
+abbrev pub ended_by : Code → Ending → Option Ended
+ended_by code (ending.Exit success) = Some (exits success)
+ended_by code (ending.Abort why) = Some (aborts (kind_words code why))
+ended_by code ending.Steps = Some spent
+ended_by code ending.Stuck = None
+
+-- A run of code with so many steps shows what is meant, on an input.
+pub record RunShows (code : Code) (meant : ℕ → Outcome) (input : List ℕ) (limit : ℕ) : Type 0 where
+  pub ends : Ended
+  pub ended : ended_by code (low_run false code input limit).ending ≡ Some ends
+  pub shows : Shows ends meant limit (low_run false code input limit).output
+      (low_run false code input limit).left
+
+-- Every run of code shows what is meant, where that isn't stuck within as many ticks as the run has steps.
+abbrev pub RunsShow : Code → (List ℕ → ℕ → Outcome) → Type 0
+RunsShow code meant =
+    (input : List ℕ) (limit : ℕ) → ((meant input limit).ending ≡ stuck → ⊥)
+    → RunShows code (meant input) input limit
+
+-- What is asked of a program whose runs are spoken of: it is derived, its declarations are good, and what it
+-- closes to calls none of the shipped functions of references, boxes, buffers and the terminal.
+pub record IsRunnable (program : List ModuleParts) (noted : List NotedParts) (c : ClosedProgram)
+    : Type 0 where
+  pub derived : IsDerived program noted
+  pub declared : AllDeclarationsAreGood program
+  pub plain : CallsArePlain c.functions
+
+-- Every run of the code that a program is lowered to shows what the program means from its entry.
+abbrev pub LoweredProgramsRun : Type 0
+LoweredProgramsRun =
+    (program : List ModuleParts) (noted : List NotedParts) (owner name : Bytes) (c : ClosedProgram)
+    → (closes : Closes program noted owner name c) → IsRunnable program noted c
+    → RunsShow (code_of c) (means program noted closes.entry)
