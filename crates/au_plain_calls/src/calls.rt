@@ -58,7 +58,8 @@ fn expression_is_plain(of: &Expr<ClosedTrees>) -> bool
         Expr::Path(_, _, _) => true,
         Expr::Arrow(_, _, _) => true,
         Expr::Call(_, _, arguments, to) => callee_is_plain(to) && expressions_are_plain(arguments),
-        Expr::NamedCall(_, _, arguments, to) => callee_is_plain(to) && arguments_are_plain(arguments),
+        Expr::NamedCall(_, _, arguments, to) => callee_is_plain(to)
+            && arguments_are_plain(arguments),
         Expr::Parenthesized(_, inner) => expression_is_plain(inner),
         Expr::Dereference(_, inner) => expression_is_plain(inner),
         Expr::Borrow(_, _, _) => true,
@@ -67,7 +68,8 @@ fn expression_is_plain(of: &Expr<ClosedTrees>) -> bool
         Expr::Not(_, inner) => expression_is_plain(inner),
         Expr::Typed(_, inner, _) => expression_is_plain(inner),
         Expr::If(_, test, then, otherwise) => {
-            expression_is_plain(test) && (expression_is_plain(then) && expression_is_plain(otherwise))
+            expression_is_plain(test)
+                && (expression_is_plain(then) && expression_is_plain(otherwise))
         }
     }
 }
