@@ -43,7 +43,7 @@ use Rattle.au_rules.proofs.AcceptedLemmas as declaring
 use Rattle.au_outcomes.specs.Accepted.{Accepted, AreAcceptedAs, is_behind}
 use Rattle.au_outcomes.specs.Halts.{IsUnhad}
 use Rattle.au_outcomes.specs.Outcomes.{BytesCome, Comes, IsFirst}
-use Rattle.au_outcomes.specs.Programs.{AcceptedCome, IsUnprinting, PrintingComes, PrintsSo, ReadsCome, bodies_outcome}
+use Rattle.au_outcomes.specs.Programs.{AcceptedCome, ReadsCome, RunComes, bodies_outcome}
 use Rattle.au_outcomes.specs.Programs.{class_outcome, declaration_outcome, import_outcome, judged_by, life_outcome}
 use Rattle.au_outcomes.specs.Programs.{module_outcome, modules_outcome, program_files, program_outcome, type_outcome}
 use Rattle.au_outcomes.specs.Trees.{AreRead, FirstHalts, Halts, ReadFile}
@@ -60,7 +60,7 @@ use Rattle.au_outcomes.proofs.FaultLemmas.{judged_none, of_declarations, of_impo
 use Rattle.au_outcomes.proofs.FaultLemmas.{of_types, or_first, or_second, or_some}
 use Rattle.au_outcomes.proofs.JudgeLemmas.{bodies_good, modules_are, program_is}
 use Rattle.au_outcomes.proofs.NameLemmas.{files_same, first_or_files, many_or_few}
-use Rattle.au_outcomes.proofs.PrintLemmas.{bytes_found}
+use Rattle.au_outcomes.proofs.BytesLemmas.{bytes_found}
 
 -- ---- files and modules are never refused for want of memory
 
@@ -108,7 +108,7 @@ names_unwanted (Some (names.Late at name)) p h = cc
 names_unwanted (Some (names.NotVisible at name)) p h = cc
 names_unwanted (Some (names.NameTwice at name)) p h = cc
 
--- ---- a program that comes to nothing before it is seen what it prints
+-- ---- a program that comes to nothing before it is seen what is asked
 
 -- all that is judged of what stands in the bodies of a program
 record AreGoodInside (parts : List ModuleParts) : Type 0 where
@@ -242,34 +242,20 @@ judged_before files x h = elim (or_some (judged_by module_outcome (programs.refu
   | inr p ↦ modules_before (modules_of files) x p
 ]
 
-unprinting_behind : (one : ReadFile) (x : Outcome) → IsUnprinting one x → is_behind x ≡ true
-unprinting_behind one (outcome.Refused (refusal.NotYet at)) h = refl
-unprinting_behind one other h = absurd h
-
-prints_behind : (one : ReadFile) (x : Outcome) → PrintsSo one x → is_behind x ≡ true
-prints_behind one (outcome.Prints first) h = refl
-prints_behind one other h = absurd h
-
-printing_behind : (reads : List ReadFile) (x : Outcome) → PrintingComes reads x → is_behind x ≡ true
-printing_behind [] x h = absurd h
-printing_behind (one ∷ []) x h = elim h [
-  | inl p ↦ unprinting_behind one x p
-  | inr p ↦ prints_behind one x p
-]
-printing_behind (one ∷ next ∷ rest) x h = elim h [
-  | inl p ↦ unprinting_behind one x p
-  | inr p ↦ printing_behind (next ∷ rest) x p.1
-]
+run_behind : (reads : List ReadFile) (x : Outcome) → RunComes reads x → is_behind x ≡ true
+run_behind reads (outcome.Refused (refusal.NotYet at)) h = refl
+run_behind reads (outcome.Runs program) h = refl
+run_behind reads other h = absurd h
 
 accepted_come_behind : (aim : Aim) (reads : List ReadFile) (x : Outcome) → AcceptedCome aim reads x
     → is_behind x ≡ true
-accepted_come_behind aims.Run reads x h = printing_behind reads x h
+accepted_come_behind aims.Run reads x h = run_behind reads x h
 accepted_come_behind aims.Check reads x h = ap is_behind h
 accepted_come_behind aims.Explain reads x h = ap is_behind h
 
 -- ---- accepted files
 
--- nothing is refused of them before it is seen what they print
+-- nothing is refused of them before it is seen what is asked
 accepted_none : (files : Files) (names all : List (List ℕ)) (reads : List ReadFile) → AreAcceptedAs files names all reads → program_outcome (program_files reads) ≡ None
 accepted_none files names all reads good =
     judged_accepted (program_files reads) good.program (record {

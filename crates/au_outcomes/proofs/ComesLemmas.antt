@@ -1,29 +1,23 @@
 -- What steps say, from what the steps in them say.
-use Rattle.std.proofs.Common.{◌≡◌, ℕ, ◌<◌, ◌≤◌, true, false, List, [], ◌∷◌, ◌++◌, length, Option, Some, None, Result, Ok, Err, ap, ◌∙◌, sym, refl, subst, arith, inl, inr}
-use Rattle.std.specs.Option.{IsSome, option_to_list}
+use Rattle.std.proofs.Common.{◌≡◌, ℕ, ◌<◌, ◌≤◌, true, false, List, length, Option, Result, Ok, Err, ap, ◌∙◌, sym, refl, subst, arith, inl, inr}
 use Rattle.au_base.specs.declared.places.Pos.{Pos}
 use Rattle.au_base.specs.declared.tokens.Token.{Token}
 use Rattle.au_base.specs.Outside.{Files, Counts}
 use Rattle.au_base.specs.Places.{place_after}
 use Rattle.au_lexer.specs.Cut.{Cut}
 use Rattle.au_lexer.specs.Passing.{IsWithinLimits}
-use Rattle.au_printing.specs.declared.files.First.{First}
 use Rattle.au_outcomes.specs.Halts.{AreFilesOf, ComesTo, FirstUnhad, Says, is_missing, is_read_halt}
 use Rattle.au_outcomes.specs.Outcomes.{BytesCome, files_limit, most_files}
-use Rattle.au_outcomes.specs.Programs.{IsUnprinting, PrintingComes}
-use Rattle.au_outcomes.specs.Reading.{AllPrintSo, TokensHalt, first_stop}
-use Rattle.au_outcomes.specs.Trees.{Halts, ReadFile}
+use Rattle.au_outcomes.specs.Reading.{TokensHalt}
+use Rattle.au_outcomes.specs.Trees.{Halts}
 use Rattle.au_outcomes.specs.declared.halts.Halt.{Halt}
 use Rattle.au_outcomes.specs.declared.halts.Halt.TheVariants as halt
 use Rattle.au_outcomes.specs.declared.outcomes.Aim.{Aim}
 use Rattle.au_outcomes.specs.declared.outcomes.Outcome.{Outcome}
 use Rattle.au_outcomes.specs.declared.outcomes.Outcome.TheVariants as outcome
-use Rattle.au_outcomes.specs.declared.reading.Printing.{Printing}
-use Rattle.au_outcomes.specs.declared.reading.Printing.TheVariants.{Prints, Stops}
-use Rattle.au_refusals.specs.declared.refusals.Refusal.TheVariants.{NotYet}
 use Rattle.au_outcomes.proofs.FetchLemmas.{files_few, told_files, unhad_few}
 use Rattle.au_outcomes.proofs.HaltLemmas.{halts_so, not_missing}
-use Rattle.au_outcomes.proofs.PrintLemmas.{bytes_found}
+use Rattle.au_outcomes.proofs.BytesLemmas.{bytes_found}
 
 -- what a step says, said of other things
 pub says_map : {T : Type 0} (r : Result T Halt) (G H : T → Type 0) (K L : Outcome → Type 0) → ((x : T) → G x → H x) → ((o : Outcome) → K o → L o) → Says r G K → Says r H L
@@ -47,42 +41,6 @@ read_with T U (halt.Unknown e) h = h
 pub halts_from : (file : ℕ) (bytes : List ℕ) (list read : List Token) (end : Pos) (x : Outcome) → Cut file bytes list → IsWithinLimits list → read ≡ list → end ≡ place_after file bytes → TokensHalt read end x → Halts file bytes x
 halts_from file bytes list read end x cut within same behind h =
     halts_so file bytes list x cut within (subst (λ ts. TokensHalt ts (place_after file bytes) x) same (subst (λ p. TokensHalt read p x) behind h))
-
--- ---- what is printed
-
--- the first file that doesn't print
-pub stop_comes : (printings : List Printing) (reads : List ReadFile) (at : Pos) → AllPrintSo printings reads → first_stop printings ≡ Some at → PrintingComes reads (outcome.Refused (NotYet at))
-stop_comes [] reads at h is = cc
-stop_comes (printing ∷ printings) [] at h is = absurd h
-stop_comes (Stops there ∷ []) (one ∷ []) at h is = let same : there ≡ at = cc in inl (subst (λ p. IsUnprinting one (outcome.Refused (NotYet p))) same h.0)
-stop_comes (Stops there ∷ printings) (one ∷ next ∷ reads) at h is = let same : there ≡ at = cc in inl (subst (λ p. IsUnprinting one (outcome.Refused (NotYet p))) same h.0)
-stop_comes (Stops there ∷ printing ∷ printings) (one ∷ []) at h is = absurd h.1
-stop_comes (Prints first ∷ []) (one ∷ reads) at h is = cc
-stop_comes (Prints first ∷ printing ∷ printings) (one ∷ []) at h is = absurd h.1
-stop_comes (Prints first ∷ printing ∷ printings) (one ∷ next ∷ reads) at h is = inr ((first, h.0), stop_comes (printing ∷ printings) (next ∷ reads) at h.1 is)
-
--- all files print, and the last one says what is printed
-pub prints_come : (before : List Printing) (reads : List ReadFile) (first : First) → AllPrintSo (before ++ Prints first ∷ []) reads → first_stop (before ++ Prints first ∷ []) ≡ None → PrintingComes reads (outcome.Prints first)
-prints_come [] [] first h none = absurd h
-prints_come [] (one ∷ []) first h none = inr h.0
-prints_come [] (one ∷ next ∷ reads) first h none = absurd h.1
-prints_come (printing ∷ before) [] first h none = absurd h
-prints_come (Stops at ∷ before) (one ∷ reads) first h none = cc
-prints_come (Prints other ∷ []) (one ∷ []) first h none = absurd h.1
-prints_come (Prints other ∷ printing ∷ before) (one ∷ []) first h none = absurd h.1
-prints_come (Prints other ∷ before) (one ∷ next ∷ reads) first h none = inr ((other, h.0), prints_come before (next ∷ reads) first h.1 none)
-
--- a file that doesn't print isn't the last of files that do
-pub last_prints : (before : List Printing) (at : Pos) → first_stop (before ++ Stops at ∷ []) ≡ None → ⊥
-last_prints [] at none = cc
-last_prints (Prints first ∷ before) at none = last_prints before at none
-last_prints (Stops other ∷ before) at none = cc
-
--- what is popped off files that print is what the last one prints
-pub popped_prints : (items left : List Printing) (popped : Option Printing) → IsSome popped → items ≡ left ++ option_to_list popped → first_stop items ≡ None → (first : First) × (popped ≡ Some (Prints first))
-popped_prints items left None some is none = cc
-popped_prints items left (Some (Prints first)) some is none = (first, refl)
-popped_prints items left (Some (Stops at)) some is none = absurd (last_prints left at (sym (ap first_stop is) ∙ none))
 
 -- ---- the files of names
 

@@ -22,7 +22,6 @@ use Rattle.au_outcomes.specs.Outcomes.{most_files}
 use Rattle.au_outcomes.specs.Programs.{entries, shipped_entries}
 use Rattle.au_outcomes.specs.Reading.{AreKept}
 use Rattle.au_outcomes.specs.Trees.{AreRead, IsRead, ReadFile}
-use Rattle.au_outcomes.specs.declared.reading.Printing.{Printing}
 
 -- ---- a file has no more declarations than words
 
@@ -112,13 +111,13 @@ reads_length file (bytes ∷ all) [] h = absurd h
 reads_length file (bytes ∷ all) (one ∷ reads) h = ap suc (reads_length (file + 1) all reads h.1)
 
 -- those that are kept
-pub kept_few : (all : List (Vec ℕ Global)) (trees : List FileTree) (printings : List Printing)
-    → AreKept 0 (map bytes_in all) trees printings → list_all has_few (map entry trees) ≡ true
-kept_few all trees printings h = ap (list_all has_few) h.2 ∙ reads_few 0 (map bytes_in all) h.0 h.1
+pub kept_few : (all : List (Vec ℕ Global)) (trees : List FileTree)
+    → AreKept 0 (map bytes_in all) trees → list_all has_few (map entry trees) ≡ true
+kept_few all trees h = ap (list_all has_few) h.2 ∙ reads_few 0 (map bytes_in all) h.0 h.1
 
-pub kept_trees : (all : List (Vec ℕ Global)) (trees : List FileTree) (printings : List Printing)
-    → AreKept 0 (map bytes_in all) trees printings → length trees ≡ length all
-kept_trees all trees printings h =
+pub kept_trees : (all : List (Vec ℕ Global)) (trees : List FileTree)
+    → AreKept 0 (map bytes_in all) trees → length trees ≡ length all
+kept_trees all trees h =
     sym (length-map trees entry)
     ∙ ap length h.2
     ∙ reads_length 0 (map bytes_in all) h.0 h.1

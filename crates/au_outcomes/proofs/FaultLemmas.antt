@@ -31,7 +31,7 @@ or_second (Some x) p h = cc
 -- ---- what a kind of faults comes to
 
 -- Only want of memory is no cause, and what any other fault comes to is a cause of the files, told before it is seen
--- what they print.
+-- what is asked.
 pub record AreCauses {F : Type 0} (outcome_of : F → Option Outcome) (memory : F) : Type 0 where
   pub unknown : outcome_of memory ≡ None
   pub only : (e : F) → outcome_of e ≡ None → e ≡ memory

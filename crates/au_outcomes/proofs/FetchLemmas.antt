@@ -55,7 +55,7 @@ module _ (aim : Aim) (files : Files) (names : List (List ℕ)) where
   few_had (outcome.Refused refusal) h = inr h
   few_had outcome.Accepted h = inr h
   few_had (outcome.Explained lives) h = inr h
-  few_had (outcome.Prints first) h = inr h
+  few_had (outcome.Runs program) h = inr h
 
   pub unhad_few : (x : Outcome) → IsFirst (λ one. IsUnhad files one x) files names → FewCome aim files names x
   unhad_few outcome.NoJob h = absurd (first_any (λ one. IsUnhad files one outcome.NoJob) files names h).1
@@ -68,8 +68,8 @@ module _ (aim : Aim) (files : Files) (names : List (List ℕ)) where
   unhad_few outcome.Accepted h = absurd (first_any (λ one. IsUnhad files one outcome.Accepted) files names h).1
   unhad_few (outcome.Explained lives) h =
       absurd (first_any (λ one. IsUnhad files one (outcome.Explained lives)) files names h).1
-  unhad_few (outcome.Prints first) h =
-      absurd (first_any (λ one. IsUnhad files one (outcome.Prints first)) files names h).1
+  unhad_few (outcome.Runs program) h =
+      absurd (first_any (λ one. IsUnhad files one (outcome.Runs program)) files names h).1
 
   -- what files come to that can be had
   pub files_few : (all : List (List ℕ)) (x : Outcome) → AreFiles files names all → BytesCome aim all x
@@ -80,7 +80,7 @@ module _ (aim : Aim) (files : Files) (names : List (List ℕ)) where
   files_few all (outcome.Refused refusal) are h proper = (all, are, h)
   files_few all outcome.Accepted are h proper = (all, are, h)
   files_few all (outcome.Explained lives) are h proper = (all, are, h)
-  files_few all (outcome.Prints first) are h proper = (all, are, h)
+  files_few all (outcome.Runs program) are h proper = (all, are, h)
 
 -- a file behind those that can be had
 is_first : (P : List ℕ → Type 0) (files : Files) (before all : List (List ℕ)) (name : List ℕ) (after : List (List ℕ)) → AreFiles files before all → P name → IsFirst P files (before ++ name ∷ after)

@@ -179,7 +179,7 @@ is_halt file bytes outcome.NoJob h = absurd h
 is_halt file bytes (outcome.Missing name) h = absurd h
 is_halt file bytes outcome.Accepted h = absurd h
 is_halt file bytes (outcome.Explained lives) h = absurd h
-is_halt file bytes (outcome.Prints first) h = absurd h
+is_halt file bytes (outcome.Runs program) h = absurd h
 
 pub first_halt : (file : ℕ) (all : List (List ℕ)) (x : Outcome) → FirstHalts file all x → IsHalt x
 first_halt file [] x h = absurd h
@@ -196,7 +196,7 @@ is_of_files (outcome.Passes limit) = true
 is_of_files (outcome.Refused refusal) = is_refusal refusal
 is_of_files outcome.Accepted = true
 is_of_files (outcome.Explained lives) = true
-is_of_files (outcome.Prints first) = true
+is_of_files (outcome.Runs program) = true
 
 pub not_missing : (x : Outcome) → is_of_files x ≡ true → is_missing x ≡ false
 not_missing outcome.NoJob h = refl
@@ -205,7 +205,7 @@ not_missing (outcome.Passes limit) h = refl
 not_missing (outcome.Refused refusal) h = refl
 not_missing outcome.Accepted h = refl
 not_missing (outcome.Explained lives) h = refl
-not_missing (outcome.Prints first) h = refl
+not_missing (outcome.Runs program) h = refl
 
 halt_found : (file : ℕ) (bytes : List ℕ) (x : Outcome) → Halts file bytes x → is_of_files x ≡ true
 halt_found file bytes (outcome.Passes limit) h = refl

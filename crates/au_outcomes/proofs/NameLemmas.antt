@@ -4,11 +4,12 @@ use Rattle.au_base.specs.Limits.{most_file_bytes}
 use Rattle.au_base.specs.Outside.{Files}
 use Rattle.au_outcomes.specs.Halts.{IsUnhad}
 use Rattle.au_outcomes.specs.Outcomes.{AreFiles, BytesCome, Comes, FewCome, IsFile, IsFirst, file_limit, is_outcome, most_files}
+use Rattle.au_outcomes.specs.Programs.{AreOne}
 use Rattle.au_outcomes.specs.declared.outcomes.Aim.{Aim}
 use Rattle.au_outcomes.specs.declared.outcomes.Outcome.{Outcome}
 use Rattle.au_outcomes.specs.declared.outcomes.Outcome.TheVariants as outcome
 use Rattle.au_outcomes.proofs.FetchLemmas.{few_had}
-use Rattle.au_outcomes.proofs.PrintLemmas.{bytes_found, bytes_same}
+use Rattle.au_outcomes.proofs.BytesLemmas.{are_one, bytes_found, bytes_same}
 
 -- the file of a name is one
 one_bytes : (files : Files) (name a b : List ℕ) → files name ≡ Some a → files name ≡ Some b → a ≡ b
@@ -78,10 +79,10 @@ files_same files (name ∷ names) (a ∷ xs) (b ∷ ys) x y =
     ap (λ one. one ∷ xs) (one_bytes files name a b x.0.0 y.0.0) ∙ ap (λ l. b ∷ l) (files_same files names xs ys x.1 y.1)
 
 few_same : (aim : Aim) (files : Files) (names : List (List ℕ)) (x y : Outcome) → FewCome aim files names x
-    → FewCome aim files names y → x ≡ y
+    → FewCome aim files names y → AreOne x y
 few_same aim files names x y a b = elim (few_had aim files names x a) [
   | inl p ↦ elim (few_had aim files names y b) [
-    | inl q ↦ first_same files names x y p q
+    | inl q ↦ are_one x y (first_same files names x y p q)
     | inr q ↦ absurd (first_or_files files names q.0 x p q.1)
   ]
   | inr p ↦ elim (few_had aim files names y b) [
@@ -98,10 +99,10 @@ many_or_few count many few = omega arith
 
 -- the files of names come to one thing
 pub comes_same : (aim : Aim) (files : Files) (names : List (List ℕ)) (x y : Outcome) → Comes aim files names x
-    → Comes aim files names y → x ≡ y
+    → Comes aim files names y → AreOne x y
 comes_same aim files names x y a b = elim a [
   | inl p ↦ elim b [
-    | inl q ↦ p.1 ∙ sym q.1
+    | inl q ↦ are_one x y (p.1 ∙ sym q.1)
     | inr q ↦ absurd (many_or_few (length names) p.0 q.0)
   ]
   | inr p ↦ elim b [
@@ -119,7 +120,7 @@ few_outcome aim files names (outcome.Passes limit) h = refl
 few_outcome aim files names (outcome.Refused refusal) h = bytes_found aim h.0 (outcome.Refused refusal) h.2
 few_outcome aim files names outcome.Accepted h = refl
 few_outcome aim files names (outcome.Explained lives) h = refl
-few_outcome aim files names (outcome.Prints first) h = refl
+few_outcome aim files names (outcome.Runs program) h = refl
 
 pub comes_outcome : (aim : Aim) (files : Files) (names : List (List ℕ)) (x : Outcome) → Comes aim files names x
     → is_outcome x ≡ true

@@ -12,7 +12,7 @@ use Rattle.au_promises.specs.Fulfilled.{AllFulfil}
 use Rattle.au_refusals.specs.declared.refusals.Refusal.{Refusal}
 use Rattle.au_refusals.specs.declared.refusals.Refusal.TheVariants.{Byte, Syntax, NotYet, WordNotYet}
 use Rattle.au_refusals.specs.declared.refusals.Refusal.TheVariants.{Pair, Import, Declaration, Instance}
-use Rattle.au_refusals.specs.declared.refusals.Refusal.TheVariants.{Typing, Linear}
+use Rattle.au_refusals.specs.declared.refusals.Refusal.TheVariants.{Typing, Linear, Entry, Stuck}
 use Rattle.au_rules.specs.Good.{AllDeclarationsAreGood}
 use Rattle.au_outcomes.specs.Outcomes.{AreFiles, most_files}
 use Rattle.au_outcomes.specs.Programs.{program_files, program_modules}
@@ -54,9 +54,11 @@ is_unbuilt (Declaration fault) = false
 is_unbuilt (Instance fault) = false
 is_unbuilt (Typing fault) = false
 is_unbuilt (Linear fault) = false
+is_unbuilt (Entry entry) = false
+is_unbuilt Stuck = false
 
--- whether files come to this behind the steps that judge whether they are accepted: that is told, or
--- the lives of its variables are, or the program prints, or a file is none that prints, which is refused as what isn't built yet
+-- whether files come to this behind the steps that judge whether they are accepted: that is told, or the lives
+-- of its variables are, or the program is to run, or a form in it is refused as what isn't built yet
 abbrev pub is_behind : Outcome → Bool
 is_behind outcome.NoJob = false
 is_behind (outcome.Missing name) = false
@@ -64,4 +66,4 @@ is_behind (outcome.Passes limit) = false
 is_behind (outcome.Refused refusal) = is_unbuilt refusal
 is_behind outcome.Accepted = true
 is_behind (outcome.Explained lives) = true
-is_behind (outcome.Prints first) = true
+is_behind (outcome.Runs program) = true

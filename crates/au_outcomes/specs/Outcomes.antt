@@ -19,7 +19,7 @@ is_outcome (outcome.Passes limit) = true
 is_outcome (outcome.Refused refusal) = is_refusal refusal
 is_outcome outcome.Accepted = true
 is_outcome (outcome.Explained lives) = true
-is_outcome (outcome.Prints first) = true
+is_outcome (outcome.Runs program) = true
 
 -- the limit of a file's bytes, with the one count that passes it
 abbrev pub file_limit : Limit
@@ -75,7 +75,7 @@ FewCome aim files names (outcome.Passes limit) =
 FewCome aim files names (outcome.Refused refusal) = FilesCome aim files names (outcome.Refused refusal)
 FewCome aim files names outcome.Accepted = FilesCome aim files names outcome.Accepted
 FewCome aim files names (outcome.Explained lives) = FilesCome aim files names (outcome.Explained lives)
-FewCome aim files names (outcome.Prints first) = FilesCome aim files names (outcome.Prints first)
+FewCome aim files names (outcome.Runs program) = FilesCome aim files names (outcome.Runs program)
 
 -- What a program comes to of which this is asked, by the names of its files.
 abbrev pub Comes : Aim → Files → List (List ℕ) → Outcome → Type 0

@@ -1,16 +1,15 @@
 -- What the files of a program come to once they are read: they are gathered into modules behind the shipped
 -- ones, the names and promises of the modules are judged, then their declarations, then their instances, then
--- the types in bodies, and then the lives of variables. Where all of this is good the program is accepted;
--- and where it's run, each file in order is one that prints.
+-- the types in bodies, and then the lives of variables. Where all of this is good the program is accepted; and
+-- where it is to run, no form may be left in it that isn't built yet.
 use Rattle.std.specs.Prelude.{◌≡◌, ◌⊎◌, ◌+◌, ℕ, List, [], ◌∷◌, ◌++◌, map, Option, None, Some}
 use Rattle.std.specs.Option.{option_or}
 use Rattle.au_explain.specs.declared.lists.Lives.{Lives}
-use Rattle.au_printing.specs.declared.files.First.{First}
-use Rattle.au_printing.specs.Files.{Reads}
 use Rattle.au_modules.specs.declared.faults.ModuleFault.{ModuleFault}
 use Rattle.au_modules.specs.declared.faults.ModuleFault.TheVariants as modules
 use Rattle.au_modules.specs.Programs as programs
 use Rattle.au_modules.specs.Programs.{Entry, ModuleParts, modules_of}
+use Rattle.au_modules.specs.Slots as slots
 use Rattle.au_syntax.specs.Plain.{PlainModule}
 use Rattle.au_shipped.specs.Shipped.{shipped_files}
 use Rattle.au_classes.specs.declared.faults.ClassFault.{ClassFault}
@@ -29,7 +28,8 @@ use Rattle.au_program_lives.specs.LinearFaults.{linear_fault}
 use Rattle.au_rules.specs.declared.faults.DeclFault.{DeclFault}
 use Rattle.au_rules.specs.declared.faults.DeclFault.TheVariants as rules
 use Rattle.au_rules.specs.DeclFaults.{decl_fault}
-use Rattle.au_outcomes.specs.Trees.{ReadFile, IsNoPrinting}
+use Rattle.au_unbuilt.specs.Unbuilt.{unbuilt_of}
+use Rattle.au_outcomes.specs.Trees.{ReadFile}
 use Rattle.au_outcomes.specs.declared.outcomes.Aim.{Aim}
 use Rattle.au_outcomes.specs.declared.outcomes.Aim.TheVariants as aims
 use Rattle.au_outcomes.specs.declared.outcomes.Outcome.{Outcome}
@@ -109,23 +109,13 @@ program_outcome files =
     option_or (judged_by module_outcome (programs.refusal_of files))
     (modules_outcome (modules_of files))
 
--- A file that was read isn't one that prints.
-abbrev pub IsUnprinting : ReadFile → Outcome → Type 0
-IsUnprinting one (outcome.Refused (refusal.NotYet at)) = IsNoPrinting one.tokens one.end at
-IsUnprinting one other = ⊥
-
--- A file that was read prints this.
-abbrev pub PrintsSo : ReadFile → Outcome → Type 0
-PrintsSo one (outcome.Prints first) = Reads first one.tokens
-PrintsSo one other = ⊥
-
--- Files that were read: the first that doesn't print is refused, and where each prints, the program prints what
--- the last one does.
-abbrev pub PrintingComes : List ReadFile → Outcome → Type 0
-PrintingComes [] arisen = ⊥
-PrintingComes (one ∷ []) arisen = IsUnprinting one arisen ⊎ PrintsSo one arisen
-PrintingComes (one ∷ next ∷ rest) arisen =
-    IsUnprinting one arisen ⊎ (((first : First) × Reads first one.tokens) × PrintingComes (next ∷ rest) arisen)
+-- What an accepted program of files that were read comes to that is asked to run: the first form in it that
+-- isn't built yet is refused, and where there is none the program is to run.
+abbrev pub RunComes : List ReadFile → Outcome → Type 0
+RunComes reads (outcome.Refused (refusal.NotYet at)) = unbuilt_of (program_modules reads) ≡ Some at
+RunComes reads (outcome.Runs program) =
+    (unbuilt_of (program_modules reads) ≡ None) × (slots.modules program ≡ program_modules reads)
+RunComes reads other = ⊥
 
 -- Nothing is refused of files, and these are their modules.
 abbrev pub AreJudgedAs : List Entry → List ModuleParts → Type 0
@@ -136,9 +126,10 @@ abbrev pub read_lives : List ReadFile → Lives
 read_lives reads = program_lives (program_modules reads)
 
 -- What accepted files come to: where no more is asked they are accepted, where they are explained they come to
--- the lives of their variables, and where their program is run it is seen what they print.
+-- the lives of their variables, and where their program is to run that is what they come to, or a form in it isn't
+-- built yet.
 abbrev pub AcceptedCome : Aim → List ReadFile → Outcome → Type 0
-AcceptedCome aims.Run reads arisen = PrintingComes reads arisen
+AcceptedCome aims.Run reads arisen = RunComes reads arisen
 AcceptedCome aims.Check reads arisen = arisen ≡ outcome.Accepted
 AcceptedCome aims.Explain reads arisen = arisen ≡ outcome.Explained (read_lives reads)
 
@@ -147,3 +138,8 @@ abbrev pub ReadsCome : Aim → List ReadFile → Outcome → Type 0
 ReadsCome aim reads arisen =
     (program_outcome (program_files reads) ≡ Some arisen)
     ⊎ ((program_outcome (program_files reads) ≡ None) × AcceptedCome aim reads arisen)
+
+-- Two outcomes are one: of programs that are to run, their modules are.
+abbrev pub AreOne : Outcome → Outcome → Type 0
+AreOne (outcome.Runs one) (outcome.Runs other) = slots.modules one ≡ slots.modules other
+AreOne one other = one ≡ other

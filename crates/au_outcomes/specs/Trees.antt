@@ -7,7 +7,6 @@ use Rattle.au_base.specs.declared.tokens.Token.{Token}
 use Rattle.au_base.specs.Places.{place_after}
 use Rattle.au_lexer.specs.Cut.{Cut, IsStray, PassesLimit}
 use Rattle.au_lexer.specs.Passing.{IsWithinLimits}
-use Rattle.au_printing.specs.Files.{IsUnfinished, IsStrangePlace}
 use Rattle.au_read_modules.specs.ModuleReading.{file_at}
 use Rattle.au_reading.specs.Bounds.{ModulePasses, usual}
 use Rattle.au_reading.specs.declared.faults.Fault.TheVariants as reading
@@ -41,10 +40,6 @@ place_or end tokens index = unwrap_or (option_map (λ (token : Token). token.at)
 abbrev pub IsPlaceIn : List Token → Pos → Pos → Type 0
 IsPlaceIn tokens end at =
     (left : ℕ) × (file_at usual tokens ≡ Err (reading.Syntax left)) × (at ≡ place_or end tokens (length tokens - left))
-
--- The tokens don't print: one of them stands where no file that prints has it, or they are too few.
-abbrev pub IsNoPrinting : List Token → Pos → Pos → Type 0
-IsNoPrinting tokens end at = IsStrangePlace tokens at ⊎ (IsUnfinished tokens × (at ≡ end))
 
 -- a file that was read: its tokens, the place of its end, and its tree
 pub record ReadFile : Type 0 where

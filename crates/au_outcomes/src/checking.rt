@@ -12,7 +12,7 @@ use crate::fetching::fetch_all;
 use crate::halts::{CheckFault, Halt};
 use crate::judging::{accepted_outcome, judge};
 use crate::outcomes::{Aim, Outcome};
-use crate::reading::{Sources, read_all};
+use crate::reading::read_all;
 use au_base::{Limit, LimitKind, Shelf};
 use std::alloc::Global;
 
@@ -26,7 +26,6 @@ pub fn check<S: Shelf>(
     shelf: &mut S,
     names: &[String],
 ) -> Result<Outcome, CheckFault>
-    requires { 0 < length names.now }
     ensures comes { IfOk result (ComesTo aim (S.files shelf.old) (map string_bytes names.now)) }
     // Where the shelf failed, it failed behind files that can be had.
     ensures stops { IsTrue (is_read_fault result) → StopsIn (S.files shelf.old) (map string_bytes names.now) }
@@ -53,7 +52,6 @@ fn program<S: Shelf>(
     shelf: &mut S,
     names: &[String],
 ) -> Result<Outcome, Halt>
-    requires { 0 < length names.now }
     ensures comes { Says result (ComesTo aim (S.files shelf.old) (map string_bytes names.now))
         (ComesTo aim (S.files shelf.old) (map string_bytes names.now)) }
     ensures stops { IsTrue (is_read_halt result) → StopsIn (S.files shelf.old) (map string_bytes names.now) }
@@ -90,14 +88,13 @@ fn few_enough(count: usize) -> Result<(), Halt>
 /// What the program of files of these bytes comes to: all are read, then their modules are judged, and then
 /// comes what is asked.
 fn outcome_of(alloc: Global, aim: Aim, all: &[Vec<u8>]) -> Result<Outcome, Halt>
-    requires some { 0 < length all.now }
     requires few { length all.now ≤ most_files }
     requires small { All (λ bytes. length bytes.items ≤ most_file_bytes) all.now }
     ensures comes { Says result (BytesCome aim (map bytes_in all.now))
         (BytesCome aim (map bytes_in all.now)) }
     ensures is_read { is_read_halt result ≡ false }
 {
-    let Sources { trees, printings } = read_all(alloc, all)?;
+    let trees = read_all(alloc, all)?;
     let noted = judge(alloc, trees)?;
-    accepted_outcome(alloc, aim, &noted, printings)
+    accepted_outcome(alloc, aim, noted)
 }

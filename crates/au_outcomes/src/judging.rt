@@ -1,6 +1,6 @@
 //! From the trees of files to what the program comes to.
 
-ghost use Rattle.std.specs.Prelude.{◌≡◌, ◌<◌, ◌≤◌, ◌++◌, List, Some, None, IfOk, IsTrue, false, map, length};
+ghost use Rattle.std.specs.Prelude.{◌≡◌, ◌≤◌, ◌++◌, List, Some, None, IfOk, IsTrue, false, map, length};
 ghost use Rattle.std.specs.List.{list_all};
 ghost use Rattle.au_life_lists.specs.Programs.{program_lives};
 ghost use Rattle.au_modules.specs.Counts.{are_few, has_few};
@@ -8,27 +8,25 @@ ghost use Rattle.au_modules.specs.Programs.{entry};
 ghost use Rattle.au_modules.specs.Slots as slots;
 ghost use Rattle.au_outcomes.specs.Halts.{Says, is_read_halt};
 ghost use Rattle.au_outcomes.specs.Outcomes.{most_files};
-ghost use Rattle.au_outcomes.specs.Programs.{AcceptedCome, AreJudgedAs, PrintingComes, bodies_outcome};
+ghost use Rattle.au_outcomes.specs.Programs.{AcceptedCome, AreJudgedAs, RunComes, bodies_outcome};
 ghost use Rattle.au_outcomes.specs.Programs.{modules_outcome, program_modules, program_outcome, shipped_entries};
-ghost use Rattle.au_outcomes.specs.Reading.{AllPrintSo, first_stop};
 ghost use Rattle.au_outcomes.specs.Trees.{ReadFile};
 ghost use Rattle.au_outcomes.specs.declared.outcomes.Outcome.TheVariants as outcome;
 
 use crate::halts::Halt;
 use crate::outcomes::{Aim, Outcome};
-use crate::reading::Printing;
-use au_base::{Memory, Pos};
+use au_base::Memory;
 use au_classes::declare;
 use au_imports::{Resolved, resolve};
 use au_life_lists::lives_of;
 use au_modules::{Modules, gather};
 use au_noting_programs::{NotedProgram, note_program};
-use au_printing::First;
 use au_program_lives::check_linear;
 use au_refusals::Refusal;
 use au_rules::declarations_hold;
 use au_shipped::shipped;
 use au_syntax::FileTree;
+use au_unbuilt::first_unbuilt;
 use std::alloc::Global;
 
 /// Judges the files of a program, and then their modules.
@@ -86,28 +84,18 @@ fn with_shipped(alloc: Global, own: Vec<FileTree>) -> Result<Vec<FileTree>, Memo
     Ok(files)
 }
 
-/// What accepted files come to that print so, whose program is this: where no more is asked they are
-/// accepted, where they are explained they come to the lives of their variables, and where their program is
-/// run it is seen what they print.
-pub fn accepted_outcome(
-    alloc: Global,
-    aim: Aim,
-    noted: &NotedProgram,
-    printings: Vec<Printing>,
-) -> Result<Outcome, Halt>
-    requires { 0 < length printings.items }
-    ensures comes { (reads : List ReadFile) → AllPrintSo printings.items reads
-        → slots.modules noted.now ≡ program_modules reads
+/// What accepted files come to whose program is this: where no more is asked they are accepted, where they
+/// are explained they come to the lives of their variables, and where their program is to run that is what
+/// they come to, or a form in it isn't built yet.
+pub fn accepted_outcome(alloc: Global, aim: Aim, noted: NotedProgram) -> Result<Outcome, Halt>
+    ensures comes { (reads : List ReadFile) → slots.modules noted ≡ program_modules reads
         → Says result (AcceptedCome aim reads) (AcceptedCome aim reads) }
     ensures is_read { is_read_halt result ≡ false }
 {
     match aim {
         Aim::Check => Ok(Outcome::Accepted),
-        Aim::Explain => explained(alloc, noted),
-        Aim::Run => {
-            let first = printed(printings)?;
-            Ok(Outcome::Prints(first))
-        }
+        Aim::Explain => explained(alloc, &noted),
+        Aim::Run => Ok(to_run(noted)),
     }
 }
 
@@ -122,33 +110,13 @@ fn explained(alloc: Global, noted: &NotedProgram) -> Result<Outcome, Halt>
     Ok(Outcome::Explained(lives))
 }
 
-/// What the program prints, whose files print so: the first that doesn't print ends it, and the last one
-/// says what is printed.
-fn printed(printings: Vec<Printing>) -> Result<First, Halt>
-    requires { 0 < length printings.items }
-    ensures comes { (reads : List ReadFile) → AllPrintSo printings.items reads
-        → Says result (λ first. PrintingComes reads (outcome.Prints first)) (PrintingComes reads) }
-    ensures is_read { is_read_halt result ≡ false }
+/// An accepted program that is asked to run: the first form in it that isn't built yet is refused, and where
+/// there is none the program is to run.
+fn to_run(noted: NotedProgram) -> Outcome
+    ensures { (reads : List ReadFile) → slots.modules noted ≡ program_modules reads → RunComes reads result }
 {
-    if let Some(at) = first_stop_of(printings.as_slice()) {
-        return Err(Halt::Known(Outcome::Refused(Refusal::NotYet(at))));
+    match first_unbuilt(noted.program()) {
+        Some(at) => Outcome::Refused(Refusal::NotYet(at)),
+        None => Outcome::Runs(noted),
     }
-    let mut left = printings;
-    match left.pop() {
-        Some(Printing::Prints(first)) => Ok(first),
-        Some(Printing::Stops(_)) => unreachable!(),
-        None => unreachable!(),
-    }
-}
-
-/// The place at which the first file that doesn't print stops.
-fn first_stop_of(printings: &[Printing]) -> Option<Pos>
-    ensures { result ≡ first_stop printings.now }
-{
-    for printing in printings {
-        if let Printing::Stops(at) = printing {
-            return Some(*at);
-        }
-    }
-    None
 }

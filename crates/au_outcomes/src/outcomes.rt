@@ -2,7 +2,7 @@
 
 use au_base::{Limit, Text};
 use au_explain::Lives;
-use au_printing::First;
+use au_noting_programs::NotedProgram;
 use au_refusals::Refusal;
 
 /// What is asked of the program of files.
@@ -31,6 +31,6 @@ pub enum Outcome {
     Accepted,
     /// The program is accepted, and these are the lives of its variables.
     Explained(Lives),
-    /// The program prints, and returns an exit code.
-    Prints(First),
+    /// The program is accepted, no form in it is left that isn't built yet, and it is to run.
+    Runs(NotedProgram),
 }

@@ -3,6 +3,7 @@ use Rattle.std.specs.Prelude.{ℕ, List, [], ◌∷◌, ◌++◌, unwrap_or, sli
 use Rattle.au_base.specs.declared.limits.Limit.{Limit}
 use Rattle.au_base.specs.declared.limits.LimitKind.{LimitKind}
 use Rattle.au_base.specs.declared.limits.LimitKind.TheVariants as kind
+use Rattle.au_base.specs.declared.names.Entry as names
 use Rattle.au_base.specs.declared.places.Pos.{Pos}
 use Rattle.au_classes.specs.declared.faults.ClassFault.{ClassFault}
 use Rattle.au_classes.specs.declared.faults.ClassFault.TheVariants as classes
@@ -23,7 +24,7 @@ use Rattle.au_rules.specs.declared.faults.DeclFault.TheVariants as rules
 use Rattle.au_refusals.specs.declared.refusals.Refusal.{Refusal}
 use Rattle.au_refusals.specs.declared.refusals.Refusal.TheVariants.{Byte, Syntax, NotYet, WordNotYet}
 use Rattle.au_refusals.specs.declared.refusals.Refusal.TheVariants.{Pair, Import, Declaration, Instance}
-use Rattle.au_refusals.specs.declared.refusals.Refusal.TheVariants.{Typing, Linear}
+use Rattle.au_refusals.specs.declared.refusals.Refusal.TheVariants.{Typing, Linear, Entry, Stuck}
 
 -- each line ends with a newline
 abbrev pub line : List ℕ → List ℕ
@@ -68,6 +69,14 @@ abbrev pub limit_line : Limit → List ℕ
 limit_line limit =
     line (codes "limit: " ++ limit_word limit.kind ++ codes " " ++ decimal limit.count ++ codes " above " ++ decimal limit.most)
 
+-- the line where a program aborted, for a cause that is told in these words
+abbrev pub abort_line : List ℕ → List ℕ
+abort_line words = line (codes "abort: " ++ words)
+
+-- the line where a run has spent its steps, of which there were so many
+abbrev pub steps_line : ℕ → List ℕ
+steps_line steps = line (codes "steps: " ++ decimal steps ++ codes " spent")
+
 -- a place, with the name of its file
 abbrev pub place_text : List (List ℕ) → Pos → List ℕ
 place_text names at =
@@ -76,8 +85,6 @@ place_text names at =
 -- the word for what isn't built yet, as its line says it
 abbrev pub unbuilt_word : Unbuilt → List ℕ
 unbuilt_word unbuilt.Compile = codes "compile"
-unbuilt_word unbuilt.Entry = codes "entry"
-unbuilt_word unbuilt.Steps = codes "steps"
 unbuilt_word unbuilt.Life = codes "life"
 
 -- why files are not those of modules; a fault that is no refusal has no text
@@ -133,6 +140,14 @@ life_text names (lives.InPart variable at) =
     place_text names at ++ codes ": " ++ linear_text (lives.InPart variable at)
 life_text names lives.Memory = []
 
+-- which entry a program doesn't have, or hasn't the form of one: its module's name, a colon, and its own
+abbrev pub entry_text : names.Entry → List ℕ
+entry_text entry = codes "entry: " ++ entry.«module» ++ codes ":" ++ entry.function
+
+-- a program came to what isn't built yet while it ran
+abbrev pub stuck_text : List ℕ
+stuck_text = codes "stuck"
+
 -- the line of a refusal, without its end
 abbrev pub refusal_text : List (List ℕ) → Refusal → List ℕ
 refusal_text names (Byte at) = place_text names at ++ codes ": byte"
@@ -145,6 +160,8 @@ refusal_text names (Declaration fault) = declaration_text names fault
 refusal_text names (Instance fault) = instance_text names fault
 refusal_text names (Typing fault) = type_text names fault
 refusal_text names (Linear fault) = life_text names fault
+refusal_text names (Entry entry) = entry_text entry
+refusal_text names Stuck = stuck_text
 
 -- the line of a refusal
 abbrev pub refusal_line : List (List ℕ) → Refusal → List ℕ

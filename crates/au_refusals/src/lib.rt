@@ -7,5 +7,5 @@
 mod lines;
 mod refusals;
 
-pub use lines::{limit_line, missing_line, refusal_text};
+pub use lines::{abort_line, limit_line, missing_line, refusal_text, steps_line};
 pub use refusals::{Refusal, Unbuilt};

@@ -9,7 +9,7 @@ ghost use Rattle.au_refusals.specs.Refusals.{is_class_refusal, is_declaration_re
 ghost use Rattle.au_refusals.specs.Refusals.{is_life_refusal, is_module_refusal, is_refusal, is_type_refusal};
 
 use crate::refusals::{Refusal, Unbuilt};
-use au_base::{Limit, LimitKind, Memory, Name, Pos};
+use au_base::{Entry, Limit, LimitKind, Memory, Name, Pos};
 use au_classes::ClassFault;
 use au_imports::ImportFault;
 use au_modules::ModuleFault;
@@ -51,6 +51,8 @@ fn add_refusal(
         Refusal::Instance(fault) => add_instance(text, fault, files),
         Refusal::Typing(fault) => add_typing(alloc, text, fault, files),
         Refusal::Linear(fault) => add_life(alloc, text, fault, files),
+        Refusal::Entry(entry) => add_entry(text, entry),
+        Refusal::Stuck => add_stuck(text),
     }
 }
 
@@ -211,10 +213,27 @@ fn unbuilt_word(what: Unbuilt) -> &'static [u8]
 {
     match what {
         Unbuilt::Compile => b"compile",
-        Unbuilt::Entry => b"entry",
-        Unbuilt::Steps => b"steps",
         Unbuilt::Life => b"life",
     }
+}
+
+/// Adds the entry that a program doesn't have, or that hasn't the form of one.
+fn add_entry(text: &mut Vec<u8>, entry: &Entry) -> Result<(), Memory>
+    ensures { OnOk result (text.new.items ≡ text.old.items ++ lines.entry_text entry.now) }
+{
+    text.extend_from_slice(b"entry: ")?;
+    text.extend_from_slice(entry.module.as_bytes())?;
+    text.extend_from_slice(b":")?;
+    text.extend_from_slice(entry.function.as_bytes())?;
+    Ok(())
+}
+
+/// Adds that a program came to what is not built yet while it ran.
+fn add_stuck(text: &mut Vec<u8>) -> Result<(), Memory>
+    ensures { OnOk result (text.new.items ≡ text.old.items ++ lines.stuck_text) }
+{
+    text.extend_from_slice(b"stuck")?;
+    Ok(())
 }
 
 /// Adds the name of a module, and what is said of it.
@@ -353,5 +372,26 @@ pub fn missing_line(alloc: Global, name: &[u8]) -> Result<Vec<u8>, Memory>
     let mut text = Vec::from_slice(alloc, b"missing: ")?;
     text.extend_from_slice(name)?;
     text.extend_from_slice(b"\n")?;
+    Ok(text)
+}
+
+/// The line of a program that aborted, for a cause that is told in these words.
+pub fn abort_line(alloc: Global, words: &[u8]) -> Result<Vec<u8>, Memory>
+    ensures { IfOk result (λ text. text.items ≡ lines.abort_line words.now) }
+{
+    let mut text = Vec::from_slice(alloc, b"abort: ")?;
+    text.extend_from_slice(words)?;
+    text.extend_from_slice(b"\n")?;
+    Ok(text)
+}
+
+/// The line of a run that has spent its steps, by how many there were.
+pub fn steps_line(alloc: Global, steps: u64) -> Result<Vec<u8>, Memory>
+    ensures { IfOk result (λ text. text.items ≡ lines.steps_line steps) }
+{
+    let mut text = Vec::from_slice(alloc, b"steps: ")?;
+    let mut digits = Buffer::new();
+    text.extend_from_slice(digits.format(steps).as_bytes())?;
+    text.extend_from_slice(b" spent\n")?;
     Ok(text)
 }

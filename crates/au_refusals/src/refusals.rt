@@ -1,6 +1,6 @@
 //! Refusals.
 
-use au_base::Pos;
+use au_base::{Entry, Pos};
 use au_classes::ClassFault;
 use au_imports::ImportFault;
 use au_modules::ModuleFault;
@@ -31,6 +31,10 @@ pub enum Refusal {
     Typing(TypeFault),
     /// A variable has no good life.
     Linear(LinearFault),
+    /// The program has no function or test of this name to begin with, or it hasn't the form of one.
+    Entry(Entry),
+    /// The program came to what is not built yet while it ran.
+    Stuck,
 }
 
 /// What words ask for that is not built yet.
@@ -38,10 +42,6 @@ pub enum Refusal {
 pub enum Unbuilt {
     /// The command `compile`.
     Compile,
-    /// A run from an entry that is named.
-    Entry,
-    /// A run of other steps than the usual ones.
-    Steps,
     /// A run that tells the lives of values.
     Life,
 }

@@ -1,11 +1,13 @@
 -- What words and files come to.
-use Rattle.std.proofs.Common.{◌≡◌, ◌≢◌, true, ℕ, ◌<◌, List, [], ◌∷◌, String, Option, Result, Ok, Err, length, map, ap, ◌∙◌, sym, refl, subst, arith, inl, inr}
+use Rattle.std.proofs.Common.{◌≡◌, ◌≢◌, true, ℕ, ◌<◌, List, [], ◌∷◌, String, Option, Result, Ok, Err, Vec, length, map, ap, ◌∙◌, sym, refl, subst, arith, inl, inr}
 use Rattle.std.specs.Global.{Global}
 use Rattle.std.specs.String.{string_bytes}
 use Rattle.std.proofs.lemmas.List.{length-map}
 use Rattle.au_base.specs.Outside.{Files, Counts, HasRisen}
 use Rattle.au_words.proofs.JobLemmas.{one_job}
-use Rattle.au_words.specs.Jobs.{Task, IsJob}
+use Rattle.au_words.specs.Jobs.{Task, IsJob, task_of}
+use Rattle.au_words.specs.declared.jobs.Job.{Job}
+use Rattle.au_base.specs.declared.names.Entry.{Entry}
 use Rattle.au_outcomes.specs.declared.halts.CheckFault.{CheckFault}
 use Rattle.au_outcomes.specs.declared.halts.CheckFault.TheVariants as fault
 use Rattle.au_outcomes.specs.Halts.{StopsIn, is_read}
@@ -38,14 +40,27 @@ module _ (words names : List (List ℕ)) (task : Task) (files : Files) (aim : Ai
       (task, job, same, subst (λ asked. Asks asked files names outcome.Accepted) built comes)
   arises_from (outcome.Explained lives) job same built comes =
       (task, job, same, subst (λ asked. Asks asked files names (outcome.Explained lives)) built comes)
-  arises_from (outcome.Prints first) job same built comes =
-      (task, job, same, subst (λ asked. Asks asked files names (outcome.Prints first)) built comes)
+  arises_from (outcome.Runs program) job same built comes =
+      (task, job, same, subst (λ asked. Asks asked files names (outcome.Runs program)) built comes)
 
 -- a job that asks for something that isn't built
 pub arises_unbuilt : (words names : List (List ℕ)) (task : Task) (files : Files) (what : Unbuilt) → IsJob words task
     → names ≡ task.files → Err what ≡ asked_of task → Arises words files names (outcome.Refused (WordNotYet what))
 arises_unbuilt words names task files what job same is =
     (task, job, same, subst (λ asked. Asks asked files names (outcome.Refused (WordNotYet what))) is refl)
+
+-- the names of the files that a job says are those of its task
+pub said_names : (files of_job : Vec (String Global) Global) → files ≡ of_job
+    → map string_bytes files.items ≡ map string_bytes of_job.items
+said_names files of_job same = ap (λ (v : Vec (String Global) Global). map string_bytes v.items) same
+
+-- the entry and the steps that a job says are those of the task of its words
+pub said_task : (words : List (List ℕ)) (job : Job) (task : Task) (entry : Option Entry) (steps : ℕ)
+    → IsJob words (task_of job) → IsJob words task → entry ≡ job.entry → steps ≡ job.steps
+    → (entry ≡ task.entry) × (steps ≡ task.steps)
+said_task words job task entry steps asked other same_entry same_steps =
+    let one : task_of job ≡ task = one_job words (task_of job) task asked other in
+    (same_entry ∙ ap (λ (t : Task). t.entry) one, same_steps ∙ ap (λ (t : Task). t.steps) one)
 
 -- what words and files come to is an outcome
 asks_outcome : (asked : Result Aim Unbuilt) (files : Files) (names : List (List ℕ)) (arisen : Outcome)
@@ -60,7 +75,7 @@ arises_outcome words files names (outcome.Passes limit) h = refl
 arises_outcome words files names (outcome.Refused refusal) h = asks_outcome (asked_of h.0) files names (outcome.Refused refusal) h.3
 arises_outcome words files names outcome.Accepted h = refl
 arises_outcome words files names (outcome.Explained lives) h = refl
-arises_outcome words files names (outcome.Prints first) h = refl
+arises_outcome words files names (outcome.Runs program) h = refl
 
 -- a job that asks for nothing that isn't built asks for files
 pub asks_files : (words : List (List ℕ)) (task : Task) (aim : Aim) → IsJob words task → Ok aim ≡ asked_of task

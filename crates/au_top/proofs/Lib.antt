@@ -1,3 +1,6 @@
 pub mod SinkLemmas
-pub mod DueLemmas
 pub mod ArisesLemmas
+pub mod DueLemmas
+pub mod RunLemmas
+pub mod EndLemmas
+pub mod AnsweredLemmas

@@ -1,9 +1,5 @@
--- Fronts of pieces that stand one behind another.
-use Rattle.std.proofs.Common.{◌≡◌, ℕ, ◌+◌, ◌<◌, min, List, ◌++◌, length, take, drop, get_or, Option, Result, Ok, Err, OnOk, OnErr, IfOk, IfErr, IsOkUnless, ap, ◌∙◌, sym, refl, subst, inl, inr, arith}
-use Rattle.std.specs.List.{flat_map}
-use Rattle.std.proofs.Math.Seq.{take-append-add}
-use Rattle.std.proofs.lemmas.List.{take-append-le, take_min, take-append-drop, drop_more}
-use Rattle.std.proofs.lemmas.Grind.{flat_map-append}
+-- Lines that were said, and lives that were told, or were cut.
+use Rattle.std.proofs.Common.{◌≡◌, ℕ, List, Option, Result, Ok, Err, OnOk, OnErr, IfOk, IfErr, IsOkUnless, refl, inl, inr}
 use Rattle.au_base.specs.declared.statuses.Status.{Status}
 use Rattle.au_base.specs.declared.statuses.Status.TheVariants as status
 use Rattle.au_base.specs.Outside.{Adds, AddsFront, HasRisen}
@@ -11,31 +7,9 @@ use Rattle.au_explain.specs.Lines.{life_text}
 use Rattle.au_explain.specs.declared.lists.Lives.{Lives}
 use Rattle.au_top.specs.Calls.{Pays, Fails}
 use Rattle.au_top.specs.Dues.{due_line, explained_due}
-use Rattle.au_top.specs.declared.answering.AnswerFault.{AnswerFault}
-use Rattle.au_top.specs.declared.answering.AnswerFault.TheVariants as answer
-use Rattle.au_base.proofs.OutsideLemmas.{adds_both, adds_none}
-
--- a fact at an `Err`
-pub on_err : {T E P : Type 0} (r : Result T E) → P → OnErr r P
-on_err (Ok x) p = tt
-on_err (Err e) p = p
-
--- a front of the first piece is one of both
-pub front_first : (old new : Option (List ℕ)) (x y : List ℕ) → AddsFront old new x → AddsFront old new (x ++ y)
-front_first old new x y front =
-    let n : ℕ = min front.0 (length x) in
-    let same : take n (x ++ y) ≡ take front.0 x = take-append-le n x y (omega arith) ∙ take_min front.0 x in
-    (n, subst (Adds old new) (sym same) front.1)
-
--- the first piece, and a front of the second
-pub front_second : (old between new : Option (List ℕ)) (x y : List ℕ) → Adds old between x → AddsFront between new y → AddsFront old new (x ++ y)
-front_second old between new x y first front =
-    (length x + front.0, subst (Adds old new) (sym (take-append-add x y front.0)) (adds_both old between new x (take front.0 y) first front.1))
-
--- a list, cut before one of its elements
-pub flat_at : {X : Type 0} (f : X → List ℕ) (xs : List X) (i : ℕ) (d : X) → i < length xs → flat_map f xs ≡ flat_map f (take i xs) ++ (f (get_or xs i d) ++ flat_map f (drop (i + 1) xs))
-flat_at f xs i d h =
-    ap (flat_map f) (sym (take-append-drop i xs)) ∙ flat_map-append f (take i xs) (drop i xs) ∙ ap (λ r. flat_map f (take i xs) ++ flat_map f r) (drop_more xs i d h)
+use Rattle.au_top.specs.declared.saying.AnswerFault.{AnswerFault}
+use Rattle.au_top.specs.declared.saying.AnswerFault.TheVariants as answer
+use Rattle.au_base.proofs.OutsideLemmas.{adds_none}
 
 -- a line that was said, or was cut
 pub said_pays : (r : Result Status AnswerFault) (ends : Status) (text : List ℕ) (out err err' : Option (List ℕ)) → IfOk r (λ s. s ≡ ends) → OnOk r (Adds err err' text) →

@@ -1,13 +1,11 @@
 -- What words and files come to, and what is due for it.
-use Rattle.std.specs.Prelude.{◌≡◌, ℕ, ◌<◌, ◌≤◌, ◌⊎◌, List, [], ◌∷◌, ◌++◌, length, slice_get}
-use Rattle.std.specs.Prelude.{Result, Ok, Err, Some, if◌then◌else◌}
-use Rattle.std.specs.List.{flat_map}
+use Rattle.std.specs.Prelude.{◌≡◌, ℕ, ◌<◌, ◌≤◌, ◌⊎◌, false, List, [], length, slice_get}
+use Rattle.std.specs.Prelude.{Result, Ok, Err, Option, None, Some}
 use Rattle.au_base.specs.declared.statuses.Status.{Status}
 use Rattle.au_base.specs.declared.statuses.Status.TheVariants as status
 use Rattle.au_base.specs.Outside.{Files}
 use Rattle.au_explain.specs.Lines.{life_text}
 use Rattle.au_explain.specs.declared.lists.Lives.{Lives}
-use Rattle.au_printing.specs.declared.files.Print.{Print}
 use Rattle.au_words.specs.Jobs.{Task, IsJob, IsNoJob}
 use Rattle.au_words.specs.declared.jobs.Command.TheVariants as command
 use Rattle.au_refusals.specs.Lines.{words_line, accepted_line, missing_line, limit_line, refusal_line}
@@ -42,10 +40,6 @@ AsksForNoFile words =
 abbrev pub AsksForTooMany : List (List ℕ) → Type 0
 AsksForTooMany words = (task : Task) × IsJob words task × (most_files < length task.files)
 
--- what a print writes
-abbrev pub printed : Print → List ℕ
-printed print = print.text ++ (if print.line then 10 ∷ [] else [])
-
 -- what a call owes: how it ends, and what it writes to `out` and to `err`
 pub record Due : Type 0 where
   pub status : Status
@@ -64,24 +58,20 @@ accepted_due = record { status = status.Success; out = accepted_line; err = [] }
 abbrev pub explained_due : Lives → Due
 explained_due lives = record { status = status.Success; out = life_text lives; err = [] }
 
--- what is due for each outcome
-abbrev pub due_of : List (List ℕ) → Outcome → Due
-due_of names outcome.NoJob = due_line status.Words words_line
-due_of names (outcome.Missing name) = due_line status.Missing (missing_line name)
-due_of names (outcome.Passes limit) = due_line status.Limit (limit_line limit)
-due_of names (outcome.Refused refusal) = due_line status.Refused (refusal_line names refusal)
-due_of names outcome.Accepted = accepted_due
-due_of names (outcome.Explained lives) = explained_due lives
-due_of names (outcome.Prints first) = record {
-  status = if first.success then status.Success else status.Failure;
-  out = flat_map printed first.prints;
-  err = [];
-}
+-- what is due for each outcome, but for a program that is to run: that one owes what its run does
+abbrev pub due_of : List (List ℕ) → Outcome → Option Due
+due_of names outcome.NoJob = Some (due_line status.Words words_line)
+due_of names (outcome.Missing name) = Some (due_line status.Missing (missing_line name))
+due_of names (outcome.Passes limit) = Some (due_line status.Limit (limit_line limit))
+due_of names (outcome.Refused refusal) = Some (due_line status.Refused (refusal_line names refusal))
+due_of names outcome.Accepted = Some accepted_due
+due_of names (outcome.Explained lives) = Some (explained_due lives)
+due_of names (outcome.Runs program) = None
 
 -- The call with these words, over these files, owes this.
 abbrev pub Owes : List (List ℕ) → Files → Due → Type 0
 Owes words files due =
-    (names : List (List ℕ)) × (arisen : Outcome) × Arises words files names arisen × (due ≡ due_of names arisen)
+    (names : List (List ℕ)) × (arisen : Outcome) × Arises words files names arisen × (due_of names arisen ≡ Some due)
 
 -- The words are a job that asks for nothing that isn't built, its files can be had and are few enough, and one of
 -- them is cut into tokens within the limits, which have no tree.
@@ -104,3 +94,7 @@ IsCheck words task = IsJob words task × (task.command ≡ command.Check)
 -- The words are this job, an `explain`.
 abbrev pub IsExplain : List (List ℕ) → Task → Type 0
 IsExplain words task = IsJob words task × (task.command ≡ command.Explain)
+
+-- The words are this job, a `run` that asks for nothing that isn't built.
+abbrev pub IsRun : List (List ℕ) → Task → Type 0
+IsRun words task = IsJob words task × (task.command ≡ command.Run) × (task.life ≡ false)

@@ -1,6 +1,6 @@
 -- What words ask of the program of their files, and what of it isn't built yet.
-use Rattle.std.specs.Prelude.{◌==◌, not, Result, Ok, Err, is_some, if◌then◌else◌}
-use Rattle.au_words.specs.Jobs.{Task, usual_steps}
+use Rattle.std.specs.Prelude.{Result, Ok, Err, if◌then◌else◌}
+use Rattle.au_words.specs.Jobs.{Task}
 use Rattle.au_words.specs.declared.jobs.Command.{Command}
 use Rattle.au_words.specs.declared.jobs.Command.TheVariants as command
 use Rattle.au_outcomes.specs.declared.outcomes.Aim.{Aim}
@@ -8,14 +8,9 @@ use Rattle.au_outcomes.specs.declared.outcomes.Aim.TheVariants as aims
 use Rattle.au_refusals.specs.declared.refusals.Unbuilt.{Unbuilt}
 use Rattle.au_refusals.specs.declared.refusals.Unbuilt.TheVariants as unbuilt
 
--- that a program is run, or the first option of a run that isn't built yet: an entry that is named, steps
--- other than the usual ones, and lives that are told
+-- that a program is run, or that lives are told meanwhile, which isn't built yet
 abbrev pub asked_of_run : Task → Result Aim Unbuilt
-asked_of_run task =
-    if is_some task.entry then Err unbuilt.Entry
-    else (if not (task.steps == usual_steps) then Err unbuilt.Steps
-    else (if task.life then Err unbuilt.Life
-    else Ok aims.Run))
+asked_of_run task = if task.life then Err unbuilt.Life else Ok aims.Run
 
 -- what a command asks of the program of files, or what of it isn't built yet: the command itself, or an
 -- option of a run

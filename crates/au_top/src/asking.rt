@@ -8,14 +8,11 @@ use au_outcomes::Aim;
 use au_refusals::Unbuilt;
 use au_words::{Command, Job};
 
-/// The steps of a run whose words give none.
-const USUAL_STEPS: u64 = 1_000_000_000;
-
 /// What a job asks of the program of its files.
 ///
 /// # Errors
 ///
-/// The first thing that the job asks for and that is not built yet: the command, or an option of a run.
+/// What the job asks for and that is not built yet: the command, or an option of a run.
 pub fn asked_of(job: &Job) -> Result<Aim, Unbuilt>
     ensures { result ≡ asked.asked_of (task_of job.now) }
 {
@@ -27,16 +24,10 @@ pub fn asked_of(job: &Job) -> Result<Aim, Unbuilt>
     }
 }
 
-/// That a program is run, or the first option that is not built yet: the entry, the steps, the lives.
+/// That a program is run, or that lives are told meanwhile, which is not built yet.
 fn asked_of_run(job: &Job) -> Result<Aim, Unbuilt>
     ensures { result ≡ asked.asked_of_run (task_of job.now) }
 {
-    if job.entry.is_some() {
-        return Err(Unbuilt::Entry);
-    }
-    if job.steps != USUAL_STEPS {
-        return Err(Unbuilt::Steps);
-    }
     if job.life {
         return Err(Unbuilt::Life);
     }

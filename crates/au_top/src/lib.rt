@@ -1,10 +1,14 @@
 //! The call that the program is: words and files in, output and a status out.
 //!
-//! `specs/Calls.antt` says how a call ends and what it leaves, and `specs/Dues.antt` what is due.
+//! `specs/Calls.antt` says how a call ends and what it leaves, `specs/Dues.antt` what is due, and
+//! `specs/Runs.antt` what a run comes to.
 #![tactic(auto)]
 
 mod answering;
 mod asking;
+mod entries;
+mod running;
+mod saying;
 mod top;
 
 pub use top::austral;

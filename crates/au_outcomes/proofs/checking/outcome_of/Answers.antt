@@ -1,19 +1,13 @@
 -- As many files are kept as there are.
 use Rattle.std.proofs.Common.{arith}
 use Rattle.au_outcomes.proofs.CountLemmas.{kept_few, kept_trees}
-use Rattle.au_outcomes.proofs.KeptLemmas.{kept_length}
 use Rattle.au_outcomes.proofs.checking.outcome_of.Goals as goal
-
-pub accepted_outcome-requires : goal.accepted_outcome-requires
-accepted_outcome-requires c =
-    let same = kept_length 0 c.args.all.now c.in_ok-trees.field-0.trees.items c.in_ok-trees.field-0.printings.items c.in_ok-trees.ensures.comes in
-    omega (arith, c.requires.some)
 
 pub judge-requires-clause-few : goal.judge-requires-clause-few
 judge-requires-clause-few c =
-    let same = kept_trees c.args.all.now c.in_ok-trees.field-0.trees.items c.in_ok-trees.field-0.printings.items c.in_ok-trees.ensures.comes in
+    let same = kept_trees c.args.all.now c.in_ok-trees.trees.items c.in_ok-trees.ensures.comes in
     omega (arith, same, c.requires.few)
 
 pub judge-requires-clause-declared : goal.judge-requires-clause-declared
 judge-requires-clause-declared c =
-    kept_few c.args.all.now c.in_ok-trees.field-0.trees.items c.in_ok-trees.field-0.printings.items c.in_ok-trees.ensures.comes
+    kept_few c.args.all.now c.in_ok-trees.trees.items c.in_ok-trees.ensures.comes

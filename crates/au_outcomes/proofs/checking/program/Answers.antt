@@ -39,12 +39,6 @@ returns-in_err-all-clause-stops g c =
     rw (p.1, p.2)
     (λ h. c.in_err-all.ensures.stops (read_with Outcome (Vec (Vec ℕ Global) Global) c.in_err-all.field-0.0 h))
 
-pub outcome_of-requires-clause-some : goal.outcome_of-requires-clause-some
-outcome_of-requires-clause-some g c =
-    let same = fetched_length (g.S.Shelf.files c.args.shelf.now) c.args.names.now c.in_ok-all.all.items c.in_ok-all.ensures.comes in
-    let slice = ap length c.as_slice.ensures.value in
-    omega (arith, c.requires)
-
 pub outcome_of-requires-clause-few : goal.outcome_of-requires-clause-few
 outcome_of-requires-clause-few g c =
     let same = fetched_length (g.S.Shelf.files c.args.shelf.now) c.args.names.now c.in_ok-all.all.items c.in_ok-all.ensures.comes in

@@ -4,7 +4,6 @@ use Rattle.std.proofs.lemmas.Result.{err_from_is_err_and}
 use Rattle.au_syntax.specs.contracts.parsed.ParsedPhase.TheImpl.{ghosts as parsed}
 use Rattle.au_syntax.specs.Files.{says}
 use Rattle.au_syntax.specs.Words.{Spells}
-use Rattle.au_outcomes.specs.Reading.{PrintSo}
 use Rattle.au_outcomes.proofs.ComesLemmas.{halts_from, halts_with}
 use Rattle.au_outcomes.proofs.reading.read_file.Goals as goal
 
@@ -30,5 +29,4 @@ returns-clause-comes c =
         fits = c.in_ok-tree.tree.within;
       },
       refl,
-      subst (λ ts. PrintSo c.in_ok-printing.printing ts c.after-end.result) c.as_slice-2.ensures.value c.in_ok-printing.ensures,
     )

@@ -1,0 +1,82 @@
+-- Runs that are cut off: a front of what they write was written.
+use Rattle.std.proofs.Common.{◌≡◌, ℕ, min, List, [], ◌++◌, length, take, Option, Some, None, IfSome, Result, Ok, Err, OnErr, refl, sym, ap, subst, ◌∙◌, arith}
+use Rattle.std.specs.Option.{option_map}
+use Rattle.std.proofs.Math.Seq.{take-append_seam}
+use Rattle.std.proofs.lemmas.List.{append-nil, take-append-le, take_min}
+use Rattle.au_base.specs.Outside.{Adds, AddsFront}
+use Rattle.au_base.proofs.OutsideLemmas.{adds_none}
+use Rattle.au_effects.specs.Worlds.{Deed}
+use Rattle.au_low.specs.declared.endings.Ending.{Ending}
+use Rattle.au_meaning.specs.Laws.{Begins}
+use Rattle.au_runs.specs.Calls.{Runs, IsMade, IsCut}
+
+-- ---- fronts
+
+pub begins_itself : {A : Type 0} (xs : List A) → Begins xs xs
+begins_itself xs = ([], sym (append-nil xs))
+
+front_first : (old new : Option (List ℕ)) (x y : List ℕ) → AddsFront old new x → AddsFront old new (x ++ y)
+front_first old new x y front =
+    let n : ℕ = min front.0 (length x) in
+    let same : take n (x ++ y) ≡ take front.0 x = take-append-le n x y (omega arith) ∙ take_min front.0 x in
+    (n, subst (Adds old new) (sym same) front.1)
+
+-- a front of the beginning is a front of the whole
+pub front_of_whole : (old new : Option (List ℕ)) (xs ys : List ℕ) → Begins xs ys → AddsFront old new xs
+    → AddsFront old new ys
+front_of_whole old new xs ys begins front =
+    subst (AddsFront old new) (sym begins.1) (front_first old new xs begins.0 front)
+
+-- all of it is a front
+pub front_all : (old new : Option (List ℕ)) (xs : List ℕ) → Adds old new xs → AddsFront old new xs
+front_all old new xs adds =
+    let whole : take (length xs) (xs ++ []) ≡ xs = take-append_seam xs [] in
+    let all : take (length xs) xs ≡ xs = ap (take (length xs)) (sym (append-nil xs)) ∙ whole in
+    (length xs, subst (Adds old new) (sym all) adds)
+
+-- ---- the input
+
+given_at : (left : Option (List ℕ)) (taken rest : List ℕ) → IfSome left (λ bytes. bytes ≡ rest)
+    → IfSome (option_map (λ bytes. taken ++ bytes) left) (λ bytes. bytes ≡ taken ++ rest)
+given_at None taken rest after = tt
+given_at (Some bytes) taken rest after = ap (λ bytes. taken ++ bytes) after
+
+pub given_by : (told left : Option (List ℕ)) (taken rest : List ℕ)
+    → told ≡ option_map (λ bytes. taken ++ bytes) left → IfSome left (λ bytes. bytes ≡ rest)
+    → IfSome told (λ bytes. bytes ≡ taken ++ rest)
+given_by told left taken rest before after =
+    subst (λ (told : Option (List ℕ)). IfSome told (λ bytes. bytes ≡ taken ++ rest)) (sym before)
+    (given_at left taken rest after)
+
+abbrev pub rest_in : Option (List ℕ) → List ℕ
+rest_in None = []
+rest_in (Some bytes) = bytes
+
+pub after_is : (left : Option (List ℕ)) → IfSome left (λ bytes. bytes ≡ rest_in left)
+after_is None = tt
+after_is (Some bytes) = refl
+
+-- ---- what is cut off
+
+-- a fact at an `Err`
+pub on_err : {T E P : Type 0} (r : Result T E) → P → OnErr r P
+on_err (Ok x) p = tt
+on_err (Err e) p = p
+
+-- a run that didn't begin
+pub unbegun_cut : (run : Runs) (limit : ℕ) (told out : Option (List ℕ)) → IsCut run limit told out out
+unbegun_cut run limit told out = record {
+  input = rest_in told;
+  given = after_is told;
+  front = (0, adds_none out);
+}
+
+-- a run that was made, and of which nothing is told
+pub made_cut : (ends : Ending) (run : Runs) (limit : ℕ) (told left out out' : Option (List ℕ))
+    (events : List (Deed ℕ)) → IsMade ends run limit told left out out' events
+    → IsCut run limit told out out'
+made_cut ends run limit told left out out' events made = record {
+  input = made.taken ++ made.rest;
+  given = given_by told left made.taken made.rest made.input.before made.input.after;
+  front = front_all out out' (run (made.taken ++ made.rest) limit).output made.output;
+}

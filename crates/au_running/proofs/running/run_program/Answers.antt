@@ -1,0 +1,54 @@
+-- What is answered of a run of its code is so of the program.
+use Rattle.std.proofs.Common.{◌⊎◌, inr, false, List}
+use Rattle.std.proofs.lemmas.Result.{IfOk-weaker, on_err_weaker}
+use Rattle.au_derivations.specs.Trees.{NotedParts}
+use Rattle.au_low.specs.Runs.{low_run}
+use Rattle.au_modules.specs.Slots as slots
+use Rattle.au_noting_programs.specs.Faults.{IsDerived}
+use Rattle.au_runs.specs.Calls.{IsCut}
+use Rattle.au_running.specs.Coded.{CameSo}
+use Rattle.au_running.specs.Ran.{HasRunSo, IsBroken, IsIdle}
+use Rattle.au_running.proofs.ShownLemmas.{came_so, cut_so}
+use Rattle.au_running.proofs.running.run_program.Goals as goal
+
+pub returns-in-Ok-clause-ran : goal.returns-in-Ok-clause-ran
+returns-in-Ok-clause-ran g c =
+    let program = slots.modules c.args.program.now in
+    let owner = c.args.entry.now.«module» in
+    let name = c.args.entry.now.function in
+    let told = g.I.Source.left c.args.input.now in
+    let left = g.I.Source.left c.run_code.new.input in
+    let out = g.O.Sink.written c.args.out.now in
+    let out' = g.O.Sink.written c.run_code.new.out in
+    let has = c.in-Ok.ensures in
+    IfOk-weaker c.run_code.result (λ ran. CameSo c.in-Ok.code ran c.args.steps told left out out')
+    (λ ran. (noted : List NotedParts) × IsDerived program noted
+    × HasRunSo program noted owner name ran c.args.steps told left out out')
+    (λ ran came. (
+      has.0,
+      has.1,
+      came_so program has.0 owner name c.lowered_programs_run.ensures c.in-Ok.code
+          has.2 ran c.args.steps told left out out' came,
+    ))
+    c.run_code.ensures.came
+
+pub returns-in-Ok-clause-broken : goal.returns-in-Ok-clause-broken
+returns-in-Ok-clause-broken g c =
+    let program = slots.modules c.args.program.now in
+    let owner = c.args.entry.now.«module» in
+    let name = c.args.entry.now.function in
+    let told = g.I.Source.left c.args.input.now in
+    let left = g.I.Source.left c.run_code.new.input in
+    let out = g.O.Sink.written c.args.out.now in
+    let out' = g.O.Sink.written c.run_code.new.out in
+    let has = c.in-Ok.ensures in
+    on_err_weaker {P = IsCut (low_run false c.in-Ok.code) c.args.steps told out out'}
+    {Q = IsIdle told left out out' ⊎ ((noted : List NotedParts) × IsDerived program noted
+    × IsBroken program noted owner name c.args.steps told out out')} c.run_code.result
+    (λ cut. inr (
+      has.0,
+      has.1,
+      cut_so program has.0 owner name c.lowered_programs_run.ensures c.in-Ok.code
+          has.2 c.args.steps told out out' cut,
+    ))
+    c.run_code.ensures.cut

@@ -1,0 +1,52 @@
+//! From an accepted program to what a run of it does.
+
+ghost use Rattle.std.specs.Prelude.{◌≡◌, ◌⊎◌, List, IfOk, OnErr};
+ghost use Rattle.au_derivations.specs.Trees.{NotedParts};
+ghost use Rattle.au_modules.specs.Slots as slots;
+ghost use Rattle.au_noting_programs.specs.Faults.{IsDerived};
+ghost use Rattle.au_running.specs.Ran.{HasRunSo, IsBroken, IsIdle, is_read_fault, is_write_fault};
+ghost use Rattle.au_runs.specs.Calls.{Rose};
+
+use crate::coding::{Uncoded, closed_code};
+use crate::ends::run_code;
+use crate::ran::Ran;
+use au_base::{Entry, Memory, Sink, Source};
+use au_meant_runs::laws::lowered_programs_run;
+use au_noting_programs::NotedProgram;
+use std::alloc::Global;
+
+/// Runs an accepted program from the entry that is named by its module and its own name, for at most so many
+/// steps, on an input and a sink.
+///
+/// # Errors
+///
+/// `Memory` when memory runs out; a front of what the program writes is on the sink then.
+pub fn run_program<I: Source, O: Sink>(
+    alloc: Global,
+    program: &NotedProgram,
+    entry: &Entry,
+    steps: u64,
+    input: &mut I,
+    out: &mut O,
+) -> Result<Ran, Memory>
+    ensures ran { IfOk result (λ ran. (noted : List NotedParts) × IsDerived (slots.modules program.now) noted
+        × HasRunSo (slots.modules program.now) noted entry.now.module entry.now.function ran steps
+        (I.left input.old) (I.left input.new) (O.written out.old) (O.written out.new)) }
+    ensures read { IfOk result (λ ran. Rose (is_read_fault ran) (I.faults input.old) (I.faults input.new)) }
+    ensures written { IfOk result (λ ran. Rose (is_write_fault ran) (O.faults out.old) (O.faults out.new)) }
+    ensures broken { OnErr result (
+        IsIdle (I.left input.old) (I.left input.new) (O.written out.old) (O.written out.new)
+        ⊎ ((noted : List NotedParts) × IsDerived (slots.modules program.now) noted
+        × IsBroken (slots.modules program.now) noted entry.now.module entry.now.function steps
+        (I.left input.old) (O.written out.old) (O.written out.new))) }
+    ensures quiet { OnErr result
+        ((I.faults input.new ≡ I.faults input.old) × (O.faults out.new ≡ O.faults out.old)) }
+{
+    lowered_programs_run();
+    match closed_code(alloc, program, entry) {
+        Err(Uncoded::NoEntry) => Ok(Ran::NoEntry),
+        Err(Uncoded::Limit(limit)) => Ok(Ran::Limit(limit)),
+        Err(Uncoded::Memory) => Err(Memory),
+        Ok(code) => run_code(alloc, &code, steps, input, out),
+    }
+}

@@ -1,0 +1,53 @@
+-- What is seen of a run, by what its program means.
+use Rattle.std.specs.Prelude.{◌≡◌, ℕ, ◌++◌, Bool, true, false, List, [], Option}
+use Rattle.au_base.specs.declared.names.Entry.{Entry}
+use Rattle.au_base.specs.declared.statuses.Status.{Status}
+use Rattle.au_base.specs.declared.statuses.Status.TheVariants as status
+use Rattle.au_base.specs.Outside.{Adds}
+use Rattle.au_syntax.specs.Plain.{Bytes}
+use Rattle.au_modules.specs.Programs.{ModuleParts}
+use Rattle.au_derivations.specs.Trees.{NotedParts}
+use Rattle.au_noting_programs.specs.Faults.{IsDerived}
+use Rattle.au_meaning.specs.Worlds.{stuck}
+use Rattle.au_closed_programs.specs.Programs.{ClosedProgram, Closes}
+use Rattle.au_good_programs.specs.Asked.{CallsArePlain}
+use Rattle.au_refusals.specs.Lines.{abort_line, steps_line}
+use Rattle.au_runs.specs.Calls.{Takes}
+use Rattle.au_meant_runs.specs.Meant.{means}
+use Rattle.au_meant_runs.specs.Shown.{Ended, Shows, aborts, exits, spent}
+use Rattle.au_top.specs.Runs.{entry_for}
+
+-- for a program, the entry that is named if one is, and the most steps
+module _ (named : Option Entry) (steps : ℕ) (program : List ModuleParts) where
+  -- The rules of typing derive the program with some notes, and it closes to functions from its entry. A run of
+  -- it took bytes of its input, left the rest, and wrote bytes, all of which stand on `out`. Where none of the
+  -- shipped functions of references, boxes, buffers and the terminal is called, and what the program means on
+  -- that input isn't stuck within as many ticks as the run had steps, this is what it means.
+  pub record HasShown (ends : Ended) (told left out out' : Option (List ℕ)) : Type 0 where
+    pub noted : List NotedParts
+    pub derived : IsDerived program noted
+    pub c : ClosedProgram
+    pub closes :
+        Closes program noted (entry_for named program).«module» (entry_for named program).function c
+    pub taken : List ℕ
+    pub rest : List ℕ
+    pub input : Takes told left taken rest
+    pub written : List ℕ
+    pub output : Adds out out' written
+    pub shows :
+        CallsArePlain c.functions
+        → ((means program noted closes.entry (taken ++ rest) steps).ending ≡ stuck → ⊥)
+        → Shows ends (means program noted closes.entry (taken ++ rest)) steps written rest
+
+  -- What a status of a call says of the run: it returned success or failure, aborted for the cause that its
+  -- line tells, or spent its steps, of which its line tells the number.
+  abbrev pub IsShown : Status → (told left out out' err err' : Option (List ℕ)) → Type 0
+  IsShown status.Success told left out out' err err' =
+      HasShown (exits true) told left out out' × Adds err err' []
+  IsShown status.Failure told left out out' err err' =
+      HasShown (exits false) told left out out' × Adds err err' []
+  IsShown status.Abort told left out out' err err' =
+      (words : Bytes) × HasShown (aborts words) told left out out' × Adds err err' (abort_line words)
+  IsShown status.Steps told left out out' err err' =
+      HasShown spent told left out out' × Adds err err' (steps_line steps)
+  IsShown other told left out out' err err' = Unit {0}

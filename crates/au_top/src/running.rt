@@ -1,0 +1,133 @@
+//! Running a program, and what a call writes and how it ends by how the run ended.
+
+ghost use Rattle.std.specs.Prelude.{◌≡◌, [], Err, IfOk, IsTrue, OnOk};
+ghost use Rattle.au_base.specs.Outside.{Adds, AddsFront, HasRisen};
+ghost use Rattle.au_modules.specs.Slots as slots;
+ghost use Rattle.au_refusals.specs.Lines.{refusal_line};
+ghost use Rattle.au_refusals.specs.Refusals.{is_refusal};
+ghost use Rattle.au_running.specs.Ran.{is_write_fault};
+ghost use Rattle.au_top.specs.Ends.{RunAnswers};
+ghost use Rattle.au_top.specs.Runs as runs;
+
+use crate::answering::Asked;
+use crate::entries::entry_for;
+use crate::saying::{AnswerFault, READ_FAULT_LINE, say};
+use au_base::{Entry, Memory, Sink, Source, Status};
+use au_noting_programs::NotedProgram;
+use au_refusals::{Refusal, abort_line, limit_line, refusal_text, steps_line};
+use au_running::{Ran, run_program};
+use std::alloc::Global;
+
+/// Runs a program from its entry, and writes the line that is due behind the run, if one is, on `err`.
+///
+/// # Errors
+///
+/// `Write` when a sink fails, and `Memory` when memory runs out: a front of what the program writes is on `out`
+/// then.
+pub fn run<I: Source, O: Sink, E: Sink>(
+    alloc: Global,
+    asked: &Asked,
+    program: &NotedProgram,
+    input: &mut I,
+    out: &mut O,
+    err: &mut E,
+) -> Result<Status, AnswerFault>
+    ensures { RunAnswers result (record {
+        left = I.left input.old; left' = I.left input.new; lapses = I.faults input.old; lapses' = I.faults input.new;
+        out = O.written out.old; out' = O.written out.new; faults = O.faults out.old; faults' = O.faults out.new;
+        err = E.written err.old; err' = E.written err.new; errors = E.faults err.old; errors' = E.faults err.new })
+        asked.now.entry asked.now.steps (slots.modules program.now) }
+{
+    let entry = entry_for(alloc, &asked.entry, program)?;
+    let ran = run_program(alloc, program, &entry, asked.steps, input, out)?;
+    if is_cut(&ran) {
+        return Err(AnswerFault::Write);
+    }
+    say_ran(alloc, entry, asked.steps, &ran, err)
+}
+
+/// Whether what the program writes couldn't be written.
+fn is_cut(ran: &Ran) -> bool
+    ensures { result ≡ is_write_fault ran.now }
+{
+    match ran {
+        Ran::NoEntry => false,
+        Ran::Limit(_) => false,
+        Ran::Exit(_) => false,
+        Ran::Abort(_) => false,
+        Ran::Steps => false,
+        Ran::Stuck => false,
+        Ran::ReadFault => false,
+        Ran::WriteFault => true,
+    }
+}
+
+/// Writes the line that is due behind a run on `err`, and ends as the run did.
+fn say_ran<E: Sink>(
+    alloc: Global,
+    entry: Entry,
+    steps: u64,
+    ran: &Ran,
+    err: &mut E,
+) -> Result<Status, AnswerFault>
+    ensures ok { IfOk result (λ ends. ends ≡ runs.run_status ran.now) }
+    ensures written { OnOk result (Adds (E.written err.old) (E.written err.new) (runs.run_line entry steps ran.now)) }
+    ensures quiet { OnOk result (E.faults err.new ≡ E.faults err.old) }
+    ensures front { result ≡ Err AnswerFault.Write
+        → AddsFront (E.written err.old) (E.written err.new) (runs.run_line entry steps ran.now) }
+    ensures risen { result ≡ Err AnswerFault.Write → HasRisen (E.faults err.old) (E.faults err.new) }
+    ensures memory { result ≡ Err AnswerFault.Memory
+        → (E.written err.new ≡ E.written err.old) × (E.faults err.new ≡ E.faults err.old) }
+{
+    let line = line_of(alloc, entry, steps, ran)?;
+    say(err, line.as_slice(), status_of(ran))
+}
+
+/// The line that is due behind a run, or no byte where none is.
+fn line_of(alloc: Global, entry: Entry, steps: u64, ran: &Ran) -> Result<Vec<u8>, Memory>
+    ensures { IfOk result (λ line. line.items ≡ runs.run_line entry steps ran.now) }
+{
+    match ran {
+        Ran::NoEntry => refused_line(alloc, Refusal::Entry(entry)),
+        Ran::Limit(limit) => limit_line(alloc, limit),
+        Ran::Exit(_) => Ok(Vec::new(alloc)),
+        Ran::Abort(words) => abort_line(alloc, words.as_bytes()),
+        Ran::Steps => steps_line(alloc, steps),
+        Ran::Stuck => refused_line(alloc, Refusal::Stuck),
+        Ran::ReadFault => line_copy(alloc, READ_FAULT_LINE),
+        Ran::WriteFault => Ok(Vec::new(alloc)),
+    }
+}
+
+/// The line of a refusal that names no file.
+fn refused_line(alloc: Global, refusal: Refusal) -> Result<Vec<u8>, Memory>
+    requires { IsTrue (is_refusal refusal) }
+    ensures { IfOk result (λ line. line.items ≡ refusal_line [] refusal) }
+{
+    refusal_text(alloc, &refusal, &[])
+}
+
+/// The same line.
+fn line_copy(alloc: Global, line: &[u8]) -> Result<Vec<u8>, Memory>
+    ensures { IfOk result (λ copy. copy.items ≡ line.now) }
+{
+    let copy = Vec::from_slice(alloc, line)?;
+    Ok(copy)
+}
+
+/// How a call ends that has run a program.
+fn status_of(ran: &Ran) -> Status
+    ensures { result ≡ runs.run_status ran.now }
+{
+    match ran {
+        Ran::NoEntry => Status::Refused,
+        Ran::Limit(_) => Status::Limit,
+        Ran::Exit(true) => Status::Success,
+        Ran::Exit(false) => Status::Failure,
+        Ran::Abort(_) => Status::Abort,
+        Ran::Steps => Status::Steps,
+        Ran::Stuck => Status::Refused,
+        Ran::ReadFault => Status::ReadFault,
+        Ran::WriteFault => Status::WriteFault,
+    }
+}
