@@ -1,3 +1,6 @@
+mod MarkLemmas
+mod StandingLemmas
+mod OnceLemmas
 mod NamedLemmas
 mod EndLemmas
 mod NumberingLemmas

@@ -5,7 +5,7 @@ use Rattle.au_syntax.specs.Plain.{Bytes}
 use Rattle.au_modules.specs.Programs.{ModuleParts}
 use Rattle.au_derivations.specs.Trees.{NotedParts}
 use Rattle.au_closed_trees.specs.ClosedNotes.{Callee, ClosedNote}
-use Rattle.au_closed_names.proofs.OnceLemmas.{closed_fields_are_once, closed_parameters_are_once}
+use Rattle.au_meant_runs.proofs.OnceLemmas.{closed_fields_are_once, closed_parameters_are_once}
 use Rattle.au_closed_programs.specs.Programs.{ClosedProgram, Closes, plain_instance}
 use Rattle.au_closing_meanings.specs.Kept.{SaysWhatIs}
 use Rattle.au_closing_meanings.specs.Listed.{counts_by}

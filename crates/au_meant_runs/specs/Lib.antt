@@ -1,3 +1,4 @@
+pub mod Once
 pub mod Meant
 pub mod Shown
 pub mod Runs

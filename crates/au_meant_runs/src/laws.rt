@@ -1,6 +1,19 @@
-//! What holds of runs of lowered code, as a contract of a call that does nothing.
+//! What holds of runs of lowered code, and of the names in closed programs, as contracts of calls that do
+//! nothing.
 
+ghost use Rattle.au_meant_runs.specs.Once.{ClosedFieldsAreOnce, ClosedParametersAreOnce};
 ghost use Rattle.au_meant_runs.specs.Runs.{LoweredProgramsRun};
+
+/// The parameters of each function that a derived program with good declarations closes to have names of
+/// their own.
+pub fn closed_parameters_are_once()
+    ensures { ClosedParametersAreOnce }
+{}
+
+/// The fields of each case of a closed type of a program with good declarations have names of their own.
+pub fn closed_fields_are_once()
+    ensures { ClosedFieldsAreOnce }
+{}
 
 /// Every run of the code that a program is lowered to shows what the program means from its entry.
 pub fn lowered_programs_run()

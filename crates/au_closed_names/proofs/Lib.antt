@@ -1,3 +1,0 @@
-mod MarkLemmas
-mod StandingLemmas
-pub mod OnceLemmas
