@@ -31,7 +31,7 @@ kept_one file bytes all tree trees one rest = (
   one.0 ∷ rest.0,
   (one.1, rest.1),
   ap (λ e. e ∷ map entry trees) one.2
-  ∙ ap (λ l. record { file = file; tree = one.0.tree } ∷ l) rest.2,
+      ∙ ap (λ l. record { file = file; tree = one.0.tree } ∷ l) rest.2,
 )
 
 kept_none : (file : ℕ) → AreKept file [] []
