@@ -428,9 +428,13 @@ runs_run words files names program h =
 pub run_arises : (words : List (List ℕ)) (files : Files) (task : Task) (program : Modules) → IsRun words task
     → Comes aims.Run files task.files (outcome.Runs program)
     → Arises words files task.files (outcome.Runs program)
-run_arises words files task program job comes =
-    (task, job.0, refl, subst (λ asked. Asks asked files task.files (outcome.Runs program))
-    (sym (run_asks words task job)) comes)
+run_arises words files task program job comes = (
+  task,
+  job.0,
+  refl,
+  subst (λ asked. Asks asked files task.files (outcome.Runs program))
+      (sym (run_asks words task job)) comes,
+)
 
 -- nothing is due for it
 pub run_owes : (words : List (List ℕ)) (files : Files) (due : Due) (names : List (List ℕ)) (program : Modules)

@@ -205,9 +205,9 @@ module _ (program : List ModuleParts) (noted : List NotedParts) (owner name : By
         given = takes_whole told left h.taken h.rest h.input;
         front =
             λ runnable sound.
-                begun_front out out' h.written _ h.output
-                (shown_begins ends (means program noted h.closes.entry (h.taken ++ h.rest)) steps h.written h.rest
-                (h.meant runnable sound));
+            begun_front out out' h.written _ h.output
+            (shown_begins ends (means program noted h.closes.entry (h.taken ++ h.rest)) steps h.written h.rest
+            (h.meant runnable sound));
       }
 
   ran_broken : (ran : Ran) (told left out out' : Option (List ℕ))
@@ -302,12 +302,12 @@ module _ (named : Option Entry) (steps : ℕ) (program : List ModuleParts) where
     run_cut ran is h rose err errors =
         let there : HasRan named steps program how.WriteFault s.left s.left' s.out s.out' =
         subst (λ r. HasRan named steps program r s.left s.left' s.out s.out') (written_is ran is) h in (
-          inl (
-            record { noted = there.noted; derived = there.derived; broken = there.done },
-            subst (λ b. Rose b s.faults s.faults') is rose,
-            err,
-            errors,
-          )
+        inl (
+          record { noted = there.noted; derived = there.derived; broken = there.done },
+          subst (λ b. Rose b s.faults s.faults') is rose,
+          err,
+          errors,
+        )
         )
 
     -- a run that was made, and what was said of it

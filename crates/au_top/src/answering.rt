@@ -76,9 +76,19 @@ pub fn answer<I: Source, O: Sink, E: Sink>(
     ensures kept { IfSome (due_of (map string_bytes asked.now.files.items) outcome.now)
         (λ due. (I.left input.new ≡ I.left input.old) × (I.faults input.new ≡ I.faults input.old)) }
     ensures runs { IfRuns outcome.now (RunAnswers result (record {
-        left = I.left input.old; left' = I.left input.new; lapses = I.faults input.old; lapses' = I.faults input.new;
-        out = O.written out.old; out' = O.written out.new; faults = O.faults out.old; faults' = O.faults out.new;
-        err = E.written err.old; err' = E.written err.new; errors = E.faults err.old; errors' = E.faults err.new })
+      left = I.left input.old;
+      left' = I.left input.new;
+      lapses = I.faults input.old;
+      lapses' = I.faults input.new;
+      out = O.written out.old;
+      out' = O.written out.new;
+      faults = O.faults out.old;
+      faults' = O.faults out.new;
+      err = E.written err.old;
+      err' = E.written err.new;
+      errors = E.faults err.old;
+      errors' = E.faults err.new;
+    })
         asked.now.entry asked.now.steps) }
 {
     match outcome {

@@ -33,9 +33,19 @@ pub fn run<I: Source, O: Sink, E: Sink>(
     err: &mut E,
 ) -> Result<Status, AnswerFault>
     ensures { RunAnswers result (record {
-        left = I.left input.old; left' = I.left input.new; lapses = I.faults input.old; lapses' = I.faults input.new;
-        out = O.written out.old; out' = O.written out.new; faults = O.faults out.old; faults' = O.faults out.new;
-        err = E.written err.old; err' = E.written err.new; errors = E.faults err.old; errors' = E.faults err.new })
+      left = I.left input.old;
+      left' = I.left input.new;
+      lapses = I.faults input.old;
+      lapses' = I.faults input.new;
+      out = O.written out.old;
+      out' = O.written out.new;
+      faults = O.faults out.old;
+      faults' = O.faults out.new;
+      err = E.written err.old;
+      err' = E.written err.new;
+      errors = E.faults err.old;
+      errors' = E.faults err.new;
+    })
         asked.now.entry asked.now.steps (slots.modules program.now) }
 {
     let entry = entry_for(alloc, &asked.entry, program)?;

@@ -52,4 +52,3 @@ pub fn say<E: Sink>(err: &mut E, line: &[u8], status: Status) -> Result<Status, 
     put_all(err, line)?;
     Ok(status)
 }
-

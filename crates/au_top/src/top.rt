@@ -169,9 +169,19 @@ fn ended<S: Shelf, I: Source, O: Sink, E: Sink>(
 ) -> Status
     ensures ends { HasEnded (map string_bytes words.now) (S.files shelf.old)
         (S.faults shelf.old) (S.faults shelf.new) (S.misses shelf.old) (S.misses shelf.new) result (record {
-        left = I.left input.old; left' = I.left input.new; lapses = I.faults input.old; lapses' = I.faults input.new;
-        out = O.written out.old; out' = O.written out.new; faults = O.faults out.old; faults' = O.faults out.new;
-        err = E.written err.old; err' = E.written err.new; errors = E.faults err.old; errors' = E.faults err.new }) }
+          left = I.left input.old;
+          left' = I.left input.new;
+          lapses = I.faults input.old;
+          lapses' = I.faults input.new;
+          out = O.written out.old;
+          out' = O.written out.new;
+          faults = O.faults out.old;
+          faults' = O.faults out.new;
+          err = E.written err.old;
+          err' = E.written err.new;
+          errors = E.faults err.old;
+          errors' = E.faults err.new;
+        }) }
     ensures idle { AsksForNoFile (map string_bytes words.now)
         → (S.faults shelf.new ≡ S.faults shelf.old) × (S.misses shelf.new ≡ S.misses shelf.old) }
     ensures crowded { AsksForTooMany (map string_bytes words.now)

@@ -3,9 +3,8 @@
 use crate::closing::{Closing, closing_of};
 use crate::programs::Program;
 use au_base::{Limit, LimitKind, Memory, Pos};
-use au_closed_programs::ClosedFunction;
 use au_closed_parts::{ClosedCase, ClosedField};
-use au_closed_programs::{CloseFault, ClosedProgram, TypeRow};
+use au_closed_programs::{CloseFault, ClosedFunction, ClosedProgram, TypeRow};
 use au_closed_types::{Closed, closed_text};
 use au_types::Heads;
 use itoa::Buffer;

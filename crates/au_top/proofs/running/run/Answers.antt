@@ -10,12 +10,18 @@ pub returns-in_err-entry : goal.returns-in_err-entry
 returns-in_err-entry g c =
     let p = err_from_is_err_and c.from_residual.result c.from_residual.ensures.1 in
     let s : Streams = record {
-      left = g.I.Source.left c.args.input.now; left' = g.I.Source.left c.args.input.now;
-      lapses = g.I.Source.faults c.args.input.now; lapses' = g.I.Source.faults c.args.input.now;
-      out = g.O.Sink.written c.args.out.now; out' = g.O.Sink.written c.args.out.now;
-      faults = g.O.Sink.faults c.args.out.now; faults' = g.O.Sink.faults c.args.out.now;
-      err = g.E.Sink.written c.args.err.now; err' = g.E.Sink.written c.args.err.now;
-      errors = g.E.Sink.faults c.args.err.now; errors' = g.E.Sink.faults c.args.err.now;
+      left = g.I.Source.left c.args.input.now;
+      left' = g.I.Source.left c.args.input.now;
+      lapses = g.I.Source.faults c.args.input.now;
+      lapses' = g.I.Source.faults c.args.input.now;
+      out = g.O.Sink.written c.args.out.now;
+      out' = g.O.Sink.written c.args.out.now;
+      faults = g.O.Sink.faults c.args.out.now;
+      faults' = g.O.Sink.faults c.args.out.now;
+      err = g.E.Sink.written c.args.err.now;
+      err' = g.E.Sink.written c.args.err.now;
+      errors = g.E.Sink.faults c.args.err.now;
+      errors' = g.E.Sink.faults c.args.err.now;
     } in
     rw (p.1, p.2)
     (idle_stopped c.args.asked.now.entry c.args.asked.now.steps (slots.modules c.args.program.now) s refl refl
@@ -25,12 +31,18 @@ pub returns-in_err-ran : goal.returns-in_err-ran
 returns-in_err-ran g c =
     let p = err_from_is_err_and c.from_residual-in_err-ran.result c.from_residual-in_err-ran.ensures.1 in
     let s : Streams = record {
-      left = g.I.Source.left c.args.input.now; left' = g.I.Source.left c.run_program-ran.new.input;
-      lapses = g.I.Source.faults c.args.input.now; lapses' = g.I.Source.faults c.run_program-ran.new.input;
-      out = g.O.Sink.written c.args.out.now; out' = g.O.Sink.written c.run_program-ran.new.out;
-      faults = g.O.Sink.faults c.args.out.now; faults' = g.O.Sink.faults c.run_program-ran.new.out;
-      err = g.E.Sink.written c.args.err.now; err' = g.E.Sink.written c.args.err.now;
-      errors = g.E.Sink.faults c.args.err.now; errors' = g.E.Sink.faults c.args.err.now;
+      left = g.I.Source.left c.args.input.now;
+      left' = g.I.Source.left c.run_program-ran.new.input;
+      lapses = g.I.Source.faults c.args.input.now;
+      lapses' = g.I.Source.faults c.run_program-ran.new.input;
+      out = g.O.Sink.written c.args.out.now;
+      out' = g.O.Sink.written c.run_program-ran.new.out;
+      faults = g.O.Sink.faults c.args.out.now;
+      faults' = g.O.Sink.faults c.run_program-ran.new.out;
+      err = g.E.Sink.written c.args.err.now;
+      err' = g.E.Sink.written c.args.err.now;
+      errors = g.E.Sink.faults c.args.err.now;
+      errors' = g.E.Sink.faults c.args.err.now;
     } in
     rw (p.1, p.2)
     (run_stopped c.args.asked.now.entry c.args.asked.now.steps (slots.modules c.args.program.now) s
@@ -42,12 +54,18 @@ returns-then-is_cut g c =
     let steps = c.args.asked.now.steps in
     let program = slots.modules c.args.program.now in
     let s : Streams = record {
-      left = g.I.Source.left c.args.input.now; left' = g.I.Source.left c.run_program-ran.new.input;
-      lapses = g.I.Source.faults c.args.input.now; lapses' = g.I.Source.faults c.run_program-ran.new.input;
-      out = g.O.Sink.written c.args.out.now; out' = g.O.Sink.written c.run_program-ran.new.out;
-      faults = g.O.Sink.faults c.args.out.now; faults' = g.O.Sink.faults c.run_program-ran.new.out;
-      err = g.E.Sink.written c.args.err.now; err' = g.E.Sink.written c.args.err.now;
-      errors = g.E.Sink.faults c.args.err.now; errors' = g.E.Sink.faults c.args.err.now;
+      left = g.I.Source.left c.args.input.now;
+      left' = g.I.Source.left c.run_program-ran.new.input;
+      lapses = g.I.Source.faults c.args.input.now;
+      lapses' = g.I.Source.faults c.run_program-ran.new.input;
+      out = g.O.Sink.written c.args.out.now;
+      out' = g.O.Sink.written c.run_program-ran.new.out;
+      faults = g.O.Sink.faults c.args.out.now;
+      faults' = g.O.Sink.faults c.run_program-ran.new.out;
+      err = g.E.Sink.written c.args.err.now;
+      err' = g.E.Sink.written c.args.err.now;
+      errors = g.E.Sink.faults c.args.err.now;
+      errors' = g.E.Sink.faults c.args.err.now;
     } in
     run_cut entry steps program s c.in_ok-ran.ran (sym c.is_cut.ensures ∙ c.if-is_cut.true)
     (has_ran entry steps program c.in_ok-entry.entry c.in_ok-ran.ran s.left s.left' s.out s.out'
@@ -59,12 +77,18 @@ returns g c =
     let steps = c.args.asked.now.steps in
     let program = slots.modules c.args.program.now in
     let s : Streams = record {
-      left = g.I.Source.left c.args.input.now; left' = g.I.Source.left c.run_program-ran.new.input;
-      lapses = g.I.Source.faults c.args.input.now; lapses' = g.I.Source.faults c.run_program-ran.new.input;
-      out = g.O.Sink.written c.args.out.now; out' = g.O.Sink.written c.run_program-ran.new.out;
-      faults = g.O.Sink.faults c.args.out.now; faults' = g.O.Sink.faults c.run_program-ran.new.out;
-      err = g.E.Sink.written c.args.err.now; err' = g.E.Sink.written c.say_ran.new.err;
-      errors = g.E.Sink.faults c.args.err.now; errors' = g.E.Sink.faults c.say_ran.new.err;
+      left = g.I.Source.left c.args.input.now;
+      left' = g.I.Source.left c.run_program-ran.new.input;
+      lapses = g.I.Source.faults c.args.input.now;
+      lapses' = g.I.Source.faults c.run_program-ran.new.input;
+      out = g.O.Sink.written c.args.out.now;
+      out' = g.O.Sink.written c.run_program-ran.new.out;
+      faults = g.O.Sink.faults c.args.out.now;
+      faults' = g.O.Sink.faults c.run_program-ran.new.out;
+      err = g.E.Sink.written c.args.err.now;
+      err' = g.E.Sink.written c.say_ran.new.err;
+      errors = g.E.Sink.faults c.args.err.now;
+      errors' = g.E.Sink.faults c.say_ran.new.err;
     } in
     run_said entry steps program s c.say_ran.result c.in_ok-entry.entry c.in_ok-ran.ran c.in_ok-entry.ensures
     (sym c.is_cut.ensures ∙ c.if-is_cut.false)

@@ -23,9 +23,12 @@ returns-in-Err-NoJob-clause-asked g c = λ task job.
 pub returns-in-Err-clause-arises : goal.returns-in-Err-clause-arises
 returns-in-Err-clause-arises g c =
     let words = map string_bytes c.args.words.now in
-    let told = told_files (g.S.Shelf.files c.args.shelf.now) in
-    (told.0, told.1, arises_unbuilt words (map string_bytes c.said_by.result.files.items) (task_of c.in-Ok.job) told.0 c.in-Err.what c.in-Ok.ensures.job
-    (said_names c.said_by.result.files c.in-Ok.job.files c.said_by.ensures.files) c.in-Err.ensures)
+    let told = told_files (g.S.Shelf.files c.args.shelf.now) in (
+      told.0,
+      told.1,
+      arises_unbuilt words (map string_bytes c.said_by.result.files.items) (task_of c.in-Ok.job) told.0 c.in-Err.what c.in-Ok.ensures.job
+          (said_names c.said_by.result.files c.in-Ok.job.files c.said_by.ensures.files) c.in-Err.ensures,
+    )
 
 pub returns-in-Err-clause-asked : goal.returns-in-Err-clause-asked
 returns-in-Err-clause-asked g c = λ task job.
@@ -41,9 +44,12 @@ pub returns-clause-arises : goal.returns-clause-arises
 returns-clause-arises g c =
     let words = map string_bytes c.args.words.now in
     let comes = c.in_ok-outcome.ensures.comes in
-    let found = subst (λ (l : List (String Global)). Comes c.in-Ok-asked_of.aim comes.0 (map string_bytes l) c.in_ok-outcome.outcome) c.as_slice.ensures.value comes.2 in
-    (comes.0, comes.1, arises_from words (map string_bytes c.said_by-asked.result.files.items) (task_of c.in-Ok.job) comes.0 c.in-Ok-asked_of.aim c.in_ok-outcome.outcome c.in-Ok.ensures.job
-    (said_names c.said_by-asked.result.files c.in-Ok.job.files c.said_by-asked.ensures.files) c.in-Ok-asked_of.ensures found)
+    let found = subst (λ (l : List (String Global)). Comes c.in-Ok-asked_of.aim comes.0 (map string_bytes l) c.in_ok-outcome.outcome) c.as_slice.ensures.value comes.2 in (
+      comes.0,
+      comes.1,
+      arises_from words (map string_bytes c.said_by-asked.result.files.items) (task_of c.in-Ok.job) comes.0 c.in-Ok-asked_of.aim c.in_ok-outcome.outcome c.in-Ok.ensures.job
+          (said_names c.said_by-asked.result.files c.in-Ok.job.files c.said_by-asked.ensures.files) c.in-Ok-asked_of.ensures found,
+    )
 
 pub returns-clause-asked : goal.returns-clause-asked
 returns-clause-asked g c = λ task job.
