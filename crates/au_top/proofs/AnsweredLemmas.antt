@@ -1,30 +1,30 @@
 -- From what was found and what was answered to how a call ended.
-use Rattle.std.proofs.Common.{◌≡◌, ℕ, false, List, Option, Some, Result, Ok, Err, IfErr, IfOk, OnOk, IfSome}
+use Rattle.std.proofs.Common.{◌≡◌, ℕ, true, false, List, [], Option, Some, Result, Ok, Err, IfErr, IfOk, OnOk}
+use Rattle.std.proofs.Common.{IfSome}
 use Rattle.std.proofs.Common.{ap, ◌∙◌, sym, refl, subst, ◌⊎◌, inl, inr}
 use Rattle.std.specs.Prelude.{IsSomeAnd}
 use Rattle.au_base.specs.declared.names.Entry.{Entry}
 use Rattle.au_base.specs.declared.statuses.Status.{Status}
 use Rattle.au_base.specs.declared.statuses.Status.TheVariants as status
-use Rattle.au_base.specs.Outside.{Counts, Files}
+use Rattle.au_base.specs.Outside.{Adds, Counts, Files}
 use Rattle.au_words.specs.Jobs.{Task, IsJob}
 use Rattle.au_modules.specs.declared.modules.Modules.{Modules}
 use Rattle.au_modules.specs.Programs.{ModuleParts}
 use Rattle.au_modules.specs.Slots as slots
-use Rattle.au_outcomes.specs.Halts.{AreTold, is_missing}
+use Rattle.au_base.proofs.OutsideLemmas.{adds_none}
+use Rattle.au_refusals.specs.Lines.{read_fault_line}
+use Rattle.au_outcomes.specs.Halts.{AreTold, is_missing, is_read}
+use Rattle.au_outcomes.specs.declared.halts.CheckFault.{CheckFault}
+use Rattle.au_outcomes.specs.declared.halts.CheckFault.TheVariants as fault
 use Rattle.au_outcomes.specs.declared.outcomes.Outcome.{Outcome}
 use Rattle.au_outcomes.specs.declared.outcomes.Outcome.TheVariants as outcome
-use Rattle.au_top.specs.Calls.{Fails, Pays}
-use Rattle.au_top.specs.Dues.{Arises, Due, due_of}
-use Rattle.au_top.specs.Ends.{AreQuiet, HasEnded, IfRuns, IsKept, RunAnswers, RunEnds, Streams}
+use Rattle.au_top.specs.Calls.{Fails, FailsBehind, Pays}
+use Rattle.au_top.specs.Dues.{Arises, Due, due_line, due_of}
+use Rattle.au_top.specs.Ends.{AreQuiet, FaultEnds, HasEnded, IfRuns, IsKept, RunAnswers, RunEnds, Streams}
+use Rattle.au_top.specs.Ends.{answer_ends}
 use Rattle.au_top.specs.declared.saying.AnswerFault.{AnswerFault}
 use Rattle.au_top.specs.declared.saying.AnswerFault.TheVariants as answer
 use Rattle.au_top.proofs.DueLemmas.{due_or_runs, runs_run}
-
--- the status with which a call ends that has got this answer
-abbrev pub answer_ends : Result Status AnswerFault → Status
-answer_ends (Ok ends) = ends
-answer_ends (Err answer.Write) = status.WriteFault
-answer_ends (Err answer.Memory) = status.Memory
 
 -- how a call ends that ran a program
 run_ends : (r : Result Status AnswerFault) (s : Streams) (entry : Option Entry) (steps : ℕ)
@@ -37,7 +37,8 @@ run_ends (Err answer.Memory) s entry steps program h = inr (inr (refl, h))
 -- for words, the files that are told, the counts of the shelf's faults and misses, and the streams
 module _ (words : List (List ℕ)) (told : Option Files) (faults faults' misses misses' : ℕ) (s : Streams) where
   -- what was due was paid, or was cut, or memory ran out
-  answered_due : (r : Result Status AnswerFault) (files : Files) (names : List (List ℕ)) (arisen : Outcome) (due : Due)
+  answered_due : (r : Result Status AnswerFault) (files : Files) (names : List (List ℕ)) (arisen : Outcome)
+      (due : Due)
       → AreTold told files → Arises words files names arisen → due_of names arisen ≡ Some due
       → faults' ≡ faults → Counts (is_missing arisen) misses misses'
       → IfOk r (λ ends. Pays due ends s.out s.out' s.err s.err') → OnOk r (AreQuiet s)
@@ -69,7 +70,8 @@ module _ (words : List (List ℕ)) (told : Option Files) (faults faults' misses 
 
   -- a program was run
   answered_run : (r : Result Status AnswerFault) (files : Files) (names : List (List ℕ)) (program : Modules)
-      (entry : Option Entry) (steps : ℕ) → AreTold told files → Arises words files names (outcome.Runs program)
+      (entry : Option Entry) (steps : ℕ) → AreTold told files
+      → Arises words files names (outcome.Runs program)
       → ((task : Task) → IsJob words task → (entry ≡ task.entry) × (steps ≡ task.steps))
       → faults' ≡ faults → misses' ≡ misses → RunAnswers r s entry steps (slots.modules program)
       → HasEnded words told faults faults' misses misses' (answer_ends r) s
@@ -94,19 +96,22 @@ module _ (words : List (List ℕ)) (told : Option Files) (faults faults' misses 
       }))))
 
   -- What was answered for what was found says how the call ended.
-  pub answered : (r : Result Status AnswerFault) (names : List (List ℕ)) (arisen : Outcome) (entry : Option Entry)
+  pub answered : (r : Result Status AnswerFault) (names : List (List ℕ)) (arisen : Outcome)
+      (entry : Option Entry)
       (steps : ℕ) → ((files : Files) × AreTold told files × Arises words files names arisen)
       → ((task : Task) → IsJob words task → (entry ≡ task.entry) × (steps ≡ task.steps))
       → Counts false faults faults' → Counts (is_missing arisen) misses misses'
       → IfSome (due_of names arisen) (λ due. IfOk r (λ ends. Pays due ends s.out s.out' s.err s.err'))
       → IfSome (due_of names arisen) (λ due. OnOk r (AreQuiet s))
       → IfSome (due_of names arisen)
-      (λ due. IfErr r (λ fault. Fails fault due s.out s.out' s.err s.err' s.faults s.faults' s.errors s.errors'))
+      (λ due. IfErr r (λ fault. Fails fault due s.out s.out' s.err s.err' s.faults s.faults' s.errors
+      s.errors'))
       → IfSome (due_of names arisen) (λ due. IsKept s)
       → IfRuns arisen (RunAnswers r s entry steps)
-      → HasEnded words told faults faults' misses misses' (answer_ends r) s
-  answered r names arisen entry steps found asked read missed pays quiet fails kept runs =
-      elim (due_or_runs names arisen) [
+      → (ends : Status) → ends ≡ answer_ends r → HasEnded words told faults faults' misses misses' ends s
+  answered r names arisen entry steps found asked read missed pays quiet fails kept runs ends is =
+      subst (λ e. HasEnded words told faults faults' misses misses' e s) (sym is)
+      (elim (due_or_runs names arisen) [
         | inl d ↦
             answered_due r found.0 names arisen d.0 found.1 found.2 d.1 read.1 missed
             (subst (λ o. IfSome o (λ due. IfOk r (λ ends. Pays due ends s.out s.out' s.err s.err'))) d.1 pays)
@@ -119,4 +124,44 @@ module _ (words : List (List ℕ)) (told : Option Files) (faults faults' misses 
             (subst (λ o. Arises words found.0 names o) p.1 found.2) asked read.1
             (subst (λ o. Counts (is_missing o) misses misses') p.1 missed).1
             (subst (λ o. IfRuns o (RunAnswers r s entry steps)) p.1 runs)
-      ]
+      ])
+
+  -- It isn't known what the files come to: the shelf failed, or memory ran out.
+  pub unanswered : (e : CheckFault) (ends : Status) → (is_read e ≡ true → FailsBehind words told)
+      → Counts (is_read e) faults faults' → FaultEnds e ends s.err s.err' s.errors s.errors'
+      → s.out' ≡ s.out → s.faults' ≡ s.faults → IsKept s
+      → HasEnded words told faults faults' misses misses' ends s
+  unanswered fault.Read ends behind risen ended out quiet kept = elim ended [
+    | inl p ↦
+        inr (inr (inr (inl (record {
+          behind = behind refl;
+          risen = risen.1;
+          pays =
+              record {
+                status = p.0;
+                out_bytes = subst (λ o. Adds s.out o []) (sym out) (adds_none s.out);
+                err_bytes = p.1;
+              };
+          quiet = (quiet, p.2);
+          kept = kept;
+        }))))
+    | inr p ↦
+        inr (inl (record {
+          ended = p.0;
+          due = due_line status.ReadFault read_fault_line;
+          owed = inr (risen.1, refl);
+          cut =
+              record {
+                out_bytes = (0, subst (λ o. Adds s.out o []) (sym out) (adds_none s.out));
+                err_bytes = p.1;
+                risen = inr (quiet, p.2);
+              };
+          kept = kept;
+        }))
+  ]
+  unanswered fault.Memory ends behind risen ended out quiet kept =
+      inr (inr (inl (record {
+        ended = ended.0;
+        untouched = record { out_bytes = out; err_bytes = ended.1; out_quiet = quiet; err_quiet = ended.2 };
+        kept = kept;
+      })))

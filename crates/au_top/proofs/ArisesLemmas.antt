@@ -1,5 +1,6 @@
 -- What words and files come to.
-use Rattle.std.proofs.Common.{◌≡◌, ◌≢◌, true, ℕ, ◌<◌, List, [], ◌∷◌, String, Option, Result, Ok, Err, Vec, length, map, ap, ◌∙◌, sym, refl, subst, arith, inl, inr}
+use Rattle.std.proofs.Common.{◌≡◌, ◌≢◌, true, ℕ, ◌<◌, List, [], ◌∷◌, String, Option, Result, Ok, Err, Vec}
+use Rattle.std.proofs.Common.{length, map, ap, ◌∙◌, sym, refl, subst, arith, inl, inr}
 use Rattle.std.specs.Global.{Global}
 use Rattle.std.specs.String.{string_bytes}
 use Rattle.std.proofs.lemmas.List.{length-map}
@@ -44,8 +45,10 @@ module _ (words names : List (List ℕ)) (task : Task) (files : Files) (aim : Ai
       (task, job, same, subst (λ asked. Asks asked files names (outcome.Runs program)) built comes)
 
 -- a job that asks for something that isn't built
-pub arises_unbuilt : (words names : List (List ℕ)) (task : Task) (files : Files) (what : Unbuilt) → IsJob words task
-    → names ≡ task.files → Err what ≡ asked_of task → Arises words files names (outcome.Refused (WordNotYet what))
+pub arises_unbuilt : (words names : List (List ℕ)) (task : Task) (files : Files) (what : Unbuilt)
+    → IsJob words task
+    → names ≡ task.files → Err what ≡ asked_of task
+    → Arises words files names (outcome.Refused (WordNotYet what))
 arises_unbuilt words names task files what job same is =
     (task, job, same, subst (λ asked. Asks asked files names (outcome.Refused (WordNotYet what))) is refl)
 
@@ -68,11 +71,13 @@ asks_outcome : (asked : Result Aim Unbuilt) (files : Files) (names : List (List 
 asks_outcome (Err what) files names arisen h = ap is_outcome h
 asks_outcome (Ok aim) files names arisen h = comes_outcome aim files names arisen h
 
-pub arises_outcome : (words : List (List ℕ)) (files : Files) (names : List (List ℕ)) (arisen : Outcome) → Arises words files names arisen → is_outcome arisen ≡ true
+pub arises_outcome : (words : List (List ℕ)) (files : Files) (names : List (List ℕ)) (arisen : Outcome)
+    → Arises words files names arisen → is_outcome arisen ≡ true
 arises_outcome words files names outcome.NoJob h = refl
 arises_outcome words files names (outcome.Missing other) h = refl
 arises_outcome words files names (outcome.Passes limit) h = refl
-arises_outcome words files names (outcome.Refused refusal) h = asks_outcome (asked_of h.0) files names (outcome.Refused refusal) h.3
+arises_outcome words files names (outcome.Refused refusal) h = asks_outcome (asked_of h.0) files names
+    (outcome.Refused refusal) h.3
 arises_outcome words files names outcome.Accepted h = refl
 arises_outcome words files names (outcome.Explained lives) h = refl
 arises_outcome words files names (outcome.Runs program) h = refl
@@ -89,31 +94,29 @@ asks_files words task aim job built idle = elim idle [
 ]
 
 -- a job that asks for too many files
-pub asks_many : (words : List (List ℕ)) (task : Task) (files : List (String Global)) → IsJob words task → map string_bytes files ≡ task.files → AsksForTooMany words → most_files < length files
+pub asks_many : (words : List (List ℕ)) (task : Task) (files : List (String Global)) → IsJob words task
+    → map string_bytes files ≡ task.files → AsksForTooMany words → most_files < length files
 asks_many words task files job same many =
     let one : task ≡ many.0 = one_job words task many.0 job many.1 in
-    let names : length (map string_bytes files) ≡ length many.0.files = ap length (same ∙ ap (λ (t : Task). t.files) one) in
+    let names : length (map string_bytes files) ≡ length many.0.files = ap length
+    (same ∙ ap (λ (t : Task). t.files) one) in
     omega (arith, length-map files string_bytes, many.2)
-
-some_length : (names : List (List ℕ)) → names ≢ [] → 0 < length names
-some_length [] some = absurd (some refl)
-some_length (name ∷ names) some = omega arith
-
--- a job has files
-pub some_files : (words : List (List ℕ)) (task : Task) (files : List (String Global)) → IsJob words task → map string_bytes files ≡ task.files → 0 < length files
-some_files words task files job same =
-    let named : task.files ≡ job.2.files = ap (λ (t : Task). t.files) job.5 in
-    let some : 0 < length task.files = some_length task.files (λ none. job.4.some (sym named ∙ none)) in
-    let many = ap length same in
-    omega (arith, length-map files string_bytes)
 
 -- where the shelf failed behind files of a job
 pub fails_behind : (words : List (List ℕ)) (told : Option Files) (task : Task) (aim : Aim)
-    (files names : List (String Global)) → IsJob words task → map string_bytes files ≡ task.files → names ≡ files
+    (files names : List (String Global)) → IsJob words task → map string_bytes files ≡ task.files
+    → names ≡ files
     → asked_of task ≡ Ok aim → StopsIn told (map string_bytes names) → FailsBehind words told
-fails_behind words told task aim files names job same list built stops =
-    (task, aim, job, built, subst (λ ns. StopsIn told ns) same (subst (λ (l : List (String Global)). StopsIn told (map string_bytes l)) list stops))
+fails_behind words told task aim files names job same list built stops = (
+  task,
+  aim,
+  job,
+  built,
+  subst (λ ns. StopsIn told ns) same
+      (subst (λ (l : List (String Global)). StopsIn told (map string_bytes l)) list stops),
+)
 
 -- a read fault is one that was counted
-pub read_risen : (e : CheckFault) (old new : ℕ) → e ≡ fault.Read → Counts (is_read e) old new → HasRisen old new
+pub read_risen : (e : CheckFault) (old new : ℕ) → e ≡ fault.Read → Counts (is_read e) old new
+    → HasRisen old new
 read_risen e old new is h = (subst (λ f. Counts (is_read f) old new) is h).1

@@ -1,5 +1,6 @@
 -- What words and files owe, and for which outcome it was paid.
-use Rattle.std.proofs.Common.{◌≡◌, ℕ, ◌+◌, ◌≤◌, Bool, true, false, List, length, Option, None, Some, Result, Ok, Err}
+use Rattle.std.proofs.Common.{◌≡◌, ℕ, ◌+◌, ◌≤◌, Bool, true, false, List, length, Option, None, Some, Result}
+use Rattle.std.proofs.Common.{Ok, Err}
 use Rattle.std.proofs.Common.{ap, ◌∙◌, sym, refl, subst, arith, ◌⊎◌, inl, inr, slice_get}
 use Rattle.std.specs.Prelude.{IsSomeAnd, if◌then◌else◌}
 use Rattle.au_base.specs.declared.statuses.Status.{Status}
@@ -56,7 +57,8 @@ is_arisen words files names (outcome.Explained lives) h = inr h
 is_arisen words files names (outcome.Runs program) h = inr h
 
 -- words that are a job come to something as one
-pub job_arises : (words : List (List ℕ)) (files : Files) (names : List (List ℕ)) (arisen : Outcome) (task : Task)
+pub job_arises : (words : List (List ℕ)) (files : Files) (names : List (List ℕ)) (arisen : Outcome)
+    (task : Task)
     → IsJob words task → Arises words files names arisen → JobComes words files names arisen
 job_arises words files names arisen task job arises = elim (is_arisen words files names arisen arises) [
   | inl p ↦ absurd (p.0 task job)
@@ -75,7 +77,8 @@ job_comes words files names arisen task aim job asked h =
     )
 
 -- the same of its names
-pub task_comes : (words : List (List ℕ)) (files : Files) (names : List (List ℕ)) (arisen : Outcome) (task : Task)
+pub task_comes : (words : List (List ℕ)) (files : Files) (names : List (List ℕ)) (arisen : Outcome)
+    (task : Task)
     (aim : Aim) → IsJob words task → asked_of task ≡ Ok aim → Arises words files names arisen
     → Comes aim files task.files arisen
 task_comes words files names arisen task aim job asked arises =
@@ -85,7 +88,8 @@ task_comes words files names arisen task aim job asked arises =
     subst (λ ns. Comes aim files ns arisen) (sym comes.0) comes.1
 
 -- a run asks to run
-life_asks : (life : Bool) → life ≡ false → ◌≡◌ {A = Result Aim Unbuilt} (if life then Err unbuilt.Life else Ok aims.Run) (Ok aims.Run)
+life_asks : (life : Bool) → life ≡ false → ◌≡◌ {A = Result Aim Unbuilt}
+    (if life then Err unbuilt.Life else Ok aims.Run) (Ok aims.Run)
 life_asks true h = cc
 life_asks false h = refl
 
@@ -112,7 +116,8 @@ same_due words files ns ms x y a b =
     let task : a.0 ≡ b.0 = one_job words a.0 b.0 a.1 b.1 in
     let names : ns ≡ ms = a.2 ∙ ap (λ (t : Task). t.files) task ∙ sym b.2 in
     let asks : Asks (asked_of b.0) files ms x =
-    subst (λ (t : Task). Asks (asked_of t) files ms x) task (subst (λ n. Asks (asked_of a.0) files n x) names a.3) in
+    subst (λ (t : Task). Asks (asked_of t) files ms x) task
+    (subst (λ n. Asks (asked_of a.0) files n x) names a.3) in
     ap (λ n. due_of n x) names ∙ due_same ms x y (asks_same (asked_of b.0) files ms x y asks b.3)
 
 -- One thing is due for words and files.
@@ -144,7 +149,8 @@ some_due (Some due) P h = (due, refl, h)
 
 -- what is due for all but a program that is to run
 pub due_or_runs : (names : List (List ℕ)) (arisen : Outcome)
-    → ((due : Due) × (due_of names arisen ≡ Some due)) ⊎ ((program : Modules) × (arisen ≡ outcome.Runs program))
+    → ((due : Due) × (due_of names arisen ≡ Some due)) ⊎ ((program : Modules)
+    × (arisen ≡ outcome.Runs program))
 due_or_runs names outcome.NoJob = inl (_, refl)
 due_or_runs names (outcome.Missing name) = inl (_, refl)
 due_or_runs names (outcome.Passes limit) = inl (_, refl)
@@ -188,22 +194,31 @@ module _ (names : List (List ℕ)) (ends : Status) (out out' err err' : Option (
   -- the line of a refusal was paid for a program that is refused
   pub refused_so : (arisen : Outcome) → is_outcome arisen ≡ true → IsPaidFor arisen → ends ≡ status.Refused
       → IsRefusedSo err err' names arisen
-  refused_so outcome.NoJob good h is = absurd (let e : status.Words ≡ status.Refused = sym h.status ∙ is in cc)
-  refused_so (outcome.Missing name) good h is = absurd (let e : status.Missing ≡ status.Refused = sym h.status ∙ is in cc)
-  refused_so (outcome.Passes limit) good h is = absurd (let e : status.Limit ≡ status.Refused = sym h.status ∙ is in cc)
+  refused_so outcome.NoJob good h is = absurd
+      (let e : status.Words ≡ status.Refused = sym h.status ∙ is in cc)
+  refused_so (outcome.Missing name) good h is = absurd
+      (let e : status.Missing ≡ status.Refused = sym h.status ∙ is in cc)
+  refused_so (outcome.Passes limit) good h is = absurd
+      (let e : status.Limit ≡ status.Refused = sym h.status ∙ is in cc)
   refused_so (outcome.Refused refusal) good h is = (refusal, good, refl, h.err_bytes)
-  refused_so outcome.Accepted good h is = absurd (let e : status.Success ≡ status.Refused = sym h.status ∙ is in cc)
-  refused_so (outcome.Explained lives) good h is = absurd (let e : status.Success ≡ status.Refused = sym h.status ∙ is in cc)
+  refused_so outcome.Accepted good h is = absurd
+      (let e : status.Success ≡ status.Refused = sym h.status ∙ is in cc)
+  refused_so (outcome.Explained lives) good h is = absurd
+      (let e : status.Success ≡ status.Refused = sym h.status ∙ is in cc)
   refused_so (outcome.Runs program) good h is = absurd h
 
   -- the line of a limit was paid for a limit that is passed
-  pub passed_so : (arisen : Outcome) → IsPaidFor arisen → ends ≡ status.Limit → HasPassed err err' names arisen
+  pub passed_so : (arisen : Outcome) → IsPaidFor arisen → ends ≡ status.Limit
+      → HasPassed err err' names arisen
   passed_so outcome.NoJob h is = absurd (let e : status.Words ≡ status.Limit = sym h.status ∙ is in cc)
-  passed_so (outcome.Missing name) h is = absurd (let e : status.Missing ≡ status.Limit = sym h.status ∙ is in cc)
+  passed_so (outcome.Missing name) h is = absurd
+      (let e : status.Missing ≡ status.Limit = sym h.status ∙ is in cc)
   passed_so (outcome.Passes limit) h is = (limit, refl, h.err_bytes)
-  passed_so (outcome.Refused refusal) h is = absurd (let e : status.Refused ≡ status.Limit = sym h.status ∙ is in cc)
+  passed_so (outcome.Refused refusal) h is = absurd
+      (let e : status.Refused ≡ status.Limit = sym h.status ∙ is in cc)
   passed_so outcome.Accepted h is = absurd (let e : status.Success ≡ status.Limit = sym h.status ∙ is in cc)
-  passed_so (outcome.Explained lives) h is = absurd (let e : status.Success ≡ status.Limit = sym h.status ∙ is in cc)
+  passed_so (outcome.Explained lives) h is = absurd
+      (let e : status.Success ≡ status.Limit = sym h.status ∙ is in cc)
   passed_so (outcome.Runs program) h is = absurd h
 
   -- the line of a missing file was paid for a file that is missing
@@ -211,19 +226,26 @@ module _ (names : List (List ℕ)) (ends : Status) (out out' err err' : Option (
       → IsMissingSo err err' names arisen
   missing_so outcome.NoJob h is = absurd (let e : status.Words ≡ status.Missing = sym h.status ∙ is in cc)
   missing_so (outcome.Missing name) h is = (name, refl, h.err_bytes)
-  missing_so (outcome.Passes limit) h is = absurd (let e : status.Limit ≡ status.Missing = sym h.status ∙ is in cc)
-  missing_so (outcome.Refused refusal) h is = absurd (let e : status.Refused ≡ status.Missing = sym h.status ∙ is in cc)
-  missing_so outcome.Accepted h is = absurd (let e : status.Success ≡ status.Missing = sym h.status ∙ is in cc)
-  missing_so (outcome.Explained lives) h is = absurd (let e : status.Success ≡ status.Missing = sym h.status ∙ is in cc)
+  missing_so (outcome.Passes limit) h is = absurd
+      (let e : status.Limit ≡ status.Missing = sym h.status ∙ is in cc)
+  missing_so (outcome.Refused refusal) h is = absurd
+      (let e : status.Refused ≡ status.Missing = sym h.status ∙ is in cc)
+  missing_so outcome.Accepted h is = absurd (let e : status.Success ≡ status.Missing = sym h.status ∙ is in
+      cc)
+  missing_so (outcome.Explained lives) h is = absurd
+      (let e : status.Success ≡ status.Missing = sym h.status ∙ is in cc)
   missing_so (outcome.Runs program) h is = absurd h
 
   -- success was paid for files that are accepted or explained
   pub succeeded_so : (arisen : Outcome) → IsPaidFor arisen → ends ≡ status.Success
       → HasSucceeded out out' names arisen
   succeeded_so outcome.NoJob h is = absurd (let e : status.Words ≡ status.Success = sym h.status ∙ is in cc)
-  succeeded_so (outcome.Missing name) h is = absurd (let e : status.Missing ≡ status.Success = sym h.status ∙ is in cc)
-  succeeded_so (outcome.Passes limit) h is = absurd (let e : status.Limit ≡ status.Success = sym h.status ∙ is in cc)
-  succeeded_so (outcome.Refused refusal) h is = absurd (let e : status.Refused ≡ status.Success = sym h.status ∙ is in cc)
+  succeeded_so (outcome.Missing name) h is = absurd
+      (let e : status.Missing ≡ status.Success = sym h.status ∙ is in cc)
+  succeeded_so (outcome.Passes limit) h is = absurd
+      (let e : status.Limit ≡ status.Success = sym h.status ∙ is in cc)
+  succeeded_so (outcome.Refused refusal) h is = absurd
+      (let e : status.Refused ≡ status.Success = sym h.status ∙ is in cc)
   succeeded_so outcome.Accepted h is = inl (refl, h.out_bytes)
   succeeded_so (outcome.Explained lives) h is = inr (lives, refl, h.out_bytes)
   succeeded_so (outcome.Runs program) h is = absurd h
@@ -232,11 +254,16 @@ module _ (names : List (List ℕ)) (ends : Status) (out out' err err' : Option (
   pub words_so : (words : List (List ℕ)) (files : Files) (arisen : Outcome) → Arises words files names arisen
       → IsPaidFor arisen → ends ≡ status.Words → IsNoJob words
   words_so words files outcome.NoJob arises h is = arises
-  words_so words files (outcome.Missing name) arises h is = absurd (let e : status.Missing ≡ status.Words = sym h.status ∙ is in cc)
-  words_so words files (outcome.Passes limit) arises h is = absurd (let e : status.Limit ≡ status.Words = sym h.status ∙ is in cc)
-  words_so words files (outcome.Refused refusal) arises h is = absurd (let e : status.Refused ≡ status.Words = sym h.status ∙ is in cc)
-  words_so words files outcome.Accepted arises h is = absurd (let e : status.Success ≡ status.Words = sym h.status ∙ is in cc)
-  words_so words files (outcome.Explained lives) arises h is = absurd (let e : status.Success ≡ status.Words = sym h.status ∙ is in cc)
+  words_so words files (outcome.Missing name) arises h is = absurd
+      (let e : status.Missing ≡ status.Words = sym h.status ∙ is in cc)
+  words_so words files (outcome.Passes limit) arises h is = absurd
+      (let e : status.Limit ≡ status.Words = sym h.status ∙ is in cc)
+  words_so words files (outcome.Refused refusal) arises h is = absurd
+      (let e : status.Refused ≡ status.Words = sym h.status ∙ is in cc)
+  words_so words files outcome.Accepted arises h is = absurd
+      (let e : status.Success ≡ status.Words = sym h.status ∙ is in cc)
+  words_so words files (outcome.Explained lives) arises h is = absurd
+      (let e : status.Success ≡ status.Words = sym h.status ∙ is in cc)
   words_so words files (outcome.Runs program) arises h is = absurd h
 
   -- words that are no job end so
@@ -255,7 +282,8 @@ module _ (names : List (List ℕ)) (ends : Status) (out out' err err' : Option (
   pub missing_is : (arisen : Outcome) → IsPaidFor arisen → ends ≡ status.Missing → is_missing arisen ≡ true
   missing_is arisen h is = ap is_missing (missing_so arisen h is).1
 
-  pub missing_no : (arisen : Outcome) → IsPaidFor arisen → (ends ≡ status.Missing → ⊥) → is_missing arisen ≡ false
+  pub missing_no : (arisen : Outcome) → IsPaidFor arisen → (ends ≡ status.Missing → ⊥)
+      → is_missing arisen ≡ false
   missing_no outcome.NoJob h other = refl
   missing_no (outcome.Missing name) h other = absurd (other h.status)
   missing_no (outcome.Passes limit) h other = refl
@@ -318,7 +346,8 @@ unread_halts words files names x unread arises =
     elim comes [
       | inl p ↦ absurd (many_or_few (length unread.0.files) p.0 unread.4)
       | inr p ↦
-          unread_few unread.1 files unread.0.files unread.5 unread.7 unread.8 x unread.6 unread.9 unread.10 p.1
+          unread_few unread.1 files unread.0.files unread.5 unread.7 unread.8 x unread.6 unread.9 unread.10
+          p.1
     ]
 
 -- ---- accepted files
@@ -336,8 +365,14 @@ job_accepted : (words : List (List ℕ)) (files : Files) (names : List (List ℕ
     → JobComes words files names arisen → is_behind arisen ≡ true → IsAcceptedJob words files
 unfolding JobComes
 job_accepted words files names arisen h behind =
-    let built = behind_built (asked_of h.0) files names arisen h.3 behind in
-    (h.0, built.0, h.1, built.1, subst (Accepted files) h.2 (behind_accepted built.0 files names arisen built.2 behind))
+    let built = behind_built (asked_of h.0) files names arisen h.3 behind in (
+      h.0,
+      built.0,
+      h.1,
+      built.1,
+      subst (Accepted files) h.2
+          (behind_accepted built.0 files names arisen built.2 behind),
+    )
 
 pub arises_accepted : (words : List (List ℕ)) (files : Files) (names : List (List ℕ)) (arisen : Outcome)
     → Arises words files names arisen → is_behind arisen ≡ true → IsAcceptedJob words files
@@ -361,7 +396,8 @@ task_accepted words files task job good =
     subst (Accepted files) (ap (λ (t : Task). t.files) one) good.4
 
 -- a check that comes to something behind is told to be accepted
-pub check_accepted : (words : List (List ℕ)) (files : Files) (names : List (List ℕ)) (arisen : Outcome) (task : Task)
+pub check_accepted : (words : List (List ℕ)) (files : Files) (names : List (List ℕ)) (arisen : Outcome)
+    (task : Task)
     → IsCheck words task → Arises words files names arisen → is_behind arisen ≡ true
     → arisen ≡ outcome.Accepted
 check_accepted words files names arisen task check arises past =
@@ -382,7 +418,8 @@ explain_tells words files names all arisen task reads job arises good =
 check_runs : (files : Files) (names : List (List ℕ)) (program : Modules)
     → Comes aims.Check files names (outcome.Runs program) → ⊥
 check_runs files names program h =
-    let e : outcome.Runs program ≡ outcome.Accepted = checked_accepted files names (outcome.Runs program) h refl in cc
+    let e : outcome.Runs program ≡ outcome.Accepted = checked_accepted files names
+    (outcome.Runs program) h refl in cc
 
 explain_runs : (files : Files) (names : List (List ℕ)) (program : Modules)
     → Comes aims.Explain files names (outcome.Runs program) → ⊥
@@ -409,7 +446,8 @@ life_runs task files names program false run is h = (run, is, h)
 command_runs : (task : Task) (files : Files) (names : List (List ℕ)) (program : Modules) (c : Command)
     → task.command ≡ c → Asks (asked_by task c) files names (outcome.Runs program)
     → RunAsked task files names program
-command_runs task files names program command.Run is h = life_runs task files names program task.life is refl h
+command_runs task files names program command.Run is h = life_runs task files names program task.life is refl
+    h
 command_runs task files names program command.Compile is h =
     absurd (let e : outcome.Runs program ≡ outcome.Refused (refusal.WordNotYet unbuilt.Compile) = h in cc)
 command_runs task files names program command.Explain is h = absurd (explain_runs files names program h)
@@ -453,8 +491,10 @@ run_halts program h = elim h [
 
 -- accepted files in which all forms are built, of a run, come to nothing for which something is due
 none_due : (names : List (List ℕ)) (reads : List ReadFile) (arisen : Outcome) (P : Due → Type 0)
-    → unbuilt_of (program_modules reads) ≡ None → RunComes reads arisen → IsSomeAnd (due_of names arisen) P → ⊥
-none_due names reads (outcome.Refused (refusal.NotYet at)) P none h paid = let e : None ≡ Some at = sym none ∙ h in cc
+    → unbuilt_of (program_modules reads) ≡ None → RunComes reads arisen → IsSomeAnd (due_of names arisen) P
+    → ⊥
+none_due names reads (outcome.Refused (refusal.NotYet at)) P none h paid = let e : None ≡ Some at = sym none
+    ∙ h in cc
 none_due names reads (outcome.Runs program) P none h paid = paid
 none_due names reads other P none h paid = h
 

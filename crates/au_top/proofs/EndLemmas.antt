@@ -26,8 +26,10 @@ use Rattle.au_outcomes.specs.declared.outcomes.Aim.TheVariants as aims
 use Rattle.au_outcomes.specs.declared.outcomes.Outcome.{Outcome}
 use Rattle.au_outcomes.specs.declared.outcomes.Outcome.TheVariants as outcome
 use Rattle.au_outcomes.proofs.AcceptedLemmas.{not_both}
-use Rattle.au_top.specs.Calls.{CameTo, FailsBehind, Fails, GoesBehind, HasProgram, IsCut, IsDone, IsMissingSo, IsPaid}
-use Rattle.au_top.specs.Calls.{IsRefused, IsRunBroken, IsRunCut, IsUntouched, MayOwe, PassesLimit, Pays, RunsAs}
+use Rattle.au_top.specs.Calls.{CameTo, FailsBehind, Fails, GoesBehind, HasProgram, IsCut, IsDone, IsMissingSo}
+use Rattle.au_top.specs.Calls.{IsPaid}
+use Rattle.au_top.specs.Calls.{IsRefused, IsRunBroken, IsRunCut, IsUntouched, MayOwe, PassesLimit, Pays}
+use Rattle.au_top.specs.Calls.{RunsAs}
 use Rattle.au_top.specs.Calls.{RunsSo, RunsTo, Succeeds, is_decided, is_run_end}
 use Rattle.au_top.specs.Dues.{Arises, Due, IsAcceptedJob, IsCheck, IsExplain, IsRun, IsUnread, Owes}
 use Rattle.au_top.specs.Dues.{accepted_due, due_line, due_of, explained_due}
@@ -41,7 +43,8 @@ use Rattle.au_top.proofs.RunLemmas as run
 use Rattle.au_words.proofs.JobLemmas.{one_job}
 
 -- the files that are told are these
-told_same : (told : Option Files) (known files : Files) → told ≡ Some files → AreTold told known → known ≡ files
+told_same : (told : Option Files) (known files : Files) → told ≡ Some files → AreTold told known
+    → known ≡ files
 told_same told known files is are = subst (λ t. AreTold t known) is are
 
 -- something else of the same run
@@ -137,13 +140,15 @@ module _ (words : List (List ℕ)) (told : Option Files) (faults faults' misses 
       → RunsTo words told ran s.left s.left' s.out s.out' s.err s.err'
   whole_to r ran is =
       run_with words told r
-      (subst (λ one. RanSo r.task.entry r.task.steps (slots.modules r.program) one s.left s.left' s.out s.out' s.err
+      (subst (λ one. RanSo r.task.entry r.task.steps
+      (slots.modules r.program) one s.left s.left' s.out s.out' s.err
       s.err') is r.run.done)
 
   -- its status is one of a run
   whole_not : {T : Type 0} (other : Status) → Whole → run.is_run other ≡ false → ends ≡ other → T
   whole_not other r none is =
-      not_both (run.is_run ends) (ap run.is_run r.run.status ∙ run.ran_ends r.run.ran) (ap run.is_run is ∙ none)
+      not_both (run.is_run ends) (ap run.is_run r.run.status ∙ run.ran_ends r.run.ran)
+      (ap run.is_run is ∙ none)
 
   -- how it ran, by the status
   whole_status : (r : Whole) (other : Status) → ends ≡ other → run_status r.run.ran ≡ other
@@ -177,10 +182,12 @@ module _ (words : List (List ℕ)) (told : Option Files) (faults faults' misses 
       → is_decided ends ≡ true → PaidFor one
   ended_only h files one is owes good = elim (decided h good) [
     | inl p ↦ due.paid_owed words files p.names p.arisen one PaidFor (paid_arises files is p) p.pays owes
-    | inr r ↦ absurd (due.run_owes words files one r.0.task.files r.0.program (whole_arises files is r.0) owes)
+    | inr r ↦ absurd (due.run_owes words files one r.0.task.files r.0.program
+        (whole_arises files is r.0) owes)
   ]
 
-  pub ended_unread : Ending → (files : Files) → told ≡ Some files → IsUnread words files → is_decided ends ≡ true
+  pub ended_unread : Ending → (files : Files) → told ≡ Some files → IsUnread words files
+      → is_decided ends ≡ true
       → (ends ≡ status.Refused) ⊎ (ends ≡ status.Limit)
   ended_unread h files is unread good = elim (decided h good) [
     | inl p ↦
@@ -188,7 +195,8 @@ module _ (words : List (List ℕ)) (told : Option Files) (faults faults' misses 
         (due.unread_halts words files p.names p.arisen unread (paid_arises files is p))
     | inr r ↦
         absurd (due.run_halts r.0.program
-        (due.unread_halts words files r.0.task.files (outcome.Runs r.0.program) unread (whole_arises files is r.0)))
+        (due.unread_halts words files r.0.task.files (outcome.Runs r.0.program) unread
+        (whole_arises files is r.0)))
   ]
 
   -- ---- accepted files
@@ -228,7 +236,8 @@ module _ (words : List (List ℕ)) (told : Option Files) (faults faults' misses 
               subst (λ o. IsSomeAnd (due_of p.names o) PaidFor)
               (due.check_accepted words files p.names p.arisen task check arises past) p.pays
           | inr r ↦
-              let said = due.check_accepted words files r.0.task.files (outcome.Runs r.0.program) task check (whole_arises files is r.0) refl in
+              let said = due.check_accepted words files r.0.task.files (outcome.Runs r.0.program) task check
+              (whole_arises files is r.0) refl in
               absurd (let e : outcome.Runs r.0.program ≡ outcome.Accepted = said in cc)
         ],
     λ pays. elim (decided h good) [
@@ -238,7 +247,8 @@ module _ (words : List (List ℕ)) (told : Option Files) (faults faults' misses 
           (due.arises_accepted words files p.names p.arisen (paid_arises files is p) past)
       | inr r ↦
           due.task_accepted words files task check.0
-          (due.arises_accepted words files r.0.task.files (outcome.Runs r.0.program) (whole_arises files is r.0)
+          (due.arises_accepted words files r.0.task.files (outcome.Runs r.0.program)
+          (whole_arises files is r.0)
           refl)
     ],
   )
@@ -250,9 +260,11 @@ module _ (words : List (List ℕ)) (told : Option Files) (faults faults' misses 
   ended_explained h files task all reads is job good accepted = elim (decided h good) [
     | inl p ↦
         subst (λ o. IsSomeAnd (due_of p.names o) PaidFor)
-        (due.explain_tells words files p.names all p.arisen task reads job (paid_arises files is p) accepted) p.pays
+        (due.explain_tells words files p.names all p.arisen task reads job
+        (paid_arises files is p) accepted) p.pays
     | inr r ↦
-        let told_so = due.explain_tells words files r.0.task.files all (outcome.Runs r.0.program) task reads job (whole_arises files is r.0) accepted in
+        let told_so = due.explain_tells words files r.0.task.files all
+        (outcome.Runs r.0.program) task reads job (whole_arises files is r.0) accepted in
         absurd (let e : outcome.Runs r.0.program ≡ outcome.Explained (read_lives reads) = told_so in cc)
   ]
 
@@ -285,21 +297,24 @@ module _ (words : List (List ℕ)) (told : Option Files) (faults faults' misses 
       → told ≡ Some files → IsRun words task → is_decided ends ≡ true
       → AreAcceptedAs files task.files all reads → unbuilt_of (program_modules reads) ≡ None
       → HasRunAs task.entry task.steps (program_modules reads) ends s.left s.left' s.out s.out' s.err s.err'
+  unfolding whole_as run_with
   ended_runs h files task all reads is job good accepted none = elim (decided h good) [
     | inl p ↦
         absurd (due.run_unpaid words files p.names all p.arisen task reads PaidFor job accepted none
         (paid_arises files is p) p.pays)
     | inr r ↦
         let one : r.0.task ≡ task = one_job words r.0.task task r.0.job.0 job.0 in
-        let as = whole_as r.0 in
+        let whole = whole_as r.0 in
         let of_task =
-        subst (λ (t : Task). HasRunAs t.entry t.steps (slots.modules r.0.program) ends s.left s.left' s.out s.out'
-        s.err s.err') one as.run in
+        subst (λ (t : Task). HasRunAs t.entry t.steps
+        (slots.modules r.0.program) ends s.left s.left' s.out s.out'
+        s.err s.err') one whole.run in
         let comes : Comes aims.Run files task.files (outcome.Runs r.0.program) =
         subst (λ f. Comes aims.Run f task.files (outcome.Runs r.0.program))
         (told_same told r.0.files files is r.0.are_told)
         (subst (λ (t : Task). Comes aims.Run r.0.files t.files (outcome.Runs r.0.program)) one r.0.comes) in
-        subst (λ program. HasRunAs task.entry task.steps program ends s.left s.left' s.out s.out' s.err s.err')
+        subst (λ program. HasRunAs task.entry task.steps program ends s.left s.left' s.out s.out' s.err
+        s.err')
         (due.run_modules files task.files all reads r.0.program accepted comes) of_task
   ]
 
@@ -309,11 +324,13 @@ module _ (words : List (List ℕ)) (told : Option Files) (faults faults' misses 
       → AreAcceptedAs files task.files all reads → unbuilt_of (program_modules reads) ≡ None
       → IsShown task.entry task.steps (program_modules reads) ends s.left s.left' s.out s.out' s.err s.err'
   ended_shown h files task all reads is job good accepted none =
-      run.run_shown task.entry task.steps (program_modules reads) accepted.declared ends s.left s.left' s.out s.out'
+      run.run_shown task.entry task.steps (program_modules reads) accepted.declared ends s.left s.left' s.out
+      s.out'
       s.err s.err' (ended_runs h files task all reads is job good accepted none)
 
   -- the end of a run that has begun is success, or none that is paid
-  run_end_success : (ended : Status) → is_run_end ended ≡ true → due.is_owed ended ≡ true → ended ≡ status.Success
+  run_end_success : (ended : Status) → is_run_end ended ≡ true → due.is_owed ended ≡ true
+      → ended ≡ status.Success
   run_end_success status.Success a b = refl
   run_end_success status.Failure a b = absurd cc
   run_end_success status.Refused a b = absurd cc
@@ -393,12 +410,14 @@ module _ (words : List (List ℕ)) (told : Option Files) (faults faults' misses 
     | inr r ↦ whole_not status.Missing r.0 refl is
   ]
 
-  pub ended_success : Ending → ends ≡ status.Success → Succeeds words told s.left s.left' s.out s.out' s.err s.err'
+  pub ended_success : Ending → ends ≡ status.Success
+      → Succeeds words told s.left s.left' s.out s.out' s.err s.err'
   ended_success h is = elim (decided h (ap is_decided is)) [
     | inl p ↦
         inl (paid_came _ p (due.succeeded_so p.names ends s.out s.out' s.err s.err' p.arisen p.pays is))
     | inr r ↦
-        inr (whole_to r.0 (how.Exit true) (run.exit_ran true r.0.run.ran (whole_status r.0 status.Success is)))
+        inr (whole_to r.0 (how.Exit true) (run.exit_ran true r.0.run.ran
+        (whole_status r.0 status.Success is)))
   ]
 
   pub ended_failure : Ending → ends ≡ status.Failure
@@ -428,7 +447,8 @@ module _ (words : List (List ℕ)) (told : Option Files) (faults faults' misses 
   pub ended_write : Ending → ends ≡ status.WriteFault
       → ((one : Due) × MayOwe words told faults faults' one
       × IsCut one s.out s.out' s.err s.err' s.faults s.faults' s.errors s.errors')
-      ⊎ RunsSo words told (λ named steps program. IsRunCut named steps program s.left s.left' s.out s.out' s.err
+      ⊎ RunsSo words told (λ named steps program. IsRunCut named steps program s.left s.left' s.out s.out'
+      s.err
       s.err' s.faults s.faults' s.errors s.errors')
   ended_write h is = elim h [
     | inl p ↦ paid_not status.WriteFault p refl is
@@ -452,7 +472,8 @@ module _ (words : List (List ℕ)) (told : Option Files) (faults faults' misses 
 
   pub ended_memory : Ending → ends ≡ status.Memory
       → IsUntouched s.out s.out' s.err s.err' s.faults s.faults' s.errors s.errors'
-      ⊎ RunsSo words told (λ named steps program. IsRunBroken named steps program s.left s.out s.out' s.err s.err'
+      ⊎ RunsSo words told (λ named steps program. IsRunBroken named steps program s.left s.out s.out' s.err
+      s.err'
       s.faults s.faults' s.errors s.errors')
   ended_memory h is = elim h [
     | inl p ↦ paid_not status.Memory p refl is
@@ -488,7 +509,8 @@ module _ (words : List (List ℕ)) (told : Option Files) (faults faults' misses 
 
   pub ended_read : Ending → ends ≡ status.ReadFault
       → ((FailsBehind words told × HasRisen faults faults')
-      ⊎ (RunsTo words told how.ReadFault s.left s.left' s.out s.out' s.err s.err' × HasRisen s.lapses s.lapses'))
+      ⊎ (RunsTo words told how.ReadFault s.left s.left' s.out s.out' s.err s.err'
+      × HasRisen s.lapses s.lapses'))
       × (s.faults' ≡ s.faults) × (s.errors' ≡ s.errors)
   ended_read h is = elim h [
     | inl p ↦ paid_not status.ReadFault p refl is
@@ -542,7 +564,8 @@ module _ (words : List (List ℕ)) (told : Option Files) (faults faults' misses 
   ]
 
   -- what a program ran that is to run
-  runs_program : {P : Option Entry → ℕ → List ModuleParts → Type 0} → RunsSo words told P → HasProgram words told
+  runs_program : {P : Option Entry → ℕ → List ModuleParts → Type 0} → RunsSo words told P
+      → HasProgram words told
   runs_program r = (
     r.files,
     r.are_told,

@@ -1,6 +1,8 @@
 -- What a call has done that ran a program.
-use Rattle.std.proofs.Common.{◌≡◌, ◌+◌, ℕ, Bool, true, false, cond, List, ◌++◌, length, take, Option, None, Some, IfSome}
-use Rattle.std.proofs.Common.{Result, Ok, Err, IfOk, OnOk, OnErr, option_map, ap, ◌∙◌, sym, refl, subst, ◌⊎◌, inl, inr}
+use Rattle.std.proofs.Common.{◌≡◌, ◌+◌, ℕ, Bool, true, false, cond, List, [], ◌++◌, length, take, Option}
+use Rattle.std.proofs.Common.{None, Some, IfSome}
+use Rattle.std.proofs.Common.{Result, Ok, Err, IfOk, OnOk, OnErr, option_map, ap, ◌∙◌, sym, refl, subst, ◌⊎◌}
+use Rattle.std.proofs.Common.{inl, inr}
 use Rattle.std.proofs.lemmas.List.{append-nil}
 use Rattle.std.proofs.Math.Seq.{take-append-add}
 use Rattle.au_base.specs.declared.names.Entry.{Entry}
@@ -173,13 +175,15 @@ takes_whole told (Some bytes) taken rest h =
     subst (λ t. IfSome t (λ one. one ≡ taken ++ rest)) (sym h.before) (ap (λ r. taken ++ r) h.after)
 
 -- all that was written is a front of what goes on from it
-begun_front : (out out' : Option (List ℕ)) (written whole : List ℕ) → Adds out out' written → Begins written whole
+begun_front : (out out' : Option (List ℕ)) (written whole : List ℕ) → Adds out out' written
+    → Begins written whole
     → AddsFront out out' whole
 begun_front out out' written whole adds begins =
     let same : take (length written + 0) (written ++ begins.0) ≡ written =
     take-append-add written begins.0 0 ∙ append-nil written in (
       length written + 0,
-      subst (λ w. Adds out out' (take (length written + 0) w)) (sym begins.1) (subst (Adds out out') (sym same) adds),
+      subst (λ w. Adds out out' (take (length written + 0) w)) (sym begins.1)
+          (subst (Adds out out') (sym same) adds),
     )
 
 -- what is shown was written, or is a front of what is meant
@@ -195,7 +199,7 @@ shown_begins spent meant steps written rest h = h.to
 module _ (program : List ModuleParts) (noted : List NotedParts) (owner name : Bytes) (steps : ℕ) where
   -- a run that was made is one of which a front was written
   made_broken : (ends : Ended) (told left out out' : Option (List ℕ))
-      → HasRun program noted owner name (EndsSo program noted owner name ends steps) told left out out'
+      → HasRun program noted owner name (EndsSo ends steps) told left out out'
       → IsBroken program noted owner name steps told out out'
   made_broken ends told left out out' h =
       record {
@@ -206,7 +210,8 @@ module _ (program : List ModuleParts) (noted : List NotedParts) (owner name : By
         front =
             λ runnable sound.
             begun_front out out' h.written _ h.output
-            (shown_begins ends (means program noted h.closes.entry (h.taken ++ h.rest)) steps h.written h.rest
+            (shown_begins ends (means program noted h.closes.entry
+            (h.taken ++ h.rest)) steps h.written h.rest
             (h.meant runnable sound));
       }
 
@@ -311,7 +316,8 @@ module _ (named : Option Entry) (steps : ℕ) (program : List ModuleParts) where
         )
 
     -- a run that was made, and what was said of it
-    pub run_said : (r : Result Status AnswerFault) (entry : Entry) (ran : Ran) → entry ≡ entry_for named program
+    pub run_said : (r : Result Status AnswerFault) (entry : Entry) (ran : Ran)
+        → entry ≡ entry_for named program
         → is_write_fault ran ≡ false
         → HasRan named steps program ran s.left s.left' s.out s.out'
         → Rose (is_read_fault ran) s.lapses s.lapses' → Rose (is_write_fault ran) s.faults s.faults'
@@ -332,7 +338,14 @@ module _ (named : Option Entry) (steps : ℕ) (program : List ModuleParts) where
           quiet = (subst (λ b. Rose b s.faults s.faults') none stays, errors);
         }
     run_said (Err answer.Write) entry ran is none h rose stays same adds errors front risen memory =
-        inr (ran, h, subst (λ e. AddsFront s.err s.err' (run_line e steps ran)) is (front refl), subst (λ b. Rose b s.faults s.faults') none stays, risen refl)
+        inr (
+          ran,
+          h,
+          subst (λ e. AddsFront s.err s.err' (run_line e steps ran)) is (front refl),
+          subst
+              (λ b. Rose b s.faults s.faults') none stays,
+          risen refl,
+        )
     run_said (Err answer.Memory) entry ran is none h rose stays same adds errors front risen memory =
         let kept = memory refl in
         ran_stopped ran h kept.0 (subst (λ b. Rose b s.faults s.faults') none stays, kept.1)
@@ -343,8 +356,7 @@ module _ (named : Option Entry) (steps : ℕ) (program : List ModuleParts) where
     made_shown : (ends : Ended) (told left out out' : Option (List ℕ)) (noted : List NotedParts)
         → IsDerived program noted
         → HasRun program noted (entry_for named program).«module» (entry_for named program).function
-        (EndsSo program noted (entry_for named program).«module» (entry_for named program).function ends steps)
-        told left out out'
+        (EndsSo ends steps) told left out out'
         → HasShown named steps program ends told left out out'
     made_shown ends told left out out' noted derived h =
         record {

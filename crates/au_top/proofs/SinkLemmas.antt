@@ -1,5 +1,6 @@
 -- Lines that were said, and lives that were told, or were cut.
-use Rattle.std.proofs.Common.{◌≡◌, ℕ, List, Option, Result, Ok, Err, OnOk, OnErr, IfOk, IfErr, IsOkUnless, refl, inl, inr}
+use Rattle.std.proofs.Common.{◌≡◌, ℕ, List, Option, Result, Ok, Err, OnOk, OnErr, IfOk, IfErr, IsOkUnless}
+use Rattle.std.proofs.Common.{refl, inl, inr}
 use Rattle.au_base.specs.declared.statuses.Status.{Status}
 use Rattle.au_base.specs.declared.statuses.Status.TheVariants as status
 use Rattle.au_base.specs.Outside.{Adds, AddsFront, HasRisen}
@@ -12,18 +13,25 @@ use Rattle.au_top.specs.declared.saying.AnswerFault.TheVariants as answer
 use Rattle.au_base.proofs.OutsideLemmas.{adds_none}
 
 -- a line that was said, or was cut
-pub said_pays : (r : Result Status AnswerFault) (ends : Status) (text : List ℕ) (out err err' : Option (List ℕ)) → IfOk r (λ s. s ≡ ends) → OnOk r (Adds err err' text) →
+pub said_pays : (r : Result Status AnswerFault) (ends : Status) (text : List ℕ)
+    (out err err' : Option (List ℕ)) → IfOk r (λ s. s ≡ ends) → OnOk r (Adds err err' text) →
     IfOk r (λ s. Pays (due_line ends text) s out out err err')
-said_pays (Ok s) ends text out err err' same adds = record { status = same; out_bytes = adds_none out; err_bytes = adds }
+said_pays (Ok s) ends text out err err' same adds = record {
+  status = same;
+  out_bytes = adds_none out;
+  err_bytes = adds;
+}
 said_pays (Err e) ends text out err err' same adds = tt
 
-pub said_fails : (r : Result Status AnswerFault) (ends : Status) (text : List ℕ) (out err err' : Option (List ℕ)) (faults errors errors' : ℕ) →
+pub said_fails : (r : Result Status AnswerFault) (ends : Status) (text : List ℕ)
+    (out err err' : Option (List ℕ)) (faults errors errors' : ℕ) →
     IsOkUnless r answer.Write → OnErr r (AddsFront err err' text) → OnErr r (HasRisen errors errors') →
     IfErr r (λ e. Fails e (due_line ends text) out out err err' faults faults errors errors')
 said_fails (Ok s) ends text out err err' faults errors errors' unless front risen = tt
 said_fails (Err answer.Write) ends text out err err' faults errors errors' unless front risen =
     record { out_bytes = (0, adds_none out); err_bytes = front; risen = inr (refl, risen) }
-said_fails (Err answer.Memory) ends text out err err' faults errors errors' unless front risen = let e : answer.Memory ≡ answer.Write = unless in cc
+said_fails (Err answer.Memory) ends text out err err' faults errors errors' unless front risen = let e :
+    answer.Memory ≡ answer.Write = unless in cc
 
 -- lives that were told, or were cut
 pub lives_pay : (r : Result Status AnswerFault) (lives : Lives) (out out' err : Option (List ℕ))

@@ -58,22 +58,28 @@ pub record Pays (due : Due) (ends : Status) (out out' err err' : Option (List �
   pub err_bytes : Adds err err' due.err
 
 -- One sink failed: a front of what is due stands on each, and where `out` failed `err` is as it was.
-pub record IsCut (due : Due) (out out' err err' : Option (List ℕ)) (faults faults' errors errors' : ℕ) : Type 0 where
+pub record IsCut (due : Due) (out out' err err' : Option (List ℕ))
+    (faults faults' errors errors' : ℕ) : Type 0 where
   pub out_bytes : AddsFront out out' due.out
   pub err_bytes : AddsFront err err' due.err
-  pub risen : (HasRisen faults faults' × (err' ≡ err) × (errors' ≡ errors)) ⊎ ((faults' ≡ faults) × HasRisen errors errors')
+  pub risen : (HasRisen faults faults' × (err' ≡ err) × (errors' ≡ errors)) ⊎ ((faults' ≡ faults)
+      × HasRisen errors errors')
 
 -- Nothing was written, and no sink failed.
-pub record IsUntouched (out out' err err' : Option (List ℕ)) (faults faults' errors errors' : ℕ) : Type 0 where
+pub record IsUntouched (out out' err err' : Option (List ℕ))
+    (faults faults' errors errors' : ℕ) : Type 0 where
   pub out_bytes : out' ≡ out
   pub err_bytes : err' ≡ err
   pub out_quiet : faults' ≡ faults
   pub err_quiet : errors' ≡ errors
 
 -- what a fault of an answer says of both sinks
-abbrev pub Fails : AnswerFault → Due → (out out' err err' : Option (List ℕ)) → (faults faults' errors errors' : ℕ) → Type 0
-Fails answer.Write due out out' err err' faults faults' errors errors' = IsCut due out out' err err' faults faults' errors errors'
-Fails answer.Memory due out out' err err' faults faults' errors errors' = IsUntouched out out' err err' faults faults' errors errors'
+abbrev pub Fails : AnswerFault → Due → (out out' err err' : Option (List ℕ))
+    → (faults faults' errors errors' : ℕ) → Type 0
+Fails answer.Write due out out' err err' faults faults' errors errors' = IsCut due out out' err err' faults
+    faults' errors errors'
+Fails answer.Memory due out out' err err' faults faults' errors errors' = IsUntouched out out' err err'
+    faults faults' errors errors'
 
 -- What a call with these words may owe: what the words and the files that are told owe, or, where the
 -- count of the shelf's faults rose, the line that says so.
@@ -83,18 +89,20 @@ MayOwe words told faults faults' due =
     ⊎ (HasRisen faults faults' × (due ≡ due_line status.ReadFault read_fault_line))
 
 -- The call has paid all that it owed.
-abbrev pub IsPaid : List (List ℕ) → Option Files → ℕ → ℕ → Status → (out out' err err' : Option (List ℕ)) → Type 0
+abbrev pub IsPaid : List (List ℕ) → Option Files → ℕ → ℕ → Status → (out out' err err' : Option (List ℕ))
+    → Type 0
 IsPaid words told faults faults' ends out out' err err' =
     (due : Due) × MayOwe words told faults faults' due × Pays due ends out out' err err'
 
--- Words and files, of those that are told, have come to an outcome of which P holds, by the names of the files.
+-- Words and files, of those that are told, have come to an outcome of which P holds, by the names of the
+-- files.
 abbrev pub CameTo : List (List ℕ) → Option Files → (List (List ℕ) → Outcome → Type 0) → Type 0
 CameTo words told P =
     (files : Files) × AreTold told files × (names : List (List ℕ)) × (arisen : Outcome)
     × Arises words files names arisen × P names arisen
 
--- The words are a job that asks for nothing that isn't built, its files are as few as they may be, and those before
--- one of them can be had, of those that are told.
+-- The words are a job that asks for nothing that isn't built, its files are as few as they may be, and those
+-- before one of them can be had, of those that are told.
 abbrev pub FailsBehind : List (List ℕ) → Option Files → Type 0
 FailsBehind words told =
     (task : Task) × (aim : Aim) × IsJob words task × (asked_of task ≡ Ok aim) × StopsIn told task.files
@@ -154,7 +162,8 @@ pub record RunsSo (words : List (List ℕ)) (told : Option Files)
   pub run : P task.entry task.steps (slots.modules program)
 
 -- It ran so, and the line that is due stands on `err`.
-abbrev pub RunsTo : List (List ℕ) → Option Files → Ran → (left left' out out' err err' : Option (List ℕ)) → Type 0
+abbrev pub RunsTo : List (List ℕ) → Option Files → Ran → (left left' out out' err err' : Option (List ℕ))
+    → Type 0
 RunsTo words told ran left left' out out' err err' =
     RunsSo words told (λ named steps program. RanSo named steps program ran left left' out out' err err')
 
@@ -173,14 +182,16 @@ IsDone words told faults faults' ends left left' out out' err err' =
 
 -- What the words ask for is refused and the line of it stands on `err`, or their program ran, and has no such
 -- entry, or is stuck.
-abbrev pub IsRefused : List (List ℕ) → Option Files → (left left' out out' err err' : Option (List ℕ)) → Type 0
+abbrev pub IsRefused : List (List ℕ) → Option Files → (left left' out out' err err' : Option (List ℕ))
+    → Type 0
 IsRefused words told left left' out out' err err' =
     CameTo words told (IsRefusedSo err err')
     ⊎ (RunsTo words told how.NoEntry left left' out out' err err'
     ⊎ RunsTo words told how.Stuck left left' out out' err err')
 
 -- The line of a limit stands on `err` that words or files pass, or that their program passes which is to run.
-abbrev pub PassesLimit : List (List ℕ) → Option Files → (left left' out out' err err' : Option (List ℕ)) → Type 0
+abbrev pub PassesLimit : List (List ℕ) → Option Files → (left left' out out' err err' : Option (List ℕ))
+    → Type 0
 PassesLimit words told left left' out out' err err' =
     CameTo words told (HasPassed err err')
     ⊎ ((limit : Limit) × RunsTo words told (how.Limit limit) left left' out out' err err')
@@ -192,7 +203,8 @@ Succeeds words told left left' out out' err err' =
 
 -- Nothing was refused by the steps that judge whether files are accepted: what came behind them was paid, or
 -- the program has run, whatever the run came to.
-abbrev pub GoesBehind : List (List ℕ) → Option Files → Status → (left left' out out' err err' : Option (List ℕ))
+abbrev pub GoesBehind : List (List ℕ) → Option Files → Status
+    → (left left' out out' err err' : Option (List ℕ))
     → Type 0
 GoesBehind words told ends left left' out out' err err' =
     CameTo words told (HasComeBehind ends out out' err err')
@@ -203,7 +215,8 @@ GoesBehind words told ends left left' out out' err err' =
 abbrev pub IsRunCut : Option Entry → ℕ → List ModuleParts → (left left' out out' err err' : Option (List ℕ))
     → (faults faults' errors errors' : ℕ) → Type 0
 IsRunCut named steps program left left' out out' err err' faults faults' errors errors' =
-    (IsBrokenOff named steps program left out out' × HasRisen faults faults' × (err' ≡ err) × (errors' ≡ errors))
+    (IsBrokenOff named steps program left out out' × HasRisen faults faults' × (err' ≡ err)
+    × (errors' ≡ errors))
     ⊎ ((ran : Ran) × HasRan named steps program ran left left' out out'
     × AddsFront err err' (run_line (entry_for named program) steps ran)
     × (faults' ≡ faults) × HasRisen errors errors')

@@ -19,8 +19,8 @@ use Rattle.au_outcomes.specs.declared.outcomes.Outcome.{Outcome}
 use Rattle.au_outcomes.specs.declared.outcomes.Outcome.TheVariants as outcome
 use Rattle.au_top.specs.Jobs.{asked_of}
 
--- What a job of files of these names comes to: where it asks for this that isn't built it is refused, whatever
--- the files are, and where it asks for no such thing the files come to it.
+-- What a job of files of these names comes to: where it asks for this that isn't built it is refused,
+-- whatever the files are, and where it asks for no such thing the files come to it.
 abbrev pub Asks : Result Aim Unbuilt → Files → List (List ℕ) → Outcome → Type 0
 Asks (Err what) files names arisen = arisen ≡ outcome.Refused (WordNotYet what)
 Asks (Ok aim) files names arisen = Comes aim files names arisen
@@ -71,10 +71,11 @@ due_of names (outcome.Runs program) = None
 -- The call with these words, over these files, owes this.
 abbrev pub Owes : List (List ℕ) → Files → Due → Type 0
 Owes words files due =
-    (names : List (List ℕ)) × (arisen : Outcome) × Arises words files names arisen × (due_of names arisen ≡ Some due)
+    (names : List (List ℕ)) × (arisen : Outcome) × Arises words files names arisen
+    × (due_of names arisen ≡ Some due)
 
--- The words are a job that asks for nothing that isn't built, its files can be had and are few enough, and one of
--- them is cut into tokens within the limits, which have no tree.
+-- The words are a job that asks for nothing that isn't built, its files can be had and are few enough, and
+-- one of them is cut into tokens within the limits, which have no tree.
 abbrev pub IsUnread : List (List ℕ) → Files → Type 0
 IsUnread words files =
     (task : Task) × (aim : Aim) × IsJob words task × (asked_of task ≡ Ok aim)

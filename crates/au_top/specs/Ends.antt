@@ -3,7 +3,7 @@ use Rattle.std.specs.Prelude.{◌≡◌, ◌⊎◌, ℕ, false, List, Option, Is
 use Rattle.au_base.specs.declared.names.Entry.{Entry}
 use Rattle.au_base.specs.declared.statuses.Status.{Status}
 use Rattle.au_base.specs.declared.statuses.Status.TheVariants as status
-use Rattle.au_base.specs.Outside.{Counts, Files, HasRisen}
+use Rattle.au_base.specs.Outside.{Adds, AddsFront, Counts, Files, HasRisen}
 use Rattle.au_modules.specs.declared.modules.Modules.{Modules}
 use Rattle.au_modules.specs.Programs.{ModuleParts}
 use Rattle.au_modules.specs.Slots as slots
@@ -12,6 +12,8 @@ use Rattle.au_runs.specs.Calls.{Rose}
 use Rattle.au_running.specs.Ran.{is_read_fault, is_write_fault}
 use Rattle.au_running.specs.declared.ran.Ran.{Ran}
 use Rattle.au_outcomes.specs.Halts.{AreTold, is_missing}
+use Rattle.au_outcomes.specs.declared.halts.CheckFault.{CheckFault}
+use Rattle.au_outcomes.specs.declared.halts.CheckFault.TheVariants as fault
 use Rattle.au_outcomes.specs.declared.outcomes.Outcome.{Outcome}
 use Rattle.au_outcomes.specs.declared.outcomes.Outcome.TheVariants as outcome
 use Rattle.au_top.specs.Calls.{FailsBehind, IsCut, IsRunBroken, IsRunCut, IsUntouched, MayOwe, Pays, RunsSo}
@@ -20,8 +22,8 @@ use Rattle.au_top.specs.Runs.{RanSo, run_status}
 use Rattle.au_top.specs.declared.saying.AnswerFault.{AnswerFault}
 use Rattle.au_top.specs.declared.saying.AnswerFault.TheVariants as answer
 
--- the streams of a call, before it and behind it: what is left of the input, what stands on `out` and on `err`,
--- and how often each failed
+-- the streams of a call, before it and behind it: what is left of the input, what stands on `out` and on
+-- `err`, and how often each failed
 pub record Streams : Type 0 where
   pub left : Option (List ℕ)
   pub left' : Option (List ℕ)
@@ -64,8 +66,24 @@ IsRunStopped s named steps program =
 abbrev pub RunAnswers : Result Status AnswerFault → Streams → Option Entry → ℕ → List ModuleParts → Type 0
 RunAnswers (Ok ends) s named steps program = IsRunWhole ends s named steps program
 RunAnswers (Err answer.Write) s named steps program =
-    IsRunCut named steps program s.left s.left' s.out s.out' s.err s.err' s.faults s.faults' s.errors s.errors'
+    IsRunCut named steps program s.left s.left' s.out s.out' s.err s.err' s.faults s.faults' s.errors
+    s.errors'
 RunAnswers (Err answer.Memory) s named steps program = IsRunStopped s named steps program
+
+-- the status with which a call ends that has got this answer
+abbrev pub answer_ends : Result Status AnswerFault → Status
+answer_ends (Ok ends) = ends
+answer_ends (Err answer.Write) = status.WriteFault
+answer_ends (Err answer.Memory) = status.Memory
+
+-- How a call ended, and what it did to `err`, where it isn't known what the files come to: the shelf failed,
+-- and the line that says so stands there, or `err` failed too; or memory ran out.
+abbrev pub FaultEnds : CheckFault → Status → (err err' : Option (List ℕ)) → (errors errors' : ℕ) → Type 0
+FaultEnds fault.Read ends err err' errors errors' =
+    ((ends ≡ status.ReadFault) × Adds err err' read_fault_line × (errors' ≡ errors))
+    ⊎ ((ends ≡ status.WriteFault) × AddsFront err err' read_fault_line × HasRisen errors errors')
+FaultEnds fault.Memory ends err err' errors errors' =
+    (ends ≡ status.Memory) × (err' ≡ err) × (errors' ≡ errors)
 
 -- P holds of the modules of an outcome that is a program to run.
 abbrev pub IfRuns : Outcome → (List ModuleParts → Type 0) → Type 0
@@ -77,7 +95,8 @@ abbrev pub RunEnds : Status → Streams → Option Entry → ℕ → List Module
 RunEnds ends s named steps program =
     IsRunWhole ends s named steps program
     ⊎ (((ends ≡ status.WriteFault)
-    × IsRunCut named steps program s.left s.left' s.out s.out' s.err s.err' s.faults s.faults' s.errors s.errors')
+    × IsRunCut named steps program s.left s.left' s.out s.out' s.err s.err' s.faults s.faults' s.errors
+    s.errors')
     ⊎ ((ends ≡ status.Memory) × IsRunStopped s named steps program))
 
 -- for words, the files that are told, the counts of the shelf's faults and misses, the status and the streams

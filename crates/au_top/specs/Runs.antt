@@ -1,5 +1,6 @@
 -- What a call has done that runs a program.
-use Rattle.std.specs.Prelude.{◌≡◌, ℕ, ◌-◌, Bool, true, false, if◌then◌else◌, List, [], length, slice_get, codes}
+use Rattle.std.specs.Prelude.{◌≡◌, ℕ, ◌-◌, Bool, true, false, if◌then◌else◌, List, [], length, slice_get}
+use Rattle.std.specs.Prelude.{codes}
 use Rattle.std.specs.Prelude.{Option, None, Some, unwrap_or}
 use Rattle.au_base.specs.declared.names.Entry.{Entry}
 use Rattle.au_base.specs.declared.statuses.Status.{Status}
@@ -45,8 +46,8 @@ run_status how.Stuck = status.Refused
 run_status how.ReadFault = status.ReadFault
 run_status how.WriteFault = status.WriteFault
 
--- the line that it writes to `err`, by the entry and the most steps: none where the program returned, or where
--- what it writes couldn't be written
+-- the line that it writes to `err`, by the entry and the most steps: none where the program returned, or
+-- where what it writes couldn't be written
 abbrev pub run_line : Entry → ℕ → Ran → List ℕ
 run_line entry steps how.NoEntry = refusal_line [] (refusal.Entry entry)
 run_line entry steps (how.Limit limit) = limit_line limit
@@ -86,5 +87,6 @@ module _ (named : Option Entry) (steps : ℕ) (program : List ModuleParts) where
     pub noted : List NotedParts
     pub derived : IsDerived program noted
     pub broken :
-        IsBroken program noted (entry_for named program).«module» (entry_for named program).function steps told
+        IsBroken program noted (entry_for named program).«module»
+        (entry_for named program).function steps told
         out out'

@@ -53,8 +53,8 @@ fn put_lives<O: Sink>(alloc: Global, lives: &Lives, out: &mut O) -> Result<Statu
     }
 }
 
-/// Does what is due for an outcome: a line is written on `err`, or that the program is accepted or the lives of
-/// its variables on `out`, or the program is run.
+/// Does what is due for an outcome: a line is written on `err`, or that the program is accepted or the lives
+/// of its variables on `out`, or the program is run.
 pub fn answer<I: Source, O: Sink, E: Sink>(
     alloc: Global,
     asked: &Asked,

@@ -22,8 +22,8 @@ use std::alloc::Global;
 ///
 /// # Errors
 ///
-/// `Write` when a sink fails, and `Memory` when memory runs out: a front of what the program writes is on `out`
-/// then.
+/// `Write` when a sink fails, and `Memory` when memory runs out: a front of what the program writes is on
+/// `out` then.
 pub fn run<I: Source, O: Sink, E: Sink>(
     alloc: Global,
     asked: &Asked,
@@ -81,7 +81,8 @@ fn say_ran<E: Sink>(
     err: &mut E,
 ) -> Result<Status, AnswerFault>
     ensures ok { IfOk result (λ ends. ends ≡ runs.run_status ran.now) }
-    ensures written { OnOk result (Adds (E.written err.old) (E.written err.new) (runs.run_line entry steps ran.now)) }
+    ensures written { OnOk result (Adds (E.written err.old) (E.written err.new)
+        (runs.run_line entry steps ran.now)) }
     ensures quiet { OnOk result (E.faults err.new ≡ E.faults err.old) }
     ensures front { result ≡ Err AnswerFault.Write
         → AddsFront (E.written err.old) (E.written err.new) (runs.run_line entry steps ran.now) }

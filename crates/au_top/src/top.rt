@@ -5,7 +5,8 @@ ghost use Rattle.std.specs.String.{string_bytes};
 ghost use Rattle.au_base.specs.Outside.{Files, HasRisen, Counts};
 ghost use Rattle.au_words.specs.Jobs.{IsJob, IsNoJob, Task};
 ghost use Rattle.au_top.specs.Calls.{CameTo, FailsBehind, GoesBehind, HasProgram, IsCut, IsDone, IsMissingSo};
-ghost use Rattle.au_top.specs.Calls.{IsRefused, IsRunBroken, IsRunCut, IsUntouched, MayOwe, PassesLimit, Pays};
+ghost use Rattle.au_top.specs.Calls.{IsRefused, IsRunBroken, IsRunCut, IsUntouched, MayOwe, PassesLimit};
+ghost use Rattle.au_top.specs.Calls.{Pays};
 ghost use Rattle.au_top.specs.Calls.{RunsSo, RunsTo, Succeeds, is_decided, is_run_end};
 ghost use Rattle.au_outcomes.specs.Accepted.{Accepted, AreAcceptedAs};
 ghost use Rattle.au_outcomes.specs.Halts.{AreTold, is_read_fault, is_missing};
@@ -14,7 +15,7 @@ ghost use Rattle.au_outcomes.specs.Trees.{ReadFile};
 ghost use Rattle.au_running.specs.declared.ran.Ran.TheVariants as ran;
 ghost use Rattle.au_top.specs.Dues.{Arises, AsksForNoFile, AsksForTooMany, Due, IsAcceptedJob, IsCheck};
 ghost use Rattle.au_top.specs.Dues.{IsExplain, IsRun, IsUnread, Owes, accepted_due, explained_due};
-ghost use Rattle.au_top.specs.Ends.{HasEnded};
+ghost use Rattle.au_top.specs.Ends.{FaultEnds, HasEnded, answer_ends};
 ghost use Rattle.au_top.specs.Runs.{HasRunAs};
 ghost use Rattle.au_top.specs.Shown.{IsShown};
 ghost use Rattle.au_unbuilt.specs.Unbuilt.{unbuilt_of};
@@ -42,20 +43,24 @@ pub fn austral<S: Shelf, I: Source, O: Sink, E: Sink>(
     // What is due is paid, whole, unless a sink fails or memory runs out; or the program of the files is run,
     // and its line is written.
     ensures due { result ≢ Status.WriteFault → result ≢ Status.Memory
-        → IsDone (map string_bytes words.now) (S.files shelf.old) (S.faults shelf.old) (S.faults shelf.new) result
-        (I.left input.old) (I.left input.new) (O.written out.old) (O.written out.new) (E.written err.old) (E.written err.new) }
+        → IsDone (map string_bytes words.now) (S.files shelf.old) (S.faults shelf.old)
+        (S.faults shelf.new) result
+        (I.left input.old) (I.left input.new) (O.written out.old) (O.written out.new) (E.written err.old)
+        (E.written err.new) }
     // Where files are told, what the words and the files owe is what is paid: they owe one thing alone. A
     // file that has no tree is refused, or a limit is told, unless the words ask for what is not built.
     ensures only { (files : Files) (due : Due) → S.files shelf.old ≡ Some files
         → Owes (map string_bytes words.now) files due → IsTrue (is_decided result)
         → Pays due result (O.written out.old) (O.written out.new) (E.written err.old) (E.written err.new) }
-    ensures unread { (files : Files) → S.files shelf.old ≡ Some files → IsUnread (map string_bytes words.now) files
+    ensures unread { (files : Files) → S.files shelf.old ≡ Some files
+        → IsUnread (map string_bytes words.now) files
         → IsTrue (is_decided result) → (result ≡ Status.Refused) ⊎ (result ≡ Status.Limit) }
-    // Where files are told, a job isn't refused by the steps that judge whether its files are accepted exactly
-    // where they are: then the call says so, or its program is run, or a form in it isn't built yet.
+    // Where files are told, a job isn't refused by the steps that judge whether its files are accepted
+    // exactly where they are: then the call says so, or its program is run, or a form in it isn't built yet.
     ensures accepted { (files : Files) → S.files shelf.old ≡ Some files → IsTrue (is_decided result)
         → IsAcceptedJob (map string_bytes words.now) files
-        ↔ GoesBehind (map string_bytes words.now) (S.files shelf.old) result (I.left input.old) (I.left input.new)
+        ↔ GoesBehind (map string_bytes words.now) (S.files shelf.old) result (I.left input.old)
+        (I.left input.new)
         (O.written out.old) (O.written out.new) (E.written err.old) (E.written err.new) }
     // Where files are told, a job `check` writes that its files are accepted, and ends with 0, exactly where
     // they are.
@@ -80,62 +85,82 @@ pub fn austral<S: Shelf, I: Source, O: Sink, E: Sink>(
         → IsTrue (is_decided result) → AreAcceptedAs files task.files all reads
         → unbuilt_of (program_modules reads) ≡ None
         → HasRunAs task.entry task.steps (program_modules reads) result
-        (I.left input.old) (I.left input.new) (O.written out.old) (O.written out.new) (E.written err.old) (E.written err.new) }
-    // Then what is seen of the run is what the program means on its input, where its runs are spoken of: it ends
-    // with 0 or 1, with 3 or with 4 by how its meaning ends within the steps, and has written what that writes.
+        (I.left input.old) (I.left input.new) (O.written out.old) (O.written out.new) (E.written err.old)
+        (E.written err.new) }
+    // Then what is seen of the run is what the program means on its input, where its runs are spoken of: it
+    // ends with 0 or 1, with 3 or with 4 by how its meaning ends within the steps, and has written what that
+    // writes.
     ensures shown { (files : Files) (task : Task) (all : List (List ℕ)) (reads : List ReadFile)
         → S.files shelf.old ≡ Some files → IsRun (map string_bytes words.now) task
         → IsTrue (is_decided result) → AreAcceptedAs files task.files all reads
         → unbuilt_of (program_modules reads) ≡ None
         → IsShown task.entry task.steps (program_modules reads) result
-        (I.left input.old) (I.left input.new) (O.written out.old) (O.written out.new) (E.written err.old) (E.written err.new) }
+        (I.left input.old) (I.left input.new) (O.written out.old) (O.written out.new) (E.written err.old)
+        (E.written err.new) }
     // It ends so only where the files are accepted.
     ensures runs_only { (files : Files) (task : Task) → S.files shelf.old ≡ Some files
         → IsRun (map string_bytes words.now) task → IsTrue (is_run_end result)
         → Accepted files task.files }
     // 64 comes exactly where the words are no job.
     ensures words { result ≡ Status.Words → IsNoJob (map string_bytes words.now) }
-    ensures no_job { IsNoJob (map string_bytes words.now) → IsTrue (is_decided result) → result ≡ Status.Words }
+    ensures no_job { IsNoJob (map string_bytes words.now) → IsTrue (is_decided result)
+        → result ≡ Status.Words }
     // 2 comes with the line of a refusal that the words or the files have, or of a program without such an
     // entry, or of one whose run came to what isn't built yet.
-    ensures refused { result ≡ Status.Refused → IsRefused (map string_bytes words.now) (S.files shelf.old) (I.left input.old) (I.left input.new)
+    ensures refused { result ≡ Status.Refused
+        → IsRefused (map string_bytes words.now) (S.files shelf.old) (I.left input.old) (I.left input.new)
         (O.written out.old) (O.written out.new) (E.written err.old) (E.written err.new) }
     // 8 comes with the line of a limit that is passed, and 9 with that of the first file that is missing.
-    ensures limit { result ≡ Status.Limit → PassesLimit (map string_bytes words.now) (S.files shelf.old) (I.left input.old) (I.left input.new)
+    ensures limit { result ≡ Status.Limit → PassesLimit (map string_bytes words.now) (S.files shelf.old)
+        (I.left input.old) (I.left input.new)
         (O.written out.old) (O.written out.new) (E.written err.old) (E.written err.new) }
     ensures missing_file { result ≡ Status.Missing → CameTo (map string_bytes words.now) (S.files shelf.old)
         (IsMissingSo (E.written err.old) (E.written err.new)) }
-    // 0 and 1 come by what the program returns, and 0 where it's checked and accepted, or where the lives of its
-    // variables are told.
-    ensures success { result ≡ Status.Success → Succeeds (map string_bytes words.now) (S.files shelf.old) (I.left input.old) (I.left input.new)
+    // 0 and 1 come by what the program returns, and 0 where it's checked and accepted, or where the lives of
+    // its variables are told.
+    ensures success { result ≡ Status.Success
+        → Succeeds (map string_bytes words.now) (S.files shelf.old) (I.left input.old) (I.left input.new)
         (O.written out.old) (O.written out.new) (E.written err.old) (E.written err.new) }
-    ensures failure { result ≡ Status.Failure → RunsTo (map string_bytes words.now) (S.files shelf.old) (ran.Exit false)
-        (I.left input.old) (I.left input.new) (O.written out.old) (O.written out.new) (E.written err.old) (E.written err.new) }
+    ensures failure { result ≡ Status.Failure
+        → RunsTo (map string_bytes words.now) (S.files shelf.old) (ran.Exit false)
+        (I.left input.old) (I.left input.new) (O.written out.old) (O.written out.new) (E.written err.old)
+        (E.written err.new) }
     // 3 comes by an abort, whose cause its line tells, and 4 where the steps of the run were spent.
-    ensures abort { result ≡ Status.Abort → (text : List ℕ) × RunsTo (map string_bytes words.now) (S.files shelf.old)
-        (ran.Abort text) (I.left input.old) (I.left input.new) (O.written out.old) (O.written out.new) (E.written err.old) (E.written err.new) }
+    ensures abort { result ≡ Status.Abort → (text : List ℕ)
+        × RunsTo (map string_bytes words.now) (S.files shelf.old)
+        (ran.Abort text) (I.left input.old) (I.left input.new) (O.written out.old) (O.written out.new)
+        (E.written err.old) (E.written err.new) }
     ensures steps { result ≡ Status.Steps → RunsTo (map string_bytes words.now) (S.files shelf.old) ran.Steps
-        (I.left input.old) (I.left input.new) (O.written out.old) (O.written out.new) (E.written err.old) (E.written err.new) }
-    // Where a sink failed, a front of what is due stands there, or of what the program writes, or of its line.
+        (I.left input.old) (I.left input.new) (O.written out.old) (O.written out.new) (E.written err.old)
+        (E.written err.new) }
+    // Where a sink failed, a front of what is due stands there, or of what the program writes, or of its
+    // line.
     ensures write_fault { result ≡ Status.WriteFault → ((due : Due)
-        × MayOwe (map string_bytes words.now) (S.files shelf.old) (S.faults shelf.old) (S.faults shelf.new) due
+        × MayOwe (map string_bytes words.now) (S.files shelf.old) (S.faults shelf.old)
+        (S.faults shelf.new) due
         × IsCut due (O.written out.old) (O.written out.new) (E.written err.old) (E.written err.new)
         (O.faults out.old) (O.faults out.new) (E.faults err.old) (E.faults err.new))
-        ⊎ RunsSo (map string_bytes words.now) (S.files shelf.old) (λ named steps program. IsRunCut named steps program
-        (I.left input.old) (I.left input.new) (O.written out.old) (O.written out.new) (E.written err.old) (E.written err.new)
+        ⊎ RunsSo (map string_bytes words.now) (S.files shelf.old)
+        (λ named steps program. IsRunCut named steps program
+        (I.left input.old) (I.left input.new) (O.written out.old) (O.written out.new) (E.written err.old)
+        (E.written err.new)
         (O.faults out.old) (O.faults out.new) (E.faults err.old) (E.faults err.new)) }
     // Where memory ran out, nothing was written, or a run was broken off.
     ensures memory { result ≡ Status.Memory
         → IsUntouched (O.written out.old) (O.written out.new) (E.written err.old) (E.written err.new)
         (O.faults out.old) (O.faults out.new) (E.faults err.old) (E.faults err.new)
-        ⊎ RunsSo (map string_bytes words.now) (S.files shelf.old) (λ named steps program. IsRunBroken named steps program
+        ⊎ RunsSo (map string_bytes words.now) (S.files shelf.old)
+        (λ named steps program. IsRunBroken named steps program
         (I.left input.old) (O.written out.old) (O.written out.new) (E.written err.old) (E.written err.new)
         (O.faults out.old) (O.faults out.new) (E.faults err.old) (E.faults err.new)) }
-    // Where the shelf failed, it failed behind files that can be had; or the input failed while a program ran.
-    ensures read_fault { result ≡ Status.ReadFault → ((FailsBehind (map string_bytes words.now) (S.files shelf.old)
+    // Where the shelf failed, it failed behind files that can be had; or the input failed while a program
+    // ran.
+    ensures read_fault { result ≡ Status.ReadFault
+        → ((FailsBehind (map string_bytes words.now) (S.files shelf.old)
         × HasRisen (S.faults shelf.old) (S.faults shelf.new))
         ⊎ (RunsTo (map string_bytes words.now) (S.files shelf.old) ran.ReadFault
-        (I.left input.old) (I.left input.new) (O.written out.old) (O.written out.new) (E.written err.old) (E.written err.new)
+        (I.left input.old) (I.left input.new) (O.written out.old) (O.written out.new) (E.written err.old)
+        (E.written err.new)
         × HasRisen (I.faults input.old) (I.faults input.new)))
         × (O.faults out.new ≡ O.faults out.old) × (E.faults err.new ≡ E.faults err.old) }
     ensures missing { result ≡ Status.Missing → HasRisen (S.misses shelf.old) (S.misses shelf.new) }
@@ -189,16 +214,33 @@ fn ended<S: Shelf, I: Source, O: Sink, E: Sink>(
     ensures files { S.files shelf.new ≡ S.files shelf.old }
 {
     match outcome_of(alloc, words, shelf) {
-        Ok((asked, outcome)) => match answer(alloc, &asked, &outcome, input, out, err) {
-            Ok(status) => status,
-            Err(AnswerFault::Write) => Status::WriteFault,
-            Err(AnswerFault::Memory) => Status::Memory,
-        },
-        Err(CheckFault::Read) => match put_all(err, READ_FAULT_LINE) {
+        Ok((asked, outcome)) => { status_of(answer(alloc, &asked, &outcome, input, out, err)) }
+        Err(fault) => fault_status(fault, err),
+    }
+}
+
+/// The status with which a call ends that has got this answer.
+fn status_of(answered: Result<Status, AnswerFault>) -> Status
+    ensures { result ≡ answer_ends answered }
+{
+    match answered {
+        Ok(status) => status,
+        Err(AnswerFault::Write) => Status::WriteFault,
+        Err(AnswerFault::Memory) => Status::Memory,
+    }
+}
+
+/// Says on `err` that the shelf failed, if it did, and ends.
+fn fault_status<E: Sink>(fault: CheckFault, err: &mut E) -> Status
+    ensures { FaultEnds fault result (E.written err.old) (E.written err.new) (E.faults err.old)
+        (E.faults err.new) }
+{
+    match fault {
+        CheckFault::Read => match put_all(err, READ_FAULT_LINE) {
             Ok(()) => Status::ReadFault,
             Err(WriteFault) => Status::WriteFault,
         },
-        Err(CheckFault::Memory) => Status::Memory,
+        CheckFault::Memory => Status::Memory,
     }
 }
 
@@ -215,8 +257,10 @@ fn outcome_of<S: Shelf>(
     ensures asked { IfOk result (λ found. (task : Task) → IsJob (map string_bytes words.now) task
         → (found.0.entry ≡ task.entry) × (found.0.steps ≡ task.steps)) }
     ensures faults { Counts (is_read_fault result) (S.faults shelf.old) (S.faults shelf.new) }
-    ensures misses { IfOk result (λ found. Counts (is_missing found.1) (S.misses shelf.old) (S.misses shelf.new)) }
-    ensures stops { IsTrue (is_read_fault result) → FailsBehind (map string_bytes words.now) (S.files shelf.old) }
+    ensures misses { IfOk result (λ found. Counts (is_missing found.1) (S.misses shelf.old)
+        (S.misses shelf.new)) }
+    ensures stops { IsTrue (is_read_fault result)
+        → FailsBehind (map string_bytes words.now) (S.files shelf.old) }
     ensures idle { AsksForNoFile (map string_bytes words.now)
         → (S.faults shelf.new ≡ S.faults shelf.old) × (S.misses shelf.new ≡ S.misses shelf.old) }
     ensures crowded { AsksForTooMany (map string_bytes words.now)
@@ -232,8 +276,15 @@ fn outcome_of<S: Shelf>(
         Ok(aim) => aim,
         Err(what) => return Ok((said_by(job), Outcome::Refused(Refusal::WordNotYet(what)))),
     };
-    let asked = said_by(job);
-    let outcome = check(alloc, aim, shelf, asked.files.as_slice())?;
+    let names = job.files;
+    let entry = job.entry;
+    let steps = job.steps;
+    let outcome = check(alloc, aim, shelf, names.as_slice())?;
+    let asked = Asked {
+        files: names,
+        entry,
+        steps,
+    };
     Ok((asked, outcome))
 }
 

@@ -25,7 +25,8 @@ returns-in-NoJob-clause-fails g c =
     let faults = g.O.Sink.faults c.args.out.now in
     let errors = g.E.Sink.faults c.args.err.now in
     let errors' = g.E.Sink.faults c.say.new.err in
-    let failed = said_fails c.say.result Words words_line out err err' faults errors errors' c.say.ensures.write
+    let failed = said_fails c.say.result Words words_line out err err' faults errors errors'
+    c.say.ensures.write
     c.say.ensures.front c.say.ensures.risen in
     subst (λ (o : Option Due). IfSome o
     (λ due. IfErr c.say.result (λ e. Fails e due out out err err' faults faults errors errors')))
@@ -37,7 +38,8 @@ returns-in-Explained-clause-pays g c =
     let out = g.O.Sink.written c.args.out.now in
     let out' = g.O.Sink.written c.put_lives.new.out in
     let err = g.E.Sink.written c.args.err.now in
-    let told = lives_pay c.put_lives.result c.in-Explained.lives out out' err c.put_lives.ensures.ok c.put_lives.ensures.written in
+    let told = lives_pay c.put_lives.result c.in-Explained.lives out out' err c.put_lives.ensures.ok
+    c.put_lives.ensures.written in
     subst (λ (o : Option Due). IfSome o (λ due. IfOk c.put_lives.result (λ s. Pays due s out out' err err)))
     (sym (ap (due_of (map string_bytes c.args.asked.now.files.items)) c.in-Explained.is)) told
 

@@ -32,13 +32,13 @@ returns-in_err-ran g c =
     let p = err_from_is_err_and c.from_residual-in_err-ran.result c.from_residual-in_err-ran.ensures.1 in
     let s : Streams = record {
       left = g.I.Source.left c.args.input.now;
-      left' = g.I.Source.left c.run_program-ran.new.input;
+      left' = g.I.Source.left c.run_program.new.input;
       lapses = g.I.Source.faults c.args.input.now;
-      lapses' = g.I.Source.faults c.run_program-ran.new.input;
+      lapses' = g.I.Source.faults c.run_program.new.input;
       out = g.O.Sink.written c.args.out.now;
-      out' = g.O.Sink.written c.run_program-ran.new.out;
+      out' = g.O.Sink.written c.run_program.new.out;
       faults = g.O.Sink.faults c.args.out.now;
-      faults' = g.O.Sink.faults c.run_program-ran.new.out;
+      faults' = g.O.Sink.faults c.run_program.new.out;
       err = g.E.Sink.written c.args.err.now;
       err' = g.E.Sink.written c.args.err.now;
       errors = g.E.Sink.faults c.args.err.now;
@@ -46,7 +46,8 @@ returns-in_err-ran g c =
     } in
     rw (p.1, p.2)
     (run_stopped c.args.asked.now.entry c.args.asked.now.steps (slots.modules c.args.program.now) s
-    c.in_ok-entry.entry c.in_ok-entry.ensures c.in_err-ran.ensures.broken refl (c.in_err-ran.ensures.quiet.1, refl))
+    c.in_ok-entry.entry c.in_ok-entry.ensures c.in_err-ran.ensures.broken refl
+    (c.in_err-ran.ensures.quiet.1, refl))
 
 pub returns-then-is_cut : goal.returns-then-is_cut
 returns-then-is_cut g c =
@@ -55,13 +56,13 @@ returns-then-is_cut g c =
     let program = slots.modules c.args.program.now in
     let s : Streams = record {
       left = g.I.Source.left c.args.input.now;
-      left' = g.I.Source.left c.run_program-ran.new.input;
+      left' = g.I.Source.left c.run_program.new.input;
       lapses = g.I.Source.faults c.args.input.now;
-      lapses' = g.I.Source.faults c.run_program-ran.new.input;
+      lapses' = g.I.Source.faults c.run_program.new.input;
       out = g.O.Sink.written c.args.out.now;
-      out' = g.O.Sink.written c.run_program-ran.new.out;
+      out' = g.O.Sink.written c.run_program.new.out;
       faults = g.O.Sink.faults c.args.out.now;
-      faults' = g.O.Sink.faults c.run_program-ran.new.out;
+      faults' = g.O.Sink.faults c.run_program.new.out;
       err = g.E.Sink.written c.args.err.now;
       err' = g.E.Sink.written c.args.err.now;
       errors = g.E.Sink.faults c.args.err.now;
@@ -78,13 +79,13 @@ returns g c =
     let program = slots.modules c.args.program.now in
     let s : Streams = record {
       left = g.I.Source.left c.args.input.now;
-      left' = g.I.Source.left c.run_program-ran.new.input;
+      left' = g.I.Source.left c.run_program.new.input;
       lapses = g.I.Source.faults c.args.input.now;
-      lapses' = g.I.Source.faults c.run_program-ran.new.input;
+      lapses' = g.I.Source.faults c.run_program.new.input;
       out = g.O.Sink.written c.args.out.now;
-      out' = g.O.Sink.written c.run_program-ran.new.out;
+      out' = g.O.Sink.written c.run_program.new.out;
       faults = g.O.Sink.faults c.args.out.now;
-      faults' = g.O.Sink.faults c.run_program-ran.new.out;
+      faults' = g.O.Sink.faults c.run_program.new.out;
       err = g.E.Sink.written c.args.err.now;
       err' = g.E.Sink.written c.say_ran.new.err;
       errors = g.E.Sink.faults c.args.err.now;

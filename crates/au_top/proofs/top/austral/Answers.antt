@@ -3,7 +3,8 @@ use Rattle.au_top.proofs.EndLemmas as of
 use Rattle.au_top.proofs.top.austral.Goals as goal
 
 pub returns-clause-due : goal.returns-clause-due
-returns-clause-due g c = λ no_write no_memory. of.ended_done _ _ _ _ _ _ _ _ c.ended.ensures.ends no_write no_memory
+returns-clause-due g c = λ no_write no_memory. of.ended_done _ _ _ _ _ _ _ _ c.ended.ensures.ends no_write
+    no_memory
 
 pub returns-clause-only : goal.returns-clause-only
 returns-clause-only g c = λ files due is owes good.

@@ -7,7 +7,7 @@ use Rattle.au_words.specs.Jobs.{task_of}
 use Rattle.au_outcomes.specs.Outcomes.{Comes}
 use Rattle.au_outcomes.proofs.FetchLemmas.{told_files}
 use Rattle.au_top.proofs.ArisesLemmas.{arises_from, arises_unbuilt, asks_files, asks_many, fails_behind}
-use Rattle.au_top.proofs.ArisesLemmas.{said_names, said_task, some_files}
+use Rattle.au_top.proofs.ArisesLemmas.{said_names, said_task}
 use Rattle.au_top.proofs.top.outcome_of.Goals as goal
 
 pub returns-in-Err-NoJob-clause-arises : goal.returns-in-Err-NoJob-clause-arises
@@ -26,57 +26,62 @@ returns-in-Err-clause-arises g c =
     let told = told_files (g.S.Shelf.files c.args.shelf.now) in (
       told.0,
       told.1,
-      arises_unbuilt words (map string_bytes c.said_by.result.files.items) (task_of c.in-Ok.job) told.0 c.in-Err.what c.in-Ok.ensures.job
+      arises_unbuilt words (map string_bytes c.said_by.result.files.items)
+          (task_of c.in-Ok.job) told.0 c.in-Err.what c.in-Ok.ensures.job
           (said_names c.said_by.result.files c.in-Ok.job.files c.said_by.ensures.files) c.in-Err.ensures,
     )
 
 pub returns-in-Err-clause-asked : goal.returns-in-Err-clause-asked
 returns-in-Err-clause-asked g c = λ task job.
-    said_task (map string_bytes c.args.words.now) c.in-Ok.job task c.said_by.result.entry c.said_by.result.steps c.in-Ok.ensures.job job c.said_by.ensures.entry c.said_by.ensures.steps
-
-pub check-requires : goal.check-requires
-check-requires g c =
-    let words = map string_bytes c.args.words.now in
-    let same = ap (map string_bytes) c.as_slice.ensures.value ∙ said_names c.said_by-asked.result.files c.in-Ok.job.files c.said_by-asked.ensures.files in
-    some_files words (task_of c.in-Ok.job) c.as_slice.result.now c.in-Ok.ensures.job same
+    said_task (map string_bytes c.args.words.now) c.in-Ok.job task c.said_by.result.entry
+    c.said_by.result.steps c.in-Ok.ensures.job job c.said_by.ensures.entry c.said_by.ensures.steps
 
 pub returns-clause-arises : goal.returns-clause-arises
 returns-clause-arises g c =
     let words = map string_bytes c.args.words.now in
     let comes = c.in_ok-outcome.ensures.comes in
-    let found = subst (λ (l : List (String Global)). Comes c.in-Ok-asked_of.aim comes.0 (map string_bytes l) c.in_ok-outcome.outcome) c.as_slice.ensures.value comes.2 in (
+    let found = subst (λ (l : List (String Global)). Comes c.in-Ok-asked_of.aim comes.0
+    (map string_bytes l) c.in_ok-outcome.outcome) c.as_slice.ensures.value comes.2 in (
       comes.0,
       comes.1,
-      arises_from words (map string_bytes c.said_by-asked.result.files.items) (task_of c.in-Ok.job) comes.0 c.in-Ok-asked_of.aim c.in_ok-outcome.outcome c.in-Ok.ensures.job
-          (said_names c.said_by-asked.result.files c.in-Ok.job.files c.said_by-asked.ensures.files) c.in-Ok-asked_of.ensures found,
+      arises_from words (map string_bytes c.in-Ok.job.files.items)
+          (task_of c.in-Ok.job) comes.0 c.in-Ok-asked_of.aim c.in_ok-outcome.outcome c.in-Ok.ensures.job refl
+          c.in-Ok-asked_of.ensures found,
     )
 
 pub returns-clause-asked : goal.returns-clause-asked
 returns-clause-asked g c = λ task job.
-    said_task (map string_bytes c.args.words.now) c.in-Ok.job task c.said_by-asked.result.entry c.said_by-asked.result.steps c.in-Ok.ensures.job job c.said_by-asked.ensures.entry c.said_by-asked.ensures.steps
+    said_task (map string_bytes c.args.words.now) c.in-Ok.job task c.in-Ok.job.entry c.in-Ok.job.steps
+    c.in-Ok.ensures.job job refl refl
 
 pub returns-clause-idle : goal.returns-clause-idle
-returns-clause-idle g c = λ idle. absurd (asks_files (map string_bytes c.args.words.now) (task_of c.in-Ok.job) c.in-Ok-asked_of.aim c.in-Ok.ensures.job c.in-Ok-asked_of.ensures idle)
+returns-clause-idle g c = λ idle. absurd (asks_files (map string_bytes c.args.words.now)
+    (task_of c.in-Ok.job) c.in-Ok-asked_of.aim c.in-Ok.ensures.job c.in-Ok-asked_of.ensures idle)
 
 pub returns-in_err-outcome-clause-idle : goal.returns-in_err-outcome-clause-idle
-returns-in_err-outcome-clause-idle g c = λ idle. absurd (asks_files (map string_bytes c.args.words.now) (task_of c.in-Ok.job) c.in-Ok-asked_of.aim c.in-Ok.ensures.job c.in-Ok-asked_of.ensures idle)
+returns-in_err-outcome-clause-idle g c = λ idle. absurd
+    (asks_files (map string_bytes c.args.words.now)
+    (task_of c.in-Ok.job) c.in-Ok-asked_of.aim c.in-Ok.ensures.job c.in-Ok-asked_of.ensures idle)
 
 -- where the shelf failed
 pub returns-in_err-outcome-clause-stops : goal.returns-in_err-outcome-clause-stops
 returns-in_err-outcome-clause-stops g c =
     let p = err_from_is_err_and c.from_residual.result c.from_residual.ensures.1 in
-    let same = said_names c.said_by-asked.result.files c.in-Ok.job.files c.said_by-asked.ensures.files in
     rw (p.1, p.2)
-    (λ h. fails_behind (map string_bytes c.args.words.now) (g.S.Shelf.files c.args.shelf.now) (task_of c.in-Ok.job) c.in-Ok-asked_of.aim c.said_by-asked.result.files.items c.as_slice.result.now c.in-Ok.ensures.job same c.as_slice.ensures.value
+    (λ h. fails_behind (map string_bytes c.args.words.now) (g.S.Shelf.files c.args.shelf.now)
+    (task_of c.in-Ok.job) c.in-Ok-asked_of.aim c.in-Ok.job.files.items c.as_slice.result.now
+    c.in-Ok.ensures.job refl c.as_slice.ensures.value
     (sym c.in-Ok-asked_of.ensures) (c.in_err-outcome.ensures.stops h))
 
 -- where there are too many files
 pub returns-in_err-outcome-clause-crowded : goal.returns-in_err-outcome-clause-crowded
 returns-in_err-outcome-clause-crowded g c = λ many.
-    let same = ap (map string_bytes) c.as_slice.ensures.value ∙ said_names c.said_by-asked.result.files c.in-Ok.job.files c.said_by-asked.ensures.files in
-    c.in_err-outcome.ensures.crowded (asks_many (map string_bytes c.args.words.now) (task_of c.in-Ok.job) c.as_slice.result.now c.in-Ok.ensures.job same many)
+    let same = ap (map string_bytes) c.as_slice.ensures.value in
+    c.in_err-outcome.ensures.crowded (asks_many (map string_bytes c.args.words.now)
+    (task_of c.in-Ok.job) c.as_slice.result.now c.in-Ok.ensures.job same many)
 
 pub returns-clause-crowded : goal.returns-clause-crowded
 returns-clause-crowded g c = λ many.
-    let same = ap (map string_bytes) c.as_slice.ensures.value ∙ said_names c.said_by-asked.result.files c.in-Ok.job.files c.said_by-asked.ensures.files in
-    c.in_ok-outcome.ensures.crowded (asks_many (map string_bytes c.args.words.now) (task_of c.in-Ok.job) c.as_slice.result.now c.in-Ok.ensures.job same many)
+    let same = ap (map string_bytes) c.as_slice.ensures.value in
+    c.in_ok-outcome.ensures.crowded (asks_many (map string_bytes c.args.words.now)
+    (task_of c.in-Ok.job) c.as_slice.result.now c.in-Ok.ensures.job same many)
