@@ -1,6 +1,6 @@
 -- What words and files come to.
-use Rattle.std.proofs.Common.{◌≡◌, ◌≢◌, true, ℕ, ◌<◌, List, [], ◌∷◌, String, Option, Result, Ok, Err, Vec}
-use Rattle.std.proofs.Common.{length, map, ap, ◌∙◌, sym, refl, subst, arith, inl, inr}
+use Rattle.std.proofs.Common.{◌≡◌, true, ℕ, ◌<◌, List, String, Option, Result, Ok, Err, Vec}
+use Rattle.std.proofs.Common.{length, map, ap, ◌∙◌, refl, subst, arith, inl, inr}
 use Rattle.std.specs.Global.{Global}
 use Rattle.std.specs.String.{string_bytes}
 use Rattle.std.proofs.lemmas.List.{length-map}

@@ -1,11 +1,11 @@
 -- What words and files owe, and for which outcome it was paid.
-use Rattle.std.proofs.Common.{◌≡◌, ℕ, ◌+◌, ◌≤◌, Bool, true, false, List, length, Option, None, Some, Result}
+use Rattle.std.proofs.Common.{◌≡◌, ℕ, ◌+◌, Bool, true, false, List, length, Option, None, Some, Result}
 use Rattle.std.proofs.Common.{Ok, Err}
 use Rattle.std.proofs.Common.{ap, ◌∙◌, sym, refl, subst, arith, ◌⊎◌, inl, inr, slice_get}
 use Rattle.std.specs.Prelude.{IsSomeAnd, if◌then◌else◌}
 use Rattle.au_base.specs.declared.statuses.Status.{Status}
 use Rattle.au_base.specs.declared.statuses.Status.TheVariants as status
-use Rattle.au_base.specs.Outside.{Files, Adds}
+use Rattle.au_base.specs.Outside.{Files}
 use Rattle.au_words.specs.Jobs.{Task, IsJob, IsNoJob}
 use Rattle.au_words.specs.declared.jobs.Command.{Command}
 use Rattle.au_words.specs.declared.jobs.Command.TheVariants as command
@@ -18,7 +18,7 @@ use Rattle.au_refusals.specs.declared.refusals.Unbuilt.{Unbuilt}
 use Rattle.au_refusals.specs.declared.refusals.Unbuilt.TheVariants as unbuilt
 use Rattle.au_outcomes.specs.Accepted.{Accepted, AreAcceptedAs, is_behind}
 use Rattle.au_outcomes.specs.Halts.{is_missing}
-use Rattle.au_outcomes.specs.Outcomes.{AreFiles, BytesCome, Comes, FewCome, is_outcome, most_files}
+use Rattle.au_outcomes.specs.Outcomes.{AreFiles, BytesCome, Comes, FewCome, is_outcome}
 use Rattle.au_outcomes.specs.Programs.{AreOne, RunComes, program_modules, read_lives}
 use Rattle.au_outcomes.specs.Trees.{HasNoTree, HasTokens, IsRead, ReadFile}
 use Rattle.au_outcomes.specs.declared.outcomes.Aim.{Aim}
@@ -31,7 +31,7 @@ use Rattle.au_outcomes.proofs.BytesLemmas.{are_one}
 use Rattle.au_outcomes.proofs.FetchLemmas.{few_had}
 use Rattle.au_outcomes.proofs.HaltLemmas.{IsHalt, first_halt, read_at, treeless}
 use Rattle.au_outcomes.proofs.NameLemmas.{comes_same, files_same, first_or_files, many_or_few}
-use Rattle.au_top.specs.Calls.{HasPassed, HasSucceeded, IsMissingSo, IsRefusedSo, Pays, is_decided}
+use Rattle.au_top.specs.Calls.{HasPassed, HasSucceeded, IsMissingSo, IsRefusedSo, Pays}
 use Rattle.au_top.specs.Dues.{Arises, Asks, Due, IsAcceptedJob, IsCheck, IsExplain, IsRun, IsUnread, Owes}
 use Rattle.au_top.specs.Dues.{due_of}
 use Rattle.au_top.specs.Jobs.{asked_by, asked_of}

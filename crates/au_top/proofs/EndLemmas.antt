@@ -1,14 +1,12 @@
 -- What the ways in which a call ends say.
-use Rattle.std.proofs.Common.{◌≡◌, ◌↔◌, ℕ, Bool, true, false, List, Option, None, Some, Result, Ok, Err, map}
+use Rattle.std.proofs.Common.{◌≡◌, ◌↔◌, ℕ, true, false, List, Option, None, Some}
 use Rattle.std.proofs.Common.{ap, ◌∙◌, sym, refl, subst, ◌⊎◌, inl, inr}
-use Rattle.std.specs.Prelude.{IfSome, IsSomeAnd, is_some}
-use Rattle.au_base.specs.declared.limits.Limit.{Limit}
+use Rattle.std.specs.Prelude.{IsSomeAnd}
 use Rattle.au_base.specs.declared.names.Entry.{Entry}
 use Rattle.au_base.specs.declared.statuses.Status.{Status}
 use Rattle.au_base.specs.declared.statuses.Status.TheVariants as status
 use Rattle.au_base.specs.Outside.{Counts, Files, HasRisen}
 use Rattle.au_words.specs.Jobs.{Task, IsJob, IsNoJob}
-use Rattle.au_modules.specs.declared.modules.Modules.{Modules}
 use Rattle.au_modules.specs.Programs.{ModuleParts}
 use Rattle.au_modules.specs.Slots as slots
 use Rattle.au_refusals.specs.Lines.{read_fault_line}
@@ -17,23 +15,23 @@ use Rattle.au_running.specs.Ran.{is_read_fault}
 use Rattle.au_running.specs.declared.ran.Ran.{Ran}
 use Rattle.au_running.specs.declared.ran.Ran.TheVariants as how
 use Rattle.au_unbuilt.specs.Unbuilt.{unbuilt_of}
-use Rattle.au_outcomes.specs.Accepted.{Accepted, AreAcceptedAs, is_behind}
-use Rattle.au_outcomes.specs.Halts.{AreTold, is_missing}
-use Rattle.au_outcomes.specs.Outcomes.{Comes, is_outcome}
+use Rattle.au_outcomes.specs.Accepted.{Accepted, AreAcceptedAs}
+use Rattle.au_outcomes.specs.Halts.{AreTold}
+use Rattle.au_outcomes.specs.Outcomes.{Comes}
 use Rattle.au_outcomes.specs.Programs.{program_modules, read_lives}
 use Rattle.au_outcomes.specs.Trees.{ReadFile}
 use Rattle.au_outcomes.specs.declared.outcomes.Aim.TheVariants as aims
 use Rattle.au_outcomes.specs.declared.outcomes.Outcome.{Outcome}
 use Rattle.au_outcomes.specs.declared.outcomes.Outcome.TheVariants as outcome
 use Rattle.au_outcomes.proofs.AcceptedLemmas.{not_both}
-use Rattle.au_top.specs.Calls.{CameTo, FailsBehind, Fails, GoesBehind, HasProgram, IsCut, IsDone, IsMissingSo}
+use Rattle.au_top.specs.Calls.{CameTo, FailsBehind, GoesBehind, HasProgram, IsCut, IsDone, IsMissingSo}
 use Rattle.au_top.specs.Calls.{IsPaid}
 use Rattle.au_top.specs.Calls.{IsRefused, IsRunBroken, IsRunCut, IsUntouched, MayOwe, PassesLimit, Pays}
 use Rattle.au_top.specs.Calls.{RunsAs}
 use Rattle.au_top.specs.Calls.{RunsSo, RunsTo, Succeeds, is_decided, is_run_end}
 use Rattle.au_top.specs.Dues.{Arises, Due, IsAcceptedJob, IsCheck, IsExplain, IsRun, IsUnread, Owes}
 use Rattle.au_top.specs.Dues.{accepted_due, due_line, due_of, explained_due}
-use Rattle.au_top.specs.Ends.{AreQuiet, HasEnded, HasPaid, IsKept, IsRunWhole, RunEnds, Streams}
+use Rattle.au_top.specs.Ends.{HasEnded, HasPaid, IsRunWhole, Streams}
 use Rattle.au_top.specs.Jobs.{asked_by}
 use Rattle.au_top.specs.Runs.{HasRunAs, RanSo, run_status}
 use Rattle.au_top.specs.Shown.{IsShown}

@@ -1,7 +1,7 @@
 -- What a call has done that ran a program.
 use Rattle.std.proofs.Common.{◌≡◌, ◌+◌, ℕ, Bool, true, false, cond, List, [], ◌++◌, length, take, Option}
 use Rattle.std.proofs.Common.{None, Some, IfSome}
-use Rattle.std.proofs.Common.{Result, Ok, Err, IfOk, OnOk, OnErr, option_map, ap, ◌∙◌, sym, refl, subst, ◌⊎◌}
+use Rattle.std.proofs.Common.{Result, Ok, Err, IfOk, OnOk, ap, ◌∙◌, sym, refl, subst, ◌⊎◌}
 use Rattle.std.proofs.Common.{inl, inr}
 use Rattle.std.proofs.lemmas.List.{append-nil}
 use Rattle.std.proofs.Math.Seq.{take-append-add}
@@ -23,8 +23,8 @@ use Rattle.au_meant_runs.specs.Shown.{Ended, Shows, aborts, exits, spent}
 use Rattle.au_running.specs.Ran.{EndsSo, HasRun, HasRunSo, IsBroken, is_read_fault, is_write_fault}
 use Rattle.au_running.specs.declared.ran.Ran.{Ran}
 use Rattle.au_running.specs.declared.ran.Ran.TheVariants as how
-use Rattle.au_top.specs.Calls.{IsCut, IsRunBroken, IsRunCut, IsUntouched, is_decided}
-use Rattle.au_top.specs.Ends.{AreQuiet, IsRunStopped, IsRunWhole, RunAnswers, Streams}
+use Rattle.au_top.specs.Calls.{is_decided}
+use Rattle.au_top.specs.Ends.{AreQuiet, IsRunStopped, RunAnswers, Streams}
 use Rattle.au_top.specs.Runs.{HasRan, HasRunAs, IsBrokenOff, RanSo, entry_for, run_line, run_status}
 use Rattle.au_top.specs.Shown.{HasShown, IsShown}
 use Rattle.au_top.specs.declared.saying.AnswerFault.{AnswerFault}

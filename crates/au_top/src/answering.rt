@@ -1,6 +1,6 @@
 //! What a call writes, and the status with which it ends.
 
-ghost use Rattle.std.specs.Prelude.{◌≡◌, Err, OnOk, OnErr, IfOk, IfErr, IfSome, IsTrue, map};
+ghost use Rattle.std.specs.Prelude.{◌≡◌, Err, OnOk, IfOk, IfErr, IfSome, IsTrue, map};
 ghost use Rattle.std.specs.String.{string_bytes};
 ghost use Rattle.au_base.specs.Outside.{HasRisen, Adds, AddsFront};
 ghost use Rattle.au_explain.specs.Lines.{life_text};

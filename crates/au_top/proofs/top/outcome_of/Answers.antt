@@ -1,5 +1,5 @@
 -- The words are no job, or they ask for something that isn't built, or for files that were checked.
-use Rattle.std.proofs.Common.{◌≡◌, Err, List, String, map, ap, ◌∙◌, sym, refl, subst}
+use Rattle.std.proofs.Common.{Err, List, String, map, ap, sym, refl, subst}
 use Rattle.std.specs.Global.{Global}
 use Rattle.std.specs.String.{string_bytes}
 use Rattle.std.proofs.lemmas.Result.{err_from_is_err_and}
