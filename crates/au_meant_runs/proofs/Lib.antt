@@ -7,3 +7,4 @@ mod NumberingLemmas
 mod RowLemmas
 mod FollowedLemmas
 mod RunLemmas
+mod FollowLemmas

@@ -40,6 +40,18 @@ module _ (all : List Body) (rows : List Row) where
   entry_same [] first numbers = refl
   entry_same (f ∷ rest) first numbers = refl
 
+  -- the texts and the types are the same
+  pub texts_same : (functions : List ClosedFunction) (first : ℕ) (numbers : ℕ → ℕ)
+      → texts_in (one_after first functions) ≡ texts_in (in_any numbers functions)
+  texts_same functions first numbers =
+      λ i. adds bytes_eq [] (texts_named (bodies_same functions first numbers i))
+
+  pub types_same : (functions : List ClosedFunction) (first : ℕ) (numbers : ℕ → ℕ)
+      → types_in (one_after first functions) ≡ types_in (in_any numbers functions)
+  types_same functions first numbers =
+      λ i. adds same [] (entry_same functions first numbers i
+      ++ types_named (bodies_same functions first numbers i))
+
   functions_same : (texts : List Bytes) (types : List ClosedType) (functions : List ClosedFunction)
       (first : ℕ) (numbers : ℕ → ℕ)
       → map (function_code texts types) (one_after first functions)
@@ -55,13 +67,10 @@ module _ (all : List Body) (rows : List Row) where
       → lowered told (one_after first functions) ≡ lowered told (in_any numbers functions)
   code_same told functions first numbers =
       (λ i. record {
-        texts = adds bytes_eq [] (texts_named (bodies_same functions first numbers i));
-        types = map told (adds same [] (entry_same functions first numbers i
-            ++ types_named (bodies_same functions first numbers i)));
+        texts = texts_same functions first numbers i;
+        types = map told (types_same functions first numbers i);
         functions = map
-            (function_code (adds bytes_eq [] (texts_named (bodies_same functions first numbers i)))
-            (adds same [] (entry_same functions first numbers i
-            ++ types_named (bodies_same functions first numbers i))))
+            (function_code (texts_same functions first numbers i) (types_same functions first numbers i))
             (one_after first functions);
         root = nat_lt 0 (length (entry_same functions first numbers i));
       })

@@ -19,7 +19,7 @@ use Rattle.au_meaning.specs.Views.{Field, Function}
 use Rattle.au_meaning.specs.Worlds.{Outcome, stuck}
 use Rattle.au_simulation.specs.Programs.{EntryTakes}
 use Rattle.au_good_programs.specs.Asked.{FieldsAreOnce, ParametersAreOnce}
-use Rattle.au_good_programs.specs.Followed.{EntryBegins}
+use Rattle.au_good_programs.specs.Followed.{AreFollowed, EntryBegins}
 use Rattle.au_good_programs.specs.Suits.{guarded_functions}
 use Rattle.au_good_programs.proofs.CodeLemmas.{lowered_same}
 use Rattle.au_good_programs.proofs.GoodLemmas.{guarded_good}
@@ -61,7 +61,7 @@ module _ (program : List ModuleParts) (noted : List NotedParts) (owner name : By
       }
 
   -- the program means what its closed functions mean
-  means_so : (input : List ℕ) (ticks : ℕ)
+  pub means_so : (input : List ℕ) (ticks : ℕ)
       → means program noted closes.entry input ticks ≡ mean (λ i. slice_get (all_of c) i) 0 input ticks
   means_so input ticks =
       meaning_kept program noted (plain_instance closes.entry) c.functions closes.functions (λ one. 0)
@@ -70,15 +70,22 @@ module _ (program : List ModuleParts) (noted : List NotedParts) (owner name : By
       (lists_types program c.functions c.types closes.types)) input ticks
       ∙ sym (λ j. mean (λ i. in_order (round_in c) c.functions (λ n. 0) i j) 0 input ticks)
 
+  -- where that isn't stuck, code can follow them
+  pub are_followed : (input : List ℕ) (ticks : ℕ)
+      → ((means program noted closes.entry input ticks).ending ≡ stuck → ⊥)
+      → AreFollowed (told_in c.types) (all_of c)
+  are_followed input ticks claim =
+      let begins : EntryBegins (told_in c.types) (all_of c) =
+      entry_begins (all_of c) input ticks
+      (λ e. claim (ap (λ (o : Outcome). o.ending) (means_so input ticks) ∙ e)) in
+      rows_follow program noted runnable.derived (plain_instance closes.entry) c
+      closes.functions (types_of c.types) (made_rows program c.functions c.types closes.types)
+      runnable.plain once fields begins
+
   run_shown : RunsShow (code_of c) (means program noted closes.entry)
   run_shown input limit claim =
       let told = told_in c.types in
-      let begins : EntryBegins told (all_of c) =
-      entry_begins (all_of c) input limit
-      (λ e. claim (ap (λ (o : Outcome). o.ending) (means_so input limit) ∙ e)) in
-      let followed = rows_follow program noted runnable.derived (plain_instance closes.entry) c
-      closes.functions (types_of c.types) (made_rows program c.functions c.types closes.types)
-      runnable.plain once fields begins in
+      let followed = are_followed input limit claim in
       let guards = guarded_functions (all_of c) in
       let good = guarded_good ClosedNote (Callee ℕ) told (all_of c) followed in
       let meant : (ticks : ℕ) → means program noted closes.entry input ticks

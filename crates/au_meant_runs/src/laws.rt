@@ -1,6 +1,7 @@
 //! What holds of runs of lowered code, and of the names in closed programs, as contracts of calls that do
 //! nothing.
 
+ghost use Rattle.au_meant_runs.specs.Follows.{LoweredProgramsFollow};
 ghost use Rattle.au_meant_runs.specs.Once.{ClosedFieldsAreOnce, ClosedParametersAreOnce};
 ghost use Rattle.au_meant_runs.specs.Runs.{LoweredProgramsRun};
 
@@ -18,4 +19,10 @@ pub fn closed_fields_are_once()
 /// Every run of the code that a program is lowered to shows what the program means from its entry.
 pub fn lowered_programs_run()
     ensures { LoweredProgramsRun }
+{}
+
+/// A run of that code does what the program means from its entry for any number of ticks for which that isn't
+/// stuck, with its events, after as many steps as ticks or more and at most eight times as many.
+pub fn lowered_programs_follow()
+    ensures { LoweredProgramsFollow }
 {}
