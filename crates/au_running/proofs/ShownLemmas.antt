@@ -1,9 +1,10 @@
 -- What is answered of a run of a program's code is so of what the program means.
-use Rattle.std.proofs.Common.{◌≡◌, ◌⊎◌, inl, inr, ℕ, ◌+◌, ◌-◌, ◌<◌, false, List, [], ◌++◌, Option, Some, None, Ok, refl, sym, ap, subst, ◌∙◌, arith}
+use Rattle.std.proofs.Common.{◌≡◌, ◌⊎◌, inl, inr, ℕ, ◌+◌, ◌-◌, ◌<◌, true, false, List, [], ◌++◌, Option, Some, None, Ok, refl, sym, ap, subst, ◌∙◌, arith}
 use Rattle.au_closed_programs.specs.Programs.{ClosedProgram, Closes, plain_instance}
 use Rattle.au_closing_meanings.specs.Generic.{generic_functions}
 use Rattle.au_derivations.specs.Trees.{NotedParts}
 use Rattle.au_effects.specs.Worlds.{Deed}
+use Rattle.au_good_programs.specs.Asked.{CallsArePlain}
 use Rattle.au_low.specs.declared.code.Code.{Code}
 use Rattle.au_low.specs.declared.endings.Ending.{Ending}
 use Rattle.au_low.specs.declared.endings.Ending.TheVariants as ending
@@ -19,6 +20,7 @@ use Rattle.au_meant_runs.specs.Meant.{means}
 use Rattle.au_meant_runs.specs.Runs.{IsRunnable, LoweredProgramsRun, RunsShow, ended_by, kind_words}
 use Rattle.au_meant_runs.specs.Shown.{Ended, Shows, aborts, exits, spent}
 use Rattle.au_modules.specs.Programs.{ModuleParts}
+use Rattle.au_plain_calls.specs.Plain.{functions_are_plain}
 use Rattle.au_runs.specs.Calls.{HasWaited, IsCut, IsMade, Says}
 use Rattle.au_runs.specs.declared.ends.End.{End}
 use Rattle.au_runs.specs.declared.ends.End.TheVariants as end
@@ -109,7 +111,8 @@ module _ (code : Code) (meant : List ℕ → ℕ → Outcome) (runs : RunsShow c
 -- ---- runs of the code of a program
 
 module _ (program : List ModuleParts) (noted : List NotedParts) (owner name : Bytes) where
-  module _ (c : ClosedProgram) (closes : Closes program noted owner name c) (law : LoweredProgramsRun) where
+  module _ (c : ClosedProgram) (closes : Closes program noted owner name c)
+      (plain : CallsArePlain c.functions) (law : LoweredProgramsRun) where
     -- where its runs are spoken of, they show what it means
     runs_of : IsRunnable program noted c → RunsShow (code_of c) (means program noted closes.entry)
     runs_of good = law program noted owner name c closes good
@@ -123,6 +126,7 @@ module _ (program : List ModuleParts) (noted : List NotedParts) (owner name : By
       ends_so ends ending by made = record {
         c = c;
         closes = closes;
+        plain = plain;
         taken = made.taken;
         rest = made.rest;
         input = made.input;
@@ -141,6 +145,7 @@ module _ (program : List ModuleParts) (noted : List NotedParts) (owner name : By
       is_stuck_so made = record {
         c = c;
         closes = closes;
+        plain = plain;
         taken = made.taken;
         rest = made.rest;
         input = made.input;
@@ -156,6 +161,7 @@ module _ (program : List ModuleParts) (noted : List NotedParts) (owner name : By
       is_broken cut = record {
         c = c;
         closes = closes;
+        plain = plain;
         input = cut.input;
         given = cut.given;
         front = λ good unstuck.
@@ -172,6 +178,7 @@ module _ (program : List ModuleParts) (noted : List NotedParts) (owner name : By
       has_waited waited = record {
         c = c;
         closes = closes;
+        plain = plain;
         input = waited.taken ++ rest_in left;
         given = given_by told left waited.taken (rest_in left) waited.input (after_is left);
         front = λ good unstuck.
@@ -196,11 +203,13 @@ module _ (program : List ModuleParts) (noted : List NotedParts) (owner name : By
       run_so (end.Exit success) says = ends_so (exits success) (ending.Exit success) refl says
       run_so (end.Abort why) says = ends_so (aborts (kind_words (code_of c) why)) (ending.Abort why) refl says
       run_so end.Steps says = ends_so spent ending.Steps refl says
-      run_so end.Stuck says = is_stuck_so says
+      run_so end.Stuck says = inl (is_stuck_so says)
       run_so end.ReadFault says = has_waited says
       run_so end.WriteFault says = is_broken says
 
-  module _ (law : LoweredProgramsRun) (code : Code) (has : HasCode program noted owner name (Ok code)) where
+  module _ (law : LoweredProgramsRun)
+      (are_plain : (c : ClosedProgram) → functions_are_plain c.functions ≡ true → CallsArePlain c.functions)
+      (code : Code) (has : HasCode program noted owner name (Ok code)) where
     -- what is answered of a run of its code
     pub came_so : (ran : Ran) (steps : ℕ) (told left out out' : Option (List ℕ))
         → CameSo code ran steps told left out out'
@@ -208,9 +217,9 @@ module _ (program : List ModuleParts) (noted : List NotedParts) (owner name : By
     came_so ran steps told left out out' came =
         let c = has.0 in
         let its : CameSo (code_of c) ran steps told left out out' =
-        subst (λ (code : Code). CameSo code ran steps told left out out') has.2 came in
+        subst (λ (code : Code). CameSo code ran steps told left out out') has.3 came in
         subst (λ (ran : Ran). HasRunSo program noted owner name ran steps told left out out') (sym its.answer)
-        (run_so c has.1 law steps told left out out' its.events its.ended its.says)
+        (run_so c has.1 (are_plain c has.2) law steps told left out out' its.events its.ended its.says)
 
     -- a run of its code that was cut off
     pub cut_so : (steps : ℕ) (told out out' : Option (List ℕ))
@@ -218,5 +227,5 @@ module _ (program : List ModuleParts) (noted : List NotedParts) (owner name : By
         → IsBroken program noted owner name steps told out out'
     cut_so steps told out out' cut =
         let c = has.0 in
-        is_broken c has.1 law steps told told out out' []
-        (subst (λ (code : Code). IsCut (low_run false code) steps told out out') has.2 cut)
+        is_broken c has.1 (are_plain c has.2) law steps told told out out' []
+        (subst (λ (code : Code). IsCut (low_run false code) steps told out out') has.3 cut)

@@ -1,5 +1,5 @@
 -- What is answered where a program's code is made, and where it is run.
-use Rattle.std.specs.Prelude.{◌≡◌, ℕ, false, List, Option, Result, Ok, Err}
+use Rattle.std.specs.Prelude.{◌≡◌, ℕ, true, false, List, Option, Result, Ok, Err}
 use Rattle.au_effects.specs.Worlds.{Deed}
 use Rattle.au_closed_programs.specs.Programs.{ClosedProgram, Closes}
 use Rattle.au_derivations.specs.Trees.{NotedParts}
@@ -8,24 +8,27 @@ use Rattle.au_low.specs.Runs.{low_run}
 use Rattle.au_lowering.specs.Closed.{code_of}
 use Rattle.au_meant_runs.specs.Runs.{kind_words}
 use Rattle.au_modules.specs.Programs.{ModuleParts}
+use Rattle.au_plain_calls.specs.Plain.{functions_are_plain}
 use Rattle.au_runs.specs.Calls.{Says}
 use Rattle.au_runs.specs.declared.ends.End.{End}
 use Rattle.au_runs.specs.declared.ends.End.TheVariants as end
-use Rattle.au_running.specs.Ran.{HasNoEntry, PassesSo}
+use Rattle.au_running.specs.Ran.{HasNoEntry, IsUnbuilt, PassesSo}
 use Rattle.au_running.specs.declared.coding.Uncoded.{Uncoded}
 use Rattle.au_running.specs.declared.coding.Uncoded.TheVariants as uncoded
 use Rattle.au_running.specs.declared.ran.Ran.{Ran}
 use Rattle.au_running.specs.declared.ran.Ran.TheVariants as ran
 use Rattle.au_syntax.specs.Plain.{Bytes}
 
--- The code that a program is lowered to from its entry, or why there is none; nothing is said where memory
--- ran out.
+-- The code that a program is lowered to from its entry, each shipped call in which is plain, or why there is
+-- none; nothing is said where memory ran out.
 abbrev pub HasCode : (program : List ModuleParts) (noted : List NotedParts) (owner name : Bytes)
     → Result Code Uncoded → Type 0
 HasCode program noted owner name (Ok code) =
-    (c : ClosedProgram) × Closes program noted owner name c × (code ≡ code_of c)
+    (c : ClosedProgram) × Closes program noted owner name c × (functions_are_plain c.functions ≡ true)
+    × (code ≡ code_of c)
 HasCode program noted owner name (Err uncoded.NoEntry) = HasNoEntry program noted owner name
 HasCode program noted owner name (Err (uncoded.Limit limit)) = PassesSo program noted owner name limit
+HasCode program noted owner name (Err uncoded.Unplain) = IsUnbuilt program noted owner name
 HasCode program noted owner name (Err uncoded.Memory) = Unit {0}
 
 -- what is answered of a run of code, by how it ended

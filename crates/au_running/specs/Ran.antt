@@ -8,12 +8,14 @@ use Rattle.au_derivations.specs.Trees.{NotedParts}
 use Rattle.au_entries.specs.Entries.{entry_of, not_of_the_form, nowhere}
 use Rattle.au_closed_programs.specs.Answers.{ClosesWithin, Passes}
 use Rattle.au_closed_programs.specs.Programs.{ClosedProgram, Closes}
+use Rattle.au_good_programs.specs.Asked.{CallsArePlain}
 use Rattle.au_lowering.specs.Answers.{too_long}
 use Rattle.au_lowering.specs.Closed.{is_too_long}
 use Rattle.au_meaning.specs.Worlds.{Outcome, stuck}
 use Rattle.au_meant_runs.specs.Meant.{means}
 use Rattle.au_meant_runs.specs.Runs.{IsRunnable}
 use Rattle.au_meant_runs.specs.Shown.{Ended, Shows, aborts, exits, spent}
+use Rattle.au_plain_calls.specs.Plain.{functions_are_plain}
 use Rattle.au_runs.specs.Calls.{Takes}
 use Rattle.au_running.specs.declared.ran.Ran.{Ran}
 use Rattle.au_running.specs.declared.ran.Ran.TheVariants as ran
@@ -47,12 +49,20 @@ module _ (program : List ModuleParts) (noted : List NotedParts) (owner name : By
       ⊎ ((c : ClosedProgram) × ClosesWithin program noted owner name c × (is_too_long c ≡ true)
       × (limit ≡ too_long))
 
-  -- The program ran from its entry: the call took bytes of its input and wrote bytes, of which P holds by
-  -- what the program means on that input, where its runs are spoken of.
+  -- What the program closes to calls a shipped function of references, boxes, buffers or the terminal, whose
+  -- code isn't built yet.
+  pub record IsUnbuilt : Type 0 where
+    pub c : ClosedProgram
+    pub closes : Closes program noted owner name c
+    pub unplain : functions_are_plain c.functions ≡ false
+
+  -- The program ran from its entry, and each shipped call in it is plain: the call took bytes of its input and
+  -- wrote bytes, of which P holds by what the program means on that input, where its runs are spoken of.
   pub record HasRun (P : (ℕ → Outcome) → List ℕ → List ℕ → Type 0) (told left out out' : Option (List ℕ))
       : Type 0 where
     pub c : ClosedProgram
     pub closes : Closes program noted owner name c
+    pub plain : CallsArePlain c.functions
     pub taken : List ℕ
     pub rest : List ℕ
     pub input : Takes told left taken rest
@@ -61,11 +71,12 @@ module _ (program : List ModuleParts) (noted : List NotedParts) (owner name : By
     pub meant : IsRunnable program noted c
         → P (means program noted closes.entry (taken ++ rest)) written rest
 
-  -- The program ran, and its run was broken off: a front of what it writes within so many steps was written,
-  -- where its runs are spoken of and its meaning isn't stuck.
+  -- The program ran, each shipped call in it is plain, and its run was broken off: a front of what it writes
+  -- within so many steps was written, where its runs are spoken of and its meaning isn't stuck.
   pub record IsBroken (steps : ℕ) (told out out' : Option (List ℕ)) : Type 0 where
     pub c : ClosedProgram
     pub closes : Closes program noted owner name c
+    pub plain : CallsArePlain c.functions
     pub input : List ℕ
     pub given : IfSome told (λ bytes. bytes ≡ input)
     pub front : IsRunnable program noted c
@@ -81,7 +92,8 @@ module _ (program : List ModuleParts) (noted : List NotedParts) (owner name : By
   HasRunSo (ran.Abort words) steps told left out out' =
       HasRun (EndsSo (aborts words) steps) told left out out'
   HasRunSo ran.Steps steps told left out out' = HasRun (EndsSo spent steps) told left out out'
-  HasRunSo ran.Stuck steps told left out out' = HasRun (IsStuckSo steps) told left out out'
+  HasRunSo ran.Stuck steps told left out out' =
+      HasRun (IsStuckSo steps) told left out out' ⊎ (IsUnbuilt × IsIdle told left out out')
   HasRunSo ran.ReadFault steps told left out out' = IsBroken steps told out out'
   HasRunSo ran.WriteFault steps told left out out' = IsBroken steps told out out'
 

@@ -13,6 +13,7 @@ use crate::ran::Ran;
 use au_base::{Entry, Memory, Sink, Source};
 use au_meant_runs::laws::lowered_programs_run;
 use au_noting_programs::NotedProgram;
+use au_plain_laws::laws::plain_functions_are_plain;
 use std::alloc::Global;
 
 /// Runs an accepted program from the entry that is named by its module and its own name, for at most so many
@@ -43,9 +44,11 @@ pub fn run_program<I: Source, O: Sink>(
         ((I.faults input.new ≡ I.faults input.old) × (O.faults out.new ≡ O.faults out.old)) }
 {
     lowered_programs_run();
+    plain_functions_are_plain();
     match closed_code(alloc, program, entry) {
         Err(Uncoded::NoEntry) => Ok(Ran::NoEntry),
         Err(Uncoded::Limit(limit)) => Ok(Ran::Limit(limit)),
+        Err(Uncoded::Unplain) => Ok(Ran::Stuck),
         Err(Uncoded::Memory) => Err(Memory),
         Ok(code) => run_code(alloc, &code, steps, input, out),
     }

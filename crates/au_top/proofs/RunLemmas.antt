@@ -205,6 +205,7 @@ module _ (program : List ModuleParts) (noted : List NotedParts) (owner name : By
       record {
         c = h.c;
         closes = h.closes;
+        plain = h.plain;
         input = h.taken ++ h.rest;
         given = takes_whole told left h.taken h.rest h.input;
         front =
@@ -223,10 +224,12 @@ module _ (program : List ModuleParts) (noted : List NotedParts) (owner name : By
   ran_broken (how.Exit success) told left out out' h = inr (made_broken (exits success) told left out out' h)
   ran_broken (how.Abort words) told left out out' h = inr (made_broken (aborts words) told left out out' h)
   ran_broken how.Steps told left out out' h = inr (made_broken spent told left out out' h)
-  ran_broken how.Stuck told left out out' h =
+  ran_broken how.Stuck told left out out' (inr h) = inl h.1.1
+  ran_broken how.Stuck told left out out' (inl h) =
       inr (record {
         c = h.c;
         closes = h.closes;
+        plain = h.plain;
         input = h.taken ++ h.rest;
         given = takes_whole told left h.taken h.rest h.input;
         front = λ runnable sound. absurd (sound (h.meant runnable));
@@ -369,7 +372,7 @@ module _ (named : Option Entry) (steps : ℕ) (program : List ModuleParts) where
           input = h.input;
           written = h.written;
           output = h.output;
-          shows = λ plain. h.meant (record { derived = derived; declared = declared; plain = plain });
+          shows = h.meant (record { derived = derived; declared = declared; plain = h.plain });
         }
 
     ran_shown : (ran : Ran) (told left out out' err err' : Option (List ℕ))

@@ -10,7 +10,6 @@ use Rattle.au_derivations.specs.Trees.{NotedParts}
 use Rattle.au_noting_programs.specs.Faults.{IsDerived}
 use Rattle.au_meaning.specs.Worlds.{stuck}
 use Rattle.au_closed_programs.specs.Programs.{ClosedProgram, Closes}
-use Rattle.au_good_programs.specs.Asked.{CallsArePlain}
 use Rattle.au_refusals.specs.Lines.{abort_line, steps_line}
 use Rattle.au_runs.specs.Calls.{Takes}
 use Rattle.au_meant_runs.specs.Meant.{means}
@@ -20,9 +19,8 @@ use Rattle.au_top.specs.Runs.{entry_for}
 -- for a program, the entry that is named if one is, and the most steps
 module _ (named : Option Entry) (steps : ℕ) (program : List ModuleParts) where
   -- The rules of typing derive the program with some notes, and it closes to functions from its entry. A run
-  -- of it took bytes of its input, left the rest, and wrote bytes, all of which stand on `out`. Where none of
-  -- the shipped functions of references, boxes, buffers and the terminal is called, and what the program
-  -- means on that input isn't stuck within as many ticks as the run had steps, this is what it means.
+  -- of it took bytes of its input, left the rest, and wrote bytes, all of which stand on `out`. Where what the
+  -- program means on that input isn't stuck within as many ticks as the run had steps, this is what it means.
   pub record HasShown (ends : Ended) (told left out out' : Option (List ℕ)) : Type 0 where
     pub noted : List NotedParts
     pub derived : IsDerived program noted
@@ -35,8 +33,7 @@ module _ (named : Option Entry) (steps : ℕ) (program : List ModuleParts) where
     pub written : List ℕ
     pub output : Adds out out' written
     pub shows :
-        CallsArePlain c.functions
-        → ((means program noted closes.entry (taken ++ rest) steps).ending ≡ stuck → ⊥)
+        ((means program noted closes.entry (taken ++ rest) steps).ending ≡ stuck → ⊥)
         → Shows ends (means program noted closes.entry (taken ++ rest)) steps written rest
 
   -- What a status of a call says of the run: it returned success or failure, aborted for the cause that its
