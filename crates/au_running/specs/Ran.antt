@@ -56,8 +56,8 @@ module _ (program : List ModuleParts) (noted : List NotedParts) (owner name : By
     pub closes : Closes program noted owner name c
     pub unplain : functions_are_plain c.functions ≡ false
 
-  -- The program ran from its entry, and each shipped call in it is plain: the call took bytes of its input and
-  -- wrote bytes, of which P holds by what the program means on that input, where its runs are spoken of.
+  -- The program ran from its entry, and each shipped call in it is plain: the call took bytes of its input
+  -- and wrote bytes, of which P holds by what the program means on that input, where its runs are spoken of.
   pub record HasRun (P : (ℕ → Outcome) → List ℕ → List ℕ → Type 0) (told left out out' : Option (List ℕ))
       : Type 0 where
     pub c : ClosedProgram

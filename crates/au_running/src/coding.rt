@@ -33,8 +33,8 @@ pub enum Uncoded {
 ///
 /// `NoEntry` exactly where there is no such entry, or it hasn't the form of one; `Limit` where an instance
 /// passes a limit, there are too many, or the code is too long; `Unplain` where a function that is reached
-/// from the entry calls a shipped function of references, boxes, buffers or the terminal; `Memory` when memory
-/// runs out.
+/// from the entry calls a shipped function of references, boxes, buffers or the terminal; `Memory` when
+/// memory runs out.
 pub fn closed_code(alloc: Global, program: &NotedProgram, entry: &Entry) -> Result<Code, Uncoded>
     ensures { (noted : List NotedParts) × IsDerived (slots.modules program.now) noted
         × HasCode (slots.modules program.now) noted entry.now.module entry.now.function result }
