@@ -18,7 +18,7 @@ use au_ints::{IntOp, Order, compare, trap};
 /// The exact result of an operation, where there is one in the range of the kind. Each operation is a call
 /// of its own, of which a few instructions are left where the kind is known.
 #[inline(always)]
-fn exact(op: IntOp, kind: IntKind, a: i128, b: i128) -> Option<i128>
+pub fn exact(op: IntOp, kind: IntKind, a: i128, b: i128) -> Option<i128>
     requires first { IsOfKind kind a }
     requires second { IsOfKind kind b }
     ensures is { result ≡ trapped op kind a b }

@@ -184,7 +184,7 @@ impl State {
 
     /// Puts a value into a slot of the running frame that holds one, and goes on.
     #[inline(always)]
-    fn put_whole(&mut self, slot: u32, cell: Cell) -> Turn
+    pub fn put_whole(&mut self, slot: u32, cell: Cell) -> Turn
         requires { self.now.place < most_place }
         ensures is { turned result self.new
             ≡ puts (slot_part slot [] (machine_of self.old)) (low cell) (machine_of self.old) }

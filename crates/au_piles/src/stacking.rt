@@ -42,6 +42,7 @@ impl<T> Piles<T> {
     }
 
     /// How many piles are below the top.
+    #[inline(always)]
     pub fn depth(&self) -> usize
         ensures { result ≡ length self.now.1 }
     {
@@ -49,6 +50,7 @@ impl<T> Piles<T> {
     }
 
     /// The items of the pile at the top.
+    #[inline(always)]
     pub fn top(&self) -> &[T]
         ensures { result.now ≡ self.now.0 }
     {
@@ -60,6 +62,7 @@ impl<T> Piles<T> {
     /// # Errors
     ///
     /// `Memory` when memory runs out; nothing changes then.
+    #[inline(always)]
     pub fn push(&mut self, item: T) -> Result<(), Memory>
     where
         T: Drop,
@@ -71,6 +74,7 @@ impl<T> Piles<T> {
     }
 
     /// Takes the last item of the pile at the top.
+    #[inline(always)]
     pub fn pop(&mut self) -> Option<T>
         ensures { MatchOption result
             ((self.old.0 ≡ []) × (self.new ≡ self.old))
@@ -83,6 +87,7 @@ impl<T> Piles<T> {
     }
 
     /// Puts an item in the place of one of the pile at the top, and gives that one.
+    #[inline(always)]
     pub fn put(&mut self, index: usize, item: T) -> T
         requires { index < length self.old.0 }
         ensures new { self.new ≡ (slice_set self.old.0 index item, self.old.1) }
@@ -96,6 +101,7 @@ impl<T> Piles<T> {
     /// # Errors
     ///
     /// `Memory` when memory runs out; nothing changes then.
+    #[inline(always)]
     pub fn begin(&mut self) -> Result<(), Memory>
         ensures ok { OnOk result (self.new ≡ ([], self.old.0 ∷ self.old.1)) }
         ensures err { OnErr result (self.new ≡ self.old) }
@@ -106,6 +112,7 @@ impl<T> Piles<T> {
     }
 
     /// Drops the pile at the top; where it is the only one, an empty one is left.
+    #[inline(always)]
     pub fn end(&mut self)
     where
         T: Drop,

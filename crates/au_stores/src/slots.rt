@@ -15,6 +15,7 @@ use au_cells::Cell;
 use au_cells::paths::part;
 use au_piles::Piles;
 
+#[inline(always)]
 fn item(slots: &[Option<Cell>], slot: usize) -> Option<&Option<Cell>>
     ensures { option_copied result ≡ slice_get slots.now slot }
 {
@@ -22,6 +23,7 @@ fn item(slots: &[Option<Cell>], slot: usize) -> Option<&Option<Cell>>
 }
 
 /// What a slot of some frame's slots holds.
+#[inline(always)]
 pub(crate) fn held(slots: &[Option<Cell>], slot: u32) -> Option<&Cell>
     ensures { option_map low (option_copied result)
         ≡ along (slice_get (slots_of slots.now) slot) (λ value. value) }
@@ -56,6 +58,7 @@ pub(crate) fn fill_empty(piles: &mut Piles<Option<Cell>>, count: usize) -> Resul
 
 impl World {
     /// Whether the running frame has a slot.
+    #[inline(always)]
     pub fn has_slot(&self, slot: u32) -> bool
         ensures is { IsTrue result ↔ (slot < length self.now.slots.0) }
         ensures world { result ≡ nat_lt slot (slot_count (top_frame self.now) (world_of self.now)) }
@@ -64,6 +67,7 @@ impl World {
     }
 
     /// What a slot of the running frame holds.
+    #[inline(always)]
     pub fn in_slot(&self, slot: u32) -> Option<&Cell>
         ensures { option_map low (option_copied result)
             ≡ name_at (top_frame self.now) slot (world_of self.now) }
@@ -72,6 +76,7 @@ impl World {
     }
 
     /// Puts a value into a slot of the running frame, or empties it.
+    #[inline(always)]
     pub fn set_slot(&mut self, slot: u32, held: Option<Cell>) -> Option<Cell>
         requires { slot < length self.old.slots.0 }
         ensures world { world_of self.new
