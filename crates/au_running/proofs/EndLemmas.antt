@@ -24,9 +24,9 @@ use Rattle.au_simulation.proofs.BetweenLemmas.{between, ends_so, seen_within}
 use Rattle.au_simulation.proofs.EndLemmas.{has_ended}
 use Rattle.au_simulation.proofs.RunLemmas.{runs_follow}
 use Rattle.au_simulation.specs.Programs.{GoodProgram}
-use Rattle.au_meant_runs.specs.Runs.{RunShows, ended_by, kind_words}
-use Rattle.au_meant_runs.specs.Shown.{IsSeen, aborts, exits, fault_words, spent}
-use Rattle.au_meant_runs.proofs.NamedLemmas.{abort_named}
+use Rattle.au_running.specs.Runs.{RunShows, ended_by, kind_words}
+use Rattle.au_running.specs.Shown.{IsSeen, aborts, exits, fault_words, spent}
+use Rattle.au_running.proofs.NamedLemmas.{abort_named}
 use Rattle.au_syntax.specs.Plain.{Bytes}
 
 -- ---- endings
