@@ -1,6 +1,3 @@
-pub mod FrontLemmas
-pub mod AnswerLemmas
-pub mod ShownLemmas
 mod MarkLemmas
 mod StandingLemmas
 mod OnceLemmas
@@ -13,3 +10,6 @@ mod RunLemmas
 mod FollowLemmas
 mod PlainLemmas
 mod ToldLemmas
+pub mod FrontLemmas
+pub mod AnswerLemmas
+pub mod ShownLemmas

@@ -1,8 +1,8 @@
-pub mod Coded
-pub mod Ran
+pub use Rattle.au_closed_programs.specs.Programs
 pub mod Once
 pub mod Meant
 pub mod Shown
 pub mod Runs
 pub mod Follows
-pub use Rattle.au_closed_programs.specs.Programs
+pub mod Coded
+pub mod Ran
