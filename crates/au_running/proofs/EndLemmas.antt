@@ -107,7 +107,8 @@ module _ {T C : Type 0} (told : ClosedType → LowType) (functions : List (Funct
 
   exit_shown : (success : Bool) → full.ending ≡ low_ending.Exit success → RunShows code meant input limit
   exit_shown success e =
-      let over = has_ended told functions good input limit unstuck (λ cut. not_steps (sym e ∙ cut)) in record {
+      let over = has_ended told functions good input limit unstuck (λ cut. not_steps (sym e ∙ cut)) in
+      record {
         ends = exits success;
         ended = ap (ended_by code) (ends_alike ∙ e);
         shows = (
