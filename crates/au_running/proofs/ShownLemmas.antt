@@ -16,9 +16,9 @@ use Rattle.au_meaning.specs.Views.{Function}
 use Rattle.au_meaning.specs.Worlds as meaning
 use Rattle.au_meaning.specs.Worlds.{Outcome, exit, abort, running, stuck}
 use Rattle.au_meaning.proofs.MeaningGrowth.{more_tells, endings_stay}
-use Rattle.au_meant_runs.specs.Meant.{means}
-use Rattle.au_meant_runs.specs.Runs.{IsRunnable, LoweredProgramsRun, RunsShow, ended_by, kind_words}
-use Rattle.au_meant_runs.specs.Shown.{Ended, Shows, aborts, exits, spent}
+use Rattle.au_running.specs.Meant.{means}
+use Rattle.au_running.specs.Runs.{IsRunnable, LoweredProgramsRun, RunsShow, ended_by, kind_words}
+use Rattle.au_running.specs.Shown.{Ended, Shows, aborts, exits, spent}
 use Rattle.au_modules.specs.Programs.{ModuleParts}
 use Rattle.au_plain_calls.specs.Plain.{functions_are_plain}
 use Rattle.au_runs.specs.Calls.{HasWaited, IsCut, IsMade, Says}

@@ -12,9 +12,9 @@ use Rattle.au_good_programs.specs.Asked.{CallsArePlain}
 use Rattle.au_lowering.specs.Answers.{too_long}
 use Rattle.au_lowering.specs.Closed.{is_too_long}
 use Rattle.au_meaning.specs.Worlds.{Outcome, stuck}
-use Rattle.au_meant_runs.specs.Meant.{means}
-use Rattle.au_meant_runs.specs.Runs.{IsRunnable}
-use Rattle.au_meant_runs.specs.Shown.{Ended, Shows, aborts, exits, spent}
+use Rattle.au_running.specs.Meant.{means}
+use Rattle.au_running.specs.Runs.{IsRunnable}
+use Rattle.au_running.specs.Shown.{Ended, Shows, aborts, exits, spent}
 use Rattle.au_plain_calls.specs.Plain.{functions_are_plain}
 use Rattle.au_runs.specs.Calls.{Takes}
 use Rattle.au_running.specs.declared.ran.Ran.{Ran}

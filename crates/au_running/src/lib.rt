@@ -1,10 +1,14 @@
 //! Running an accepted program from its entry: it is closed and lowered, and the machine runs its code.
 //!
-//! `specs/Ran.antt` says what a call has done, by what the program means.
+//! `specs/Ran.antt` says what a call has done, by what the program means. The laws say that runs of lowered
+//! code show what the program means from its entry (`laws`), and that calls which are answered to be plain
+//! are as the law on runs asks (`plain_laws`).
 #![tactic(auto)]
 
 mod coding;
 mod ends;
+pub mod laws;
+pub mod plain_laws;
 mod ran;
 mod running;
 

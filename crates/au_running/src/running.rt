@@ -9,11 +9,11 @@ ghost use Rattle.au_runs.specs.Calls.{Rose};
 
 use crate::coding::{Uncoded, closed_code};
 use crate::ends::run_code;
+use crate::laws::lowered_programs_run;
+use crate::plain_laws::plain_functions_are_plain;
 use crate::ran::Ran;
 use au_base::{Entry, Memory, Sink, Source};
-use au_meant_runs::laws::lowered_programs_run;
 use au_noting_programs::NotedProgram;
-use au_plain_laws::laws::plain_functions_are_plain;
 use std::alloc::Global;
 
 /// Runs an accepted program from the entry that is named by its module and its own name, for at most so many

@@ -18,8 +18,8 @@ use Rattle.au_rules.specs.Good.{AllDeclarationsAreGood}
 use Rattle.au_meaning.specs.Laws.{Begins}
 use Rattle.au_meaning.specs.Worlds.{Outcome}
 use Rattle.au_runs.specs.Calls.{Rose, Takes}
-use Rattle.au_meant_runs.specs.Meant.{means}
-use Rattle.au_meant_runs.specs.Shown.{Ended, Shows, aborts, exits, spent}
+use Rattle.au_running.specs.Meant.{means}
+use Rattle.au_running.specs.Shown.{Ended, Shows, aborts, exits, spent}
 use Rattle.au_running.specs.Ran.{EndsSo, HasRun, HasRunSo, IsBroken, is_read_fault, is_write_fault}
 use Rattle.au_running.specs.declared.ran.Ran.{Ran}
 use Rattle.au_running.specs.declared.ran.Ran.TheVariants as how

@@ -9,11 +9,11 @@ use Rattle.au_modules.specs.Programs.{ModuleParts}
 use Rattle.au_derivations.specs.Trees.{NotedParts}
 use Rattle.au_noting_programs.specs.Faults.{IsDerived}
 use Rattle.au_meaning.specs.Worlds.{stuck}
-use Rattle.au_closed_programs.specs.Programs.{ClosedProgram, Closes}
+use Rattle.au_running.specs.Programs.{ClosedProgram, Closes}
 use Rattle.au_refusals.specs.Lines.{abort_line, steps_line}
 use Rattle.au_runs.specs.Calls.{Takes}
-use Rattle.au_meant_runs.specs.Meant.{means}
-use Rattle.au_meant_runs.specs.Shown.{Ended, Shows, aborts, exits, spent}
+use Rattle.au_running.specs.Meant.{means}
+use Rattle.au_running.specs.Shown.{Ended, Shows, aborts, exits, spent}
 use Rattle.au_top.specs.Runs.{entry_for}
 
 -- for a program, the entry that is named if one is, and the most steps

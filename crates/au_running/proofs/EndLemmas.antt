@@ -24,9 +24,9 @@ use Rattle.au_simulation.proofs.BetweenLemmas.{between, ends_so, seen_within}
 use Rattle.au_simulation.proofs.EndLemmas.{has_ended}
 use Rattle.au_simulation.proofs.RunLemmas.{runs_follow}
 use Rattle.au_simulation.specs.Programs.{GoodProgram}
-use Rattle.au_meant_runs.specs.Runs.{RunShows, ended_by, kind_words}
-use Rattle.au_meant_runs.specs.Shown.{IsSeen, aborts, exits, fault_words, spent}
-use Rattle.au_meant_runs.proofs.NamedLemmas.{abort_named}
+use Rattle.au_running.specs.Runs.{RunShows, ended_by, kind_words}
+use Rattle.au_running.specs.Shown.{IsSeen, aborts, exits, fault_words, spent}
+use Rattle.au_running.proofs.NamedLemmas.{abort_named}
 use Rattle.au_syntax.specs.Plain.{Bytes}
 
 -- ---- endings
@@ -107,7 +107,8 @@ module _ {T C : Type 0} (told : ClosedType → LowType) (functions : List (Funct
 
   exit_shown : (success : Bool) → full.ending ≡ low_ending.Exit success → RunShows code meant input limit
   exit_shown success e =
-      let over = has_ended told functions good input limit unstuck (λ cut. not_steps (sym e ∙ cut)) in record {
+      let over = has_ended told functions good input limit unstuck (λ cut. not_steps (sym e ∙ cut)) in
+      record {
         ends = exits success;
         ended = ap (ended_by code) (ends_alike ∙ e);
         shows = (

@@ -15,8 +15,8 @@ use Rattle.au_low.specs.Instructions.{text_bytes}
 use Rattle.au_low.specs.Runs.{low_run}
 use Rattle.au_lowering.specs.Closed.{code_of}
 use Rattle.au_meaning.specs.Worlds.{Outcome, stuck}
-use Rattle.au_meant_runs.specs.Meant.{means}
-use Rattle.au_meant_runs.specs.Shown.{Ended, Shows, aborts, exits, spent}
+use Rattle.au_running.specs.Meant.{means}
+use Rattle.au_running.specs.Shown.{Ended, Shows, aborts, exits, spent}
 use Rattle.au_syntax.specs.Plain.{Bytes}
 
 -- the words in which an abort of code is told: a called one has the number of its text

@@ -6,8 +6,8 @@ use Rattle.au_closed_programs.specs.Programs.{ClosedProgram, Closes}
 use Rattle.au_lowering.specs.Closed.{functions_of, told_in}
 use Rattle.au_meaning.specs.Worlds.{stuck}
 use Rattle.au_simulation.specs.Laws.{Follows}
-use Rattle.au_meant_runs.specs.Meant.{means}
-use Rattle.au_meant_runs.specs.Runs.{IsRunnable}
+use Rattle.au_running.specs.Meant.{means}
+use Rattle.au_running.specs.Runs.{IsRunnable}
 use Rattle.au_syntax.specs.Plain.{Bytes}
 
 -- A run of the code that a program is lowered to, `code_of c`, does what the program means from its entry for

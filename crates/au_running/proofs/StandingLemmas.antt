@@ -21,7 +21,7 @@ use Rattle.au_again.specs.Once.{AllNamesAreOnce, text_of}
 use Rattle.au_again.specs.Outside.{outside}
 use Rattle.au_derivations.specs.Trees.{NotedDeclaration, NotedEntry, NotedMethod, NotedParts, erase_block, erase_declaration, erase_entry, erase_method, erase_parts, erase_program}
 use Rattle.au_closing.specs.Bodies.{BodyOf, body_at as noted_body_at, body_in, body_of, body_of_parts, body_standing as body_of_standing, declared_in, defining_index, is_method, method_body, noted_at}
-use Rattle.au_meant_runs.proofs.MarkLemmas.{AreNewThere, first_new, inside_new, item_new, marks_written, rest_new}
+use Rattle.au_running.proofs.MarkLemmas.{AreNewThere, first_new, inside_new, item_new, marks_written, rest_new}
 
 -- ---- lists
 

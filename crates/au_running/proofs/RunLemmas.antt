@@ -5,7 +5,7 @@ use Rattle.au_syntax.specs.Plain.{Bytes}
 use Rattle.au_modules.specs.Programs.{ModuleParts}
 use Rattle.au_derivations.specs.Trees.{NotedParts}
 use Rattle.au_closed_trees.specs.ClosedNotes.{Callee, ClosedNote}
-use Rattle.au_meant_runs.proofs.OnceLemmas.{closed_fields_are_once, closed_parameters_are_once}
+use Rattle.au_running.proofs.OnceLemmas.{closed_fields_are_once, closed_parameters_are_once}
 use Rattle.au_closed_programs.specs.Programs.{ClosedProgram, Closes, plain_instance}
 use Rattle.au_closing_meanings.specs.Kept.{SaysWhatIs}
 use Rattle.au_closing_meanings.specs.Listed.{counts_by}
@@ -25,12 +25,12 @@ use Rattle.au_good_programs.proofs.CodeLemmas.{lowered_same}
 use Rattle.au_good_programs.proofs.GoodLemmas.{guarded_good}
 use Rattle.au_good_programs.proofs.JoinedLemmas.{in_order}
 use Rattle.au_good_programs.proofs.MeaningLemmas.{means_same}
-use Rattle.au_meant_runs.specs.Meant.{means}
-use Rattle.au_meant_runs.specs.Runs.{IsRunnable, LoweredProgramsRun, RunShows, RunsShow}
-use Rattle.au_meant_runs.proofs.EndLemmas.{good_shows}
-use Rattle.au_meant_runs.proofs.FollowedLemmas.{all_of, names_same, round_in, rows_follow}
-use Rattle.au_meant_runs.proofs.NumberingLemmas.{code_same}
-use Rattle.au_meant_runs.proofs.RowLemmas.{lists_types, made_rows, rows_say_so, types_of}
+use Rattle.au_running.specs.Meant.{means}
+use Rattle.au_running.specs.Runs.{IsRunnable, LoweredProgramsRun, RunShows, RunsShow}
+use Rattle.au_running.proofs.EndLemmas.{good_shows}
+use Rattle.au_running.proofs.FollowedLemmas.{all_of, names_same, round_in, rows_follow}
+use Rattle.au_running.proofs.NumberingLemmas.{code_same}
+use Rattle.au_running.proofs.RowLemmas.{lists_types, made_rows, rows_say_so, types_of}
 
 -- where a run isn't stuck, the entry has one parameter or none
 entry_begins : (functions : List (Function ℕ ClosedNote (Callee ℕ))) (input : List ℕ) (ticks : ℕ)

@@ -1,9 +1,9 @@
 //! What holds of runs of lowered code, and of the names in closed programs, as contracts of calls that do
 //! nothing.
 
-ghost use Rattle.au_meant_runs.specs.Follows.{LoweredProgramsFollow};
-ghost use Rattle.au_meant_runs.specs.Once.{ClosedFieldsAreOnce, ClosedParametersAreOnce};
-ghost use Rattle.au_meant_runs.specs.Runs.{LoweredProgramsRun};
+ghost use Rattle.au_running.specs.Follows.{LoweredProgramsFollow};
+ghost use Rattle.au_running.specs.Once.{ClosedFieldsAreOnce, ClosedParametersAreOnce};
+ghost use Rattle.au_running.specs.Runs.{LoweredProgramsRun};
 
 /// The parameters of each function that a derived program with good declarations closes to have names of
 /// their own.

@@ -16,13 +16,13 @@ use Rattle.au_meaning.specs.Worlds.{Outcome, stuck}
 use Rattle.au_simulation.specs.Laws.{Follows}
 use Rattle.au_good_programs.specs.Asked.{FieldsAreOnce, ParametersAreOnce}
 use Rattle.au_good_programs.proofs.GoodLemmas.{followed_follow}
-use Rattle.au_meant_runs.specs.Follows.{LoweredProgramsFollow}
-use Rattle.au_meant_runs.specs.Meant.{means}
-use Rattle.au_meant_runs.specs.Runs.{IsRunnable}
-use Rattle.au_meant_runs.proofs.FollowedLemmas.{all_of}
-use Rattle.au_meant_runs.proofs.NumberingLemmas.{code_same, texts_same, types_same}
-use Rattle.au_meant_runs.proofs.OnceLemmas.{closed_fields_are_once, closed_parameters_are_once}
-use Rattle.au_meant_runs.proofs.RunLemmas.{are_followed, means_so}
+use Rattle.au_running.specs.Follows.{LoweredProgramsFollow}
+use Rattle.au_running.specs.Meant.{means}
+use Rattle.au_running.specs.Runs.{IsRunnable}
+use Rattle.au_running.proofs.FollowedLemmas.{all_of}
+use Rattle.au_running.proofs.NumberingLemmas.{code_same, texts_same, types_same}
+use Rattle.au_running.proofs.OnceLemmas.{closed_fields_are_once, closed_parameters_are_once}
+use Rattle.au_running.proofs.RunLemmas.{are_followed, means_so}
 
 -- what follows by some functions follows by others with the same code, texts and types
 follows_by : {T C : Type 0} (told : ClosedType → LowType) (some others : List (Function ℕ T C))

@@ -5,7 +5,7 @@ use Rattle.au_closing.specs.Closes.{ClosedFunction}
 use Rattle.au_good_programs.specs.Asked.{CallsArePlain, IsAny, IsPlainCall}
 use Rattle.au_good_programs.specs.Suits.{SaidIn, SaidOf, SaidOfAll, SaidOfArms, SaidOfBlock, SaidOfNamed, SaidOfTests}
 use Rattle.au_plain_calls.specs.Plain.{functions_are_plain, plain_arguments, plain_arms, plain_block, plain_branches, plain_callee, plain_expression, plain_expressions, plain_statement}
-use Rattle.au_plain_laws.proofs.PlainLemmas.{same_plain}
+use Rattle.au_running.proofs.PlainLemmas.{same_plain}
 use Rattle.au_syntax.specs.Expressions.{Expressions, Arguments, number, negative, text, truth, nil, path, arrow, call, named_call, parenthesized, dereference, borrow, borrow_part, binary, negation, typed, choice, no_expressions, expressions, no_arguments, arguments}
 use Rattle.au_syntax.specs.Plain.{Bytes}
 use Rattle.au_syntax.specs.Statements.{Branches, Arms, skip, declare, destructure, assign, assign_through, conditional, conditional_else, case_of, while_loop, for_loop, borrow_in, borrow_typed, discard, return_of, no_statements, statements, no_branches, branches, no_arms, arms}

@@ -1,5 +1,0 @@
-use Rattle.au_meant_runs.proofs.FollowLemmas.{runs_follow}
-use Rattle.au_meant_runs.proofs.laws.lowered_programs_follow.Goals as goal
-
-pub returns : goal.returns
-returns c = runs_follow

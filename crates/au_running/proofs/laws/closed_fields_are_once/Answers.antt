@@ -1,0 +1,5 @@
+use Rattle.au_running.proofs.OnceLemmas.{closed_fields_are_once}
+use Rattle.au_running.proofs.laws.closed_fields_are_once.Goals as goal
+
+pub returns : goal.returns
+returns c = closed_fields_are_once
