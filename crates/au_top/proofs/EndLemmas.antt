@@ -28,7 +28,7 @@ use Rattle.au_top.specs.Calls.{CameTo, FailsBehind, GoesBehind, HasProgram, IsCu
 use Rattle.au_top.specs.Calls.{IsPaid}
 use Rattle.au_top.specs.Calls.{IsRefused, IsRunBroken, IsRunCut, IsUntouched, MayOwe, PassesLimit, Pays}
 use Rattle.au_top.specs.Calls.{RunsAs}
-use Rattle.au_top.specs.Calls.{RunsSo, RunsTo, Succeeds, is_decided, is_run_end}
+use Rattle.au_top.specs.Calls.{RunsSo, RunsTo, Succeeds, is_decided}
 use Rattle.au_top.specs.Dues.{Arises, Due, IsAcceptedJob, IsCheck, IsExplain, IsRun, IsUnread, Owes}
 use Rattle.au_top.specs.Dues.{accepted_due, due_line, due_of, explained_due}
 use Rattle.au_top.specs.Ends.{HasEnded, HasPaid, IsRunWhole, Streams}
@@ -41,7 +41,7 @@ use Rattle.au_top.proofs.RunLemmas as run
 use Rattle.au_words.proofs.JobLemmas.{one_job}
 
 -- the files that are told are these
-told_same : (told : Option Files) (known files : Files) → told ≡ Some files → AreTold told known
+pub told_same : (told : Option Files) (known files : Files) → told ≡ Some files → AreTold told known
     → known ≡ files
 told_same told known files is are = subst (λ t. AreTold t known) is are
 
@@ -57,6 +57,16 @@ run_with words told r q = record {
   comes = r.comes;
   run = q;
 }
+
+-- the files of a run that are told came to the program that ran
+pub run_comes : {P : Option Entry → ℕ → List ModuleParts → Type 0} (words : List (List ℕ))
+    (told : Option Files) (files : Files) (task : Task) → told ≡ Some files → IsRun words task
+    → (r : RunsSo words told P) → Comes aims.Run files task.files (outcome.Runs r.program)
+run_comes words told files task is job r =
+    let one : r.task ≡ task = one_job words r.task task r.job.0 job.0 in
+    subst (λ f. Comes aims.Run f task.files (outcome.Runs r.program))
+    (told_same told r.files files is r.are_told)
+    (subst (λ (t : Task). Comes aims.Run r.files t.files (outcome.Runs r.program)) one r.comes)
 
 -- for words, the files that are told, the counts of the shelf's faults and misses, the status and the streams
 module _ (words : List (List ℕ)) (told : Option Files) (faults faults' misses misses' : ℕ) (ends : Status)
@@ -78,7 +88,7 @@ module _ (words : List (List ℕ)) (told : Option Files) (faults faults' misses 
   PaidFor one = Pays one ends s.out s.out' s.err s.err'
 
   -- words and files decided how it ended
-  decided : Ending → is_decided ends ≡ true → Paid ⊎ (Whole × (faults' ≡ faults) × (misses' ≡ misses))
+  pub decided : Ending → is_decided ends ≡ true → Paid ⊎ (Whole × (faults' ≡ faults) × (misses' ≡ misses))
   decided h good = elim h [
     | inl p ↦ inl p
     | inr others ↦ elim others [
@@ -111,7 +121,7 @@ module _ (words : List (List ℕ)) (told : Option Files) (faults faults' misses 
   paid_came P p holds = (p.files, p.are_told, p.names, p.arisen, p.arises, holds)
 
   -- the same of the files that are told
-  paid_arises : (files : Files) → told ≡ Some files → (p : Paid) → Arises words files p.names p.arisen
+  pub paid_arises : (files : Files) → told ≡ Some files → (p : Paid) → Arises words files p.names p.arisen
   paid_arises files is p =
       subst (λ f. Arises words f p.names p.arisen) (told_same told p.files files is p.are_told) p.arises
 
@@ -134,7 +144,7 @@ module _ (words : List (List ℕ)) (told : Option Files) (faults faults' misses 
   whole_as r =
       run_with words told r (record { ran = r.run.ran; status = r.run.status; done = r.run.done })
 
-  whole_to : (r : Whole) (ran : Ran) → r.run.ran ≡ ran
+  pub whole_to : (r : Whole) (ran : Ran) → r.run.ran ≡ ran
       → RunsTo words told ran s.left s.left' s.out s.out' s.err s.err'
   whole_to r ran is =
       run_with words told r
@@ -307,10 +317,7 @@ module _ (words : List (List ℕ)) (told : Option Files) (faults faults' misses 
         subst (λ (t : Task). HasRunAs t.entry t.steps
         (slots.modules r.0.program) ends s.left s.left' s.out s.out'
         s.err s.err') one whole.run in
-        let comes : Comes aims.Run files task.files (outcome.Runs r.0.program) =
-        subst (λ f. Comes aims.Run f task.files (outcome.Runs r.0.program))
-        (told_same told r.0.files files is r.0.are_told)
-        (subst (λ (t : Task). Comes aims.Run r.0.files t.files (outcome.Runs r.0.program)) one r.0.comes) in
+        let comes = run_comes words told files task is job r.0 in
         subst (λ program. HasRunAs task.entry task.steps program ends s.left s.left' s.out s.out' s.err
         s.err')
         (due.run_modules files task.files all reads r.0.program accepted comes) of_task
@@ -325,44 +332,6 @@ module _ (words : List (List ℕ)) (told : Option Files) (faults faults' misses 
       run.run_shown task.entry task.steps (program_modules reads) accepted.declared ends s.left s.left' s.out
       s.out'
       s.err s.err' (ended_runs h files task all reads is job good accepted none)
-
-  -- the end of a run that has begun is success, or none that is paid
-  run_end_success : (ended : Status) → is_run_end ended ≡ true → due.is_owed ended ≡ true
-      → ended ≡ status.Success
-  run_end_success status.Success a b = refl
-  run_end_success status.Failure a b = absurd cc
-  run_end_success status.Refused a b = absurd cc
-  run_end_success status.Abort a b = absurd cc
-  run_end_success status.Steps a b = absurd cc
-  run_end_success status.ReadFault a b = absurd cc
-  run_end_success status.WriteFault a b = absurd cc
-  run_end_success status.Memory a b = absurd cc
-  run_end_success status.Limit a b = absurd cc
-  run_end_success status.Missing a b = absurd cc
-  run_end_success status.Words a b = absurd cc
-
-  run_end_decided : (ended : Status) → is_run_end ended ≡ true → is_decided ended ≡ true
-  run_end_decided status.Success a = refl
-  run_end_decided status.Failure a = refl
-  run_end_decided status.Refused a = absurd cc
-  run_end_decided status.Abort a = refl
-  run_end_decided status.Steps a = refl
-  run_end_decided status.ReadFault a = absurd cc
-  run_end_decided status.WriteFault a = absurd cc
-  run_end_decided status.Memory a = absurd cc
-  run_end_decided status.Limit a = absurd cc
-  run_end_decided status.Missing a = absurd cc
-  run_end_decided status.Words a = absurd cc
-
-  -- Only accepted files run.
-  pub ended_runs_only : Ending → (files : Files) (task : Task) → told ≡ Some files → IsRun words task
-      → is_run_end ends ≡ true → Accepted files task.files
-  ended_runs_only h files task is job end = elim (decided h (run_end_decided ends end)) [
-    | inl p ↦
-        succeeded_accepted files task is job.0 p
-        (run_end_success ends end (due.paid_ends p.names ends s.out s.out' s.err s.err' p.arisen p.pays))
-    | inr r ↦ ran_accepted files task is job.0 r.0
-  ]
 
   -- ---- by the status
 

@@ -15,6 +15,7 @@ ghost use Rattle.au_outcomes.specs.Trees.{ReadFile};
 ghost use Rattle.au_running.specs.declared.ran.Ran.TheVariants as ran;
 ghost use Rattle.au_top.specs.Dues.{Arises, AsksForNoFile, AsksForTooMany, Due, IsAcceptedJob, IsCheck};
 ghost use Rattle.au_top.specs.Dues.{IsExplain, IsRun, IsUnread, Owes, accepted_due, explained_due};
+ghost use Rattle.au_top.specs.Entered.{CanRun};
 ghost use Rattle.au_top.specs.Ends.{FaultEnds, HasEnded, answer_ends};
 ghost use Rattle.au_top.specs.Runs.{HasRunAs};
 ghost use Rattle.au_top.specs.Shown.{IsShown};
@@ -97,10 +98,26 @@ pub fn austral<S: Shelf, I: Source, O: Sink, E: Sink>(
         → IsShown task.entry task.steps (program_modules reads) result
         (I.left input.old) (I.left input.new) (O.written out.old) (O.written out.new) (E.written err.old)
         (E.written err.new) }
-    // It ends so only where the files are accepted.
+    // It ends so only where the files are accepted, no form in them isn't built yet, and their program has its
+    // entry: where it can run.
     ensures runs_only { (files : Files) (task : Task) → S.files shelf.old ≡ Some files
-        → IsRun (map string_bytes words.now) task → IsTrue (is_run_end result)
-        → Accepted files task.files }
+        → IsRun (map string_bytes words.now) task → IsTrue (is_run_end result) → CanRun files task }
+    // Unless a limit is passed, it ends so, or the run is stuck, exactly where the program can run.
+    ensures entered { (files : Files) (task : Task) → S.files shelf.old ≡ Some files
+        → IsRun (map string_bytes words.now) task → IsTrue (is_decided result) → result ≢ Status.Limit
+        → CanRun files task ↔ (IsTrue (is_run_end result)
+        ⊎ RunsTo (map string_bytes words.now) (S.files shelf.old) ran.Stuck (I.left input.old)
+        (I.left input.new) (O.written out.old) (O.written out.new) (E.written err.old)
+        (E.written err.new)) }
+    // Unless a limit is passed or a file is missing, it ends with 2, and not since the run is stuck, exactly
+    // where the program can't.
+    ensures not_entered { (files : Files) (task : Task) → S.files shelf.old ≡ Some files
+        → IsRun (map string_bytes words.now) task → IsTrue (is_decided result) → result ≢ Status.Limit
+        → result ≢ Status.Missing
+        → (CanRun files task → ⊥) ↔ ((result ≡ Status.Refused)
+        × (RunsTo (map string_bytes words.now) (S.files shelf.old) ran.Stuck (I.left input.old)
+        (I.left input.new) (O.written out.old) (O.written out.new) (E.written err.old)
+        (E.written err.new) → ⊥)) }
     // 64 comes exactly where the words are no job.
     ensures words { result ≡ Status.Words → IsNoJob (map string_bytes words.now) }
     ensures no_job { IsNoJob (map string_bytes words.now) → IsTrue (is_decided result)

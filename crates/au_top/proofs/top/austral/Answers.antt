@@ -1,5 +1,6 @@
 -- Each clause, from the way in which the call ended.
 use Rattle.au_top.proofs.EndLemmas as of
+use Rattle.au_top.proofs.EnteredLemmas as entered
 use Rattle.au_top.proofs.top.austral.Goals as goal
 
 pub returns-clause-due : goal.returns-clause-due
@@ -40,7 +41,15 @@ returns-clause-shown g c = λ files task all reads is job good accepted none.
 
 pub returns-clause-runs_only : goal.returns-clause-runs_only
 returns-clause-runs_only g c = λ files task is job end.
-    of.ended_runs_only _ _ _ _ _ _ _ _ c.ended.ensures.ends files task is job end
+    entered.ended_runs_only _ _ _ _ _ _ _ _ c.ended.ensures.ends files task is job end
+
+pub returns-clause-entered : goal.returns-clause-entered
+returns-clause-entered g c = λ files task is job good no_limit.
+    entered.ended_entered _ _ _ _ _ _ _ _ c.ended.ensures.ends files task is job good no_limit
+
+pub returns-clause-not_entered : goal.returns-clause-not_entered
+returns-clause-not_entered g c = λ files task is job good no_limit no_missing.
+    entered.ended_not_entered _ _ _ _ _ _ _ _ c.ended.ensures.ends files task is job good no_limit no_missing
 
 pub returns-clause-words : goal.returns-clause-words
 returns-clause-words g c = λ is. of.ended_words _ _ _ _ _ _ _ _ c.ended.ensures.ends is

@@ -1,0 +1,285 @@
+-- Which runs are entered, by the ways in which a call ends.
+use Rattle.std.proofs.Common.{◌≡◌, ◌↔◌, ℕ, true, false, List, Option, Some}
+use Rattle.std.proofs.Common.{ap, ◌∙◌, sym, refl, subst, ◌⊎◌, inl, inr}
+use Rattle.au_base.specs.declared.names.Entry.{Entry}
+use Rattle.au_base.specs.declared.statuses.Status.{Status}
+use Rattle.au_base.specs.declared.statuses.Status.TheVariants as status
+use Rattle.au_base.specs.Outside.{Files}
+use Rattle.au_syntax.specs.Plain.{Bytes}
+use Rattle.au_words.specs.Jobs.{Task}
+use Rattle.au_words.proofs.JobLemmas.{one_job}
+use Rattle.au_modules.specs.Programs.{ModuleParts}
+use Rattle.au_modules.specs.Slots as slots
+use Rattle.au_derivations.specs.Trees.{NotedParts}
+use Rattle.au_running.specs.Programs.{ClosedProgram, Closes}
+use Rattle.au_running.specs.Ran.{HasNoEntry, HasRunSo}
+use Rattle.au_running.specs.declared.ran.Ran.{Ran}
+use Rattle.au_running.specs.declared.ran.Ran.TheVariants as how
+use Rattle.au_outcomes.specs.Accepted.{Accepted, is_behind}
+use Rattle.au_outcomes.specs.Outcomes.{Comes}
+use Rattle.au_outcomes.specs.Programs.{RunComes, program_modules}
+use Rattle.au_outcomes.specs.Trees.{ReadFile}
+use Rattle.au_outcomes.specs.declared.outcomes.Aim.TheVariants as aims
+use Rattle.au_outcomes.specs.declared.outcomes.Outcome.{Outcome}
+use Rattle.au_outcomes.specs.declared.outcomes.Outcome.TheVariants as outcome
+use Rattle.au_outcomes.proofs.AcceptedLemmas.{behind_accepted, comes_asked}
+use Rattle.au_top.specs.Calls.{HasSucceeded, RunsSo, RunsTo, is_decided, is_run_end}
+use Rattle.au_top.specs.Dues.{Arises, IsRun}
+use Rattle.au_top.specs.Ends.{HasEnded, HasPaid, IsRunWhole, Streams}
+use Rattle.au_top.specs.Entered.{CanRun, HasEntry}
+use Rattle.au_top.specs.Runs.{run_status}
+use Rattle.au_top.proofs.DueLemmas as due
+use Rattle.au_top.proofs.EndLemmas as of
+
+-- ---- by how it ran
+
+-- for a program with notes, and the entry and the most steps of its run
+module _ (program : List ModuleParts) (noted : List NotedParts) (owner name : Bytes) (steps : ℕ) where
+  -- what closes to functions from its entry has that entry
+  closes_entry : (c : ClosedProgram) → Closes program noted owner name c
+      → HasNoEntry program noted owner name → ⊥
+  closes_entry c closes none = elim none [
+    | inl missing ↦ let e = sym missing ∙ closes.begins_there in cc
+    | inr other ↦ let e = sym other.1 ∙ closes.begins_there in cc
+  ]
+
+  -- what ran to an end of its own has its entry
+  end_entry : (ran : Ran) (told left out out' : Option (List ℕ)) → is_run_end (run_status ran) ≡ true
+      → HasRunSo program noted owner name ran steps told left out out'
+      → HasNoEntry program noted owner name → ⊥
+  end_entry how.NoEntry told left out out' end h none = cc
+  end_entry (how.Limit limit) told left out out' end h none = cc
+  end_entry (how.Exit success) told left out out' end h none = closes_entry h.c h.closes none
+  end_entry (how.Abort words) told left out out' end h none = closes_entry h.c h.closes none
+  end_entry how.Steps told left out out' end h none = closes_entry h.c h.closes none
+  end_entry how.Stuck told left out out' end h none = cc
+  end_entry how.ReadFault told left out out' end h none = cc
+  end_entry how.WriteFault told left out out' end h none = cc
+
+  -- what is stuck has its entry
+  stuck_entry : (told left out out' : Option (List ℕ))
+      → HasRunSo program noted owner name how.Stuck steps told left out out'
+      → HasNoEntry program noted owner name → ⊥
+  stuck_entry told left out out' h none = elim h [
+    | inl r ↦ closes_entry r.c r.closes none
+    | inr u ↦ closes_entry u.0.c u.0.closes none
+  ]
+
+  -- what has its entry, and ran without a limit that is passed, and without a failure, ended so or is stuck
+  entry_ends : (ran : Ran) (told left out out' : Option (List ℕ)) → is_decided (run_status ran) ≡ true
+      → (run_status ran ≡ status.Limit → ⊥)
+      → HasRunSo program noted owner name ran steps told left out out'
+      → (HasNoEntry program noted owner name → ⊥)
+      → (is_run_end (run_status ran) ≡ true) ⊎ (ran ≡ how.Stuck)
+  entry_ends how.NoEntry told left out out' good no_limit h has = absurd (has h.0)
+  entry_ends (how.Limit limit) told left out out' good no_limit h has = absurd (no_limit refl)
+  entry_ends (how.Exit true) told left out out' good no_limit h has = inl refl
+  entry_ends (how.Exit false) told left out out' good no_limit h has = inl refl
+  entry_ends (how.Abort words) told left out out' good no_limit h has = inl refl
+  entry_ends how.Steps told left out out' good no_limit h has = inl refl
+  entry_ends how.Stuck told left out out' good no_limit h has = inr refl
+  entry_ends how.ReadFault told left out out' good no_limit h has = absurd cc
+  entry_ends how.WriteFault told left out out' good no_limit h has = absurd cc
+
+-- ---- by the status
+
+-- a status that words and files decide, which is none of these others, is 2
+refused_else : (ends : Status) → is_decided ends ≡ true → (ends ≡ status.Limit → ⊥)
+    → (ends ≡ status.Missing → ⊥) → (ends ≡ status.Words → ⊥) → (is_run_end ends ≡ true → ⊥)
+    → ends ≡ status.Refused
+refused_else status.Success good limit missing words end = absurd (end refl)
+refused_else status.Failure good limit missing words end = absurd (end refl)
+refused_else status.Refused good limit missing words end = refl
+refused_else status.Abort good limit missing words end = absurd (end refl)
+refused_else status.Steps good limit missing words end = absurd (end refl)
+refused_else status.ReadFault good limit missing words end = absurd cc
+refused_else status.WriteFault good limit missing words end = absurd cc
+refused_else status.Memory good limit missing words end = absurd cc
+refused_else status.Limit good limit missing words end = absurd (limit refl)
+refused_else status.Missing good limit missing words end = absurd (missing refl)
+refused_else status.Words good limit missing words end = absurd (words refl)
+
+-- the end of a run that has begun is success, or none that is paid
+run_end_success : (ended : Status) → is_run_end ended ≡ true → due.is_owed ended ≡ true
+    → ended ≡ status.Success
+run_end_success status.Success a b = refl
+run_end_success status.Failure a b = absurd cc
+run_end_success status.Refused a b = absurd cc
+run_end_success status.Abort a b = absurd cc
+run_end_success status.Steps a b = absurd cc
+run_end_success status.ReadFault a b = absurd cc
+run_end_success status.WriteFault a b = absurd cc
+run_end_success status.Memory a b = absurd cc
+run_end_success status.Limit a b = absurd cc
+run_end_success status.Missing a b = absurd cc
+run_end_success status.Words a b = absurd cc
+
+-- a status of its own is one that words and files decide
+run_end_decided : (ended : Status) → is_run_end ended ≡ true → is_decided ended ≡ true
+run_end_decided status.Success a = refl
+run_end_decided status.Failure a = refl
+run_end_decided status.Refused a = absurd cc
+run_end_decided status.Abort a = refl
+run_end_decided status.Steps a = refl
+run_end_decided status.ReadFault a = absurd cc
+run_end_decided status.WriteFault a = absurd cc
+run_end_decided status.Memory a = absurd cc
+run_end_decided status.Limit a = absurd cc
+run_end_decided status.Missing a = absurd cc
+run_end_decided status.Words a = absurd cc
+
+-- ---- jobs
+
+-- the files of a run, where they are accepted, come to nothing that isn't what a run comes to
+none_behind : (files : Files) (names : List (List ℕ)) (arisen other : Outcome) → arisen ≡ other
+    → is_behind other ≡ true → ((reads : List ReadFile) → RunComes reads other → ⊥)
+    → Comes aims.Run files names arisen → ⊥
+none_behind files names arisen other same behind none comes =
+    let good = behind_accepted aims.Run files names arisen comes (ap is_behind same ∙ behind) in
+    none good.1 (subst (λ o. RunComes good.1 o) same
+    (comes_asked aims.Run files names good.0 good.1 arisen good.2 comes))
+
+-- The files of a run come neither to that they are accepted nor to the lives of their variables.
+run_succeeds : (words : List (List ℕ)) (files : Files) (names : List (List ℕ)) (arisen : Outcome)
+    (task : Task) (out out' : Option (List ℕ)) → IsRun words task → Arises words files names arisen
+    → HasSucceeded out out' names arisen → ⊥
+run_succeeds words files names arisen task out out' job arises succeeded =
+    let comes =
+    due.task_comes words files names arisen task aims.Run job.0 (due.run_asks words task job) arises in
+    elim succeeded [
+      | inl p ↦ none_behind files task.files arisen outcome.Accepted p.0 refl (λ reads h. h) comes
+      | inr p ↦ none_behind files task.files arisen (outcome.Explained p.0) p.1 refl (λ reads h. h) comes
+    ]
+
+-- for words of a run and its files, which are told
+module _ (words : List (List ℕ)) (told : Option Files) (files : Files) (task : Task)
+    (is : told ≡ Some files) (job : IsRun words task) where
+  -- a program that ran can run, where it has its entry
+  ran_can : {P : Option Entry → ℕ → List ModuleParts → Type 0} (r : RunsSo words told P)
+      → ((noted : List NotedParts) → HasEntry r.task.entry (slots.modules r.program) noted)
+      → CanRun files task
+  ran_can r has =
+      let one : r.task ≡ task = one_job words r.task task r.job.0 job.0 in
+      let comes = of.run_comes words told files task is job r in
+      let good : Accepted files task.files =
+      behind_accepted aims.Run files task.files (outcome.Runs r.program) comes refl in
+      let run : RunComes good.1 (outcome.Runs r.program) =
+      comes_asked aims.Run files task.files good.0 good.1 (outcome.Runs r.program) good.2 comes in
+      record {
+        all = good.0;
+        reads = good.1;
+        accepted = good.2;
+        built = run.0;
+        entry =
+            subst (λ program. HasEntry task.entry program good.2.noted) run.1
+            (subst (λ (t : Task). HasEntry t.entry (slots.modules r.program) good.2.noted) one
+            (has good.2.noted));
+      }
+
+  -- the entry of a program that can run is that of what ran
+  can_ran : {P : Option Entry → ℕ → List ModuleParts → Type 0} (r : RunsSo words told P)
+      → (can : CanRun files task)
+      → HasEntry r.task.entry (slots.modules r.program) can.accepted.noted
+  can_ran r can =
+      let one : r.task ≡ task = one_job words r.task task r.job.0 job.0 in
+      let same = due.run_modules files task.files can.all can.reads r.program can.accepted
+      (of.run_comes words told files task is job r) in
+      subst (λ program. HasEntry r.task.entry program can.accepted.noted) (sym same)
+      (subst (λ (t : Task). HasEntry t.entry (program_modules can.reads) can.accepted.noted) (sym one)
+      can.entry)
+
+  -- a program can run that ran to an end of its own, or is stuck
+  whole_can : (ends : Status) (s : Streams) → RunsSo words told (IsRunWhole ends s)
+      → is_run_end ends ≡ true → CanRun files task
+  whole_can ends s r end =
+      let done = r.run.done.run in
+      ran_can r (λ noted. end_entry (slots.modules r.program) done.noted _ _ r.task.steps r.run.ran s.left
+      s.left' s.out s.out' (sym (ap is_run_end r.run.status) ∙ end) done.done)
+
+  stuck_can : (left left' out out' err err' : Option (List ℕ))
+      → RunsTo words told how.Stuck left left' out out' err err' → CanRun files task
+  stuck_can left left' out out' err err' r =
+      ran_can r (λ noted. stuck_entry (slots.modules r.program) r.run.run.noted _ _ r.task.steps left left'
+      out out' r.run.run.done)
+
+-- ---- by the ways in which a call ends
+
+-- for words, the files that are told, the counts of the shelf's faults and misses, the status and the streams
+module _ (words : List (List ℕ)) (told : Option Files) (faults faults' misses misses' : ℕ) (ends : Status)
+    (s : Streams) where
+  -- how the call ended
+  abbrev pub Ending : Type 0
+  Ending = HasEnded words told faults faults' misses misses' ends s
+
+  -- a run is stuck
+  abbrev pub IsStuck : Type 0
+  IsStuck = RunsTo words told how.Stuck s.left s.left' s.out s.out' s.err s.err'
+
+  -- no line is paid for it that it succeeded
+  paid_run : {T : Type 0} (files : Files) (task : Task) → told ≡ Some files → IsRun words task
+      → (p : HasPaid words told faults faults' misses misses' ends s) → is_run_end ends ≡ true → T
+  paid_run files task is job p end =
+      let success = run_end_success ends end
+      (due.paid_ends p.names ends s.out s.out' s.err s.err' p.arisen p.pays) in
+      absurd (run_succeeds words files p.names p.arisen task s.out s.out' job
+      (of.paid_arises words told faults faults' misses misses' ends s files is p)
+      (due.succeeded_so p.names ends s.out s.out' s.err s.err' p.arisen p.pays success))
+
+  -- A run ends so only where its program can run.
+  pub ended_runs_only : Ending → (files : Files) (task : Task) → told ≡ Some files → IsRun words task
+      → is_run_end ends ≡ true → CanRun files task
+  ended_runs_only h files task is job end =
+      elim (of.decided words told faults faults' misses misses' ends s h (run_end_decided ends end)) [
+        | inl p ↦ paid_run files task is job p end
+        | inr r ↦ whole_can words told files task is job ends s r.0 end
+      ]
+
+  -- a program that can run, and ran, ended so or is stuck
+  whole_enters : (files : Files) (task : Task) → told ≡ Some files → IsRun words task
+      → is_decided ends ≡ true → (ends ≡ status.Limit → ⊥) → CanRun files task
+      → RunsSo words told (IsRunWhole ends s)
+      → (is_run_end ends ≡ true) ⊎ IsStuck
+  whole_enters files task is job good no_limit can r =
+      let done = r.run.done.run in
+      let entry = can_ran words told files task is job r can in
+      elim (entry_ends (slots.modules r.program) done.noted _ _ r.task.steps r.run.ran s.left s.left'
+      s.out s.out' (sym (ap is_decided r.run.status) ∙ good) (λ limit. no_limit (r.run.status ∙ limit))
+      done.done entry) [
+        | inl end ↦ inl (ap is_run_end r.run.status ∙ end)
+        | inr stuck ↦ inr (of.whole_to words told faults faults' misses misses' ends s r how.Stuck stuck)
+      ]
+
+  -- A run ends so, or is stuck, exactly where its program can run, unless a limit is passed.
+  pub ended_entered : Ending → (files : Files) (task : Task) → told ≡ Some files → IsRun words task
+      → is_decided ends ≡ true → (ends ≡ status.Limit → ⊥)
+      → CanRun files task ↔ ((is_run_end ends ≡ true) ⊎ IsStuck)
+  ended_entered h files task is job good no_limit = (
+    λ can. elim (of.decided words told faults faults' misses misses' ends s h good) [
+      | inl p ↦
+          absurd (due.run_unpaid words files p.names can.all p.arisen task can.reads
+          (of.PaidFor words told faults faults' misses misses' ends s) job can.accepted can.built
+          (of.paid_arises words told faults faults' misses misses' ends s files is p) p.pays)
+      | inr r ↦ whole_enters files task is job good no_limit can r.0
+    ],
+    λ entered. elim entered [
+      | inl end ↦ ended_runs_only h files task is job end
+      | inr stuck ↦ stuck_can words told files task is job s.left s.left' s.out s.out' s.err s.err' stuck
+    ],
+  )
+
+  -- It is refused, and isn't stuck, exactly where its program can't, unless a file is missing besides.
+  pub ended_not_entered : Ending → (files : Files) (task : Task) → told ≡ Some files → IsRun words task
+      → is_decided ends ≡ true → (ends ≡ status.Limit → ⊥) → (ends ≡ status.Missing → ⊥)
+      → (CanRun files task → ⊥) ↔ ((ends ≡ status.Refused) × (IsStuck → ⊥))
+  ended_not_entered h files task is job good no_limit no_missing = (
+    λ cannot. (
+      refused_else ends good no_limit no_missing
+          (λ none. of.ended_words words told faults faults' misses misses' ends s h none task job.0)
+          (λ end. cannot (ended_runs_only h files task is job end)),
+      λ stuck. cannot ((ended_entered h files task is job good no_limit).1 (inr stuck)),
+    ),
+    λ refused can. elim ((ended_entered h files task is job good no_limit).0 can) [
+      | inl end ↦ let e = sym end ∙ ap is_run_end refused.0 in cc
+      | inr stuck ↦ refused.1 stuck
+    ],
+  )

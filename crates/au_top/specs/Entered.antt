@@ -1,0 +1,32 @@
+-- Which runs are entered.
+use Rattle.std.specs.Prelude.{◌≡◌, ℕ, List, Option, None}
+use Rattle.au_base.specs.declared.names.Entry.{Entry}
+use Rattle.au_base.specs.Outside.{Files}
+use Rattle.au_words.specs.Jobs.{Task}
+use Rattle.au_modules.specs.Programs.{ModuleParts}
+use Rattle.au_derivations.specs.Trees.{NotedParts}
+use Rattle.au_unbuilt.specs.Unbuilt.{unbuilt_of}
+use Rattle.au_outcomes.specs.Accepted.{AreAcceptedAs}
+use Rattle.au_outcomes.specs.Programs.{program_modules}
+use Rattle.au_outcomes.specs.Trees.{ReadFile}
+use Rattle.au_running.specs.Ran.{HasNoEntry}
+use Rattle.au_top.specs.Runs.{entry_for}
+
+-- A program with notes has the entry of a run, the one that is named or else `main` of the last module, and
+-- that has the form of one.
+abbrev pub HasEntry : Option Entry → List ModuleParts → List NotedParts → Type 0
+HasEntry named program noted =
+    HasNoEntry program noted (entry_for named program).«module» (entry_for named program).function → ⊥
+
+-- The program of a task's files can run: that is said by rules alone.
+pub record CanRun (files : Files) (task : Task) : Type 0 where
+  -- the bytes of the files
+  pub all : List (List ℕ)
+  -- the trees of the files
+  pub reads : List ReadFile
+  -- By these the files are accepted: so the rules of typing derive their program, with some notes.
+  pub accepted : AreAcceptedAs files task.files all reads
+  -- No form in the program isn't built yet.
+  pub built : unbuilt_of (program_modules reads) ≡ None
+  -- The program has its entry.
+  pub entry : HasEntry task.entry (program_modules reads) accepted.noted
