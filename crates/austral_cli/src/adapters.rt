@@ -131,6 +131,7 @@ impl<R: Read> StdinSource<R> {
         ensures kept { OnErr result (Keeps (prepend_known self.old.block (R.remaining self.old.reader))
             (prepend_known self.new.block (R.remaining self.new.reader))) }
         ensures unasked { self.old.block ≢ [] → self.new.reader ≡ self.old.reader }
+        ensures ended { result ≡ Ok None → IsTrue self.new.ended }
         ensures over { IsTrue self.old.ended → (result ≡ Ok None) × (self.new.reader ≡ self.old.reader) }
         ensures faults { self.new.faults ≡ self.old.faults }
     {
