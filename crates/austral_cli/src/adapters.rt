@@ -2,12 +2,15 @@
 //! none of their contents, so what they hold is the edge that is trusted; where the library's reader or
 //! writer knows its bytes, the functions below pass on just those.
 
-ghost use Rattle.std.specs.Prelude.{◌≡◌, ◌≢◌, ◌+◌, ◌<◌, ◌≤◌, ◌++◌, [], ◌∷◌, take, None, IfOk, IfSome, MatchOption, OnOk, length, vec_len};
+ghost use Rattle.std.specs.Prelude.{◌≡◌, ◌≢◌, ◌+◌, ◌<◌, ◌≤◌, ◌++◌, [], ◌∷◌, take, length, vec_len};
+ghost use Rattle.std.specs.Prelude.{None, Ok, IfOk, IfSome, IsTrue, MatchOption, OnErr, OnOk};
+ghost use Rattle.std.specs.Option.{ForSome};
 ghost use Rattle.std.specs.IoError.{error_kind};
-ghost use Rattle.std.specs.Io.KnownBytes.{Appends, Consumes, IsAtEnd};
+ghost use Rattle.std.specs.Io.KnownBytes.{Appends, Consumes, IsAtEnd, Keeps, prepend_known};
 ghost use Rattle.au_base.specs.Limits.{most_file_bytes};
 ghost use Rattle.au_base.specs.Outside.{Counts, FillsRoom, is_fault, is_miss};
 
+use crate::block::Block;
 use au_base::{Fetch, MOST_FILE_BYTES, Next, Put, Shelf, Sink, Source};
 use std::io::{ErrorKind, Read, Write};
 use std::rt::Files;
@@ -93,32 +96,50 @@ fn read_front<F: Read + Drop>(file: F, room: &mut Vec<u8>) -> io::Result<()>
     Ok(())
 }
 
-/// Standard input, a byte at a time.
+/// Standard input. A block is read only where a byte is asked for and none is held, so that a program
+/// waits for no input that it hasn't asked for. An end is the last of it, and the reader isn't asked again.
 #[derive(Drop)]
-pub struct StdinSource<R> {
+pub struct StdinSource<R: Read> {
     reader: R,
+    block: Block,
+    ended: bool,
     faults: u64,
+    ghost none_held: { IsTrue ended → block ≡ [] },
+    ghost none_left: { IsTrue ended → ForSome (R.remaining reader) (λ left. left ≡ []) },
 }
 
 impl<R: Read> StdinSource<R> {
     /// The bytes of this reader.
     pub fn new(reader: R) -> StdinSource<R>
         ensures faults { result.faults ≡ 0 }
+        ensures bytes { result.reader ≡ reader × result.block ≡ [] }
     {
-        StdinSource { reader, faults: 0 }
+        StdinSource {
+            reader,
+            block: Block::new(),
+            ended: false,
+            faults: 0,
+        }
     }
 
-    /// The next byte of the reader, or none at its end.
+    /// The next byte of the reader, or none at its end. A read that fails loses none.
     fn next_byte(&mut self) -> io::Result<Option<u8>>
-        ensures bytes { IfOk result (λ next. MatchOption next (IsAtEnd (R.remaining self.new.reader))
-            (λ byte. Consumes (R.remaining self.old.reader) (R.remaining self.new.reader) (byte ∷ []))) }
+        ensures bytes { IfOk result (λ next. MatchOption next
+            (IsAtEnd (prepend_known self.new.block (R.remaining self.new.reader)))
+            (λ byte. Consumes (prepend_known self.old.block (R.remaining self.old.reader))
+            (prepend_known self.new.block (R.remaining self.new.reader)) (byte ∷ []))) }
+        ensures kept { OnErr result (Keeps (prepend_known self.old.block (R.remaining self.old.reader))
+            (prepend_known self.new.block (R.remaining self.new.reader))) }
+        ensures unasked { self.old.block ≢ [] → self.new.reader ≡ self.old.reader }
+        ensures ended { result ≡ Ok None → IsTrue self.new.ended }
+        ensures over { IsTrue self.old.ended → (result ≡ Ok None) × (self.new.reader ≡ self.old.reader) }
         ensures faults { self.new.faults ≡ self.old.faults }
     {
-        let mut byte = [0u8; 1];
-        match self.reader.read(&mut byte)? {
-            0 => Ok(None),
-            _ => Ok(Some(byte[0])),
+        if self.block.is_empty() && !self.ended {
+            self.block.fill(&mut self.reader)?;
+            self.ended = self.block.is_empty();
         }
+        Ok(self.block.take())
     }
 }
 

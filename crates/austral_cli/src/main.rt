@@ -2,6 +2,7 @@
 #![tactic(auto)]
 
 mod adapters;
+mod block;
 #[cfg(test)]
 mod tests;
 
