@@ -38,8 +38,12 @@ impl<P: Phase> Copied for Signature<P> {
     ghost see = { header P.Phase };
 
     fn copy(&self, alloc: Global) -> Result<Signature<P>, Memory> {
-        let (name, parameters, result) =
-            copy_three(alloc, &self.name, &self.parameters, &self.result)?;
+        let (name, parameters, result) = copy_three(
+            alloc,
+            &self.name,
+            &self.parameters,
+            &self.result,
+        )?;
         Ok(Signature {
             name,
             parameters,

@@ -22,11 +22,11 @@ impl<P: Phase> Copied for Block<P> {
 /// The three names of a borrowing block.
 fn copy_borrow_names<P: Phase>(alloc: Global, of: &BorrowNames<P>) -> Result<BorrowNames<P>, Memory>
     ensures variable { IfOk result (λ copy. placed P.Phase copy.variable ≡ placed P.Phase of.now.variable) }
-    ensures reference { IfOk result (λ copy. placed P.Phase copy.reference ≡ placed P.Phase of.now.reference) }
+    ensures reference { IfOk result (λ copy.
+        placed P.Phase copy.reference ≡ placed P.Phase of.now.reference) }
     ensures region { IfOk result (λ copy. placed P.Phase copy.region ≡ placed P.Phase of.now.region) }
 {
-    let (variable, reference, region) =
-        copy_three(alloc, &of.variable, &of.reference, &of.region)?;
+    let (variable, reference, region) = copy_three(alloc, &of.variable, &of.reference, &of.region)?;
     Ok(BorrowNames {
         variable,
         reference,
