@@ -1,8 +1,8 @@
-use Rattle.std.proofs.Common.{ap, ◌∙◌, arith}
+use Rattle.std.proofs.Common.{arith}
 use Rattle.au_syntax.specs.declared.statements.Arm.{size-Arm}
 use Rattle.au_syntax.specs.declared.statements.Stmt.{size-Stmt}
 use Rattle.au_syntax.specs.declared.statements.Block.{size-Block, size_is-Block}
-use Rattle.au_syntax.specs.Views.{expression, statement, statement_all, branch_all, arm_all}
+use Rattle.au_syntax.specs.Views.{statement, statement_all, branch_all, arm_all}
 use Rattle.au_syntax.proofs.StatementLemmas.{snoc_statements, snoc_branches, snoc_arms, statements_push, branches_push, arms_push, one_branch, one_arm, let_says, destructure_says, assign_says, assign_through_says, if_says, case_says, call_says, return_says}
 use Rattle.au_copying.proofs.CopyLemmas.{item_falls, block_item_falls, all_copied, copied_more, branch_copied, arm_copied}
 use Rattle.au_copying.proofs.BlockLemmas.{if_else_copied, while_copied, for_copied, borrow_copied, borrow_typed_copied}
