@@ -1,39 +1,45 @@
 //! Copies of expressions.
 
-ghost use Rattle.std.specs.Prelude.{◌≡◌, IfOk, map};
+ghost use Rattle.std.specs.Prelude.{◌≡◌, ℕ, List, IfOk};
+ghost use Rattle.au_syntax.specs.Expressions.{Node, Expression, call, named_call};
 ghost use Rattle.au_syntax.specs.Views.{placed, node, expression, expression_all, argument_all};
 
-use crate::copied::{Copied, copy_all};
+use crate::copied::{Copied, copy_three, copy_two};
 use crate::types::copy_type;
-use au_base::Memory;
+use au_base::{Memory, Text};
 use au_syntax::{Argument, Expr, Ident, Phase, Site};
 use std::alloc::Global;
 
-/// The same place, with a note that says the same.
-fn copy_site<P: Phase>(alloc: Global, site: &Site<P>) -> Result<Site<P>, Memory>
-    ensures { IfOk result (λ copy. node P.Phase copy ≡ node P.Phase site.now) }
-{
-    let note = P::copy_type_note(alloc, &site.note)?;
-    Ok(Site { at: site.at, note })
+impl<P: Phase> Copied for Site<P> {
+    ghost Seen = { Node P.SeenType };
+
+    ghost see = { node P.Phase };
+
+    // The same place, with a note that says the same.
+    fn copy(&self, alloc: Global) -> Result<Site<P>, Memory> {
+        let note = P::copy_type_note(alloc, &self.note)?;
+        Ok(Site { at: self.at, note })
+    }
 }
 
-/// A site, a name and the fields behind it.
-fn copy_place<P: Phase>(
-    alloc: Global,
-    site: &Site<P>,
-    name: &Ident<P>,
-    fields: &Vec<Ident<P>>,
-) -> Result<(Site<P>, Ident<P>, Vec<Ident<P>>), Memory>
-    ensures site { IfOk result (λ copy. node P.Phase copy.0 ≡ node P.Phase site.now) }
-    ensures name { IfOk result (λ copy. placed P.Phase copy.1 ≡ placed P.Phase name.now) }
-    ensures fields { IfOk result (λ copy.
-        map (placed P.Phase) copy.2.items
-        ≡ map (placed P.Phase) fields.now.items) }
-{
-    let site = copy_site(alloc, site)?;
-    let name = name.copy(alloc)?;
-    let fields = copy_all(alloc, fields)?;
-    Ok((site, name, fields))
+impl Copied for Text {
+    ghost Seen = { List ℕ };
+
+    ghost see = { λ text. text };
+
+    fn copy(&self, alloc: Global) -> Result<Text, Memory> {
+        self.copy(alloc)
+    }
+}
+
+impl<P: Phase> Copied for Box<Expr<P>> {
+    ghost Seen = { Expression P.SeenName P.SeenType P.SeenCall };
+
+    ghost see = { λ boxed. expression P.Phase boxed.value };
+
+    fn copy(&self, alloc: Global) -> Result<Box<Expr<P>>, Memory> {
+        copy_boxed(alloc, self)
+    }
 }
 
 /// What a call has besides its arguments.
@@ -47,8 +53,7 @@ fn copy_callee<P: Phase>(
     ensures name { IfOk result (λ copy. placed P.Phase copy.1 ≡ placed P.Phase name.now) }
     ensures note { IfOk result (λ copy. P.see_call copy.2 ≡ P.see_call note.now) }
 {
-    let site = copy_site(alloc, site)?;
-    let name = name.copy(alloc)?;
+    let (site, name) = copy_two(alloc, site, name)?;
     let note = P::copy_call_note(alloc, note)?;
     Ok((site, name, note))
 }
@@ -59,31 +64,25 @@ fn copy_expression<P: Phase>(alloc: Global, of: &Expr<P>) -> Result<Expr<P>, Mem
     ensures { IfOk result (λ copy. expression P.Phase copy ≡ expression P.Phase of.now) }
 {
     match of {
-        Expr::Number(site, literal) => Ok(Expr::Number(copy_site(alloc, site)?, *literal)),
-        Expr::Negative(site, literal) => Ok(Expr::Negative(copy_site(alloc, site)?, *literal)),
+        Expr::Number(site, literal) => Ok(Expr::Number(site.copy(alloc)?, *literal)),
+        Expr::Negative(site, literal) => Ok(Expr::Negative(site.copy(alloc)?, *literal)),
         Expr::Text(site, text) => {
-            let site = copy_site(alloc, site)?;
-            Ok(Expr::Text(site, text.copy(alloc)?))
+            let (site, text) = copy_two(alloc, site, text)?;
+            Ok(Expr::Text(site, text))
         }
-        Expr::Bool(site, truth) => Ok(Expr::Bool(copy_site(alloc, site)?, *truth)),
-        Expr::Nil(site) => Ok(Expr::Nil(copy_site(alloc, site)?)),
+        Expr::Bool(site, truth) => Ok(Expr::Bool(site.copy(alloc)?, *truth)),
+        Expr::Nil(site) => Ok(Expr::Nil(site.copy(alloc)?)),
         Expr::Path(site, name, fields) => {
-            let (site, name, fields) = copy_place(alloc, site, name, fields)?;
+            let (site, name, fields) = copy_three(alloc, site, name, fields)?;
             Ok(Expr::Path(site, name, fields))
         }
         Expr::Arrow(site, name, fields) => {
-            let (site, name, fields) = copy_place(alloc, site, name, fields)?;
+            let (site, name, fields) = copy_three(alloc, site, name, fields)?;
             Ok(Expr::Arrow(site, name, fields))
         }
-        Expr::Call(site, name, arguments, note) => {
-            let arguments = copy_expressions(alloc, arguments)?;
-            let (site, name, note) = copy_callee(alloc, site, name, note)?;
-            Ok(Expr::Call(site, name, arguments, note))
-        }
+        Expr::Call(site, name, arguments, note) => copy_call(alloc, arguments, site, name, note),
         Expr::NamedCall(site, name, arguments, note) => {
-            let arguments = copy_arguments(alloc, arguments)?;
-            let (site, name, note) = copy_callee(alloc, site, name, note)?;
-            Ok(Expr::NamedCall(site, name, arguments, note))
+            copy_named_call(alloc, arguments, site, name, note)
         }
         Expr::Parenthesized(site, inner) => {
             let (site, inner) = copy_operand(alloc, site, inner)?;
@@ -94,11 +93,11 @@ fn copy_expression<P: Phase>(alloc: Global, of: &Expr<P>) -> Result<Expr<P>, Mem
             Ok(Expr::Dereference(site, inner))
         }
         Expr::Borrow(site, mode, name) => {
-            let site = copy_site(alloc, site)?;
-            Ok(Expr::Borrow(site, *mode, name.copy(alloc)?))
+            let (site, name) = copy_two(alloc, site, name)?;
+            Ok(Expr::Borrow(site, *mode, name))
         }
         Expr::BorrowPart(site, name, fields) => {
-            let (site, name, fields) = copy_place(alloc, site, name, fields)?;
+            let (site, name, fields) = copy_three(alloc, site, name, fields)?;
             Ok(Expr::BorrowPart(site, name, fields))
         }
         Expr::Binary(site, operator, left, right) => {
@@ -110,8 +109,9 @@ fn copy_expression<P: Phase>(alloc: Global, of: &Expr<P>) -> Result<Expr<P>, Mem
             Ok(Expr::Not(site, inner))
         }
         Expr::Typed(site, inner, text) => {
+            let text = copy_type(alloc, text)?;
             let (site, inner) = copy_operand(alloc, site, inner)?;
-            Ok(Expr::Typed(site, inner, copy_type(alloc, text)?))
+            Ok(Expr::Typed(site, inner, text))
         }
         Expr::If(site, test, then, otherwise) => {
             let (site, test) = copy_operand(alloc, site, test)?;
@@ -140,9 +140,47 @@ fn copy_operand<P: Phase>(
     ensures site { IfOk result (λ copy. node P.Phase copy.0 ≡ node P.Phase site.now) }
     ensures operand { IfOk result (λ copy. expression P.Phase copy.1.value ≡ expression P.Phase of.now) }
 {
-    let site = copy_site(alloc, site)?;
+    let site = site.copy(alloc)?;
     let operand = copy_boxed(alloc, of)?;
     Ok((site, operand))
+}
+
+/// A call that says the same.
+#[cycle(copy_expression)]
+fn copy_call<P: Phase>(
+    alloc: Global,
+    arguments: &Vec<Expr<P>>,
+    site: &Site<P>,
+    name: &Ident<P>,
+    note: &P::CallNote,
+) -> Result<Expr<P>, Memory>
+    ensures { IfOk result (λ copy.
+        expression P.Phase copy
+        ≡ call (node P.Phase site.now) (placed P.Phase name.now)
+        (expression_all P.Phase arguments.now.items) (P.see_call note.now)) }
+{
+    let (site, name, note) = copy_callee(alloc, site, name, note)?;
+    let arguments = copy_expressions(alloc, arguments)?;
+    Ok(Expr::Call(site, name, arguments, note))
+}
+
+/// A call with named arguments that says the same.
+#[cycle(copy_expression)]
+fn copy_named_call<P: Phase>(
+    alloc: Global,
+    arguments: &Vec<Argument<P>>,
+    site: &Site<P>,
+    name: &Ident<P>,
+    note: &P::CallNote,
+) -> Result<Expr<P>, Memory>
+    ensures { IfOk result (λ copy.
+        expression P.Phase copy
+        ≡ named_call (node P.Phase site.now) (placed P.Phase name.now)
+        (argument_all P.Phase arguments.now.items) (P.see_call note.now)) }
+{
+    let (site, name, note) = copy_callee(alloc, site, name, note)?;
+    let arguments = copy_arguments(alloc, arguments)?;
+    Ok(Expr::NamedCall(site, name, arguments, note))
 }
 
 /// An argument that says the same.

@@ -4,7 +4,7 @@ ghost use Rattle.std.specs.Prelude.{◌≡◌, IfOk};
 ghost use Rattle.au_syntax.specs.Modules.{Importing};
 ghost use Rattle.au_syntax.specs.Views.{importing, module_tree};
 
-use crate::copied::{Copied, copy_all};
+use crate::copied::{Copied, copy_three, copy_two};
 use au_base::Memory;
 use au_syntax::{Import, Module, Phase};
 use std::alloc::Global;
@@ -15,9 +15,8 @@ impl<P: Phase> Copied for Import<P> {
     ghost see = { importing P.Phase };
 
     fn copy(&self, alloc: Global) -> Result<Import<P>, Memory> {
+        let (module, items) = copy_two(alloc, &self.module, &self.items)?;
         let at = self.at;
-        let module = copy_all(alloc, &self.module)?;
-        let items = copy_all(alloc, &self.items)?;
         Ok(Import { at, module, items })
     }
 }
@@ -26,9 +25,7 @@ impl<P: Phase> Copied for Import<P> {
 pub(crate) fn copy_module<P: Phase>(alloc: Global, of: &Module<P>) -> Result<Module<P>, Memory>
     ensures { IfOk result (λ copy. module_tree P.Phase copy ≡ module_tree P.Phase of.now) }
 {
-    let imports = copy_all(alloc, &of.imports)?;
-    let name = copy_all(alloc, &of.name)?;
-    let declarations = copy_all(alloc, &of.declarations)?;
+    let (imports, name, declarations) = copy_three(alloc, &of.imports, &of.name, &of.declarations)?;
     Ok(Module {
         imports,
         at: of.at,

@@ -2,14 +2,24 @@
 
 ghost use Rattle.std.specs.Prelude.{◌≡◌, IfOk};
 ghost use Rattle.au_syntax.specs.Names.{Placed, Renaming};
-ghost use Rattle.au_syntax.specs.Types.{Labelled, Bound};
-ghost use Rattle.au_syntax.specs.Views.{placed, renaming, labelled, bound};
+ghost use Rattle.au_syntax.specs.Types.{WrittenType, Labelled, Bound};
+ghost use Rattle.au_syntax.specs.Views.{placed, renaming, labelled, bound, written};
 
-use crate::copied::Copied;
+use crate::copied::{Copied, copy_two};
 use crate::types::copy_type;
 use au_base::Memory;
-use au_syntax::{Bind, Field, Ident, Phase, Renamed};
+use au_syntax::{Bind, Field, Ident, Phase, Renamed, TypeText};
 use std::alloc::Global;
+
+impl Copied for TypeText {
+    ghost Seen = { WrittenType };
+
+    ghost see = { written };
+
+    fn copy(&self, alloc: Global) -> Result<TypeText, Memory> {
+        copy_type(alloc, self)
+    }
+}
 
 impl<P: Phase> Copied for Ident<P> {
     ghost Seen = { Placed P.SeenName };
@@ -45,8 +55,7 @@ impl<P: Phase> Copied for Field<P> {
     ghost see = { labelled P.Phase };
 
     fn copy(&self, alloc: Global) -> Result<Field<P>, Memory> {
-        let name = self.name.copy(alloc)?;
-        let of = copy_type(alloc, &self.of)?;
+        let (name, of) = copy_two(alloc, &self.name, &self.of)?;
         Ok(Field { name, of })
     }
 }
@@ -57,8 +66,7 @@ impl<P: Phase> Copied for Bind<P> {
     ghost see = { bound P.Phase };
 
     fn copy(&self, alloc: Global) -> Result<Bind<P>, Memory> {
-        let name = self.name.copy(alloc)?;
-        let of = copy_type(alloc, &self.of)?;
+        let (name, of) = copy_two(alloc, &self.name, &self.of)?;
         Ok(Bind { name, of })
     }
 }

@@ -5,20 +5,20 @@ use Rattle.au_syntax.proofs.ExpressionLemmas.{snoc_expressions, snoc_arguments, 
 use Rattle.au_copying.proofs.CopyLemmas.{item_falls, all_copied, copied_more, one_argument, argument_copied}
 use Rattle.au_copying.proofs.expressions.+copy_expression.Goals as goal
 
-pub copy_expression-returns-in_ok-copy_site-in-Number : goal.copy_expression-returns-in_ok-copy_site-in-Number
-copy_expression-returns-in_ok-copy_site-in-Number g t c = grind (arith, number_says)
+pub copy_expression-returns-in_ok-copy-in-Number : goal.copy_expression-returns-in_ok-copy-in-Number
+copy_expression-returns-in_ok-copy-in-Number g t c = grind (arith, number_says)
 
-pub copy_expression-returns-in_ok-copy_site-in-Negative : goal.copy_expression-returns-in_ok-copy_site-in-Negative
-copy_expression-returns-in_ok-copy_site-in-Negative g t c = grind (arith, negative_says)
+pub copy_expression-returns-in_ok-copy-in-Negative : goal.copy_expression-returns-in_ok-copy-in-Negative
+copy_expression-returns-in_ok-copy-in-Negative g t c = grind (arith, negative_says)
 
-pub copy_expression-returns-in_ok-copy-in-Text : goal.copy_expression-returns-in_ok-copy-in-Text
-copy_expression-returns-in_ok-copy-in-Text g t c = grind (arith, text_says)
+pub copy_expression-returns-in_ok-site-in-Text : goal.copy_expression-returns-in_ok-site-in-Text
+copy_expression-returns-in_ok-site-in-Text g t c = grind (arith, text_says)
 
-pub copy_expression-returns-in_ok-copy_site-in-Bool : goal.copy_expression-returns-in_ok-copy_site-in-Bool
-copy_expression-returns-in_ok-copy_site-in-Bool g t c = grind (arith, bool_says)
+pub copy_expression-returns-in_ok-copy-in-Bool : goal.copy_expression-returns-in_ok-copy-in-Bool
+copy_expression-returns-in_ok-copy-in-Bool g t c = grind (arith, bool_says)
 
-pub copy_expression-returns-in_ok-copy_site-in-Nil : goal.copy_expression-returns-in_ok-copy_site-in-Nil
-copy_expression-returns-in_ok-copy_site-in-Nil g t c = grind (arith, nil_says)
+pub copy_expression-returns-in_ok-copy-in-Nil : goal.copy_expression-returns-in_ok-copy-in-Nil
+copy_expression-returns-in_ok-copy-in-Nil g t c = grind (arith, nil_says)
 
 pub copy_expression-returns-in_ok-site-in-Path : goal.copy_expression-returns-in_ok-site-in-Path
 copy_expression-returns-in_ok-site-in-Path g t c = grind (arith, path_says)
@@ -26,11 +26,11 @@ copy_expression-returns-in_ok-site-in-Path g t c = grind (arith, path_says)
 pub copy_expression-returns-in_ok-site-in-Arrow : goal.copy_expression-returns-in_ok-site-in-Arrow
 copy_expression-returns-in_ok-site-in-Arrow g t c = grind (arith, arrow_says)
 
-pub copy_expression-returns-in_ok-site-in-Call : goal.copy_expression-returns-in_ok-site-in-Call
-copy_expression-returns-in_ok-site-in-Call g t c = grind (arith, call_says)
+pub copy_expression-returns-in-Call : goal.copy_expression-returns-in-Call
+copy_expression-returns-in-Call g t c = grind (arith, call_says)
 
-pub copy_expression-returns-in_ok-site-in-NamedCall : goal.copy_expression-returns-in_ok-site-in-NamedCall
-copy_expression-returns-in_ok-site-in-NamedCall g t c = grind (arith, named_call_says)
+pub copy_expression-returns-in-NamedCall : goal.copy_expression-returns-in-NamedCall
+copy_expression-returns-in-NamedCall g t c = grind (arith, named_call_says)
 
 pub copy_expression-returns-in_ok-site-in-Parenthesized : goal.copy_expression-returns-in_ok-site-in-Parenthesized
 copy_expression-returns-in_ok-site-in-Parenthesized g t c = grind (arith, parenthesized_says)
@@ -38,8 +38,8 @@ copy_expression-returns-in_ok-site-in-Parenthesized g t c = grind (arith, parent
 pub copy_expression-returns-in_ok-site-in-Dereference : goal.copy_expression-returns-in_ok-site-in-Dereference
 copy_expression-returns-in_ok-site-in-Dereference g t c = grind (arith, dereference_says)
 
-pub copy_expression-returns-in_ok-copy-in-Borrow : goal.copy_expression-returns-in_ok-copy-in-Borrow
-copy_expression-returns-in_ok-copy-in-Borrow g t c = grind (arith, borrow_says)
+pub copy_expression-returns-in_ok-site-in-Borrow : goal.copy_expression-returns-in_ok-site-in-Borrow
+copy_expression-returns-in_ok-site-in-Borrow g t c = grind (arith, borrow_says)
 
 pub copy_expression-returns-in_ok-site-in-BorrowPart : goal.copy_expression-returns-in_ok-site-in-BorrowPart
 copy_expression-returns-in_ok-site-in-BorrowPart g t c = grind (arith, borrow_part_says)
@@ -50,11 +50,17 @@ copy_expression-returns-in_ok-copy_boxed-in-Binary g t c = grind (arith, binary_
 pub copy_expression-returns-in_ok-site-in-Not : goal.copy_expression-returns-in_ok-site-in-Not
 copy_expression-returns-in_ok-site-in-Not g t c = grind (arith, not_says)
 
-pub copy_expression-returns-in_ok-copy_type-in-Typed : goal.copy_expression-returns-in_ok-copy_type-in-Typed
-copy_expression-returns-in_ok-copy_type-in-Typed g t c = grind (arith, typed_says)
+pub copy_expression-returns-in_ok-site-in-Typed : goal.copy_expression-returns-in_ok-site-in-Typed
+copy_expression-returns-in_ok-site-in-Typed g t c = grind (arith, typed_says)
 
 pub copy_expression-returns-in_ok-copy_boxed-in-If : goal.copy_expression-returns-in_ok-copy_boxed-in-If
 copy_expression-returns-in_ok-copy_boxed-in-If g t c = grind (arith, if_says)
+
+pub copy_call-returns : goal.copy_call-returns
+copy_call-returns g t c = grind (arith, call_says)
+
+pub copy_named_call-returns : goal.copy_named_call-returns
+copy_named_call-returns g t c = grind (arith, named_call_says)
 
 pub copy_expressions-loop-one-preserved : goal.copy_expressions-loop-one-preserved
 copy_expressions-loop-one-preserved g t c =

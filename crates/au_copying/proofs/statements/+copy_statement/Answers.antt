@@ -1,8 +1,8 @@
-use Rattle.std.proofs.Common.{ap, ◌∙◌, arith}
+use Rattle.std.proofs.Common.{arith}
 use Rattle.au_syntax.specs.declared.statements.Arm.{size-Arm}
 use Rattle.au_syntax.specs.declared.statements.Stmt.{size-Stmt}
 use Rattle.au_syntax.specs.declared.statements.Block.{size-Block, size_is-Block}
-use Rattle.au_syntax.specs.Views.{expression, statement, statement_all, branch_all, arm_all}
+use Rattle.au_syntax.specs.Views.{statement, statement_all, branch_all, arm_all}
 use Rattle.au_syntax.proofs.StatementLemmas.{snoc_statements, snoc_branches, snoc_arms, statements_push, branches_push, arms_push, one_branch, one_arm, let_says, destructure_says, assign_says, assign_through_says, if_says, case_says, call_says, return_says}
 use Rattle.au_copying.proofs.CopyLemmas.{item_falls, block_item_falls, all_copied, copied_more, branch_copied, arm_copied}
 use Rattle.au_copying.proofs.BlockLemmas.{if_else_copied, while_copied, for_copied, borrow_copied, borrow_typed_copied}
@@ -11,8 +11,8 @@ use Rattle.au_copying.proofs.statements.+copy_statement.Goals as goal
 pub copy_statement-returns-in_ok-name-in-Let : goal.copy_statement-returns-in_ok-name-in-Let
 copy_statement-returns-in_ok-name-in-Let g t c = grind (arith, let_says)
 
-pub copy_statement-returns-in_ok-copy_boxed-in-Destructure : goal.copy_statement-returns-in_ok-copy_boxed-in-Destructure
-copy_statement-returns-in_ok-copy_boxed-in-Destructure g t c = grind (arith, destructure_says)
+pub copy_statement-returns-in_ok-binds-in-Destructure : goal.copy_statement-returns-in_ok-binds-in-Destructure
+copy_statement-returns-in_ok-binds-in-Destructure g t c = grind (arith, destructure_says)
 
 pub copy_statement-returns-in_ok-name-in-Assign : goal.copy_statement-returns-in_ok-name-in-Assign
 copy_statement-returns-in_ok-name-in-Assign g t c = grind (arith, assign_says)
@@ -38,13 +38,13 @@ copy_statement-returns-in_ok-copy_block-in-While g t c =
     while_copied g.P.Phase c.args.of.now c.in-While.at
     c.in-While.test c.in_ok-test-in-While.test
     c.in-While.body c.in_ok-copy_block-in-While.field-0
-    c.in-While.is (c.in_ok-test-in-While.ensures ∙ ap (expression g.P.Phase) c.deref-in-While.ensures)
+    c.in-While.is c.in_ok-test-in-While.ensures
     c.in_ok-copy_block-in-While.ensures
 
 pub copy_statement-returns-in_ok-copy_block-in-For : goal.copy_statement-returns-in_ok-copy_block-in-For
 copy_statement-returns-in_ok-copy_block-in-For g t c =
     for_copied g.P.Phase c.args.of.now c.in-For.at c.in-For.name c.in_ok-name-in-For.name c.in-For.from c.in_ok-name-in-For.from c.in-For.to c.in_ok-name-in-For.to c.in-For.body c.in_ok-copy_block-in-For.field-0
-    c.in-For.is c.in_ok-name-in-For.ensures.name (c.in_ok-name-in-For.ensures.from ∙ ap (expression g.P.Phase) c.deref-in-For.ensures) (c.in_ok-name-in-For.ensures.to ∙ ap (expression g.P.Phase) c.deref-in-For-2.ensures) c.in_ok-copy_block-in-For.ensures
+    c.in-For.is c.in_ok-name-in-For.ensures.first c.in_ok-name-in-For.ensures.second c.in_ok-name-in-For.ensures.third c.in_ok-copy_block-in-For.ensures
 
 pub copy_statement-returns-in_ok-body-in-Borrow : goal.copy_statement-returns-in_ok-body-in-Borrow
 copy_statement-returns-in_ok-body-in-Borrow g t c =
@@ -56,13 +56,13 @@ copy_statement-returns-in_ok-body-in-Borrow g t c =
 pub copy_statement-returns-in_ok-body-in-BorrowTyped : goal.copy_statement-returns-in_ok-body-in-BorrowTyped
 copy_statement-returns-in_ok-body-in-BorrowTyped g t c =
     borrow_typed_copied g.P.Phase c.args.of.now c.in-BorrowTyped.at c.in-BorrowTyped.name c.in_ok-name-in-BorrowTyped.name c.in-BorrowTyped.text c.in_ok-name-in-BorrowTyped.text c.in-BorrowTyped.mode c.in-BorrowTyped.variable c.in_ok-name-in-BorrowTyped.variable c.in-BorrowTyped.body c.in_ok-body-in-BorrowTyped.body c.in-BorrowTyped.end
-    c.in-BorrowTyped.is c.in_ok-name-in-BorrowTyped.ensures.name c.in_ok-name-in-BorrowTyped.ensures.text c.in_ok-name-in-BorrowTyped.ensures.of c.in_ok-body-in-BorrowTyped.ensures
+    c.in-BorrowTyped.is c.in_ok-name-in-BorrowTyped.ensures.first c.in_ok-name-in-BorrowTyped.ensures.second c.in_ok-name-in-BorrowTyped.ensures.third c.in_ok-body-in-BorrowTyped.ensures
 
-pub copy_statement-returns-in_ok-copy_boxed-in-Call : goal.copy_statement-returns-in_ok-copy_boxed-in-Call
-copy_statement-returns-in_ok-copy_boxed-in-Call g t c = grind (arith, call_says)
+pub copy_statement-returns-in_ok-copy-in-Call : goal.copy_statement-returns-in_ok-copy-in-Call
+copy_statement-returns-in_ok-copy-in-Call g t c = grind (arith, call_says)
 
-pub copy_statement-returns-in_ok-copy_boxed-in-Return : goal.copy_statement-returns-in_ok-copy_boxed-in-Return
-copy_statement-returns-in_ok-copy_boxed-in-Return g t c = grind (arith, return_says)
+pub copy_statement-returns-in_ok-copy-in-Return : goal.copy_statement-returns-in_ok-copy-in-Return
+copy_statement-returns-in_ok-copy-in-Return g t c = grind (arith, return_says)
 
 pub copy_block-loop-one-preserved : goal.copy_block-loop-one-preserved
 copy_block-loop-one-preserved g t c =
