@@ -12,12 +12,25 @@ use std::time::{CpuClock, Duration};
 /// How often times are taken at most: the shortest count.
 const TRIES: u32 = 5;
 
+/// The last digit of a number.
+fn digit(number: u32) -> u8 {
+    b'0'.wrapping_add((number % 10) as u8)
+}
+
+/// The last four digits of a number.
+fn digits(number: u32) -> [u8; 4] {
+    [
+        digit(number / 1_000),
+        digit(number / 100),
+        digit(number / 10),
+        digit(number),
+    ]
+}
+
 /// Puts four digits of a number at the end, with something before them and behind them.
 fn put(text: &mut Text, before: &[u8], number: u32, behind: &[u8]) -> Result<(), Memory> {
     text.append(before)?;
-    for place in [1_000, 100, 10, 1] {
-        text.push(b'0' + (number / place % 10) as u8)?;
-    }
+    text.append(&digits(number))?;
     text.append(behind)
 }
 
