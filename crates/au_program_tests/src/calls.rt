@@ -1,6 +1,6 @@
 //! The shipped calls by name.
 
-use au_base::{IntKind, Memory, Name};
+use au_base::{IntKind, Name};
 use au_shipped::{ShippedCall, prim_of};
 use std::alloc::Global;
 use std::test::Fail;
@@ -30,26 +30,27 @@ const CALLS: [(&[u8], &[u8], Option<IntKind>, Option<ShippedCall>); 5] = [
     (b"Standard.Box", b"nth", None, None),
 ];
 
-/// Whether the call of these names is the one that is due.
-fn is_due(
+/// What the call of these names is.
+fn call_of(
     alloc: Global,
     home: &[u8],
     call: &[u8],
     of: Option<IntKind>,
-    due: Option<ShippedCall>,
-) -> Result<bool, Memory> {
+) -> Result<Option<ShippedCall>, Fail> {
     if home.is_empty() || home.len() > 64 || call.is_empty() || call.len() > 64 {
-        return Ok(false);
+        return Err(Fail::new("no name"));
     }
     let home = Name::copy_of(alloc, home)?;
     let call = Name::copy_of(alloc, call)?;
-    Ok(prim_of(&home, &call, of) == due)
+    Ok(prim_of(&home, &call, of))
 }
 
 #[test]
 fn shipped_calls_are_found_by_their_names(rt: HostRuntime) -> Result<(), Fail> {
+    let alloc = rt.alloc();
     for (home, call, of, due) in CALLS {
-        assert!(rt; is_due(rt.alloc(), home, call, of, due)?);
+        let found = call_of(alloc, home, call, of)?;
+        assert!(rt; found == due);
     }
     Ok(())
 }

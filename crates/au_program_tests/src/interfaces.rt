@@ -1,7 +1,7 @@
-//! Interfaces read against texts in the layout of the chapter of `docs/LANGUAGE.md` on the modules that come
-//! with the compiler: each call answers what stands behind its part of the text, and nothing where another
-//! text stands.
+//! Interfaces as texts, in the layout of the chapter of `docs/LANGUAGE.md` on the modules that come
+//! with the compiler.
 
+use au_base::{Memory, Text};
 use au_syntax::{
     Access, Decl, Field, Generic, Ident, Module, Parsed, Part, Signature, TypeParameter, TypeText,
     UnionCase, Universe,
@@ -25,205 +25,237 @@ fn sign_of(access: Access) -> &'static [u8] {
     }
 }
 
-/// Behind what stands before the part of an index, where parts have this between them.
-fn gap<'a>(text: &'a [u8], index: usize, between: &[u8]) -> Option<&'a [u8]> {
+/// What stands before the part of an index, where parts have this between them.
+fn put_between(text: &mut Text, index: usize, between: &[u8]) -> Result<(), Memory> {
     if index > 0 {
-        text.strip_prefix(between)
-    } else {
-        Some(text)
+        text.append(between)?;
     }
+    Ok(())
 }
 
-/// Behind a written type.
-#[cycle(written)]
-fn written<'a>(text: &'a [u8], of: &TypeText) -> Option<&'a [u8]> {
+/// A written type.
+#[cycle(put_type)]
+fn put_type(text: &mut Text, of: &TypeText) -> Result<(), Memory> {
     match of {
         TypeText::Named(name, arguments) => {
-            written_arguments(text.strip_prefix(name.name.as_bytes())?, arguments)
+            text.append(name.name.as_bytes())?;
+            put_arguments(text, arguments)
         }
         TypeText::Reference(_, access, to, region) => {
-            let rest = written(text.strip_prefix(sign_of(*access))?, to)?;
-            rest.strip_prefix(b", ")?
-                .strip_prefix(region.name.as_bytes())?
-                .strip_prefix(b"]")
+            text.append(sign_of(*access))?;
+            put_type(text, to)?;
+            text.append(b", ")?;
+            text.append(region.name.as_bytes())?;
+            text.push(b']')
         }
     }
 }
 
-/// Behind the arguments of a type in brackets, where it has some.
-#[cycle(written)]
-fn written_arguments<'a>(text: &'a [u8], arguments: &Vec<TypeText>) -> Option<&'a [u8]> {
+/// The arguments of a type in brackets, where it has some.
+#[cycle(put_type)]
+fn put_arguments(text: &mut Text, arguments: &Vec<TypeText>) -> Result<(), Memory> {
     if arguments.is_empty() {
-        return Some(text);
+        return Ok(());
     }
-    let mut rest = text.strip_prefix(b"[")?;
+    text.push(b'[')?;
     for (index, one) in arguments.iter().enumerate() {
-        rest = written(gap(rest, index, b", ")?, one)?;
+        put_between(text, index, b", ")?;
+        put_type(text, one)?;
     }
-    rest.strip_prefix(b"]")
+    text.push(b']')
 }
 
-/// Behind names with something between.
-fn names<'a>(text: &'a [u8], names: &Vec<Ident<Parsed>>, between: &[u8]) -> Option<&'a [u8]> {
-    let mut rest = text;
+/// Names with something between.
+fn put_names(text: &mut Text, names: &Vec<Ident<Parsed>>, between: &[u8]) -> Result<(), Memory> {
     for (index, one) in names.iter().enumerate() {
-        rest = gap(rest, index, between)?.strip_prefix(one.name.as_bytes())?;
+        put_between(text, index, between)?;
+        text.append(one.name.as_bytes())?;
     }
-    Some(rest)
+    Ok(())
 }
 
-/// Behind `NAME: UNIVERSE`.
-fn parameter<'a>(text: &'a [u8], parameter: &TypeParameter<Parsed>) -> Option<&'a [u8]> {
-    text.strip_prefix(parameter.name.name.as_bytes())?
-        .strip_prefix(b": ")?
-        .strip_prefix(word_of(parameter.universe))
+/// `NAME: UNIVERSE`
+fn put_parameter(text: &mut Text, parameter: &TypeParameter<Parsed>) -> Result<(), Memory> {
+    text.append(parameter.name.name.as_bytes())?;
+    text.append(b": ")?;
+    text.append(word_of(parameter.universe))
 }
 
-/// Behind type parameters in brackets, where there are some.
-fn parameters<'a>(text: &'a [u8], all: &Vec<TypeParameter<Parsed>>) -> Option<&'a [u8]> {
-    if all.is_empty() {
-        return Some(text);
+/// Type parameters in brackets, where there are some.
+fn put_parameters(text: &mut Text, parameters: &Vec<TypeParameter<Parsed>>) -> Result<(), Memory> {
+    if parameters.is_empty() {
+        return Ok(());
     }
-    let mut rest = text.strip_prefix(b"[")?;
-    for (index, one) in all.iter().enumerate() {
-        rest = parameter(gap(rest, index, b", ")?, one)?;
+    text.push(b'[')?;
+    for (index, one) in parameters.iter().enumerate() {
+        put_between(text, index, b", ")?;
+        put_parameter(text, one)?;
     }
-    rest.strip_prefix(b"]")
+    text.push(b']')
 }
 
-/// Behind `generic [..]` with a space behind, where there are type parameters. No shipped one has a constraint.
-fn generics<'a>(text: &'a [u8], all: &Vec<Generic<Parsed>>) -> Option<&'a [u8]> {
-    if all.is_empty() {
-        return Some(text);
+/// The classes of a type parameter in parentheses, where it has some.
+fn put_classes(text: &mut Text, classes: &Vec<Ident<Parsed>>) -> Result<(), Memory> {
+    if classes.is_empty() {
+        return Ok(());
     }
-    let mut rest = text.strip_prefix(b"generic [")?;
-    for (index, one) in all.iter().enumerate() {
-        if !one.classes.is_empty() {
-            return None;
+    text.push(b'(')?;
+    put_names(text, classes, b", ")?;
+    text.push(b')')
+}
+
+/// `generic [..]` with a space behind, where there are type parameters.
+fn put_generics(text: &mut Text, generics: &Vec<Generic<Parsed>>) -> Result<(), Memory> {
+    if generics.is_empty() {
+        return Ok(());
+    }
+    text.append(b"generic [")?;
+    for (index, one) in generics.iter().enumerate() {
+        put_between(text, index, b", ")?;
+        put_parameter(text, &one.parameter)?;
+        put_classes(text, &one.classes)?;
+    }
+    text.append(b"] ")
+}
+
+/// `NAME: TYPE`
+fn put_field(text: &mut Text, field: &Field<Parsed>) -> Result<(), Memory> {
+    text.append(field.name.name.as_bytes())?;
+    text.append(b": ")?;
+    put_type(text, &field.of)
+}
+
+/// Fields, each with a space before it and a semicolon behind.
+fn put_fields(text: &mut Text, fields: &Vec<Field<Parsed>>) -> Result<(), Memory> {
+    for one in fields {
+        text.push(b' ')?;
+        put_field(text, one)?;
+        text.push(b';')?;
+    }
+    Ok(())
+}
+
+/// Cases, each with a space before it.
+fn put_cases(text: &mut Text, cases: &Vec<UnionCase<Parsed>>) -> Result<(), Memory> {
+    for one in cases {
+        text.append(b" case ")?;
+        text.append(one.name.name.as_bytes())?;
+        if one.fields.is_empty() {
+            text.push(b';')?;
+        } else {
+            text.append(b" is")?;
+            put_fields(text, &one.fields)?;
         }
-        rest = parameter(gap(rest, index, b", ")?, &one.parameter)?;
     }
-    rest.strip_prefix(b"] ")
+    Ok(())
 }
 
-/// Behind `NAME: TYPE`.
-fn field<'a>(text: &'a [u8], field: &Field<Parsed>) -> Option<&'a [u8]> {
-    let rest = text.strip_prefix(field.name.name.as_bytes())?;
-    written(rest.strip_prefix(b": ")?, &field.of)
-}
-
-/// Behind fields, each with a space before it and a semicolon behind.
-fn fields<'a>(text: &'a [u8], all: &Vec<Field<Parsed>>) -> Option<&'a [u8]> {
-    let mut rest = text;
-    for one in all {
-        rest = field(rest.strip_prefix(b" ")?, one)?.strip_prefix(b";")?;
-    }
-    Some(rest)
-}
-
-/// Behind a case, with a space before it.
-fn case<'a>(text: &'a [u8], one: &UnionCase<Parsed>) -> Option<&'a [u8]> {
-    let rest = text
-        .strip_prefix(b" case ")?
-        .strip_prefix(one.name.name.as_bytes())?;
-    if one.fields.is_empty() {
-        rest.strip_prefix(b";")
-    } else {
-        fields(rest.strip_prefix(b" is")?, &one.fields)
-    }
-}
-
-/// Behind cases.
-fn cases<'a>(text: &'a [u8], all: &Vec<UnionCase<Parsed>>) -> Option<&'a [u8]> {
-    let mut rest = text;
-    for one in all {
-        rest = case(rest, one)?;
-    }
-    Some(rest)
-}
-
-/// Behind `NAME(NAME: TYPE, ..): TYPE;`.
-fn signature<'a>(text: &'a [u8], signature: &Signature<Parsed>) -> Option<&'a [u8]> {
-    let mut rest = text
-        .strip_prefix(signature.name.name.as_bytes())?
-        .strip_prefix(b"(")?;
+/// `NAME(NAME: TYPE, ..): TYPE;`
+fn put_signature(text: &mut Text, signature: &Signature<Parsed>) -> Result<(), Memory> {
+    text.append(signature.name.name.as_bytes())?;
+    text.push(b'(')?;
     for (index, one) in signature.parameters.iter().enumerate() {
-        rest = field(gap(rest, index, b", ")?, one)?;
+        put_between(text, index, b", ")?;
+        put_field(text, one)?;
     }
-    written(rest.strip_prefix(b"): ")?, &signature.result)?.strip_prefix(b";")
+    text.append(b"): ")?;
+    put_type(text, &signature.result)?;
+    text.push(b';')
 }
 
-/// Behind `NAME[..]: UNIVERSE`.
-fn heading<'a>(
-    text: &'a [u8],
+/// `WORD NAME[..]: UNIVERSE`
+fn put_heading(
+    text: &mut Text,
+    word: &[u8],
     name: &Ident<Parsed>,
-    all: &Vec<TypeParameter<Parsed>>,
+    parameters: &Vec<TypeParameter<Parsed>>,
     universe: Universe,
-) -> Option<&'a [u8]> {
-    let rest = parameters(text.strip_prefix(name.name.as_bytes())?, all)?;
-    rest.strip_prefix(b": ")?.strip_prefix(word_of(universe))
+) -> Result<(), Memory> {
+    text.append(word)?;
+    text.append(name.name.as_bytes())?;
+    put_parameters(text, parameters)?;
+    text.append(b": ")?;
+    text.append(word_of(universe))
 }
 
-/// Behind the name of a class and what follows, each of its methods on a line.
-fn class<'a>(
-    text: &'a [u8],
+/// A class, each of its methods on a line.
+fn put_class(
+    text: &mut Text,
     name: &Ident<Parsed>,
-    of: &TypeParameter<Parsed>,
+    parameter: &TypeParameter<Parsed>,
     methods: &Vec<Signature<Parsed>>,
-) -> Option<&'a [u8]> {
-    let rest = text.strip_prefix(name.name.as_bytes())?;
-    let mut rest = parameter(rest.strip_prefix(b"(")?, of)?.strip_prefix(b") is\n")?;
+) -> Result<(), Memory> {
+    text.append(b"typeclass ")?;
+    text.append(name.name.as_bytes())?;
+    text.push(b'(')?;
+    put_parameter(text, parameter)?;
+    text.append(b") is\n")?;
     for one in methods {
-        rest = signature(rest.strip_prefix(b"        method ")?, one)?.strip_prefix(b"\n")?;
+        text.append(b"        method ")?;
+        put_signature(text, one)?;
+        text.push(b'\n')?;
     }
-    rest.strip_prefix(b"    end;")
+    text.append(b"    end;")
 }
 
-/// Behind a declaration of a kind that a shipped interface has.
-fn declaration<'a>(text: &'a [u8], decl: &Decl<Parsed>) -> Option<&'a [u8]> {
+/// A declaration. Of one of a kind that no shipped interface has it is said what it is.
+fn put_declaration(text: &mut Text, decl: &Decl<Parsed>) -> Result<(), Memory> {
     match decl {
-        Decl::Opaque(_, name, all, universe) => {
-            heading(text.strip_prefix(b"type ")?, name, all, *universe)?.strip_prefix(b";")
+        Decl::Opaque(_, name, parameters, universe) => {
+            put_heading(text, b"type ", name, parameters, *universe)?;
+            text.push(b';')
         }
-        Decl::Union(_, name, all, universe, of) => {
-            let rest = heading(text.strip_prefix(b"union ")?, name, all, *universe)?;
-            cases(rest.strip_prefix(b" is")?, of)?.strip_prefix(b" end;")
+        Decl::Union(_, name, parameters, universe, cases) => {
+            put_heading(text, b"union ", name, parameters, *universe)?;
+            text.append(b" is")?;
+            put_cases(text, cases)?;
+            text.append(b" end;")
         }
-        Decl::Function(_, all, of) => {
-            signature(generics(text, all)?.strip_prefix(b"function ")?, of)
+        Decl::Function(_, generics, signature) => {
+            put_generics(text, generics)?;
+            text.append(b"function ")?;
+            put_signature(text, signature)
         }
-        Decl::Class(_, name, of, methods) => {
-            class(text.strip_prefix(b"typeclass ")?, name, of, methods)
+        Decl::Class(_, name, parameter, methods) => put_class(text, name, parameter, methods),
+        Decl::Instance(_, generics, name, of) => {
+            put_generics(text, generics)?;
+            text.append(b"instance ")?;
+            text.append(name.name.as_bytes())?;
+            text.push(b'(')?;
+            put_type(text, of)?;
+            text.append(b");")
         }
-        Decl::Instance(_, all, name, of) => {
-            let rest = generics(text, all)?.strip_prefix(b"instance ")?;
-            let rest = rest.strip_prefix(name.name.as_bytes())?.strip_prefix(b"(")?;
-            written(rest, of)?.strip_prefix(b");")
-        }
-        _ => None,
+        Decl::Constant(_, _, _) => text.append(b"a constant"),
+        Decl::Record(_, _, _, _, _) => text.append(b"a record"),
+        Decl::ConstantBody(_, _, _, _) => text.append(b"a constant of a body"),
+        Decl::FunctionBody(_, _, _, _, _) => text.append(b"a function of a body"),
+        Decl::InstanceBody(_, _, _, _, _) => text.append(b"an instance of a body"),
     }
 }
 
-/// Behind declarations, each on a line.
-fn declarations<'a>(text: &'a [u8], all: &Vec<Decl<Parsed>>) -> Option<&'a [u8]> {
-    let mut rest = text;
-    for one in all {
-        rest = declaration(rest.strip_prefix(b"    ")?, one)?.strip_prefix(b"\n")?;
+/// What stands first in a file that holds a part of a module.
+fn opening_of(part: Part) -> &'static [u8] {
+    match part {
+        Part::Interface => b"module ",
+        Part::Body => b"module body ",
     }
-    Some(rest)
 }
 
-/// Behind an interface without imports and without a pragma.
-fn interface<'a>(text: &'a [u8], tree: &Module<Parsed>) -> Option<&'a [u8]> {
-    let rest = names(text.strip_prefix(b"module ")?, &tree.name, b".")?;
-    declarations(rest.strip_prefix(b" is\n")?, &tree.declarations)?.strip_prefix(b"end module.\n")
-}
-
-/// Whether a text is that of an interface without imports and without a pragma.
-pub(crate) fn is_interface(text: &[u8], tree: &Module<Parsed>) -> bool {
-    let is_plain = tree.imports.is_empty() && tree.pragma.is_none();
-    match (tree.part, interface(text, tree)) {
-        (Part::Interface, Some(rest)) => is_plain && rest.is_empty(),
-        _ => false,
+/// An interface without imports and without a pragma. Of others it is said that they have some.
+pub(crate) fn put_interface(text: &mut Text, tree: &Module<Parsed>) -> Result<(), Memory> {
+    if !tree.imports.is_empty() {
+        text.append(b"with imports\n")?;
     }
+    text.append(opening_of(tree.part))?;
+    put_names(text, &tree.name, b".")?;
+    text.append(b" is\n")?;
+    if tree.pragma.is_some() {
+        text.append(b"    with a pragma\n")?;
+    }
+    for one in &tree.declarations {
+        text.append(b"    ")?;
+        put_declaration(text, one)?;
+        text.push(b'\n')?;
+    }
+    text.append(b"end module.\n")
 }

@@ -83,19 +83,3 @@ impl Turn<Parsed, Counted> for Count {
         Ok(self.next())
     }
 }
-
-impl Turn<Parsed, Parsed> for Count {
-    fn name(&mut self, _alloc: Global, old: Name) -> Result<Name, Memory> {
-        Ok(old)
-    }
-
-    fn type_note(&mut self, _alloc: Global, _old: ()) -> Result<(), Memory> {
-        let _ = self.next();
-        Ok(())
-    }
-
-    fn call_note(&mut self, _alloc: Global, _old: ()) -> Result<(), Memory> {
-        let _ = self.next();
-        Ok(())
-    }
-}

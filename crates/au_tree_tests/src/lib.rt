@@ -6,3 +6,5 @@
 mod counted;
 #[cfg(test)]
 mod tree_tests;
+#[cfg(test)]
+mod whole_tests;
