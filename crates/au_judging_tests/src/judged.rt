@@ -1,6 +1,6 @@
 //! What written types are judged to mean, or why they aren't well formed.
 
-use au_base::{Name, Text};
+use au_base::{Memory, Name, Text};
 use au_judged_types::{Judged, Reason, judge_type};
 use au_lexer::lex;
 use au_read_types::written_type;
@@ -12,17 +12,29 @@ use std::alloc::Global;
 use std::process::Abort;
 use std::test::Fail;
 
-/// Declared types with their places among declarations, their universes, and those of their type parameters.
-const DECLARED: [(&[u8], u32, Universe, &[Universe]); 4] = [
-    (b"One", 0, Universe::Free, &[Universe::Free]),
-    (b"Two", 1, Universe::Free, &[Universe::Free, Universe::Free]),
-    (
-        b"Both",
-        2,
-        Universe::Linear,
-        &[Universe::Linear, Universe::Free],
-    ),
-    (b"Kept", 3, Universe::Free, &[Universe::Region]),
+/// A type parameter's name and universe.
+type Taken = (u8, Universe);
+
+/// Type parameters of each universe that a declared type takes.
+const FREE: Taken = (b'T', Universe::Free);
+
+const LINEAR: Taken = (b'T', Universe::Linear);
+
+const REGION: Taken = (b'T', Universe::Region);
+
+/// Declared types with their places among declarations, their universes and their type parameters.
+const DECLARED: [(&[u8], u32, Universe, &[Taken]); 4] = [
+    (b"One", 0, Universe::Free, &[FREE]),
+    (b"Two", 1, Universe::Free, &[FREE, FREE]),
+    (b"Both", 2, Universe::Linear, &[LINEAR, FREE]),
+    (b"Kept", 3, Universe::Free, &[REGION]),
+];
+
+/// The type parameters in scope: one that is Free, one that is Linear, and a region.
+const SCOPE: [Taken; 3] = [
+    (b'F', Universe::Free),
+    (b'L', Universe::Linear),
+    (b'R', Universe::Region),
 ];
 
 /// Written types, and what each of them is told to be where F is a type parameter that is Free, L one that is
@@ -78,58 +90,42 @@ fn told(judged: &Judged<Ty>) -> &[u8] {
     }
 }
 
-/// The type parameters F, L and R: one that is Free, one that is Linear, and a region.
-fn parameters(alloc: Global) -> Result<Params, Fail> {
+/// Type parameters of these names and universes.
+fn params_of(alloc: Global, taken: &[Taken]) -> Result<Params, Memory> {
     let mut params = Params::new(alloc);
-    for (name, universe) in [
-        (b"F", Universe::Free),
-        (b"L", Universe::Linear),
-        (b"R", Universe::Region),
-    ] {
-        let name = Name::copy_of(alloc, name)?;
+    for (name, universe) in taken {
+        let name = Name::copy_of(alloc, &[*name])?;
+        let universe = *universe;
         params.push(Parameter { name, universe })?;
     }
     Ok(params)
 }
 
-/// Type parameters of these universes.
-fn unnamed(alloc: Global, universes: &[Universe]) -> Result<Params, Fail> {
-    let mut params = Params::new(alloc);
-    for universe in universes {
-        let name = Name::copy_of(alloc, b"T")?;
-        params.push(Parameter {
-            name,
-            universe: *universe,
-        })?;
-    }
-    Ok(params)
+/// The row of a declared type.
+fn head_of(alloc: Global, universe: Universe, taken: &[Taken]) -> Result<Head, Memory> {
+    let params = params_of(alloc, taken)?;
+    let text = Text::new(alloc);
+    Ok(Head {
+        text,
+        universe,
+        params,
+    })
 }
 
 /// The rows of the declared types.
-fn rows(alloc: Global) -> Result<Heads, Fail> {
+fn rows(alloc: Global) -> Result<Heads, Memory> {
     let mut heads = Heads::new(alloc);
-    for (_, decl, universe, takes) in DECLARED {
+    for (_, decl, universe, taken) in DECLARED {
         let at = DeclAt { module: 0, decl };
-        match heads.row(at) {
-            Some(_) => return Err(Fail::new("declared twice")),
-            None => {}
+        if heads.row(at).is_none() {
+            heads.push(at, head_of(alloc, universe, taken)?)?;
         }
-        let params = unnamed(alloc, takes)?;
-        let text = Text::new(alloc);
-        heads.push(
-            at,
-            Head {
-                text,
-                universe,
-                params,
-            },
-        )?;
     }
     Ok(heads)
 }
 
 /// The names of the declared types, and that of a class, which has no row.
-fn names(alloc: Global) -> Result<Table<DeclAt>, Fail> {
+fn names(alloc: Global) -> Result<Table<DeclAt>, Memory> {
     let mut names = Table::new(alloc);
     for (name, decl, _, _) in DECLARED {
         names.put(name, DeclAt { module: 0, decl })?;
@@ -138,37 +134,46 @@ fn names(alloc: Global) -> Result<Table<DeclAt>, Fail> {
     Ok(names)
 }
 
-/// Asserts what a written type is told to be.
-fn is_told(
-    rt: &impl Abort,
-    alloc: Global,
-    scope: &Scope,
-    source: &[u8],
-    want: &[u8],
-) -> Result<(), Fail> {
-    assert!(rt; source.len() < 100);
+/// What a written type is judged to be.
+fn judged(alloc: Global, scope: &Scope, source: &[u8]) -> Result<Judged<Ty>, Fail> {
+    if source.len() > 100 {
+        return Err(Fail::new("a long type"));
+    }
     let tokens = lex(alloc, 0, source)?;
     let (of, _) = written_type(alloc, tokens.as_slice())?;
-    let judged = judge_type(alloc, scope, &of)?;
-    assert_eq!(rt; told(&judged), want);
+    Ok(judge_type(alloc, scope, &of)?)
+}
+
+/// Asserts what each written type is told to be in a scope.
+fn are_told(rt: &impl Abort, alloc: Global, scope: &Scope) -> Result<(), Fail> {
+    for (index, (source, want)) in TOLD.iter().enumerate() {
+        let judged = judged(alloc, scope, source)?;
+        assert!(rt; told(&judged) == *want, "{index}");
+    }
     Ok(())
+}
+
+/// Asserts what each written type is told to be over these type parameters and rows.
+fn are_told_over(
+    rt: &impl Abort,
+    alloc: Global,
+    params: &Params,
+    heads: &Heads,
+) -> Result<(), Fail> {
+    let names = names(alloc)?;
+    let scope = Scope {
+        regions: &[],
+        params,
+        names: &names,
+        heads,
+    };
+    are_told(rt, alloc, &scope)
 }
 
 /// Each reason comes where it should, and of two the one that is judged first.
 #[test]
 fn written_types_are_judged(rt: HostRuntime) -> Result<(), Fail> {
-    let alloc = rt.alloc();
-    let params = parameters(alloc)?;
-    let names = names(alloc)?;
-    let heads = rows(alloc)?;
-    let scope = Scope {
-        regions: &[],
-        params: &params,
-        names: &names,
-        heads: &heads,
-    };
-    for (source, want) in TOLD {
-        is_told(&rt, alloc, &scope, source, want)?;
-    }
-    Ok(())
+    let params = params_of(rt.alloc(), &SCOPE)?;
+    let heads = rows(rt.alloc())?;
+    are_told_over(&rt, rt.alloc(), &params, &heads)
 }

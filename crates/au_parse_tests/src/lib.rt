@@ -1,5 +1,5 @@
-//! Tests of the lexer and the parser that no file and its answer can be: tokens, a tree and its places, and
-//! files too long to be written down. They stand in a crate of their own: a crate with tests is proved twice.
+//! Tests of the lexer and the parser that no file and its answer can be: tokens, and files too long to be
+//! written down. They stand in a crate of their own: a crate with tests is proved twice.
 #![tactic(auto)]
 
 #[cfg(test)]
@@ -8,5 +8,3 @@ mod lengths;
 mod sources;
 #[cfg(test)]
 mod tokens;
-#[cfg(test)]
-mod trees;

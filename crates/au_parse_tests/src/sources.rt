@@ -1,72 +1,28 @@
 //! Files made of pieces, and what they come to.
 
-ghost use Rattle.std.specs.Prelude.{◌+◌, ◌^◌, ◌<◌, length};
-
-use au_base::{Limit, Memory, Pos, Text, Token};
-use au_lexer::lex;
+use au_base::{Limit, LimitKind, Memory, Pos, Text, Token};
+use au_lexer::{LexFault, lex};
 use au_parser::{ParseFault, parse};
-use std::alloc::{AllocError, Global};
+use std::alloc::Global;
 use std::process::Abort;
 use std::test::Fail;
 
-/// A file, and what it comes to: what stands first, what stands behind it so often, how often, what stands
-/// behind that, and what is due.
-pub(crate) type Long = (
-    &'static [u8],
-    &'static [u8],
-    u32,
-    &'static [u8],
-    &'static [u8],
-);
-
-/// A place as `LINE:COLUMN`.
-fn shown_place(alloc: Global, at: Pos) -> Result<String, AllocError> {
-    format!(in alloc; "{}:{}", at.line, at.column)
+/// What a file is due to come to.
+#[derive(Clone, Copy)]
+pub(crate) enum Due {
+    /// A tree.
+    Tree,
+    /// So many tokens.
+    Tokens(usize),
+    /// It is refused at this line and column.
+    Refused(u32, u32),
+    /// This count passes the limit of this kind and number.
+    Passes(LimitKind, u64, u64),
 }
 
-/// A limit as `KIND COUNT above MOST`.
-fn shown_limit(alloc: Global, limit: Limit) -> Result<String, AllocError> {
-    format!(in alloc; "{:?} {} above {}", limit.kind, limit.count, limit.most)
-}
-
-/// The place of the token of an index, or of the file's end where there is no such token.
-fn place_of(tokens: &[Token], index: u32, bytes: &[u8]) -> Pos
-    requires { length bytes.now + 1 < 2 ^ 32 }
-{
-    match tokens.get(index as usize) {
-        Some(token) => token.at,
-        None => Pos::start(0).after(bytes),
-    }
-}
-
-/// What a file comes to: `accepted`, the place at which it is refused, or the limit that it passes.
-fn said(rt: &impl Abort, alloc: Global, bytes: &[u8]) -> Result<Text, Fail> {
-    assert!(rt; bytes.len() < 10_000_000);
-    let tokens = lex(alloc, 0, bytes)?;
-    assert!(rt; tokens.len() < 1_000_000);
-    let shown = match parse(alloc, tokens.as_slice()) {
-        Ok(_) => return Ok(Text::copy_of(alloc, b"accepted")?),
-        Err(ParseFault::Syntax(index)) => {
-            shown_place(alloc, place_of(tokens.as_slice(), index, bytes))?
-        }
-        Err(ParseFault::Limit(limit)) => shown_limit(alloc, limit)?,
-        Err(ParseFault::Memory) => return Ok(Text::copy_of(alloc, b"memory")?),
-    };
-    Ok(Text::copy_of(alloc, shown.as_bytes())?)
-}
-
-/// Puts a source at the end with what is said of it, where that isn't what is due.
-fn tell(wrong: &mut Text, source: &[u8], said: &[u8], due: &[u8]) -> Result<(), Memory> {
-    if said != due {
-        wrong.append(source)?;
-        wrong.append(b" is ")?;
-        wrong.append(said)?;
-        wrong.append(b", not ")?;
-        wrong.append(due)?;
-        wrong.push(b'\n')?;
-    }
-    Ok(())
-}
+/// A file: what stands first, what stands behind it so often, how often, what stands behind that, and what
+/// is due.
+pub(crate) type Long = (&'static [u8], &'static [u8], u32, &'static [u8], Due);
 
 /// The bytes of a file.
 fn bytes_of(alloc: Global, file: &Long) -> Result<Text, Memory> {
@@ -79,14 +35,61 @@ fn bytes_of(alloc: Global, file: &Long) -> Result<Text, Memory> {
     Ok(text)
 }
 
-/// Asserts that each of these files comes to what is due.
-pub(crate) fn come_to(rt: &impl Abort, alloc: Global, files: &[Long]) -> Result<(), Fail> {
-    let mut wrong = Text::new(alloc);
-    for file in files {
-        let text = bytes_of(alloc, file)?;
-        let said = said(rt, alloc, text.as_bytes())?;
-        tell(&mut wrong, file.3, said.as_bytes(), file.4)?;
+/// Whether the file is due to be refused at this place.
+fn is_refused(due: Due, at: Pos) -> bool {
+    match due {
+        Due::Refused(line, column) => at.line == line && at.column == column,
+        _ => false,
     }
-    assert_eq!(rt; wrong.as_bytes(), b"".as_slice());
+}
+
+/// Whether the file is due to pass this limit.
+fn is_passed(due: Due, limit: Limit) -> bool {
+    match due {
+        Due::Passes(kind, count, most) => {
+            limit.kind == kind && limit.count == count && limit.most == most
+        }
+        _ => false,
+    }
+}
+
+/// Whether the tokens of a file come to what is due.
+fn are_read(alloc: Global, tokens: &[Token], due: Due) -> bool {
+    if tokens.len() > 1_000_000 {
+        return false;
+    }
+    match parse(alloc, tokens) {
+        Ok(_) => matches!(due, Due::Tree),
+        Err(ParseFault::Syntax(index)) => match tokens.get(index as usize) {
+            Some(token) => is_refused(due, token.at),
+            None => false,
+        },
+        Err(ParseFault::Limit(limit)) => is_passed(due, limit),
+        Err(ParseFault::Memory) => false,
+    }
+}
+
+/// Whether a file comes to what is due.
+fn is_read(alloc: Global, bytes: &[u8], due: Due) -> bool {
+    if bytes.len() > 10_000_000 {
+        return false;
+    }
+    match lex(alloc, 0, bytes) {
+        Ok(tokens) => match due {
+            Due::Tokens(number) => tokens.len() == number,
+            _ => are_read(alloc, tokens.as_slice(), due),
+        },
+        Err(LexFault::Byte(at)) => is_refused(due, at),
+        Err(LexFault::Limit(limit)) => is_passed(due, limit),
+        Err(LexFault::Memory) => false,
+    }
+}
+
+/// Asserts that each of these files comes to what is due, and says the place in the list of one that doesn't.
+pub(crate) fn come_to(rt: &impl Abort, alloc: Global, files: &[Long]) -> Result<(), Fail> {
+    for (index, file) in files.iter().enumerate() {
+        let text = bytes_of(alloc, file)?;
+        assert!(rt; is_read(alloc, text.as_bytes(), file.4), "{index}");
+    }
     Ok(())
 }

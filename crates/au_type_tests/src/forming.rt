@@ -1,11 +1,10 @@
-//! The universes of types, over one declared type and four type parameters.
+//! Which types stand and are well formed, over one declared type and four type parameters.
 
 use au_base::{Memory, Name, Text};
 use au_syntax::Universe;
 use au_types::{Arg, DeclAt, Head, Heads, Parameter, Params, Region, Ty};
-use au_universes::{TypeUniverse, is_well_formed, stands_over, universe_of};
+use au_universes::{is_well_formed, stands_over};
 use std::alloc::Global;
-use std::process::Abort;
 use std::test::Fail;
 
 /// The declared type.
@@ -43,11 +42,10 @@ fn wants(alloc: Global, wanted: Universe) -> Result<Params, Memory> {
 }
 
 /// The row of the declared type.
-fn heads(alloc: Global, universe: Universe, params: Params) -> Result<Heads, Memory> {
-    let text = Text::new(alloc);
+fn heads(alloc: Global, params: Params) -> Result<Heads, Memory> {
     let head = Head {
-        text,
-        universe,
+        text: Text::new(alloc),
+        universe: Universe::AnyType,
         params,
     };
     let mut heads = Heads::new(alloc);
@@ -60,10 +58,6 @@ fn heads(alloc: Global, universe: Universe, params: Params) -> Result<Heads, Mem
 enum Shape {
     /// It is the type parameter.
     Alone,
-    /// It reads that.
-    Read,
-    /// It writes that.
-    Write,
     /// The declared type of that and a region.
     Held,
     /// The declared type of such a type.
@@ -72,18 +66,6 @@ enum Shape {
     Short,
     /// A declared type without a row.
     Rowless,
-}
-
-fn read(alloc: Global, to: Ty) -> Result<Ty, Memory> {
-    let region = Region::Anonymous;
-    let to = Box::new(alloc, to)?;
-    Ok(Ty::Read { to, region })
-}
-
-fn write(alloc: Global, to: Ty) -> Result<Ty, Memory> {
-    let region = Region::Anonymous;
-    let to = Box::new(alloc, to)?;
-    Ok(Ty::Write { to, region })
 }
 
 fn short(alloc: Global, of: Ty) -> Result<Vec<Arg>, Memory> {
@@ -101,8 +83,6 @@ fn held(alloc: Global, at: DeclAt, of: Ty) -> Result<Ty, Memory> {
 fn shaped(alloc: Global, shape: Shape, of: Ty) -> Result<Ty, Memory> {
     match shape {
         Shape::Alone => Ok(of),
-        Shape::Read => read(alloc, of),
-        Shape::Write => write(alloc, of),
         Shape::Held => held(alloc, HOLDER, of),
         Shape::Twice => held(alloc, HOLDER, held(alloc, HOLDER, of)?),
         Shape::Short => Ok(Ty::Named {
@@ -119,68 +99,13 @@ fn made(alloc: Global, shape: Shape, name: u8) -> Result<Ty, Memory> {
     shaped(alloc, shape, Ty::Param(name))
 }
 
-/// Asserts that a type stands over rows and type parameters and has a universe.
-fn is_of(rt: &impl Abort, heads: &Heads, scope: &Params, of: &Ty, want: TypeUniverse) {
-    assert!(rt; stands_over(heads, scope, of));
-    assert_eq!(rt; universe_of(heads, scope, of), want);
-}
-
-/// Asserts the universe of a type over a declared type of this universe.
-fn has(
-    rt: &impl Abort,
-    alloc: Global,
-    declared: Universe,
-    of: &Ty,
-    want: TypeUniverse,
-) -> Result<(), Memory> {
-    let params = scope(alloc)?;
-    let rows = heads(alloc, declared, wants(alloc, Universe::AnyType)?)?;
-    is_of(rt, &rows, &params, of, want);
-    Ok(())
-}
-
 /// Whether a type stands, and is well formed, over a declared type that wants a universe.
 fn is_formed(alloc: Global, wanted: Universe, of: &Ty) -> Result<(bool, bool), Memory> {
     let params = scope(alloc)?;
-    let rows = heads(alloc, Universe::AnyType, wants(alloc, wanted)?)?;
+    let rows = heads(alloc, wants(alloc, wanted)?)?;
     let stands = stands_over(&rows, &params, of);
     let formed = is_well_formed(&rows, &params, of);
     Ok((stands, formed))
-}
-
-/// What reads is Free, what writes is Linear, and a type parameter is what it's declared. So is a declared
-/// type; one that is declared `Type` is judged by its arguments at any depth, and its region is passed over.
-#[test]
-fn universes_of_types(rt: HostRuntime) -> Result<(), Fail> {
-    let cases = [
-        (Universe::Free, Shape::Alone, b'F', TypeUniverse::Free),
-        (Universe::Free, Shape::Alone, b'L', TypeUniverse::Linear),
-        (
-            Universe::Free,
-            Shape::Alone,
-            b'T',
-            TypeUniverse::AnyUniverse,
-        ),
-        (Universe::Free, Shape::Read, b'L', TypeUniverse::Free),
-        (Universe::Free, Shape::Write, b'F', TypeUniverse::Linear),
-        (Universe::Free, Shape::Held, b'L', TypeUniverse::Free),
-        (Universe::Linear, Shape::Held, b'F', TypeUniverse::Linear),
-        (Universe::AnyType, Shape::Held, b'F', TypeUniverse::Free),
-        (Universe::AnyType, Shape::Held, b'L', TypeUniverse::Linear),
-        (
-            Universe::AnyType,
-            Shape::Held,
-            b'T',
-            TypeUniverse::AnyUniverse,
-        ),
-        (Universe::AnyType, Shape::Twice, b'F', TypeUniverse::Free),
-        (Universe::AnyType, Shape::Twice, b'L', TypeUniverse::Linear),
-    ];
-    for (declared, shape, name, want) in cases {
-        let of = made(rt.alloc(), shape, name)?;
-        has(&rt, rt.alloc(), declared, &of, want)?;
-    }
-    Ok(())
 }
 
 /// A parameter takes a type of its universe, and one of universe `Type` any type. A region, a name that isn't
@@ -205,7 +130,8 @@ fn arguments_fit(rt: HostRuntime) -> Result<(), Fail> {
     ];
     for (wanted, shape, name, want) in cases {
         let of = made(rt.alloc(), shape, name)?;
-        assert_eq!(rt; is_formed(rt.alloc(), wanted, &of)?, want);
+        let (stands, formed) = is_formed(rt.alloc(), wanted, &of)?;
+        assert!(rt; stands == want.0 && formed == want.1);
     }
     Ok(())
 }
