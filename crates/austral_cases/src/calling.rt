@@ -24,7 +24,7 @@ pub struct Ending {
 /// Calls the compiler.
 pub fn ending_of(alloc: Global, call: Call) -> Result<Ending, Memory>
     ensures { IfOk result (λ ending. CanEnd (map string_bytes call.words.items)
-        (map file_of call.files.items) ending.out.written ending.err.written ending.status) }
+        (map file_of call.files.items) call.input.items ending.out.written ending.err.written ending.status) }
 {
     let mut out = MemorySink::new(alloc, call.out_room, Vec::new(alloc))?;
     let mut err = MemorySink::new(alloc, call.err_room, Vec::new(alloc))?;
