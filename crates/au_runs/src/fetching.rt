@@ -7,7 +7,6 @@ ghost use Rattle.au_runs.specs.Steps.{WaitsAsBefore};
 
 use crate::waiting::waits;
 use au_base::Memory;
-use au_cells::Cell;
 use au_low::Code;
 use au_machine::{State, Turn};
 use au_steps::{act, fetched};
@@ -19,12 +18,7 @@ use std::alloc::Global;
 ///
 /// `Memory` when memory runs out.
 #[inline(always)]
-pub fn next(
-    state: &mut State,
-    alloc: Global,
-    code: &Code,
-    room: &mut Vec<Cell>,
-) -> Result<Turn, Memory>
+pub fn next(state: &mut State, alloc: Global, code: &Code) -> Result<Turn, Memory>
     ensures came { IfOk result (λ turn. came turn state.new (next code.now (machine_of state.old))) }
     ensures waits { IfOk result (λ turn. WaitsAsBefore turn (machine_of state.old) (machine_of state.new)) }
     ensures quiet { IsQuiet (came_still result) state.old.world state.new.world }
@@ -35,5 +29,5 @@ pub fn next(
     if waits(state, instr) {
         return Ok(Turn::Waits);
     }
-    act(state, alloc, code, room, instr)
+    act(state, alloc, code, instr)
 }

@@ -11,24 +11,17 @@ use crate::calling::{call, function_at, wrap};
 use crate::looping::{for_step, for_test};
 use crate::shipping::{hear_call, ship};
 use au_base::Memory;
-use au_cells::Cell;
 use au_low::{Code, Function, Instr, Mode};
 use au_machine::{State, Turn};
 use std::alloc::Global;
 
-/// Does an instruction. The room is for the arguments of a call.
+/// Does an instruction.
 ///
 /// # Errors
 ///
 /// `Memory` when memory runs out.
 #[inline(always)]
-pub fn act(
-    state: &mut State,
-    alloc: Global,
-    code: &Code,
-    room: &mut Vec<Cell>,
-    instr: &Instr,
-) -> Result<Turn, Memory>
+pub fn act(state: &mut State, alloc: Global, code: &Code, instr: &Instr) -> Result<Turn, Memory>
     requires { state.now.place < most_place }
     ensures is { IfOk result (λ turn. came turn state.new (act code.now instr.now (machine_of state.old))) }
     ensures quiet { IsQuiet (came_still result) state.old.world state.new.world }
@@ -68,14 +61,7 @@ pub fn act(
         } => { state.make(alloc, code, *of, *tag, order.as_slice(), module) }
         Instr::Take(slot) => state.take_record(*slot),
         Instr::Case { slot, labels } => state.take_case(code, *slot, labels.as_slice()),
-        Instr::Call { function, order } => call(
-            state,
-            alloc,
-            code,
-            room,
-            *function,
-            order.as_slice(),
-        ),
+        Instr::Call { function, order } => call(state, alloc, code, *function, order.as_slice()),
         Instr::Shipped { call, of, order } => ship(
             state,
             alloc,
