@@ -27,8 +27,9 @@ use Rattle.au_top.specs.Runs.{HasRunAs, entry_for}
 -- for a program, the entry that is named if one is, and the most steps
 module _ (named : Option Entry) (steps : ℕ) (program : List ModuleParts) where
   -- The rules of typing derive the program with some notes, and it closes to functions from its entry. A run
-  -- of it took bytes of its input, left the rest, and wrote bytes, all of which stand on `out`. Where what the
-  -- program means on that input isn't stuck within as many ticks as the run had steps, this is what it means.
+  -- of it took bytes of its input, left the rest, and wrote bytes, all of which stand on `out`. Where what
+  -- the program means on that input isn't stuck within as many ticks as the run had steps, this is what it
+  -- means.
   pub record HasShown (ends : Ended) (told left out out' : Option (List ℕ)) : Type 0 where
     pub noted : List NotedParts
     pub derived : IsDerived program noted

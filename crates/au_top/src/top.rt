@@ -98,19 +98,19 @@ pub fn austral<S: Shelf, I: Source, O: Sink, E: Sink>(
         → IsShown task.entry task.steps (program_modules reads) result
         (I.left input.old) (I.left input.new) (O.written out.old) (O.written out.new) (E.written err.old)
         (E.written err.new) }
-    // It ends so only where the files are accepted, no form in them isn't built yet, and their program has its
-    // entry: where it can run.
+    // It ends so only where its program can run: where the files are accepted, no form in them isn't built
+    // yet, and the program has its entry.
     ensures runs_only { (files : Files) (task : Task) → S.files shelf.old ≡ Some files
         → IsRun (map string_bytes words.now) task → IsTrue (is_run_end result) → CanRun files task }
-    // Unless a limit is passed, it ends so, or the run is stuck, exactly where the program can run.
+    // Unless a limit is passed, it ends so, or its run is stuck, exactly where its program can run.
     ensures entered { (files : Files) (task : Task) → S.files shelf.old ≡ Some files
         → IsRun (map string_bytes words.now) task → IsTrue (is_decided result) → result ≢ Status.Limit
         → CanRun files task ↔ (IsTrue (is_run_end result)
         ⊎ RunsTo (map string_bytes words.now) (S.files shelf.old) ran.Stuck (I.left input.old)
         (I.left input.new) (O.written out.old) (O.written out.new) (E.written err.old)
         (E.written err.new)) }
-    // Unless a limit is passed or a file is missing, it ends with 2, and not since the run is stuck, exactly
-    // where the program can't.
+    // Unless a limit is passed or a file is missing, it ends with 2, and not since its run is stuck, exactly
+    // where its program can't run.
     ensures not_entered { (files : Files) (task : Task) → S.files shelf.old ≡ Some files
         → IsRun (map string_bytes words.now) task → IsTrue (is_decided result) → result ≢ Status.Limit
         → result ≢ Status.Missing
