@@ -4,3 +4,4 @@ pub mod CodedLemmas
 pub mod RowLemmas
 pub mod LowerLemmas
 pub mod DraftLemmas
+mod StepLemmas

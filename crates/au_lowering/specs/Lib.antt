@@ -6,3 +6,4 @@ pub mod DraftViews
 pub mod Closed
 pub mod Rows
 pub mod Answers
+pub mod PlainCalls

@@ -4,7 +4,7 @@ use Rattle.au_closed_trees.specs.ClosedNotes.{Callee, ClosedNote, ClosedExpressi
 use Rattle.au_closing.specs.Closes.{ClosedFunction}
 use Rattle.au_good_programs.specs.Asked.{CallsArePlain, IsAny, IsPlainCall}
 use Rattle.au_good_programs.specs.Suits.{SaidIn, SaidOf, SaidOfAll, SaidOfArms, SaidOfBlock, SaidOfNamed, SaidOfTests}
-use Rattle.au_plain_calls.specs.Plain.{functions_are_plain, is_plain, plain_arguments, plain_arms, plain_block, plain_branches, plain_callee, plain_expression, plain_expressions, plain_statement}
+use Rattle.au_lowering.specs.PlainCalls.{functions_are_plain, is_plain, plain_arguments, plain_arms, plain_block, plain_branches, plain_callee, plain_expression, plain_expressions, plain_statement}
 use Rattle.au_shipped.specs.declared.prims.ShippedCall.{ShippedCall}
 use Rattle.au_shipped.specs.declared.prims.ShippedCall.TheVariants as prim
 use Rattle.au_simulation.specs.Premises as premises

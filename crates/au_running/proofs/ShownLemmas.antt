@@ -20,7 +20,7 @@ use Rattle.au_running.specs.Meant.{means}
 use Rattle.au_running.specs.Runs.{IsRunnable, LoweredProgramsRun, RunsShow, ended_by, kind_words}
 use Rattle.au_running.specs.Shown.{Ended, Shows, aborts, exits, spent}
 use Rattle.au_modules.specs.Programs.{ModuleParts}
-use Rattle.au_plain_calls.specs.Plain.{functions_are_plain}
+use Rattle.au_lowering.specs.PlainCalls.{functions_are_plain}
 use Rattle.au_runs.specs.Calls.{HasWaited, IsCut, IsMade, Says}
 use Rattle.au_runs.specs.declared.ends.End.{End}
 use Rattle.au_runs.specs.declared.ends.End.TheVariants as end

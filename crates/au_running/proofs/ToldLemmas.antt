@@ -4,7 +4,7 @@ use Rattle.au_closed_trees.specs.ClosedNotes.{Callee, ClosedNote, ClosedExpressi
 use Rattle.au_closing.specs.Closes.{ClosedFunction}
 use Rattle.au_good_programs.specs.Asked.{CallsArePlain, IsAny, IsPlainCall}
 use Rattle.au_good_programs.specs.Suits.{SaidIn, SaidOf, SaidOfAll, SaidOfArms, SaidOfBlock, SaidOfNamed, SaidOfTests}
-use Rattle.au_plain_calls.specs.Plain.{functions_are_plain, plain_arguments, plain_arms, plain_block, plain_branches, plain_callee, plain_expression, plain_expressions, plain_statement}
+use Rattle.au_lowering.specs.PlainCalls.{functions_are_plain, plain_arguments, plain_arms, plain_block, plain_branches, plain_callee, plain_expression, plain_expressions, plain_statement}
 use Rattle.au_running.proofs.PlainLemmas.{same_plain}
 use Rattle.au_syntax.specs.Expressions.{Expressions, Arguments, number, negative, text, truth, nil, path, arrow, call, named_call, parenthesized, dereference, borrow, borrow_part, binary, negation, typed, choice, no_expressions, expressions, no_arguments, arguments}
 use Rattle.au_syntax.specs.Plain.{Bytes}

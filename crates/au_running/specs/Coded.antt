@@ -8,7 +8,7 @@ use Rattle.au_low.specs.Runs.{low_run}
 use Rattle.au_lowering.specs.Closed.{code_of}
 use Rattle.au_running.specs.Runs.{kind_words}
 use Rattle.au_modules.specs.Programs.{ModuleParts}
-use Rattle.au_plain_calls.specs.Plain.{functions_are_plain}
+use Rattle.au_lowering.specs.PlainCalls.{functions_are_plain}
 use Rattle.au_runs.specs.Calls.{Says}
 use Rattle.au_runs.specs.declared.ends.End.{End}
 use Rattle.au_runs.specs.declared.ends.End.TheVariants as end

@@ -15,7 +15,7 @@ use Rattle.au_meaning.specs.Worlds.{Outcome, stuck}
 use Rattle.au_running.specs.Meant.{means}
 use Rattle.au_running.specs.Runs.{IsRunnable}
 use Rattle.au_running.specs.Shown.{Ended, Shows, aborts, exits, spent}
-use Rattle.au_plain_calls.specs.Plain.{functions_are_plain}
+use Rattle.au_lowering.specs.PlainCalls.{functions_are_plain}
 use Rattle.au_runs.specs.Calls.{Takes}
 use Rattle.au_running.specs.declared.ran.Ran.{Ran}
 use Rattle.au_running.specs.declared.ran.Ran.TheVariants as ran

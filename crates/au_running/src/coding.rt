@@ -9,9 +9,8 @@ ghost use Rattle.au_running.specs.Coded.{HasCode};
 use au_base::{Entry, Limit};
 use au_closed_programs::{CloseFault, close};
 use au_low::Code;
-use au_lowering::{LowerFault, lower};
+use au_lowering::{LowerFault, calls_are_plain, lower};
 use au_noting_programs::NotedProgram;
-use au_plain_calls::calls_are_plain;
 use std::alloc::Global;
 
 /// Why there is no code to run.

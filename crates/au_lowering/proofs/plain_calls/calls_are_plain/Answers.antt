@@ -1,10 +1,10 @@
 use Rattle.std.proofs.Common.{refl, sym, ◌∙◌}
 use Rattle.au_closed_programs.specs.FunctionViews.{functions_said}
 use Rattle.au_closed_trees.specs.contracts.phase.ClosedTreesPhase.TheImpl.{ghosts as closed}
-use Rattle.au_plain_calls.specs.Plain.{functions_are_plain, plain_block}
-use Rattle.au_plain_calls.proofs.StepLemmas.{ends, goes_on, stops}
+use Rattle.au_lowering.specs.PlainCalls.{functions_are_plain, plain_block}
+use Rattle.au_lowering.proofs.StepLemmas.{ends, goes_on, stops}
 use Rattle.au_syntax.specs.Views.{block}
-use Rattle.au_plain_calls.proofs.calls.calls_are_plain.Goals as goal
+use Rattle.au_lowering.proofs.plain_calls.calls_are_plain.Goals as goal
 
 pub loop-one-preserved : goal.loop-one-preserved
 loop-one-preserved c =

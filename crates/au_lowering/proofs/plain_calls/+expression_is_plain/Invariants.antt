@@ -1,8 +1,8 @@
 use Rattle.std.proofs.Common.{◌≡◌, drop}
 use Rattle.au_closed_trees.specs.contracts.phase.ClosedTreesPhase.TheImpl.{ghosts as closed}
-use Rattle.au_plain_calls.specs.Plain.{plain_arguments, plain_expressions}
+use Rattle.au_lowering.specs.PlainCalls.{plain_arguments, plain_expressions}
 use Rattle.au_syntax.specs.Views.{argument_all, expression_all}
-use Rattle.au_plain_calls.proofs.calls.+expression_is_plain.Given as goal
+use Rattle.au_lowering.proofs.plain_calls.+expression_is_plain.Given as goal
 
 -- each expression so far passes, so those that are left decide
 abbrev pub invariant-expressions_are_plain-loop-one : goal.invariant-expressions_are_plain-loop-one

@@ -1,10 +1,10 @@
 use Rattle.std.proofs.Common.{◌&&◌, arith, refl, sym, ◌∙◌}
 use Rattle.au_closed_trees.specs.contracts.phase.ClosedTreesPhase.TheImpl.{ghosts as closed}
-use Rattle.au_plain_calls.specs.Plain.{plain_arms, plain_block, plain_branches, plain_expression, plain_statement}
-use Rattle.au_plain_calls.proofs.StepLemmas.{ends, goes_on, stops}
+use Rattle.au_lowering.specs.PlainCalls.{plain_arms, plain_block, plain_branches, plain_expression, plain_statement}
+use Rattle.au_lowering.proofs.StepLemmas.{ends, goes_on, stops}
 use Rattle.au_syntax.specs.Views.{arm_all, block, branch_all, expression, statement, statement_all}
 use Rattle.au_syntax.proofs.StatementLemmas.{skip_says, let_says, destructure_says, assign_says, assign_through_says, if_says, borrow_says, borrow_typed_says, call_says, return_says, if_else_says, case_says, while_says, for_says}
-use Rattle.au_plain_calls.proofs.calls.+statement_is_plain.Goals as goal
+use Rattle.au_lowering.proofs.plain_calls.+statement_is_plain.Goals as goal
 
 pub statement_is_plain-returns-in-Skip : goal.statement_is_plain-returns-in-Skip
 statement_is_plain-returns-in-Skip t c = grind (arith, skip_says)

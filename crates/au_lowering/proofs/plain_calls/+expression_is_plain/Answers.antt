@@ -1,10 +1,10 @@
 use Rattle.std.proofs.Common.{arith, refl, sym, ◌∙◌}
 use Rattle.au_closed_trees.specs.contracts.phase.ClosedTreesPhase.TheImpl.{ghosts as closed}
-use Rattle.au_plain_calls.specs.Plain.{plain_arguments, plain_expression, plain_expressions}
-use Rattle.au_plain_calls.proofs.StepLemmas.{ends, goes_on, stops}
+use Rattle.au_lowering.specs.PlainCalls.{plain_arguments, plain_expression, plain_expressions}
+use Rattle.au_lowering.proofs.StepLemmas.{ends, goes_on, stops}
 use Rattle.au_syntax.specs.Views.{argument_all, expression, expression_all}
 use Rattle.au_syntax.proofs.ExpressionLemmas.{number_says, negative_says, text_says, bool_says, nil_says, path_says, arrow_says, parenthesized_says, dereference_says, borrow_says, borrow_part_says, not_says, typed_says, call_says, named_call_says, binary_says, if_says}
-use Rattle.au_plain_calls.proofs.calls.+expression_is_plain.Goals as goal
+use Rattle.au_lowering.proofs.plain_calls.+expression_is_plain.Goals as goal
 
 pub expression_is_plain-returns-in-Number : goal.expression_is_plain-returns-in-Number
 expression_is_plain-returns-in-Number t c = grind (arith, number_says)

@@ -6,7 +6,7 @@ ghost use Rattle.au_syntax.specs.Views.{expression_all, statement};
 ghost use Rattle.au_closed_trees.specs.Views as views;
 ghost use Rattle.au_closed_trees.specs.contracts.phase.ClosedTreesPhase.TheImpl.{ghosts as closed};
 ghost use Rattle.au_closed_programs.specs.FunctionViews.{functions_said};
-ghost use Rattle.au_plain_calls.specs.Plain as spec;
+ghost use Rattle.au_lowering.specs.PlainCalls as spec;
 
 use au_closed_programs::ClosedFunction;
 use au_closed_trees::{Callee, ClosedTrees};

@@ -1,8 +1,8 @@
 use Rattle.std.proofs.Common.{◌≡◌, drop}
 use Rattle.au_closed_trees.specs.contracts.phase.ClosedTreesPhase.TheImpl.{ghosts as closed}
-use Rattle.au_plain_calls.specs.Plain.{plain_arms, plain_block, plain_branches}
+use Rattle.au_lowering.specs.PlainCalls.{plain_arms, plain_block, plain_branches}
 use Rattle.au_syntax.specs.Views.{arm_all, branch_all, statement_all}
-use Rattle.au_plain_calls.proofs.calls.+statement_is_plain.Given as goal
+use Rattle.au_lowering.proofs.plain_calls.+statement_is_plain.Given as goal
 
 -- each statement so far passes, so those that are left decide
 abbrev pub invariant-block_is_plain-loop-one : goal.invariant-block_is_plain-loop-one

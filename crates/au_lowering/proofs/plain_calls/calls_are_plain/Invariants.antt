@@ -1,7 +1,7 @@
 use Rattle.std.proofs.Common.{◌≡◌, drop}
 use Rattle.au_closed_programs.specs.FunctionViews.{functions_said}
-use Rattle.au_plain_calls.specs.Plain.{functions_are_plain}
-use Rattle.au_plain_calls.proofs.calls.calls_are_plain.Given as goal
+use Rattle.au_lowering.specs.PlainCalls.{functions_are_plain}
+use Rattle.au_lowering.proofs.plain_calls.calls_are_plain.Given as goal
 
 -- each function so far passes, so those that are left decide
 abbrev pub invariant-loop-one : goal.invariant-loop-one
