@@ -1,5 +1,8 @@
 -- What the objects in memory hold, seen without their memory.
-use Rattle.std.specs.Prelude.{ℕ, List, [], ◌∷◌, ◌-◌, Bool, ◌==◌, ◌||◌, not, Vec, String, Option, Some, None, length, if◌then◌else◌, nat_lt, min}
+use Rattle.std.specs.Prelude.{
+  ℕ, List, [], ◌∷◌, ◌-◌, Bool, ◌==◌, ◌||◌, not, Vec, String, Option, Some, None, length, if◌then◌else◌,
+  nat_lt, min,
+}
 use Rattle.std.specs.Global.{Global}
 use Rattle.std.specs.List.{list_any}
 use Rattle.std.specs.String.{string_bytes}
@@ -73,4 +76,5 @@ sink_fails sink = next_fails sink.calls sink.fails || not (nat_lt (length sink.w
 
 -- what the next call answers for a piece: it takes all that there is room for
 abbrev pub sink_answer : SinkContents → List ℕ → Put
-sink_answer sink piece = if sink_fails sink then Failed else Took (min (length piece) (sink.room - length sink.written))
+sink_answer sink piece =
+    if sink_fails sink then Failed else Took (min (length piece) (sink.room - length sink.written))

@@ -1,7 +1,12 @@
 -- How each keyword and each sign is spelled.
 use Rattle.std.specs.Prelude.{ℕ, List, [], ◌∷◌, codes}
 use Rattle.au_base.specs.declared.tokens.Keyword.{Keyword}
-use Rattle.au_base.specs.declared.tokens.Keyword.TheVariants.{KwModule, KwBody, KwIs, KwEnd, KwImport, KwAs, KwPragma, KwConstant, KwType, KwRecord, KwUnion, KwCase, KwWhen, KwOf, KwDo, KwFunction, KwGeneric, KwTypeclass, KwInstance, KwMethod, KwLet, KwVar, KwIf, KwThen, KwElse, KwWhile, KwFor, KwFrom, KwTo, KwBorrow, KwIn, KwReturn, KwSkip, KwNil, KwTrue, KwFalse, KwAnd, KwOr, KwNot, KwFree, KwLinear, KwAnyUniverse, KwRegion}
+use Rattle.au_base.specs.declared.tokens.Keyword.TheVariants.{
+  KwModule, KwBody, KwIs, KwEnd, KwImport, KwAs, KwPragma, KwConstant, KwType, KwRecord, KwUnion, KwCase,
+  KwWhen, KwOf, KwDo, KwFunction, KwGeneric, KwTypeclass, KwInstance, KwMethod, KwLet, KwVar, KwIf, KwThen,
+  KwElse, KwWhile, KwFor, KwFrom, KwTo, KwBorrow, KwIn, KwReturn, KwSkip, KwNil, KwTrue, KwFalse, KwAnd, KwOr,
+  KwNot, KwFree, KwLinear, KwAnyUniverse, KwRegion,
+}
 use Rattle.au_base.specs.declared.tokens.Sign.{Sign}
 use Rattle.au_base.specs.declared.tokens.Sign.TheVariants as sign
 
@@ -83,8 +88,16 @@ sign_spelling sign.Greater = codes ">"
 
 -- every keyword
 abbrev pub keywords : List Keyword
-keywords = KwModule ∷ KwBody ∷ KwIs ∷ KwEnd ∷ KwImport ∷ KwAs ∷ KwPragma ∷ KwConstant ∷ KwType ∷ KwRecord ∷ KwUnion ∷ KwCase ∷ KwWhen ∷ KwOf ∷ KwDo ∷ KwFunction ∷ KwGeneric ∷ KwTypeclass ∷ KwInstance ∷ KwMethod ∷ KwLet ∷ KwVar ∷ KwIf ∷ KwThen ∷ KwElse ∷ KwWhile ∷ KwFor ∷ KwFrom ∷ KwTo ∷ KwBorrow ∷ KwIn ∷ KwReturn ∷ KwSkip ∷ KwNil ∷ KwTrue ∷ KwFalse ∷ KwAnd ∷ KwOr ∷ KwNot ∷ KwFree ∷ KwLinear ∷ KwAnyUniverse ∷ KwRegion ∷ []
+keywords = KwModule ∷ KwBody ∷ KwIs ∷ KwEnd ∷ KwImport ∷ KwAs ∷ KwPragma ∷ KwConstant ∷ KwType ∷ KwRecord
+    ∷ KwUnion ∷ KwCase ∷ KwWhen ∷ KwOf ∷ KwDo ∷ KwFunction ∷ KwGeneric ∷ KwTypeclass ∷ KwInstance ∷ KwMethod
+    ∷ KwLet ∷ KwVar ∷ KwIf ∷ KwThen ∷ KwElse ∷ KwWhile ∷ KwFor ∷ KwFrom ∷ KwTo ∷ KwBorrow ∷ KwIn ∷ KwReturn
+    ∷ KwSkip ∷ KwNil ∷ KwTrue ∷ KwFalse ∷ KwAnd ∷ KwOr ∷ KwNot ∷ KwFree ∷ KwLinear ∷ KwAnyUniverse ∷ KwRegion
+    ∷ []
 
 -- every sign, those of two bytes first
 abbrev pub signs : List Sign
-signs = sign.Assign ∷ sign.FatArrow ∷ sign.Arrow ∷ sign.WriteBorrow ∷ sign.Reborrow ∷ sign.NotEqual ∷ sign.LessEqual ∷ sign.GreaterEqual ∷ sign.LeftParenthesis ∷ sign.RightParenthesis ∷ sign.LeftBracket ∷ sign.RightBracket ∷ sign.LeftBrace ∷ sign.RightBrace ∷ sign.Comma ∷ sign.Semicolon ∷ sign.Colon ∷ sign.Dot ∷ sign.ReadBorrow ∷ sign.Exclamation ∷ sign.Plus ∷ sign.Minus ∷ sign.Star ∷ sign.Slash ∷ sign.Equal ∷ sign.Less ∷ sign.Greater ∷ []
+signs = sign.Assign ∷ sign.FatArrow ∷ sign.Arrow ∷ sign.WriteBorrow ∷ sign.Reborrow ∷ sign.NotEqual
+    ∷ sign.LessEqual ∷ sign.GreaterEqual ∷ sign.LeftParenthesis ∷ sign.RightParenthesis ∷ sign.LeftBracket
+    ∷ sign.RightBracket ∷ sign.LeftBrace ∷ sign.RightBrace ∷ sign.Comma ∷ sign.Semicolon ∷ sign.Colon
+    ∷ sign.Dot ∷ sign.ReadBorrow ∷ sign.Exclamation ∷ sign.Plus ∷ sign.Minus ∷ sign.Star ∷ sign.Slash
+    ∷ sign.Equal ∷ sign.Less ∷ sign.Greater ∷ []

@@ -1,6 +1,8 @@
 //! Lists of items.
 
-ghost use Rattle.std.specs.Prelude.{◌≡◌, ◌<◌, ◌++◌, ◌∷◌, [], length, slice_get, OnOk, OnErr, IsTrue, Some, ◌↔◌};
+ghost use Rattle.std.specs.Prelude.{
+  ◌≡◌, ◌<◌, ◌++◌, ◌∷◌, [], length, slice_get, OnOk, OnErr, IsTrue, Some, ◌↔◌,
+};
 
 use crate::faults::Memory;
 use std::alloc::Global;

@@ -1,5 +1,7 @@
 -- How a part of a body deals with all variables.
-use Rattle.std.specs.Prelude.{◌≡◌, ℕ, Bool, true, false, List, [], ◌∷◌, ◌++◌, map, reverse, Option, None, Some}
+use Rattle.std.specs.Prelude.{
+  ◌≡◌, ℕ, Bool, true, false, List, [], ◌∷◌, ◌++◌, map, reverse, Option, None, Some,
+}
 use Rattle.au_syntax.specs.Plain.{Bytes, PlainStatement, PlainStatements}
 use Rattle.au_lives.specs.Lives.{Hold, unlent, read_lent, write_lent, hidden}
 use Rattle.au_lives.specs.Scopes.{Scope}
@@ -13,7 +15,9 @@ use Rattle.au_clearing.specs.declared.deals.Deals.{Deals}
 use Rattle.au_clearing.specs.declared.deals.Way.{Way}
 use Rattle.au_clearing.specs.declared.deals.Way.TheVariants as ways
 use Rattle.au_clearing.specs.Touches.{both, kept}
-use Rattle.au_clearing.specs.Dealings.{once, chain, fork, turns, deal, deal_block, returns_in, returns_in_block, by_type, life_of}
+use Rattle.au_clearing.specs.Dealings.{
+  once, chain, fork, turns, deal, deal_block, returns_in, returns_in_block, by_type, life_of,
+}
 use Rattle.au_clearing.specs.Tables.{find}
 
 -- what is known of a name, or else how the part deals with a name that it doesn't mention
@@ -54,7 +58,8 @@ Piles scopes before after = reverse after ≡ map life_of scopes ++ reverse befo
 
 -- a step does more to a table's names
 abbrev pub Meets : List (Bytes × Touches) → List (Bytes × Touches) → (Bytes → Bool → Touch) → Type 0
-Meets old new step = (x : Bytes) (free : Bool) → touch_in new x free ≡ both (touch_in old x free) (step x free)
+Meets old new step =
+    (x : Bytes) (free : Bool) → touch_in new x free ≡ both (touch_in old x free) (step x free)
 
 -- what may be consumed only once, in a loop
 abbrev pub kept_if : Bool → Touch → Touch

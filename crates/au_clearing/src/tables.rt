@@ -1,6 +1,8 @@
 //! Tables by name.
 
-ghost use Rattle.std.specs.Prelude.{◌≡◌, ◌+◌, [], length, None, Some, is_some, IfSome, IfNone, OnOk, if◌then◌else◌};
+ghost use Rattle.std.specs.Prelude.{
+  ◌≡◌, ◌+◌, [], length, None, Some, is_some, IfSome, IfNone, OnOk, if◌then◌else◌,
+};
 ghost use Rattle.std.specs.Option.{option_copied};
 ghost use Rattle.au_clearing.specs.Tables.{find, Changes};
 

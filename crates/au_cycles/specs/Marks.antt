@@ -1,5 +1,7 @@
 -- Marks on the nodes of a graph, and what a search makes of them.
-use Rattle.std.specs.Prelude.{◌≡◌, ◌+◌, ◌⊎◌, ℕ, Bool, true, not, List, length, slice_index_or, count_by, Contains}
+use Rattle.std.specs.Prelude.{
+  ◌≡◌, ◌+◌, ◌⊎◌, ℕ, Bool, true, not, List, length, slice_index_or, count_by, Contains,
+}
 use Rattle.au_cycles.specs.Cycles.{Names, IsOnCycle}
 
 -- whether a node is marked; a number that no node has counts as marked
@@ -24,7 +26,8 @@ pub record IsPeeled (graph : List (List ℕ)) (marks : List Bool) : Type 0 where
 
 -- Nodes were entered: those that weren't marked are, and stand on the work list. Each takes one from what is
 -- left to mark, and adds one to the list.
-pub record Entered (nodes : List ℕ) (seen : List Bool) (work : List ℕ) (now : List Bool) (list : List ℕ) : Type 0 where
+pub record Entered (nodes : List ℕ) (seen : List Bool) (work : List ℕ) (now : List Bool)
+    (list : List ℕ) : Type 0 where
   pub stay : (a : ℕ) → IsMarked seen a → IsMarked now a
   pub enters : (a : ℕ) → Contains nodes a → IsMarked now a
   pub only : (a : ℕ) → IsMarked now a → IsMarked seen a ⊎ Contains nodes a

@@ -11,7 +11,8 @@ IsSizedAs graph seen done = (length seen ≡ length graph) × (length done ≡ l
 
 -- a node is visited, and so many of its successors are done
 abbrev pub IsVisit : List (List ℕ) → List Bool → Visit → Type 0
-IsVisit graph done visit = (visit.node < length graph) × All (IsMarked done) (take visit.passed (successors graph visit.node))
+IsVisit graph done visit =
+    (visit.node < length graph) × All (IsMarked done) (take visit.passed (successors graph visit.node))
 
 -- How many steps are left at most: one for each visit on the path, and two for each node that isn't seen,
 -- since the node that leads to it is visited again.

@@ -1,15 +1,22 @@
 -- The shipped calls: one equation each, by the call, the type of what is born, if one is given, and the
 -- arguments in declared order.
-use Rattle.std.specs.Prelude.{ℕ, ◌-◌, Bool, true, false, List, [], ◌∷◌, ◌++◌, length, take, slice_get, slice_set, Option, Some, None, ℤ, pos, negsuc, codes}
+use Rattle.std.specs.Prelude.{
+  ℕ, ◌-◌, Bool, true, false, List, [], ◌∷◌, ◌++◌, length, take, slice_get, slice_set, Option, Some, None, ℤ,
+  pos, negsuc, codes,
+}
 use Rattle.au_base.specs.declared.kinds.IntKind.TheVariants.{Nat8, Index}
 use Rattle.au_shipped.specs.declared.prims.ShippedCall.{ShippedCall}
 use Rattle.au_shipped.specs.declared.prims.ShippedCall.TheVariants as prim
-use Rattle.au_effects.specs.Values.{Value, Place, unit, number, reference, box, buffer, terminal, root, content_of, optional}
+use Rattle.au_effects.specs.Values.{
+  Value, Place, unit, number, reference, box, buffer, terminal, root, content_of, optional,
+}
 use Rattle.au_effects.specs.Parts.{along}
 use Rattle.au_effects.specs.Worlds.{World, Held, nothing, content, elements, used, tells, bears, ends, spends}
 use Rattle.au_effects.specs.Places.{at, exchanged, content_in}
 use Rattle.au_effects.specs.Numbers.{number_in, number_of, truth_in, text_in, number_bytes, truth_bytes}
-use Rattle.au_effects.specs.Answers.{called, not_empty, empty, out_of_range, Answer, gives, writes, waits, aborts, none}
+use Rattle.au_effects.specs.Answers.{
+  called, not_empty, empty, out_of_range, Answer, gives, writes, waits, aborts, none,
+}
 
 -- how many arguments a shipped call has
 abbrev pub arity : ShippedCall → ℕ
@@ -99,7 +106,8 @@ of_two go (a ∷ []) = none
 of_two go (a ∷ b ∷ []) = go a b
 of_two go (a ∷ b ∷ c ∷ more) = none
 
-abbrev pub of_three : {T B : Type 0} → (Value T → Value T → Value T → Answer T B) → List (Value T) → Answer T B
+abbrev pub of_three : {T B : Type 0} → (Value T → Value T → Value T → Answer T B) → List (Value T)
+    → Answer T B
 of_three go [] = none
 of_three go (a ∷ []) = none
 of_three go (a ∷ b ∷ []) = none
@@ -117,7 +125,8 @@ use_of value world go =
 
 -- A use of a reference to a buffer. What follows gets the buffer's birth, its elements, and the world in
 -- which the use is told.
-abbrev pub buffer_use : {T B : Type 0} → Value T → World T B → (ℕ → List (Value T) → World T B → Answer T B) → Answer T B
+abbrev pub buffer_use : {T B : Type 0} → Value T → World T B → (ℕ → List (Value T) → World T B → Answer T B)
+    → Answer T B
 buffer_use value world go =
     use_of value world (λ borrow place held.
     given (buffer_in held) (λ id.
@@ -139,9 +148,11 @@ element_copied None world = aborts out_of_range world
 element_copied (Some value) world = gives value world
 
 -- an element is replaced, if it is there
-abbrev pub element_replaced : {T B : Type 0} → ℕ → List (Value T) → ℕ → Value T → Option (Value T) → World T B → Answer T B
+abbrev pub element_replaced : {T B : Type 0} → ℕ → List (Value T) → ℕ → Value T → Option (Value T) → World T B
+    → Answer T B
 element_replaced id values index new None world = aborts out_of_range world
-element_replaced id values index new (Some old) world = gives old (with_elements id (slice_set values index new) world)
+element_replaced id values index new (Some old) world =
+    gives old (with_elements id (slice_set values index new) world)
 
 -- a buffer is consumed that holds no element
 abbrev pub buffer_ended : {T B : Type 0} → ℕ → List (Value T) → World T B → Answer T B
@@ -183,7 +194,8 @@ release_terminal world a = given (terminal_in a) (λ id. gives unit (spends (Som
 -- `swap`
 abbrev pub swap_call : {T B : Type 0} → World T B → Value T → Value T → Answer T B
 swap_call world a new =
-    given (reference_in a) (λ one. given (exchanged one.1 new world) (λ pair. gives pair.0 (tells (used one.0) pair.1)))
+    given (reference_in a) (λ one. given (exchanged one.1 new world)
+        (λ pair. gives pair.0 (tells (used one.0) pair.1)))
 
 -- `makeBox`, `unbox`, `boxGet` and `boxGetMut`
 abbrev pub make_box : {T B : Type 0} → Option B → World T B → Value T → Answer T B
@@ -192,7 +204,8 @@ make_box of world a =
 
 abbrev pub unbox_call : {T B : Type 0} → World T B → Value T → Answer T B
 unbox_call world a =
-    given (box_in a) (λ id. given (along (slice_get world.births id) content_in) (λ value. gives value (ends id world)))
+    given (box_in a) (λ id. given (along (slice_get world.births id) content_in)
+        (λ value. gives value (ends id world)))
 
 abbrev pub box_get : {T B : Type 0} → World T B → Value T → Answer T B
 box_get world a =
@@ -203,17 +216,20 @@ box_get world a =
 -- `makeEmpty`, `destroyEmpty`, `length`, `insertBack`, `removeBack`, `nth` and `replaceNth`
 abbrev pub make_empty : {T B : Type 0} → Option B → World T B → Answer T B
 make_empty of world =
-    given of (λ t. gives (buffer (length world.births)) (bears t (codes "Standard.Buffer") (elements []) world))
+    given of (λ t. gives (buffer (length world.births))
+        (bears t (codes "Standard.Buffer") (elements []) world))
 
 abbrev pub destroy_empty : {T B : Type 0} → World T B → Value T → Answer T B
 destroy_empty world a =
-    given (buffer_in a) (λ id. given (along (slice_get world.births id) elements_in) (λ values. buffer_ended id values world))
+    given (buffer_in a) (λ id. given (along (slice_get world.births id) elements_in)
+        (λ values. buffer_ended id values world))
 
 abbrev pub length_call : {T B : Type 0} → World T B → Value T → Answer T B
 length_call world a = buffer_use a world (λ id values told. gives (number Index (pos (length values))) told)
 
 abbrev pub insert_back : {T B : Type 0} → World T B → Value T → Value T → Answer T B
-insert_back world a new = buffer_use a world (λ id values told. gives unit (with_elements id (values ++ new ∷ []) told))
+insert_back world a new =
+    buffer_use a world (λ id values told. gives unit (with_elements id (values ++ new ∷ []) told))
 
 abbrev pub remove_back : {T B : Type 0} → World T B → Value T → Answer T B
 remove_back world a =
@@ -221,7 +237,8 @@ remove_back world a =
 
 abbrev pub nth_call : {T B : Type 0} → World T B → Value T → Value T → Answer T B
 nth_call world a i =
-    given (index_in i) (λ index. buffer_use a world (λ id values told. element_copied (slice_get values index) told))
+    given (index_in i) (λ index. buffer_use a world
+        (λ id values told. element_copied (slice_get values index) told))
 
 abbrev pub replace_nth : {T B : Type 0} → World T B → Value T → Value T → Value T → Answer T B
 replace_nth world a i new =
@@ -234,7 +251,8 @@ acquire_terminal of world a =
     use_of a world (λ borrow place held.
     given (root_in held) (λ id.
     given of (λ t.
-    gives (terminal (length world.births)) (bears t (codes "Standard.IO.Terminal") nothing (tells (used borrow) world)))))
+    gives (terminal (length world.births))
+        (bears t (codes "Standard.IO.Terminal") nothing (tells (used borrow) world)))))
 
 abbrev pub write_byte : {T B : Type 0} → World T B → Value T → Value T → Answer T B
 write_byte world a b =

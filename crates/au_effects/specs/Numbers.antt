@@ -1,8 +1,12 @@
 -- Operations on values, by the definitions of the integer kinds.
-use Rattle.std.specs.Prelude.{ℕ, Bool, true, false, not, ◌==◌, if◌then◌else◌, List, Option, Some, None, ℤ, codes}
+use Rattle.std.specs.Prelude.{
+  ℕ, Bool, true, false, not, ◌==◌, if◌then◌else◌, List, Option, Some, None, ℤ, codes,
+}
 use Rattle.std.specs.Fmt.{signed_decimal}
 use Rattle.au_base.specs.declared.kinds.IntKind.{IntKind}
-use Rattle.au_base.specs.declared.kinds.IntKind.TheVariants.{Nat8, Nat16, Nat32, Nat64, Int8, Int16, Int32, Int64, Index}
+use Rattle.au_base.specs.declared.kinds.IntKind.TheVariants.{
+  Nat8, Nat16, Nat32, Nat64, Int8, Int16, Int32, Int64, Index,
+}
 use Rattle.au_ints.specs.declared.operations.IntOp.{IntOp}
 use Rattle.au_ints.specs.declared.operations.WrapOp.{WrapOp}
 use Rattle.au_ints.specs.declared.operations.Order.{Order}
@@ -60,11 +64,14 @@ number_or_fault kind (Some z) = value (number kind z)
 
 -- the exact result of two numbers of a kind, or an abort where there is none in the kind's range
 abbrev pub computed : {T : Type 0} → IntOp → IntKind → Value T → Value T → Result T
-computed op kind a b = on_both (λ x y. number_or_fault kind (trapped op kind x y)) (number_of kind a) (number_of kind b)
+computed op kind a b =
+    on_both (λ x y. number_or_fault kind (trapped op kind x y)) (number_of kind a) (number_of kind b)
 
 -- the wrapped result of two numbers of a kind
 abbrev pub wrapped_around : {T : Type 0} → WrapOp → IntKind → Value T → Value T → Result T
-wrapped_around op kind a b = on_both (λ x y. value (number kind (wrapped kind (exact (unwrapped op) x y)))) (number_of kind a) (number_of kind b)
+wrapped_around op kind a b =
+    on_both (λ x y. value (number kind (wrapped kind (exact (unwrapped op) x y)))) (number_of kind a)
+    (number_of kind b)
 
 -- two truth values are told apart, or found equal, and nothing else
 abbrev pub compared_truths : {T : Type 0} → Order → Bool → Bool → Result T
@@ -78,7 +85,8 @@ compared_truths order.GreaterEqual a b = no_rule
 -- two numbers of a kind are compared, or two truth values where no kind is given
 abbrev pub compared : {T : Type 0} → Order → Option IntKind → Value T → Value T → Result T
 compared order None a b = on_both (compared_truths order) (truth_in a) (truth_in b)
-compared order (Some kind) a b = on_both (λ x y. value (truth (truth_of order x y))) (number_of kind a) (number_of kind b)
+compared order (Some kind) a b =
+    on_both (λ x y. value (truth (truth_of order x y))) (number_of kind a) (number_of kind b)
 
 -- a truth value is turned
 abbrev pub turned : {T : Type 0} → Option Bool → Result T

@@ -12,7 +12,8 @@ content_in (elements values) = None
 
 -- what a name holds, if it is there and holds a value
 abbrev pub name_at : {T B : Type 0} → ℕ → ℕ → World T B → Option (Value T)
-name_at frame name world = along (slice_get world.frames frame) (λ names. along (slice_get names name) (λ value. value))
+name_at frame name world =
+    along (slice_get world.frames frame) (λ names. along (slice_get names name) (λ value. value))
 
 -- what the beginning of a place holds, if it is there
 abbrev pub base_at : {T B : Type 0} → Base → World T B → Option (Value T)
@@ -24,24 +25,30 @@ abbrev pub at : {T B : Type 0} → Place → World T B → Option (Value T)
 at place world = along (base_at place.base world) (part place.path)
 
 -- the names of a frame with one of them changed
-abbrev pub with_name : {T : Type 0} → ℕ → Option (Value T) → Option (List (Option (Value T))) → List (Option (Value T))
+abbrev pub with_name : {T : Type 0} → ℕ → Option (Value T) → Option (List (Option (Value T)))
+    → List (Option (Value T))
 with_name name value None = []
 with_name name value (Some names) = slice_set names name value
 
 -- a name holds this value, or none
 abbrev pub name_set : {T B : Type 0} → ℕ → ℕ → Option (Value T) → World T B → World T B
 name_set frame name value world =
-    record world { frames = slice_set world.frames frame (with_name name value (slice_get world.frames frame)) }
+    record world { frames =
+        slice_set world.frames frame (with_name name value (slice_get world.frames frame)) }
 
 -- the beginning of a place holds this value
 abbrev pub base_set : {T B : Type 0} → Base → Value T → World T B → World T B
 base_set (name_of frame name) value world = name_set frame name (Some value) world
-base_set (content_of birth) value world = record world { births = slice_set world.births birth (content value) }
+base_set (content_of birth) value world =
+    record world { births = slice_set world.births birth (content value) }
 
 -- A place holds this value, and what it held before; none where it isn't there.
-abbrev pub set_over : {T B : Type 0} → Place → Value T → World T B → Option (Value T) → Option (Value T × World T B)
+abbrev pub set_over : {T B : Type 0} → Place → Value T → World T B → Option (Value T)
+    → Option (Value T × World T B)
 set_over place new world None = None
-set_over place new world (Some base) = along (part place.path base) (λ old. Some (old, base_set place.base (with_part place.path new base) world))
+set_over place new world (Some base) =
+    along (part place.path base) (λ old. Some
+    (old, base_set place.base (with_part place.path new base) world))
 
 abbrev pub exchanged : {T B : Type 0} → Place → Value T → World T B → Option (Value T × World T B)
 exchanged place new world = set_over place new world (base_at place.base world)

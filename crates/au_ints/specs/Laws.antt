@@ -5,7 +5,9 @@ use Rattle.std.specs.Int.{w128}
 use Rattle.std.specs.Str.Parse.{ParsesSigned}
 use Rattle.std.specs.declared.num.ParseIntError.{ParseIntError}
 use Rattle.au_base.specs.declared.kinds.IntKind.{IntKind}
-use Rattle.au_base.specs.declared.kinds.IntKind.TheVariants.{Nat8, Nat16, Nat32, Nat64, Int8, Int16, Int32, Int64, Index}
+use Rattle.au_base.specs.declared.kinds.IntKind.TheVariants.{
+  Nat8, Nat16, Nat32, Nat64, Int8, Int16, Int32, Int64, Index,
+}
 use Rattle.au_ints.specs.declared.operations.IntOp.{IntOp}
 use Rattle.au_ints.specs.declared.operations.IntOp.TheVariants as int_op
 use Rattle.au_ints.specs.declared.operations.Order.{Order}
@@ -40,19 +42,26 @@ greatest_numeral Index = pos 18446744073709551615
 
 -- the bounds of each kind are these numerals
 abbrev pub BoundsAreNumerals : Type 0
-BoundsAreNumerals = (kind : IntKind) → (least_of kind ≡ least_numeral kind) × (greatest_of kind ≡ greatest_numeral kind)
+BoundsAreNumerals =
+    (kind : IntKind) → (least_of kind ≡ least_numeral kind) × (greatest_of kind ≡ greatest_numeral kind)
 
 -- the exact result of a division is the one number that is the quotient towards zero
 abbrev pub DivisionGoesTowardsZero : Type 0
-DivisionGoesTowardsZero = (a b : ℤ) → b ≢ pos 0 → IsQuotient a b (exact int_op.Divide a b) × ((q : ℤ) → IsQuotient a b q → q ≡ exact int_op.Divide a b)
+DivisionGoesTowardsZero =
+    (a b : ℤ) → b ≢ pos 0 → IsQuotient a b (exact int_op.Divide a b)
+    × ((q : ℤ) → IsQuotient a b q → q ≡ exact int_op.Divide a b)
 
 -- an operation that traps gives the exact result exactly where there is one and it is of the kind
 abbrev pub TrappedIsExact : Type 0
-TrappedIsExact = (op : IntOp) (kind : IntKind) (a b : ℤ) → SomeIff (trapped op kind a b) (HasResult op b × IsOfKind kind (exact op a b)) (exact op a b)
+TrappedIsExact =
+    (op : IntOp) (kind : IntKind) (a b : ℤ)
+    → SomeIff (trapped op kind a b) (HasResult op b × IsOfKind kind (exact op a b)) (exact op a b)
 
 -- the wrapped number is the one number of the kind that differs by a multiple of 2 to the kind's bits
 abbrev pub WrappedIsUnique : Type 0
-WrappedIsUnique = (kind : IntKind) (z : ℤ) → IsWrapped kind z (wrapped kind z) × ((r : ℤ) → IsWrapped kind z r → r ≡ wrapped kind z)
+WrappedIsUnique =
+    (kind : IntKind) (z : ℤ) → IsWrapped kind z (wrapped kind z)
+    × ((r : ℤ) → IsWrapped kind z r → r ≡ wrapped kind z)
 
 -- a number goes to another kind exactly where it is of that kind, and stays the same
 abbrev pub ConvertedIsSame : Type 0
@@ -62,6 +71,10 @@ ConvertedIsSame = (to : IntKind) (z : ℤ) → SomeIff (converted to z) (IsOfKin
 abbrev pub TruthIsExact : Type 0
 TruthIsExact = (order : Order) (a b : ℤ) → IsTrue (truth_of order a b) ↔ Holds order a b
 
--- the decimal that is printed for a number of a kind means this number, and no reading of it as an `i128` gives anything else
+-- the decimal that is printed for a number of a kind means this number, and no reading of it as an `i128`
+-- gives anything else
 abbrev pub DecimalsReadBack : Type 0
-DecimalsReadBack = (kind : IntKind) (z : ℤ) → IsOfKind kind z → MeansNumber (signed_decimal z) z × ((read : Result ℤ ParseIntError) → ParsesSigned w128 10 (signed_decimal z) read → read ≡ Ok z)
+DecimalsReadBack =
+    (kind : IntKind) (z : ℤ) → IsOfKind kind z
+    → MeansNumber (signed_decimal z) z × ((read : Result ℤ ParseIntError)
+    → ParsesSigned w128 10 (signed_decimal z) read → read ≡ Ok z)

@@ -1,5 +1,8 @@
 -- What each operation gives: the exact result, and what becomes of a result outside the range.
-use Rattle.std.specs.Prelude.{◌≡◌, ◌≢◌, ℕ, ◌^◌, ◌<◌, ◌≤◌, Bool, true, not, ◌&&◌, ◌==◌, ⊤, if◌then◌else◌, Option, Some, None, ℤ, pos, ◌+ℤ◌, ◌-ℤ◌, ◌*ℤ◌, int_div, unsigned_abs}
+use Rattle.std.specs.Prelude.{
+  ◌≡◌, ◌≢◌, ℕ, ◌^◌, ◌<◌, ◌≤◌, Bool, true, not, ◌&&◌, ◌==◌, ⊤, if◌then◌else◌, Option, Some, None, ℤ, pos, ◌+ℤ◌,
+  ◌-ℤ◌, ◌*ℤ◌, int_div, unsigned_abs,
+}
 use Rattle.std.specs.Int.{int_rem_euclid}
 use Rattle.au_base.specs.declared.kinds.IntKind.{IntKind}
 use Rattle.au_ints.specs.declared.operations.IntOp.{IntOp}
@@ -29,7 +32,8 @@ has_result int_op.Subtract b = true
 has_result int_op.Multiply b = true
 has_result int_op.Divide b = not (unsigned_abs b == 0)
 
--- q is a divided by b, towards zero: what is left is smaller than b, and the multiple q * b lies no further from 0 than a
+-- q is a divided by b, towards zero: what is left is smaller than b, and the multiple q * b lies no further
+-- from 0 than a
 pub record IsQuotient (a b q : ℤ) : Type 0 where
   pub rest : unsigned_abs (a -ℤ (q *ℤ b)) < unsigned_abs b
   pub towards_zero : unsigned_abs (q *ℤ b) ≤ unsigned_abs a
@@ -49,7 +53,8 @@ pub record IsCongruent (m : ℕ) (z r : ℤ) : Type 0 where
   pub turns : ℤ
   pub differs : r ≡ z +ℤ (turns *ℤ pos m)
 
--- r is the number of so many bits, with a sign where `sign` is 1, that differs from z by a multiple of 2 ^ bits
+-- r is the number of so many bits, with a sign where `sign` is 1, that differs from z by a multiple of 2 ^
+-- bits
 pub record IsTurned (bits sign : ℕ) (z r : ℤ) : Type 0 where
   pub within : IsWithin bits sign r
   pub congruent : IsCongruent (2 ^ bits) z r

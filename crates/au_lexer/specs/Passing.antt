@@ -1,5 +1,8 @@
 -- Which token passes a limit.
-use Rattle.std.specs.Prelude.{ℕ, ◌+◌, ◌≤◌, nat_lt, IsTrue, ◌&&◌, Bool, true, List, [], ◌∷◌, length, Option, Some, None, is_none, if◌then◌else◌}
+use Rattle.std.specs.Prelude.{
+  ℕ, ◌+◌, ◌≤◌, nat_lt, IsTrue, ◌&&◌, Bool, true, List, [], ◌∷◌, length, Option, Some, None, is_none,
+  if◌then◌else◌,
+}
 use Rattle.std.specs.List.{list_all}
 use Rattle.au_base.specs.declared.limits.Limit.{Limit}
 use Rattle.au_base.specs.declared.limits.LimitKind.{LimitKind}
@@ -29,7 +32,8 @@ own_limit (Text text) = passed TextBytes most_text_bytes (length text)
 
 -- the limit that a token passes behind so many others: that of tokens first
 abbrev pub limit_passed : ℕ → What → Option Limit
-limit_passed before what = if nat_lt before most_tokens then own_limit what else Some (limit_above Tokens most_tokens)
+limit_passed before what =
+    if nat_lt before most_tokens then own_limit what else Some (limit_above Tokens most_tokens)
 
 -- whether something that is a token or none passes no limit behind so many tokens
 abbrev pub is_within : ℕ → Option What → Bool
@@ -49,7 +53,8 @@ count_among (piece ∷ pieces) = count_of (what_of piece) + count_among pieces
 -- whether no token among the pieces passes a limit, where so many tokens stand before them
 abbrev pub are_within : ℕ → List Piece → Bool
 are_within before [] = true
-are_within before (piece ∷ pieces) = is_within before (what_of piece) && are_within (before + count_of (what_of piece)) pieces
+are_within before (piece ∷ pieces) =
+    is_within before (what_of piece) && are_within (before + count_of (what_of piece)) pieces
 
 -- No token passes a limit of its own, and there are no more tokens than there may be.
 abbrev pub IsWithinLimits : List Token → Type 0

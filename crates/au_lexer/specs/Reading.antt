@@ -1,5 +1,8 @@
 -- What the reading functions of the lexer give, as functions of the bytes.
-use Rattle.std.specs.Prelude.{◌≡◌, ℕ, ◌+◌, Bool, true, false, not, IsTrue, nat_eq, nat_lt, ◌==◌, List, [], ◌∷◌, length, take, drop, Option, Some, None, Result, Ok, Err, if◌then◌else◌, slice_index}
+use Rattle.std.specs.Prelude.{
+  ◌≡◌, ℕ, ◌+◌, Bool, true, false, not, IsTrue, nat_eq, nat_lt, ◌==◌, List, [], ◌∷◌, length, take, drop,
+  Option, Some, None, Result, Ok, Err, if◌then◌else◌, slice_index,
+}
 use Rattle.std.specs.List.{prefix_len, starts_with}
 use Rattle.std.specs.Option.{option_map}
 use Rattle.std.specs.Str.{bytes_eq}
@@ -26,12 +29,14 @@ pub data Front : Type 0 where
 -- the first keyword in a table that is spelled as a word is
 abbrev pub first_spelled : List Keyword → List ℕ → Option Keyword
 first_spelled [] word = None
-first_spelled (keyword ∷ table) word = if bytes_eq (keyword_spelling keyword) word then Some keyword else first_spelled table word
+first_spelled (keyword ∷ table) word =
+    if bytes_eq (keyword_spelling keyword) word then Some keyword else first_spelled table word
 
 -- the first sign in a table that bytes begin with
 abbrev pub first_begun : List SignOf → List ℕ → Option SignOf
 first_begun [] bytes = None
-first_begun (sign ∷ table) bytes = if starts_with nat_eq bytes (sign_spelling sign) then Some sign else first_begun table bytes
+first_begun (sign ∷ table) bytes =
+    if starts_with nat_eq bytes (sign_spelling sign) then Some sign else first_begun table bytes
 
 -- the keyword that a word is
 unfoldable pub keyword_of : List ℕ → Option Keyword
@@ -170,7 +175,8 @@ pub record BeginsPassing (before : ℕ) (bytes : List ℕ) (limit : Limit) : Typ
 
 -- what an answer says of the piece at the front of bytes, behind so many tokens
 abbrev pub FindsPiece : ℕ → Result Found Stop → List ℕ → Type 0
-FindsPiece before (Ok found) bytes = IsLongest bytes found.size found.what × IsTrue (is_within before found.what)
+FindsPiece before (Ok found) bytes =
+    IsLongest bytes found.size found.what × IsTrue (is_within before found.what)
 FindsPiece before (Err Stray) bytes = (other : Piece) → Begins other bytes → ⊥
 FindsPiece before (Err (Passes limit)) bytes = BeginsPassing before bytes limit
 FindsPiece before (Err Memory) bytes = Unit {0}

@@ -9,11 +9,15 @@ ghost use Rattle.au_lives.specs.declared.lives.Sort.TheVariants as sorts;
 ghost use Rattle.au_lives.specs.Mentions.{counts_in};
 ghost use Rattle.au_lives.specs.Paths.{Step, follow_block};
 ghost use Rattle.au_lives.specs.Scopes.{scopes};
-ghost use Rattle.au_lives.specs.Lives.{fate, going, broken, consumptions, keeps_loops, keeps_all_parts, GoodPath, GoodPaths, GoodLife, BadPath};
+ghost use Rattle.au_lives.specs.Lives.{
+  fate, going, broken, consumptions, keeps_loops, keeps_all_parts, GoodPath, GoodPaths, GoodLife, BadPath,
+};
 ghost use Rattle.au_lives.specs.Breaches.{BreaksFirst};
 ghost use Rattle.au_lives.specs.Walks.{Reach, Breach, checked};
 ghost use Rattle.au_lives.specs.Places.{loop_places, part_places};
-ghost use Rattle.au_lives.specs.Refusals.{Refusal, Refuses, Refused, Variable, GoodLives, IsFirstRefused, refusal, first_refused};
+ghost use Rattle.au_lives.specs.Refusals.{
+  Refusal, Refuses, Refused, Variable, GoodLives, IsFirstRefused, refusal, first_refused,
+};
 ghost use Rattle.au_lives.specs.Trimming.{without_zeros};
 ghost use Rattle.au_lives.specs.Examples.{mentions, ways, names, names_of, without_around};
 
@@ -26,7 +30,8 @@ pub fn mentions_are_counted()
 /// there.
 pub fn paths_are_followed()
     ensures met { Each (λ row. without_around (follow_block row.0 [] row.1).steps ≡ row.2) ways }
-    ensures done { Each (λ row. fate (codes "x") sorts.Other (follow_block row.0 [] row.1).steps ≡ row.3) ways }
+    ensures done { Each (λ row. fate (codes "x") sorts.Other (follow_block row.0 [] row.1).steps
+        ≡ row.3) ways }
 {}
 
 /// The variables of some bodies are those that are listed by hand, in text order.

@@ -8,7 +8,10 @@ use Rattle.au_shipped.specs.declared.prims.ShippedCall.TheVariants as call
 use Rattle.au_low.specs.declared.endings.Ending.TheVariants.{Steps, Stuck}
 use Rattle.au_low.specs.declared.instructions.Mode.TheVariants as mode
 use Rattle.au_low.specs.declared.instructions.Instr.{Instr}
-use Rattle.au_low.specs.declared.instructions.Instr.TheVariants.{Push, PushBool, PushUnit, PushText, Look, Move, Store, Set, Discard, Arith, Compare, Not, Jump, ForTest, Make, Take, Case, Call, Shipped, Return, Deref, Open}
+use Rattle.au_low.specs.declared.instructions.Instr.TheVariants.{
+  Push, PushBool, PushUnit, PushText, Look, Move, Store, Set, Discard, Arith, Compare, Not, Jump, ForTest,
+  Make, Take, Case, Call, Shipped, Return, Deref, Open,
+}
 use Rattle.au_low.specs.Runs.{low_run}
 use Rattle.au_low.specs.Examples.{ending_of, made_by}
 use Rattle.au_low.specs.Shown.{put_byte, pair_of}
@@ -41,7 +44,8 @@ pub record MissingIsStuck : Type 0 where
 pub record OtherIsStuck : Type 0 where
   pub range : IsStuckAfter (Push Nat8 (pos 256) ∷ []) 0
   pub kind : IsStuckAfter (put_byte 1 ∷ Push Nat16 (pos 1) ∷ Arith int_op.Add Nat8 ∷ []) 2
-  pub kind_of_slots : IsStuckAfter (put_byte 1 ∷ Store 0 ∷ Push Nat16 (pos 1) ∷ Store 1 ∷ ForTest 0 1 0 ∷ []) 4
+  pub kind_of_slots : IsStuckAfter (put_byte 1 ∷ Store 0 ∷ Push Nat16 (pos 1) ∷ Store 1 ∷ ForTest 0 1 0
+      ∷ []) 4
   pub truths_in_order : IsStuckAfter (PushBool true ∷ PushBool false ∷ Compare order.Less None ∷ []) 2
   pub no_truth : IsStuckAfter (PushUnit ∷ Not ∷ []) 1
   pub no_record : IsStuckAfter (Make 1 1 [] (codes "M") ∷ Take 0 ∷ []) 1
@@ -49,14 +53,19 @@ pub record OtherIsStuck : Type 0 where
   pub no_exit_code : IsStuckAfter (Make 1 2 [] (codes "M") ∷ Return ∷ []) 1
   pub an_argument_twice : IsStuckAfter (put_byte 1 ∷ put_byte 2 ∷ Make 1 0 (0 ∷ 0 ∷ []) (codes "M") ∷ []) 2
   pub an_argument_beyond : IsStuckAfter (put_byte 1 ∷ Make 1 0 (1 ∷ []) (codes "M") ∷ []) 1
-  pub wraps_are_no_shipped_calls : IsStuckAfter (put_byte 1 ∷ put_byte 2 ∷ Shipped (call.Wrap wrap_op.Add Nat8) None [] ∷ []) 2
+  pub wraps_are_no_shipped_calls : IsStuckAfter
+      (put_byte 1 ∷ put_byte 2 ∷ Shipped (call.Wrap wrap_op.Add Nat8) None [] ∷ []) 2
   pub a_type_without_a_birth : IsStuckAfter (put_byte 1 ∷ Shipped call.PrintInt (Some 0) [] ∷ []) 1
   pub again_is_no_slot : IsStuckAfter (Open 0 mode.Again ∷ []) 0
 
 -- A run of no step is at its limit, whatever comes next; and one that can't begin is stuck.
 pub record BeginningIsShown : Type 0 where
   pub limit_first : ending_of (Discard ∷ []) 0 ≡ Steps
-  pub no_function : (low_run true (record { texts = []; types = []; functions = []; root = false }) [] 9).ending ≡ Stuck
-  pub parameters : (low_run true (record { texts = []; types = []; functions = record { params = 1; slots = 1; code = [] } ∷ []; root = false }) [] 9).ending ≡ Stuck
-  pub root_slot : (low_run true (record { texts = []; types = []; functions = record { params = 1; slots = 0; code = [] } ∷ []; root = true }) [] 9).ending ≡ Stuck
-  pub root_type : (low_run true (record { texts = []; types = []; functions = record { params = 1; slots = 1; code = [] } ∷ []; root = true }) [] 9).ending ≡ Stuck
+  pub no_function : (low_run true (record { texts = []; types = []; functions = []; root = false })
+      [] 9).ending ≡ Stuck
+  pub parameters : (low_run true (record { texts = []; types = []; functions =
+      record { params = 1; slots = 1; code = [] } ∷ []; root = false }) [] 9).ending ≡ Stuck
+  pub root_slot : (low_run true (record { texts = []; types = []; functions =
+      record { params = 1; slots = 0; code = [] } ∷ []; root = true }) [] 9).ending ≡ Stuck
+  pub root_type : (low_run true (record { texts = []; types = []; functions =
+      record { params = 1; slots = 1; code = [] } ∷ []; root = true }) [] 9).ending ≡ Stuck

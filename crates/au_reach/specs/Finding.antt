@@ -48,11 +48,14 @@ module _ {A : Type 0} (key_of : A → List ℕ) where
 
 module _ {X A : Type 0} where
   -- where the list of what is reached passes no limit, it is what a function returned, unless memory ran out
-  abbrev pub Finds_all : (X → List A) → Result X WalkFault → (A → A → Bool) → (A → Option Limit) → ℕ → (A → List A) → List A → Type 0
+  abbrev pub Finds_all : (X → List A) → Result X WalkFault → (A → A → Bool) → (A → Option Limit) → ℕ
+      → (A → List A) → List A → Type 0
   Finds_all view result same told_of most next starts =
       (ks : List A) → Lists same next starts ks → IsWithin same told_of most ks → Gives view result (Ok ks)
 
   -- a limit that a function told is that of the first element that passes one, breadth first
-  abbrev pub Refuses : Result X WalkFault → (A → A → Bool) → (A → Option Limit) → Limit → ℕ → (A → List A) → List A → Type 0
-  Refuses (Err (faults.Limit limit)) same told_of full most next starts = Refused same told_of full most next starts limit
+  abbrev pub Refuses : Result X WalkFault → (A → A → Bool) → (A → Option Limit) → Limit → ℕ → (A → List A)
+      → List A → Type 0
+  Refuses (Err (faults.Limit limit)) same told_of full most next starts =
+      Refused same told_of full most next starts limit
   Refuses result same told_of full most next starts = Unit {0}

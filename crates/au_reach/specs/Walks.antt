@@ -1,6 +1,9 @@
 -- The walk that lists what is reached, within limits: `over` says what is wrong with an element itself, if
 -- anything, and the list has at most `most` elements, where `full` is what is wrong with one more.
-use Rattle.std.specs.Prelude.{◌≡◌, ◌==◌, ◌+◌, ◌≤◌, ℕ, zero, suc, Bool, true, false, List, [], ◌∷◌, ◌++◌, Option, None, Some, Result, Ok, Err, length, drop}
+use Rattle.std.specs.Prelude.{
+  ◌≡◌, ◌==◌, ◌+◌, ◌≤◌, ℕ, zero, suc, Bool, true, false, List, [], ◌∷◌, ◌++◌, Option, None, Some, Result, Ok,
+  Err, length, drop,
+}
 use Rattle.au_reach.specs.Reached.{has, Has, Reached, adds, all_next}
 
 -- a walk's answer: a list, or what is wrong with the first element that passes a limit
@@ -55,13 +58,15 @@ module _ {A W : Type 0} (same : A → A → Bool) (over : A → Option W) (full 
     -- the walk from a place of the list on, for so many elements
     unfoldable pub walk : ℕ → List A → ℕ → Walked A W
     walk zero ks i = Ok ks
-    walk (suc f) ks i = at_first (drop i ks) (Ok ks) (λ k. on_ok (adds_within ks (next k)) (λ l. walk f l (i + 1)))
+    walk (suc f) ks i =
+        at_first (drop i ks) (Ok ks) (λ k. on_ok (adds_within ks (next k)) (λ l. walk f l (i + 1)))
 
     -- the whole walk: each turn is at an element of the list, so one more than the most turns are enough
     abbrev pub listed : List A → Walked A W
     listed starts = on_ok (adds_within [] starts) (λ ks. walk (suc most) ks 0)
 
-    -- A list is how the list of what is reached begins, and an element comes next: the list has the starts, and
+    -- A list is how the list of what is reached begins, and an element comes next: the list has the starts,
+    -- and
     -- what follows some of its own first elements, in order and each once, up to that element, which is new.
     -- It has nothing that isn't reached.
     pub record Begins (starts ks : List A) (x : A) : Type 0 where

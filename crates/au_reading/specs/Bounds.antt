@@ -21,7 +21,8 @@ pub record Bounds : Type 0 where
 
 -- the limits of the language
 abbrev pub usual : Bounds
-usual = record { nesting = most_nesting; depth = most_type_depth; nodes = most_type_nodes; bytes = most_name_bytes }
+usual = record { nesting = most_nesting; depth = most_type_depth; nodes = most_type_nodes; bytes =
+    most_name_bytes }
 
 -- what is told of each limit that is passed
 abbrev pub nesting_limit : Bounds → Limit
@@ -38,7 +39,9 @@ bytes_limit b = record { kind = NameBytes; count = b.bytes + 1; most = b.bytes }
 
 -- a type passes a limit: that of its depth, or that of its nodes, of which all are counted
 abbrev pub TypePasses : Bounds → WrittenType → Limit → Type 0
-TypePasses b t l = ((b.depth < type_depth t) × (l ≡ depth_limit b)) ⊎ ((b.nodes < type_nodes t) × (l ≡ nodes_limit b (type_nodes t)))
+TypePasses b t l =
+    ((b.depth < type_depth t) × (l ≡ depth_limit b))
+    ⊎ ((b.nodes < type_nodes t) × (l ≡ nodes_limit b (type_nodes t)))
 
 -- one of some types passes a limit
 abbrev pub SomeTypePasses : Bounds → List WrittenType → Limit → Type 0
@@ -52,7 +55,8 @@ TreePasses b left depth ts l = ((left < depth) × (l ≡ nesting_limit b)) ⊎ S
 -- one of some modules' names passes its limit
 abbrev pub SomeNamePasses : Bounds → List (List (Placed Bytes)) → Limit → Type 0
 SomeNamePasses b [] l = ⊥
-SomeNamePasses b (name ∷ names) l = ((b.bytes < length (joined name)) × (l ≡ bytes_limit b)) ⊎ SomeNamePasses b names l
+SomeNamePasses b (name ∷ names) l =
+    ((b.bytes < length (joined name)) × (l ≡ bytes_limit b)) ⊎ SomeNamePasses b names l
 
 -- the names of modules in a file, in order
 abbrev pub module_names : PlainModule → List (List (Placed Bytes))
@@ -61,4 +65,5 @@ module_names m = map (λ (one : Importing Bytes). one.from) m.imports ++ m.name 
 -- a file passes a limit
 abbrev pub ModulePasses : Bounds → PlainModule → Limit → Type 0
 ModulePasses b m l =
-    TreePasses b b.nesting (module_depth m) (flat_map declaration_types m.declarations) l ⊎ SomeNamePasses b (module_names m) l
+    TreePasses b b.nesting (module_depth m) (flat_map declaration_types m.declarations) l
+        ⊎ SomeNamePasses b (module_names m) l

@@ -1,5 +1,8 @@
 -- Reading from the left: what is read and the tokens behind it, or why reading stops.
-use Rattle.std.specs.Prelude.{◌≡◌, ℕ, suc, Bool, false, ◌==◌, ◌&&◌, List, [], ◌∷◌, Option, Some, None, Result, Ok, Err, length, drop, cond}
+use Rattle.std.specs.Prelude.{
+  ◌≡◌, ℕ, suc, Bool, false, ◌==◌, ◌&&◌, List, [], ◌∷◌, Option, Some, None, Result, Ok, Err, length, drop,
+  cond,
+}
 use Prim.Native.Nat.{zero}
 use Rattle.std.specs.Ordering.{int_eq}
 use Rattle.std.specs.Str.{bytes_eq}
@@ -174,17 +177,20 @@ module _ {A : Type 0} where
   abbrev pub then_all : (List Token → Read (List A)) → A × List Token → Read (List A)
   then_all others x = others x.1 >>= before_all x.0
 
-  -- Parts that stand one after another, up to a token with which none begins. The number bounds how many there may be.
+  -- Parts that stand one after another, up to a token with which none begins. The number bounds how many
+  -- there may be.
   abbrev pub repeated_at : (Option What → Bool) → (List Token → Read A) → ℕ → List Token → Read (List A)
   repeated_at begins part zero tokens = Ok ([], tokens)
-  repeated_at begins part (suc k) tokens = cond (begins (front tokens)) (part tokens >>= then_all (repeated_at begins part k)) (Ok ([], tokens))
+  repeated_at begins part (suc k) tokens =
+      cond (begins (front tokens)) (part tokens >>= then_all (repeated_at begins part k)) (Ok ([], tokens))
 
   abbrev pub repeated : (Option What → Bool) → (List Token → Read A) → List Token → Read (List A)
   repeated begins part tokens = repeated_at begins part (length tokens) tokens
 
   -- One or more parts with a token between. The number bounds how many there may be.
   abbrev pub after_part : What → (List Token → Read (List A)) → A × List Token → Read (List A)
-  after_part between others x = cond (begins_with between x.1) (others (drop 1 x.1) >>= before_all x.0) (Ok (x.0 ∷ [], x.1))
+  after_part between others x =
+      cond (begins_with between x.1) (others (drop 1 x.1) >>= before_all x.0) (Ok (x.0 ∷ [], x.1))
 
   abbrev pub separated_at : What → (List Token → Read A) → ℕ → List Token → Read (List A)
   separated_at between part zero tokens = no tokens
@@ -200,14 +206,16 @@ module _ {A : Type 0} where
   -- parts with commas between and signs round them, or nothing where the first sign doesn't stand
   abbrev pub bracketed : SignOf → SignOf → (List Token → Read A) → List Token → Read (List A)
   bracketed left right part tokens =
-      cond (begins_with (Sign left) tokens) (listed part (drop 1 tokens) >>= closed_at (Sign right ∷ [])) (Ok ([], tokens))
+      cond (begins_with (Sign left) tokens) (listed part (drop 1 tokens) >>= closed_at (Sign right ∷ []))
+          (Ok ([], tokens))
 
   -- a part behind a token, if that stands
   abbrev pub optional_of : A × List Token → Read (Option A)
   optional_of x = Ok (Some x.0, x.1)
 
   abbrev pub optional : What → (List Token → Read A) → List Token → Read (Option A)
-  optional what part tokens = cond (begins_with what tokens) (part (drop 1 tokens) >>= optional_of) (Ok (None, tokens))
+  optional what part tokens =
+      cond (begins_with what tokens) (part (drop 1 tokens) >>= optional_of) (Ok (None, tokens))
 
 -- names with dots between
 abbrev pub dotted_at : List Token → Read (List (Placed Bytes))

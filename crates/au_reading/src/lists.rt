@@ -21,7 +21,8 @@ pub fn separated<P: Part>(
     between: Sign,
     tokens: &[Token],
 ) -> Result<(Vec<P::Item>, &[Token]), Stop>
-    ensures { Gives (λ x. (map P.see x.0.items, x.1.now)) result (reading.separated (what.Sign between) P.read_at tokens.now) }
+    ensures { Gives (λ x. (map P.see x.0.items, x.1.now)) result
+        (reading.separated (what.Sign between) P.read_at tokens.now) }
 {
     let mut parts = Vec::new(alloc);
     let mut rest = tokens;
@@ -58,7 +59,8 @@ pub fn bracketed<P: Part>(
     right: Sign,
     tokens: &[Token],
 ) -> Result<(Vec<P::Item>, &[Token]), Stop>
-    ensures { Gives (λ x. (map P.see x.0.items, x.1.now)) result (reading.bracketed left right P.read_at tokens.now) }
+    ensures { Gives (λ x. (map P.see x.0.items, x.1.now)) result
+        (reading.bracketed left right P.read_at tokens.now) }
 {
     if !is_sign(left, tokens) {
         return Ok((Vec::new(alloc), tokens));
@@ -74,7 +76,8 @@ pub fn bracketed<P: Part>(
 ///
 /// The fault of the first entry that isn't read.
 pub fn repeated<E: Entry>(alloc: Global, tokens: &[Token]) -> Result<(Vec<E::Item>, &[Token]), Stop>
-    ensures { Gives (λ x. (map E.see x.0.items, x.1.now)) result (reading.repeated E.begins_by E.read_at tokens.now) }
+    ensures { Gives (λ x. (map E.see x.0.items, x.1.now)) result
+        (reading.repeated E.begins_by E.read_at tokens.now) }
 {
     let mut entries = Vec::new(alloc);
     let mut rest = tokens;

@@ -62,7 +62,8 @@ impl Entry for FieldEntry {
 ///
 /// `Fault::Syntax` where a name is missing.
 pub fn dotted(alloc: Global, tokens: &[Token]) -> Result<(Vec<Ident<Parsed>>, &[Token]), Stop>
-    ensures { Gives (λ x. (map (placed ⟦<Parsed as Phase>⟧) x.0.items, x.1.now)) result (dotted_at tokens.now) }
+    ensures { Gives (λ x. (map (placed ⟦<Parsed as Phase>⟧) x.0.items, x.1.now)) result
+        (dotted_at tokens.now) }
 {
     separated::<NamePart>(alloc, Sign::Dot, tokens)
 }
@@ -73,7 +74,8 @@ pub fn dotted(alloc: Global, tokens: &[Token]) -> Result<(Vec<Ident<Parsed>>, &[
 ///
 /// `Fault::Syntax` where a name is missing behind a dot.
 pub fn fields(alloc: Global, tokens: &[Token]) -> Result<(Vec<Ident<Parsed>>, &[Token]), Stop>
-    ensures { Gives (λ x. (map (placed ⟦<Parsed as Phase>⟧) x.0.items, x.1.now)) result (fields_at tokens.now) }
+    ensures { Gives (λ x. (map (placed ⟦<Parsed as Phase>⟧) x.0.items, x.1.now)) result
+        (fields_at tokens.now) }
 {
     repeated::<FieldEntry>(alloc, tokens)
 }

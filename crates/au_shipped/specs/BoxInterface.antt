@@ -4,7 +4,9 @@ use Rattle.au_base.specs.declared.places.Pos.{Pos}
 use Rattle.au_syntax.specs.declared.declarations.Universe.TheVariants.{Linear, AnyType, Region}
 use Rattle.au_syntax.specs.Names.{Placed}
 use Rattle.au_syntax.specs.Plain.{Bytes, PlainDeclaration, PlainModule}
-use Rattle.au_shipped.specs.Building.{name, simple, applied, reads, writes, over, generic, takes, an_opaque, a_function, interface}
+use Rattle.au_shipped.specs.Building.{
+  name, simple, applied, reads, writes, over, generic, takes, an_opaque, a_function, interface,
+}
 
 module _ (at : Pos) where
   -- type Box[T: Type]: Linear;
@@ -29,14 +31,16 @@ module _ (at : Pos) where
   abbrev pub box_get : PlainDeclaration
   box_get = a_function at
       (generic at (codes "T") AnyType ∷ generic at (codes "R") Region ∷ [])
-      (codes "boxGet") (takes at (codes "ref") (reads at (applied at (codes "Box") (simple at (codes "T"))) (codes "R")) ∷ [])
+      (codes "boxGet") (takes at (codes "ref")
+          (reads at (applied at (codes "Box") (simple at (codes "T"))) (codes "R")) ∷ [])
       (reads at (simple at (codes "T")) (codes "R"))
 
   -- generic [T: Type, R: Region] function boxGetMut(ref: &![Box[T], R]): &![T, R];
   abbrev pub box_get_mut : PlainDeclaration
   box_get_mut = a_function at
       (generic at (codes "T") AnyType ∷ generic at (codes "R") Region ∷ [])
-      (codes "boxGetMut") (takes at (codes "ref") (writes at (applied at (codes "Box") (simple at (codes "T"))) (codes "R")) ∷ [])
+      (codes "boxGetMut") (takes at (codes "ref")
+          (writes at (applied at (codes "Box") (simple at (codes "T"))) (codes "R")) ∷ [])
       (writes at (simple at (codes "T")) (codes "R"))
 
   -- Standard.Box

@@ -4,7 +4,9 @@ use Rattle.au_base.specs.declared.places.Pos.{Pos}
 use Rattle.au_syntax.specs.declared.declarations.Universe.TheVariants.{Free, Linear, AnyType, Region}
 use Rattle.au_syntax.specs.Names.{Placed}
 use Rattle.au_syntax.specs.Plain.{Bytes, PlainDeclaration, PlainModule}
-use Rattle.au_shipped.specs.Building.{name, simple, applied, reads, writes, over, generic, takes, an_opaque, a_function, interface}
+use Rattle.au_shipped.specs.Building.{
+  name, simple, applied, reads, writes, over, generic, takes, an_opaque, a_function, interface,
+}
 
 module _ (at : Pos) where
   -- type Buffer[T: Type]: Linear;
@@ -22,14 +24,16 @@ module _ (at : Pos) where
   abbrev pub destroy_empty : PlainDeclaration
   destroy_empty = a_function at
       (generic at (codes "T") AnyType ∷ [])
-      (codes "destroyEmpty") (takes at (codes "buffer") (applied at (codes "Buffer") (simple at (codes "T"))) ∷ [])
+      (codes "destroyEmpty") (takes at (codes "buffer") (applied at (codes "Buffer") (simple at (codes "T")))
+          ∷ [])
       (simple at (codes "Unit"))
 
   -- generic [T: Type, R: Region] function length(ref: &[Buffer[T], R]): Index;
   abbrev pub buffer_length : PlainDeclaration
   buffer_length = a_function at
       (generic at (codes "T") AnyType ∷ generic at (codes "R") Region ∷ [])
-      (codes "length") (takes at (codes "ref") (reads at (applied at (codes "Buffer") (simple at (codes "T"))) (codes "R")) ∷ [])
+      (codes "length") (takes at (codes "ref")
+          (reads at (applied at (codes "Buffer") (simple at (codes "T"))) (codes "R")) ∷ [])
       (simple at (codes "Index"))
 
   -- generic [T: Type, R: Region] function insertBack(ref: &![Buffer[T], R], value: T): Unit;
@@ -37,7 +41,8 @@ module _ (at : Pos) where
   insert_back = a_function at
       (generic at (codes "T") AnyType ∷ generic at (codes "R") Region ∷ [])
       (codes "insertBack")
-      (takes at (codes "ref") (writes at (applied at (codes "Buffer") (simple at (codes "T"))) (codes "R")) ∷ takes at (codes "value") (simple at (codes "T")) ∷ [])
+      (takes at (codes "ref") (writes at (applied at (codes "Buffer") (simple at (codes "T"))) (codes "R"))
+          ∷ takes at (codes "value") (simple at (codes "T")) ∷ [])
       (simple at (codes "Unit"))
 
   -- generic [T: Type, R: Region] function removeBack(ref: &![Buffer[T], R]): T;
@@ -45,7 +50,8 @@ module _ (at : Pos) where
   remove_back = a_function at
       (generic at (codes "T") AnyType ∷ generic at (codes "R") Region ∷ [])
       (codes "removeBack")
-      (takes at (codes "ref") (writes at (applied at (codes "Buffer") (simple at (codes "T"))) (codes "R")) ∷ [])
+      (takes at (codes "ref") (writes at (applied at (codes "Buffer") (simple at (codes "T"))) (codes "R"))
+          ∷ [])
       (simple at (codes "T"))
 
   -- generic [T: Free, R: Region] function nth(ref: &[Buffer[T], R], index: Index): T;
@@ -53,7 +59,8 @@ module _ (at : Pos) where
   nth = a_function at
       (generic at (codes "T") Free ∷ generic at (codes "R") Region ∷ [])
       (codes "nth")
-      (takes at (codes "ref") (reads at (applied at (codes "Buffer") (simple at (codes "T"))) (codes "R")) ∷ takes at (codes "index") (simple at (codes "Index")) ∷ [])
+      (takes at (codes "ref") (reads at (applied at (codes "Buffer") (simple at (codes "T"))) (codes "R"))
+          ∷ takes at (codes "index") (simple at (codes "Index")) ∷ [])
       (simple at (codes "T"))
 
   -- generic [T: Type, R: Region] function replaceNth(ref: &![Buffer[T], R], index: Index, value: T): T;
@@ -61,7 +68,9 @@ module _ (at : Pos) where
   replace_nth = a_function at
       (generic at (codes "T") AnyType ∷ generic at (codes "R") Region ∷ [])
       (codes "replaceNth")
-      (takes at (codes "ref") (writes at (applied at (codes "Buffer") (simple at (codes "T"))) (codes "R")) ∷ takes at (codes "index") (simple at (codes "Index")) ∷ takes at (codes "value") (simple at (codes "T")) ∷ [])
+      (takes at (codes "ref") (writes at (applied at (codes "Buffer") (simple at (codes "T"))) (codes "R"))
+          ∷ takes at (codes "index") (simple at (codes "Index"))
+          ∷ takes at (codes "value") (simple at (codes "T")) ∷ [])
       (simple at (codes "T"))
 
   -- Standard.Buffer
@@ -70,4 +79,5 @@ module _ (at : Pos) where
 
   -- module Standard.Buffer is .. end module.
   abbrev pub buffers : PlainModule
-  buffers = interface at module_name (buffer_type ∷ make_empty ∷ destroy_empty ∷ buffer_length ∷ insert_back ∷ remove_back ∷ nth ∷ replace_nth ∷ [])
+  buffers = interface at module_name (buffer_type ∷ make_empty ∷ destroy_empty ∷ buffer_length ∷ insert_back
+      ∷ remove_back ∷ nth ∷ replace_nth ∷ [])

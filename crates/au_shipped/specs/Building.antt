@@ -6,7 +6,9 @@ use Rattle.au_syntax.specs.declared.modules.Part.TheVariants.{Interface}
 use Rattle.au_syntax.specs.declared.types.Access.TheVariants as access
 use Rattle.au_syntax.specs.Names.{Placed}
 use Rattle.au_syntax.specs.Types.{WrittenType, named, reference, no_types, types, Labelled}
-use Rattle.au_syntax.specs.Modules.{InUniverse, Constrained, Header, Variant, opaque_type, union_type, function, class, instance}
+use Rattle.au_syntax.specs.Modules.{
+  InUniverse, Constrained, Header, Variant, opaque_type, union_type, function, class, instance,
+}
 use Rattle.au_syntax.specs.Plain.{Bytes, PlainDeclaration, PlainModule}
 
 -- the place of everything in the interface of this file
@@ -67,7 +69,8 @@ module _ (at : Pos) where
   a_union bytes parameters universe cases = union_type at (name bytes) parameters universe cases
 
   -- generic [PARAMETER, ..] function NAME(PARAMETER, ..): TYPE;
-  abbrev pub a_function : List (Constrained Bytes) → Bytes → List (Labelled Bytes) → WrittenType → PlainDeclaration
+  abbrev pub a_function : List (Constrained Bytes) → Bytes → List (Labelled Bytes) → WrittenType
+      → PlainDeclaration
   a_function generics bytes parameters result = function at generics (signature bytes parameters result)
 
   -- typeclass NAME(PARAMETER) is method SIGNATURE; .. end;

@@ -6,7 +6,10 @@ use Rattle.au_syntax.specs.Names.{Placed}
 use Rattle.au_syntax.specs.Types.{WrittenType}
 use Rattle.au_syntax.specs.Modules.{Header}
 use Rattle.au_syntax.specs.Plain.{Bytes, PlainDeclaration, PlainModule}
-use Rattle.au_shipped.specs.Building.{name, simple, applied, applied_to_two, writes, over, generic, takes, signature, a_case, an_opaque, a_union, a_function, a_class, an_instance, interface}
+use Rattle.au_shipped.specs.Building.{
+  name, simple, applied, applied_to_two, writes, over, generic, takes, signature, a_case, an_opaque, a_union,
+  a_function, a_class, an_instance, interface,
+}
 
 module _ (at : Pos) where
   -- Span[Nat8, Static]
@@ -17,17 +20,21 @@ module _ (at : Pos) where
   abbrev pub option_union : PlainDeclaration
   option_union = a_union at (codes "Option")
       (over at (codes "T") AnyType ∷ []) AnyType
-      (a_case at (codes "None") [] ∷ a_case at (codes "Some") (takes at (codes "value") (simple at (codes "T")) ∷ []) ∷ [])
+      (a_case at (codes "None") [] ∷ a_case at (codes "Some")
+          (takes at (codes "value") (simple at (codes "T")) ∷ []) ∷ [])
 
   -- union Either[L: Type, R: Type]: Type is case Left is left: L; case Right is right: R; end;
   abbrev pub either_union : PlainDeclaration
   either_union = a_union at (codes "Either")
       (over at (codes "L") AnyType ∷ over at (codes "R") AnyType ∷ []) AnyType
-      (a_case at (codes "Left") (takes at (codes "left") (simple at (codes "L")) ∷ []) ∷ a_case at (codes "Right") (takes at (codes "right") (simple at (codes "R")) ∷ []) ∷ [])
+      (a_case at (codes "Left") (takes at (codes "left") (simple at (codes "L")) ∷ [])
+          ∷ a_case at (codes "Right") (takes at (codes "right") (simple at (codes "R")) ∷ []) ∷ [])
 
   -- union ExitCode: Free is case ExitSuccess; case ExitFailure; end;
   abbrev pub exit_code_union : PlainDeclaration
-  exit_code_union = a_union at (codes "ExitCode") [] Free (a_case at (codes "ExitSuccess") [] ∷ a_case at (codes "ExitFailure") [] ∷ [])
+  exit_code_union =
+      a_union at (codes "ExitCode") [] Free
+      (a_case at (codes "ExitSuccess") [] ∷ a_case at (codes "ExitFailure") [] ∷ [])
 
   -- type RootCapability: Linear;
   abbrev pub root_type : PlainDeclaration
@@ -35,44 +42,58 @@ module _ (at : Pos) where
 
   -- function surrenderRoot(root: RootCapability): Unit;
   abbrev pub surrender_root : PlainDeclaration
-  surrender_root = a_function at [] (codes "surrenderRoot") (takes at (codes "root") (simple at (codes "RootCapability")) ∷ []) (simple at (codes "Unit"))
+  surrender_root =
+      a_function at [] (codes "surrenderRoot")
+      (takes at (codes "root") (simple at (codes "RootCapability")) ∷ []) (simple at (codes "Unit"))
 
   -- function abort(message: Span[Nat8, Static]): Unit;
   abbrev pub abort_call : PlainDeclaration
-  abort_call = a_function at [] (codes "abort") (takes at (codes "message") text_span ∷ []) (simple at (codes "Unit"))
+  abort_call =
+      a_function at [] (codes "abort") (takes at (codes "message") text_span ∷ []) (simple at (codes "Unit"))
 
   -- function spanLength(span: Span[Nat8, Static]): Index;
   abbrev pub span_length : PlainDeclaration
-  span_length = a_function at [] (codes "spanLength") (takes at (codes "span") text_span ∷ []) (simple at (codes "Index"))
+  span_length =
+      a_function at [] (codes "spanLength") (takes at (codes "span") text_span ∷ [])
+      (simple at (codes "Index"))
 
   -- generic [T: Type, R: Region] function swap(ref: &![T, R], value: T): T;
   abbrev pub swap_call : PlainDeclaration
   swap_call = a_function at
       (generic at (codes "T") AnyType ∷ generic at (codes "R") Region ∷ [])
-      (codes "swap") (takes at (codes "ref") (writes at (simple at (codes "T")) (codes "R")) ∷ takes at (codes "value") (simple at (codes "T")) ∷ [])
+      (codes "swap") (takes at (codes "ref") (writes at (simple at (codes "T")) (codes "R"))
+          ∷ takes at (codes "value") (simple at (codes "T")) ∷ [])
       (simple at (codes "T"))
 
   -- method NAME(value: T): Unit;
   abbrev pub printing : Bytes → Header Bytes
-  printing bytes = signature at bytes (takes at (codes "value") (simple at (codes "T")) ∷ []) (simple at (codes "Unit"))
+  printing bytes =
+      signature at bytes (takes at (codes "value") (simple at (codes "T")) ∷ []) (simple at (codes "Unit"))
 
   -- typeclass Printable(T: Free) is method print(value: T): Unit; method printLn(value: T): Unit; end;
   abbrev pub printable_class : PlainDeclaration
-  printable_class = a_class at (codes "Printable") (over at (codes "T") Free) (printing (codes "print") ∷ printing (codes "printLn") ∷ [])
+  printable_class =
+      a_class at (codes "Printable") (over at (codes "T") Free)
+      (printing (codes "print") ∷ printing (codes "printLn") ∷ [])
 
   -- method NAME(lhs: T, rhs: T): T;
   abbrev pub modular : Bytes → Header Bytes
-  modular bytes = signature at bytes (takes at (codes "lhs") (simple at (codes "T")) ∷ takes at (codes "rhs") (simple at (codes "T")) ∷ []) (simple at (codes "T"))
+  modular bytes =
+      signature at bytes (takes at (codes "lhs") (simple at (codes "T"))
+      ∷ takes at (codes "rhs") (simple at (codes "T")) ∷ []) (simple at (codes "T"))
 
   -- typeclass ModularArithmetic(T: Free) is method modularAdd(lhs: T, rhs: T): T; and so on, end;
   abbrev pub modular_class : PlainDeclaration
   modular_class = a_class at (codes "ModularArithmetic")
       (over at (codes "T") Free)
-      (modular (codes "modularAdd") ∷ modular (codes "modularSubtract") ∷ modular (codes "modularMultiply") ∷ [])
+      (modular (codes "modularAdd") ∷ modular (codes "modularSubtract") ∷ modular (codes "modularMultiply")
+          ∷ [])
 
   -- method NAME(value: T): Option[KIND];
   abbrev pub conversion : Bytes → Bytes → Header Bytes
-  conversion bytes kind = signature at bytes (takes at (codes "value") (simple at (codes "T")) ∷ []) (applied at (codes "Option") (simple at kind))
+  conversion bytes kind =
+      signature at bytes (takes at (codes "value") (simple at (codes "T")) ∷ [])
+      (applied at (codes "Option") (simple at kind))
 
   -- the methods of Conversion, one for each kind of integers
   abbrev pub conversions : List (Header Bytes)
@@ -108,7 +129,9 @@ module _ (at : Pos) where
 
   -- the types, functions and classes
   abbrev pub own_declarations : List PlainDeclaration
-  own_declarations = option_union ∷ either_union ∷ exit_code_union ∷ root_type ∷ surrender_root ∷ abort_call ∷ span_length ∷ swap_call ∷ printable_class ∷ modular_class ∷ conversion_class ∷ []
+  own_declarations =
+      option_union ∷ either_union ∷ exit_code_union ∷ root_type ∷ surrender_root ∷ abort_call ∷ span_length
+      ∷ swap_call ∷ printable_class ∷ modular_class ∷ conversion_class ∷ []
 
   -- instance Printable(Bool);
   abbrev pub bool_instance : List PlainDeclaration

@@ -21,7 +21,8 @@ module _ (at : Pos) where
   abbrev pub shape_type : Shape → WrittenType
   shape_type (shape.Simple name) = spec.simple at name.now
   shape_type (shape.Applied name one) = spec.applied at name.now (spec.simple at one.now)
-  shape_type (shape.AppliedToTwo name one other) = spec.applied_to_two at name.now (spec.simple at one.now) (spec.simple at other.now)
+  shape_type (shape.AppliedToTwo name one other) =
+      spec.applied_to_two at name.now (spec.simple at one.now) (spec.simple at other.now)
 
   -- a type
   abbrev pub form_type : Form → WrittenType
@@ -51,8 +52,13 @@ module _ (at : Pos) where
 
   -- a declaration
   abbrev pub declared : Row → PlainDeclaration
-  declared (row.Opaque name parameters universe) = spec.an_opaque at name.now (map ranged parameters.now) universe
-  declared (row.Union name parameters universe cases) = spec.a_union at name.now (map ranged parameters.now) universe (map cased cases.now)
-  declared (row.Function generics call) = spec.a_function at (map generic generics.now) call.name.now (map taken call.parameters.now) (form_type call.gives)
-  declared (row.Class name parameter methods) = spec.a_class at name.now (ranged parameter) (map called methods.now)
+  declared (row.Opaque name parameters universe) =
+      spec.an_opaque at name.now (map ranged parameters.now) universe
+  declared (row.Union name parameters universe cases) =
+      spec.a_union at name.now (map ranged parameters.now) universe (map cased cases.now)
+  declared (row.Function generics call) =
+      spec.a_function at (map generic generics.now) call.name.now (map taken call.parameters.now)
+      (form_type call.gives)
+  declared (row.Class name parameter methods) =
+      spec.a_class at name.now (ranged parameter) (map called methods.now)
   declared (row.Instance name of) = spec.an_instance at name.now (shape_type of)

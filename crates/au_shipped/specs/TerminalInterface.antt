@@ -4,7 +4,9 @@ use Rattle.au_base.specs.declared.places.Pos.{Pos}
 use Rattle.au_syntax.specs.declared.declarations.Universe.TheVariants.{Linear, Region}
 use Rattle.au_syntax.specs.Names.{Placed}
 use Rattle.au_syntax.specs.Plain.{Bytes, PlainDeclaration, PlainModule}
-use Rattle.au_shipped.specs.Building.{name, simple, applied, writes, generic, takes, an_opaque, a_function, interface}
+use Rattle.au_shipped.specs.Building.{
+  name, simple, applied, writes, generic, takes, an_opaque, a_function, interface,
+}
 
 module _ (at : Pos) where
   -- type Terminal: Linear;
@@ -15,7 +17,8 @@ module _ (at : Pos) where
   abbrev pub acquire_terminal : PlainDeclaration
   acquire_terminal = a_function at
       (generic at (codes "R") Region ∷ [])
-      (codes "acquireTerminal") (takes at (codes "root") (writes at (simple at (codes "RootCapability")) (codes "R")) ∷ [])
+      (codes "acquireTerminal") (takes at (codes "root")
+          (writes at (simple at (codes "RootCapability")) (codes "R")) ∷ [])
       (simple at (codes "Terminal"))
 
   -- generic [R: Region] function readByte(ref: &![Terminal, R]): Option[Nat8];
@@ -29,12 +32,15 @@ module _ (at : Pos) where
   abbrev pub write_byte : PlainDeclaration
   write_byte = a_function at
       (generic at (codes "R") Region ∷ [])
-      (codes "writeByte") (takes at (codes "ref") (writes at (simple at (codes "Terminal")) (codes "R")) ∷ takes at (codes "byte") (simple at (codes "Nat8")) ∷ [])
+      (codes "writeByte") (takes at (codes "ref") (writes at (simple at (codes "Terminal")) (codes "R"))
+          ∷ takes at (codes "byte") (simple at (codes "Nat8")) ∷ [])
       (simple at (codes "Unit"))
 
   -- function releaseTerminal(terminal: Terminal): Unit;
   abbrev pub release_terminal : PlainDeclaration
-  release_terminal = a_function at [] (codes "releaseTerminal") (takes at (codes "terminal") (simple at (codes "Terminal")) ∷ []) (simple at (codes "Unit"))
+  release_terminal =
+      a_function at [] (codes "releaseTerminal")
+      (takes at (codes "terminal") (simple at (codes "Terminal")) ∷ []) (simple at (codes "Unit"))
 
   -- Standard.IO.Terminal
   abbrev pub module_name : List (Placed Bytes)
@@ -42,4 +48,5 @@ module _ (at : Pos) where
 
   -- module Standard.IO.Terminal is .. end module.
   abbrev pub terminal : PlainModule
-  terminal = interface at module_name (terminal_type ∷ acquire_terminal ∷ read_byte ∷ write_byte ∷ release_terminal ∷ [])
+  terminal = interface at module_name (terminal_type ∷ acquire_terminal ∷ read_byte ∷ write_byte
+      ∷ release_terminal ∷ [])

@@ -55,7 +55,8 @@ fn type_of(
     bytes: &[u8],
     arguments: Vec<TypeText>,
 ) -> Result<TypeText, Memory>
-    ensures { IfOk result (λ t. views.written t ≡ types.named (spec.name at bytes.now) (views.written_all arguments.items)) }
+    ensures { IfOk result (λ t. views.written t
+        ≡ types.named (spec.name at bytes.now) (views.written_all arguments.items)) }
 {
     let name = type_name(alloc, at, bytes)?;
     Ok(TypeText::Named(name, arguments))
@@ -70,7 +71,8 @@ fn simple(alloc: Global, at: Pos, bytes: &[u8]) -> Result<TypeText, Memory>
 
 /// The types of these names, as arguments.
 fn both(alloc: Global, at: Pos, one: &[u8], other: &[u8]) -> Result<Vec<TypeText>, Memory>
-    ensures { IfOk result (λ ts. views.written_all ts.items ≡ types.types (spec.simple at one.now) (types.types (spec.simple at other.now) types.no_types)) }
+    ensures { IfOk result (λ ts. views.written_all ts.items
+        ≡ types.types (spec.simple at one.now) (types.types (spec.simple at other.now) types.no_types)) }
 {
     let one = simple(alloc, at, one)?;
     let other = simple(alloc, at, other)?;
@@ -97,7 +99,8 @@ pub(crate) fn shape_type(alloc: Global, at: Pos, shape: &Shape) -> Result<TypeTe
 /// A reference to a value of this type.
 #[tactic(auto, using(au_syntax::proofs::TypeLemmas::reference_written))]
 fn reference(alloc: Global, at: Pos, access: Access, target: TypeText) -> Result<TypeText, Memory>
-    ensures { IfOk result (λ t. views.written t ≡ types.reference at access (views.written target) (spec.name at (codes "R"))) }
+    ensures { IfOk result (λ t. views.written t
+        ≡ types.reference at access (views.written target) (spec.name at (codes "R"))) }
 {
     let region = type_name(alloc, at, b"R")?;
     let target = Box::new(alloc, target)?;

@@ -21,7 +21,8 @@ fn opaque(
     over: &[Over],
     universe: Universe,
 ) -> Result<Decl<Parsed>, Memory>
-    ensures { IfOk result (λ d. views.declaration ⟦<Parsed as Phase>⟧ d ≡ spec.an_opaque at bytes.now (map (rows.ranged at) over.now) universe) }
+    ensures { IfOk result (λ d. views.declaration ⟦<Parsed as Phase>⟧ d
+        ≡ spec.an_opaque at bytes.now (map (rows.ranged at) over.now) universe) }
 {
     let name = name(alloc, at, bytes)?;
     let parameters = parameters(alloc, at, over)?;
@@ -38,7 +39,9 @@ fn union_of(
     universe: Universe,
     listed: &[Case],
 ) -> Result<Decl<Parsed>, Memory>
-    ensures { IfOk result (λ d. views.declaration ⟦<Parsed as Phase>⟧ d ≡ spec.a_union at bytes.now (map (rows.ranged at) over.now) universe (map (rows.cased at) listed.now)) }
+    ensures { IfOk result (λ d. views.declaration ⟦<Parsed as Phase>⟧ d
+        ≡ spec.a_union at bytes.now (map (rows.ranged at) over.now) universe
+        (map (rows.cased at) listed.now)) }
 {
     let name = name(alloc, at, bytes)?;
     let parameters = parameters(alloc, at, over)?;
@@ -49,7 +52,9 @@ fn union_of(
 /// `generic [PARAMETER, ..] function NAME(PARAMETER, ..): TYPE;`
 #[tactic(auto, using(au_syntax::proofs::DeclarationLemmas::function_says))]
 fn function(alloc: Global, at: Pos, over: &[Over], call: &Call) -> Result<Decl<Parsed>, Memory>
-    ensures { IfOk result (λ d. views.declaration ⟦<Parsed as Phase>⟧ d ≡ spec.a_function at (map (rows.generic at) over.now) call.now.name.now (map (rows.taken at) call.now.parameters.now) (rows.form_type at call.now.gives)) }
+    ensures { IfOk result (λ d. views.declaration ⟦<Parsed as Phase>⟧ d
+        ≡ spec.a_function at (map (rows.generic at) over.now) call.now.name.now
+        (map (rows.taken at) call.now.parameters.now) (rows.form_type at call.now.gives)) }
 {
     let generics = generics(alloc, at, over)?;
     let signature = signature(alloc, at, call)?;
@@ -65,7 +70,8 @@ fn class(
     over: &Over,
     calls: &[Call],
 ) -> Result<Decl<Parsed>, Memory>
-    ensures { IfOk result (λ d. views.declaration ⟦<Parsed as Phase>⟧ d ≡ spec.a_class at bytes.now (rows.ranged at over.now) (map (rows.called at) calls.now)) }
+    ensures { IfOk result (λ d. views.declaration ⟦<Parsed as Phase>⟧ d
+        ≡ spec.a_class at bytes.now (rows.ranged at over.now) (map (rows.called at) calls.now)) }
 {
     let name = name(alloc, at, bytes)?;
     let parameter = parameter(alloc, at, over)?;
@@ -76,7 +82,8 @@ fn class(
 /// `instance NAME(TYPE);`
 #[tactic(auto, using(au_syntax::proofs::DeclarationLemmas::instance_says))]
 fn instance(alloc: Global, at: Pos, bytes: &[u8], of: &Shape) -> Result<Decl<Parsed>, Memory>
-    ensures { IfOk result (λ d. views.declaration ⟦<Parsed as Phase>⟧ d ≡ spec.an_instance at bytes.now (rows.shape_type at of.now)) }
+    ensures { IfOk result (λ d. views.declaration ⟦<Parsed as Phase>⟧ d
+        ≡ spec.an_instance at bytes.now (rows.shape_type at of.now)) }
 {
     let name = name(alloc, at, bytes)?;
     let of = shape_type(alloc, at, of)?;
@@ -99,7 +106,8 @@ fn declaration(alloc: Global, at: Pos, row: &Row) -> Result<Decl<Parsed>, Memory
 }
 
 fn declarations(alloc: Global, at: Pos, listed: &[Row]) -> Result<Vec<Decl<Parsed>>, Memory>
-    ensures { IfOk result (λ ds. map (views.declaration ⟦<Parsed as Phase>⟧) ds.items ≡ map (rows.declared at) listed.now) }
+    ensures { IfOk result (λ ds. map (views.declaration ⟦<Parsed as Phase>⟧) ds.items
+        ≡ map (rows.declared at) listed.now) }
 {
     let mut all = Vec::new(alloc);
     for one in listed {
@@ -115,7 +123,9 @@ pub(crate) fn interface(
     parts: &[&[u8]],
     listed: &[Row],
 ) -> Result<Module<Parsed>, Memory>
-    ensures { IfOk result (λ m. views.module_tree ⟦<Parsed as Phase>⟧ m ≡ spec.interface at (map (λ part. spec.name at part.now) parts.now) (map (rows.declared at) listed.now)) }
+    ensures { IfOk result (λ m. views.module_tree ⟦<Parsed as Phase>⟧ m
+        ≡ spec.interface at (map (λ part. spec.name at part.now) parts.now)
+        (map (rows.declared at) listed.now)) }
 {
     let name = names(alloc, at, parts)?;
     let declarations = declarations(alloc, at, listed)?;

@@ -15,14 +15,20 @@ pub fn tables_are_the_interfaces()
 
 /// Each function and method of the shipped interfaces is a shipped call, and nothing else is one.
 pub fn only_shipped_calls_are_known()
-    ensures { (home call : Bytes) (of : Option IntKind) → is_some (prim_of home call of) ≡ is_shipped home call }
+    ensures { (home call : Bytes) (of : Option IntKind)
+        → is_some (prim_of home call of) ≡ is_shipped home call }
 {}
 
 /// The shipped files are interfaces of the four shipped modules, in order, which import nothing and have
 /// no pragma.
 pub fn shipped_are_four_interfaces()
-    ensures names { map (λ (file : ℕ × PlainModule). joined file.1.name) shipped_files ≡ codes "Austral.Pervasive" ∷ codes "Standard.Box" ∷ codes "Standard.Buffer" ∷ codes "Standard.IO.Terminal" ∷ [] }
-    ensures parts { map (λ (file : ℕ × PlainModule). file.1.part) shipped_files ≡ Interface ∷ Interface ∷ Interface ∷ Interface ∷ [] }
-    ensures imports { map (λ (file : ℕ × PlainModule). file.1.imports) shipped_files ≡ [] ∷ [] ∷ [] ∷ [] ∷ [] }
-    ensures pragmas { map (λ (file : ℕ × PlainModule). file.1.pragma) shipped_files ≡ None ∷ None ∷ None ∷ None ∷ [] }
+    ensures names { map (λ (file : ℕ × PlainModule). joined file.1.name) shipped_files
+        ≡ codes "Austral.Pervasive" ∷ codes "Standard.Box" ∷ codes "Standard.Buffer"
+        ∷ codes "Standard.IO.Terminal" ∷ [] }
+    ensures parts { map (λ (file : ℕ × PlainModule). file.1.part) shipped_files
+        ≡ Interface ∷ Interface ∷ Interface ∷ Interface ∷ [] }
+    ensures imports { map (λ (file : ℕ × PlainModule). file.1.imports) shipped_files
+        ≡ [] ∷ [] ∷ [] ∷ [] ∷ [] }
+    ensures pragmas { map (λ (file : ℕ × PlainModule). file.1.pragma) shipped_files
+        ≡ None ∷ None ∷ None ∷ None ∷ [] }
 {}

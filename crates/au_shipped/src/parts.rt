@@ -13,7 +13,8 @@ use std::alloc::Global;
 
 /// The parts of a module's name.
 pub(crate) fn names(alloc: Global, at: Pos, parts: &[&[u8]]) -> Result<Vec<Ident<Parsed>>, Memory>
-    ensures { IfOk result (λ ns. map (views.placed ⟦<Parsed as Phase>⟧) ns.items ≡ map (λ part. spec.name at part.now) parts.now) }
+    ensures { IfOk result (λ ns. map (views.placed ⟦<Parsed as Phase>⟧) ns.items
+        ≡ map (λ part. spec.name at part.now) parts.now) }
 {
     let mut all = Vec::new(alloc);
     for one in parts {
@@ -33,7 +34,8 @@ fn field(alloc: Global, at: Pos, row: &Takes) -> Result<Field<Parsed>, Memory>
 
 /// Parameters or fields.
 pub(crate) fn fields(alloc: Global, at: Pos, listed: &[Takes]) -> Result<Vec<Field<Parsed>>, Memory>
-    ensures { IfOk result (λ fs. map (views.labelled ⟦<Parsed as Phase>⟧) fs.items ≡ map (rows.taken at) listed.now) }
+    ensures { IfOk result (λ fs. map (views.labelled ⟦<Parsed as Phase>⟧) fs.items
+        ≡ map (rows.taken at) listed.now) }
 {
     let mut all = Vec::new(alloc);
     for one in listed {
@@ -59,7 +61,8 @@ pub(crate) fn parameters(
     at: Pos,
     listed: &[Over],
 ) -> Result<Vec<TypeParameter<Parsed>>, Memory>
-    ensures { IfOk result (λ ps. map (views.in_universe ⟦<Parsed as Phase>⟧) ps.items ≡ map (rows.ranged at) listed.now) }
+    ensures { IfOk result (λ ps. map (views.in_universe ⟦<Parsed as Phase>⟧) ps.items
+        ≡ map (rows.ranged at) listed.now) }
 {
     let mut all = Vec::new(alloc);
     for one in listed {
@@ -85,7 +88,8 @@ pub(crate) fn generics(
     at: Pos,
     listed: &[Over],
 ) -> Result<Vec<Generic<Parsed>>, Memory>
-    ensures { IfOk result (λ ps. map (views.constrained ⟦<Parsed as Phase>⟧) ps.items ≡ map (rows.generic at) listed.now) }
+    ensures { IfOk result (λ ps. map (views.constrained ⟦<Parsed as Phase>⟧) ps.items
+        ≡ map (rows.generic at) listed.now) }
 {
     let mut all = Vec::new(alloc);
     for one in listed {
@@ -109,7 +113,8 @@ pub(crate) fn union_cases(
     at: Pos,
     listed: &[Case],
 ) -> Result<Vec<UnionCase<Parsed>>, Memory>
-    ensures { IfOk result (λ cs. map (views.variant ⟦<Parsed as Phase>⟧) cs.items ≡ map (rows.cased at) listed.now) }
+    ensures { IfOk result (λ cs. map (views.variant ⟦<Parsed as Phase>⟧) cs.items
+        ≡ map (rows.cased at) listed.now) }
 {
     let mut all = Vec::new(alloc);
     for one in listed {
@@ -138,7 +143,8 @@ pub(crate) fn signatures(
     at: Pos,
     listed: &[Call],
 ) -> Result<Vec<Signature<Parsed>>, Memory>
-    ensures { IfOk result (λ ss. map (views.header ⟦<Parsed as Phase>⟧) ss.items ≡ map (rows.called at) listed.now) }
+    ensures { IfOk result (λ ss. map (views.header ⟦<Parsed as Phase>⟧) ss.items
+        ≡ map (rows.called at) listed.now) }
 {
     let mut all = Vec::new(alloc);
     for one in listed {

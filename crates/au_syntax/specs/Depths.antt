@@ -1,9 +1,22 @@
 -- How deep a tree is nested: the expressions and statements from a declaration down to one of them.
 use Rattle.std.specs.Prelude.{ℕ, ◌+◌, List, [], ◌∷◌, max, min}
-use Rattle.au_syntax.specs.Expressions.{number, negative, text, truth, nil, path, arrow, call, named_call, parenthesized, dereference, borrow, borrow_part, binary, negation, typed, choice, no_expressions, expressions, no_arguments, arguments}
-use Rattle.au_syntax.specs.Statements.{skip, declare, destructure, assign, assign_through, conditional, conditional_else, case_of, while_loop, for_loop, borrow_in, borrow_typed, discard, return_of, no_statements, statements, no_branches, branches, no_arms, arms}
-use Rattle.au_syntax.specs.Modules.{constant, opaque_type, record_type, union_type, function, class, instance, constant_body, function_body, instance_body}
-use Rattle.au_syntax.specs.Plain.{PlainExpression, PlainExpressions, PlainArguments, PlainStatement, PlainStatements, PlainBranches, PlainArms, PlainMethod, PlainDeclaration, PlainModule}
+use Rattle.au_syntax.specs.Expressions.{
+  number, negative, text, truth, nil, path, arrow, call, named_call, parenthesized, dereference, borrow,
+  borrow_part, binary, negation, typed, choice, no_expressions, expressions, no_arguments, arguments,
+}
+use Rattle.au_syntax.specs.Statements.{
+  skip, declare, destructure, assign, assign_through, conditional, conditional_else, case_of, while_loop,
+  for_loop, borrow_in, borrow_typed, discard, return_of, no_statements, statements, no_branches, branches,
+  no_arms, arms,
+}
+use Rattle.au_syntax.specs.Modules.{
+  constant, opaque_type, record_type, union_type, function, class, instance, constant_body, function_body,
+  instance_body,
+}
+use Rattle.au_syntax.specs.Plain.{
+  PlainExpression, PlainExpressions, PlainArguments, PlainStatement, PlainStatements, PlainBranches,
+  PlainArms, PlainMethod, PlainDeclaration, PlainModule,
+}
 
 abbrev mutual
   -- one more than the deepest expression inside
@@ -24,7 +37,8 @@ abbrev mutual
   expression_depth (binary node operator a b) = 1 + max (expression_depth a) (expression_depth b)
   expression_depth (negation node e) = 1 + expression_depth e
   expression_depth (typed node e t) = 1 + expression_depth e
-  expression_depth (choice node c a b) = 1 + max (expression_depth c) (max (expression_depth a) (expression_depth b))
+  expression_depth (choice node c a b) =
+      1 + max (expression_depth c) (max (expression_depth a) (expression_depth b))
 
   pub expressions_depth : PlainExpressions → ℕ
   expressions_depth no_expressions = 0
@@ -35,7 +49,8 @@ abbrev mutual
   arguments_depth (arguments label e rest) = max (expression_depth e) (arguments_depth rest)
 
 abbrev mutual
-  -- one more than the deepest expression or statement inside; the branches of a conditional stand side by side
+  -- one more than the deepest expression or statement inside; the branches of a conditional stand side by
+  -- side
   pub statement_depth : PlainStatement → ℕ
   statement_depth (skip at) = 1
   statement_depth (declare at binding name t e) = 1 + expression_depth e
@@ -46,7 +61,8 @@ abbrev mutual
   statement_depth (conditional_else at tests block) = 1 + max (branches_depth tests) (block_depth block)
   statement_depth (case_of at e rest) = 1 + max (expression_depth e) (arms_depth rest)
   statement_depth (while_loop at e block) = 1 + max (expression_depth e) (block_depth block)
-  statement_depth (for_loop at name a z block) = 1 + max (expression_depth a) (max (expression_depth z) (block_depth block))
+  statement_depth (for_loop at name a z block) =
+      1 + max (expression_depth a) (max (expression_depth z) (block_depth block))
   statement_depth (borrow_in at access x r region block stop) = 1 + block_depth block
   statement_depth (borrow_typed at r t mode x block stop) = 1 + block_depth block
   statement_depth (discard at e) = 1 + expression_depth e
@@ -58,7 +74,8 @@ abbrev mutual
 
   pub branches_depth : PlainBranches → ℕ
   branches_depth no_branches = 0
-  branches_depth (branches e block rest) = max (expression_depth e) (max (block_depth block) (branches_depth rest))
+  branches_depth (branches e block rest) =
+      max (expression_depth e) (max (block_depth block) (branches_depth rest))
 
   pub arms_depth : PlainArms → ℕ
   arms_depth no_arms = 0

@@ -3,10 +3,23 @@ use Rattle.std.specs.Prelude.{Bool, true, false, not, ◌&&◌, List, [], ◌∷
 use Rattle.std.specs.List.{list_all}
 use Rattle.au_syntax.specs.declared.modules.Part.{Part}
 use Rattle.au_syntax.specs.declared.modules.Part.TheVariants.{Interface, Body}
-use Rattle.au_syntax.specs.Expressions.{number, negative, text, truth, nil, path, arrow, call, named_call, parenthesized, dereference, borrow, borrow_part, binary, negation, typed, choice, no_expressions, expressions, no_arguments, arguments}
-use Rattle.au_syntax.specs.Statements.{skip, declare, destructure, assign, assign_through, conditional, conditional_else, case_of, while_loop, for_loop, borrow_in, borrow_typed, discard, return_of, no_statements, statements, no_branches, branches, no_arms, arms}
-use Rattle.au_syntax.specs.Modules.{constant, opaque_type, record_type, union_type, function, class, instance, constant_body, function_body, instance_body, Importing}
-use Rattle.au_syntax.specs.Plain.{Bytes, PlainExpression, PlainExpressions, PlainArguments, PlainStatement, PlainStatements, PlainBranches, PlainArms, PlainMethod, PlainDeclaration, PlainModule}
+use Rattle.au_syntax.specs.Expressions.{
+  number, negative, text, truth, nil, path, arrow, call, named_call, parenthesized, dereference, borrow,
+  borrow_part, binary, negation, typed, choice, no_expressions, expressions, no_arguments, arguments,
+}
+use Rattle.au_syntax.specs.Statements.{
+  skip, declare, destructure, assign, assign_through, conditional, conditional_else, case_of, while_loop,
+  for_loop, borrow_in, borrow_typed, discard, return_of, no_statements, statements, no_branches, branches,
+  no_arms, arms,
+}
+use Rattle.au_syntax.specs.Modules.{
+  constant, opaque_type, record_type, union_type, function, class, instance, constant_body, function_body,
+  instance_body, Importing,
+}
+use Rattle.au_syntax.specs.Plain.{
+  Bytes, PlainExpression, PlainExpressions, PlainArguments, PlainStatement, PlainStatements, PlainBranches,
+  PlainArms, PlainMethod, PlainDeclaration, PlainModule,
+}
 
 -- a list that isn't empty
 abbrev pub some : {A : Type 0} → List A → Bool
@@ -47,7 +60,8 @@ abbrev mutual
   formed_expression (dereference node e) = is_atom e && formed_expression e
   formed_expression (borrow node mode name) = true
   formed_expression (borrow_part node name fields) = some fields
-  formed_expression (binary node operator a b) = is_atom a && is_atom b && formed_expression a && formed_expression b
+  formed_expression (binary node operator a b) =
+      is_atom a && is_atom b && formed_expression a && formed_expression b
   formed_expression (negation node e) = is_atom e && formed_expression e
   formed_expression (typed node e t) = is_atom e && formed_expression e
   formed_expression (choice node c a b) = formed_expression c && formed_expression a && formed_expression b
@@ -88,7 +102,8 @@ abbrev mutual
       some_branches tests && formed_branches tests && not (begins_with_if block) && formed_block block
   formed_statement (case_of at e rest) = formed_expression e && formed_arms rest
   formed_statement (while_loop at e block) = formed_expression e && formed_block block
-  formed_statement (for_loop at name a z block) = formed_expression a && formed_expression z && formed_block block
+  formed_statement (for_loop at name a z block) =
+      formed_expression a && formed_expression z && formed_block block
   formed_statement (borrow_in at access x r region block stop) = formed_block block
   formed_statement (borrow_typed at r t mode x block stop) = formed_block block
   formed_statement (discard at e) = is_call e && formed_expression e
@@ -129,4 +144,5 @@ formed_import i = some i.from && some i.items
 
 -- a module has a name, and its declarations are those of its part
 abbrev pub formed_module : PlainModule → Bool
-formed_module m = some m.name && list_all formed_import m.imports && list_all (formed_declaration m.part) m.declarations
+formed_module m =
+    some m.name && list_all formed_import m.imports && list_all (formed_declaration m.part) m.declarations

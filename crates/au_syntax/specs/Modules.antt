@@ -46,7 +46,8 @@ pub data Declaration (N T C : Type 0) : Type 0 where
   instance : Pos → List (Constrained N) → Placed N → WrittenType → Declaration N T C
   constant_body : Pos → Placed N → WrittenType → Expression N T C → Declaration N T C
   function_body : Pos → List (Constrained N) → Header N → Statements N T C → Pos → Declaration N T C
-  instance_body : Pos → List (Constrained N) → Placed N → WrittenType → List (MethodBody N T C) → Declaration N T C
+  instance_body : Pos → List (Constrained N) → Placed N → WrittenType → List (MethodBody N T C)
+      → Declaration N T C
 
 -- an import: its place, the module's name by its parts, and its items
 pub record Importing (N : Type 0) : Type 0 where

@@ -1,9 +1,20 @@
 -- Whether a phase allows every note of a tree.
 use Rattle.std.specs.Prelude.{Bool, true, ◌&&◌}
 use Rattle.std.specs.List.{list_all}
-use Rattle.au_syntax.specs.Expressions.{Expression, Expressions, Arguments, number, negative, text, truth, nil, path, arrow, call, named_call, parenthesized, dereference, borrow, borrow_part, binary, negation, typed, choice, no_expressions, expressions, no_arguments, arguments}
-use Rattle.au_syntax.specs.Statements.{Statement, Statements, Branches, Arms, skip, declare, destructure, assign, assign_through, conditional, conditional_else, case_of, while_loop, for_loop, borrow_in, borrow_typed, discard, return_of, no_statements, statements, no_branches, branches, no_arms, arms}
-use Rattle.au_syntax.specs.Modules.{MethodBody, Declaration, constant, opaque_type, record_type, union_type, function, class, instance, constant_body, function_body, instance_body, ModuleTree}
+use Rattle.au_syntax.specs.Expressions.{
+  Expression, Expressions, Arguments, number, negative, text, truth, nil, path, arrow, call, named_call,
+  parenthesized, dereference, borrow, borrow_part, binary, negation, typed, choice, no_expressions,
+  expressions, no_arguments, arguments,
+}
+use Rattle.au_syntax.specs.Statements.{
+  Statement, Statements, Branches, Arms, skip, declare, destructure, assign, assign_through, conditional,
+  conditional_else, case_of, while_loop, for_loop, borrow_in, borrow_typed, discard, return_of, no_statements,
+  statements, no_branches, branches, no_arms, arms,
+}
+use Rattle.au_syntax.specs.Modules.{
+  MethodBody, Declaration, constant, opaque_type, record_type, union_type, function, class, instance,
+  constant_body, function_body, instance_body, ModuleTree,
+}
 
 -- by which notes of expressions and which notes of calls are allowed
 module _ {N T C : Type 0} (of_type : T → Bool) (of_call : C → Bool) where
@@ -25,7 +36,8 @@ module _ {N T C : Type 0} (of_type : T → Bool) (of_call : C → Bool) where
     notes_of_expression (binary n op a b) = of_type n.note && notes_of_expression a && notes_of_expression b
     notes_of_expression (negation n e) = of_type n.note && notes_of_expression e
     notes_of_expression (typed n e t) = of_type n.note && notes_of_expression e
-    notes_of_expression (choice n c a b) = of_type n.note && notes_of_expression c && notes_of_expression a && notes_of_expression b
+    notes_of_expression (choice n c a b) =
+        of_type n.note && notes_of_expression c && notes_of_expression a && notes_of_expression b
 
     pub notes_of_expressions : Expressions N T C → Bool
     notes_of_expressions no_expressions = true
@@ -46,7 +58,8 @@ module _ {N T C : Type 0} (of_type : T → Bool) (of_call : C → Bool) where
     notes_of_statement (conditional_else at bs b) = notes_of_branches bs && notes_of_statements b
     notes_of_statement (case_of at e rest) = notes_of_expression e && notes_of_arms rest
     notes_of_statement (while_loop at e b) = notes_of_expression e && notes_of_statements b
-    notes_of_statement (for_loop at n a z b) = notes_of_expression a && notes_of_expression z && notes_of_statements b
+    notes_of_statement (for_loop at n a z b) =
+        notes_of_expression a && notes_of_expression z && notes_of_statements b
     notes_of_statement (borrow_in at access x r region b stop) = notes_of_statements b
     notes_of_statement (borrow_typed at r t m x b stop) = notes_of_statements b
     notes_of_statement (discard at e) = notes_of_expression e
@@ -58,7 +71,8 @@ module _ {N T C : Type 0} (of_type : T → Bool) (of_call : C → Bool) where
 
     pub notes_of_branches : Branches N T C → Bool
     notes_of_branches no_branches = true
-    notes_of_branches (branches e b rest) = notes_of_expression e && notes_of_statements b && notes_of_branches rest
+    notes_of_branches (branches e b rest) =
+        notes_of_expression e && notes_of_statements b && notes_of_branches rest
 
     pub notes_of_arms : Arms N T C → Bool
     notes_of_arms no_arms = true

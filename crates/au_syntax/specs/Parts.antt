@@ -1,7 +1,15 @@
 -- The parts of expressions and statements, in the order of the text, and all that stands in them.
 use Rattle.std.specs.Prelude.{List, [], ◌∷◌, ◌++◌}
-use Rattle.au_syntax.specs.Expressions.{Expression, Expressions, Arguments, number, negative, text, truth, nil, path, arrow, call, named_call, parenthesized, dereference, borrow, borrow_part, binary, negation, typed, choice, no_expressions, expressions, no_arguments, arguments}
-use Rattle.au_syntax.specs.Statements.{Statement, Statements, Branches, Arms, skip, declare, destructure, assign, assign_through, conditional, conditional_else, case_of, while_loop, for_loop, borrow_in, borrow_typed, discard, return_of, no_statements, statements, no_branches, branches, no_arms, arms}
+use Rattle.au_syntax.specs.Expressions.{
+  Expression, Expressions, Arguments, number, negative, text, truth, nil, path, arrow, call, named_call,
+  parenthesized, dereference, borrow, borrow_part, binary, negation, typed, choice, no_expressions,
+  expressions, no_arguments, arguments,
+}
+use Rattle.au_syntax.specs.Statements.{
+  Statement, Statements, Branches, Arms, skip, declare, destructure, assign, assign_through, conditional,
+  conditional_else, case_of, while_loop, for_loop, borrow_in, borrow_typed, discard, return_of, no_statements,
+  statements, no_branches, branches, no_arms, arms,
+}
 
 -- P holds of each of a list.
 abbrev pub Each : {A : Type 0} → (A → Type 0) → List A → Type 0
@@ -96,7 +104,8 @@ module _ {N T C : Type 0} where
     nodes_in (binary node operator a b) = (an_expression a ∷ nodes_in a) ++ (an_expression b ∷ nodes_in b)
     nodes_in (negation node e) = an_expression e ∷ nodes_in e
     nodes_in (typed node e t) = an_expression e ∷ nodes_in e
-    nodes_in (choice node c a b) = (an_expression c ∷ nodes_in c) ++ (an_expression a ∷ nodes_in a) ++ (an_expression b ∷ nodes_in b)
+    nodes_in (choice node c a b) =
+        (an_expression c ∷ nodes_in c) ++ (an_expression a ∷ nodes_in a) ++ (an_expression b ∷ nodes_in b)
 
     pub nodes_of_expressions : Expressions N T C → List (TreeNode N T C)
     nodes_of_expressions no_expressions = []

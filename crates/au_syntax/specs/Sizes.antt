@@ -3,11 +3,26 @@ use Rattle.std.specs.Prelude.{ℕ, ◌+◌, Bool, ◌&&◌, nat_le, List, [], �
 use Rattle.std.specs.List.{list_all, flat_map}
 use Rattle.au_base.specs.Limits.{most_name_bytes, most_nesting, most_type_depth, most_type_nodes}
 use Rattle.au_syntax.specs.Names.{Placed}
-use Rattle.au_syntax.specs.Types.{WrittenType, WrittenTypes, named, reference, no_types, types, Labelled, Bound}
-use Rattle.au_syntax.specs.Expressions.{number, negative, text, truth, nil, path, arrow, call, named_call, parenthesized, dereference, borrow, borrow_part, binary, negation, typed, choice, no_expressions, expressions, no_arguments, arguments}
-use Rattle.au_syntax.specs.Statements.{skip, declare, destructure, assign, assign_through, conditional, conditional_else, case_of, while_loop, for_loop, borrow_in, borrow_typed, discard, return_of, no_statements, statements, no_branches, branches, no_arms, arms}
-use Rattle.au_syntax.specs.Modules.{Header, Variant, constant, opaque_type, record_type, union_type, function, class, instance, constant_body, function_body, instance_body, Importing}
-use Rattle.au_syntax.specs.Plain.{Bytes, PlainExpression, PlainExpressions, PlainArguments, PlainStatement, PlainStatements, PlainBranches, PlainArms, PlainMethod, PlainDeclaration, PlainModule}
+use Rattle.au_syntax.specs.Types.{
+  WrittenType, WrittenTypes, named, reference, no_types, types, Labelled, Bound,
+}
+use Rattle.au_syntax.specs.Expressions.{
+  number, negative, text, truth, nil, path, arrow, call, named_call, parenthesized, dereference, borrow,
+  borrow_part, binary, negation, typed, choice, no_expressions, expressions, no_arguments, arguments,
+}
+use Rattle.au_syntax.specs.Statements.{
+  skip, declare, destructure, assign, assign_through, conditional, conditional_else, case_of, while_loop,
+  for_loop, borrow_in, borrow_typed, discard, return_of, no_statements, statements, no_branches, branches,
+  no_arms, arms,
+}
+use Rattle.au_syntax.specs.Modules.{
+  Header, Variant, constant, opaque_type, record_type, union_type, function, class, instance, constant_body,
+  function_body, instance_body, Importing,
+}
+use Rattle.au_syntax.specs.Plain.{
+  Bytes, PlainExpression, PlainExpressions, PlainArguments, PlainStatement, PlainStatements, PlainBranches,
+  PlainArms, PlainMethod, PlainDeclaration, PlainModule,
+}
 use Rattle.au_syntax.specs.Depths.{module_depth}
 
 abbrev mutual
@@ -108,7 +123,8 @@ abbrev pub declaration_types : PlainDeclaration → List WrittenType
 declaration_types (constant at name t) = t ∷ []
 declaration_types (opaque_type at name parameters universe) = []
 declaration_types (record_type at name parameters universe fields) = labelled_types fields
-declaration_types (union_type at name parameters universe cases) = flat_map (λ (one : Variant Bytes). labelled_types one.fields) cases
+declaration_types (union_type at name parameters universe cases) =
+    flat_map (λ (one : Variant Bytes). labelled_types one.fields) cases
 declaration_types (function at generics header) = header_types header
 declaration_types (class at name parameter methods) = flat_map header_types methods
 declaration_types (instance at generics name t) = t ∷ []

@@ -22,7 +22,8 @@ mutual
     while_loop : Pos → Expression N T C → Statements N T C → Statement N T C
     for_loop : Pos → Placed N → Expression N T C → Expression N T C → Statements N T C → Statement N T C
     borrow_in : Pos → Access → Placed N → Placed N → Placed N → Statements N T C → Pos → Statement N T C
-    borrow_typed : Pos → Placed N → WrittenType → BorrowMode → Placed N → Statements N T C → Pos → Statement N T C
+    borrow_typed : Pos → Placed N → WrittenType → BorrowMode → Placed N → Statements N T C → Pos
+        → Statement N T C
     discard : Pos → Expression N T C → Statement N T C
     return_of : Pos → Expression N T C → Statement N T C
 

@@ -7,16 +7,29 @@ use Rattle.au_syntax.specs.declared.names.Renamed.{Renamed}
 use Rattle.au_syntax.specs.declared.names.Field.{Field}
 use Rattle.au_syntax.specs.declared.names.Bind.{Bind}
 use Rattle.au_syntax.specs.declared.types.TypeName.{TypeName}
-use Rattle.au_syntax.specs.declared.types.TypeText.{TypeText, Row_of-TypeText, end_of-TypeText, more_of-TypeText}
+use Rattle.au_syntax.specs.declared.types.TypeText.{
+  TypeText, Row_of-TypeText, end_of-TypeText, more_of-TypeText,
+}
 use Rattle.au_syntax.specs.declared.types.TypeText.{Named', Reference'}
 use Rattle.au_syntax.specs.declared.expressions.Site.{Site}
 use Rattle.au_syntax.specs.declared.expressions.Argument.{Argument}
-use Rattle.au_syntax.specs.declared.expressions.Expr.{Expr, Row_of-Expr, end_of-Expr, more_of-Expr, Row_of-Argument, end_of-Argument, more_of-Argument}
+use Rattle.au_syntax.specs.declared.expressions.Expr.{
+  Expr, Row_of-Expr, end_of-Expr, more_of-Expr, Row_of-Argument, end_of-Argument, more_of-Argument,
+}
 use Rattle.au_syntax.specs.declared.expressions.Expr as code
 use Rattle.au_syntax.specs.Names.{Placed, Renaming}
-use Rattle.au_syntax.specs.Types.{WrittenType, WrittenTypes, named, reference, no_types, types, Labelled, Bound}
-use Rattle.au_syntax.specs.Expressions.{Node, Expression, Expressions, Arguments, number, negative, text, truth, nil, path, arrow, call, named_call, parenthesized, dereference, borrow, borrow_part, binary, negation, typed, choice, no_expressions, expressions, no_arguments, arguments}
-use Rattle.au_syntax.specs.declared.statements.Stmt.{Stmt, Row_of-Stmt, end_of-Stmt, more_of-Stmt, Row_of-Branch, end_of-Branch, more_of-Branch, Row_of-Arm, end_of-Arm, more_of-Arm}
+use Rattle.au_syntax.specs.Types.{
+  WrittenType, WrittenTypes, named, reference, no_types, types, Labelled, Bound,
+}
+use Rattle.au_syntax.specs.Expressions.{
+  Node, Expression, Expressions, Arguments, number, negative, text, truth, nil, path, arrow, call, named_call,
+  parenthesized, dereference, borrow, borrow_part, binary, negation, typed, choice, no_expressions,
+  expressions, no_arguments, arguments,
+}
+use Rattle.au_syntax.specs.declared.statements.Stmt.{
+  Stmt, Row_of-Stmt, end_of-Stmt, more_of-Stmt, Row_of-Branch, end_of-Branch, more_of-Branch, Row_of-Arm,
+  end_of-Arm, more_of-Arm,
+}
 use Rattle.au_syntax.specs.declared.statements.Block.{Block}
 use Rattle.au_syntax.specs.declared.statements.Branch.{Branch}
 use Rattle.au_syntax.specs.declared.statements.Arm.{Arm}
@@ -30,8 +43,15 @@ use Rattle.au_syntax.specs.declared.declarations.Decl.{Decl}
 use Rattle.au_syntax.specs.declared.declarations.Decl.TheVariants as decl
 use Rattle.au_syntax.specs.declared.modules.Import.{Import}
 use Rattle.au_syntax.specs.declared.modules.Module.{Module}
-use Rattle.au_syntax.specs.Statements.{Statement, Statements, Branches, Arms, skip, declare, destructure, assign, assign_through, conditional, conditional_else, case_of, while_loop, for_loop, borrow_in, borrow_typed, discard, return_of, no_statements, statements, no_branches, branches, no_arms, arms}
-use Rattle.au_syntax.specs.Modules.{InUniverse, Constrained, Header, Variant, MethodBody, Declaration, constant, opaque_type, record_type, union_type, function, class, instance, constant_body, function_body, instance_body, Importing, ModuleTree}
+use Rattle.au_syntax.specs.Statements.{
+  Statement, Statements, Branches, Arms, skip, declare, destructure, assign, assign_through, conditional,
+  conditional_else, case_of, while_loop, for_loop, borrow_in, borrow_typed, discard, return_of, no_statements,
+  statements, no_branches, branches, no_arms, arms,
+}
+use Rattle.au_syntax.specs.Modules.{
+  InUniverse, Constrained, Header, Variant, MethodBody, Declaration, constant, opaque_type, record_type,
+  union_type, function, class, instance, constant_body, function_body, instance_body, Importing, ModuleTree,
+}
 
 -- a name in a written type
 abbrev pub type_name : TypeName → Placed (List ℕ)
@@ -84,8 +104,10 @@ module _ {X N T C : Type 0} (g : Ghosts X N T C) where
     expression (code.Nil s) = nil (node s)
     expression (code.Path s n fields) = path (node s) (placed n) (map placed fields.items)
     expression (code.Arrow s n fields) = arrow (node s) (placed n) (map placed fields.items)
-    expression (code.Call' s n shape args note) = call (node s) (placed n) (row_expressions args) (g.see_call note)
-    expression (code.NamedCall' s n shape args note) = named_call (node s) (placed n) (row_arguments args) (g.see_call note)
+    expression (code.Call' s n shape args note) =
+        call (node s) (placed n) (row_expressions args) (g.see_call note)
+    expression (code.NamedCall' s n shape args note) =
+        named_call (node s) (placed n) (row_arguments args) (g.see_call note)
     expression (code.Parenthesized' s p e) = parenthesized (node s) (expression e)
     expression (code.Dereference' s p e) = dereference (node s) (expression e)
     expression (code.Borrow s m n) = borrow (node s) m (placed n)
@@ -103,7 +125,8 @@ module _ {X N T C : Type 0} (g : Ghosts X N T C) where
     -- the named arguments of a call
     pub row_arguments : {m : _} → Row_of-Argument X N T C m → Arguments g.SeenName g.SeenType g.SeenCall
     row_arguments end_of-Argument = no_arguments
-    row_arguments (more_of-Argument label e rest) = arguments (placed label) (expression e) (row_arguments rest)
+    row_arguments (more_of-Argument label e rest) =
+        arguments (placed label) (expression e) (row_arguments rest)
 
   -- expressions in order
   abbrev pub expression_all : List (Expr X N T C) → Expressions g.SeenName g.SeenType g.SeenCall
@@ -121,17 +144,21 @@ module _ {X N T C : Type 0} (g : Ghosts X N T C) where
     statement (stmt.Skip at) = skip at
     statement (stmt.Let at b n t e) = declare at b (placed n) (written t) (expression e.value)
     statement (stmt.Destructure at binds e) = destructure at (map bound binds.items) (expression e.value)
-    statement (stmt.Assign at n fields e) = assign at (placed n) (map placed fields.items) (expression e.value)
-    statement (stmt.AssignThrough at n fields e) = assign_through at (placed n) (map placed fields.items) (expression e.value)
+    statement (stmt.Assign at n fields e) =
+        assign at (placed n) (map placed fields.items) (expression e.value)
+    statement (stmt.AssignThrough at n fields e) =
+        assign_through at (placed n) (map placed fields.items) (expression e.value)
     statement (stmt.If' at shape bs) = conditional at (row_branches bs)
     statement (stmt.IfElse' at shape bs shape' ss) = conditional_else at (row_branches bs) (row_statements ss)
     statement (stmt.Case' at e shape as') = case_of at (expression e.value) (row_arms as')
     statement (stmt.While' at e shape ss) = while_loop at (expression e.value) (row_statements ss)
-    statement (stmt.For' at n a b shape ss) = for_loop at (placed n) (expression a.value) (expression b.value) (row_statements ss)
+    statement (stmt.For' at n a b shape ss) =
+        for_loop at (placed n) (expression a.value) (expression b.value) (row_statements ss)
     statement (stmt.Borrow' at access ns shape ss stop) =
         borrow_in at access (placed ns.variable) (placed ns.reference) (placed ns.region)
         (row_statements ss) stop
-    statement (stmt.BorrowTyped' at r t mode x shape ss stop) = borrow_typed at (placed r) (written t) mode (placed x) (row_statements ss) stop
+    statement (stmt.BorrowTyped' at r t mode x shape ss stop) =
+        borrow_typed at (placed r) (written t) mode (placed x) (row_statements ss) stop
     statement (stmt.Call at e) = discard at (expression e.value)
     statement (stmt.Return at e) = return_of at (expression e.value)
 
@@ -143,12 +170,14 @@ module _ {X N T C : Type 0} (g : Ghosts X N T C) where
     -- the branches of a conditional
     pub row_branches : {m : _} → Row_of-Branch X N T C m → Branches g.SeenName g.SeenType g.SeenCall
     row_branches end_of-Branch = no_branches
-    row_branches (more_of-Branch e shape ss rest) = branches (expression e.value) (row_statements ss) (row_branches rest)
+    row_branches (more_of-Branch e shape ss rest) =
+        branches (expression e.value) (row_statements ss) (row_branches rest)
 
     -- the arms of a case
     pub row_arms : {m : _} → Row_of-Arm X N T C m → Arms g.SeenName g.SeenType g.SeenCall
     row_arms end_of-Arm = no_arms
-    row_arms (more_of-Arm at n binds shape ss rest) = arms at (placed n) (map bound binds.items) (row_statements ss) (row_arms rest)
+    row_arms (more_of-Arm at n binds shape ss rest) =
+        arms at (placed n) (map bound binds.items) (row_statements ss) (row_arms rest)
 
   -- statements in order
   abbrev pub statement_all : List (Stmt X N T C) → Statements g.SeenName g.SeenType g.SeenCall
@@ -179,7 +208,8 @@ module _ {X N T C : Type 0} (g : Ghosts X N T C) where
 
   -- a function's name, parameters and result
   abbrev pub header : Signature X N T C → Header g.SeenName
-  header s = record { name = placed s.name; parameters = map labelled s.parameters.items; result = written s.result }
+  header s = record { name = placed s.name; parameters = map labelled s.parameters.items; result =
+      written s.result }
 
   -- a case of a union
   abbrev pub variant : UnionCase X N T C → Variant g.SeenName
@@ -193,14 +223,18 @@ module _ {X N T C : Type 0} (g : Ghosts X N T C) where
   unfoldable pub declaration : Decl X N T C → Declaration g.SeenName g.SeenType g.SeenCall
   declaration (decl.Constant at n t) = constant at (placed n) (written t)
   declaration (decl.Opaque at n ps u) = opaque_type at (placed n) (map in_universe ps.items) u
-  declaration (decl.Record at n ps u fs) = record_type at (placed n) (map in_universe ps.items) u (map labelled fs.items)
-  declaration (decl.Union at n ps u cs) = union_type at (placed n) (map in_universe ps.items) u (map variant cs.items)
+  declaration (decl.Record at n ps u fs) =
+      record_type at (placed n) (map in_universe ps.items) u (map labelled fs.items)
+  declaration (decl.Union at n ps u cs) =
+      union_type at (placed n) (map in_universe ps.items) u (map variant cs.items)
   declaration (decl.Function at gs s) = function at (map constrained gs.items) (header s)
   declaration (decl.Class at n p ms) = class at (placed n) (in_universe p) (map header ms.items)
   declaration (decl.Instance at gs n t) = instance at (map constrained gs.items) (placed n) (written t)
   declaration (decl.ConstantBody at n t e) = constant_body at (placed n) (written t) (expression e.value)
-  declaration (decl.FunctionBody at gs s b stop) = function_body at (map constrained gs.items) (header s) (block b) stop
-  declaration (decl.InstanceBody at gs n t ms) = instance_body at (map constrained gs.items) (placed n) (written t) (map method_body ms.items)
+  declaration (decl.FunctionBody at gs s b stop) =
+      function_body at (map constrained gs.items) (header s) (block b) stop
+  declaration (decl.InstanceBody at gs n t ms) =
+      instance_body at (map constrained gs.items) (placed n) (written t) (map method_body ms.items)
 
   -- an import
   abbrev pub importing : Import X N T C → Importing g.SeenName

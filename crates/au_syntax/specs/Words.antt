@@ -4,9 +4,18 @@ use Rattle.std.specs.Prelude.{◌≡◌, Bool, true, false, List, [], ◌∷◌,
 use Rattle.std.specs.List.{flat_map}
 use Rattle.au_base.specs.declared.places.Pos.{Pos}
 use Rattle.au_base.specs.declared.tokens.Keyword.{Keyword}
-use Rattle.au_base.specs.declared.tokens.Keyword.TheVariants.{KwModule, KwBody, KwIs, KwEnd, KwImport, KwAs, KwPragma, KwConstant, KwType, KwRecord, KwUnion, KwCase, KwWhen, KwOf, KwDo, KwFunction, KwGeneric, KwTypeclass, KwInstance, KwMethod, KwLet, KwVar, KwIf, KwThen, KwElse, KwWhile, KwFor, KwFrom, KwTo, KwBorrow, KwIn, KwReturn, KwSkip, KwNil, KwTrue, KwFalse, KwAnd, KwOr, KwNot, KwFree, KwLinear, KwAnyUniverse, KwRegion}
+use Rattle.au_base.specs.declared.tokens.Keyword.TheVariants.{
+  KwModule, KwBody, KwIs, KwEnd, KwImport, KwAs, KwPragma, KwConstant, KwType, KwRecord, KwUnion, KwCase,
+  KwWhen, KwOf, KwDo, KwFunction, KwGeneric, KwTypeclass, KwInstance, KwMethod, KwLet, KwVar, KwIf, KwThen,
+  KwElse, KwWhile, KwFor, KwFrom, KwTo, KwBorrow, KwIn, KwReturn, KwSkip, KwNil, KwTrue, KwFalse, KwAnd, KwOr,
+  KwNot, KwFree, KwLinear, KwAnyUniverse, KwRegion,
+}
 use Rattle.au_base.specs.declared.tokens.Sign.{Sign as SignOf}
-use Rattle.au_base.specs.declared.tokens.Sign.TheVariants.{Assign, FatArrow, Arrow, WriteBorrow, Reborrow, NotEqual, LessEqual, GreaterEqual, LeftParenthesis, RightParenthesis, LeftBracket, RightBracket, LeftBrace, RightBrace, Comma, Semicolon, Colon, Dot, ReadBorrow, Exclamation, Plus, Minus, Star, Slash, Equal, Less, Greater}
+use Rattle.au_base.specs.declared.tokens.Sign.TheVariants.{
+  Assign, FatArrow, Arrow, WriteBorrow, Reborrow, NotEqual, LessEqual, GreaterEqual, LeftParenthesis,
+  RightParenthesis, LeftBracket, RightBracket, LeftBrace, RightBrace, Comma, Semicolon, Colon, Dot,
+  ReadBorrow, Exclamation, Plus, Minus, Star, Slash, Equal, Less, Greater,
+}
 use Rattle.au_base.specs.declared.tokens.Token.{Token}
 use Rattle.au_base.specs.declared.tokens.What.{What}
 use Rattle.au_base.specs.declared.tokens.What.TheVariants.{Word, Sign, Name, Number, Text}
@@ -24,11 +33,26 @@ use Rattle.au_syntax.specs.declared.statements.Binding.TheVariants.{Let, Var}
 use Rattle.au_syntax.specs.declared.types.Access.{Access}
 use Rattle.au_syntax.specs.declared.types.Access.TheVariants as access
 use Rattle.au_syntax.specs.Names.{Placed, Renaming}
-use Rattle.au_syntax.specs.Types.{WrittenType, WrittenTypes, named, reference, no_types, types, Labelled, Bound}
-use Rattle.au_syntax.specs.Expressions.{number, negative, text, truth, nil, path, arrow, call, named_call, parenthesized, dereference, borrow, borrow_part, binary, negation, typed, choice, no_expressions, expressions, no_arguments, arguments}
-use Rattle.au_syntax.specs.Statements.{skip, declare, destructure, assign, assign_through, conditional, conditional_else, case_of, while_loop, for_loop, borrow_in, borrow_typed, discard, return_of, no_statements, statements, no_branches, branches, no_arms, arms}
-use Rattle.au_syntax.specs.Modules.{InUniverse, Constrained, Header, Variant, constant, opaque_type, record_type, union_type, function, class, instance, constant_body, function_body, instance_body, Importing}
-use Rattle.au_syntax.specs.Plain.{Bytes, PlainExpression, PlainExpressions, PlainArguments, PlainStatement, PlainStatements, PlainBranches, PlainArms, PlainMethod, PlainDeclaration, PlainModule}
+use Rattle.au_syntax.specs.Types.{
+  WrittenType, WrittenTypes, named, reference, no_types, types, Labelled, Bound,
+}
+use Rattle.au_syntax.specs.Expressions.{
+  number, negative, text, truth, nil, path, arrow, call, named_call, parenthesized, dereference, borrow,
+  borrow_part, binary, negation, typed, choice, no_expressions, expressions, no_arguments, arguments,
+}
+use Rattle.au_syntax.specs.Statements.{
+  skip, declare, destructure, assign, assign_through, conditional, conditional_else, case_of, while_loop,
+  for_loop, borrow_in, borrow_typed, discard, return_of, no_statements, statements, no_branches, branches,
+  no_arms, arms,
+}
+use Rattle.au_syntax.specs.Modules.{
+  InUniverse, Constrained, Header, Variant, constant, opaque_type, record_type, union_type, function, class,
+  instance, constant_body, function_body, instance_body, Importing,
+}
+use Rattle.au_syntax.specs.Plain.{
+  Bytes, PlainExpression, PlainExpressions, PlainArguments, PlainStatement, PlainStatements, PlainBranches,
+  PlainArms, PlainMethod, PlainDeclaration, PlainModule,
+}
 
 -- a token of a tree: what it is, and the places that the tree keeps for it
 pub record Printed : Type 0 where
@@ -94,7 +118,8 @@ abbrev mutual
   pub type_words : WrittenType → Words
   type_words (named name args) = name_words name ++ listed_in LeftBracket RightBracket (words_of_types args)
   type_words (reference at access target region) =
-      begun at (mark (access_sign access) ++ mark LeftBracket ++ type_words target ++ mark Comma ++ name_words region ++ mark RightBracket)
+      begun at (mark (access_sign access) ++ mark LeftBracket ++ type_words target ++ mark Comma
+          ++ name_words region ++ mark RightBracket)
 
   pub words_of_types : WrittenTypes → List Words
   words_of_types no_types = []
@@ -149,19 +174,25 @@ abbrev mutual
   expression_words (path node name fields) = begun node.at (path_words name fields)
   expression_words (arrow node name fields) = begun node.at (arrow_words name fields)
   expression_words (call node name args note) =
-      begun node.at (name_words name ++ mark LeftParenthesis ++ listed (words_of_expressions args) ++ mark RightParenthesis)
+      begun node.at (name_words name ++ mark LeftParenthesis ++ listed (words_of_expressions args)
+          ++ mark RightParenthesis)
   expression_words (named_call node name args note) =
-      begun node.at (name_words name ++ mark LeftParenthesis ++ listed (words_of_arguments args) ++ mark RightParenthesis)
-  expression_words (parenthesized node e) = begun node.at (mark LeftParenthesis ++ expression_words e ++ mark RightParenthesis)
+      begun node.at (name_words name ++ mark LeftParenthesis ++ listed (words_of_arguments args)
+          ++ mark RightParenthesis)
+  expression_words (parenthesized node e) =
+      begun node.at (mark LeftParenthesis ++ expression_words e ++ mark RightParenthesis)
   expression_words (dereference node e) = begun node.at (mark Exclamation ++ expression_words e)
   expression_words (borrow node mode name) = begun node.at (mark (mode_sign mode) ++ name_words name)
   expression_words (borrow_part node name fields) =
-      begun node.at (mark ReadBorrow ++ mark LeftParenthesis ++ arrow_words name fields ++ mark RightParenthesis)
-  expression_words (binary node operator a b) = begun node.at (expression_words a ++ operator_words operator ++ expression_words b)
+      begun node.at (mark ReadBorrow ++ mark LeftParenthesis ++ arrow_words name fields
+          ++ mark RightParenthesis)
+  expression_words (binary node operator a b) =
+      begun node.at (expression_words a ++ operator_words operator ++ expression_words b)
   expression_words (negation node e) = begun node.at (word KwNot ++ expression_words e)
   expression_words (typed node e t) = begun node.at (expression_words e ++ mark Colon ++ type_words t)
   expression_words (choice node c a b) =
-      begun node.at (word KwIf ++ expression_words c ++ word KwThen ++ expression_words a ++ word KwElse ++ expression_words b)
+      begun node.at (word KwIf ++ expression_words c ++ word KwThen ++ expression_words a ++ word KwElse
+          ++ expression_words b)
 
   pub words_of_expressions : PlainExpressions → List Words
   words_of_expressions no_expressions = []
@@ -169,7 +200,8 @@ abbrev mutual
 
   pub words_of_arguments : PlainArguments → List Words
   words_of_arguments no_arguments = []
-  words_of_arguments (arguments label e rest) = (name_words label ++ mark FatArrow ++ expression_words e) ∷ words_of_arguments rest
+  words_of_arguments (arguments label e rest) =
+      (name_words label ++ mark FatArrow ++ expression_words e) ∷ words_of_arguments rest
 
 abbrev pub binding_word : Binding → Keyword
 binding_word Let = KwLet
@@ -189,25 +221,39 @@ abbrev mutual
   pub statement_words : PlainStatement → Words
   statement_words (skip at) = begun at (word KwSkip ++ mark Semicolon)
   statement_words (declare at binding name t e) =
-      begun at (word (binding_word binding) ++ name_words name ++ mark Colon ++ type_words t ++ mark Assign ++ expression_words e ++ mark Semicolon)
+      begun at (word (binding_word binding) ++ name_words name ++ mark Colon ++ type_words t ++ mark Assign
+          ++ expression_words e ++ mark Semicolon)
   statement_words (destructure at binds e) =
-      begun at (word KwLet ++ mark LeftBrace ++ listed (map bound_words binds) ++ mark RightBrace ++ mark Assign ++ expression_words e ++ mark Semicolon)
-  statement_words (assign at name fields e) = begun at (path_words name fields ++ mark Assign ++ expression_words e ++ mark Semicolon)
-  statement_words (assign_through at name fields e) = begun at (arrow_words name fields ++ mark Assign ++ expression_words e ++ mark Semicolon)
+      begun at (word KwLet ++ mark LeftBrace ++ listed (map bound_words binds) ++ mark RightBrace
+          ++ mark Assign ++ expression_words e ++ mark Semicolon)
+  statement_words (assign at name fields e) =
+      begun at (path_words name fields ++ mark Assign ++ expression_words e ++ mark Semicolon)
+  statement_words (assign_through at name fields e) =
+      begun at (arrow_words name fields ++ mark Assign ++ expression_words e ++ mark Semicolon)
   statement_words (conditional at tests) =
-      begun at (separated (word KwElse) (words_of_branches tests) ++ word KwEnd ++ word KwIf ++ mark Semicolon)
+      begun at (separated (word KwElse) (words_of_branches tests) ++ word KwEnd ++ word KwIf
+          ++ mark Semicolon)
   statement_words (conditional_else at tests block) =
-      begun at (separated (word KwElse) (words_of_branches tests) ++ word KwElse ++ block_words block ++ word KwEnd ++ word KwIf ++ mark Semicolon)
+      begun at (separated (word KwElse) (words_of_branches tests) ++ word KwElse ++ block_words block
+          ++ word KwEnd ++ word KwIf ++ mark Semicolon)
   statement_words (case_of at e rest) =
-      begun at (word KwCase ++ expression_words e ++ word KwOf ++ arm_words rest ++ word KwEnd ++ word KwCase ++ mark Semicolon)
+      begun at (word KwCase ++ expression_words e ++ word KwOf ++ arm_words rest ++ word KwEnd ++ word KwCase
+          ++ mark Semicolon)
   statement_words (while_loop at e block) =
-      begun at (word KwWhile ++ expression_words e ++ word KwDo ++ block_words block ++ word KwEnd ++ word KwWhile ++ mark Semicolon)
+      begun at (word KwWhile ++ expression_words e ++ word KwDo ++ block_words block ++ word KwEnd
+          ++ word KwWhile ++ mark Semicolon)
   statement_words (for_loop at name a z block) =
-      begun at (word KwFor ++ name_words name ++ word KwFrom ++ expression_words a ++ word KwTo ++ expression_words z ++ word KwDo ++ block_words block ++ word KwEnd ++ word KwFor ++ mark Semicolon)
+      begun at (word KwFor ++ name_words name ++ word KwFrom ++ expression_words a ++ word KwTo
+          ++ expression_words z ++ word KwDo ++ block_words block ++ word KwEnd ++ word KwFor
+          ++ mark Semicolon)
   statement_words (borrow_in at access x r region block stop) =
-      begun at (borrow_words access ++ name_words x ++ word KwAs ++ name_words r ++ word KwIn ++ name_words region ++ word KwDo ++ block_words block ++ end_at stop ++ word KwBorrow ++ mark Semicolon)
+      begun at (borrow_words access ++ name_words x ++ word KwAs ++ name_words r ++ word KwIn
+          ++ name_words region ++ word KwDo ++ block_words block ++ end_at stop ++ word KwBorrow
+          ++ mark Semicolon)
   statement_words (borrow_typed at r t mode x block stop) =
-      begun at (word KwBorrow ++ name_words r ++ mark Colon ++ type_words t ++ mark Assign ++ mark (mode_sign mode) ++ name_words x ++ word KwDo ++ block_words block ++ end_at stop ++ word KwBorrow ++ mark Semicolon)
+      begun at (word KwBorrow ++ name_words r ++ mark Colon ++ type_words t ++ mark Assign
+          ++ mark (mode_sign mode) ++ name_words x ++ word KwDo ++ block_words block ++ end_at stop
+          ++ word KwBorrow ++ mark Semicolon)
   statement_words (discard at e) = begun at (expression_words e ++ mark Semicolon)
   statement_words (return_of at e) = begun at (word KwReturn ++ expression_words e ++ mark Semicolon)
 
@@ -218,13 +264,16 @@ abbrev mutual
 
   pub words_of_branches : PlainBranches → List Words
   words_of_branches no_branches = []
-  words_of_branches (branches e block rest) = (word KwIf ++ expression_words e ++ word KwThen ++ block_words block) ∷ words_of_branches rest
+  words_of_branches (branches e block rest) =
+      (word KwIf ++ expression_words e ++ word KwThen ++ block_words block) ∷ words_of_branches rest
 
   -- the arms of a case
   pub arm_words : PlainArms → Words
   arm_words no_arms = []
   arm_words (arms at name binds block rest) =
-      begun at (word KwWhen ++ name_words name ++ listed_in LeftParenthesis RightParenthesis (map bound_words binds) ++ word KwDo ++ block_words block) ++ arm_words rest
+      begun at (word KwWhen ++ name_words name
+          ++ listed_in LeftParenthesis RightParenthesis (map bound_words binds) ++ word KwDo
+          ++ block_words block) ++ arm_words rest
 
 abbrev pub universe_word : Universe → Keyword
 universe_word universe.Free = KwFree
@@ -238,22 +287,26 @@ in_universe_words p = name_words p.name ++ mark Colon ++ word (universe_word p.u
 
 -- a type parameter behind `generic`, with its constraints
 abbrev pub constrained_words : Constrained Bytes → Words
-constrained_words p = in_universe_words p.parameter ++ listed_in LeftParenthesis RightParenthesis (map name_words p.classes)
+constrained_words p =
+    in_universe_words p.parameter ++ listed_in LeftParenthesis RightParenthesis (map name_words p.classes)
 
 -- `generic` and its type parameters, or nothing where there are none
 abbrev pub generic_words : List (Constrained Bytes) → Words
 generic_words [] = []
-generic_words (first ∷ rest) = word KwGeneric ++ listed_in LeftBracket RightBracket (map constrained_words (first ∷ rest))
+generic_words (first ∷ rest) =
+    word KwGeneric ++ listed_in LeftBracket RightBracket (map constrained_words (first ∷ rest))
 
 -- the head of a type's declaration: its name, type parameters and universe
 abbrev pub type_head_words : Placed Bytes → List (InUniverse Bytes) → Universe → Words
 type_head_words name parameters universe =
-    name_words name ++ listed_in LeftBracket RightBracket (map in_universe_words parameters) ++ mark Colon ++ word (universe_word universe)
+    name_words name ++ listed_in LeftBracket RightBracket (map in_universe_words parameters) ++ mark Colon
+        ++ word (universe_word universe)
 
 -- a function's name, parameters and result
 abbrev pub header_words : Header Bytes → Words
 header_words h =
-    name_words h.name ++ mark LeftParenthesis ++ listed (map labelled_words h.parameters) ++ mark RightParenthesis ++ mark Colon ++ type_words h.result
+    name_words h.name ++ mark LeftParenthesis ++ listed (map labelled_words h.parameters)
+        ++ mark RightParenthesis ++ mark Colon ++ type_words h.result
 
 -- the fields of a record or a case
 abbrev pub fields_words : List (Labelled Bytes) → Words
@@ -274,35 +327,50 @@ class_method_words h = word KwMethod ++ header_words h ++ mark Semicolon
 
 -- a method of an instance
 abbrev pub method_words : PlainMethod → Words
-method_words m = word KwMethod ++ header_words m.header ++ word KwIs ++ block_words m.body ++ end_at m.stop ++ mark Semicolon
+method_words m =
+    word KwMethod ++ header_words m.header ++ word KwIs ++ block_words m.body ++ end_at m.stop
+    ++ mark Semicolon
 
 -- the class and the type of an instance
 abbrev pub instance_words : Placed Bytes → WrittenType → Words
-instance_words name t = word KwInstance ++ name_words name ++ mark LeftParenthesis ++ type_words t ++ mark RightParenthesis
+instance_words name t =
+    word KwInstance ++ name_words name ++ mark LeftParenthesis ++ type_words t ++ mark RightParenthesis
 
 -- a declaration
 abbrev pub declaration_words : PlainDeclaration → Words
-declaration_words (constant at name t) = begun at (word KwConstant ++ name_words name ++ mark Colon ++ type_words t ++ mark Semicolon)
-declaration_words (opaque_type at name parameters universe) = begun at (word KwType ++ type_head_words name parameters universe ++ mark Semicolon)
+declaration_words (constant at name t) =
+    begun at (word KwConstant ++ name_words name ++ mark Colon ++ type_words t ++ mark Semicolon)
+declaration_words (opaque_type at name parameters universe) =
+    begun at (word KwType ++ type_head_words name parameters universe ++ mark Semicolon)
 declaration_words (record_type at name parameters universe fields) =
-    begun at (word KwRecord ++ type_head_words name parameters universe ++ word KwIs ++ fields_words fields ++ word KwEnd ++ mark Semicolon)
+    begun at (word KwRecord ++ type_head_words name parameters universe ++ word KwIs ++ fields_words fields
+        ++ word KwEnd ++ mark Semicolon)
 declaration_words (union_type at name parameters universe cases) =
-    begun at (word KwUnion ++ type_head_words name parameters universe ++ word KwIs ++ flat_map variant_words cases ++ word KwEnd ++ mark Semicolon)
-declaration_words (function at generics header) = begun at (generic_words generics ++ word KwFunction ++ header_words header ++ mark Semicolon)
+    begun at (word KwUnion ++ type_head_words name parameters universe ++ word KwIs
+        ++ flat_map variant_words cases ++ word KwEnd ++ mark Semicolon)
+declaration_words (function at generics header) =
+    begun at (generic_words generics ++ word KwFunction ++ header_words header ++ mark Semicolon)
 declaration_words (class at name parameter methods) =
-    begun at (word KwTypeclass ++ name_words name ++ mark LeftParenthesis ++ in_universe_words parameter ++ mark RightParenthesis ++ word KwIs ++ flat_map class_method_words methods ++ word KwEnd ++ mark Semicolon)
-declaration_words (instance at generics name t) = begun at (generic_words generics ++ instance_words name t ++ mark Semicolon)
+    begun at (word KwTypeclass ++ name_words name ++ mark LeftParenthesis ++ in_universe_words parameter
+        ++ mark RightParenthesis ++ word KwIs ++ flat_map class_method_words methods ++ word KwEnd
+        ++ mark Semicolon)
+declaration_words (instance at generics name t) =
+    begun at (generic_words generics ++ instance_words name t ++ mark Semicolon)
 declaration_words (constant_body at name t e) =
-    begun at (word KwConstant ++ name_words name ++ mark Colon ++ type_words t ++ mark Assign ++ expression_words e ++ mark Semicolon)
+    begun at (word KwConstant ++ name_words name ++ mark Colon ++ type_words t ++ mark Assign
+        ++ expression_words e ++ mark Semicolon)
 declaration_words (function_body at generics header body stop) =
-    begun at (generic_words generics ++ word KwFunction ++ header_words header ++ word KwIs ++ block_words body ++ end_at stop ++ mark Semicolon)
+    begun at (generic_words generics ++ word KwFunction ++ header_words header ++ word KwIs
+        ++ block_words body ++ end_at stop ++ mark Semicolon)
 declaration_words (instance_body at generics name t methods) =
-    begun at (generic_words generics ++ instance_words name t ++ word KwIs ++ flat_map method_words methods ++ word KwEnd ++ mark Semicolon)
+    begun at (generic_words generics ++ instance_words name t ++ word KwIs ++ flat_map method_words methods
+        ++ word KwEnd ++ mark Semicolon)
 
 -- an import
 abbrev pub import_words : Importing Bytes → Words
 import_words i =
-    begun i.at (word KwImport ++ dotted i.from ++ mark LeftParenthesis ++ listed (map renaming_words i.items) ++ mark RightParenthesis ++ mark Semicolon)
+    begun i.at (word KwImport ++ dotted i.from ++ mark LeftParenthesis ++ listed (map renaming_words i.items)
+        ++ mark RightParenthesis ++ mark Semicolon)
 
 -- `module` or `module body`
 abbrev pub part_words : Part → Words
@@ -312,13 +380,15 @@ part_words Body = word KwModule ++ word KwBody
 -- `pragma Unsafe_Module;`, if it is written
 abbrev pub pragma_words : Option Pos → Words
 pragma_words None = []
-pragma_words (Some at) = begun at (word KwPragma ++ record { what = Name (codes "Unsafe_Module"); places = [] } ∷ mark Semicolon)
+pragma_words (Some at) =
+    begun at (word KwPragma ++ record { what = Name (codes "Unsafe_Module"); places = [] } ∷ mark Semicolon)
 
 -- the words of a file
 abbrev pub words : PlainModule → Words
 words m =
     flat_map import_words m.imports
-    ++ begun m.at (part_words m.part ++ dotted m.name ++ word KwIs ++ pragma_words m.pragma ++ flat_map declaration_words m.declarations ++ word KwEnd ++ part_words m.part ++ mark Dot)
+    ++ begun m.at (part_words m.part ++ dotted m.name ++ word KwIs ++ pragma_words m.pragma
+        ++ flat_map declaration_words m.declarations ++ word KwEnd ++ part_words m.part ++ mark Dot)
 
 -- A token stands at each of these places.
 abbrev pub StandsAt : List Pos → Token → Type 0

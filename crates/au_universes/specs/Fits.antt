@@ -9,7 +9,9 @@ use Rattle.au_universes.specs.declared.forming.Fit.{Fit}
 use Rattle.au_universes.specs.declared.forming.Fit.TheVariants.{InKind, InUniverse}
 use Rattle.au_universes.specs.declared.universes.TypeUniverse.{TypeUniverse}
 use Rattle.au_universes.specs.Universes.{judged, universe_of, argument_universe, argument_universes}
-use Rattle.au_universes.specs.Forming.{wants_region, takes, fits_in_kind, fits, all_fit, is_formed, argument_formed, all_formed}
+use Rattle.au_universes.specs.Forming.{
+  wants_region, takes, fits_in_kind, fits, all_fit, is_formed, argument_formed, all_formed,
+}
 
 -- the test of arguments
 unfoldable pub asked : Fit → List (DeclAt × Head) → List Parameter → Universe → Argument → Bool
@@ -29,22 +31,27 @@ module _ (test : Universe → Argument → Bool) (rows : List (DeclAt × Head)) 
   -- what an argument comes to that fits and is formed
   unfoldable pub formed_argument : Universe → Argument → Option TypeUniverse
   formed_argument wanted one =
-      if test wanted one && argument_formed test rows params one then Some (judged (argument_universe rows params one)) else None
+      if test wanted one && argument_formed test rows params one then
+          Some (judged (argument_universe rows params one)) else None
 
   -- what arguments come to that fit and are formed
   unfoldable pub formed_arguments : List Parameter → Arguments → Option TypeUniverse
   formed_arguments expected args =
-      if all_fit test expected args && all_formed test rows params args then Some (judged (argument_universes rows params args)) else None
+      if all_fit test expected args && all_formed test rows params args then
+          Some (judged (argument_universes rows params args)) else None
 
 -- the same for the arguments that are asked for: of a type, of an argument and of arguments
 abbrev pub type_found : Fit → List (DeclAt × Head) → List Parameter → Meaning → Option TypeUniverse
 type_found fit rows params t = formed_universe (asked fit rows params) rows params t
 
-abbrev pub argument_found : Fit → List (DeclAt × Head) → List Parameter → Universe → Argument → Option TypeUniverse
+abbrev pub argument_found : Fit → List (DeclAt × Head) → List Parameter → Universe → Argument
+    → Option TypeUniverse
 argument_found fit rows params wanted one = formed_argument (asked fit rows params) rows params wanted one
 
-abbrev pub arguments_found : Fit → List (DeclAt × Head) → List Parameter → List Parameter → Arguments → Option TypeUniverse
-arguments_found fit rows params expected args = formed_arguments (asked fit rows params) rows params expected args
+abbrev pub arguments_found : Fit → List (DeclAt × Head) → List Parameter → List Parameter → Arguments
+    → Option TypeUniverse
+arguments_found fit rows params expected args =
+    formed_arguments (asked fit rows params) rows params expected args
 
 -- the universe of a type that was found, where a parameter takes it
 abbrev pub taken_by : Fit → Universe → Option TypeUniverse → Option TypeUniverse

@@ -3,7 +3,10 @@ use Rattle.std.specs.Prelude.{◌≡◌, ℕ, List, Bool, true, Some, IsTrue}
 use Rattle.au_types.specs.declared.headings.Head.{Head}
 use Rattle.au_types.specs.declared.parameters.Parameter.{Parameter}
 use Rattle.au_types.specs.declared.types.DeclAt.{DeclAt}
-use Rattle.au_types.specs.Types.{Meaning, Argument, Arguments, unit, truth, integer, text, parameter, named, reads, writes, of_type, in_region, no_arguments, arguments}
+use Rattle.au_types.specs.Types.{
+  Meaning, Argument, Arguments, unit, truth, integer, text, parameter, named, reads, writes, of_type,
+  in_region, no_arguments, arguments,
+}
 use Rattle.au_types.specs.Universes.{universe_in}
 use Rattle.au_universes.specs.declared.universes.TypeUniverse.{TypeUniverse}
 use Rattle.au_universes.specs.declared.universes.TypeUniverse.TheVariants.{Free, Linear, AnyUniverse}
@@ -42,4 +45,5 @@ module _ (value : List ℕ → Meaning) where
 -- universe that its type parameter may have
 abbrev pub ValuesFit : List (DeclAt × Head) → List Parameter → List Parameter → (List ℕ → Meaning) → Type 0
 ValuesFit rows params others value =
-    (name : List ℕ) (universe : TypeUniverse) → of_parameter (universe_in params name) ≡ Some universe → IsTrue (may_be universe (universe_of rows others (value name)))
+    (name : List ℕ) (universe : TypeUniverse) → of_parameter (universe_in params name) ≡ Some universe
+        → IsTrue (may_be universe (universe_of rows others (value name)))

@@ -1,5 +1,7 @@
 -- The universe of a type, over the rows of declared types and the type parameters in scope.
-use Rattle.std.specs.Prelude.{List, [], ◌∷◌, ◌++◌, Bool, true, false, Option, None, Some, if◌then◌else◌, unwrap_or}
+use Rattle.std.specs.Prelude.{
+  List, [], ◌∷◌, ◌++◌, Bool, true, false, Option, None, Some, if◌then◌else◌, unwrap_or,
+}
 use Rattle.std.specs.List.{list_all, list_any}
 use Rattle.au_syntax.specs.declared.declarations.Universe.{Universe}
 use Rattle.au_syntax.specs.declared.declarations.Universe.TheVariants as universes
@@ -7,7 +9,10 @@ use Rattle.au_types.specs.declared.headings.Head.{Head}
 use Rattle.au_types.specs.declared.parameters.Parameter.{Parameter}
 use Rattle.au_types.specs.declared.types.DeclAt.{DeclAt}
 use Rattle.au_types.specs.Rows.{head_of}
-use Rattle.au_types.specs.Types.{Meaning, Argument, Arguments, unit, truth, integer, text, parameter, named, reads, writes, of_type, in_region, no_arguments, arguments}
+use Rattle.au_types.specs.Types.{
+  Meaning, Argument, Arguments, unit, truth, integer, text, parameter, named, reads, writes, of_type,
+  in_region, no_arguments, arguments,
+}
 use Rattle.au_types.specs.Universes.{universe_in}
 use Rattle.au_universes.specs.declared.universes.TypeUniverse.{TypeUniverse}
 use Rattle.au_universes.specs.declared.universes.TypeUniverse.TheVariants.{Free, Linear, AnyUniverse}
@@ -25,7 +30,8 @@ is_linear universe = false
 -- what the universes of arguments come to: Linear if one of them is Linear, Free if all are Free, and
 -- otherwise `Type`
 unfoldable pub judged : List TypeUniverse → TypeUniverse
-judged args = if list_any is_linear args then Linear else (if list_all is_free args then Free else AnyUniverse)
+judged args =
+    if list_any is_linear args then Linear else (if list_all is_free args then Free else AnyUniverse)
 
 -- the universe of a declared type: its own where that is Free or Linear, and else what its arguments come to
 abbrev pub of_declaration : Universe → TypeUniverse → TypeUniverse

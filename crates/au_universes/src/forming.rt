@@ -39,7 +39,8 @@ pub fn is_well_formed(heads: &Heads, scope: &Params, of: &Ty) -> bool
     is_formed(heads, scope, Fit::InUniverse, of)
 }
 
-/// Whether a parameter of this universe takes an argument, over these rows and type parameters: `Free` takes a
+/// Whether a parameter of this universe takes an argument, over these rows and type parameters: `Free` takes
+/// a
 /// Free type, `Linear` a Linear one, `Type` any type, and a region parameter a region.
 ///
 /// It takes no memory.

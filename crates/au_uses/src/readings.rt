@@ -93,7 +93,8 @@ fn choices_of_branch<P: Phase>(branch: &Branch<P>) -> u64
 /// How many places of an arm read a number.
 #[cycle(choices)]
 fn choices_of_arm<P: Phase>(arm: &Arm<P>) -> u64
-    ensures { result ≡ counted (places_of_block (plain_statements P.name_bytes (block P.Phase arm.now.block))) }
+    ensures { result ≡ counted (places_of_block
+        (plain_statements P.name_bytes (block P.Phase arm.now.block))) }
 {
     choices(&arm.block)
 }

@@ -14,7 +14,10 @@
 -- Without the option the steps are 1,000,000,000. M is names with single dots between, of at most 64
 -- bytes together, and f is a name of at most 64 bytes. A name is a letter and then letters, digits and
 -- `_`, and no keyword.
-use Rattle.std.specs.Prelude.{◌≡◌, ◌≢◌, ℕ, ◌≤◌, Bool, true, false, not, nat_eq, nat_lt, ◌==◌, ◌&&◌, ◌||◌, ◌⊎◌, IsTrue, IsFalse, List, [], ◌∷◌, ◌++◌, length, Option, option_to_list, unwrap_or, flat_map, map, codes, decimal}
+use Rattle.std.specs.Prelude.{
+  ◌≡◌, ◌≢◌, ℕ, ◌≤◌, Bool, true, false, not, nat_eq, nat_lt, ◌==◌, ◌&&◌, ◌||◌, ◌⊎◌, IsTrue, IsFalse, List, [],
+  ◌∷◌, ◌++◌, length, Option, option_to_list, unwrap_or, flat_map, map, codes, decimal,
+}
 use Rattle.std.specs.List.{list_all, starts_with}
 use Rattle.std.specs.Str.{bytes_eq}
 use Rattle.std.specs.String.{string_bytes}
@@ -38,7 +41,9 @@ pub record Task : Type 0 where
 
 -- what a job asks for
 abbrev pub task_of : Job → Task
-task_of job = record { command = job.command; files = map string_bytes job.files.items; entry = job.entry; steps = job.steps; life = job.life }
+task_of job =
+    record { command = job.command; files = map string_bytes job.files.items; entry = job.entry; steps =
+    job.steps; life = job.life }
 
 -- the steps without the option
 abbrev pub usual_steps : ℕ
@@ -90,7 +95,8 @@ is_spelled_as_name (first ∷ rest) = is_letter first && list_all is_name_byte r
 -- whether bytes are the spelling of one of these keywords
 abbrev pub is_spelled_among : List Keyword → List ℕ → Bool
 is_spelled_among [] bytes = false
-is_spelled_among (keyword ∷ table) bytes = bytes_eq (keyword_spelling keyword) bytes || is_spelled_among table bytes
+is_spelled_among (keyword ∷ table) bytes =
+    bytes_eq (keyword_spelling keyword) bytes || is_spelled_among table bytes
 
 -- whether bytes are the spelling of a keyword
 unfoldable pub is_keyword : List ℕ → Bool
@@ -106,7 +112,8 @@ IsPart names word = (names ≢ []) × IsTrue (list_all is_file_name names) × (w
 
 -- Bytes are the name of a module: names with single dots between.
 abbrev pub IsModuleName : List ℕ → Type 0
-IsModuleName bytes = (names : List (List ℕ)) × (names ≢ []) × IsTrue (list_all is_name names) × (bytes ≡ joined 46 names)
+IsModuleName bytes =
+    (names : List (List ℕ)) × (names ≢ []) × IsTrue (list_all is_name names) × (bytes ≡ joined 46 names)
 
 -- There can be such an entry.
 abbrev pub IsEntry : Entry → Type 0
@@ -156,7 +163,8 @@ is_mark mark = true
 
 -- The words are the piece, where no mark stands before.
 abbrev pub Spells : Piece → List (List ℕ) → Type 0
-Spells (part names) words = (word : List ℕ) × (words ≡ word ∷ []) × IsPart names word × IsFalse (is_marked word)
+Spells (part names) words =
+    (word : List ℕ) × (words ≡ word ∷ []) × IsPart names word × IsFalse (is_marked word)
 Spells (entry value) words = IsEntry value × Gives (codes "--entry") (entry_spelling value) words
 Spells (steps value) words = AreSteps value × Gives (codes "--steps") (decimal value) words
 Spells life words = words ≡ codes "--life" ∷ []
@@ -244,7 +252,8 @@ Says pieces said =
 -- what a command and what is said behind it ask for
 abbrev pub task_said : Command → Said → Task
 task_said command said =
-    record { command = command; files = said.files; entry = said.entry; steps = unwrap_or said.steps usual_steps; life = said.life }
+    record { command = command; files = said.files; entry = said.entry; steps =
+        unwrap_or said.steps usual_steps; life = said.life }
 
 -- The words behind a command say this: they are pieces that the command takes, a part among them.
 pub record AreSaid (command : Command) (words : List (List ℕ)) (said : Said) : Type 0 where

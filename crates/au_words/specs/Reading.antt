@@ -1,6 +1,9 @@
 -- What stands in the words of a command line, as functions of them: the file names of a part, an entry, and a
 -- number of steps.
-use Rattle.std.specs.Prelude.{◌≡◌, ℕ, ◌+◌, Bool, not, nat_eq, nat_le, ◌==◌, ◌&&◌, List, [], ◌∷◌, ◌++◌, length, map, take, drop, Option, Some, None, Result, Ok, Err, Vec, String, if◌then◌else◌, codes, option_and_then, option_map}
+use Rattle.std.specs.Prelude.{
+  ◌≡◌, ℕ, ◌+◌, Bool, not, nat_eq, nat_le, ◌==◌, ◌&&◌, List, [], ◌∷◌, ◌++◌, length, map, take, drop, Option,
+  Some, None, Result, Ok, Err, Vec, String, if◌then◌else◌, codes, option_and_then, option_map,
+}
 use Rattle.std.specs.List.{list_all, list_any, prefix_len, slice_split, starts_with}
 use Rattle.std.specs.Global.{Global}
 use Rattle.std.specs.Str.{bytes_eq}
@@ -45,7 +48,8 @@ part_at word = if list_any is_empty (between 44 word) then None else Some (betwe
 -- the file names of parts, in order
 abbrev pub files_at : List (List ℕ) → Option (List (List ℕ))
 files_at [] = Some []
-files_at (word ∷ words) = option_and_then (λ names. option_map (λ others. names ++ others) (files_at words)) (part_at word)
+files_at (word ∷ words) =
+    option_and_then (λ names. option_map (λ others. names ++ others) (files_at words)) (part_at word)
 
 -- how many bytes stand before the first colon
 abbrev pub home_size : List ℕ → ℕ
@@ -71,17 +75,20 @@ is_function bytes = nat_le (length bytes) most_name_bytes && is_name bytes
 unfoldable pub entry_at : List ℕ → Option Entry
 entry_at bytes =
     if home_size bytes == length bytes then None
-    else (if is_home (home_at bytes) && is_function (function_at bytes) then Some (record { «module» = home_at bytes; function = function_at bytes })
+    else (if is_home (home_at bytes) && is_function (function_at bytes) then
+        Some (record { «module» = home_at bytes; function = function_at bytes })
     else None)
 
 -- whether bytes are one to thirteen digits, the first of them no zero
 abbrev pub are_digits : List ℕ → Bool
-are_digits bytes = nat_le (length bytes) 13 && list_all is_digit bytes && not (starts_with nat_eq bytes (codes "0"))
+are_digits bytes =
+    nat_le (length bytes) 13 && list_all is_digit bytes && not (starts_with nat_eq bytes (codes "0"))
 
 -- the number of steps that bytes spell
 unfoldable pub steps_at : List ℕ → Option ℕ
 steps_at bytes =
-    if are_digits bytes && nat_le 1 (digits_value 10 bytes) && nat_le (digits_value 10 bytes) most_steps then Some (digits_value 10 bytes)
+    if are_digits bytes && nat_le 1 (digits_value 10 bytes) && nat_le (digits_value 10 bytes) most_steps then
+        Some (digits_value 10 bytes)
     else None
 
 -- what is read of a value that may be there: nothing where there is none

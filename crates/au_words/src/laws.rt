@@ -7,7 +7,8 @@ ghost use Rattle.au_words.specs.Jobs.{Task, IsJob, is_name};
 
 /// Words ask for one job at most.
 pub fn one_job()
-    ensures { (words : List (List ℕ)) (task other : Task) → IsJob words task → IsJob words other → task ≡ other }
+    ensures { (words : List (List ℕ)) (task other : Task) → IsJob words task → IsJob words other
+        → task ≡ other }
 {}
 
 /// The names in words are the names of the language.

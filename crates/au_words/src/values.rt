@@ -76,7 +76,8 @@ fn task(
     })
 }
 
-/// Whether the option `--life` is found. (`get_flag` says nothing of a text that is neither `true` nor `false`.)
+/// Whether the option `--life` is found. (`get_flag` says nothing of a text that is neither `true` nor
+/// `false`.)
 fn has_life(found: &ArgMatches) -> bool
     ensures { (one_of (codes "life") (rows_of (found_of found.now)) ≡ Some (codes "true")) ↔ IsTrue result }
 {
@@ -85,7 +86,8 @@ fn has_life(found: &ArgMatches) -> bool
 
 /// The job of a command, from what was found behind it.
 pub fn job(alloc: Global, command: Command, found: &ArgMatches) -> Result<Job, WordsFault>
-    ensures { (what : given.Given) → given.Shows (rows_of (found_of found.now)) what → read.GivesTask command result (read.said_at what) }
+    ensures { (what : given.Given) → given.Shows (rows_of (found_of found.now)) what
+        → read.GivesTask command result (read.said_at what) }
 {
     let Some(parts) = found.get_strs("part") else {
         return Err(WordsFault::NoJob);

@@ -36,7 +36,8 @@ fn command(word: &str) -> Option<Command>
 /// What `clap` finds in words.
 fn found_in<'a>(alloc: Global, words: &'a [String]) -> Result<ArgMatches<'a>, WordsFault>
     ensures passes { IfOk result (λ found. fault_of program (map string_bytes words.entry.now) ≡ []) }
-    ensures rows { IfOk result (λ found. subcommand_rows_of found ≡ subcommand_of program (map string_bytes words.entry.now)) }
+    ensures rows { IfOk result (λ found. subcommand_rows_of found
+        ≡ subcommand_of program (map string_bytes words.entry.now)) }
     ensures fails { result ≡ Err WordsFault.NoJob → fault_of program (map string_bytes words.entry.now) ≢ [] }
 {
     let command = program(alloc)?;
@@ -46,7 +47,8 @@ fn found_in<'a>(alloc: Global, words: &'a [String]) -> Result<ArgMatches<'a>, Wo
 
 /// The job of the command that a word is, from what was found behind it.
 fn job_of(alloc: Global, word: &str, behind: &ArgMatches) -> Result<Job, WordsFault>
-    ensures { (asked : Command) (what : given.Given) → word.now ≡ command_word asked → given.Shows (rows_of (found_of behind.now)) what
+    ensures { (asked : Command) (what : given.Given) → word.now ≡ command_word asked
+        → given.Shows (rows_of (found_of behind.now)) what
         → read.GivesTask asked result (read.said_at what) }
 {
     match command(word) {
