@@ -1,8 +1,6 @@
 -- What the traits of the outside say: counts of faults and misses, files, bytes left, bytes written.
-use Rattle.std.specs.Prelude.{
-  ◌≡◌, ◌≢◌, ℕ, ◌+◌, ◌≤◌, ◌<◌, min, Bool, true, false, MatchBool, List, [], ◌∷◌, ◌++◌, length, take, Option,
-  Some, None, IfSome,
-}
+use Rattle.std.specs.Prelude.{◌≡◌, ◌≢◌, ℕ, ◌+◌, ◌≤◌, ◌<◌, min, Bool, true, false, MatchBool, List, [], ◌∷◌}
+use Rattle.std.specs.Prelude.{◌++◌, length, take, Option, Some, None, IfSome}
 use Rattle.std.specs.Option.{option_map}
 use Rattle.au_base.specs.Limits.{most_file_bytes}
 use Rattle.au_base.specs.declared.outside.Fetch.{Fetch}

@@ -1,9 +1,9 @@
 -- The numbers of the statuses.
 use Rattle.std.specs.Prelude.{ℕ}
 use Rattle.au_base.specs.declared.statuses.Status.{Status}
-use Rattle.au_base.specs.declared.statuses.Status.TheVariants.{
-  Success, Failure, Refused, Abort, Steps, ReadFault, WriteFault, Memory, Limit, Missing, Words,
-}
+use Rattle.au_base.specs.declared.statuses.Status.TheVariants.{Success, Failure, Refused, Abort, Steps}
+use Rattle.au_base.specs.declared.statuses.Status.TheVariants.{ReadFault, WriteFault, Memory, Limit, Missing}
+use Rattle.au_base.specs.declared.statuses.Status.TheVariants.{Words}
 
 -- the number with which the program ends
 abbrev pub status_number : Status → ℕ

@@ -1,8 +1,6 @@
 -- What the objects in memory hold, seen without their memory.
-use Rattle.std.specs.Prelude.{
-  ℕ, List, [], ◌∷◌, ◌-◌, Bool, ◌==◌, ◌||◌, not, Vec, String, Option, Some, None, length, if◌then◌else◌,
-  nat_lt, min,
-}
+use Rattle.std.specs.Prelude.{ℕ, List, [], ◌∷◌, ◌-◌, Bool, ◌==◌, ◌||◌, not, Vec, String, Option, Some, None}
+use Rattle.std.specs.Prelude.{length, if◌then◌else◌, nat_lt, min}
 use Rattle.std.specs.Global.{Global}
 use Rattle.std.specs.List.{list_any}
 use Rattle.std.specs.String.{string_bytes}

@@ -3,10 +3,8 @@
 //! it can tell: an object in memory tells it, and one of the operating system doesn't.
 
 ghost use Rattle.std.specs.Prelude.{◌≡◌, ℕ, List, take, vec_len, Option, IfSome};
-ghost use Rattle.au_base.specs.Outside.{
-  Files, Counts, is_fault, is_miss, FillsRoom, TellsFile, is_failed_next, TakesByte, is_failed_put, TakesPart,
-  taken, Adds,
-};
+ghost use Rattle.au_base.specs.Outside.{Files, Counts, is_fault, is_miss, FillsRoom, TellsFile};
+ghost use Rattle.au_base.specs.Outside.{is_failed_next, TakesByte, is_failed_put, TakesPart, taken, Adds};
 
 /// What `fetch` answers.
 #[derive(Clone, Copy, Debug, PartialEq, Eq)]

@@ -1,8 +1,7 @@
 //! Lists of items.
 
-ghost use Rattle.std.specs.Prelude.{
-  ◌≡◌, ◌<◌, ◌++◌, ◌∷◌, [], length, slice_get, OnOk, OnErr, IsTrue, Some, ◌↔◌,
-};
+ghost use Rattle.std.specs.Prelude.{◌≡◌, ◌<◌, ◌++◌, ◌∷◌, [], length, slice_get, OnOk, OnErr, IsTrue, Some};
+ghost use Rattle.std.specs.Prelude.{◌↔◌};
 
 use crate::faults::Memory;
 use std::alloc::Global;

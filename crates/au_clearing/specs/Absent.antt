@@ -1,14 +1,12 @@
 -- Parts that don't mention a name.
 use Rattle.std.specs.Prelude.{◌≡◌, Bool, true, false, not, ◌&&◌}
 use Rattle.std.specs.Str.{bytes_eq}
-use Rattle.au_syntax.specs.Statements.{
-  skip, declare, destructure, assign, assign_through, conditional, conditional_else, case_of, while_loop,
-  for_loop, borrow_in, borrow_typed, discard, return_of, no_statements, statements, no_branches, branches,
-  no_arms, arms,
-}
-use Rattle.au_syntax.specs.Plain.{
-  Bytes, PlainExpression, PlainStatement, PlainStatements, PlainBranches, PlainArms,
-}
+use Rattle.au_syntax.specs.Statements.{skip, declare, destructure, assign, assign_through, conditional}
+use Rattle.au_syntax.specs.Statements.{conditional_else, case_of, while_loop, for_loop, borrow_in}
+use Rattle.au_syntax.specs.Statements.{borrow_typed, discard, return_of, no_statements, statements}
+use Rattle.au_syntax.specs.Statements.{no_branches, branches, no_arms, arms}
+use Rattle.au_syntax.specs.Plain.{Bytes, PlainExpression, PlainStatement, PlainStatements, PlainBranches}
+use Rattle.au_syntax.specs.Plain.{PlainArms}
 use Rattle.au_lives.specs.Mentions.{counts_in}
 use Rattle.au_lives.specs.Lives.{is_untouched}
 use Rattle.au_clearing.specs.Touches.{Untouched}

@@ -1,14 +1,12 @@
 -- How a part of a body deals with a variable, on all its paths together.
-use Rattle.std.specs.Prelude.{
-  ℕ, zero, suc, ◌+◌, ◌==◌, Bool, true, false, not, ◌||◌, ◌&&◌, nat_lt, [], ◌∷◌, if◌then◌else◌,
-}
+use Rattle.std.specs.Prelude.{ℕ, zero, suc, ◌+◌, ◌==◌, Bool, true, false, not, ◌||◌, ◌&&◌, nat_lt, [], ◌∷◌}
+use Rattle.std.specs.Prelude.{if◌then◌else◌}
 use Rattle.std.specs.Str.{bytes_eq}
 use Rattle.au_syntax.specs.declared.types.Access.{Access}
-use Rattle.au_syntax.specs.Statements.{
-  skip, declare, destructure, assign, assign_through, conditional, conditional_else, case_of, while_loop,
-  for_loop, borrow_in, borrow_typed, discard, return_of, no_statements, statements, no_branches, branches,
-  no_arms, arms,
-}
+use Rattle.au_syntax.specs.Statements.{skip, declare, destructure, assign, assign_through, conditional}
+use Rattle.au_syntax.specs.Statements.{conditional_else, case_of, while_loop, for_loop, borrow_in}
+use Rattle.au_syntax.specs.Statements.{borrow_typed, discard, return_of, no_statements, statements}
+use Rattle.au_syntax.specs.Statements.{no_branches, branches, no_arms, arms}
 use Rattle.au_syntax.specs.Plain.{Bytes, PlainStatement, PlainStatements, PlainBranches, PlainArms}
 use Rattle.au_lives.specs.declared.lives.Sort.{Sort}
 use Rattle.au_lives.specs.declared.lives.Sort.TheVariants as sorts
@@ -19,10 +17,8 @@ use Rattle.au_uses.specs.Choices.{counted}
 pub use Rattle.au_clearing.specs.declared.dealings.Dealing.{Dealing}
 use Rattle.au_clearing.specs.declared.dealings.Dealings.{Dealings}
 use Rattle.au_clearing.specs.declared.dealings.Life.{Life}
-use Rattle.au_clearing.specs.Touches.{
-  Touch, Untouched, Quiet, Written, Broken, worse, kept, is_consumed, behind_spent, lent, touch_at,
-  touched_at,
-}
+use Rattle.au_clearing.specs.Touches.{Touch, Untouched, Quiet, Written, Broken, worse, kept, is_consumed}
+use Rattle.au_clearing.specs.Touches.{behind_spent, lent, touch_at, touched_at}
 
 -- A dealing says what the steps do at most; whether a path that finds the variable alive may go on with it
 -- alive, or with it consumed; and how many of the returns are reached by no path with it alive, as far as can

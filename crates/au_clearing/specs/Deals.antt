@@ -1,7 +1,6 @@
 -- How a part of a body deals with all variables.
-use Rattle.std.specs.Prelude.{
-  ◌≡◌, ℕ, Bool, true, false, List, [], ◌∷◌, ◌++◌, map, reverse, Option, None, Some,
-}
+use Rattle.std.specs.Prelude.{◌≡◌, ℕ, Bool, true, false, List, [], ◌∷◌, ◌++◌, map, reverse, Option, None}
+use Rattle.std.specs.Prelude.{Some}
 use Rattle.au_syntax.specs.Plain.{Bytes, PlainStatement, PlainStatements}
 use Rattle.au_lives.specs.Lives.{Hold, unlent, read_lent, write_lent, hidden}
 use Rattle.au_lives.specs.Scopes.{Scope}
@@ -15,9 +14,8 @@ use Rattle.au_clearing.specs.declared.deals.Deals.{Deals}
 use Rattle.au_clearing.specs.declared.deals.Way.{Way}
 use Rattle.au_clearing.specs.declared.deals.Way.TheVariants as ways
 use Rattle.au_clearing.specs.Touches.{both, kept}
-use Rattle.au_clearing.specs.Dealings.{
-  once, chain, fork, turns, deal, deal_block, returns_in, returns_in_block, by_type, life_of,
-}
+use Rattle.au_clearing.specs.Dealings.{once, chain, fork, turns, deal, deal_block, returns_in}
+use Rattle.au_clearing.specs.Dealings.{returns_in_block, by_type, life_of}
 use Rattle.au_clearing.specs.Tables.{find}
 
 -- what is known of a name, or else how the part deals with a name that it doesn't mention

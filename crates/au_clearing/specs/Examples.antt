@@ -5,9 +5,8 @@ use Rattle.au_syntax.specs.Examples.{here, spot, x}
 use Rattle.au_syntax.specs.Expressions.{dereference}
 use Rattle.au_syntax.specs.Statements.{conditional_else, while_loop, return_of, no_branches, branches}
 use Rattle.au_syntax.specs.Plain.{PlainStatements}
-use Rattle.au_lives.specs.Examples.{
-  f_of, yes, does, block_of, three_ways, some_turns, lent_and_left, named_again,
-}
+use Rattle.au_lives.specs.Examples.{f_of, yes, does, block_of, three_ways, some_turns, lent_and_left}
+use Rattle.au_lives.specs.Examples.{named_again}
 
 -- if true then return f(x); else f(x); end if; return true;
 abbrev pub early_return : PlainStatements

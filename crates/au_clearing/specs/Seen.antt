@@ -12,15 +12,12 @@ use Rattle.au_syntax.specs.declared.statements.Branch.{Branch}
 use Rattle.au_syntax.specs.declared.statements.Arm.{Arm}
 use Rattle.au_syntax.specs.Names.{Placed}
 use Rattle.au_syntax.specs.Types.{Bound, Labelled}
-use Rattle.au_syntax.specs.Views.{
-  placed, labelled, bound, expression, expression_all, argument_all, statement, statement_all, block,
-  branch_all, arm_all,
-}
-use Rattle.au_syntax.specs.Plain.{
-  Bytes, PlainExpression, PlainExpressions, PlainArguments, PlainStatement, PlainStatements, PlainBranches,
-  PlainArms, plain_name, plain_labelled, plain_bound, plain_expression, plain_expressions, plain_arguments,
-  plain_statement, plain_statements, plain_branches, plain_arms,
-}
+use Rattle.au_syntax.specs.Views.{placed, labelled, bound, expression, expression_all, argument_all}
+use Rattle.au_syntax.specs.Views.{statement, statement_all, block, branch_all, arm_all}
+use Rattle.au_syntax.specs.Plain.{Bytes, PlainExpression, PlainExpressions, PlainArguments, PlainStatement}
+use Rattle.au_syntax.specs.Plain.{PlainStatements, PlainBranches, PlainArms, plain_name, plain_labelled}
+use Rattle.au_syntax.specs.Plain.{plain_bound, plain_expression, plain_expressions, plain_arguments}
+use Rattle.au_syntax.specs.Plain.{plain_statement, plain_statements, plain_branches, plain_arms}
 
 module _ {X N T C : Type 0} (g : Ghosts X N T C) where
   abbrev pub seen_name : Ident X N T C → Placed Bytes

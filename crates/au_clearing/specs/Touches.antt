@@ -6,17 +6,15 @@ use Rattle.au_syntax.specs.declared.expressions.BorrowMode.TheVariants as modes
 use Rattle.au_syntax.specs.declared.types.Access.{Access}
 use Rattle.au_syntax.specs.declared.types.Access.TheVariants as access
 use Rattle.au_syntax.specs.Names.{Placed}
-use Rattle.au_syntax.specs.Expressions.{
-  number, negative, text, truth, nil, path, arrow, call, named_call, parenthesized, dereference, borrow,
-  borrow_part, binary, negation, typed, choice, no_expressions, expressions, no_arguments, arguments,
-}
+use Rattle.au_syntax.specs.Expressions.{number, negative, text, truth, nil, path, arrow, call, named_call}
+use Rattle.au_syntax.specs.Expressions.{parenthesized, dereference, borrow, borrow_part, binary, negation}
+use Rattle.au_syntax.specs.Expressions.{typed, choice, no_expressions, expressions, no_arguments, arguments}
 use Rattle.au_syntax.specs.Plain.{Bytes, PlainExpression, PlainExpressions, PlainArguments}
 use Rattle.au_lives.specs.Mentions.{Counts, counts, unmentioned, is_variable, may_skip}
 use Rattle.au_lives.specs.Lives.{Hold, unlent, read_lent, write_lent, hidden}
 pub use Rattle.au_clearing.specs.declared.touches.Touch.{Touch}
-pub use Rattle.au_clearing.specs.declared.touches.Touch.TheVariants.{
-  Untouched, Quiet, Written, Consumed, Broken,
-}
+pub use Rattle.au_clearing.specs.declared.touches.Touch.TheVariants.{Untouched, Quiet, Written, Consumed}
+pub use Rattle.au_clearing.specs.declared.touches.Touch.TheVariants.{Broken}
 
 -- The variable is mentioned so in a step that touches it so: not at all; neither consumed nor write-borrowed;
 -- write-borrowed once and no more; consumed once and no more; or anyhow.

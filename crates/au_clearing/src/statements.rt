@@ -4,20 +4,16 @@ ghost use Rattle.std.specs.Prelude.{◌≡◌, ◌++◌, ◌∷◌, [], Bool, If
 ghost use Rattle.au_syntax.specs.Plain.{Bytes, PlainStatements};
 ghost use Rattle.au_lives.specs.Lives.{Hold, held_from};
 ghost use Rattle.au_lives.specs.Paths.{access_of, declared, declared_by, lent, bound_names};
-ghost use Rattle.au_lives.specs.Scopes.{
-  scope, scopes, scopes_after, scopes_inside, scopes_of_branches, scopes_of_arms, bound_over,
-};
+ghost use Rattle.au_lives.specs.Scopes.{scope, scopes, scopes_after, scopes_inside, scopes_of_branches};
+ghost use Rattle.au_lives.specs.Scopes.{scopes_of_arms, bound_over};
 ghost use Rattle.au_syntax.specs.Statements.{statements};
 ghost use Rattle.au_clearing.specs.Touches.{touched_at};
 ghost use Rattle.au_clearing.specs.Touches as touches;
 ghost use Rattle.au_clearing.specs.Dealings as spec;
-ghost use Rattle.au_clearing.specs.Dealings.{
-  sum, cased, deal_block, deal_branches, deal_arms, lend_named, returns_in_block, returns_in_branches,
-  returns_in_arms,
-};
-ghost use Rattle.au_clearing.specs.Seen.{
-  seen_name, seen_expression, seen_binds, seen_statement, seen_block, seen_branches, seen_arms,
-};
+ghost use Rattle.au_clearing.specs.Dealings.{sum, cased, deal_block, deal_branches, deal_arms, lend_named};
+ghost use Rattle.au_clearing.specs.Dealings.{returns_in_block, returns_in_branches, returns_in_arms};
+ghost use Rattle.au_clearing.specs.Seen.{seen_name, seen_expression, seen_binds, seen_statement, seen_block};
+ghost use Rattle.au_clearing.specs.Seen.{seen_branches, seen_arms};
 ghost use Rattle.au_clearing.specs.Deals.{kept_if, seen_at, Sums, SumsBlock, SumsStatement, Piles};
 
 use crate::combining::{chained, forked, met, turned};

@@ -1,8 +1,7 @@
 //! Tables by name.
 
-ghost use Rattle.std.specs.Prelude.{
-  ◌≡◌, ◌+◌, [], length, None, Some, is_some, IfSome, IfNone, OnOk, if◌then◌else◌,
-};
+ghost use Rattle.std.specs.Prelude.{◌≡◌, ◌+◌, [], length, None, Some, is_some, IfSome, IfNone, OnOk};
+ghost use Rattle.std.specs.Prelude.{if◌then◌else◌};
 ghost use Rattle.std.specs.Option.{option_copied};
 ghost use Rattle.au_clearing.specs.Tables.{find, Changes};
 

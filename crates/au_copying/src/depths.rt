@@ -3,13 +3,10 @@
 //! A whole file is far within what can be counted; a deeper tree is counted up to 2^32 - 1.
 
 ghost use Rattle.std.specs.Prelude.{◌≡◌, ◌+◌, max, map};
-ghost use Rattle.au_syntax.specs.Views.{
-  expression, statement, block, branch_all, arm_all, method_body, declaration, module_tree,
-};
-ghost use Rattle.au_syntax.specs.Plain.{
-  plain_expression, plain_statement, plain_statements, plain_branches, plain_arms, plain_method,
-  plain_declaration, plain_module,
-};
+ghost use Rattle.au_syntax.specs.Views.{expression, statement, block, branch_all, arm_all, method_body};
+ghost use Rattle.au_syntax.specs.Views.{declaration, module_tree};
+ghost use Rattle.au_syntax.specs.Plain.{plain_expression, plain_statement, plain_statements, plain_branches};
+ghost use Rattle.au_syntax.specs.Plain.{plain_arms, plain_method, plain_declaration, plain_module};
 ghost use Rattle.au_syntax.specs.Depths as spec;
 ghost use Rattle.au_syntax.specs.Depths.{counted, greatest};
 

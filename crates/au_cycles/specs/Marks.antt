@@ -1,7 +1,6 @@
 -- Marks on the nodes of a graph, and what a search makes of them.
-use Rattle.std.specs.Prelude.{
-  ◌≡◌, ◌+◌, ◌⊎◌, ℕ, Bool, true, not, List, length, slice_index_or, count_by, Contains,
-}
+use Rattle.std.specs.Prelude.{◌≡◌, ◌+◌, ◌⊎◌, ℕ, Bool, true, not, List, length, slice_index_or, count_by}
+use Rattle.std.specs.Prelude.{Contains}
 use Rattle.au_cycles.specs.Cycles.{Names, IsOnCycle}
 
 -- whether a node is marked; a number that no node has counts as marked

@@ -1,22 +1,18 @@
 -- The shipped calls: one equation each, by the call, the type of what is born, if one is given, and the
 -- arguments in declared order.
-use Rattle.std.specs.Prelude.{
-  ℕ, ◌-◌, Bool, true, false, List, [], ◌∷◌, ◌++◌, length, take, slice_get, slice_set, Option, Some, None, ℤ,
-  pos, negsuc, codes,
-}
+use Rattle.std.specs.Prelude.{ℕ, ◌-◌, Bool, true, false, List, [], ◌∷◌, ◌++◌, length, take, slice_get}
+use Rattle.std.specs.Prelude.{slice_set, Option, Some, None, ℤ, pos, negsuc, codes}
 use Rattle.au_base.specs.declared.kinds.IntKind.TheVariants.{Nat8, Index}
 use Rattle.au_shipped.specs.declared.prims.ShippedCall.{ShippedCall}
 use Rattle.au_shipped.specs.declared.prims.ShippedCall.TheVariants as prim
-use Rattle.au_effects.specs.Values.{
-  Value, Place, unit, number, reference, box, buffer, terminal, root, content_of, optional,
-}
+use Rattle.au_effects.specs.Values.{Value, Place, unit, number, reference, box, buffer, terminal, root}
+use Rattle.au_effects.specs.Values.{content_of, optional}
 use Rattle.au_effects.specs.Parts.{along}
 use Rattle.au_effects.specs.Worlds.{World, Held, nothing, content, elements, used, tells, bears, ends, spends}
 use Rattle.au_effects.specs.Places.{at, exchanged, content_in}
 use Rattle.au_effects.specs.Numbers.{number_in, number_of, truth_in, text_in, number_bytes, truth_bytes}
-use Rattle.au_effects.specs.Answers.{
-  called, not_empty, empty, out_of_range, Answer, gives, writes, waits, aborts, none,
-}
+use Rattle.au_effects.specs.Answers.{called, not_empty, empty, out_of_range, Answer, gives, writes, waits}
+use Rattle.au_effects.specs.Answers.{aborts, none}
 
 -- how many arguments a shipped call has
 abbrev pub arity : ShippedCall → ℕ

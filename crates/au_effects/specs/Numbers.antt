@@ -1,12 +1,10 @@
 -- Operations on values, by the definitions of the integer kinds.
-use Rattle.std.specs.Prelude.{
-  ℕ, Bool, true, false, not, ◌==◌, if◌then◌else◌, List, Option, Some, None, ℤ, codes,
-}
+use Rattle.std.specs.Prelude.{ℕ, Bool, true, false, not, ◌==◌, if◌then◌else◌, List, Option, Some, None, ℤ}
+use Rattle.std.specs.Prelude.{codes}
 use Rattle.std.specs.Fmt.{signed_decimal}
 use Rattle.au_base.specs.declared.kinds.IntKind.{IntKind}
-use Rattle.au_base.specs.declared.kinds.IntKind.TheVariants.{
-  Nat8, Nat16, Nat32, Nat64, Int8, Int16, Int32, Int64, Index,
-}
+use Rattle.au_base.specs.declared.kinds.IntKind.TheVariants.{Nat8, Nat16, Nat32, Nat64, Int8, Int16, Int32}
+use Rattle.au_base.specs.declared.kinds.IntKind.TheVariants.{Int64, Index}
 use Rattle.au_ints.specs.declared.operations.IntOp.{IntOp}
 use Rattle.au_ints.specs.declared.operations.WrapOp.{WrapOp}
 use Rattle.au_ints.specs.declared.operations.Order.{Order}

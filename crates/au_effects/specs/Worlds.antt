@@ -1,7 +1,6 @@
 -- What actions change: the names of frames, what boxes and buffers hold, and what is told of it all.
-use Rattle.std.specs.Prelude.{
-  ℕ, ◌+◌, Bool, if◌then◌else◌, List, [], ◌∷◌, ◌++◌, length, slice_set, Option, Some, None,
-}
+use Rattle.std.specs.Prelude.{ℕ, ◌+◌, Bool, if◌then◌else◌, List, [], ◌∷◌, ◌++◌, length, slice_set, Option}
+use Rattle.std.specs.Prelude.{Some, None}
 use Rattle.au_effects.specs.Values.{Value}
 
 -- What is told of a run, in the order in which it happens. A birth has its number, its type, which is a B,

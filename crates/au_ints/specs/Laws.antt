@@ -5,9 +5,8 @@ use Rattle.std.specs.Int.{w128}
 use Rattle.std.specs.Str.Parse.{ParsesSigned}
 use Rattle.std.specs.declared.num.ParseIntError.{ParseIntError}
 use Rattle.au_base.specs.declared.kinds.IntKind.{IntKind}
-use Rattle.au_base.specs.declared.kinds.IntKind.TheVariants.{
-  Nat8, Nat16, Nat32, Nat64, Int8, Int16, Int32, Int64, Index,
-}
+use Rattle.au_base.specs.declared.kinds.IntKind.TheVariants.{Nat8, Nat16, Nat32, Nat64, Int8, Int16, Int32}
+use Rattle.au_base.specs.declared.kinds.IntKind.TheVariants.{Int64, Index}
 use Rattle.au_ints.specs.declared.operations.IntOp.{IntOp}
 use Rattle.au_ints.specs.declared.operations.IntOp.TheVariants as int_op
 use Rattle.au_ints.specs.declared.operations.Order.{Order}

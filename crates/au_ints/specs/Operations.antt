@@ -1,8 +1,6 @@
 -- What each operation gives: the exact result, and what becomes of a result outside the range.
-use Rattle.std.specs.Prelude.{
-  ◌≡◌, ◌≢◌, ℕ, ◌^◌, ◌<◌, ◌≤◌, Bool, true, not, ◌&&◌, ◌==◌, ⊤, if◌then◌else◌, Option, Some, None, ℤ, pos, ◌+ℤ◌,
-  ◌-ℤ◌, ◌*ℤ◌, int_div, unsigned_abs,
-}
+use Rattle.std.specs.Prelude.{◌≡◌, ◌≢◌, ℕ, ◌^◌, ◌<◌, ◌≤◌, Bool, true, not, ◌&&◌, ◌==◌, ⊤, if◌then◌else◌}
+use Rattle.std.specs.Prelude.{Option, Some, None, ℤ, pos, ◌+ℤ◌, ◌-ℤ◌, ◌*ℤ◌, int_div, unsigned_abs}
 use Rattle.std.specs.Int.{int_rem_euclid}
 use Rattle.au_base.specs.declared.kinds.IntKind.{IntKind}
 use Rattle.au_ints.specs.declared.operations.IntOp.{IntOp}

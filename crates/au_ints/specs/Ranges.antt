@@ -1,9 +1,8 @@
 -- The kinds of integers, and the range of each.
 use Rattle.std.specs.Prelude.{ℕ, ◌-◌, ◌*◌, ◌^◌, ◌≤◌, Bool, ◌&&◌, ℤ, pos, neg_ℤ, ◌≤ℤ◌, int_le}
 use Rattle.au_base.specs.declared.kinds.IntKind.{IntKind}
-use Rattle.au_base.specs.declared.kinds.IntKind.TheVariants.{
-  Nat8, Nat16, Nat32, Nat64, Int8, Int16, Int32, Int64, Index,
-}
+use Rattle.au_base.specs.declared.kinds.IntKind.TheVariants.{Nat8, Nat16, Nat32, Nat64, Int8, Int16, Int32}
+use Rattle.au_base.specs.declared.kinds.IntKind.TheVariants.{Int64, Index}
 
 -- how many bits a kind has
 abbrev pub bits_of : IntKind → ℕ

@@ -1,9 +1,7 @@
 //! The laws of the definitions, each as the contract of a call that does nothing.
 
-ghost use Rattle.au_ints.specs.Laws.{
-  BoundsAreNumerals, DivisionGoesTowardsZero, TrappedIsExact, WrappedIsUnique, ConvertedIsSame, TruthIsExact,
-  DecimalsReadBack,
-};
+ghost use Rattle.au_ints.specs.Laws.{BoundsAreNumerals, DivisionGoesTowardsZero, TrappedIsExact};
+ghost use Rattle.au_ints.specs.Laws.{WrappedIsUnique, ConvertedIsSame, TruthIsExact, DecimalsReadBack};
 
 /// The least and the greatest number of each kind are the numerals that one expects.
 pub fn bounds_are_numerals()

@@ -1,7 +1,6 @@
 -- How a file is cut into tokens.
-use Rattle.std.specs.Prelude.{
-  ◌≡◌, ◌≢◌, ℕ, ◌≤◌, nat_eq, IsTrue, List, [], ◌∷◌, ◌++◌, length, drop, Option, Some, None,
-}
+use Rattle.std.specs.Prelude.{◌≡◌, ◌≢◌, ℕ, ◌≤◌, nat_eq, IsTrue, List, [], ◌∷◌, ◌++◌, length, drop, Option}
+use Rattle.std.specs.Prelude.{Some, None}
 use Rattle.std.specs.List.{starts_with, flat_map}
 use Rattle.au_base.specs.declared.limits.Limit.{Limit}
 use Rattle.au_base.specs.declared.places.Pos.{Pos}
@@ -10,9 +9,8 @@ use Rattle.au_base.specs.declared.tokens.What.{What}
 use Rattle.au_base.specs.declared.tokens.What.TheVariants.{Word, Sign, Name, Number, Text}
 use Rattle.au_base.specs.Places.{place_after}
 use Rattle.au_lexer.specs.Passing.{limit_passed, count_among, are_within, IsWithinLimits}
-use Rattle.au_lexer.specs.Pieces.{
-  Piece, blank, comment, docstring, number, token, three_quotes, spelling, IsPiece, what_of,
-}
+use Rattle.au_lexer.specs.Pieces.{Piece, blank, comment, docstring, number, token, three_quotes, spelling}
+use Rattle.au_lexer.specs.Pieces.{IsPiece, what_of}
 
 -- The piece is a text.
 abbrev pub IsText : Piece → Type 0

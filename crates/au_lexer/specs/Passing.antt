@@ -1,8 +1,6 @@
 -- Which token passes a limit.
-use Rattle.std.specs.Prelude.{
-  ℕ, ◌+◌, ◌≤◌, nat_lt, IsTrue, ◌&&◌, Bool, true, List, [], ◌∷◌, length, Option, Some, None, is_none,
-  if◌then◌else◌,
-}
+use Rattle.std.specs.Prelude.{ℕ, ◌+◌, ◌≤◌, nat_lt, IsTrue, ◌&&◌, Bool, true, List, [], ◌∷◌, length, Option}
+use Rattle.std.specs.Prelude.{Some, None, is_none, if◌then◌else◌}
 use Rattle.std.specs.List.{list_all}
 use Rattle.au_base.specs.declared.limits.Limit.{Limit}
 use Rattle.au_base.specs.declared.limits.LimitKind.{LimitKind}

@@ -1,8 +1,6 @@
 -- The pieces of a file, and how each is spelled.
-use Rattle.std.specs.Prelude.{
-  ◌≢◌, ℕ, pos, Bool, false, not, IsTrue, IsFalse, nat_eq, ◌==◌, ◌||◌, List, [], ◌∷◌, ◌++◌, length, Option,
-  Some, None, if◌then◌else◌, codes,
-}
+use Rattle.std.specs.Prelude.{◌≢◌, ℕ, pos, Bool, false, not, IsTrue, IsFalse, nat_eq, ◌==◌, ◌||◌, List, []}
+use Rattle.std.specs.Prelude.{◌∷◌, ◌++◌, length, Option, Some, None, if◌then◌else◌, codes}
 use Rattle.std.specs.List.{flat_map, list_all, starts_with}
 use Rattle.std.specs.Str.Parse.{digits_value}
 use Rattle.au_base.specs.declared.tokens.Keyword.{Keyword}

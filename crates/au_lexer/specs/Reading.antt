@@ -1,8 +1,7 @@
 -- What the reading functions of the lexer give, as functions of the bytes.
-use Rattle.std.specs.Prelude.{
-  ◌≡◌, ℕ, ◌+◌, Bool, true, false, not, IsTrue, nat_eq, nat_lt, ◌==◌, List, [], ◌∷◌, length, take, drop,
-  Option, Some, None, Result, Ok, Err, if◌then◌else◌, slice_index,
-}
+use Rattle.std.specs.Prelude.{◌≡◌, ℕ, ◌+◌, Bool, true, false, not, IsTrue, nat_eq, nat_lt, ◌==◌, List, []}
+use Rattle.std.specs.Prelude.{◌∷◌, length, take, drop, Option, Some, None, Result, Ok, Err, if◌then◌else◌}
+use Rattle.std.specs.Prelude.{slice_index}
 use Rattle.std.specs.List.{prefix_len, starts_with}
 use Rattle.std.specs.Option.{option_map}
 use Rattle.std.specs.Str.{bytes_eq}

@@ -12,20 +12,16 @@ use Rattle.au_syntax.specs.declared.expressions.BorrowMode.{BorrowMode}
 use Rattle.au_syntax.specs.declared.expressions.BorrowMode.TheVariants as modes
 use Rattle.au_syntax.specs.declared.types.Access.{Access}
 use Rattle.au_syntax.specs.declared.types.Access.TheVariants as access
-use Rattle.au_syntax.specs.Expressions.{
-  number, negative, text, truth, nil, path, arrow, call, named_call, parenthesized, dereference, borrow,
-  borrow_part, binary, negation, typed, choice, no_expressions, expressions, no_arguments, arguments,
-}
+use Rattle.au_syntax.specs.Expressions.{number, negative, text, truth, nil, path, arrow, call, named_call}
+use Rattle.au_syntax.specs.Expressions.{parenthesized, dereference, borrow, borrow_part, binary, negation}
+use Rattle.au_syntax.specs.Expressions.{typed, choice, no_expressions, expressions, no_arguments, arguments}
 use Rattle.au_syntax.specs.Names.{Placed}
-use Rattle.au_syntax.specs.Plain.{
-  Bytes, PlainExpression, PlainExpressions, PlainArguments, PlainStatement, PlainStatements, PlainBranches,
-  PlainArms,
-}
-use Rattle.au_syntax.specs.Statements.{
-  skip, declare, destructure, assign, assign_through, conditional, conditional_else, case_of, while_loop,
-  for_loop, borrow_in, borrow_typed, discard, return_of, no_statements, statements, no_branches, branches,
-  no_arms, arms,
-}
+use Rattle.au_syntax.specs.Plain.{Bytes, PlainExpression, PlainExpressions, PlainArguments, PlainStatement}
+use Rattle.au_syntax.specs.Plain.{PlainStatements, PlainBranches, PlainArms}
+use Rattle.au_syntax.specs.Statements.{skip, declare, destructure, assign, assign_through, conditional}
+use Rattle.au_syntax.specs.Statements.{conditional_else, case_of, while_loop, for_loop, borrow_in}
+use Rattle.au_syntax.specs.Statements.{borrow_typed, discard, return_of, no_statements, statements}
+use Rattle.au_syntax.specs.Statements.{no_branches, branches, no_arms, arms}
 use Rattle.au_syntax.specs.Types.{Bound}
 
 -- ---- kinds

@@ -6,9 +6,8 @@ use Rattle.au_syntax.specs.Statements.{no_arms, arms, branches}
 use Rattle.au_lives.specs.declared.lives.Sort.{Sort}
 use Rattle.au_lives.specs.Lives.{Hold, unlent, read_lent, write_lent, hidden, Fate, going, broken, held_from}
 use Rattle.au_lives.specs.Paths.{bound_names}
-use Rattle.au_lives.specs.Walks.{
-  Reach, reach, nowhere, Breach, Walk, choose, merge, joined, walk_block, walk_branches, walk_arms, ◌>>=◌,
-}
+use Rattle.au_lives.specs.Walks.{Reach, reach, nowhere, Breach, Walk, choose, merge, joined, walk_block}
+use Rattle.au_lives.specs.Walks.{walk_branches, walk_arms, ◌>>=◌}
 use Rattle.au_uses.specs.declared.steps.Verdict.{Verdict}
 use Rattle.au_uses.specs.declared.steps.Verdict.TheVariants as verdicts
 use Rattle.au_linear.specs.declared.holds.Hold.{Hold as CodeHold}

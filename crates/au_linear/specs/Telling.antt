@@ -3,9 +3,8 @@ use Rattle.std.specs.Prelude.{◌≡◌, List, [], ◌∷◌, Option, Some, Resu
 use Rattle.au_lives.specs.declared.lives.Sort.{Sort}
 use Rattle.au_lives.specs.declared.lives.Sort.TheVariants as sorts
 use Rattle.au_lives.specs.Scopes.{Scope}
-use Rattle.au_lives.specs.Refusals.{
-  Refusal, in_loop, in_part, on_path, Variable, Refused, first_refused, GoodLives,
-}
+use Rattle.au_lives.specs.Refusals.{Refusal, in_loop, in_part, on_path, Variable, Refused, first_refused}
+use Rattle.au_lives.specs.Refusals.{GoodLives}
 use Rattle.au_linear.specs.declared.faults.Why.{Why}
 use Rattle.au_linear.specs.declared.faults.Why.TheVariants as whys
 use Rattle.au_linear.specs.declared.faults.LinearFault.{LinearFault}

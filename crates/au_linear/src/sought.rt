@@ -5,10 +5,8 @@ ghost use Rattle.std.specs.Str.{bytes_eq};
 ghost use Rattle.au_syntax.specs.Views.{placed};
 ghost use Rattle.au_syntax.specs.Plain.{plain_name};
 ghost use Rattle.au_lives.specs.Mentions as mentions;
-ghost use Rattle.au_lives.specs.Places.{
-  place_of, consumed_at, consumed_at_all, consumed_at_arguments, parted_at, parted_at_all,
-  parted_at_arguments,
-};
+ghost use Rattle.au_lives.specs.Places.{place_of, consumed_at, consumed_at_all, consumed_at_arguments};
+ghost use Rattle.au_lives.specs.Places.{parted_at, parted_at_all, parted_at_arguments};
 ghost use Rattle.au_linear.specs.Firsts.{first_of, sought_at};
 ghost use Rattle.au_linear.specs.Seen.{seen_name, seen_expression, seen_expressions, seen_arguments};
 ghost use Rattle.au_linear.specs.Standing.{hold_of};

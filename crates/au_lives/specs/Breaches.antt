@@ -7,9 +7,8 @@ use Rattle.au_lives.specs.declared.lives.LifeKind.TheVariants as kinds
 use Rattle.au_lives.specs.declared.lives.Sort.{Sort}
 use Rattle.au_lives.specs.declared.lives.Sort.TheVariants as sorts
 use Rattle.au_lives.specs.Paths.{Step}
-use Rattle.au_lives.specs.Lives.{
-  is_untouched, is_ordinary, is_allowed, held, counts_at, UntouchedAfterwards, consumptions,
-}
+use Rattle.au_lives.specs.Lives.{is_untouched, is_ordinary, is_allowed, held, counts_at, UntouchedAfterwards}
+use Rattle.au_lives.specs.Lives.{consumptions}
 
 module _ (x : Bytes) (sort : Sort) where
   -- each step keeps the rules on one step and on open borrow statements, and none that meets x follows a

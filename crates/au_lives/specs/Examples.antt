@@ -6,14 +6,11 @@ use Rattle.au_syntax.specs.declared.statements.Binding.TheVariants as bindings
 use Rattle.au_syntax.specs.declared.types.Access.TheVariants as access
 use Rattle.au_syntax.specs.Names.{Placed}
 use Rattle.au_syntax.specs.Types.{Bound}
-use Rattle.au_syntax.specs.Expressions.{
-  truth, path, arrow, call, parenthesized, dereference, borrow, borrow_part, binary, choice, no_expressions,
-  expressions,
-}
-use Rattle.au_syntax.specs.Statements.{
-  declare, destructure, for_loop, skip, conditional_else, case_of, while_loop, borrow_in, discard, return_of,
-  no_statements, statements, no_branches, branches, no_arms, arms,
-}
+use Rattle.au_syntax.specs.Expressions.{truth, path, arrow, call, parenthesized, dereference, borrow}
+use Rattle.au_syntax.specs.Expressions.{borrow_part, binary, choice, no_expressions, expressions}
+use Rattle.au_syntax.specs.Statements.{declare, destructure, for_loop, skip, conditional_else, case_of}
+use Rattle.au_syntax.specs.Statements.{while_loop, borrow_in, discard, return_of, no_statements, statements}
+use Rattle.au_syntax.specs.Statements.{no_branches, branches, no_arms, arms}
 use Rattle.au_syntax.specs.Plain.{Bytes, PlainExpression, PlainStatement, PlainStatements}
 use Rattle.au_syntax.specs.Examples.{here, name, spot, x, T}
 use Rattle.au_lives.specs.declared.lives.LifeKind.TheVariants as kinds

@@ -1,31 +1,24 @@
 -- When the life of a variable is good, and how one is broken.
-use Rattle.std.specs.Prelude.{
-  ◌≡◌, ◌≢◌, ℕ, ◌+◌, ◌≤◌, ◌==◌, Bool, true, false, not, ◌||◌, ◌&&◌, List, [], ◌∷◌, ◌++◌, if◌then◌else◌, IsTrue,
-}
+use Rattle.std.specs.Prelude.{◌≡◌, ◌≢◌, ℕ, ◌+◌, ◌≤◌, ◌==◌, Bool, true, false, not, ◌||◌, ◌&&◌, List, [], ◌∷◌}
+use Rattle.std.specs.Prelude.{◌++◌, if◌then◌else◌, IsTrue}
 use Rattle.std.specs.List.{All}
 use Rattle.std.specs.Str.{bytes_eq}
 use Rattle.au_syntax.specs.declared.types.Access.{Access}
 use Rattle.au_syntax.specs.declared.types.Access.TheVariants as access
-use Rattle.au_syntax.specs.Statements.{
-  skip, declare, destructure, assign, assign_through, conditional, conditional_else, case_of, while_loop,
-  for_loop, borrow_in, borrow_typed, discard, return_of, no_statements, statements, no_branches, branches,
-  no_arms, arms,
-}
-use Rattle.au_syntax.specs.Plain.{
-  Bytes, PlainExpression, PlainStatement, PlainStatements, PlainBranches, PlainArms,
-}
+use Rattle.au_syntax.specs.Statements.{skip, declare, destructure, assign, assign_through, conditional}
+use Rattle.au_syntax.specs.Statements.{conditional_else, case_of, while_loop, for_loop, borrow_in}
+use Rattle.au_syntax.specs.Statements.{borrow_typed, discard, return_of, no_statements, statements}
+use Rattle.au_syntax.specs.Statements.{no_branches, branches, no_arms, arms}
+use Rattle.au_syntax.specs.Plain.{Bytes, PlainExpression, PlainStatement, PlainStatements, PlainBranches}
+use Rattle.au_syntax.specs.Plain.{PlainArms}
 use Rattle.au_lives.specs.declared.lives.LifeKind.{LifeKind}
 use Rattle.au_lives.specs.declared.lives.LifeKind.TheVariants as kinds
 use Rattle.au_lives.specs.declared.lives.Sort.{Sort}
 use Rattle.au_lives.specs.declared.lives.Sort.TheVariants as sorts
-use Rattle.au_lives.specs.Mentions.{
-  Counts, counts, unmentioned, one_write_borrow, one_read_borrow, one_look, where_named, counts_in,
-  keeps_parts,
-}
-use Rattle.au_lives.specs.Paths.{
-  Met, whole, opening, assignment, assignment_behind, Around, lent, declared, Step, follow_block, declared_by,
-  bound_names, access_of,
-}
+use Rattle.au_lives.specs.Mentions.{Counts, counts, unmentioned, one_write_borrow, one_read_borrow, one_look}
+use Rattle.au_lives.specs.Mentions.{where_named, counts_in, keeps_parts}
+use Rattle.au_lives.specs.Paths.{Met, whole, opening, assignment, assignment_behind, Around, lent, declared}
+use Rattle.au_lives.specs.Paths.{Step, follow_block, declared_by, bound_names, access_of}
 
 abbrev pub is_free : Sort → Bool
 is_free sorts.Free = true

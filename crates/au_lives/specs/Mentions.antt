@@ -6,10 +6,9 @@ use Rattle.au_syntax.specs.declared.expressions.BinaryOperator.TheVariants as op
 use Rattle.au_syntax.specs.declared.expressions.BorrowMode.{BorrowMode}
 use Rattle.au_syntax.specs.declared.expressions.BorrowMode.TheVariants as modes
 use Rattle.au_syntax.specs.Names.{Placed}
-use Rattle.au_syntax.specs.Expressions.{
-  number, negative, text, truth, nil, path, arrow, call, named_call, parenthesized, dereference, borrow,
-  borrow_part, binary, negation, typed, choice, no_expressions, expressions, no_arguments, arguments,
-}
+use Rattle.au_syntax.specs.Expressions.{number, negative, text, truth, nil, path, arrow, call, named_call}
+use Rattle.au_syntax.specs.Expressions.{parenthesized, dereference, borrow, borrow_part, binary, negation}
+use Rattle.au_syntax.specs.Expressions.{typed, choice, no_expressions, expressions, no_arguments, arguments}
 use Rattle.au_syntax.specs.Plain.{Bytes, PlainExpression, PlainExpressions, PlainArguments}
 
 -- how often a variable is consumed, write-borrowed, read-borrowed and looked at

@@ -3,19 +3,15 @@ use Rattle.std.specs.Prelude.{Bool, true, false, ◌||◌, List, [], ◌∷◌, 
 use Rattle.std.specs.Str.{bytes_eq}
 use Rattle.au_base.specs.declared.places.Pos.{Pos}
 use Rattle.au_syntax.specs.Names.{Placed}
-use Rattle.au_syntax.specs.Expressions.{
-  number, negative, text, truth, nil, path, arrow, call, named_call, parenthesized, dereference, borrow,
-  borrow_part, binary, negation, typed, choice, no_expressions, expressions, no_arguments, arguments,
-}
-use Rattle.au_syntax.specs.Statements.{
-  skip, declare, destructure, assign, assign_through, conditional, conditional_else, case_of, while_loop,
-  for_loop, borrow_in, borrow_typed, discard, return_of, no_statements, statements, no_branches, branches,
-  no_arms, arms,
-}
-use Rattle.au_syntax.specs.Plain.{
-  Bytes, PlainExpression, PlainExpressions, PlainArguments, PlainStatement, PlainStatements, PlainBranches,
-  PlainArms,
-}
+use Rattle.au_syntax.specs.Expressions.{number, negative, text, truth, nil, path, arrow, call, named_call}
+use Rattle.au_syntax.specs.Expressions.{parenthesized, dereference, borrow, borrow_part, binary, negation}
+use Rattle.au_syntax.specs.Expressions.{typed, choice, no_expressions, expressions, no_arguments, arguments}
+use Rattle.au_syntax.specs.Statements.{skip, declare, destructure, assign, assign_through, conditional}
+use Rattle.au_syntax.specs.Statements.{conditional_else, case_of, while_loop, for_loop, borrow_in}
+use Rattle.au_syntax.specs.Statements.{borrow_typed, discard, return_of, no_statements, statements}
+use Rattle.au_syntax.specs.Statements.{no_branches, branches, no_arms, arms}
+use Rattle.au_syntax.specs.Plain.{Bytes, PlainExpression, PlainExpressions, PlainArguments, PlainStatement}
+use Rattle.au_syntax.specs.Plain.{PlainStatements, PlainBranches, PlainArms}
 use Rattle.au_lives.specs.declared.lives.Sort.{Sort}
 use Rattle.au_lives.specs.Mentions.{is_variable, may_skip}
 use Rattle.au_lives.specs.Paths.{lent, declared, declared_by, bound_names, access_of}

@@ -1,23 +1,17 @@
 -- What the steps of a block do to the fate of a variable, and a walk that finds it for all paths at once.
-use Rattle.std.specs.Prelude.{
-  ℕ, zero, suc, ◌+◌, ◌==◌, Bool, true, false, List, [], ◌∷◌, ◌++◌, length, drop, min, Option, None, Some,
-  Result, Ok, Err, if◌then◌else◌,
-}
-use Rattle.au_syntax.specs.Statements.{
-  skip, declare, destructure, assign, assign_through, conditional, conditional_else, case_of, while_loop,
-  for_loop, borrow_in, borrow_typed, discard, return_of, no_statements, statements, no_branches, branches,
-  no_arms, arms,
-}
+use Rattle.std.specs.Prelude.{ℕ, zero, suc, ◌+◌, ◌==◌, Bool, true, false, List, [], ◌∷◌, ◌++◌, length, drop}
+use Rattle.std.specs.Prelude.{min, Option, None, Some, Result, Ok, Err, if◌then◌else◌}
+use Rattle.au_syntax.specs.Statements.{skip, declare, destructure, assign, assign_through, conditional}
+use Rattle.au_syntax.specs.Statements.{conditional_else, case_of, while_loop, for_loop, borrow_in}
+use Rattle.au_syntax.specs.Statements.{borrow_typed, discard, return_of, no_statements, statements}
+use Rattle.au_syntax.specs.Statements.{no_branches, branches, no_arms, arms}
 use Rattle.au_syntax.specs.Plain.{Bytes, PlainStatement, PlainStatements, PlainBranches, PlainArms}
 use Rattle.au_lives.specs.declared.lives.LifeKind.{LifeKind}
 use Rattle.au_lives.specs.declared.lives.Sort.{Sort}
-use Rattle.au_lives.specs.Paths.{
-  Met, whole, opening, assignment, assignment_behind, lent, declared, first, count_of_branches, count_of_arms,
-  declared_by, bound_names, access_of,
-}
-use Rattle.au_lives.specs.Lives.{
-  Hold, unlent, held_from, met_counts, unless_hidden, is_free, Fate, going, broken, verdict, onward, at_end,
-}
+use Rattle.au_lives.specs.Paths.{Met, whole, opening, assignment, assignment_behind, lent, declared, first}
+use Rattle.au_lives.specs.Paths.{count_of_branches, count_of_arms, declared_by, bound_names, access_of}
+use Rattle.au_lives.specs.Lives.{Hold, unlent, held_from, met_counts, unless_hidden, is_free, Fate, going}
+use Rattle.au_lives.specs.Lives.{broken, verdict, onward, at_end}
 
 -- which states of a variable are possible at a place, not consumed and consumed, each with a path to it
 pub record Reach : Type 0 where

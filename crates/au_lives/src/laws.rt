@@ -9,15 +9,13 @@ ghost use Rattle.au_lives.specs.declared.lives.Sort.TheVariants as sorts;
 ghost use Rattle.au_lives.specs.Mentions.{counts_in};
 ghost use Rattle.au_lives.specs.Paths.{Step, follow_block};
 ghost use Rattle.au_lives.specs.Scopes.{scopes};
-ghost use Rattle.au_lives.specs.Lives.{
-  fate, going, broken, consumptions, keeps_loops, keeps_all_parts, GoodPath, GoodPaths, GoodLife, BadPath,
-};
+ghost use Rattle.au_lives.specs.Lives.{fate, going, broken, consumptions, keeps_loops, keeps_all_parts};
+ghost use Rattle.au_lives.specs.Lives.{GoodPath, GoodPaths, GoodLife, BadPath};
 ghost use Rattle.au_lives.specs.Breaches.{BreaksFirst};
 ghost use Rattle.au_lives.specs.Walks.{Reach, Breach, checked};
 ghost use Rattle.au_lives.specs.Places.{loop_places, part_places};
-ghost use Rattle.au_lives.specs.Refusals.{
-  Refusal, Refuses, Refused, Variable, GoodLives, IsFirstRefused, refusal, first_refused,
-};
+ghost use Rattle.au_lives.specs.Refusals.{Refusal, Refuses, Refused, Variable, GoodLives, IsFirstRefused};
+ghost use Rattle.au_lives.specs.Refusals.{refusal, first_refused};
 ghost use Rattle.au_lives.specs.Trimming.{without_zeros};
 ghost use Rattle.au_lives.specs.Examples.{mentions, ways, names, names_of, without_around};
 

@@ -5,23 +5,22 @@ use Rattle.au_ints.specs.declared.operations.IntOp.TheVariants as int_op
 use Rattle.au_ints.specs.declared.operations.WrapOp.TheVariants as wrap_op
 use Rattle.au_ints.specs.declared.operations.Order.TheVariants as order
 use Rattle.au_shipped.specs.declared.prims.AbortKind.TheVariants as kind
-use Rattle.au_effects.specs.Values.{
-  Place, name_of, unit, truth, number, text, made, reference, free_case, optional, fields_of,
-}
+use Rattle.au_effects.specs.Values.{Place, name_of, unit, truth, number, text, made, reference, free_case}
+use Rattle.au_effects.specs.Values.{optional, fields_of}
 use Rattle.au_effects.specs.Worlds.{born, consumed, opened, used, closed}
 use Rattle.au_low.specs.declared.endings.Ending.TheVariants.{Exit, Abort, Steps}
 use Rattle.au_low.specs.declared.instructions.Mode.TheVariants as mode
 use Rattle.au_low.specs.declared.instructions.Instr.{Instr}
-use Rattle.au_low.specs.declared.instructions.Instr.TheVariants.{
-  Push, PushBool, PushUnit, PushText, Look, Move, Store, Set, Discard, Arith, Wrap, Compare, Not, Convert,
-  Jump, JumpNot, ForTest, ForStep, Make, Take, Case, Call, Return, Read, Put, Deref, Open, Again, Part, Bind,
-  Close,
-}
+use Rattle.au_low.specs.declared.instructions.Instr.TheVariants.{Push, PushBool, PushUnit, PushText, Look}
+use Rattle.au_low.specs.declared.instructions.Instr.TheVariants.{Move, Store, Set, Discard, Arith, Wrap}
+use Rattle.au_low.specs.declared.instructions.Instr.TheVariants.{Compare, Not, Convert, Jump, JumpNot}
+use Rattle.au_low.specs.declared.instructions.Instr.TheVariants.{ForTest, ForStep, Make, Take, Case, Call}
+use Rattle.au_low.specs.declared.instructions.Instr.TheVariants.{Return, Read, Put, Deref, Open, Again, Part}
+use Rattle.au_low.specs.declared.instructions.Instr.TheVariants.{Bind, Close}
 use Rattle.au_low.specs.Machines.{Low}
 use Rattle.au_low.specs.Runs.{low_run}
-use Rattle.au_low.specs.Examples.{
-  program, stack_after, slots_after, deeds_after, place_after, ending_of, made_by,
-}
+use Rattle.au_low.specs.Examples.{program, stack_after, slots_after, deeds_after, place_after, ending_of}
+use Rattle.au_low.specs.Examples.{made_by}
 
 -- a byte, as an instruction and as a value
 abbrev pub put_byte : ℕ → Instr

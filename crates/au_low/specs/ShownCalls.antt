@@ -10,13 +10,11 @@ use Rattle.au_effects.specs.Worlds.{born, consumed, opened, used, nothing, conte
 use Rattle.au_low.specs.declared.endings.Ending.TheVariants.{Abort}
 use Rattle.au_low.specs.declared.instructions.Mode.TheVariants as mode
 use Rattle.au_low.specs.declared.instructions.Instr.{Instr}
-use Rattle.au_low.specs.declared.instructions.Instr.TheVariants.{
-  Push, PushBool, PushText, Store, Move, Open, Shipped, Discard,
-}
+use Rattle.au_low.specs.declared.instructions.Instr.TheVariants.{Push, PushBool, PushText, Store, Move, Open}
+use Rattle.au_low.specs.declared.instructions.Instr.TheVariants.{Shipped, Discard}
 use Rattle.au_low.specs.Runs.{low_run}
-use Rattle.au_low.specs.Examples.{
-  program, rooted, stack_after, slots_after, births_after, deeds_after, ending_of, output_of,
-}
+use Rattle.au_low.specs.Examples.{program, rooted, stack_after, slots_after, births_after, deeds_after}
+use Rattle.au_low.specs.Examples.{ending_of, output_of}
 use Rattle.au_low.specs.Shown.{put_byte, byte}
 
 -- a shipped call, and one that makes a value of type 0

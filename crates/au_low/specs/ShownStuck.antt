@@ -8,10 +8,10 @@ use Rattle.au_shipped.specs.declared.prims.ShippedCall.TheVariants as call
 use Rattle.au_low.specs.declared.endings.Ending.TheVariants.{Steps, Stuck}
 use Rattle.au_low.specs.declared.instructions.Mode.TheVariants as mode
 use Rattle.au_low.specs.declared.instructions.Instr.{Instr}
-use Rattle.au_low.specs.declared.instructions.Instr.TheVariants.{
-  Push, PushBool, PushUnit, PushText, Look, Move, Store, Set, Discard, Arith, Compare, Not, Jump, ForTest,
-  Make, Take, Case, Call, Shipped, Return, Deref, Open,
-}
+use Rattle.au_low.specs.declared.instructions.Instr.TheVariants.{Push, PushBool, PushUnit, PushText, Look}
+use Rattle.au_low.specs.declared.instructions.Instr.TheVariants.{Move, Store, Set, Discard, Arith, Compare}
+use Rattle.au_low.specs.declared.instructions.Instr.TheVariants.{Not, Jump, ForTest, Make, Take, Case, Call}
+use Rattle.au_low.specs.declared.instructions.Instr.TheVariants.{Shipped, Return, Deref, Open}
 use Rattle.au_low.specs.Runs.{low_run}
 use Rattle.au_low.specs.Examples.{ending_of, made_by}
 use Rattle.au_low.specs.Shown.{put_byte, pair_of}

@@ -1,16 +1,14 @@
 //! The state of a running machine.
 
-ghost use Rattle.std.specs.Prelude.{
-  ◌≡◌, ◌<◌, ◌+◌, [], IfOk, IfSome, MatchOption, length, IsTrue, ◌↔◌, false, not,
-};
+ghost use Rattle.std.specs.Prelude.{◌≡◌, ◌<◌, ◌+◌, [], IfOk, IfSome, MatchOption, length, IsTrue, ◌↔◌, false};
+ghost use Rattle.std.specs.Prelude.{not};
 ghost use Rattle.std.specs.Option.{option_map, option_copied};
 ghost use Rattle.au_effects.specs.Places.{at};
 ghost use Rattle.au_low.specs.Machines.{goes, onward, pushed, pushes, in_slot, has_slot, slot_set};
 ghost use Rattle.au_low.specs.Instructions.{comes, slot_part, stores, puts};
 ghost use Rattle.au_cells.specs.Cells.{low, result_of};
-ghost use Rattle.au_machine.specs.States.{
-  machine_of, turned, most_place, IsQuiet, came_still, is_still, told,
-};
+ghost use Rattle.au_machine.specs.States.{machine_of, turned, most_place, IsQuiet, came_still, is_still};
+ghost use Rattle.au_machine.specs.States.{told};
 
 use au_base::Memory;
 use au_cells::{Cell, Computed};

@@ -6,10 +6,8 @@ use Rattle.std.specs.Coded.{Coded, coded_list, coded_ℕ}
 use Rattle.au_base.specs.contracts.kinds.IntKind.{the_row as kinds}
 use Rattle.au_types.specs.contracts.types.DeclAt.{the_row as declarations}
 use Rattle.au_types.specs.contracts.types.Region.{the_row as regions}
-use Rattle.au_types.specs.Types.{
-  Meaning, Argument, Arguments, unit, truth, integer, text, parameter, named, reads, writes, of_type,
-  in_region, no_arguments, arguments,
-}
+use Rattle.au_types.specs.Types.{Meaning, Argument, Arguments, unit, truth, integer, text, parameter, named}
+use Rattle.au_types.specs.Types.{reads, writes, of_type, in_region, no_arguments, arguments}
 
 abbrev first : Gv → Gv
 first gnil = gnil

@@ -4,10 +4,8 @@ use Rattle.au_types.specs.declared.types.Region.{Region}
 use Rattle.au_types.specs.declared.types.Region.TheVariants.{Static, Named, Anonymous}
 use Rattle.au_types.specs.Rows.{same_place}
 use Rattle.au_types.specs.Same.{same, same_argument, same_region}
-use Rattle.au_types.specs.Types.{
-  Meaning, Argument, Arguments, unit, truth, integer, text, parameter, named, reads, writes, of_type,
-  in_region, no_arguments, arguments,
-}
+use Rattle.au_types.specs.Types.{Meaning, Argument, Arguments, unit, truth, integer, text, parameter, named}
+use Rattle.au_types.specs.Types.{reads, writes, of_type, in_region, no_arguments, arguments}
 use Rattle.au_matching.specs.Bindings.{Bindings, value_of, with_pair, Extends}
 use Rattle.au_matching.specs.Substituted.{substituted, Fixes}
 

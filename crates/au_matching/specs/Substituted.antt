@@ -3,10 +3,8 @@
 use Rattle.std.specs.Prelude.{◌≡◌, ℕ, List, Option, Some, None}
 use Rattle.au_types.specs.declared.types.Region.{Region}
 use Rattle.au_types.specs.declared.types.Region.TheVariants.{Static, Named, Anonymous}
-use Rattle.au_types.specs.Types.{
-  Meaning, Argument, Arguments, unit, truth, integer, text, parameter, named, reads, writes, of_type,
-  in_region, no_arguments, arguments,
-}
+use Rattle.au_types.specs.Types.{Meaning, Argument, Arguments, unit, truth, integer, text, parameter, named}
+use Rattle.au_types.specs.Types.{reads, writes, of_type, in_region, no_arguments, arguments}
 use Rattle.au_matching.specs.Bindings.{Bindings, value_of, GivesType, GivesRegion}
 
 -- what stands for a type parameter: the type that its name is given, and itself where that is none

@@ -3,9 +3,8 @@
 ghost use Rattle.std.specs.Prelude.{◌≡◌, IsTrue, Some, ◌↔◌};
 ghost use Rattle.au_types.specs.Views.{argument, argument_all, meaning};
 ghost use Rattle.au_matching.specs.Bindings.{value_of};
-ghost use Rattle.au_matching.specs.Fixed.{
-  all_fixed, argument_fixed, fixed, is_a_region, is_a_type, region_fixed,
-};
+ghost use Rattle.au_matching.specs.Fixed.{all_fixed, argument_fixed, fixed, is_a_region, is_a_type};
+ghost use Rattle.au_matching.specs.Fixed.{region_fixed};
 ghost use Rattle.au_matching.specs.Substituted.{Fixes};
 
 use crate::substitutions::Substitution;

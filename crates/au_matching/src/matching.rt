@@ -6,9 +6,8 @@ ghost use Rattle.au_types.specs.Types.{in_region, named, of_type, reads, writes}
 ghost use Rattle.au_types.specs.Views.{argument, argument_all, meaning};
 ghost use Rattle.au_matching.specs.Answers.{IfNo, IfYes, answered};
 ghost use Rattle.au_matching.specs.Bindings.{Bindings, Extends, IsInOrder, value_of};
-ghost use Rattle.au_matching.specs.Matched.{
-  Makes, all_matched, and_then, argument_matched, bound, matched, only_if, region_matched,
-};
+ghost use Rattle.au_matching.specs.Matched.{Makes, all_matched, and_then, argument_matched, bound, matched};
+ghost use Rattle.au_matching.specs.Matched.{only_if, region_matched};
 
 use crate::substitutions::Substitution;
 use au_base::{Memory, Name};

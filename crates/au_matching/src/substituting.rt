@@ -3,9 +3,8 @@
 ghost use Rattle.std.specs.Prelude.{◌≡◌, IfOk, Some};
 ghost use Rattle.au_types.specs.Views.{argument, argument_all, meaning};
 ghost use Rattle.au_matching.specs.Bindings.{value_of};
-ghost use Rattle.au_matching.specs.Substituted.{
-  all_substituted, argument_substituted, region_for, region_substituted, substituted, type_for,
-};
+ghost use Rattle.au_matching.specs.Substituted.{all_substituted, argument_substituted, region_for};
+ghost use Rattle.au_matching.specs.Substituted.{region_substituted, substituted, type_for};
 
 use crate::substitutions::Substitution;
 use au_base::{Memory, Name};

@@ -1,8 +1,7 @@
 //! Substitutions.
 
-ghost use Rattle.std.specs.Prelude.{
-  ◌≡◌, ◌≤◌, [], None, Some, length, vec_len, IfOk, OnOk, OnErr, MatchOption,
-};
+ghost use Rattle.std.specs.Prelude.{◌≡◌, ◌≤◌, [], None, Some, length, vec_len, IfOk, OnOk, OnErr};
+ghost use Rattle.std.specs.Prelude.{MatchOption};
 ghost use Rattle.std.specs.Cmp.Lexicographic.{slice_cmp};
 ghost use Rattle.std.specs.List.{insert};
 ghost use Rattle.std.specs.Ordering.{is_lt, nat_cmp};

@@ -1,9 +1,7 @@
 //! Piles of items.
 
-ghost use Rattle.std.specs.Prelude.{
-  ◌≡◌, ◌<◌, ◌++◌, ◌∷◌, [], List, length, take, drop, reverse, vec_len, ◌-◌, ◌≤◌, slice_index, slice_get,
-  slice_set, OnOk, OnErr, MatchOption, Some,
-};
+ghost use Rattle.std.specs.Prelude.{◌≡◌, ◌<◌, ◌++◌, ◌∷◌, [], List, length, take, drop, reverse, vec_len, ◌-◌};
+ghost use Rattle.std.specs.Prelude.{◌≤◌, slice_index, slice_get, slice_set, OnOk, OnErr, MatchOption, Some};
 ghost use Rattle.std.specs.Option.{option_copied};
 ghost use Rattle.au_piles.specs.Piles.{next_top, end_at, pile_at, with_below};
 

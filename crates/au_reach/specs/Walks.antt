@@ -1,9 +1,7 @@
 -- The walk that lists what is reached, within limits: `over` says what is wrong with an element itself, if
 -- anything, and the list has at most `most` elements, where `full` is what is wrong with one more.
-use Rattle.std.specs.Prelude.{
-  ◌≡◌, ◌==◌, ◌+◌, ◌≤◌, ℕ, zero, suc, Bool, true, false, List, [], ◌∷◌, ◌++◌, Option, None, Some, Result, Ok,
-  Err, length, drop,
-}
+use Rattle.std.specs.Prelude.{◌≡◌, ◌==◌, ◌+◌, ◌≤◌, ℕ, zero, suc, Bool, true, false, List, [], ◌∷◌, ◌++◌}
+use Rattle.std.specs.Prelude.{Option, None, Some, Result, Ok, Err, length, drop}
 use Rattle.au_reach.specs.Reached.{has, Has, Reached, adds, all_next}
 
 -- a walk's answer: a list, or what is wrong with the first element that passes a limit

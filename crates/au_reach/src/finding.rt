@@ -2,9 +2,8 @@
 
 ghost use Rattle.std.specs.Prelude.{◌≡◌, map, position, IfOk, OnOk};
 ghost use Rattle.std.specs.Str.{bytes_eq};
-ghost use Rattle.au_reach.specs.Finding.{
-  Finds_all, Gives, IsKeyed, Refuses, adds_to, by_key, found_in, numbers, puts_to, walks,
-};
+ghost use Rattle.au_reach.specs.Finding.{Finds_all, Gives, IsKeyed, Refuses, adds_to, by_key, found_in};
+ghost use Rattle.au_reach.specs.Finding.{numbers, puts_to, walks};
 ghost use Rattle.au_reach.specs.Reached.{Lists};
 ghost use Rattle.au_reach.specs.Walks.{IsWithin};
 

@@ -1,8 +1,6 @@
 -- Reading from the left: what is read and the tokens behind it, or why reading stops.
-use Rattle.std.specs.Prelude.{
-  ◌≡◌, ℕ, suc, Bool, false, ◌==◌, ◌&&◌, List, [], ◌∷◌, Option, Some, None, Result, Ok, Err, length, drop,
-  cond,
-}
+use Rattle.std.specs.Prelude.{◌≡◌, ℕ, suc, Bool, false, ◌==◌, ◌&&◌, List, [], ◌∷◌, Option, Some, None, Result}
+use Rattle.std.specs.Prelude.{Ok, Err, length, drop, cond}
 use Prim.Native.Nat.{zero}
 use Rattle.std.specs.Ordering.{int_eq}
 use Rattle.std.specs.Str.{bytes_eq}

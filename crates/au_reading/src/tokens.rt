@@ -2,10 +2,8 @@
 
 ghost use Rattle.std.specs.Prelude.{◌≡◌, drop, map, length, Some};
 ghost use Rattle.std.specs.Option.{option_map};
-ghost use Rattle.au_reading.specs.Reading.{
-  Gives, begins_with, expected_what, front, name_at, number_at, place_of, same_what, text_at, token_at,
-  tokens_at,
-};
+ghost use Rattle.au_reading.specs.Reading.{Gives, begins_with, expected_what, front, name_at, number_at};
+ghost use Rattle.au_reading.specs.Reading.{place_of, same_what, text_at, token_at, tokens_at};
 ghost use Rattle.au_base.specs.declared.tokens.What.TheVariants as what;
 ghost use Rattle.au_syntax.specs.Views.{placed};
 

@@ -1,7 +1,6 @@
 -- The regions in scope besides `Static`: their names in the order in which they were entered.
-use Rattle.std.specs.Prelude.{
-  ◌≡◌, ◌⊎◌, ◌||◌, ◌++◌, ◌-◌, ℕ, Bool, List, [], ◌∷◌, Contains, codes, length, take,
-}
+use Rattle.std.specs.Prelude.{◌≡◌, ◌⊎◌, ◌||◌, ◌++◌, ◌-◌, ℕ, Bool, List, [], ◌∷◌, Contains, codes, length}
+use Rattle.std.specs.Prelude.{take}
 use Rattle.std.specs.List.{list_any}
 use Rattle.std.specs.Str.{bytes_eq}
 

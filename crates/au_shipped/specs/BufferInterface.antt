@@ -4,9 +4,8 @@ use Rattle.au_base.specs.declared.places.Pos.{Pos}
 use Rattle.au_syntax.specs.declared.declarations.Universe.TheVariants.{Free, Linear, AnyType, Region}
 use Rattle.au_syntax.specs.Names.{Placed}
 use Rattle.au_syntax.specs.Plain.{Bytes, PlainDeclaration, PlainModule}
-use Rattle.au_shipped.specs.Building.{
-  name, simple, applied, reads, writes, over, generic, takes, an_opaque, a_function, interface,
-}
+use Rattle.au_shipped.specs.Building.{name, simple, applied, reads, writes, over, generic, takes, an_opaque}
+use Rattle.au_shipped.specs.Building.{a_function, interface}
 
 module _ (at : Pos) where
   -- type Buffer[T: Type]: Linear;

@@ -6,9 +6,8 @@ use Rattle.au_syntax.specs.declared.modules.Part.TheVariants.{Interface}
 use Rattle.au_syntax.specs.declared.types.Access.TheVariants as access
 use Rattle.au_syntax.specs.Names.{Placed}
 use Rattle.au_syntax.specs.Types.{WrittenType, named, reference, no_types, types, Labelled}
-use Rattle.au_syntax.specs.Modules.{
-  InUniverse, Constrained, Header, Variant, opaque_type, union_type, function, class, instance,
-}
+use Rattle.au_syntax.specs.Modules.{InUniverse, Constrained, Header, Variant, opaque_type, union_type}
+use Rattle.au_syntax.specs.Modules.{function, class, instance}
 use Rattle.au_syntax.specs.Plain.{Bytes, PlainDeclaration, PlainModule}
 
 -- the place of everything in the interface of this file

@@ -6,10 +6,9 @@ use Rattle.au_syntax.specs.Names.{Placed}
 use Rattle.au_syntax.specs.Types.{WrittenType}
 use Rattle.au_syntax.specs.Modules.{Header}
 use Rattle.au_syntax.specs.Plain.{Bytes, PlainDeclaration, PlainModule}
-use Rattle.au_shipped.specs.Building.{
-  name, simple, applied, applied_to_two, writes, over, generic, takes, signature, a_case, an_opaque, a_union,
-  a_function, a_class, an_instance, interface,
-}
+use Rattle.au_shipped.specs.Building.{name, simple, applied, applied_to_two, writes, over, generic, takes}
+use Rattle.au_shipped.specs.Building.{signature, a_case, an_opaque, a_union, a_function, a_class, an_instance}
+use Rattle.au_shipped.specs.Building.{interface}
 
 module _ (at : Pos) where
   -- Span[Nat8, Static]

@@ -1,8 +1,7 @@
 //! What boxes and buffers hold.
 
-ghost use Rattle.std.specs.Prelude.{
-  ◌≡◌, ◌<◌, length, map, is_some, slice_get, slice_set, if◌then◌else◌, IfOk, OnOk,
-};
+ghost use Rattle.std.specs.Prelude.{◌≡◌, ◌<◌, length, map, is_some, slice_get, slice_set, if◌then◌else◌};
+ghost use Rattle.std.specs.Prelude.{IfOk, OnOk};
 ghost use Rattle.std.specs.Option.{option_map, option_copied};
 ghost use Rattle.au_effects.specs.Parts.{along};
 ghost use Rattle.au_effects.specs.Worlds as effect;

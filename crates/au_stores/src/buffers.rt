@@ -1,17 +1,15 @@
 //! The shipped calls on buffers.
 
-ghost use Rattle.std.specs.Prelude.{
-  ◌≡◌, ◌<◌, map, length, slice_get, slice_set, is_some, if◌then◌else◌, Some, IfOk, OnOk,
-};
+ghost use Rattle.std.specs.Prelude.{◌≡◌, ◌<◌, map, length, slice_get, slice_set, is_some, if◌then◌else◌};
+ghost use Rattle.std.specs.Prelude.{Some, IfOk, OnOk};
 ghost use Rattle.std.specs.Option.{option_map, option_copied};
 ghost use Rattle.au_effects.specs.Parts.{along};
 ghost use Rattle.au_effects.specs.Worlds as effect;
 ghost use Rattle.au_effects.specs.Calls as call;
 ghost use Rattle.au_cells.specs.Cells.{low, lows};
 ghost use Rattle.au_low.specs.Machines.{LowWorld};
-ghost use Rattle.au_stores.specs.Stores.{
-  world_of, held_of, top_frame, reached_by, elements_of, held_elements, count_in, inserted,
-};
+ghost use Rattle.au_stores.specs.Stores.{world_of, held_of, top_frame, reached_by, elements_of};
+ghost use Rattle.au_stores.specs.Stores.{held_elements, count_in, inserted};
 ghost use Rattle.au_stores.specs.Answers.{answer_of, given_or};
 ghost use Rattle.au_stores.specs.declared.answers.Answered.TheVariants.{NoRule};
 

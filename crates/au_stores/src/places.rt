@@ -6,9 +6,8 @@ ghost use Rattle.au_effects.specs.Values.{content_of};
 ghost use Rattle.au_effects.specs.Places as effect;
 ghost use Rattle.au_low.specs.Instructions.{behind};
 ghost use Rattle.au_cells.specs.Cells.{low, base_of, place_of};
-ghost use Rattle.au_stores.specs.Stores.{
-  world_of, top_frame, slot_place, slot_count, put_through, came_out, done_in,
-};
+ghost use Rattle.au_stores.specs.Stores.{world_of, top_frame, slot_place, slot_count, put_through, came_out};
+ghost use Rattle.au_stores.specs.Stores.{done_in};
 
 use crate::births::{put_held, take_content};
 use crate::slots::held;

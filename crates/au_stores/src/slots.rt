@@ -1,19 +1,15 @@
 //! The slots of the running frame.
 
-ghost use Rattle.std.specs.Prelude.{
-  ◌≡◌, ◌<◌, ◌+◌, ◌-◌, ◌++◌, [], length, map, reverse, replicate, nat_lt, slice_get, IsTrue, IsFalse, ◌↔◌,
-  IfOk, OnOk, Some, None,
-};
+ghost use Rattle.std.specs.Prelude.{◌≡◌, ◌<◌, ◌+◌, ◌-◌, ◌++◌, [], length, map, reverse, replicate, nat_lt};
+ghost use Rattle.std.specs.Prelude.{slice_get, IsTrue, IsFalse, ◌↔◌, IfOk, OnOk, Some, None};
 ghost use Rattle.std.specs.Option.{option_map, option_copied};
 ghost use Rattle.au_effects.specs.Parts.{along};
 ghost use Rattle.au_effects.specs.Worlds as effect;
 ghost use Rattle.au_effects.specs.Places.{at, name_at, name_set};
 ghost use Rattle.au_low.specs.Machines.{new_slots};
 ghost use Rattle.au_cells.specs.Cells.{low, lows};
-ghost use Rattle.au_stores.specs.Stores.{
-  world_of, slots_of, top_frame, slot_place, slot_count, with_frame, without_frames, given_slots, filled,
-  done_in,
-};
+ghost use Rattle.au_stores.specs.Stores.{world_of, slots_of, top_frame, slot_place, slot_count, with_frame};
+ghost use Rattle.au_stores.specs.Stores.{without_frames, given_slots, filled, done_in};
 
 use crate::worlds::World;
 use au_base::Memory;

@@ -1,12 +1,14 @@
 -- One small tree for each row of the grammar, and its tokens written by hand.
 use Rattle.std.specs.Prelude.{pos, true, false, List, [], ◌∷◌, Some, None, codes}
 use Rattle.au_base.specs.declared.places.Pos.{Pos}
-use Rattle.au_base.specs.declared.tokens.Keyword.TheVariants.{
-  KwModule, KwBody, KwIs, KwEnd, KwImport, KwAs, KwPragma, KwConstant, KwType, KwRecord, KwUnion, KwCase,
-  KwWhen, KwOf, KwDo, KwFunction, KwGeneric, KwTypeclass, KwInstance, KwMethod, KwLet, KwVar, KwIf, KwThen,
-  KwElse, KwWhile, KwFor, KwFrom, KwTo, KwBorrow, KwIn, KwReturn, KwSkip, KwNil, KwTrue, KwFalse, KwOr, KwNot,
-  KwFree, KwLinear, KwAnyUniverse, KwRegion,
-}
+use Rattle.au_base.specs.declared.tokens.Keyword.TheVariants.{KwModule, KwBody, KwIs, KwEnd, KwImport, KwAs}
+use Rattle.au_base.specs.declared.tokens.Keyword.TheVariants.{KwPragma, KwConstant, KwType, KwRecord, KwUnion}
+use Rattle.au_base.specs.declared.tokens.Keyword.TheVariants.{KwCase, KwWhen, KwOf, KwDo, KwFunction}
+use Rattle.au_base.specs.declared.tokens.Keyword.TheVariants.{KwGeneric, KwTypeclass, KwInstance, KwMethod}
+use Rattle.au_base.specs.declared.tokens.Keyword.TheVariants.{KwLet, KwVar, KwIf, KwThen, KwElse, KwWhile}
+use Rattle.au_base.specs.declared.tokens.Keyword.TheVariants.{KwFor, KwFrom, KwTo, KwBorrow, KwIn, KwReturn}
+use Rattle.au_base.specs.declared.tokens.Keyword.TheVariants.{KwSkip, KwNil, KwTrue, KwFalse, KwOr, KwNot}
+use Rattle.au_base.specs.declared.tokens.Keyword.TheVariants.{KwFree, KwLinear, KwAnyUniverse, KwRegion}
 use Rattle.au_base.specs.declared.tokens.Sign.TheVariants as sign
 use Rattle.au_base.specs.declared.tokens.What.{What}
 use Rattle.au_base.specs.declared.tokens.What.TheVariants.{Word, Sign, Name, Number, Text}
@@ -19,22 +21,19 @@ use Rattle.au_syntax.specs.declared.statements.Binding.TheVariants.{Let, Var}
 use Rattle.au_syntax.specs.declared.types.Access.TheVariants as access
 use Rattle.au_syntax.specs.Names.{Placed}
 use Rattle.au_syntax.specs.Types.{WrittenType, named, reference, no_types, types, Labelled, Bound}
-use Rattle.au_syntax.specs.Expressions.{
-  Node, number, negative, text, truth, nil, path, arrow, call, named_call, parenthesized, dereference, borrow,
-  borrow_part, binary, negation, typed, choice, no_expressions, expressions, no_arguments, arguments,
-}
-use Rattle.au_syntax.specs.Statements.{
-  skip, declare, destructure, assign, assign_through, conditional, conditional_else, case_of, while_loop,
-  for_loop, borrow_in, borrow_typed, discard, return_of, no_statements, statements, no_branches, branches,
-  no_arms, arms,
-}
-use Rattle.au_syntax.specs.Modules.{
-  InUniverse, Constrained, Header, constant, opaque_type, record_type, union_type, function, class, instance,
-  constant_body, function_body, instance_body,
-}
-use Rattle.au_syntax.specs.Plain.{
-  Bytes, PlainExpression, PlainStatement, PlainStatements, PlainDeclaration, PlainModule, PlainMethod,
-}
+use Rattle.au_syntax.specs.Expressions.{Node, number, negative, text, truth, nil, path, arrow, call}
+use Rattle.au_syntax.specs.Expressions.{named_call, parenthesized, dereference, borrow, borrow_part, binary}
+use Rattle.au_syntax.specs.Expressions.{negation, typed, choice, no_expressions, expressions, no_arguments}
+use Rattle.au_syntax.specs.Expressions.{arguments}
+use Rattle.au_syntax.specs.Statements.{skip, declare, destructure, assign, assign_through, conditional}
+use Rattle.au_syntax.specs.Statements.{conditional_else, case_of, while_loop, for_loop, borrow_in}
+use Rattle.au_syntax.specs.Statements.{borrow_typed, discard, return_of, no_statements, statements}
+use Rattle.au_syntax.specs.Statements.{no_branches, branches, no_arms, arms}
+use Rattle.au_syntax.specs.Modules.{InUniverse, Constrained, Header, constant, opaque_type, record_type}
+use Rattle.au_syntax.specs.Modules.{union_type, function, class, instance, constant_body, function_body}
+use Rattle.au_syntax.specs.Modules.{instance_body}
+use Rattle.au_syntax.specs.Plain.{Bytes, PlainExpression, PlainStatement, PlainStatements, PlainDeclaration}
+use Rattle.au_syntax.specs.Plain.{PlainModule, PlainMethod}
 
 -- some place
 abbrev pub here : Pos

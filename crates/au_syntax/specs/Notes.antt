@@ -1,20 +1,17 @@
 -- Whether a phase allows every note of a tree.
 use Rattle.std.specs.Prelude.{Bool, true, ◌&&◌}
 use Rattle.std.specs.List.{list_all}
-use Rattle.au_syntax.specs.Expressions.{
-  Expression, Expressions, Arguments, number, negative, text, truth, nil, path, arrow, call, named_call,
-  parenthesized, dereference, borrow, borrow_part, binary, negation, typed, choice, no_expressions,
-  expressions, no_arguments, arguments,
-}
-use Rattle.au_syntax.specs.Statements.{
-  Statement, Statements, Branches, Arms, skip, declare, destructure, assign, assign_through, conditional,
-  conditional_else, case_of, while_loop, for_loop, borrow_in, borrow_typed, discard, return_of, no_statements,
-  statements, no_branches, branches, no_arms, arms,
-}
-use Rattle.au_syntax.specs.Modules.{
-  MethodBody, Declaration, constant, opaque_type, record_type, union_type, function, class, instance,
-  constant_body, function_body, instance_body, ModuleTree,
-}
+use Rattle.au_syntax.specs.Expressions.{Expression, Expressions, Arguments, number, negative, text, truth}
+use Rattle.au_syntax.specs.Expressions.{nil, path, arrow, call, named_call, parenthesized, dereference}
+use Rattle.au_syntax.specs.Expressions.{borrow, borrow_part, binary, negation, typed, choice, no_expressions}
+use Rattle.au_syntax.specs.Expressions.{expressions, no_arguments, arguments}
+use Rattle.au_syntax.specs.Statements.{Statement, Statements, Branches, Arms, skip, declare, destructure}
+use Rattle.au_syntax.specs.Statements.{assign, assign_through, conditional, conditional_else, case_of}
+use Rattle.au_syntax.specs.Statements.{while_loop, for_loop, borrow_in, borrow_typed, discard, return_of}
+use Rattle.au_syntax.specs.Statements.{no_statements, statements, no_branches, branches, no_arms, arms}
+use Rattle.au_syntax.specs.Modules.{MethodBody, Declaration, constant, opaque_type, record_type, union_type}
+use Rattle.au_syntax.specs.Modules.{function, class, instance, constant_body, function_body, instance_body}
+use Rattle.au_syntax.specs.Modules.{ModuleTree}
 
 -- by which notes of expressions and which notes of calls are allowed
 module _ {N T C : Type 0} (of_type : T → Bool) (of_call : C → Bool) where

@@ -4,20 +4,17 @@ use Rattle.std.specs.Prelude.{ℕ, List, map}
 use Rattle.std.specs.Option.{option_map}
 use Rattle.au_syntax.specs.Names.{Placed, Renaming}
 use Rattle.au_syntax.specs.Types.{Labelled, Bound}
-use Rattle.au_syntax.specs.Expressions.{
-  Node, Expression, Expressions, Arguments, number, negative, text, truth, nil, path, arrow, call, named_call,
-  parenthesized, dereference, borrow, borrow_part, binary, negation, typed, choice, no_expressions,
-  expressions, no_arguments, arguments,
-}
-use Rattle.au_syntax.specs.Statements.{
-  Statement, Statements, Branches, Arms, skip, declare, destructure, assign, assign_through, conditional,
-  conditional_else, case_of, while_loop, for_loop, borrow_in, borrow_typed, discard, return_of, no_statements,
-  statements, no_branches, branches, no_arms, arms,
-}
-use Rattle.au_syntax.specs.Modules.{
-  InUniverse, Constrained, Header, Variant, MethodBody, Declaration, constant, opaque_type, record_type,
-  union_type, function, class, instance, constant_body, function_body, instance_body, Importing, ModuleTree,
-}
+use Rattle.au_syntax.specs.Expressions.{Node, Expression, Expressions, Arguments, number, negative, text}
+use Rattle.au_syntax.specs.Expressions.{truth, nil, path, arrow, call, named_call, parenthesized, dereference}
+use Rattle.au_syntax.specs.Expressions.{borrow, borrow_part, binary, negation, typed, choice, no_expressions}
+use Rattle.au_syntax.specs.Expressions.{expressions, no_arguments, arguments}
+use Rattle.au_syntax.specs.Statements.{Statement, Statements, Branches, Arms, skip, declare, destructure}
+use Rattle.au_syntax.specs.Statements.{assign, assign_through, conditional, conditional_else, case_of}
+use Rattle.au_syntax.specs.Statements.{while_loop, for_loop, borrow_in, borrow_typed, discard, return_of}
+use Rattle.au_syntax.specs.Statements.{no_statements, statements, no_branches, branches, no_arms, arms}
+use Rattle.au_syntax.specs.Modules.{InUniverse, Constrained, Header, Variant, MethodBody, Declaration}
+use Rattle.au_syntax.specs.Modules.{constant, opaque_type, record_type, union_type, function, class, instance}
+use Rattle.au_syntax.specs.Modules.{constant_body, function_body, instance_body, Importing, ModuleTree}
 
 -- the bytes of a name
 abbrev pub Bytes : Type 0

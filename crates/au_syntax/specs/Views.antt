@@ -7,29 +7,24 @@ use Rattle.au_syntax.specs.declared.names.Renamed.{Renamed}
 use Rattle.au_syntax.specs.declared.names.Field.{Field}
 use Rattle.au_syntax.specs.declared.names.Bind.{Bind}
 use Rattle.au_syntax.specs.declared.types.TypeName.{TypeName}
-use Rattle.au_syntax.specs.declared.types.TypeText.{
-  TypeText, Row_of-TypeText, end_of-TypeText, more_of-TypeText,
-}
+use Rattle.au_syntax.specs.declared.types.TypeText.{TypeText, Row_of-TypeText, end_of-TypeText}
+use Rattle.au_syntax.specs.declared.types.TypeText.{more_of-TypeText}
 use Rattle.au_syntax.specs.declared.types.TypeText.{Named', Reference'}
 use Rattle.au_syntax.specs.declared.expressions.Site.{Site}
 use Rattle.au_syntax.specs.declared.expressions.Argument.{Argument}
-use Rattle.au_syntax.specs.declared.expressions.Expr.{
-  Expr, Row_of-Expr, end_of-Expr, more_of-Expr, Row_of-Argument, end_of-Argument, more_of-Argument,
-}
+use Rattle.au_syntax.specs.declared.expressions.Expr.{Expr, Row_of-Expr, end_of-Expr, more_of-Expr}
+use Rattle.au_syntax.specs.declared.expressions.Expr.{Row_of-Argument, end_of-Argument, more_of-Argument}
 use Rattle.au_syntax.specs.declared.expressions.Expr as code
 use Rattle.au_syntax.specs.Names.{Placed, Renaming}
-use Rattle.au_syntax.specs.Types.{
-  WrittenType, WrittenTypes, named, reference, no_types, types, Labelled, Bound,
-}
-use Rattle.au_syntax.specs.Expressions.{
-  Node, Expression, Expressions, Arguments, number, negative, text, truth, nil, path, arrow, call, named_call,
-  parenthesized, dereference, borrow, borrow_part, binary, negation, typed, choice, no_expressions,
-  expressions, no_arguments, arguments,
-}
-use Rattle.au_syntax.specs.declared.statements.Stmt.{
-  Stmt, Row_of-Stmt, end_of-Stmt, more_of-Stmt, Row_of-Branch, end_of-Branch, more_of-Branch, Row_of-Arm,
-  end_of-Arm, more_of-Arm,
-}
+use Rattle.au_syntax.specs.Types.{WrittenType, WrittenTypes, named, reference, no_types, types, Labelled}
+use Rattle.au_syntax.specs.Types.{Bound}
+use Rattle.au_syntax.specs.Expressions.{Node, Expression, Expressions, Arguments, number, negative, text}
+use Rattle.au_syntax.specs.Expressions.{truth, nil, path, arrow, call, named_call, parenthesized, dereference}
+use Rattle.au_syntax.specs.Expressions.{borrow, borrow_part, binary, negation, typed, choice, no_expressions}
+use Rattle.au_syntax.specs.Expressions.{expressions, no_arguments, arguments}
+use Rattle.au_syntax.specs.declared.statements.Stmt.{Stmt, Row_of-Stmt, end_of-Stmt, more_of-Stmt}
+use Rattle.au_syntax.specs.declared.statements.Stmt.{Row_of-Branch, end_of-Branch, more_of-Branch, Row_of-Arm}
+use Rattle.au_syntax.specs.declared.statements.Stmt.{end_of-Arm, more_of-Arm}
 use Rattle.au_syntax.specs.declared.statements.Block.{Block}
 use Rattle.au_syntax.specs.declared.statements.Branch.{Branch}
 use Rattle.au_syntax.specs.declared.statements.Arm.{Arm}
@@ -43,15 +38,13 @@ use Rattle.au_syntax.specs.declared.declarations.Decl.{Decl}
 use Rattle.au_syntax.specs.declared.declarations.Decl.TheVariants as decl
 use Rattle.au_syntax.specs.declared.modules.Import.{Import}
 use Rattle.au_syntax.specs.declared.modules.Module.{Module}
-use Rattle.au_syntax.specs.Statements.{
-  Statement, Statements, Branches, Arms, skip, declare, destructure, assign, assign_through, conditional,
-  conditional_else, case_of, while_loop, for_loop, borrow_in, borrow_typed, discard, return_of, no_statements,
-  statements, no_branches, branches, no_arms, arms,
-}
-use Rattle.au_syntax.specs.Modules.{
-  InUniverse, Constrained, Header, Variant, MethodBody, Declaration, constant, opaque_type, record_type,
-  union_type, function, class, instance, constant_body, function_body, instance_body, Importing, ModuleTree,
-}
+use Rattle.au_syntax.specs.Statements.{Statement, Statements, Branches, Arms, skip, declare, destructure}
+use Rattle.au_syntax.specs.Statements.{assign, assign_through, conditional, conditional_else, case_of}
+use Rattle.au_syntax.specs.Statements.{while_loop, for_loop, borrow_in, borrow_typed, discard, return_of}
+use Rattle.au_syntax.specs.Statements.{no_statements, statements, no_branches, branches, no_arms, arms}
+use Rattle.au_syntax.specs.Modules.{InUniverse, Constrained, Header, Variant, MethodBody, Declaration}
+use Rattle.au_syntax.specs.Modules.{constant, opaque_type, record_type, union_type, function, class, instance}
+use Rattle.au_syntax.specs.Modules.{constant_body, function_body, instance_body, Importing, ModuleTree}
 
 -- a name in a written type
 abbrev pub type_name : TypeName → Placed (List ℕ)

@@ -4,18 +4,22 @@ use Rattle.std.specs.Prelude.{◌≡◌, Bool, true, false, List, [], ◌∷◌,
 use Rattle.std.specs.List.{flat_map}
 use Rattle.au_base.specs.declared.places.Pos.{Pos}
 use Rattle.au_base.specs.declared.tokens.Keyword.{Keyword}
-use Rattle.au_base.specs.declared.tokens.Keyword.TheVariants.{
-  KwModule, KwBody, KwIs, KwEnd, KwImport, KwAs, KwPragma, KwConstant, KwType, KwRecord, KwUnion, KwCase,
-  KwWhen, KwOf, KwDo, KwFunction, KwGeneric, KwTypeclass, KwInstance, KwMethod, KwLet, KwVar, KwIf, KwThen,
-  KwElse, KwWhile, KwFor, KwFrom, KwTo, KwBorrow, KwIn, KwReturn, KwSkip, KwNil, KwTrue, KwFalse, KwAnd, KwOr,
-  KwNot, KwFree, KwLinear, KwAnyUniverse, KwRegion,
-}
+use Rattle.au_base.specs.declared.tokens.Keyword.TheVariants.{KwModule, KwBody, KwIs, KwEnd, KwImport, KwAs}
+use Rattle.au_base.specs.declared.tokens.Keyword.TheVariants.{KwPragma, KwConstant, KwType, KwRecord, KwUnion}
+use Rattle.au_base.specs.declared.tokens.Keyword.TheVariants.{KwCase, KwWhen, KwOf, KwDo, KwFunction}
+use Rattle.au_base.specs.declared.tokens.Keyword.TheVariants.{KwGeneric, KwTypeclass, KwInstance, KwMethod}
+use Rattle.au_base.specs.declared.tokens.Keyword.TheVariants.{KwLet, KwVar, KwIf, KwThen, KwElse, KwWhile}
+use Rattle.au_base.specs.declared.tokens.Keyword.TheVariants.{KwFor, KwFrom, KwTo, KwBorrow, KwIn, KwReturn}
+use Rattle.au_base.specs.declared.tokens.Keyword.TheVariants.{KwSkip, KwNil, KwTrue, KwFalse, KwAnd, KwOr}
+use Rattle.au_base.specs.declared.tokens.Keyword.TheVariants.{KwNot, KwFree, KwLinear, KwAnyUniverse}
+use Rattle.au_base.specs.declared.tokens.Keyword.TheVariants.{KwRegion}
 use Rattle.au_base.specs.declared.tokens.Sign.{Sign as SignOf}
-use Rattle.au_base.specs.declared.tokens.Sign.TheVariants.{
-  Assign, FatArrow, Arrow, WriteBorrow, Reborrow, NotEqual, LessEqual, GreaterEqual, LeftParenthesis,
-  RightParenthesis, LeftBracket, RightBracket, LeftBrace, RightBrace, Comma, Semicolon, Colon, Dot,
-  ReadBorrow, Exclamation, Plus, Minus, Star, Slash, Equal, Less, Greater,
-}
+use Rattle.au_base.specs.declared.tokens.Sign.TheVariants.{Assign, FatArrow, Arrow, WriteBorrow, Reborrow}
+use Rattle.au_base.specs.declared.tokens.Sign.TheVariants.{NotEqual, LessEqual, GreaterEqual, LeftParenthesis}
+use Rattle.au_base.specs.declared.tokens.Sign.TheVariants.{RightParenthesis, LeftBracket, RightBracket}
+use Rattle.au_base.specs.declared.tokens.Sign.TheVariants.{LeftBrace, RightBrace, Comma, Semicolon, Colon}
+use Rattle.au_base.specs.declared.tokens.Sign.TheVariants.{Dot, ReadBorrow, Exclamation, Plus, Minus, Star}
+use Rattle.au_base.specs.declared.tokens.Sign.TheVariants.{Slash, Equal, Less, Greater}
 use Rattle.au_base.specs.declared.tokens.Token.{Token}
 use Rattle.au_base.specs.declared.tokens.What.{What}
 use Rattle.au_base.specs.declared.tokens.What.TheVariants.{Word, Sign, Name, Number, Text}
@@ -33,26 +37,21 @@ use Rattle.au_syntax.specs.declared.statements.Binding.TheVariants.{Let, Var}
 use Rattle.au_syntax.specs.declared.types.Access.{Access}
 use Rattle.au_syntax.specs.declared.types.Access.TheVariants as access
 use Rattle.au_syntax.specs.Names.{Placed, Renaming}
-use Rattle.au_syntax.specs.Types.{
-  WrittenType, WrittenTypes, named, reference, no_types, types, Labelled, Bound,
-}
-use Rattle.au_syntax.specs.Expressions.{
-  number, negative, text, truth, nil, path, arrow, call, named_call, parenthesized, dereference, borrow,
-  borrow_part, binary, negation, typed, choice, no_expressions, expressions, no_arguments, arguments,
-}
-use Rattle.au_syntax.specs.Statements.{
-  skip, declare, destructure, assign, assign_through, conditional, conditional_else, case_of, while_loop,
-  for_loop, borrow_in, borrow_typed, discard, return_of, no_statements, statements, no_branches, branches,
-  no_arms, arms,
-}
-use Rattle.au_syntax.specs.Modules.{
-  InUniverse, Constrained, Header, Variant, constant, opaque_type, record_type, union_type, function, class,
-  instance, constant_body, function_body, instance_body, Importing,
-}
-use Rattle.au_syntax.specs.Plain.{
-  Bytes, PlainExpression, PlainExpressions, PlainArguments, PlainStatement, PlainStatements, PlainBranches,
-  PlainArms, PlainMethod, PlainDeclaration, PlainModule,
-}
+use Rattle.au_syntax.specs.Types.{WrittenType, WrittenTypes, named, reference, no_types, types, Labelled}
+use Rattle.au_syntax.specs.Types.{Bound}
+use Rattle.au_syntax.specs.Expressions.{number, negative, text, truth, nil, path, arrow, call, named_call}
+use Rattle.au_syntax.specs.Expressions.{parenthesized, dereference, borrow, borrow_part, binary, negation}
+use Rattle.au_syntax.specs.Expressions.{typed, choice, no_expressions, expressions, no_arguments, arguments}
+use Rattle.au_syntax.specs.Statements.{skip, declare, destructure, assign, assign_through, conditional}
+use Rattle.au_syntax.specs.Statements.{conditional_else, case_of, while_loop, for_loop, borrow_in}
+use Rattle.au_syntax.specs.Statements.{borrow_typed, discard, return_of, no_statements, statements}
+use Rattle.au_syntax.specs.Statements.{no_branches, branches, no_arms, arms}
+use Rattle.au_syntax.specs.Modules.{InUniverse, Constrained, Header, Variant, constant, opaque_type}
+use Rattle.au_syntax.specs.Modules.{record_type, union_type, function, class, instance, constant_body}
+use Rattle.au_syntax.specs.Modules.{function_body, instance_body, Importing}
+use Rattle.au_syntax.specs.Plain.{Bytes, PlainExpression, PlainExpressions, PlainArguments, PlainStatement}
+use Rattle.au_syntax.specs.Plain.{PlainStatements, PlainBranches, PlainArms, PlainMethod, PlainDeclaration}
+use Rattle.au_syntax.specs.Plain.{PlainModule}
 
 -- a token of a tree: what it is, and the places that the tree keeps for it
 pub record Printed : Type 0 where

@@ -6,10 +6,8 @@ use Rattle.au_base.specs.contracts.kinds.IntKind.{the_type as kind}
 use Rattle.au_types.specs.declared.types.Region.{Region}
 use Rattle.au_types.specs.declared.types.Region.TheVariants.{Static, Named, Anonymous}
 use Rattle.au_types.specs.Rows.{same_place}
-use Rattle.au_types.specs.Types.{
-  Meaning, Argument, Arguments, unit, truth, integer, text, parameter, named, reads, writes, of_type,
-  in_region, no_arguments, arguments,
-}
+use Rattle.au_types.specs.Types.{Meaning, Argument, Arguments, unit, truth, integer, text, parameter, named}
+use Rattle.au_types.specs.Types.{reads, writes, of_type, in_region, no_arguments, arguments}
 
 -- two regions
 abbrev pub same_region : Region → Region → Bool

@@ -1,13 +1,10 @@
 -- What the code's types mean.
 use Rattle.std.specs.Prelude.{List, [], ◌∷◌}
-use Rattle.au_types.specs.declared.types.Ty.{
-  Ty, Unit, Bool, Int, Text, Param, Named', Read', Write', Row_of-Arg, end_of-Arg, more_of-Arg,
-}
+use Rattle.au_types.specs.declared.types.Ty.{Ty, Unit, Bool, Int, Text, Param, Named', Read', Write'}
+use Rattle.au_types.specs.declared.types.Ty.{Row_of-Arg, end_of-Arg, more_of-Arg}
 use Rattle.au_types.specs.declared.types.Arg.{Arg, Of, In}
-use Rattle.au_types.specs.Types.{
-  Meaning, Argument, Arguments, unit, truth, integer, text, parameter, named, reads, writes, of_type,
-  in_region, no_arguments, arguments,
-}
+use Rattle.au_types.specs.Types.{Meaning, Argument, Arguments, unit, truth, integer, text, parameter, named}
+use Rattle.au_types.specs.Types.{reads, writes, of_type, in_region, no_arguments, arguments}
 
 unfoldable mutual
   -- a type

@@ -3,9 +3,8 @@
 ghost use Rattle.std.specs.Prelude.{◌≡◌, IsTrue, ◌↔◌};
 ghost use Rattle.au_types.specs.declared.types.Region.TheVariants.{Static, Named, Anonymous};
 ghost use Rattle.au_types.specs.Same.{same, same_all, same_argument, same_region};
-ghost use Rattle.au_types.specs.Types.{
-  in_region, integer, named, of_type, parameter, reads, text, truth, unit, writes,
-};
+ghost use Rattle.au_types.specs.Types.{in_region, integer, named, of_type, parameter, reads, text, truth};
+ghost use Rattle.au_types.specs.Types.{unit, writes};
 ghost use Rattle.au_types.specs.Views.{argument, argument_all, meaning};
 
 use crate::types::{Arg, DeclAt, Region, Ty};

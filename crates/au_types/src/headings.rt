@@ -1,8 +1,7 @@
 //! What is known of each declared type before its fields are looked at.
 
-ghost use Rattle.std.specs.Prelude.{
-  ◌≡◌, ◌<◌, ◌++◌, ◌∷◌, [], None, Some, length, slice_get, option_copied, IfOk, OnOk, OnErr,
-};
+ghost use Rattle.std.specs.Prelude.{◌≡◌, ◌<◌, ◌++◌, ◌∷◌, [], None, Some, length, slice_get, option_copied};
+ghost use Rattle.std.specs.Prelude.{IfOk, OnOk, OnErr};
 ghost use Rattle.au_types.specs.Rows.{head_of};
 
 use crate::parameters::Params;

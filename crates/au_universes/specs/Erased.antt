@@ -1,9 +1,7 @@
 -- Types without what their regions tell.
 use Rattle.au_types.specs.declared.types.Region.TheVariants.{Static}
-use Rattle.au_types.specs.Types.{
-  Meaning, Argument, Arguments, unit, truth, integer, text, parameter, named, reads, writes, of_type,
-  in_region, no_arguments, arguments,
-}
+use Rattle.au_types.specs.Types.{Meaning, Argument, Arguments, unit, truth, integer, text, parameter, named}
+use Rattle.au_types.specs.Types.{reads, writes, of_type, in_region, no_arguments, arguments}
 
 unfoldable mutual
   -- a type with `Static` in the place of every region

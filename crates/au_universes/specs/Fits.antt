@@ -9,9 +9,8 @@ use Rattle.au_universes.specs.declared.forming.Fit.{Fit}
 use Rattle.au_universes.specs.declared.forming.Fit.TheVariants.{InKind, InUniverse}
 use Rattle.au_universes.specs.declared.universes.TypeUniverse.{TypeUniverse}
 use Rattle.au_universes.specs.Universes.{judged, universe_of, argument_universe, argument_universes}
-use Rattle.au_universes.specs.Forming.{
-  wants_region, takes, fits_in_kind, fits, all_fit, is_formed, argument_formed, all_formed,
-}
+use Rattle.au_universes.specs.Forming.{wants_region, takes, fits_in_kind, fits, all_fit, is_formed}
+use Rattle.au_universes.specs.Forming.{argument_formed, all_formed}
 
 -- the test of arguments
 unfoldable pub asked : Fit → List (DeclAt × Head) → List Parameter → Universe → Argument → Bool

@@ -1,18 +1,15 @@
 -- Which types can be written over the rows of declared types and the type parameters in scope, and in which
 -- of them every argument has the universe that is wanted.
-use Rattle.std.specs.Prelude.{
-  List, [], ◌∷◌, ◌&&◌, Bool, true, false, not, Option, None, Some, IsTrue, is_some, ⊤,
-}
+use Rattle.std.specs.Prelude.{List, [], ◌∷◌, ◌&&◌, Bool, true, false, not, Option, None, Some, IsTrue}
+use Rattle.std.specs.Prelude.{is_some, ⊤}
 use Rattle.au_syntax.specs.declared.declarations.Universe.{Universe}
 use Rattle.au_syntax.specs.declared.declarations.Universe.TheVariants as universes
 use Rattle.au_types.specs.declared.headings.Head.{Head}
 use Rattle.au_types.specs.declared.parameters.Parameter.{Parameter}
 use Rattle.au_types.specs.declared.types.DeclAt.{DeclAt}
 use Rattle.au_types.specs.Rows.{head_of}
-use Rattle.au_types.specs.Types.{
-  Meaning, Argument, Arguments, unit, truth, integer, text, parameter, named, reads, writes, of_type,
-  in_region, no_arguments, arguments,
-}
+use Rattle.au_types.specs.Types.{Meaning, Argument, Arguments, unit, truth, integer, text, parameter, named}
+use Rattle.au_types.specs.Types.{reads, writes, of_type, in_region, no_arguments, arguments}
 use Rattle.au_types.specs.Universes.{universe_in}
 use Rattle.au_universes.specs.declared.universes.TypeUniverse.{TypeUniverse}
 use Rattle.au_universes.specs.Universes.{is_free, is_linear, of_parameter, universe_of}

@@ -5,9 +5,8 @@ ghost use Rattle.std.specs.Str.{bytes_eq};
 ghost use Rattle.au_syntax.specs.Views.{placed, expression, expression_all, argument_all};
 ghost use Rattle.au_syntax.specs.Plain.{plain_name, plain_expression, plain_expressions, plain_arguments};
 ghost use Rattle.au_lives.specs.Mentions as spec;
-ghost use Rattle.au_lives.specs.Mentions.{
-  unmentioned, mentioned_with, borrowed_by, counts_in, counts_in_all, counts_in_arguments,
-};
+ghost use Rattle.au_lives.specs.Mentions.{unmentioned, mentioned_with, borrowed_by, counts_in, counts_in_all};
+ghost use Rattle.au_lives.specs.Mentions.{counts_in_arguments};
 ghost use Rattle.au_uses.specs.Tallies.{tally_of};
 
 use crate::tallies::{Few, Tally, tally_and};

@@ -3,10 +3,8 @@
 --
 -- The library says which words are options, values and parts. What a part, an entry and a number of
 -- steps are is read from what it gives.
-use Rattle.std.specs.Prelude.{
-  ◌≡◌, ◌≢◌, ◌⊎◌, ◌↔◌, ℕ, Bool, true, false, IsTrue, IsFalse, List, [], ◌∷◌, ◌++◌, map, Option, Some,
-  option_to_list, flat_map, codes,
-}
+use Rattle.std.specs.Prelude.{◌≡◌, ◌≢◌, ◌⊎◌, ◌↔◌, ℕ, Bool, true, false, IsTrue, IsFalse, List, [], ◌∷◌, ◌++◌}
+use Rattle.std.specs.Prelude.{map, Option, Some, option_to_list, flat_map, codes}
 use Rattle.std.specs.List.{list_all}
 use Rattle.clap.specs.Simple.{App, Shape, new_rule, new_shape}
 use Rattle.clap.specs.Walk.{Row, Rule, first_of, all_of, one_of}

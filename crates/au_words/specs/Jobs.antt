@@ -14,10 +14,9 @@
 -- Without the option the steps are 1,000,000,000. M is names with single dots between, of at most 64
 -- bytes together, and f is a name of at most 64 bytes. A name is a letter and then letters, digits and
 -- `_`, and no keyword.
-use Rattle.std.specs.Prelude.{
-  ◌≡◌, ◌≢◌, ℕ, ◌≤◌, Bool, true, false, not, nat_eq, nat_lt, ◌==◌, ◌&&◌, ◌||◌, ◌⊎◌, IsTrue, IsFalse, List, [],
-  ◌∷◌, ◌++◌, length, Option, option_to_list, unwrap_or, flat_map, map, codes, decimal,
-}
+use Rattle.std.specs.Prelude.{◌≡◌, ◌≢◌, ℕ, ◌≤◌, Bool, true, false, not, nat_eq, nat_lt, ◌==◌, ◌&&◌, ◌||◌, ◌⊎◌}
+use Rattle.std.specs.Prelude.{IsTrue, IsFalse, List, [], ◌∷◌, ◌++◌, length, Option, option_to_list, unwrap_or}
+use Rattle.std.specs.Prelude.{flat_map, map, codes, decimal}
 use Rattle.std.specs.List.{list_all, starts_with}
 use Rattle.std.specs.Str.{bytes_eq}
 use Rattle.std.specs.String.{string_bytes}

@@ -1,9 +1,8 @@
 -- What stands in the words of a command line, as functions of them: the file names of a part, an entry, and a
 -- number of steps.
-use Rattle.std.specs.Prelude.{
-  ◌≡◌, ℕ, ◌+◌, Bool, not, nat_eq, nat_le, ◌==◌, ◌&&◌, List, [], ◌∷◌, ◌++◌, length, map, take, drop, Option,
-  Some, None, Result, Ok, Err, Vec, String, if◌then◌else◌, codes, option_and_then, option_map,
-}
+use Rattle.std.specs.Prelude.{◌≡◌, ℕ, ◌+◌, Bool, not, nat_eq, nat_le, ◌==◌, ◌&&◌, List, [], ◌∷◌, ◌++◌, length}
+use Rattle.std.specs.Prelude.{map, take, drop, Option, Some, None, Result, Ok, Err, Vec, String}
+use Rattle.std.specs.Prelude.{if◌then◌else◌, codes, option_and_then, option_map}
 use Rattle.std.specs.List.{list_all, list_any, prefix_len, slice_split, starts_with}
 use Rattle.std.specs.Global.{Global}
 use Rattle.std.specs.Str.{bytes_eq}
