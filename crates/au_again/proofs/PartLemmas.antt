@@ -2,7 +2,7 @@
 use Rattle.std.proofs.Common.{◌≡◌, [], Option, None, Some, refl}
 use Rattle.au_syntax.specs.declared.modules.Part.{Part}
 use Rattle.au_modules.specs.Programs.{Entry, ModuleParts}
-use Rattle.au_name_faults.specs.Parts.{tree_of}
+use Rattle.au_imports.specs.Parts.{tree_of}
 use Rattle.au_names.specs.Meanings.{part_of}
 use Rattle.au_names.specs.Owned.{declarations_in}
 

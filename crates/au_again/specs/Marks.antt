@@ -10,7 +10,7 @@ use Rattle.au_syntax.specs.Names.{Placed}
 use Rattle.au_syntax.specs.Plain.{Bytes, PlainArms, PlainBranches, PlainDeclaration, PlainMethod, PlainStatement, PlainStatements}
 use Rattle.au_syntax.specs.Statements.{skip, declare, destructure, assign, assign_through, conditional, conditional_else, case_of, while_loop, for_loop, borrow_in, borrow_typed, discard, return_of, no_statements, statements, no_branches, branches, no_arms, arms}
 use Rattle.au_syntax.specs.Types.{Bound, Labelled, WrittenType, named, reference}
-use Rattle.au_name_faults.specs.NameFaults.{given}
+use Rattle.au_imports.specs.NameFaults.{given}
 use Rattle.au_again.specs.declared.marks.Kind.{Kind}
 use Rattle.au_again.specs.declared.marks.Kind.TheVariants.{Values, Callables, Types, Fields}
 use Rattle.au_again.specs.declared.marks.Mark.{Mark}

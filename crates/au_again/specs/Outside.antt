@@ -9,7 +9,7 @@ use Rattle.au_tables.specs.Tables.{find}
 use Rattle.au_types.specs.declared.types.DeclAt.{DeclAt}
 use Rattle.au_modules.specs.Programs.{ModuleParts}
 use Rattle.au_names.specs.declared.part_names.PartNames.{PartNames}
-use Rattle.au_name_faults.specs.Clashing.{is_built_in}
+use Rattle.au_imports.specs.Clashing.{is_built_in}
 use Rattle.au_names.specs.Known.{seen_by}
 use Rattle.au_again.specs.declared.marks.Kind.{Kind}
 use Rattle.au_again.specs.declared.marks.Kind.TheVariants.{Values, Callables, Types, Fields}

@@ -5,7 +5,7 @@ ghost use Rattle.std.specs.Option.{option_copied};
 ghost use Rattle.au_again.specs.Outside as spec;
 
 use crate::marks::Kind;
-use au_name_faults::built_in::is_built_in;
+use au_imports::built_in::is_built_in;
 use au_names::PartNames;
 use au_tables::Space;
 use au_types::DeclAt;

@@ -4,7 +4,7 @@ ghost use Rattle.std.specs.Prelude.{◌≡◌, ◌++◌, ◌∷◌, [], OnOk, ma
 ghost use Rattle.au_again.specs.Marks.{bound_mark, enclosed, function_marks, generic_mark, labelled_mark, parameter_mark};
 ghost use Rattle.au_again.specs.Said.{binds_said};
 ghost use Rattle.au_mentions.specs.Said.{fields_said, generics_said, header_said, parameters_said};
-ghost use Rattle.au_name_faults.specs.NameFaults.{given};
+ghost use Rattle.au_imports.specs.NameFaults.{given};
 ghost use Rattle.au_syntax.specs.Plain.{plain_bound, plain_name, plain_renaming};
 ghost use Rattle.au_syntax.specs.Views.{bound, placed, renaming};
 ghost use Rattle.au_syntax.specs.contracts.parsed.ParsedPhase.TheImpl.{ghosts as parsed};

@@ -13,7 +13,7 @@ use Rattle.au_cycles.specs.Cycles.{successors}
 use Rattle.au_types.specs.declared.types.DeclAt.{DeclAt}
 use Rattle.au_types.specs.Rows.{same_place}
 use Rattle.au_types.proofs.SameLemmas.{place_is}
-use Rattle.au_name_faults.specs.Choices.{where_so}
+use Rattle.au_imports.specs.Choices.{where_so}
 use Rattle.au_formed.specs.declared.namings.Naming.{Naming}
 use Rattle.au_formed.specs.Graphs.{declarer, declarer_from, graph_by, graph_of, index_at}
 

@@ -9,7 +9,7 @@ use Rattle.au_syntax.specs.Plain.{Bytes, PlainDeclaration}
 use Rattle.au_syntax.specs.Types.{Labelled, WrittenType}
 use Rattle.au_types.specs.Types.{Meaning}
 use Rattle.au_judged_types.specs.Reasons.{Outcome, means, fails}
-use Rattle.au_name_faults.specs.Choices.{first_of, where_so}
+use Rattle.au_imports.specs.Choices.{first_of, where_so}
 use Rattle.au_universes.specs.declared.universes.TypeUniverse.{TypeUniverse}
 use Rattle.au_universes.specs.Universes.{is_free, is_linear}
 

@@ -3,7 +3,7 @@
 ghost use Rattle.std.specs.Prelude.{◌≡◌, IfOk, OnOk, []};
 ghost use Rattle.std.specs.Option.{option_or};
 ghost use Rattle.au_formed.specs.Graphs.{declarer, index_at};
-ghost use Rattle.au_name_faults.specs.Choices.{where_so};
+ghost use Rattle.au_imports.specs.Choices.{where_so};
 ghost use Rattle.au_types.specs.declared.types.DeclAt.{DeclAt};
 ghost use Rattle.au_types.specs.Rows.{same_place};
 

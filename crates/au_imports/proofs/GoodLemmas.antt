@@ -2,8 +2,8 @@
 use Rattle.std.proofs.Common.{◌≡◌, List, Option, Some, None, refl, ap, ◌∙◌}
 use Rattle.std.specs.Option.{option_map, option_or}
 use Rattle.au_modules.specs.Programs.{ModuleParts}
-use Rattle.au_name_faults.specs.NameFaults.{name_fault}
-use Rattle.au_name_faults.proofs.GoodLemmas as naming
+use Rattle.au_imports.specs.NameFaults.{name_fault}
+use Rattle.au_imports.proofs.GoodNameLemmas as naming
 use Rattle.au_promises.specs.Promises.{promise_fault}
 use Rattle.au_promises.proofs.FulfilledLemmas as keeping
 use Rattle.au_imports.specs.Good.{IsGood}

@@ -3,9 +3,9 @@
 use Rattle.std.specs.Prelude.{List, Option}
 use Rattle.std.specs.Option.{option_map, option_or}
 use Rattle.au_modules.specs.Programs.{ModuleParts}
-use Rattle.au_name_faults.specs.declared.faults.NameFault.{NameFault}
-use Rattle.au_name_faults.specs.declared.faults.NameFault.TheVariants as names
-use Rattle.au_name_faults.specs.NameFaults.{name_fault}
+use Rattle.au_imports.specs.declared.name_faults.NameFault.{NameFault}
+use Rattle.au_imports.specs.declared.name_faults.NameFault.TheVariants as names
+use Rattle.au_imports.specs.NameFaults.{name_fault}
 use Rattle.au_promises.specs.declared.faults.PromiseFault.{PromiseFault}
 use Rattle.au_promises.specs.declared.faults.PromiseFault.TheVariants as promises
 use Rattle.au_promises.specs.Promises.{promise_fault}

@@ -1,2 +1,10 @@
-pub mod Importing
+pub mod Choices
+pub mod Clashing
+pub mod Declaring
+pub mod Gathered
 pub mod Good
+pub mod Importers
+pub mod Importing
+pub mod NameFaults
+pub mod Parts
+pub mod Written

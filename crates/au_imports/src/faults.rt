@@ -4,8 +4,8 @@ ghost use Rattle.std.specs.Prelude.{◌≡◌};
 ghost use Rattle.au_imports.specs.Importing as spec;
 ghost use Rattle.au_imports.specs.declared.faults.ImportFault.TheVariants as fault;
 
+use crate::name_faults::NameFault;
 use au_base::{Memory, Name, Pos};
-use au_name_faults::NameFault;
 use au_promises::PromiseFault;
 use thiserror::Error;
 

@@ -1,8 +1,9 @@
 //! Laws of the definitions.
 
 ghost use Rattle.std.specs.Prelude.{◌≡◌, ◌↔◌, List, None, Some, slice_get};
-ghost use Rattle.au_imports.specs.Good.{IsGood};
+ghost use Rattle.au_imports.specs.Good.{AllNamesAreGood, IsGood};
 ghost use Rattle.au_imports.specs.Importing.{refusal_of};
+ghost use Rattle.au_imports.specs.NameFaults.{name_fault};
 ghost use Rattle.au_modules.specs.Programs.{Entry, ModuleParts};
 ghost use Rattle.au_promises.specs.Agreeing.{sight_of};
 ghost use Rattle.au_promises.specs.Fulfilled.{Agrees};
@@ -10,6 +11,11 @@ ghost use Rattle.au_names.specs.Standing.{Standing, definition_of, opaque_name, 
 ghost use Rattle.au_syntax.specs.Plain.{Bytes};
 ghost use Rattle.au_syntax.specs.declared.modules.Part.TheVariants as parts;
 ghost use Rattle.au_types.specs.declared.types.DeclAt.{DeclAt};
+
+/// Names are refused for nothing exactly where they are good by the rules.
+pub fn good_names_are_not_refused()
+    ensures { (program : List ModuleParts) → (name_fault program ≡ None) ↔ AllNamesAreGood program }
+{}
 
 /// Modules are refused for nothing exactly where all their names are good and all their promises are kept.
 pub fn good_programs_are_not_refused()

@@ -5,10 +5,10 @@ ghost use Rattle.au_imports.specs.Importing.{refusal_of};
 ghost use Rattle.au_modules.specs.Slots.{modules};
 
 use crate::faults::ImportFault;
+use crate::finding::name_fault;
 use crate::programs::Resolved;
 use au_base::Memory;
 use au_modules::Modules;
-use au_name_faults::name_fault;
 use au_names::NamedModules;
 use au_promises::promise_fault;
 use std::alloc::Global;

@@ -10,7 +10,7 @@ ghost use Rattle.au_derivations.specs.Parts as parts;
 ghost use Rattle.au_derivations.specs.Search as spec;
 ghost use Rattle.au_judgements.specs.Said.{cases_said, head_said, heads_said};
 ghost use Rattle.au_judgements.specs.Steps as steps;
-ghost use Rattle.au_name_faults.specs.Clashing.{same_target};
+ghost use Rattle.au_imports.specs.Clashing.{same_target};
 ghost use Rattle.au_noting.specs.Giving.{Gives};
 ghost use Rattle.au_noting.specs.Scopes.{scope_said};
 ghost use Rattle.au_sights.specs.Sights.{case_said};

@@ -21,9 +21,9 @@ use Rattle.au_modules.specs.declared.parts.Given.{Given}
 use Rattle.au_modules.specs.Programs as programs
 use Rattle.au_modules.specs.Programs.{Entry, ModuleParts, body_fault, fault_in, first_again, first_bodiless, first_fault, given, is_again, is_shipped, lacks_body, modules_of, pragma_fault}
 use Rattle.au_modules.proofs.ProgramLemmas.{program_accepted, program_from}
-use Rattle.au_name_faults.specs.declared.faults.NameFault.{NameFault}
-use Rattle.au_name_faults.specs.declared.faults.NameFault.TheVariants as names
-use Rattle.au_name_faults.specs.NameFaults.{name_fault}
+use Rattle.au_imports.specs.declared.name_faults.NameFault.{NameFault}
+use Rattle.au_imports.specs.declared.name_faults.NameFault.TheVariants as names
+use Rattle.au_imports.specs.NameFaults.{name_fault}
 use Rattle.au_promises.specs.declared.faults.PromiseFault.{PromiseFault}
 use Rattle.au_promises.specs.declared.faults.PromiseFault.TheVariants as promises
 use Rattle.au_promises.specs.Promises.{promise_fault}

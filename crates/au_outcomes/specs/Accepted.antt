@@ -5,7 +5,7 @@ use Rattle.au_base.specs.Outside.{Files}
 use Rattle.au_classes.specs.Good.{InstancesAreGood}
 use Rattle.au_derivations.specs.Trees.{NotedParts}
 use Rattle.au_modules.specs.Accepted.{IsProgram}
-use Rattle.au_name_faults.specs.Good.{AllNamesAreGood}
+use Rattle.au_imports.specs.Good.{AllNamesAreGood}
 use Rattle.au_noting_programs.specs.Faults.{IsDerived}
 use Rattle.au_program_lives.specs.Good.{AllLivesAreGood}
 use Rattle.au_promises.specs.Fulfilled.{AllFulfil}

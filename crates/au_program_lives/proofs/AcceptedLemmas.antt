@@ -5,7 +5,7 @@ use Rattle.au_base.specs.declared.places.Pos.{Pos}
 use Rattle.au_formed.specs.Text.{text}
 use Rattle.au_lives.specs.Refusals.{Refusal, in_loop, in_part, on_path, Refused, first_refused}
 use Rattle.au_modules.specs.Programs.{ModuleParts}
-use Rattle.au_name_faults.specs.Choices.{first_of}
+use Rattle.au_imports.specs.Choices.{first_of}
 use Rattle.au_program_lives.specs.declared.faults.LinearFault.{LinearFault}
 use Rattle.au_program_lives.specs.declared.faults.LinearFault.TheVariants as fault
 use Rattle.au_program_lives.specs.LinearFaults.{declaration_fault, declared_fault, fault_of, fault_told, function_fault, function_variables, linear_fault, method_fault, spot_types}

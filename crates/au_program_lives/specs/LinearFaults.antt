@@ -10,7 +10,7 @@ use Rattle.au_lives.specs.Refusals.{Refusal, in_loop, in_part, on_path, Refused,
 use Rattle.au_lives.specs.Scopes.{scopes_of}
 use Rattle.au_mentions.specs.Mentions.{type_parameters}
 use Rattle.au_modules.specs.Programs.{ModuleParts}
-use Rattle.au_name_faults.specs.Choices.{first_of}
+use Rattle.au_imports.specs.Choices.{first_of}
 use Rattle.au_names.specs.HeadsOf.{heads_of}
 use Rattle.au_program_lives.specs.declared.faults.LinearFault.{LinearFault}
 use Rattle.au_program_lives.specs.declared.faults.LinearFault.TheVariants as fault

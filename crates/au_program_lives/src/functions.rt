@@ -6,7 +6,7 @@ ghost use Rattle.au_linear.specs.Telling.{refusal_of, sorted};
 ghost use Rattle.au_lives.specs.Refusals.{first_refused};
 ghost use Rattle.au_lives.specs.Scopes.{scopes_of};
 ghost use Rattle.au_mentions.specs.Said.{header_said, methods_said};
-ghost use Rattle.au_name_faults.specs.Choices.{first_of};
+ghost use Rattle.au_imports.specs.Choices.{first_of};
 ghost use Rattle.au_program_lives.specs.LinearFaults as spec;
 ghost use Rattle.au_program_lives.specs.Said.{body_said, scope_of};
 

@@ -4,7 +4,7 @@ ghost use Rattle.std.specs.Prelude.{◌≡◌, ◌⊎◌, ◌<◌, Err, IfOk, No
 ghost use Rattle.au_formed.specs.Said.{spot_said, spots_said};
 ghost use Rattle.au_formed.specs.Text as texts;
 ghost use Rattle.au_modules.specs.Slots as slots;
-ghost use Rattle.au_name_faults.specs.Choices.{first_of};
+ghost use Rattle.au_imports.specs.Choices.{first_of};
 ghost use Rattle.au_names.specs.Walks as walks;
 ghost use Rattle.au_program_lives.specs.Good.{AllLivesAreGood};
 ghost use Rattle.au_program_lives.specs.LinearFaults as spec;

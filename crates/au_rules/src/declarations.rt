@@ -10,7 +10,7 @@ ghost use Rattle.au_formed.specs.Said.{spot_said, spots_said};
 ghost use Rattle.au_formed.specs.Text as texts;
 ghost use Rattle.au_names.specs.Walks as walks;
 ghost use Rattle.au_modules.specs.Slots as slots;
-ghost use Rattle.au_name_faults.specs.Choices.{first_of};
+ghost use Rattle.au_imports.specs.Choices.{first_of};
 ghost use Rattle.au_promises.specs.Promises as places;
 ghost use Rattle.au_rules.specs.DeclFaults as spec;
 ghost use Rattle.au_rules.specs.Good.{AllDeclarationsAreGood};

@@ -3,7 +3,7 @@ use Rattle.std.specs.Prelude.{slice_get}
 use Rattle.std.proofs.lemmas.List.{append-nil}
 use Rattle.au_modules.specs.Seen.{part_tree, tree_seen}
 use Rattle.au_modules.specs.Slots as slots
-use Rattle.au_name_faults.proofs.BroughtLemmas.{tree_is}
+use Rattle.au_imports.proofs.BroughtLemmas.{tree_is}
 use Rattle.au_again.specs.Marks.{marks}
 use Rattle.au_again.specs.Outside.{outside}
 use Rattle.au_again.specs.Scopes.{doubles_in}

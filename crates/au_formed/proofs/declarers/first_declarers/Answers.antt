@@ -1,6 +1,6 @@
 use Rattle.std.proofs.Common.{sym, ap, ◌∙◌}
 use Rattle.std.specs.Option.{option_or}
-use Rattle.au_name_faults.specs.Choices.{where_so}
+use Rattle.au_imports.specs.Choices.{where_so}
 use Rattle.au_types.specs.Rows.{same_place}
 use Rattle.au_formed.proofs.DeclarerLemmas.{declarer_more}
 use Rattle.au_formed.proofs.declarers.first_declarers.Goals as goal

@@ -2,8 +2,8 @@ use Rattle.std.proofs.Common.{ap, ◌∙◌}
 use Rattle.au_formed.specs.Fields.{above_place, first_above}
 use Rattle.au_judged_types.specs.Views.{judged_in}
 use Rattle.au_mentions.specs.Said.{fields_said}
-use Rattle.au_name_faults.specs.Choices.{where_so}
-use Rattle.au_name_faults.proofs.DeclaringLemmas.{first_more, first_none, found_here, not_here, nowhere}
+use Rattle.au_imports.specs.Choices.{where_so}
+use Rattle.au_imports.proofs.DeclaringLemmas.{first_more, first_none, found_here, not_here, nowhere}
 use Rattle.au_syntax.specs.contracts.parsed.ParsedPhase.TheImpl.{ghosts as parsed}
 use Rattle.au_syntax.specs.Plain.{plain_labelled}
 use Rattle.au_syntax.specs.Views.{labelled}

@@ -1,6 +1,6 @@
 use Rattle.std.proofs.Common.{◌<◌, ◌++◌, length, sym, ap, ◌∙◌, arith}
 use Rattle.au_modules.specs.Slots as slots
-use Rattle.au_name_faults.proofs.OfferLemmas.{module_there}
+use Rattle.au_imports.proofs.OfferLemmas.{module_there}
 use Rattle.au_formed.specs.Said.{spots_said}
 use Rattle.au_formed.specs.Text.{module_spots}
 use Rattle.au_formed.proofs.TextLemmas.{text_more, text_none}

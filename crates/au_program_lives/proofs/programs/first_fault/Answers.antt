@@ -3,8 +3,8 @@ use Rattle.au_formed.specs.Said.{spot_said, spots_said}
 use Rattle.au_formed.specs.Text.{text}
 use Rattle.au_formed.proofs.TextLemmas.{said_among, spot_within}
 use Rattle.au_modules.specs.Slots as slots
-use Rattle.au_name_faults.specs.Choices.{first_of}
-use Rattle.au_name_faults.proofs.DeclaringLemmas.{first_more, first_none, found_here, not_here, nowhere}
+use Rattle.au_imports.specs.Choices.{first_of}
+use Rattle.au_imports.proofs.DeclaringLemmas.{first_more, first_none, found_here, not_here, nowhere}
 use Rattle.au_program_lives.specs.LinearFaults.{declaration_fault}
 use Rattle.au_program_lives.proofs.programs.first_fault.Goals as goal
 

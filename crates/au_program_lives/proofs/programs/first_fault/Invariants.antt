@@ -1,7 +1,7 @@
 use Rattle.std.proofs.Common.{◌≡◌, drop}
 use Rattle.au_formed.specs.Said.{spots_said}
 use Rattle.au_modules.specs.Slots as slots
-use Rattle.au_name_faults.specs.Choices.{first_of}
+use Rattle.au_imports.specs.Choices.{first_of}
 use Rattle.au_program_lives.specs.LinearFaults.{declaration_fault}
 use Rattle.au_program_lives.proofs.programs.first_fault.Given as goal
 

@@ -1,7 +1,7 @@
 use Rattle.std.proofs.Common.{◌≡◌, drop}
 use Rattle.au_formed.specs.Said.{spots_said}
 use Rattle.au_modules.specs.Slots as slots
-use Rattle.au_name_faults.specs.Choices.{first_of}
+use Rattle.au_imports.specs.Choices.{first_of}
 use Rattle.au_rules.specs.DeclFaults.{fault_by}
 use Rattle.au_rules.specs.Tests.{is_this}
 use Rattle.au_rules.proofs.declarations.first_fault.Given as goal

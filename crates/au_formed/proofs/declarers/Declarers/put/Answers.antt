@@ -1,7 +1,7 @@
 use Rattle.std.proofs.Common.{sym, ap, ◌∙◌, is_some}
 use Rattle.indexmap.proofs.CallerLemmas.{insert_entry-new}
 use Rattle.std.specs.Option.{option_or}
-use Rattle.au_name_faults.specs.Choices.{where_so}
+use Rattle.au_imports.specs.Choices.{where_so}
 use Rattle.au_types.specs.Rows.{same_place}
 use Rattle.au_formed.proofs.DeclarerLemmas.{index_push, none_of}
 use Rattle.au_formed.specs.Graphs.{index_at}

@@ -1,0 +1,30 @@
+use Rattle.std.proofs.Common.{None, Some, length, sym, ap, ◌∙◌, arith}
+use Rattle.au_syntax.specs.contracts.parsed.ParsedPhase.TheImpl.{ghosts as parsed}
+use Rattle.au_syntax.specs.Files.{says}
+use Rattle.au_modules.specs.Slots as slots
+use Rattle.au_imports.specs.Gathered.{last_tables}
+use Rattle.au_modules.proofs.PlaceLemmas.{numbers_fit}
+use Rattle.au_names.proofs.ExportLemmas as exporting
+use Rattle.au_imports.proofs.OfferLemmas.{lasts_seen, none_named}
+use Rattle.au_imports.proofs.offers.last_offered.Goals as goal
+
+pub returns-in-None : goal.returns-in-None
+returns-in-None c = lasts_seen (slots.modules c.args.modules.now) c.args.place
+    None c.requires c.in-None.ensures
+    ∙ ap Some (sym (c.no_names.ensures 0 ∙ sym (exporting.none_named 0) ∙ none_named))
+
+pub tables_back-requires : goal.tables_back-requires
+tables_back-requires c =
+    let few = numbers_fit c.args.modules.now c.args.place in
+    let declared = exporting.few_seen (Some (says parsed c.in-Some.file.now.tree))
+    _ c.in-Some.ensures few.0 in
+    let same = exporting.length_seen c.tree-tree.result.now in
+    let tree = ap (λ t. length (says parsed t).declarations) c.tree-tree.ensures.same in
+    omega (arith, declared, same, tree)
+
+pub returns-in_ok-names-in-Some : goal.returns-in_ok-names-in-Some
+returns-in_ok-names-in-Some c =
+    lasts_seen (slots.modules c.args.modules.now) c.args.place
+    (Some (says parsed c.in-Some.file.now.tree)) c.requires c.in-Some.ensures
+    ∙ ap (λ t. Some (last_tables (says parsed t).declarations)) (sym c.tree-tree.ensures.same)
+    ∙ ap Some (sym c.in_ok-names-in-Some.ensures)

@@ -1,8 +1,0 @@
-use Rattle.au_syntax.specs.contracts.parsed.ParsedPhase.TheImpl.{ghosts as parsed}
-use Rattle.au_syntax.specs.Files.{says}
-use Rattle.au_name_faults.proofs.NamingLemmas.{modules_named}
-use Rattle.au_name_faults.proofs.finding.tree_fault.Goals as goal
-
-pub imports_fault-requires-clause-named : goal.imports_fault-requires-clause-named
-imports_fault-requires-clause-named c = modules_named (says parsed c.args.tree.now)
-    c.requires.formed c.requires.sized

@@ -1,5 +1,0 @@
-use Rattle.au_name_faults.proofs.GoodLemmas as lemmas
-use Rattle.au_name_faults.proofs.laws.good_names_are_not_refused.Goals as goal
-
-pub returns : goal.returns
-returns c program = (lemmas.good_from program, lemmas.good_accepted program)

@@ -1,4 +1,0 @@
-use Rattle.au_name_faults.proofs.offers.offers_of.Goals as goal
-
-pub returns : goal.returns
-returns c = record { exports = c.in_ok-exports.ensures; lasts = c.in_ok-lasts.ensures }
