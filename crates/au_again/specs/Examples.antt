@@ -7,10 +7,37 @@ use Rattle.au_syntax.specs.declared.expressions.BorrowMode.TheVariants as modes
 use Rattle.au_syntax.specs.declared.statements.Binding.TheVariants as bindings
 use Rattle.au_syntax.specs.declared.types.Access.TheVariants as accesses
 use Rattle.au_syntax.specs.Expressions.{nil}
-use Rattle.au_syntax.specs.Modules.{Constrained, Header, InUniverse, Variant, class, constant, constant_body, function, function_body, instance_body, opaque_type, record_type, union_type}
+use Rattle.au_syntax.specs.Modules.{
+  Constrained,
+  Header,
+  InUniverse,
+  Variant,
+  class,
+  constant,
+  constant_body,
+  function,
+  function_body,
+  instance_body,
+  opaque_type,
+  record_type,
+  union_type,
+}
 use Rattle.au_syntax.specs.Names.{Placed}
 use Rattle.au_syntax.specs.Plain.{Bytes, PlainDeclaration, PlainExpression, PlainStatement, PlainStatements}
-use Rattle.au_syntax.specs.Statements.{arms, borrow_in, borrow_typed, branches, case_of, conditional_else, declare, for_loop, no_arms, no_branches, no_statements, statements}
+use Rattle.au_syntax.specs.Statements.{
+  arms,
+  borrow_in,
+  borrow_typed,
+  branches,
+  case_of,
+  conditional_else,
+  declare,
+  for_loop,
+  no_arms,
+  no_branches,
+  no_statements,
+  statements,
+}
 use Rattle.au_syntax.specs.Types.{Labelled, WrittenType, named, no_types, reference}
 use Rattle.au_again.specs.declared.doubles.Double.{Double}
 use Rattle.au_again.specs.declared.marks.Kind.{Kind}
@@ -99,7 +126,8 @@ a_borrow name column region place body =
 -- a borrow statement with a written type
 abbrev pub a_typed_borrow : Bytes → ℕ → Bytes → ℕ → PlainStatements → PlainStatement
 a_typed_borrow name column region place body =
-    borrow_typed (at_column 0) (put name column) (reference (at_column 0) accesses.Read small (put region place))
+    borrow_typed (at_column 0) (put name column)
+    (reference (at_column 0) accesses.Read small (put region place))
     modes.Read (put (codes "x") 0) body (at_column 0)
 
 -- what comes from elsewhere: a constant that is imported, and a type that is built in

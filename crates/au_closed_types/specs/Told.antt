@@ -5,7 +5,19 @@ use Rattle.au_types.specs.declared.types.DeclAt.{DeclAt}
 use Rattle.au_types.specs.Rows.{head_of}
 use Rattle.au_type_texts.specs.Told.{AreTold}
 use Rattle.au_closed_types.specs.Texts.{text_of}
-use Rattle.au_closed_types.specs.Types.{ClosedType, ClosedTypes, unit, truth, integer, text, named, reads, writes, no_types, types}
+use Rattle.au_closed_types.specs.Types.{
+  ClosedType,
+  ClosedTypes,
+  unit,
+  truth,
+  integer,
+  text,
+  named,
+  reads,
+  writes,
+  no_types,
+  types,
+}
 
 module _ (rows : List (DeclAt × Head)) where
   abbrev mutual
@@ -27,4 +39,6 @@ module _ (rows : List (DeclAt × Head)) where
 -- over rows of which the texts tell declarations apart, two closed types with one text are one type
 abbrev pub ClosedTextsTell : Type 0
 ClosedTextsTell =
-    (rows : List (DeclAt × Head)) → AreTold rows → (t u : ClosedType) → HasRows rows t → HasRows rows u → text_of rows t ≡ text_of rows u → t ≡ u
+    (rows : List (DeclAt × Head)) → AreTold rows
+    → (t u : ClosedType) → HasRows rows t → HasRows rows u
+    → text_of rows t ≡ text_of rows u → t ≡ u

@@ -44,7 +44,8 @@ fn definition_index(
     decl: &Decl<Parsed>,
 ) -> Result<Option<usize>, Memory>
     ensures { (all : List PlainDeclaration) → AreDefinitions (sight_in sight.now) all definitions.now
-        → IfOk result (λ index. index ≡ spec.definition_index (sight_in sight.now) all (declared_of decl.now)) }
+        → IfOk result (λ index. index
+        ≡ spec.definition_index (sight_in sight.now) all (declared_of decl.now)) }
 {
     match decl {
         Decl::Constant(_, _, _) => Ok(None),

@@ -1,6 +1,24 @@
 -- The instances of classes at closed types, of which regions are left out: a region parameter of a row takes
 -- any region, and a closed head stands for the type that it closes to.
-use Rattle.std.specs.Prelude.{◌≡◌, ◌&&◌, List, [], ◌∷◌, ◌++◌, Bool, true, false, Option, None, Some, IsTrue, is_some, unwrap_or, Contains, if◌then◌else◌}
+use Rattle.std.specs.Prelude.{
+  ◌≡◌,
+  ◌&&◌,
+  List,
+  [],
+  ◌∷◌,
+  ◌++◌,
+  Bool,
+  true,
+  false,
+  Option,
+  None,
+  Some,
+  IsTrue,
+  is_some,
+  unwrap_or,
+  Contains,
+  if◌then◌else◌,
+}
 use Rattle.std.specs.List.{list_all}
 use Rattle.au_syntax.specs.declared.declarations.Universe.{Universe}
 use Rattle.au_syntax.specs.Plain.{Bytes}
@@ -17,7 +35,19 @@ use Rattle.au_universes.specs.Universes.{judged, of_row}
 use Rattle.au_matching.specs.Bindings.{Bindings, value_of}
 use Rattle.au_closed_types.specs.Closing.{closed}
 use Rattle.au_closed_types.specs.Same.{same}
-use Rattle.au_closed_types.specs.Types.{ClosedType, ClosedTypes, unit, truth, integer, text, named, reads, writes, no_types, types}
+use Rattle.au_closed_types.specs.Types.{
+  ClosedType,
+  ClosedTypes,
+  unit,
+  truth,
+  integer,
+  text,
+  named,
+  reads,
+  writes,
+  no_types,
+  types,
+}
 use Rattle.au_generics.specs.Bounds.{Bounded, constrains, parameters, classes_of}
 use Rattle.au_instances.specs.declared.constructors.Constructor.TheVariants as constructors
 use Rattle.au_instances.specs.Becoming.{Becomes}
@@ -27,7 +57,8 @@ use Rattle.au_instances.specs.Tables.{row_of}
 
 -- the head of a row becomes a closed type under a substitution that fits the universes of the row's
 -- parameters: it becomes a type that closes to the closed one
-pub record ClosedBecomes (heads : List (DeclAt × Head)) (row : Row) (t : ClosedType) (s : Bindings) : Type 0 where
+pub record ClosedBecomes (heads : List (DeclAt × Head)) (row : Row) (t : ClosedType) (s : Bindings)
+    : Type 0 where
   pub whole : Meaning
   pub becomes : Becomes heads [] row whole s
   pub closes : closed whole ≡ Some t
@@ -36,7 +67,8 @@ mutual
   -- A row gives the instance of a class at a closed type: it is of the class, its head becomes the type under
   -- some substitution that fits, and each constraint of its parameters holds of what the parameter's value
   -- closes to.
-  pub data ClosedInstance (rows : List Row) (heads : List (DeclAt × Head)) : DeclAt → ClosedType → Row → Type 0 where
+  pub data ClosedInstance (rows : List Row) (heads : List (DeclAt × Head))
+      : DeclAt → ClosedType → Row → Type 0 where
     by_row : (class : DeclAt) (t : ClosedType) (row : Row) (s : Bindings)
         → Contains rows row
         → row.class ≡ class
@@ -133,9 +165,11 @@ module _ (rows : List Row) (heads : List (DeclAt × Head)) where
     pub closed_row : ClosedType → DeclAt → Option Row
     closed_row unit class = if_gives heads unit [] (row_of rows class constructors.Unit)
     closed_row truth class = if_gives heads truth [] (row_of rows class constructors.Bool)
-    closed_row (integer kind) class = if_gives heads (integer kind) [] (row_of rows class (constructors.Int kind))
+    closed_row (integer kind) class =
+        if_gives heads (integer kind) [] (row_of rows class (constructors.Int kind))
     closed_row text class = if_gives heads text [] (row_of rows class constructors.Text)
-    closed_row (named at args) class = if_gives heads (named at args) (parts_of args) (row_of rows class (constructors.Declared at))
+    closed_row (named at args) class =
+        if_gives heads (named at args) (parts_of args) (row_of rows class (constructors.Declared at))
     closed_row (reads to) class = None
     closed_row (writes to) class = None
 

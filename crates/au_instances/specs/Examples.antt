@@ -46,11 +46,26 @@ abbrev pub headed : List ℕ → Universe → List Parameter → Head
 headed said universe params = record { text = said; universe = universe; params = params }
 
 abbrev pub declared : List (DeclAt × Head)
-declared =
-    (option, headed (codes "Austral.Pervasive:Option") universes.AnyType (parameter_of (codes "T") universes.AnyType ∷ []))
-    ∷ (box, headed (codes "Standard.Box:Box") universes.Linear (parameter_of (codes "T") universes.AnyType ∷ []))
-    ∷ (pair, headed (codes "Main:Pair") universes.Free (parameter_of (codes "A") universes.Free ∷ parameter_of (codes "B") universes.Free ∷ []))
-    ∷ (lent, headed (codes "Main:Lent") universes.Free (parameter_of (codes "R") universes.Region ∷ parameter_of (codes "T") universes.Free ∷ []))
+declared = (
+  option,
+  headed (codes "Austral.Pervasive:Option") universes.AnyType
+      (parameter_of (codes "T") universes.AnyType ∷ []),
+)
+    ∷ (
+      box,
+      headed (codes "Standard.Box:Box") universes.Linear
+          (parameter_of (codes "T") universes.AnyType ∷ []),
+    )
+    ∷ (
+      pair,
+      headed (codes "Main:Pair") universes.Free
+          (parameter_of (codes "A") universes.Free ∷ parameter_of (codes "B") universes.Free ∷ []),
+    )
+    ∷ (
+      lent,
+      headed (codes "Main:Lent") universes.Free
+          (parameter_of (codes "R") universes.Region ∷ parameter_of (codes "T") universes.Free ∷ []),
+    )
     ∷ []
 
 -- ---- types
@@ -81,12 +96,15 @@ of_one at one = whole.named at (whole.arguments (whole.of_type one) whole.no_arg
 
 abbrev pub of_two : DeclAt → Meaning → Meaning → Meaning
 of_two at one other =
-    whole.named at (whole.arguments (whole.of_type one) (whole.arguments (whole.of_type other) whole.no_arguments))
+    whole.named at
+    (whole.arguments (whole.of_type one) (whole.arguments (whole.of_type other) whole.no_arguments))
 
 -- a type that is lent for a region of a name
 abbrev pub lent_for : Bytes → Meaning → Meaning
 lent_for region one =
-    whole.named lent (whole.arguments (whole.in_region (regions.Named region)) (whole.arguments (whole.of_type one) whole.no_arguments))
+    whole.named lent
+    (whole.arguments (whole.in_region (regions.Named region))
+    (whole.arguments (whole.of_type one) whole.no_arguments))
 
 -- closed ones
 abbrev pub closed_one : DeclAt → ClosedType → ClosedType
@@ -117,9 +135,14 @@ table =
     ∷ row 2 shown [] whole.text
     ∷ row 3 shown (bounded_by (codes "T") universes.Free (shown ∷ []) ∷ []) (of_one option t)
     ∷ row 4 shown (bounded_by (codes "T") universes.AnyType [] ∷ []) (of_one box t)
-    ∷ row 5 shown (bounded_by (codes "U") universes.Free (shown ∷ []) ∷ bounded_by (codes "S") universes.Region [] ∷ []) (lent_for (codes "S") (whole.parameter (codes "U")))
+    ∷ row 5 shown
+    (bounded_by (codes "U") universes.Free (shown ∷ []) ∷ bounded_by (codes "S") universes.Region [] ∷ [])
+    (lent_for (codes "S") (whole.parameter (codes "U")))
     ∷ row 6 ordered [] (of_one option nat8)
-    ∷ row 7 ordered (bounded_by (codes "B") universes.Free (ordered ∷ []) ∷ bounded_by (codes "A") universes.Free (shown ∷ []) ∷ []) (of_two pair (whole.parameter (codes "A")) (whole.parameter (codes "B")))
+    ∷ row 7 ordered
+    (bounded_by (codes "B") universes.Free (ordered ∷ [])
+    ∷ bounded_by (codes "A") universes.Free (shown ∷ []) ∷ [])
+    (of_two pair (whole.parameter (codes "A")) (whole.parameter (codes "B")))
     ∷ []
 
 -- ---- which row a class has at a type, where T has this universe

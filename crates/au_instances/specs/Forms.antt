@@ -1,5 +1,20 @@
 -- Which types may be heads of instances.
-use Rattle.std.specs.Prelude.{◌≡◌, ◌⊎◌, ◌&&◌, ◌||◌, List, Bool, true, false, not, Option, None, Some, IsTrue, is_some}
+use Rattle.std.specs.Prelude.{
+  ◌≡◌,
+  ◌⊎◌,
+  ◌&&◌,
+  ◌||◌,
+  List,
+  Bool,
+  true,
+  false,
+  not,
+  Option,
+  None,
+  Some,
+  IsTrue,
+  is_some,
+}
 use Rattle.std.specs.List.{list_all}
 use Rattle.std.specs.Str.{bytes_eq}
 use Rattle.au_syntax.specs.declared.declarations.Universe.{Universe}
@@ -7,7 +22,23 @@ use Rattle.au_syntax.specs.Plain.{Bytes}
 use Rattle.au_types.specs.declared.parameters.Parameter.{Parameter}
 use Rattle.au_types.specs.declared.types.Region.{Region}
 use Rattle.au_types.specs.declared.types.Region.TheVariants.{Static, Named, Anonymous}
-use Rattle.au_types.specs.Types.{Meaning, Argument, Arguments, unit, truth, integer, text, parameter, named, reads, writes, of_type, in_region, no_arguments, arguments}
+use Rattle.au_types.specs.Types.{
+  Meaning,
+  Argument,
+  Arguments,
+  unit,
+  truth,
+  integer,
+  text,
+  parameter,
+  named,
+  reads,
+  writes,
+  of_type,
+  in_region,
+  no_arguments,
+  arguments,
+}
 use Rattle.au_types.specs.Universes.{universe_in}
 use Rattle.au_universes.specs.Forming.{fits_in_kind}
 use Rattle.au_generics.specs.Bounds.{Bounded, parameters}
@@ -111,7 +142,8 @@ pub record HasForm (generics : List Bounded) (head : Meaning) : Type 0 where
   pub constructor : Constructor
   pub heads : constructor_of head ≡ Some constructor
   pub over : IsTrue (is_closed head)
-      ⊎ (IsTrue (are_parameters (parameters generics) (arguments_of head)) × IsTrue (are_distinct (arguments_of head)))
+      ⊎ (IsTrue (are_parameters (parameters generics) (arguments_of head))
+      × IsTrue (are_distinct (arguments_of head)))
   pub stand : IsTrue (all_stand (parameters generics) (arguments_of head))
 
 -- the same as a test

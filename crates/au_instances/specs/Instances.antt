@@ -24,7 +24,8 @@ is_known known name class = list_any (λ one. bytes_eq name one.0 && same_place 
 mutual
   -- A row gives the instance of a class at a type: it is of the class, its head becomes the type under some
   -- substitution that fits, and each constraint of its parameters holds of the parameter's value.
-  pub data Instance (rows : List Row) (heads : List (DeclAt × Head)) (scope : List Parameter) (known : Known) : DeclAt → Meaning → Row → Type 0 where
+  pub data Instance (rows : List Row) (heads : List (DeclAt × Head)) (scope : List Parameter) (known : Known)
+      : DeclAt → Meaning → Row → Type 0 where
     by_row : (class : DeclAt) (t : Meaning) (row : Row) (s : Bindings)
         → Contains rows row
         → row.class ≡ class
@@ -37,7 +38,8 @@ mutual
 
   -- A constraint holds of a type: the type is a type parameter in scope that is known to have it, or some row
   -- gives the instance.
-  pub data Holds (rows : List Row) (heads : List (DeclAt × Head)) (scope : List Parameter) (known : Known) : DeclAt → Meaning → Type 0 where
+  pub data Holds (rows : List Row) (heads : List (DeclAt × Head)) (scope : List Parameter) (known : Known)
+      : DeclAt → Meaning → Type 0 where
     assumed : (class : DeclAt) (name : Bytes)
         → IsTrue (is_known known name class)
         → Holds rows heads scope known class (parameter name)

@@ -1,5 +1,18 @@
 -- Which constraints a class at a type leads to, and which of them is lacking first.
-use Rattle.std.specs.Prelude.{List, [], ◌∷◌, Bool, not, Option, None, Some, is_none, map, unwrap_or, if◌then◌else◌}
+use Rattle.std.specs.Prelude.{
+  List,
+  [],
+  ◌∷◌,
+  Bool,
+  not,
+  Option,
+  None,
+  Some,
+  is_none,
+  map,
+  unwrap_or,
+  if◌then◌else◌,
+}
 use Rattle.std.specs.Borrow.{Bor}
 use Rattle.std.specs.List.{find, flat_map}
 use Rattle.au_syntax.specs.Plain.{Bytes}
@@ -8,7 +21,23 @@ use Rattle.au_types.specs.declared.parameters.Parameter.{Parameter}
 use Rattle.au_types.specs.declared.types.DeclAt.{DeclAt}
 use Rattle.au_types.specs.declared.types.Ty.{Ty}
 use Rattle.au_types.specs.Views.{meaning}
-use Rattle.au_types.specs.Types.{Meaning, Argument, Arguments, unit, truth, integer, text, parameter, named, reads, writes, of_type, in_region, no_arguments, arguments}
+use Rattle.au_types.specs.Types.{
+  Meaning,
+  Argument,
+  Arguments,
+  unit,
+  truth,
+  integer,
+  text,
+  parameter,
+  named,
+  reads,
+  writes,
+  of_type,
+  in_region,
+  no_arguments,
+  arguments,
+}
 use Rattle.au_generics.specs.Bounds.{Bounded, classes_of}
 use Rattle.au_instances.specs.Forms.{arguments_of, is_called, name_of}
 use Rattle.au_instances.specs.Instances.{Known, is_known}
@@ -33,7 +62,9 @@ named_with name classes = map (λ class. (name, class)) classes
 -- the constraints of type parameters from left to right
 abbrev pub constraints_of : List Bounded → Known
 constraints_of generics =
-    flat_map (λ one. named_with one.parameter.name (unwrap_or (classes_of generics one.parameter.name) [])) generics
+    flat_map
+    (λ one. named_with one.parameter.name (unwrap_or (classes_of generics one.parameter.name) []))
+    generics
 
 -- what arguments lead to, each in its place: for each class a list of pairs
 abbrev pub Parts : Type 0

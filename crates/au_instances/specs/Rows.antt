@@ -43,7 +43,10 @@ type_code = code_by Argument argument_coded of_type type_of (λ _. refl)
 
 abbrev pub bounded_code : Coded Bounded
 bounded_code =
-    code_by (Parameter × List DeclAt) (coded× parameters.coded (coded_list places.coded)) (λ one. (one.parameter, one.classes)) (λ p. record { parameter = p.0; classes = p.1 }) (λ _. refl)
+    code_by (Parameter × List DeclAt) (coded× parameters.coded (coded_list places.coded))
+    (λ one. (one.parameter, one.classes))
+    (λ p. record { parameter = p.0; classes = p.1 })
+    (λ _. refl)
 
 abbrev pub Parts : Type 0
 Parts = (DeclAt × DeclAt) × (List Bounded × Meaning)

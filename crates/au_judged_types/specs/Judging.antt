@@ -21,7 +21,20 @@ use Rattle.au_types.specs.Types as mean
 use Rattle.au_types.specs.Types.{Meaning, Argument, Arguments}
 use Rattle.au_universes.specs.Universes.{is_free, is_linear, universe_of}
 use Rattle.au_written_types.specs.Senses.{Sense, a_type, a_span, a_region, declared, sense_of}
-use Rattle.au_judged_types.specs.Reasons.{Reason, unknown, number_wanted, region_wanted, not_free, linear_wanted, Outcome, means, fails, kept, in_order, unless}
+use Rattle.au_judged_types.specs.Reasons.{
+  Reason,
+  unknown,
+  number_wanted,
+  region_wanted,
+  not_free,
+  linear_wanted,
+  Outcome,
+  means,
+  fails,
+  kept,
+  in_order,
+  unless,
+}
 
 -- ---- where a region is wanted
 
@@ -116,7 +129,8 @@ abbrev pub refers : Access → Meaning → Region → Meaning
 refers access.Read t region = mean.reads t region
 refers access.Write t region = mean.writes t region
 
-module _ (opened : List Bytes) (params : List Parameter) (visible : List (Bytes × DeclAt)) (heads : List (DeclAt × Head)) where
+module _ (opened : List Bytes) (params : List Parameter) (visible : List (Bytes × DeclAt))
+    (heads : List (DeclAt × Head)) where
   -- a written type where a region is wanted: it's a name alone
   abbrev pub region_judged : WrittenType → Outcome Region
   region_judged (named name args) =

@@ -5,7 +5,14 @@ ghost use Rattle.std.specs.Option.{option_map};
 ghost use Rattle.au_syntax.specs.declared.declarations.Universe.TheVariants as universes;
 ghost use Rattle.au_types.specs.Types.{of_type};
 ghost use Rattle.au_types.specs.Views.{argument, argument_all, meaning};
-ghost use Rattle.au_judged_types.specs.Views.{ArgumentStandsIn, StandForIn, StandsIn, first_unfit_in, reason, unfit_in};
+ghost use Rattle.au_judged_types.specs.Views.{
+  ArgumentStandsIn,
+  StandForIn,
+  StandsIn,
+  first_unfit_in,
+  reason,
+  unfit_in,
+};
 
 use crate::reasons::Reason;
 use au_base::Memory;
@@ -23,7 +30,8 @@ pub(crate) fn first_unfit(
     args: &Vec<Arg>,
 ) -> Result<Option<Reason>, Memory>
     requires { StandForIn scope.now expected.now (argument_all args.now.items) }
-    ensures { IfOk result (λ why. option_map reason why ≡ first_unfit_in scope.now expected.now (argument_all args.now.items)) }
+    ensures { IfOk result (λ why. option_map reason why
+        ≡ first_unfit_in scope.now expected.now (argument_all args.now.items)) }
 {
     for (index, one) in args.iter().enumerate() {
         let wanted = expected.at(index).universe;
@@ -59,7 +67,8 @@ fn unfit_type(
     of: &Ty,
 ) -> Result<Option<Reason>, Memory>
     requires { StandsIn scope.now (meaning of.now) }
-    ensures { IfOk result (λ why. option_map reason why ≡ unfit_in scope.now wanted (of_type (meaning of.now))) }
+    ensures { IfOk result (λ why. option_map reason why
+        ≡ unfit_in scope.now wanted (of_type (meaning of.now))) }
 {
     match wanted {
         Universe::Free => unfit_free(alloc, scope, of),
@@ -72,7 +81,8 @@ fn unfit_type(
 /// Why a type doesn't fit where `Free` is wanted, if it doesn't.
 fn unfit_free(alloc: Global, scope: &Scope, of: &Ty) -> Result<Option<Reason>, Memory>
     requires { StandsIn scope.now (meaning of.now) }
-    ensures { IfOk result (λ why. option_map reason why ≡ unfit_in scope.now universes.Free (of_type (meaning of.now))) }
+    ensures { IfOk result (λ why. option_map reason why
+        ≡ unfit_in scope.now universes.Free (of_type (meaning of.now))) }
 {
     if takes(Universe::Free, universe_of(scope.heads, scope.params, of)) {
         return Ok(None);

@@ -10,7 +10,14 @@ ghost use Rattle.au_written_types.specs.Views.{said, sense_in};
 ghost use Rattle.au_judged_types.specs.Judging as judging;
 ghost use Rattle.au_judged_types.specs.Reasons.{kept, means};
 ghost use Rattle.au_judged_types.specs.Views.{StandForIn, applied_in, arguments_in, declared_in, fitted_in};
-ghost use Rattle.au_judged_types.specs.Views.{given_in, judged_in, outcome, region, region_in, region_named_in};
+ghost use Rattle.au_judged_types.specs.Views.{
+  given_in,
+  judged_in,
+  outcome,
+  region,
+  region_in,
+  region_named_in,
+};
 
 use crate::fitting::first_unfit;
 use crate::reasons::{Judged, Reason, unknown};
@@ -51,7 +58,8 @@ fn judge_reference(
     to: Ty,
     region: &Name,
 ) -> Result<Judged<Ty>, Memory>
-    ensures { IfOk result (λ found. outcome meaning found ≡ kept (judging.refers access (meaning to)) (region_named_in scope.now region.now)) }
+    ensures { IfOk result (λ found. outcome meaning found
+        ≡ kept (judging.refers access (meaning to)) (region_named_in scope.now region.now)) }
 {
     match judge_region(alloc, scope, region)? {
         Judged::Means(region) => Ok(Judged::Means(refers(access, Box::new(alloc, to)?, region))),
@@ -67,7 +75,8 @@ fn judge_name(
     name: &Name,
     args: &Vec<TypeText>,
 ) -> Result<Judged<Ty>, Memory>
-    ensures { IfOk result (λ found. outcome meaning found ≡ applied_in scope.now name.now (sense_in scope.now name.now) args.now.items) }
+    ensures { IfOk result (λ found. outcome meaning found
+        ≡ applied_in scope.now name.now (sense_in scope.now name.now) args.now.items) }
 {
     match sense_of(scope, name) {
         Some(sense) => judge_sense(alloc, scope, name, &sense, args),
@@ -85,7 +94,8 @@ fn judge_sense(
     sense: &Sense,
     args: &Vec<TypeText>,
 ) -> Result<Judged<Ty>, Memory>
-    ensures { IfOk result (λ found. outcome meaning found ≡ applied_in scope.now name.now (Some (said name.now sense.now)) args.now.items) }
+    ensures { IfOk result (λ found. outcome meaning found
+        ≡ applied_in scope.now name.now (Some (said name.now sense.now)) args.now.items) }
 {
     match sense {
         Sense::Unit => Ok(alone(Ty::Unit, args)),
@@ -107,7 +117,8 @@ fn judge_sense(
 #[tactic(auto, using(crate::proofs::JudgedLemmas::span_of_others))]
 #[cycle(judge_type)]
 fn judge_span(alloc: Global, scope: &Scope, args: &Vec<TypeText>) -> Result<Judged<Ty>, Memory>
-    ensures { IfOk result (λ found. outcome meaning found ≡ judging.span_with (map (given_in scope.now) args.now.items)) }
+    ensures { IfOk result (λ found. outcome meaning found
+        ≡ judging.span_with (map (given_in scope.now) args.now.items)) }
 {
     if args.len() != 2 {
         return Ok(Judged::Fails(Reason::Arguments(2)));
@@ -126,7 +137,8 @@ fn judge_declared(
     expected: &Params,
     args: &Vec<TypeText>,
 ) -> Result<Judged<Ty>, Memory>
-    ensures { IfOk result (λ found. outcome meaning found ≡ declared_in scope.now at expected.now args.now.items) }
+    ensures { IfOk result (λ found. outcome meaning found
+        ≡ declared_in scope.now at expected.now args.now.items) }
 {
     if args.len() != expected.len() {
         return Ok(Judged::Fails(Reason::Arguments(expected.len())));
@@ -146,7 +158,8 @@ fn judge_arguments(
     args: &Vec<TypeText>,
 ) -> Result<Judged<Vec<Arg>>, Memory>
     requires { length args.now.items ≡ length expected.now }
-    ensures { IfOk result (λ found. outcome (λ all. argument_all all.items) found ≡ arguments_in scope.now expected.now args.now.items) }
+    ensures { IfOk result (λ found. outcome (λ all. argument_all all.items) found
+        ≡ arguments_in scope.now expected.now args.now.items) }
 {
     let mut found = Vec::new(alloc);
     for (index, one) in args.iter().enumerate() {
@@ -167,7 +180,8 @@ fn judge_argument(
     universe: Universe,
     node: &TypeText,
 ) -> Result<Judged<Arg>, Memory>
-    ensures { IfOk result (λ found. outcome argument found ≡ judging.argument_judged universe (given_in scope.now node.now)) }
+    ensures { IfOk result (λ found. outcome argument found
+        ≡ judging.argument_judged universe (given_in scope.now node.now)) }
 {
     match universe {
         Universe::Free => type_argument(alloc, scope, node),
@@ -181,7 +195,8 @@ fn judge_argument(
 #[tactic(auto, using(au_types::proofs::TypeLemmas::type_steps))]
 #[cycle(judge_type)]
 fn type_argument(alloc: Global, scope: &Scope, node: &TypeText) -> Result<Judged<Arg>, Memory>
-    ensures { IfOk result (λ found. outcome argument found ≡ kept of_type (judged_in scope.now (written node.now))) }
+    ensures { IfOk result (λ found. outcome argument found
+        ≡ kept of_type (judged_in scope.now (written node.now))) }
 {
     match judge_type(alloc, scope, node)? {
         Judged::Means(of) => Ok(Judged::Means(Arg::Of(of))),
@@ -192,7 +207,8 @@ fn type_argument(alloc: Global, scope: &Scope, node: &TypeText) -> Result<Judged
 /// An argument where a region is wanted.
 #[tactic(auto, using(au_types::proofs::TypeLemmas::type_steps))]
 fn region_argument(alloc: Global, scope: &Scope, node: &TypeText) -> Result<Judged<Arg>, Memory>
-    ensures { IfOk result (λ found. outcome argument found ≡ kept in_region (region_in scope.now (written node.now))) }
+    ensures { IfOk result (λ found. outcome argument found
+        ≡ kept in_region (region_in scope.now (written node.now))) }
 {
     match written_region(alloc, scope, node)? {
         Judged::Means(region) => Ok(Judged::Means(Arg::In(region))),
@@ -210,7 +226,8 @@ fn fitted(
     args: Vec<Arg>,
 ) -> Result<Judged<Ty>, Memory>
     requires { StandForIn scope.now expected.now (argument_all args.items) }
-    ensures { IfOk result (λ found. outcome meaning found ≡ fitted_in scope.now at expected.now (argument_all args.items)) }
+    ensures { IfOk result (λ found. outcome meaning found
+        ≡ fitted_in scope.now at expected.now (argument_all args.items)) }
 {
     match first_unfit(alloc, scope, expected, &args)? {
         Some(why) => Ok(Judged::Fails(why)),
@@ -221,7 +238,8 @@ fn fitted(
 /// A type that takes no arguments, with these.
 #[tactic(auto, using(crate::proofs::JudgedLemmas::alone_steps))]
 fn alone(of: Ty, args: &Vec<TypeText>) -> Judged<Ty>
-    ensures { (f : TypeText → judging.Given) → outcome meaning result ≡ judging.alone (meaning of) (map f args.now.items) }
+    ensures { (f : TypeText → judging.Given)
+        → outcome meaning result ≡ judging.alone (meaning of) (map f args.now.items) }
 {
     if args.is_empty() {
         Judged::Means(of)
@@ -258,7 +276,8 @@ fn text_of(of: &Ty, region: &Region) -> Judged<Ty>
 /// Whether the texts have this element and this region.
 #[tactic(auto, using(au_types::proofs::TypeLemmas::type_steps))]
 fn is_text(of: &Ty, region: &Region) -> bool
-    ensures { result ≡ (same (meaning of.now) (integer IntKind.Nat8) && same_region region.now Region.Static) }
+    ensures { result ≡ (same (meaning of.now) (integer IntKind.Nat8)
+        && same_region region.now Region.Static) }
 {
     is_same(of, &Ty::Int(IntKind::Nat8)) && is_same_region(region, &Region::Static)
 }

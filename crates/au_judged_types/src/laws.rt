@@ -18,7 +18,16 @@ ghost use Rattle.au_judged_types.specs.Reasons.{means};
 /// a region exactly where it means this region. So what is meant is what is judged, with the reasons and the
 /// universes forgotten.
 pub fn what_is_judged_is_meant()
-    ensures types { (opened : List Bytes) (params : List Parameter) (visible : List (Bytes × DeclAt)) (heads : List (DeclAt × Head)) (w : WrittenType) (t : Meaning) → (judged opened params visible heads w ≡ means t) ↔ ((meant opened params visible heads w ≡ Some t) × IsWellFormed heads params t) }
-    ensures regions { (opened : List Bytes) (params : List Parameter) (visible : List (Bytes × DeclAt)) (heads : List (DeclAt × Head)) (w : WrittenType) (r : Region) → (region_judged opened params visible heads w ≡ means r) ↔ (region_meant opened params visible heads w ≡ Some r) }
-    ensures reasons { (opened : List Bytes) (params : List Parameter) (visible : List (Bytes × DeclAt)) (heads : List (DeclAt × Head)) (w : WrittenType) → found (judged opened params visible heads w) ≡ only_formed heads params (meant opened params visible heads w) }
+    ensures types { (opened : List Bytes) (params : List Parameter) (visible : List (Bytes × DeclAt))
+        (heads : List (DeclAt × Head)) (w : WrittenType) (t : Meaning)
+        → (judged opened params visible heads w ≡ means t)
+        ↔ ((meant opened params visible heads w ≡ Some t) × IsWellFormed heads params t) }
+    ensures regions { (opened : List Bytes) (params : List Parameter) (visible : List (Bytes × DeclAt))
+        (heads : List (DeclAt × Head)) (w : WrittenType) (r : Region)
+        → (region_judged opened params visible heads w ≡ means r)
+        ↔ (region_meant opened params visible heads w ≡ Some r) }
+    ensures reasons { (opened : List Bytes) (params : List Parameter) (visible : List (Bytes × DeclAt))
+        (heads : List (DeclAt × Head)) (w : WrittenType)
+        → found (judged opened params visible heads w)
+        ≡ only_formed heads params (meant opened params visible heads w) }
 {}

@@ -12,8 +12,36 @@ use Rattle.au_noting_statements.specs.Entering.{lent_reference}
 use Rattle.au_scopes.specs.Scopes.{Outside, Scope}
 use Rattle.au_syntax.specs.Modules.{Constrained, Header}
 use Rattle.au_syntax.specs.Names.{Placed}
-use Rattle.au_syntax.specs.Plain.{Bytes, PlainExpression, PlainStatement, PlainStatements, PlainBranches, PlainArms}
-use Rattle.au_syntax.specs.Statements.{skip, declare, destructure, assign, assign_through, conditional, conditional_else, case_of, while_loop, for_loop, borrow_in, borrow_typed, discard, return_of, no_statements, statements, no_branches, branches, no_arms, arms}
+use Rattle.au_syntax.specs.Plain.{
+  Bytes,
+  PlainExpression,
+  PlainStatement,
+  PlainStatements,
+  PlainBranches,
+  PlainArms,
+}
+use Rattle.au_syntax.specs.Statements.{
+  skip,
+  declare,
+  destructure,
+  assign,
+  assign_through,
+  conditional,
+  conditional_else,
+  case_of,
+  while_loop,
+  for_loop,
+  borrow_in,
+  borrow_typed,
+  discard,
+  return_of,
+  no_statements,
+  statements,
+  no_branches,
+  branches,
+  no_arms,
+  arms,
+}
 use Rattle.au_syntax.specs.Types.{Bound, Labelled}
 use Rattle.au_type_texts.specs.Texts.{text_of}
 use Rattle.au_types.specs.Types.{Meaning}
@@ -133,7 +161,8 @@ abbrev pub listed_lent : Scope → Placed Bytes → Bytes → PlainStatements �
 listed_lent sc r region b found = under found (λ t. listed_with r b (with_reference r.name region t sc))
 
 -- those of a borrow statement with a written type, if its reference has a region and a type
-abbrev pub listed_typed : Scope → Placed Bytes → PlainStatements → Option (Bytes × Meaning) → List VariableLives
+abbrev pub listed_typed : Scope → Placed Bytes → PlainStatements
+    → Option (Bytes × Meaning) → List VariableLives
 listed_typed sc r b found = under found (λ y. listed_with r b (with_reference r.name y.0 y.1 sc))
 
 -- those of an arm

@@ -20,11 +20,11 @@ use Rattle.au_outcomes.specs.Trees.{AreRead, ReadFile}
 use Rattle.au_outcomes.specs.declared.outcomes.Outcome.{Outcome}
 use Rattle.au_outcomes.specs.declared.outcomes.Outcome.TheVariants as outcome
 
--- Files of these names are accepted, with these bytes and as these trees: they are as few as they may be. They have
--- these bytes, and none is too large. Each is cut into tokens that are the words of its tree, within the limits. With
--- the shipped ones they are the files of a program. In its modules all names are good, every body fulfils its
--- interface, all declarations are good, and all instances are. The rules of typing derive the modules with
--- some notes, and each variable has a good life.
+-- Files of these names are accepted, with these bytes and as these trees: they are as few as they may be.
+-- They have these bytes, and none is too large. Each is cut into tokens that are the words of its tree,
+-- within the limits. With the shipped ones they are the files of a program. In its modules all names are
+-- good, every body fulfils its interface, all declarations are good, and all instances are. The rules of
+-- typing derive the modules with some notes, and each variable has a good life.
 pub record AreAcceptedAs (files : Files) (names all : List (List ℕ)) (reads : List ReadFile) : Type 0 where
   pub few : length names ≤ most_files
   pub had : AreFiles files names all
@@ -57,8 +57,8 @@ is_unbuilt (Linear fault) = false
 is_unbuilt (Entry entry) = false
 is_unbuilt Stuck = false
 
--- whether files come to this behind the steps that judge whether they are accepted: that is told, or the lives
--- of its variables are, or the program is to run, or a form in it is refused as what isn't built yet
+-- whether files come to this behind the steps that judge whether they are accepted: that is told, or the
+-- lives of its variables are, or the program is to run, or a form in it is refused as what isn't built yet
 abbrev pub is_behind : Outcome → Bool
 is_behind outcome.NoJob = false
 is_behind (outcome.Missing name) = false

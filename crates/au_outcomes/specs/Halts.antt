@@ -1,5 +1,24 @@
 -- Why it is known what a program comes to before it is whole.
-use Rattle.std.specs.Prelude.{◌≡◌, ℕ, ◌≤◌, Bool, true, false, List, ◌∷◌, ◌++◌, length, Option, Some, None, IfSome, Result, Ok, Err, Vec}
+use Rattle.std.specs.Prelude.{
+  ◌≡◌,
+  ℕ,
+  ◌≤◌,
+  Bool,
+  true,
+  false,
+  List,
+  ◌∷◌,
+  ◌++◌,
+  length,
+  Option,
+  Some,
+  None,
+  IfSome,
+  Result,
+  Ok,
+  Err,
+  Vec,
+}
 use Rattle.std.specs.Global.{Global}
 use Rattle.au_base.specs.Outside.{Files}
 use Rattle.au_lexer.specs.declared.lexing.LexFault.{LexFault}
@@ -93,7 +112,9 @@ FirstUnhad told names arisen =
 -- The files of which one has what was found under its name, as the files that are told do: Q holds of them.
 abbrev pub Tells : Option Files → List ℕ → (Files → Type 0) → Type 0
 Tells told name Q =
-    (found : Option (List ℕ)) × IfSome told (λ known. known name ≡ found) × ((files : Files) → files name ≡ found → Q files)
+    (found : Option (List ℕ))
+    × IfSome told (λ known. known name ≡ found)
+    × ((files : Files) → files name ≡ found → Q files)
 
 -- Whichever files have these bytes under these names: some files have too, and Q holds of them.
 abbrev pub Extends : Option Files → List (List ℕ) → List (List ℕ) → (Files → Type 0) → Type 0

@@ -43,7 +43,8 @@ AreFiles files (name ∷ names) [] = ⊥
 -- The first of the files that can't be had has this property: those before it can be had.
 abbrev pub IsFirst : (List ℕ → Type 0) → Files → List (List ℕ) → Type 0
 IsFirst P files [] = ⊥
-IsFirst P files (name ∷ names) = P name ⊎ (((bytes : List ℕ) × IsFile files name bytes) × IsFirst P files names)
+IsFirst P files (name ∷ names) =
+    P name ⊎ (((bytes : List ℕ) × IsFile files name bytes) × IsFirst P files names)
 
 -- how many files a program may have
 abbrev pub most_files : ℕ

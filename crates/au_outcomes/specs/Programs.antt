@@ -1,7 +1,7 @@
 -- What the files of a program come to once they are read: they are gathered into modules behind the shipped
 -- ones, the names and promises of the modules are judged, then their declarations, then their instances, then
--- the types in bodies, and then the lives of variables. Where all of this is good the program is accepted; and
--- where it is to run, no form may be left in it that isn't built yet.
+-- the types in bodies, and then the lives of variables. Where all of this is good the program is accepted;
+-- and where it is to run, no form may be left in it that isn't built yet.
 use Rattle.std.specs.Prelude.{◌≡◌, ◌⊎◌, ◌+◌, ℕ, List, [], ◌∷◌, ◌++◌, map, Option, None, Some}
 use Rattle.std.specs.Option.{option_or}
 use Rattle.au_explain.specs.declared.lists.Lives.{Lives}
@@ -125,9 +125,9 @@ AreJudgedAs files parts = (program_outcome files ≡ None) × (parts ≡ modules
 abbrev pub read_lives : List ReadFile → Lives
 read_lives reads = program_lives (program_modules reads)
 
--- What accepted files come to: where no more is asked they are accepted, where they are explained they come to
--- the lives of their variables, and where their program is to run that is what they come to, or a form in it isn't
--- built yet.
+-- What accepted files come to: where no more is asked they are accepted, where they are explained they come
+-- to the lives of their variables, and where their program is to run that is what they come to, or a form in
+-- it isn't built yet.
 abbrev pub AcceptedCome : Aim → List ReadFile → Outcome → Type 0
 AcceptedCome aims.Run reads arisen = RunComes reads arisen
 AcceptedCome aims.Check reads arisen = arisen ≡ outcome.Accepted

@@ -39,7 +39,9 @@ place_or end tokens index = unwrap_or (option_map (λ (token : Token). token.at)
 -- The place of the token at which reading stops, or the end where it stops behind the last one.
 abbrev pub IsPlaceIn : List Token → Pos → Pos → Type 0
 IsPlaceIn tokens end at =
-    (left : ℕ) × (file_at usual tokens ≡ Err (reading.Syntax left)) × (at ≡ place_or end tokens (length tokens - left))
+    (left : ℕ)
+    × (file_at usual tokens ≡ Err (reading.Syntax left))
+    × (at ≡ place_or end tokens (length tokens - left))
 
 -- a file that was read: its tokens, the place of its end, and its tree
 pub record ReadFile : Type 0 where
@@ -61,11 +63,12 @@ pub record IsRead (file : ℕ) (bytes : List ℕ) (one : ReadFile) : Type 0 wher
   pub spelled : Spells one.tree one.tokens
   pub fits : IsTrue (fits one.tree)
 
--- What a file of these bytes comes to that can't be read: the first cause that the cut into tokens has counts, a
--- limit or a byte that begins no token; or its tokens have no tree, or their tree passes a limit.
+-- What a file of these bytes comes to that can't be read: the first cause that the cut into tokens has
+-- counts, a limit or a byte that begins no token; or its tokens have no tree, or their tree passes a limit.
 abbrev pub Halts : ℕ → List ℕ → Outcome → Type 0
 Halts file bytes (outcome.Refused (Byte at)) = IsStray file bytes at
-Halts file bytes (outcome.Passes limit) = PassesLimit file bytes limit ⊎ HasTokens file bytes (λ tokens. TreesPass tokens limit)
+Halts file bytes (outcome.Passes limit) =
+    PassesLimit file bytes limit ⊎ HasTokens file bytes (λ tokens. TreesPass tokens limit)
 Halts file bytes (outcome.Refused (Syntax at)) =
     HasTokens file bytes (λ tokens. HasNoTree tokens × IsPlaceIn tokens (place_after file bytes) at)
 Halts file bytes other = ⊥
@@ -80,4 +83,5 @@ AreRead file bytes reads = ⊥
 abbrev pub FirstHalts : ℕ → List (List ℕ) → Outcome → Type 0
 FirstHalts file [] arisen = ⊥
 FirstHalts file (bytes ∷ others) arisen =
-    Halts file bytes arisen ⊎ (((one : ReadFile) × IsRead file bytes one) × FirstHalts (file + 1) others arisen)
+    Halts file bytes arisen
+    ⊎ (((one : ReadFile) × IsRead file bytes one) × FirstHalts (file + 1) others arisen)

@@ -4,7 +4,15 @@ ghost use Rattle.std.specs.Prelude.{◌≡◌, ◌≤◌, ◌<◌, All, false, m
 ghost use Rattle.std.specs.String.{string_bytes};
 ghost use Rattle.au_base.specs.Limits.{most_file_bytes};
 ghost use Rattle.au_base.specs.Outside.{Counts};
-ghost use Rattle.au_outcomes.specs.Halts.{ComesTo, Says, StopsIn, bytes_in, is_missing, is_read_fault, is_read_halt};
+ghost use Rattle.au_outcomes.specs.Halts.{
+  ComesTo,
+  Says,
+  StopsIn,
+  bytes_in,
+  is_missing,
+  is_read_fault,
+  is_read_halt,
+};
 ghost use Rattle.au_outcomes.specs.Outcomes.{BytesCome, files_limit, most_files};
 ghost use Rattle.au_outcomes.specs.declared.outcomes.Outcome.TheVariants as outcome;
 
@@ -33,7 +41,8 @@ pub fn check<S: Shelf>(
     ensures crowded { most_files < length names.now
         → (S.faults shelf.new ≡ S.faults shelf.old) × (S.misses shelf.new ≡ S.misses shelf.old) }
     ensures faults { Counts (is_read_fault result) (S.faults shelf.old) (S.faults shelf.new) }
-    ensures misses { IfOk result (λ outcome. Counts (is_missing outcome) (S.misses shelf.old) (S.misses shelf.new)) }
+    ensures misses { IfOk result
+        (λ outcome. Counts (is_missing outcome) (S.misses shelf.old) (S.misses shelf.new)) }
     ensures misses_stay { S.misses shelf.old ≤ S.misses shelf.new }
     ensures files { S.files shelf.new ≡ S.files shelf.old }
 {

@@ -48,8 +48,10 @@ fn fetch_next<S: Shelf>(
 ) -> Result<Vec<u8>, Halt>
     requires { length all.now ≡ length before.now }
     ensures comes { Says result
-        (λ bytes. Extends (S.files shelf.old) (map string_bytes before.now) (map bytes_in all.now) (λ files. IsFile files name.now bytes.items))
-        (λ arisen. Extends (S.files shelf.old) (map string_bytes before.now) (map bytes_in all.now) (λ files. IsUnhad files name.now arisen)) }
+        (λ bytes. Extends (S.files shelf.old) (map string_bytes before.now) (map bytes_in all.now)
+        (λ files. IsFile files name.now bytes.items))
+        (λ arisen. Extends (S.files shelf.old) (map string_bytes before.now) (map bytes_in all.now)
+        (λ files. IsUnhad files name.now arisen)) }
     ensures faults { Counts (is_read_halt result) (S.faults shelf.old) (S.faults shelf.new) }
     ensures misses { Says result (λ _. S.misses shelf.new ≡ S.misses shelf.old)
         (λ arisen. Counts (is_missing arisen) (S.misses shelf.old) (S.misses shelf.new)) }

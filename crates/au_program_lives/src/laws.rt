@@ -9,7 +9,8 @@ ghost use Rattle.au_sorts.specs.Scopes.{TypeScope};
 ghost use Rattle.au_syntax.specs.Modules.{Header};
 ghost use Rattle.au_syntax.specs.Plain.{Bytes, PlainStatements};
 
-/// A program is refused for nothing exactly where every variable of every function and method has a good life.
+/// A program is refused for nothing exactly where every variable of every function
+/// and method has a good life.
 pub fn good_lives_are_not_refused()
     ensures { (program : List ModuleParts) → (linear_fault program ≡ None) ↔ AllLivesAreGood program }
 {}

@@ -1,4 +1,5 @@
-//! Whether every variable of a program has a good life, and of the first that has none, what is wrong with it.
+//! Whether every variable of a program has a good life, and of the first that has none,
+//! what is wrong with it.
 #![tactic(auto)]
 
 mod choices;

@@ -9,8 +9,8 @@ use au_lives::lives::LifeKind;
 use itoa::Buffer;
 use std::alloc::Global;
 
-/// What the line of a refusal says of a variable that has no good life, behind its place. Of want of memory it
-/// says nothing.
+/// What the line of a refusal says of a variable that has no good life, behind its place. Of want of memory
+/// it says nothing.
 ///
 /// # Errors
 ///

@@ -92,9 +92,9 @@ fn linear_fault(alloc: Global, resolved: &Resolved) -> Result<Option<LinearFault
 /// # Errors
 ///
 /// What is wrong with the first variable that has none: modules by their places, functions and methods and
-/// the variables of each in the order of the text, parameters first. Where it is consumed in a loop, the first
-/// such place (`LinearFault::InLoop`); else where it is consumed in a part of an expression that may be left
-/// out, the first such place (`LinearFault::InPart`); else a path that breaks its life, and how
+/// the variables of each in the order of the text, parameters first. Where it is consumed in a loop, the
+/// first such place (`LinearFault::InLoop`); else where it is consumed in a part of an expression that may be
+/// left out, the first such place (`LinearFault::InPart`); else a path that breaks its life, and how
 /// (`LinearFault::Life`). `LinearFault::Memory` where no memory was found, in place of any other answer.
 pub fn check_linear(alloc: Global, resolved: &Resolved) -> Result<(), LinearFault>
     // It holds where every variable has a good life, and only there.

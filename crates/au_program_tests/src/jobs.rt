@@ -8,8 +8,8 @@ use std::test::Fail;
 /// The steps of a run whose words give none.
 const USUAL: u64 = 1_000_000_000;
 
-/// Words with `|` between, and the job that they ask for: its command, its files with `|` between, its entry as
-/// `M:f` or nothing, its steps, and whether lives are told.
+/// Words with `|` between, and the job that they ask for: its command, its files with `|` between, its entry
+/// as `M:f` or nothing, its steps, and whether lives are told.
 struct Row {
     words: &'static str,
     command: Command,

@@ -67,7 +67,8 @@ limit_word kind.Code = codes "code"
 -- the line where a limit is passed
 abbrev pub limit_line : Limit → List ℕ
 limit_line limit =
-    line (codes "limit: " ++ limit_word limit.kind ++ codes " " ++ decimal limit.count ++ codes " above " ++ decimal limit.most)
+    line (codes "limit: " ++ limit_word limit.kind
+    ++ codes " " ++ decimal limit.count ++ codes " above " ++ decimal limit.most)
 
 -- the line where a program aborted, for a cause that is told in these words
 abbrev pub abort_line : List ℕ → List ℕ
@@ -98,7 +99,8 @@ pair_text names modules.Memory = []
 -- which name or promise of the modules isn't good
 abbrev pub import_text : List (List ℕ) → ImportFault → List ℕ
 import_text names (imports.NoModule at name) = place_text names at ++ codes ": no module " ++ name
-import_text names (imports.Late at name) = place_text names at ++ codes ": module " ++ name ++ codes " stands later"
+import_text names (imports.Late at name) =
+    place_text names at ++ codes ": module " ++ name ++ codes " stands later"
 import_text names (imports.NotVisible at name) = place_text names at ++ codes ": name not visible: " ++ name
 import_text names (imports.NameTwice at name) = place_text names at ++ codes ": name twice: " ++ name
 import_text names (imports.NotDefined at name) = place_text names at ++ codes ": not defined: " ++ name

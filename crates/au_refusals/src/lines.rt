@@ -38,7 +38,8 @@ fn add_refusal(
     files: &[String],
 ) -> Result<(), Memory>
     requires { IsTrue (is_refusal refusal.now) }
-    ensures { OnOk result (text.new.items ≡ text.old.items ++ lines.refusal_text (map string_bytes files.now) refusal.now) }
+    ensures { OnOk result (text.new.items
+        ≡ text.old.items ++ lines.refusal_text (map string_bytes files.now) refusal.now) }
 {
     match refusal {
         Refusal::Byte(at) => add_placed(text, *at, files, b": byte"),
@@ -59,7 +60,8 @@ fn add_refusal(
 /// Adds why files are not those of modules.
 fn add_pair(text: &mut Vec<u8>, fault: &ModuleFault, files: &[String]) -> Result<(), Memory>
     requires { IsTrue (is_module_refusal fault.now) }
-    ensures { OnOk result (text.new.items ≡ text.old.items ++ lines.pair_text (map string_bytes files.now) fault.now) }
+    ensures { OnOk result (text.new.items
+        ≡ text.old.items ++ lines.pair_text (map string_bytes files.now) fault.now) }
 {
     match fault {
         ModuleFault::TwiceGiven(name) => add_module(text, name, b": given twice"),
@@ -73,7 +75,8 @@ fn add_pair(text: &mut Vec<u8>, fault: &ModuleFault, files: &[String]) -> Result
 /// Adds which name or promise of the modules is not good.
 fn add_import(text: &mut Vec<u8>, fault: &ImportFault, files: &[String]) -> Result<(), Memory>
     requires { IsTrue (is_import_refusal fault.now) }
-    ensures { OnOk result (text.new.items ≡ text.old.items ++ lines.import_text (map string_bytes files.now) fault.now) }
+    ensures { OnOk result (text.new.items
+        ≡ text.old.items ++ lines.import_text (map string_bytes files.now) fault.now) }
 {
     match fault {
         ImportFault::NoModule(at, name) => add_naming(text, *at, files, b": no module ", name),
@@ -200,7 +203,8 @@ fn add_variable(
 
 /// Adds that something is not built yet, with its word.
 fn add_unbuilt(text: &mut Vec<u8>, what: Unbuilt) -> Result<(), Memory>
-    ensures { OnOk result (text.new.items ≡ text.old.items ++ (codes "not yet: " ++ lines.unbuilt_word what)) }
+    ensures { OnOk result (text.new.items
+        ≡ text.old.items ++ (codes "not yet: " ++ lines.unbuilt_word what)) }
 {
     text.extend_from_slice(b"not yet: ")?;
     text.extend_from_slice(unbuilt_word(what))?;
@@ -248,7 +252,8 @@ fn add_module(text: &mut Vec<u8>, name: &Name, words: &[u8]) -> Result<(), Memor
 
 /// Adds a place, and what is said of it.
 fn add_placed(text: &mut Vec<u8>, at: Pos, files: &[String], words: &[u8]) -> Result<(), Memory>
-    ensures { OnOk result (text.new.items ≡ text.old.items ++ (lines.place_text (map string_bytes files.now) at ++ words.now)) }
+    ensures { OnOk result (text.new.items
+        ≡ text.old.items ++ (lines.place_text (map string_bytes files.now) at ++ words.now)) }
 {
     add_place(text, at, files)?;
     text.extend_from_slice(words)?;
@@ -263,7 +268,8 @@ fn add_naming(
     words: &[u8],
     name: &Name,
 ) -> Result<(), Memory>
-    ensures { OnOk result (text.new.items ≡ text.old.items ++ (lines.place_text (map string_bytes files.now) at ++ words.now ++ name.now)) }
+    ensures { OnOk result (text.new.items
+        ≡ text.old.items ++ (lines.place_text (map string_bytes files.now) at ++ words.now ++ name.now)) }
 {
     add_placed(text, at, files, words)?;
     text.extend_from_slice(name.as_bytes())?;
@@ -272,7 +278,8 @@ fn add_naming(
 
 /// Adds the place of an import, and the name of a module that stands later.
 fn add_late(text: &mut Vec<u8>, at: Pos, files: &[String], name: &Name) -> Result<(), Memory>
-    ensures { OnOk result (text.new.items ≡ text.old.items ++ (lines.place_text (map string_bytes files.now) at
+    ensures { OnOk result (text.new.items
+        ≡ text.old.items ++ (lines.place_text (map string_bytes files.now) at
         ++ codes ": module " ++ name.now ++ codes " stands later")) }
 {
     add_naming(text, at, files, b": module ", name)?;
@@ -288,8 +295,10 @@ fn add_differing(
     files: &[String],
     name: &Name,
 ) -> Result<(), Memory>
-    ensures { OnOk result (text.new.items ≡ text.old.items ++ (lines.place_text (map string_bytes files.now) at
-        ++ codes ": differs from " ++ lines.place_text (map string_bytes files.now) other ++ codes ": " ++ name.now)) }
+    ensures { OnOk result (text.new.items
+        ≡ text.old.items ++ (lines.place_text (map string_bytes files.now) at
+        ++ codes ": differs from " ++ lines.place_text (map string_bytes files.now) other
+        ++ codes ": " ++ name.now)) }
 {
     add_placed(text, at, files, b": differs from ")?;
     add_naming(text, other, files, b": ", name)
@@ -297,7 +306,8 @@ fn add_differing(
 
 /// Adds the place of an instance, and that of the earlier one that it overlaps.
 fn add_overlapping(text: &mut Vec<u8>, at: Pos, other: Pos, files: &[String]) -> Result<(), Memory>
-    ensures { OnOk result (text.new.items ≡ text.old.items ++ (lines.place_text (map string_bytes files.now) at
+    ensures { OnOk result (text.new.items
+        ≡ text.old.items ++ (lines.place_text (map string_bytes files.now) at
         ++ codes ": instance overlaps " ++ lines.place_text (map string_bytes files.now) other)) }
 {
     add_placed(text, at, files, b": instance overlaps ")?;
@@ -306,7 +316,8 @@ fn add_overlapping(text: &mut Vec<u8>, at: Pos, other: Pos, files: &[String]) ->
 
 /// Adds a place, with the name of its file.
 fn add_place(text: &mut Vec<u8>, at: Pos, files: &[String]) -> Result<(), Memory>
-    ensures { OnOk result (text.new.items ≡ text.old.items ++ lines.place_text (map string_bytes files.now) at) }
+    ensures { OnOk result (text.new.items
+        ≡ text.old.items ++ lines.place_text (map string_bytes files.now) at) }
 {
     let mut digits = Buffer::new();
     text.extend_from_slice(name_of(files, at.file))?;

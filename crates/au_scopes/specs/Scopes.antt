@@ -15,8 +15,8 @@ pub record Typed : Type 0 where
   pub of : Meaning
 
 -- What is called: its type parameters with the classes that constrain them, its parameters in declared order,
--- and its result. A method has the type parameter of its class, and the class; a record or a case has the type
--- parameters of its type, its fields as parameters, and the type as its result.
+-- and its result. A method has the type parameter of its class, and the class; a record or a case has the
+-- type parameters of its type, its fields as parameters, and the type as its result.
 pub record Callable : Type 0 where
   pub generics : List Bounded
   pub parameters : List Typed

@@ -13,8 +13,8 @@ pub fn runs_follow<T, C>()
     ensures { RunsFollow T C }
 {}
 
-/// A run of the code that is cut off lies between what the program means for an eighth as many ticks and for as
-/// many.
+/// A run of the code that is cut off lies between what the program means for an eighth
+/// as many ticks and for as many.
 pub fn cuts_lie_between<T, C>()
     ensures { CutsLieBetween T C }
 {}

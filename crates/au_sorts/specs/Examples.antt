@@ -53,10 +53,14 @@ lends_as t mode = borrow_typed here (name (codes "r")) t mode (name (codes "y"))
 abbrev pub examples : List (PlainStatements × List Sort)
 examples = (
   block_of
-      (let_x (of_name (codes "Nat8")) ∷ let_x T ∷ let_x (of_name (codes "F")) ∷ let_x (of_name (codes "G")) ∷ []),
+      (let_x (of_name (codes "Nat8")) ∷ let_x T
+      ∷ let_x (of_name (codes "F")) ∷ let_x (of_name (codes "G")) ∷ []),
   asks.Free ∷ asks.Other ∷ asks.Free ∷ asks.Other ∷ [],
 )
-    ∷ (block_of (for_loop here (name (codes "i")) x x (block_of (let_x T ∷ [])) ∷ []), asks.Free ∷ asks.Other ∷ [])
+    ∷ (
+      block_of (for_loop here (name (codes "i")) x x (block_of (let_x T ∷ [])) ∷ []),
+      asks.Free ∷ asks.Other ∷ [],
+    )
     ∷ (
       block_of (lends access.Read ∷ let_x (into_R access.Write T) ∷ []),
       asks.Free ∷ asks.Free ∷ asks.WriteReference ∷ asks.Other ∷ [],

@@ -9,7 +9,22 @@ use Rattle.au_types.specs.declared.headings.Head.{Head}
 use Rattle.au_types.specs.declared.parameters.Parameter.{Parameter}
 use Rattle.au_types.specs.declared.types.DeclAt.{DeclAt}
 use Rattle.au_types.specs.declared.types.Region.TheVariants as regions
-use Rattle.au_types.specs.Types.{Meaning, Argument, unit, truth, integer, text, parameter, named, reads, writes, of_type, in_region, no_arguments, arguments}
+use Rattle.au_types.specs.Types.{
+  Meaning,
+  Argument,
+  unit,
+  truth,
+  integer,
+  text,
+  parameter,
+  named,
+  reads,
+  writes,
+  of_type,
+  in_region,
+  no_arguments,
+  arguments,
+}
 
 -- two declared types: one that takes nothing, and one that takes a type and a region
 abbrev pub exit_code : DeclAt
@@ -54,18 +69,39 @@ examples =
     ∷ record { of = integer kinds.Index; says = codes "Index"; depth = 1; nodes = 1 }
     ∷ record { of = text; says = codes "Span[Nat8, Static]"; depth = 2; nodes = 3 }
     ∷ record { of = parameter (codes "T"); says = codes "T"; depth = 1; nodes = 1 }
-    ∷ record { of = named exit_code no_arguments; says = codes "Austral.Pervasive:ExitCode"; depth = 1; nodes = 1 }
-    ∷ record { of = held unit (in_region regions.Static); says = codes "Main:Holder[Unit, Static]"; depth = 2; nodes = 3 }
+    ∷ record {
+      of = named exit_code no_arguments;
+      says = codes "Austral.Pervasive:ExitCode";
+      depth = 1;
+      nodes = 1;
+    }
+    ∷ record {
+      of = held unit (in_region regions.Static);
+      says = codes "Main:Holder[Unit, Static]";
+      depth = 2;
+      nodes = 3;
+    }
     ∷ record {
       of = held (held truth (in_region (regions.Named (codes "S")))) (in_region (regions.Named (codes "R")));
       says = codes "Main:Holder[Main:Holder[Bool, S], R]";
       depth = 3;
       nodes = 5;
     }
-    ∷ record { of = reads text (regions.Named (codes "R")); says = codes "&[Span[Nat8, Static], R]"; depth = 3; nodes = 5 }
-    ∷ record { of = writes (parameter (codes "T")) regions.Anonymous; says = codes "&![T, ~]"; depth = 2; nodes = 3 }
     ∷ record {
-      of = writes (held (reads unit regions.Static) (in_region regions.Anonymous)) (regions.Named (codes "R"));
+      of = reads text (regions.Named (codes "R"));
+      says = codes "&[Span[Nat8, Static], R]";
+      depth = 3;
+      nodes = 5;
+    }
+    ∷ record {
+      of = writes (parameter (codes "T")) regions.Anonymous;
+      says = codes "&![T, ~]";
+      depth = 2;
+      nodes = 3;
+    }
+    ∷ record {
+      of = writes (held (reads unit regions.Static) (in_region regions.Anonymous))
+          (regions.Named (codes "R"));
       says = codes "&![Main:Holder[&[Unit, Static], ~], R]";
       depth = 4;
       nodes = 7;
@@ -93,13 +129,29 @@ cases =
     -- 24 deep
     record { of = behind 23 unit; deep = None; large = None }
     -- 25 deep
-    ∷ record { of = behind 24 unit; deep = Some (record { kind = TypeDepth; count = 25; most = 24 }); large = None }
+    ∷ record {
+      of = behind 24 unit;
+      deep = Some (record { kind = TypeDepth; count = 25; most = 24 });
+      large = None;
+    }
     -- 40 deep: the first count that passes the limit is told
-    ∷ record { of = behind 39 unit; deep = Some (record { kind = TypeDepth; count = 25; most = 24 }); large = None }
+    ∷ record {
+      of = behind 39 unit;
+      deep = Some (record { kind = TypeDepth; count = 25; most = 24 });
+      large = None;
+    }
     -- 4,096 nodes
     ∷ record { of = named holder (arguments (of_type (doubled 11)) no_arguments); deep = None; large = None }
     -- 4,097 nodes
-    ∷ record { of = behind 1 (doubled 11); deep = None; large = Some (record { kind = TypeNodes; count = 4097; most = 4096 }) }
+    ∷ record {
+      of = behind 1 (doubled 11);
+      deep = None;
+      large = Some (record { kind = TypeNodes; count = 4097; most = 4096 });
+    }
     -- 8,191 nodes: all are told
-    ∷ record { of = doubled 12; deep = None; large = Some (record { kind = TypeNodes; count = 8191; most = 4096 }) }
+    ∷ record {
+      of = doubled 12;
+      deep = None;
+      large = Some (record { kind = TypeNodes; count = 8191; most = 4096 });
+    }
     ∷ []

@@ -1,5 +1,26 @@
 -- Where texts tell types apart: which rows and which types there must be.
-use Rattle.std.specs.Prelude.{◌≡◌, ◌≢◌, ℕ, Bool, true, false, ◌==◌, ◌&&◌, ◌||◌, not, nat_le, List, [], ◌∷◌, Option, None, Some, codes, is_some, IsTrue}
+use Rattle.std.specs.Prelude.{
+  ◌≡◌,
+  ◌≢◌,
+  ℕ,
+  Bool,
+  true,
+  false,
+  ◌==◌,
+  ◌&&◌,
+  ◌||◌,
+  not,
+  nat_le,
+  List,
+  [],
+  ◌∷◌,
+  Option,
+  None,
+  Some,
+  codes,
+  is_some,
+  IsTrue,
+}
 use Rattle.std.specs.List.{list_all, list_any}
 use Rattle.std.specs.Str.{bytes_eq}
 use Rattle.au_syntax.specs.declared.declarations.Universe.TheVariants as universes
@@ -9,13 +30,32 @@ use Rattle.au_types.specs.declared.types.DeclAt.{DeclAt}
 use Rattle.au_types.specs.declared.types.Region.{Region}
 use Rattle.au_types.specs.declared.types.Region.TheVariants as regions
 use Rattle.au_types.specs.Rows.{head_of}
-use Rattle.au_types.specs.Types.{Meaning, Argument, Arguments, unit, truth, integer, text, parameter, named, reads, writes, of_type, in_region, no_arguments, arguments}
+use Rattle.au_types.specs.Types.{
+  Meaning,
+  Argument,
+  Arguments,
+  unit,
+  truth,
+  integer,
+  text,
+  parameter,
+  named,
+  reads,
+  writes,
+  of_type,
+  in_region,
+  no_arguments,
+  arguments,
+}
 use Rattle.au_type_texts.specs.Texts.{text_of}
 
 -- a byte of a name: a letter, a digit or an underscore
 abbrev pub is_name_byte : ℕ → Bool
 is_name_byte byte =
-    nat_le 65 byte && nat_le byte 90 || nat_le 97 byte && nat_le byte 122 || nat_le 48 byte && nat_le byte 57 || byte == 95
+    nat_le 65 byte && nat_le byte 90
+    || nat_le 97 byte && nat_le byte 122
+    || nat_le 48 byte && nat_le byte 57
+    || byte == 95
 
 abbrev pub is_colon : ℕ → Bool
 is_colon byte = byte == 58
@@ -27,7 +67,8 @@ is_word_byte byte = is_name_byte byte || byte == 46 || is_colon byte
 -- a name that is none of these
 abbrev pub is_name_beside : List (List ℕ) → List ℕ → Bool
 is_name_beside taken [] = false
-is_name_beside taken (first ∷ rest) = list_all is_name_byte (first ∷ rest) && not (list_any (bytes_eq (first ∷ rest)) taken)
+is_name_beside taken (first ∷ rest) =
+    list_all is_name_byte (first ∷ rest) && not (list_any (bytes_eq (first ∷ rest)) taken)
 
 -- the names of the types that are built in
 abbrev pub type_names : List (List ℕ)
@@ -46,7 +87,9 @@ is_declared bytes = list_any is_colon bytes && list_all is_word_byte bytes
 -- the rows have texts of declared types, and different declarations have different ones
 pub record AreTold (rows : List (DeclAt × Head)) : Type 0 where
   pub declared : (at : DeclAt) (head : Head) → head_of rows at ≡ Some head → is_declared head.text ≡ true
-  pub apart : (a b : DeclAt) (head other : Head) → head_of rows a ≡ Some head → head_of rows b ≡ Some other → head.text ≡ other.text → a ≡ b
+  pub apart : (a b : DeclAt) (head other : Head)
+      → head_of rows a ≡ Some head → head_of rows b ≡ Some other
+      → head.text ≡ other.text → a ≡ b
 
 -- a region: one with a name hasn't the name of the one that is built in
 abbrev pub IsRegion : Region → Type 0
@@ -86,4 +129,7 @@ module _ (rows : List (DeclAt × Head)) where
 
 -- over such rows, two types with one text are one type
 abbrev pub TextsTell : Type 0
-TextsTell = (rows : List (DeclAt × Head)) → AreTold rows → (t u : Meaning) → Stands rows t → Stands rows u → text_of rows t ≡ text_of rows u → t ≡ u
+TextsTell =
+    (rows : List (DeclAt × Head)) → AreTold rows
+    → (t u : Meaning) → Stands rows t → Stands rows u
+    → text_of rows t ≡ text_of rows u → t ≡ u

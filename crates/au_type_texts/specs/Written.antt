@@ -13,5 +13,7 @@ use Rattle.au_type_texts.specs.Sizes.{depth_of, nodes_of}
 -- the type that a written type means is as deep as the written one, and has as many nodes
 abbrev pub SizesAreWritten : Type 0
 SizesAreWritten =
-    (opened : List Bytes) (params : List Parameter) (visible : List (Bytes × DeclAt)) (heads : List (DeclAt × Head)) (written : WrittenType) (t : Meaning)
-    → meant opened params visible heads written ≡ Some t → (depth_of t ≡ type_depth written) × (nodes_of t ≡ type_nodes written)
+    (opened : List Bytes) (params : List Parameter) (visible : List (Bytes × DeclAt))
+    (heads : List (DeclAt × Head)) (written : WrittenType) (t : Meaning)
+    → meant opened params visible heads written ≡ Some t
+    → (depth_of t ≡ type_depth written) × (nodes_of t ≡ type_nodes written)

@@ -37,7 +37,8 @@ region_of other = None
 
 -- the type of texts, for the arguments of `Span` that it has
 abbrev pub span_of : Option Meaning → Option Region → Option Meaning
-span_of (Some t) (Some region) = if same t (mean.integer kinds.Nat8) && same_region region regions.Static then Some mean.text else None
+span_of (Some t) (Some region) =
+    if same t (mean.integer kinds.Nat8) && same_region region regions.Static then Some mean.text else None
 span_of t region = None
 
 -- what a written type means, where a type is wanted and where a region is
@@ -63,7 +64,8 @@ argument_meant universe one = option_map mean.of_type one.as_type
 -- arguments for type parameters, each in its place
 abbrev pub arguments_meant : List Parameter → List Given → Option Arguments
 arguments_meant [] [] = Some mean.no_arguments
-arguments_meant (one ∷ others) (first ∷ rest) = followed (argument_meant one.universe first) (arguments_meant others rest)
+arguments_meant (one ∷ others) (first ∷ rest) =
+    followed (argument_meant one.universe first) (arguments_meant others rest)
 arguments_meant expected args = None
 
 -- what a name with this sense and these arguments means
@@ -73,7 +75,8 @@ applied (Some a_span) args = span_with args
 applied (Some (declared at expected)) args = option_map (mean.named at) (arguments_meant expected args)
 applied other args = None
 
-module _ (opened : List Bytes) (params : List Parameter) (visible : List (Bytes × DeclAt)) (heads : List (DeclAt × Head)) where
+module _ (opened : List Bytes) (params : List Parameter) (visible : List (Bytes × DeclAt))
+    (heads : List (DeclAt × Head)) where
   -- the region that a written type means: it's a name alone
   abbrev pub region_meant : WrittenType → Option Region
   region_meant (named name no_types) = region_of (sense_of opened params visible heads name.name)
@@ -83,7 +86,8 @@ module _ (opened : List Bytes) (params : List Parameter) (visible : List (Bytes 
     -- a type
     pub meant : WrittenType → Option Meaning
     meant (named name args) = applied (sense_of opened params visible heads name.name) (all_given args)
-    meant (reference at kind target region) = refers kind (meant target) (region_of (sense_of opened params visible heads region.name))
+    meant (reference at kind target region) =
+        refers kind (meant target) (region_of (sense_of opened params visible heads region.name))
 
     -- arguments as they are given
     pub all_given : WrittenTypes → List Given

@@ -60,16 +60,21 @@ declared_sense heads at = by_row (head_of heads at)
 
 -- the region of a borrow statement that is open
 abbrev pub open_region : List Bytes → Bytes → Option Sense
-open_region opened name = if list_any (bytes_eq name) opened then Some (a_region (regions.Named name)) else None
+open_region opened name =
+    if list_any (bytes_eq name) opened then Some (a_region (regions.Named name)) else None
 
 -- a name that is built in, or else a declaration that is visible
 abbrev pub outer_sense : List (Bytes × DeclAt) → List (DeclAt × Head) → Bytes → Option Sense
-outer_sense visible heads name = option_or (find name built_in) (option_map (declared_sense heads) (find name visible))
+outer_sense visible heads name =
+    option_or (find name built_in) (option_map (declared_sense heads) (find name visible))
 
-module _ (opened : List Bytes) (params : List Parameter) (visible : List (Bytes × DeclAt)) (heads : List (DeclAt × Head)) where
+module _ (opened : List Bytes) (params : List Parameter) (visible : List (Bytes × DeclAt))
+    (heads : List (DeclAt × Head)) where
   -- What a name means, the innermost first: a region of an open borrow statement, a type parameter, a
   -- name that is built in, or a declaration.
   abbrev pub sense_of : Bytes → Option Sense
   sense_of name =
       option_or (open_region opened name)
-      (option_or (option_map (parameter_sense name) (universe_in params name)) (outer_sense visible heads name))
+      (option_or
+      (option_map (parameter_sense name) (universe_in params name))
+      (outer_sense visible heads name))

@@ -16,11 +16,17 @@ ghost use Rattle.au_written_types.specs.Senses.{Sense, a_type, built_in, sense_o
 
 /// No name that is visible hides one that is built in.
 pub fn built_in_names_stay()
-    ensures each { (visible : List (Bytes × DeclAt)) (heads : List (DeclAt × Head)) (name : Bytes) (sense : Sense) → find name built_in ≡ Some sense → sense_of [] [] visible heads name ≡ Some sense }
-    ensures integers { (visible : List (Bytes × DeclAt)) (heads : List (DeclAt × Head)) → sense_of [] [] visible heads (codes "Nat8") ≡ Some (a_type (integer kinds.Nat8)) }
+    ensures each { (visible : List (Bytes × DeclAt)) (heads : List (DeclAt × Head))
+        (name : Bytes) (sense : Sense)
+        → find name built_in ≡ Some sense
+        → sense_of [] [] visible heads name ≡ Some sense }
+    ensures integers { (visible : List (Bytes × DeclAt)) (heads : List (DeclAt × Head))
+        → sense_of [] [] visible heads (codes "Nat8") ≡ Some (a_type (integer kinds.Nat8)) }
 {}
 
 /// What a written type means doesn't depend on the places of its names.
 pub fn places_do_not_count()
-    ensures { (opened : List Bytes) (params : List Parameter) (visible : List (Bytes × DeclAt)) (heads : List (DeclAt × Head)) (at : Pos) (t : WrittenType) → meant opened params visible heads (moved at t) ≡ meant opened params visible heads t }
+    ensures { (opened : List Bytes) (params : List Parameter) (visible : List (Bytes × DeclAt))
+        (heads : List (DeclAt × Head)) (at : Pos) (t : WrittenType)
+        → meant opened params visible heads (moved at t) ≡ meant opened params visible heads t }
 {}

@@ -5,7 +5,13 @@ ghost use Rattle.std.specs.Option.{option_map};
 ghost use Rattle.au_syntax.specs.Views.{written};
 ghost use Rattle.au_types.specs.Types as types;
 ghost use Rattle.au_types.specs.Views.{argument, argument_all, meaning};
-ghost use Rattle.au_written_types.specs.Meant.{applied, argument_meant, arguments_meant, region_of, span_with};
+ghost use Rattle.au_written_types.specs.Meant.{
+  applied,
+  argument_meant,
+  arguments_meant,
+  region_of,
+  span_with,
+};
 ghost use Rattle.au_written_types.specs.Views.{given_in, meant_in, region_in, said, sense_in};
 
 use crate::parts::{alone, refers, span_of};
@@ -88,7 +94,8 @@ pub fn type_meant(alloc: Global, scope: &Scope, node: &TypeText) -> Result<Optio
 /// What a type in a box means.
 #[cycle(type_meant)]
 fn boxed_meant(alloc: Global, scope: &Scope, node: &TypeText) -> Result<Option<Box<Ty>>, Memory>
-    ensures { IfOk result (λ found. option_map (λ t. meaning t.value) found ≡ meant_in scope.now (written node.now)) }
+    ensures { IfOk result (λ found. option_map (λ t. meaning t.value) found
+        ≡ meant_in scope.now (written node.now)) }
 {
     match type_meant(alloc, scope, node)? {
         Some(of) => Ok(Some(Box::new(alloc, of)?)),
@@ -105,7 +112,8 @@ fn named_meant(
     name: &Name,
     args: &Vec<TypeText>,
 ) -> Result<Option<Ty>, Memory>
-    ensures { IfOk result (λ found. option_map meaning found ≡ applied (sense_in scope.now name.now) (map (given_in scope.now) args.now.items)) }
+    ensures { IfOk result (λ found. option_map meaning found
+        ≡ applied (sense_in scope.now name.now) (map (given_in scope.now) args.now.items)) }
 {
     match sense_of(scope, name) {
         Some(sense) => applied(alloc, scope, name, &sense, args),
@@ -123,7 +131,8 @@ fn applied(
     sense: &Sense,
     args: &Vec<TypeText>,
 ) -> Result<Option<Ty>, Memory>
-    ensures { IfOk result (λ found. option_map meaning found ≡ applied (Some (said name.now sense.now)) (map (given_in scope.now) args.now.items)) }
+    ensures { IfOk result (λ found. option_map meaning found
+        ≡ applied (Some (said name.now sense.now)) (map (given_in scope.now) args.now.items)) }
 {
     match sense {
         Sense::Unit => Ok(alone(Ty::Unit, args)),
@@ -145,7 +154,8 @@ fn applied(
 #[tactic(auto, using(crate::proofs::MeantLemmas::meant_steps))]
 #[cycle(type_meant)]
 fn span_meant(alloc: Global, scope: &Scope, args: &Vec<TypeText>) -> Result<Option<Ty>, Memory>
-    ensures { IfOk result (λ found. option_map meaning found ≡ span_with (map (given_in scope.now) args.now.items)) }
+    ensures { IfOk result (λ found. option_map meaning found
+        ≡ span_with (map (given_in scope.now) args.now.items)) }
 {
     if args.len() != 2 {
         return Ok(None);
@@ -165,7 +175,9 @@ fn declared_meant(
     expected: &Params,
     args: &Vec<TypeText>,
 ) -> Result<Option<Ty>, Memory>
-    ensures { IfOk result (λ found. option_map meaning found ≡ option_map (types.named at) (arguments_meant expected.now (map (given_in scope.now) args.now.items))) }
+    ensures { IfOk result (λ found. option_map meaning found
+        ≡ option_map (types.named at)
+        (arguments_meant expected.now (map (given_in scope.now) args.now.items))) }
 {
     match arguments_meant(alloc, scope, expected, args)? {
         Some(args) => Ok(Some(Ty::Named { of: at, args })),
@@ -181,7 +193,8 @@ fn arguments_meant(
     expected: &Params,
     args: &Vec<TypeText>,
 ) -> Result<Option<Vec<Arg>>, Memory>
-    ensures { IfOk result (λ found. option_map (λ all. argument_all all.items) found ≡ arguments_meant expected.now (map (given_in scope.now) args.now.items)) }
+    ensures { IfOk result (λ found. option_map (λ all. argument_all all.items) found
+        ≡ arguments_meant expected.now (map (given_in scope.now) args.now.items)) }
 {
     if args.len() != expected.len() {
         return Ok(None);
@@ -206,7 +219,8 @@ fn argument_meant(
     universe: Universe,
     node: &TypeText,
 ) -> Result<Option<Arg>, Memory>
-    ensures { IfOk result (λ found. option_map argument found ≡ argument_meant universe (given_in scope.now node.now)) }
+    ensures { IfOk result (λ found. option_map argument found
+        ≡ argument_meant universe (given_in scope.now node.now)) }
 {
     match universe {
         Universe::Free => type_argument(alloc, scope, node),
@@ -220,7 +234,8 @@ fn argument_meant(
 #[tactic(auto, using(au_types::proofs::TypeLemmas::type_steps))]
 #[cycle(type_meant)]
 fn type_argument(alloc: Global, scope: &Scope, node: &TypeText) -> Result<Option<Arg>, Memory>
-    ensures { IfOk result (λ found. option_map argument found ≡ option_map types.of_type (meant_in scope.now (written node.now))) }
+    ensures { IfOk result (λ found. option_map argument found
+        ≡ option_map types.of_type (meant_in scope.now (written node.now))) }
 {
     match type_meant(alloc, scope, node)? {
         Some(of) => Ok(Some(Arg::Of(of))),
@@ -231,7 +246,8 @@ fn type_argument(alloc: Global, scope: &Scope, node: &TypeText) -> Result<Option
 /// What an argument means where a region is wanted.
 #[tactic(auto, using(au_types::proofs::TypeLemmas::type_steps))]
 fn region_argument(alloc: Global, scope: &Scope, node: &TypeText) -> Result<Option<Arg>, Memory>
-    ensures { IfOk result (λ found. option_map argument found ≡ option_map types.in_region (region_in scope.now (written node.now))) }
+    ensures { IfOk result (λ found. option_map argument found
+        ≡ option_map types.in_region (region_in scope.now (written node.now))) }
 {
     match region_meant(alloc, scope, node)? {
         Some(region) => Ok(Some(Arg::In(region))),

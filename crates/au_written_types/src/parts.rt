@@ -15,7 +15,8 @@ use au_types::{Region, Ty, is_same, is_same_region};
 /// A type that takes no arguments, with these.
 #[tactic(auto, using(crate::proofs::MeantLemmas::meant_steps))]
 pub(crate) fn alone(of: Ty, args: &Vec<TypeText>) -> Option<Ty>
-    ensures { (f : TypeText → mean.Given) → option_map meaning result ≡ mean.alone (meaning of) (map f args.now.items) }
+    ensures { (f : TypeText → mean.Given)
+        → option_map meaning result ≡ mean.alone (meaning of) (map f args.now.items) }
 {
     if args.is_empty() { Some(of) } else { None }
 }
@@ -48,7 +49,8 @@ fn text_of(of: &Ty, region: &Region) -> Option<Ty>
 /// Whether the texts have this element and this region.
 #[tactic(auto, using(au_types::proofs::TypeLemmas::type_steps))]
 fn is_text(of: &Ty, region: &Region) -> bool
-    ensures { result ≡ (same (meaning of.now) (integer IntKind.Nat8) && same_region region.now Region.Static) }
+    ensures { result ≡ (same (meaning of.now) (integer IntKind.Nat8)
+        && same_region region.now Region.Static) }
 {
     is_same(of, &Ty::Int(IntKind::Nat8)) && is_same_region(region, &Region::Static)
 }
@@ -66,7 +68,8 @@ pub(crate) fn refers(access: Access, to: Option<Box<Ty>>, region: Option<Region>
 /// A reference that reads.
 #[tactic(auto, using(au_types::proofs::TypeLemmas::type_steps))]
 fn reads(to: Option<Box<Ty>>, region: Option<Region>) -> Option<Ty>
-    ensures { option_map meaning result ≡ mean.refers Access.Read (option_map (λ t. meaning t.value) to) region }
+    ensures { option_map meaning result
+        ≡ mean.refers Access.Read (option_map (λ t. meaning t.value) to) region }
 {
     let Some(to) = to else {
         return None;
@@ -80,7 +83,8 @@ fn reads(to: Option<Box<Ty>>, region: Option<Region>) -> Option<Ty>
 /// A reference that writes.
 #[tactic(auto, using(au_types::proofs::TypeLemmas::type_steps))]
 fn writes(to: Option<Box<Ty>>, region: Option<Region>) -> Option<Ty>
-    ensures { option_map meaning result ≡ mean.refers Access.Write (option_map (λ t. meaning t.value) to) region }
+    ensures { option_map meaning result
+        ≡ mean.refers Access.Write (option_map (λ t. meaning t.value) to) region }
 {
     let Some(to) = to else {
         return None;

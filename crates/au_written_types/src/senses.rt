@@ -61,7 +61,8 @@ fn is_open(regions: &[Name], name: &Name) -> bool
 
 /// A type parameter.
 fn parameter_sense<'a>(params: &Params, name: &Name) -> Option<Sense<'a>>
-    ensures { option_map (said name.now) result ≡ option_map (senses.parameter_sense name.now) (universes.universe_in params.now name.now) }
+    ensures { option_map (said name.now) result
+        ≡ option_map (senses.parameter_sense name.now) (universes.universe_in params.now name.now) }
 {
     let Some(universe) = universe_in(params, name) else {
         return None;
@@ -86,7 +87,8 @@ fn outer_sense<'a>(names: &Table<DeclAt>, heads: &'a Heads, name: &Name) -> Opti
 
 /// A declaration that is visible.
 fn visible_sense<'a>(names: &Table<DeclAt>, heads: &'a Heads, name: &Name) -> Option<Sense<'a>>
-    ensures { option_map (said name.now) result ≡ option_map (senses.declared_sense heads.now) (find name.now names.now) }
+    ensures { option_map (said name.now) result
+        ≡ option_map (senses.declared_sense heads.now) (find name.now names.now) }
 {
     let Some(at) = names.get(name.as_bytes()) else {
         return None;

@@ -89,7 +89,8 @@ impl<R: Files> Shelf for DiskShelf<R> {
 fn read_front<F: Read + Drop>(file: F, room: &mut Vec<u8>) -> io::Result<()>
     requires { room.old.items ≡ [] }
     ensures within { OnOk result (vec_len room.new ≤ most_file_bytes + 1) }
-    ensures bytes { OnOk result (IfSome (F.remaining file) (λ bytes. room.new.items ≡ take (most_file_bytes + 1) bytes)) }
+    ensures bytes { OnOk result (IfSome (F.remaining file)
+        (λ bytes. room.new.items ≡ take (most_file_bytes + 1) bytes)) }
 {
     file.take(MOST_FILE_BYTES as u64 + 1).read_to_end(room)?;
     room.truncate(MOST_FILE_BYTES + 1);
@@ -184,7 +185,9 @@ impl<W: Write> StreamSink<W> {
     /// Writes some of a piece, and flushes.
     fn write(&mut self, piece: &[u8]) -> io::Result<usize>
         ensures size { IfOk result (λ size. size ≤ length piece.now) }
-        ensures bytes { IfOk result (λ size. Appends (W.contents self.old.writer) (W.contents self.new.writer) (take size piece.now)) }
+        ensures bytes { IfOk result
+            (λ size. Appends (W.contents self.old.writer) (W.contents self.new.writer)
+            (take size piece.now)) }
         ensures faults { self.new.faults ≡ self.old.faults }
     {
         let size = self.writer.write(piece)?;

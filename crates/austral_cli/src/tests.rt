@@ -57,7 +57,8 @@ impl Read for Fitful {
     }
 }
 
-/// A read that fails loses no byte, and the reader is asked only where no byte is held, and not behind its end.
+/// A read that fails loses no byte, and the reader is asked only where no byte is held,
+/// and not behind its end.
 #[test]
 fn stdin_source_asks(rt: HostRuntime) -> Result<(), Fail> {
     let mut reader = Fitful { calls: 0 };

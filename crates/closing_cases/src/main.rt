@@ -1,5 +1,5 @@
-//! Closes programs, and prints what each closes to: its functions in the order of their numbers, each with its
-//! parameters and its result, and its types in their order, each with its cases.
+//! Closes programs, and prints what each closes to: its functions in the order of their numbers, each with
+//! its parameters and its result, and its types in their order, each with its cases.
 //!
 //! The file `programs` has the programs, as `programs.rt` reads them. What comes is the stored output.
 #![tactic(auto)]

@@ -1,8 +1,8 @@
 //! The programs that are closed, as a file has them.
 //!
-//! A line `program TITLE` begins a program, `entry MODULE NAME` names its entry, and `count` says that only the
-//! numbers of its functions and types are printed. A line `file` begins a file, and each line that begins with
-//! `|` is one of it. Other lines say nothing.
+//! A line `program TITLE` begins a program, `entry MODULE NAME` names its entry, and `count` says that only
+//! the numbers of its functions and types are printed. A line `file` begins a file, and each line that begins
+//! with `|` is one of it. Other lines say nothing.
 
 use au_base::{Memory, Text};
 use std::alloc::Global;
