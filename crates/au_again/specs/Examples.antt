@@ -7,37 +7,13 @@ use Rattle.au_syntax.specs.declared.expressions.BorrowMode.TheVariants as modes
 use Rattle.au_syntax.specs.declared.statements.Binding.TheVariants as bindings
 use Rattle.au_syntax.specs.declared.types.Access.TheVariants as accesses
 use Rattle.au_syntax.specs.Expressions.{nil}
-use Rattle.au_syntax.specs.Modules.{
-  Constrained,
-  Header,
-  InUniverse,
-  Variant,
-  class,
-  constant,
-  constant_body,
-  function,
-  function_body,
-  instance_body,
-  opaque_type,
-  record_type,
-  union_type,
-}
+use Rattle.au_syntax.specs.Modules.{Constrained, Header, InUniverse, Variant, class, constant, constant_body}
+use Rattle.au_syntax.specs.Modules.{function, function_body, instance_body, opaque_type, record_type}
+use Rattle.au_syntax.specs.Modules.{union_type}
 use Rattle.au_syntax.specs.Names.{Placed}
 use Rattle.au_syntax.specs.Plain.{Bytes, PlainDeclaration, PlainExpression, PlainStatement, PlainStatements}
-use Rattle.au_syntax.specs.Statements.{
-  arms,
-  borrow_in,
-  borrow_typed,
-  branches,
-  case_of,
-  conditional_else,
-  declare,
-  for_loop,
-  no_arms,
-  no_branches,
-  no_statements,
-  statements,
-}
+use Rattle.au_syntax.specs.Statements.{arms, borrow_in, borrow_typed, branches, case_of, conditional_else}
+use Rattle.au_syntax.specs.Statements.{declare, for_loop, no_arms, no_branches, no_statements, statements}
 use Rattle.au_syntax.specs.Types.{Labelled, WrittenType, named, no_types, reference}
 use Rattle.au_again.specs.declared.doubles.Double.{Double}
 use Rattle.au_again.specs.declared.marks.Kind.{Kind}

@@ -5,54 +5,16 @@ use Rattle.std.specs.Prelude.{List, [], ◌∷◌, ◌++◌, map}
 use Rattle.std.specs.List.{flat_map}
 use Rattle.au_syntax.specs.declared.modules.Part.{Part}
 use Rattle.au_syntax.specs.declared.modules.Part.TheVariants.{Interface, Body}
-use Rattle.au_syntax.specs.Modules.{
-  Constrained,
-  Header,
-  InUniverse,
-  Variant,
-  constant,
-  opaque_type,
-  record_type,
-  union_type,
-  function,
-  class,
-  instance,
-  constant_body,
-  function_body,
-  instance_body,
-}
+use Rattle.au_syntax.specs.Modules.{Constrained, Header, InUniverse, Variant, constant, opaque_type}
+use Rattle.au_syntax.specs.Modules.{record_type, union_type, function, class, instance, constant_body}
+use Rattle.au_syntax.specs.Modules.{function_body, instance_body}
 use Rattle.au_syntax.specs.Names.{Placed}
-use Rattle.au_syntax.specs.Plain.{
-  Bytes,
-  PlainArms,
-  PlainBranches,
-  PlainDeclaration,
-  PlainMethod,
-  PlainStatement,
-  PlainStatements,
-}
-use Rattle.au_syntax.specs.Statements.{
-  skip,
-  declare,
-  destructure,
-  assign,
-  assign_through,
-  conditional,
-  conditional_else,
-  case_of,
-  while_loop,
-  for_loop,
-  borrow_in,
-  borrow_typed,
-  discard,
-  return_of,
-  no_statements,
-  statements,
-  no_branches,
-  branches,
-  no_arms,
-  arms,
-}
+use Rattle.au_syntax.specs.Plain.{Bytes, PlainArms, PlainBranches, PlainDeclaration, PlainMethod}
+use Rattle.au_syntax.specs.Plain.{PlainStatement, PlainStatements}
+use Rattle.au_syntax.specs.Statements.{skip, declare, destructure, assign, assign_through, conditional}
+use Rattle.au_syntax.specs.Statements.{conditional_else, case_of, while_loop, for_loop, borrow_in}
+use Rattle.au_syntax.specs.Statements.{borrow_typed, discard, return_of, no_statements, statements}
+use Rattle.au_syntax.specs.Statements.{no_branches, branches, no_arms, arms}
 use Rattle.au_syntax.specs.Types.{Bound, Labelled, WrittenType, named, reference}
 use Rattle.au_imports.specs.NameFaults.{given}
 use Rattle.au_again.specs.declared.marks.Kind.{Kind}

@@ -2,22 +2,8 @@
 -- record or case. What is declared at the top of a module is in scope in all of both its parts, before it
 -- too, and the later name in the text is the one that is declared again; the interface stands before the
 -- body. A definition of what the interface promises isn't declared again; a second one is.
-use Rattle.std.specs.Prelude.{
-  ◌≡◌,
-  ◌⊎◌,
-  ◌≤◌,
-  ◌+◌,
-  ℕ,
-  Bool,
-  List,
-  [],
-  ◌∷◌,
-  ◌++◌,
-  Some,
-  Contains,
-  IsTrue,
-  slice_get,
-}
+use Rattle.std.specs.Prelude.{◌≡◌, ◌⊎◌, ◌≤◌, ◌+◌, ℕ, Bool, List, [], ◌∷◌, ◌++◌, Some, Contains, IsTrue}
+use Rattle.std.specs.Prelude.{slice_get}
 use Rattle.std.specs.List.{flat_map}
 use Rattle.au_base.specs.declared.places.Pos.{Pos}
 use Rattle.au_syntax.specs.declared.modules.Part.{Part}

@@ -7,18 +7,8 @@ use Rattle.au_syntax.specs.declared.statements.Arm.{Arm}
 use Rattle.au_syntax.specs.declared.statements.Block.{Block}
 use Rattle.au_syntax.specs.declared.statements.Branch.{Branch}
 use Rattle.au_syntax.specs.declared.statements.Stmt.{Stmt}
-use Rattle.au_syntax.specs.Plain.{
-  Bytes,
-  PlainArms,
-  PlainBranches,
-  PlainStatement,
-  PlainStatements,
-  plain_arms,
-  plain_bound,
-  plain_branches,
-  plain_statement,
-  plain_statements,
-}
+use Rattle.au_syntax.specs.Plain.{Bytes, PlainArms, PlainBranches, PlainStatement, PlainStatements}
+use Rattle.au_syntax.specs.Plain.{plain_arms, plain_bound, plain_branches, plain_statement, plain_statements}
 use Rattle.au_syntax.specs.Types.{Bound}
 use Rattle.au_syntax.specs.Views.{arm_all, block, bound, branch_all, statement, statement_all}
 

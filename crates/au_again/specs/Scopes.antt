@@ -1,20 +1,7 @@
 -- The tables that are kept while the text of a module is read, and how each mark changes them: for each kind
 -- the names that are declared so far, by their roles, and the local names of the blocks that are open.
-use Rattle.std.specs.Prelude.{
-  ℕ,
-  Bool,
-  ◌||◌,
-  if◌then◌else◌,
-  List,
-  [],
-  ◌∷◌,
-  Option,
-  None,
-  Some,
-  slice_get,
-  slice_index_or,
-  slice_set,
-}
+use Rattle.std.specs.Prelude.{ℕ, Bool, ◌||◌, if◌then◌else◌, List, [], ◌∷◌, Option, None, Some, slice_get}
+use Rattle.std.specs.Prelude.{slice_index_or, slice_set}
 use Rattle.std.specs.List.{fold}
 use Rattle.std.specs.Option.{option_or}
 use Rattle.au_syntax.specs.Plain.{Bytes}

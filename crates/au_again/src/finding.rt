@@ -1,18 +1,7 @@
 //! Finds the first name of a declaration that is declared again.
 
-ghost use Rattle.std.specs.Prelude.{
-  ◌≡◌,
-  ◌++◌,
-  ◌<◌,
-  IfOk,
-  OnOk,
-  Some,
-  if◌then◌else◌,
-  None,
-  length,
-  map,
-  slice_get,
-};
+ghost use Rattle.std.specs.Prelude.{◌≡◌, ◌++◌, ◌<◌, IfOk, OnOk, Some, if◌then◌else◌, None, length, map};
+ghost use Rattle.std.specs.Prelude.{slice_get};
 ghost use Rattle.std.specs.List.{fold};
 ghost use Rattle.au_again.specs.Marks.{marks};
 ghost use Rattle.au_again.specs.Outside as outside;

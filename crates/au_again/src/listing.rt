@@ -3,28 +3,11 @@
 ghost use Rattle.std.specs.Prelude.{◌≡◌, ◌++◌, ◌∷◌, [], IfOk, OnOk, map};
 ghost use Rattle.std.specs.List.{flat_map};
 ghost use Rattle.au_again.specs.Marks as spec;
-ghost use Rattle.au_again.specs.Marks.{
-  case_marks,
-  enclosed,
-  function_marks,
-  generic_mark,
-  labelled_mark,
-  marks,
-  method_body_marks,
-  method_marks,
-  parameter_mark,
-};
+ghost use Rattle.au_again.specs.Marks.{case_marks, enclosed, function_marks, generic_mark, labelled_mark};
+ghost use Rattle.au_again.specs.Marks.{marks, method_body_marks, method_marks, parameter_mark};
 ghost use Rattle.au_again.specs.Said.{block_said};
-ghost use Rattle.au_mentions.specs.Said.{
-  case_said,
-  cases_said,
-  fields_said,
-  generics_said,
-  header_said,
-  headers_said,
-  methods_said,
-  parameters_said,
-};
+ghost use Rattle.au_mentions.specs.Said.{case_said, cases_said, fields_said, generics_said, header_said};
+ghost use Rattle.au_mentions.specs.Said.{headers_said, methods_said, parameters_said};
 ghost use Rattle.au_again.specs.Marks.{block_marks};
 ghost use Rattle.au_syntax.specs.Plain.{plain_declaration, plain_in_universe, plain_method};
 ghost use Rattle.au_syntax.specs.Views.{declaration, in_universe, method_body};

@@ -1,14 +1,8 @@
 //! Puts the marks of the parts of a declaration behind others.
 
 ghost use Rattle.std.specs.Prelude.{◌≡◌, ◌++◌, ◌∷◌, [], OnOk, map};
-ghost use Rattle.au_again.specs.Marks.{
-  bound_mark,
-  enclosed,
-  function_marks,
-  generic_mark,
-  labelled_mark,
-  parameter_mark,
-};
+ghost use Rattle.au_again.specs.Marks.{bound_mark, enclosed, function_marks, generic_mark, labelled_mark};
+ghost use Rattle.au_again.specs.Marks.{parameter_mark};
 ghost use Rattle.au_again.specs.Said.{binds_said};
 ghost use Rattle.au_mentions.specs.Said.{fields_said, generics_said, header_said, parameters_said};
 ghost use Rattle.au_imports.specs.NameFaults.{given};

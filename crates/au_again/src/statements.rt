@@ -1,16 +1,8 @@
 //! Puts the marks of statements behind others.
 
 ghost use Rattle.std.specs.Prelude.{◌≡◌, ◌++◌, ◌∷◌, [], OnOk, map};
-ghost use Rattle.au_again.specs.Marks.{
-  arm_marks,
-  block_marks,
-  bound_mark,
-  branch_marks,
-  enclosed,
-  local,
-  region_marks,
-  statement_marks,
-};
+ghost use Rattle.au_again.specs.Marks.{arm_marks, block_marks, bound_mark, branch_marks, enclosed, local};
+ghost use Rattle.au_again.specs.Marks.{region_marks, statement_marks};
 ghost use Rattle.au_again.specs.Said.{arms_said, binds_said, block_said, branches_said, statement_said};
 ghost use Rattle.au_syntax.specs.Views.{written};
 

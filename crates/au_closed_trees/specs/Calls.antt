@@ -1,48 +1,13 @@
 -- What the calls of a tree lead to, in the order of the text. A call stands where the name that is called
 -- stands, and so before its arguments.
 use Rattle.std.specs.Prelude.{List, [], ◌++◌}
-use Rattle.au_syntax.specs.Expressions.{
-  Expression,
-  Expressions,
-  Arguments,
-  call,
-  named_call,
-  parenthesized,
-  dereference,
-  binary,
-  negation,
-  typed,
-  choice,
-  no_expressions,
-  expressions,
-  no_arguments,
-  arguments,
-}
-use Rattle.au_syntax.specs.Statements.{
-  Statement,
-  Statements,
-  Branches,
-  Arms,
-  declare,
-  destructure,
-  assign,
-  assign_through,
-  conditional,
-  conditional_else,
-  case_of,
-  while_loop,
-  for_loop,
-  borrow_in,
-  borrow_typed,
-  discard,
-  return_of,
-  no_statements,
-  statements,
-  no_branches,
-  branches,
-  no_arms,
-  arms,
-}
+use Rattle.au_syntax.specs.Expressions.{Expression, Expressions, Arguments, call, named_call, parenthesized}
+use Rattle.au_syntax.specs.Expressions.{dereference, binary, negation, typed, choice, no_expressions}
+use Rattle.au_syntax.specs.Expressions.{expressions, no_arguments, arguments}
+use Rattle.au_syntax.specs.Statements.{Statement, Statements, Branches, Arms, declare, destructure, assign}
+use Rattle.au_syntax.specs.Statements.{assign_through, conditional, conditional_else, case_of, while_loop}
+use Rattle.au_syntax.specs.Statements.{for_loop, borrow_in, borrow_typed, discard, return_of, no_statements}
+use Rattle.au_syntax.specs.Statements.{statements, no_branches, branches, no_arms, arms}
 
 -- by what a call leads to, of which the note of its expression, its own note and the name that is called are
 -- seen

@@ -1,58 +1,13 @@
 -- Trees with other notes: the same is written at the same places.
 use Rattle.au_syntax.specs.Names.{Placed}
-use Rattle.au_syntax.specs.Expressions.{
-  Node,
-  Expression,
-  Expressions,
-  Arguments,
-  number,
-  negative,
-  text,
-  truth,
-  nil,
-  path,
-  arrow,
-  call,
-  named_call,
-  parenthesized,
-  dereference,
-  borrow,
-  borrow_part,
-  binary,
-  negation,
-  typed,
-  choice,
-  no_expressions,
-  expressions,
-  no_arguments,
-  arguments,
-}
-use Rattle.au_syntax.specs.Statements.{
-  Statement,
-  Statements,
-  Branches,
-  Arms,
-  skip,
-  declare,
-  destructure,
-  assign,
-  assign_through,
-  conditional,
-  conditional_else,
-  case_of,
-  while_loop,
-  for_loop,
-  borrow_in,
-  borrow_typed,
-  discard,
-  return_of,
-  no_statements,
-  statements,
-  no_branches,
-  branches,
-  no_arms,
-  arms,
-}
+use Rattle.au_syntax.specs.Expressions.{Node, Expression, Expressions, Arguments, number, negative, text}
+use Rattle.au_syntax.specs.Expressions.{truth, nil, path, arrow, call, named_call, parenthesized, dereference}
+use Rattle.au_syntax.specs.Expressions.{borrow, borrow_part, binary, negation, typed, choice, no_expressions}
+use Rattle.au_syntax.specs.Expressions.{expressions, no_arguments, arguments}
+use Rattle.au_syntax.specs.Statements.{Statement, Statements, Branches, Arms, skip, declare, destructure}
+use Rattle.au_syntax.specs.Statements.{assign, assign_through, conditional, conditional_else, case_of}
+use Rattle.au_syntax.specs.Statements.{while_loop, for_loop, borrow_in, borrow_typed, discard, return_of}
+use Rattle.au_syntax.specs.Statements.{no_statements, statements, no_branches, branches, no_arms, arms}
 use Rattle.au_closed_trees.specs.Changes.{Change}
 
 module _ {N T C U D : Type 0} (change : Change N T C U D) where

@@ -3,19 +3,8 @@ use Rattle.std.specs.Prelude.{Option, None, Some}
 use Rattle.std.specs.Option.{option_map}
 use Rattle.au_types.specs.Types as whole
 use Rattle.au_types.specs.Types.{Meaning, Argument, Arguments}
-use Rattle.au_closed_types.specs.Types.{
-  ClosedType,
-  ClosedTypes,
-  unit,
-  truth,
-  integer,
-  text,
-  named,
-  reads,
-  writes,
-  no_types,
-  types,
-}
+use Rattle.au_closed_types.specs.Types.{ClosedType, ClosedTypes, unit, truth, integer, text, named, reads}
+use Rattle.au_closed_types.specs.Types.{writes, no_types, types}
 
 -- a closed type in front of others, where there are both
 abbrev pub in_front : Option ClosedType → Option ClosedTypes → Option ClosedTypes

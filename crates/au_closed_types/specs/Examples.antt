@@ -9,18 +9,8 @@ use Rattle.au_types.specs.Types as whole
 use Rattle.au_types.specs.Types.{Meaning}
 use Rattle.au_type_texts.specs.Examples as others
 use Rattle.au_type_texts.specs.Examples.{exit_code, holder}
-use Rattle.au_closed_types.specs.Types.{
-  ClosedType,
-  unit,
-  truth,
-  integer,
-  text,
-  named,
-  reads,
-  writes,
-  no_types,
-  types,
-}
+use Rattle.au_closed_types.specs.Types.{ClosedType, unit, truth, integer, text, named, reads, writes}
+use Rattle.au_closed_types.specs.Types.{no_types, types}
 
 -- a type, and the closed type that it is, if it is one
 pub record Closing : Type 0 where

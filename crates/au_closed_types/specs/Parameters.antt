@@ -1,22 +1,7 @@
 -- Whether a type parameter stands in a type.
 use Rattle.std.specs.Prelude.{Bool, true, false, ◌||◌}
-use Rattle.au_types.specs.Types.{
-  Meaning,
-  Argument,
-  Arguments,
-  unit,
-  truth,
-  integer,
-  text,
-  parameter,
-  named,
-  reads,
-  writes,
-  of_type,
-  in_region,
-  no_arguments,
-  arguments,
-}
+use Rattle.au_types.specs.Types.{Meaning, Argument, Arguments, unit, truth, integer, text, parameter, named}
+use Rattle.au_types.specs.Types.{reads, writes, of_type, in_region, no_arguments, arguments}
 
 abbrev mutual
   -- in a type

@@ -4,19 +4,8 @@ use Rattle.au_base.specs.declared.limits.Limit.{Limit}
 use Rattle.au_base.specs.declared.limits.LimitKind.TheVariants.{TypeDepth, TypeNodes}
 use Rattle.au_base.specs.Limits.{most_type_depth, most_type_nodes}
 use Rattle.au_type_texts.specs.Sizes.{counted}
-use Rattle.au_closed_types.specs.Types.{
-  ClosedType,
-  ClosedTypes,
-  unit,
-  truth,
-  integer,
-  text,
-  named,
-  reads,
-  writes,
-  no_types,
-  types,
-}
+use Rattle.au_closed_types.specs.Types.{ClosedType, ClosedTypes, unit, truth, integer, text, named, reads}
+use Rattle.au_closed_types.specs.Types.{writes, no_types, types}
 
 abbrev mutual
   -- The depth of a closed type: a name alone is 1, and a reference or a type with arguments is one more than

@@ -4,19 +4,8 @@ use Rattle.au_types.specs.declared.headings.Head.{Head}
 use Rattle.au_types.specs.declared.types.DeclAt.{DeclAt}
 use Rattle.au_types.specs.Rows.{head_of}
 use Rattle.au_type_texts.specs.Texts.{head_text, kind_name}
-use Rattle.au_closed_types.specs.Types.{
-  ClosedType,
-  ClosedTypes,
-  unit,
-  truth,
-  integer,
-  text,
-  named,
-  reads,
-  writes,
-  no_types,
-  types,
-}
+use Rattle.au_closed_types.specs.Types.{ClosedType, ClosedTypes, unit, truth, integer, text, named, reads}
+use Rattle.au_closed_types.specs.Types.{writes, no_types, types}
 
 -- a reference: what it begins with, and the text of the type behind it
 abbrev pub reference_text : List ℕ → List ℕ → List ℕ

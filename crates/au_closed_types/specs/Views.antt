@@ -2,32 +2,10 @@
 use Rattle.std.specs.Prelude.{List, [], ◌∷◌, Vec}
 use Rattle.std.specs.Global.{Global}
 use Rattle.std.specs.declared.boxed.Box.{Box}
-use Rattle.au_closed_types.specs.declared.types.Closed.{
-  Closed,
-  Unit,
-  Bool,
-  Int,
-  Text,
-  Named',
-  Read',
-  Write',
-  Row_of-Closed,
-  end_of-Closed,
-  more_of-Closed,
-}
-use Rattle.au_closed_types.specs.Types.{
-  ClosedType,
-  ClosedTypes,
-  unit,
-  truth,
-  integer,
-  text,
-  named,
-  reads,
-  writes,
-  no_types,
-  types,
-}
+use Rattle.au_closed_types.specs.declared.types.Closed.{Closed, Unit, Bool, Int, Text, Named', Read', Write'}
+use Rattle.au_closed_types.specs.declared.types.Closed.{Row_of-Closed, end_of-Closed, more_of-Closed}
+use Rattle.au_closed_types.specs.Types.{ClosedType, ClosedTypes, unit, truth, integer, text, named, reads}
+use Rattle.au_closed_types.specs.Types.{writes, no_types, types}
 
 unfoldable mutual
   -- a closed type

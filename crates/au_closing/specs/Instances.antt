@@ -1,19 +1,6 @@
 -- Instances: a function or a method of an instance of a class, with closed types for its type parameters.
-use Rattle.std.specs.Prelude.{
-  ℕ,
-  zero,
-  suc,
-  ◌&&◌,
-  Bool,
-  if◌then◌else◌,
-  List,
-  [],
-  ◌∷◌,
-  Option,
-  None,
-  Some,
-  length,
-}
+use Rattle.std.specs.Prelude.{ℕ, zero, suc, ◌&&◌, Bool, if◌then◌else◌, List, [], ◌∷◌, Option, None, Some}
+use Rattle.std.specs.Prelude.{length}
 use Rattle.std.specs.Str.{bytes_eq}
 use Rattle.au_syntax.specs.Plain.{Bytes}
 use Rattle.au_types.specs.Rows.{same_place}

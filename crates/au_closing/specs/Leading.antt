@@ -6,15 +6,8 @@ use Rattle.au_shipped.specs.declared.prims.ShippedCall.{ShippedCall}
 use Rattle.au_shipped.specs.declared.prims.ShippedCall.TheVariants as calls
 use Rattle.au_shipped.specs.Calls.{prim_of}
 use Rattle.au_syntax.specs.declared.modules.Part.TheVariants.{Body}
-use Rattle.au_syntax.specs.Modules.{
-  Constrained,
-  Header,
-  record_type,
-  union_type,
-  function,
-  class,
-  function_body,
-}
+use Rattle.au_syntax.specs.Modules.{Constrained, Header, record_type, union_type, function, class}
+use Rattle.au_syntax.specs.Modules.{function_body}
 use Rattle.au_syntax.specs.Plain.{Bytes, PlainDeclaration}
 use Rattle.au_tables.specs.declared.spaces.Space.TheVariants.{Callables}
 use Rattle.au_tables.specs.Tables as tables

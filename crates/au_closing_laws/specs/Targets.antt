@@ -38,15 +38,8 @@ use Rattle.au_closed_trees.specs.Calls.{calls_in_block}
 use Rattle.au_closed_parts.specs.TypeNames.{is_region, type_names}
 use Rattle.au_closing.specs.Bodies.{BodyOf, body_of}
 use Rattle.au_closing.specs.Instances.{Instance}
-use Rattle.au_closing.specs.Leading.{
-  Called,
-  a_function,
-  a_method,
-  a_maker,
-  called_standing,
-  kind_of,
-  module_name,
-}
+use Rattle.au_closing.specs.Leading.{Called, a_function, a_method, a_maker, called_standing, kind_of}
+use Rattle.au_closing.specs.Leading.{module_name}
 
 -- ---- calls
 

@@ -1,20 +1,6 @@
 -- Closed programs with the rows of their types, whose functions number their names one after another.
-use Rattle.std.specs.Prelude.{
-  ◌≡◌,
-  ℕ,
-  zero,
-  suc,
-  ◌+◌,
-  Bool,
-  true,
-  List,
-  [],
-  ◌∷◌,
-  length,
-  map,
-  Option,
-  slice_get,
-}
+use Rattle.std.specs.Prelude.{◌≡◌, ℕ, zero, suc, ◌+◌, Bool, true, List, [], ◌∷◌, length, map, Option}
+use Rattle.std.specs.Prelude.{slice_get}
 use Rattle.au_closed_trees.specs.ClosedNotes.{Callee, ClosedNote}
 use Rattle.au_closed_types.specs.Types.{ClosedType}
 use Rattle.au_closed_views.specs.Programs.{Body, Row, case_from, fields_at, functions_seen, linear_by, row_in}

@@ -8,36 +8,15 @@ use Rattle.au_syntax.specs.declared.types.Access.TheVariants as access
 use Rattle.au_syntax.specs.Expressions.{Node, path, truth, nil}
 use Rattle.au_syntax.specs.Names.{Placed}
 use Rattle.au_syntax.specs.Plain.{Bytes, PlainExpression, PlainStatement, PlainStatements}
-use Rattle.au_syntax.specs.Statements.{
-  skip,
-  declare,
-  assign,
-  conditional,
-  conditional_else,
-  while_loop,
-  for_loop,
-  borrow_in,
-  borrow_typed,
-  return_of,
-  no_statements,
-  statements,
-  no_branches,
-  branches,
-}
+use Rattle.au_syntax.specs.Statements.{skip, declare, assign, conditional, conditional_else, while_loop}
+use Rattle.au_syntax.specs.Statements.{for_loop, borrow_in, borrow_typed, return_of, no_statements}
+use Rattle.au_syntax.specs.Statements.{statements, no_branches, branches}
 use Rattle.au_syntax.specs.Types.{WrittenType, named, reference, no_types}
 use Rattle.au_types.specs.declared.types.Region.TheVariants as regions
 use Rattle.au_types.specs.Types as mean
 use Rattle.au_scopes.specs.Scopes.{Outside, Scope}
-use Rattle.au_typing.specs.Faults.{
-  Why,
-  unknown,
-  different,
-  shape,
-  after_return,
-  integer_wanted,
-  assignable_wanted,
-  reference_wanted,
-}
+use Rattle.au_typing.specs.Faults.{Why, unknown, different, shape, after_return, integer_wanted}
+use Rattle.au_typing.specs.Faults.{assignable_wanted, reference_wanted}
 use Rattle.au_derivations.specs.Bodies.{outer_scope}
 use Rattle.au_derivations.specs.Faults.{Judged, StatementFault, refused}
 

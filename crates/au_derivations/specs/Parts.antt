@@ -1,20 +1,6 @@
 -- The tests and the parts of the rules on statements.
-use Rattle.std.specs.Prelude.{
-  ◌==◌,
-  ◌&&◌,
-  ◌||◌,
-  Bool,
-  true,
-  false,
-  List,
-  [],
-  ◌∷◌,
-  map,
-  is_some,
-  Option,
-  None,
-  Some,
-}
+use Rattle.std.specs.Prelude.{◌==◌, ◌&&◌, ◌||◌, Bool, true, false, List, [], ◌∷◌, map, is_some, Option, None}
+use Rattle.std.specs.Prelude.{Some}
 use Rattle.std.specs.List.{count_by, find, list_all, list_any}
 use Rattle.std.specs.Str.{bytes_eq}
 use Rattle.au_syntax.specs.declared.expressions.BorrowMode.{BorrowMode}

@@ -1,23 +1,9 @@
 -- Which statements some path leaves behind it, and which blocks some path passes through to their end. A loop
 -- may not be entered, and of a conditional without `else` no test may hold.
 use Rattle.std.specs.Prelude.{◌⊎◌}
-use Rattle.au_syntax.specs.Statements.{
-  Statement,
-  Statements,
-  Branches,
-  Arms,
-  conditional_else,
-  case_of,
-  borrow_in,
-  borrow_typed,
-  return_of,
-  no_statements,
-  statements,
-  no_branches,
-  branches,
-  no_arms,
-  arms,
-}
+use Rattle.au_syntax.specs.Statements.{Statement, Statements, Branches, Arms, conditional_else, case_of}
+use Rattle.au_syntax.specs.Statements.{borrow_in, borrow_typed, return_of, no_statements, statements}
+use Rattle.au_syntax.specs.Statements.{no_branches, branches, no_arms, arms}
 
 module _ {N T C : Type 0} where
   abbrev mutual

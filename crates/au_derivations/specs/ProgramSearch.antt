@@ -4,20 +4,8 @@ use Rattle.std.specs.Prelude.{ℕ, ◌+◌, Bool, true, false, List, [], ◌∷�
 use Rattle.au_base.specs.declared.places.Pos.{Pos}
 use Rattle.au_syntax.specs.declared.modules.Part.{Part}
 use Rattle.au_syntax.specs.declared.modules.Part.TheVariants.{Interface, Body}
-use Rattle.au_syntax.specs.Modules.{
-  Constrained,
-  Header,
-  constant,
-  opaque_type,
-  record_type,
-  union_type,
-  function,
-  class,
-  instance,
-  constant_body,
-  function_body,
-  instance_body,
-}
+use Rattle.au_syntax.specs.Modules.{Constrained, Header, constant, opaque_type, record_type, union_type}
+use Rattle.au_syntax.specs.Modules.{function, class, instance, constant_body, function_body, instance_body}
 use Rattle.au_syntax.specs.Plain.{Bytes, PlainDeclaration, PlainExpression, PlainMethod, PlainStatements}
 use Rattle.au_syntax.specs.Types.{WrittenType}
 use Rattle.au_modules.specs.Programs.{Entry, ModuleParts}

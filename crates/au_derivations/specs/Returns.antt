@@ -1,23 +1,9 @@
 -- Which statements and blocks return on every path. A loop never counts, nor does a conditional without
 -- `else`, and a block returns where one of its statements does.
 use Rattle.std.specs.Prelude.{Bool, true, false, ◌&&◌, ◌||◌, not}
-use Rattle.au_syntax.specs.Statements.{
-  Statement,
-  Statements,
-  Branches,
-  Arms,
-  conditional_else,
-  case_of,
-  borrow_in,
-  borrow_typed,
-  return_of,
-  no_statements,
-  statements,
-  no_branches,
-  branches,
-  no_arms,
-  arms,
-}
+use Rattle.au_syntax.specs.Statements.{Statement, Statements, Branches, Arms, conditional_else, case_of}
+use Rattle.au_syntax.specs.Statements.{borrow_in, borrow_typed, return_of, no_statements, statements}
+use Rattle.au_syntax.specs.Statements.{no_branches, branches, no_arms, arms}
 
 module _ {N T C : Type 0} where
   abbrev mutual

@@ -6,38 +6,12 @@ use Rattle.std.specs.Prelude.{Bool, true, not, List, [], ◌∷◌, Option, None
 use Rattle.au_base.specs.declared.places.Pos.{Pos}
 use Rattle.au_syntax.specs.declared.expressions.BorrowMode.{BorrowMode}
 use Rattle.au_syntax.specs.Names.{Placed}
-use Rattle.au_syntax.specs.Plain.{
-  Bytes,
-  PlainExpression,
-  PlainStatement,
-  PlainStatements,
-  PlainBranches,
-  PlainArms,
-}
-use Rattle.au_syntax.specs.Statements.{
-  Statement,
-  Statements,
-  skip,
-  declare,
-  destructure,
-  assign,
-  assign_through,
-  conditional,
-  conditional_else,
-  case_of,
-  while_loop,
-  for_loop,
-  borrow_in,
-  borrow_typed,
-  discard,
-  return_of,
-  no_statements,
-  statements,
-  no_branches,
-  branches,
-  no_arms,
-  arms,
-}
+use Rattle.au_syntax.specs.Plain.{Bytes, PlainExpression, PlainStatement, PlainStatements, PlainBranches}
+use Rattle.au_syntax.specs.Plain.{PlainArms}
+use Rattle.au_syntax.specs.Statements.{Statement, Statements, skip, declare, destructure, assign}
+use Rattle.au_syntax.specs.Statements.{assign_through, conditional, conditional_else, case_of, while_loop}
+use Rattle.au_syntax.specs.Statements.{for_loop, borrow_in, borrow_typed, discard, return_of, no_statements}
+use Rattle.au_syntax.specs.Statements.{statements, no_branches, branches, no_arms, arms}
 use Rattle.au_syntax.specs.Types.{Bound, WrittenType, named, reference}
 use Rattle.au_types.specs.declared.types.Region.TheVariants as regions
 use Rattle.au_types.specs.Same.{same}
@@ -46,52 +20,20 @@ use Rattle.au_types.specs.Types.{Meaning}
 use Rattle.au_judged_types.specs.Judging.{refers}
 use Rattle.au_scopes.specs.Scopes.{Case, Scope, Typed}
 use Rattle.au_typing.specs.Bare.{is_bare}
-use Rattle.au_typing.specs.Faults.{
-  Why,
-  Noting,
-  ◌>>=◌,
-  check,
-  known_or,
-  why,
-  unknown,
-  different,
-  not_free,
-  shape,
-  after_return,
-  record_wanted,
-  union_wanted,
-  reference_wanted,
-  write_reference_wanted,
-  integer_wanted,
-  assignable_wanted,
-  labels_wanted,
-  arms_wanted,
-}
-use Rattle.au_typing.specs.Lookups.{
-  is_free_in,
-  record_part,
-  type_of_name,
-  value_type,
-  variable_of,
-  written_type,
-}
+use Rattle.au_typing.specs.Faults.{Why, Noting, ◌>>=◌, check, known_or, why, unknown, different, not_free}
+use Rattle.au_typing.specs.Faults.{shape, after_return, record_wanted, union_wanted, reference_wanted}
+use Rattle.au_typing.specs.Faults.{write_reference_wanted, integer_wanted, assignable_wanted, labels_wanted}
+use Rattle.au_typing.specs.Faults.{arms_wanted}
+use Rattle.au_typing.specs.Lookups.{is_free_in, record_part, type_of_name, value_type, variable_of}
+use Rattle.au_typing.specs.Lookups.{written_type}
 use Rattle.au_typing.specs.Notes.{NotedExpression, type_of}
 use Rattle.au_typing.specs.Rules.{is_integer}
 use Rattle.au_typing.specs.Operands.{of_one_type, paired}
 use Rattle.au_typing.specs.Search.{note}
 use Rattle.au_derivations.specs.Faults.{Judged, ◌then◌, placed, refused}
 use Rattle.au_derivations.specs.InScope.{after, fixed_variable, with_bound, with_reference, with_variable}
-use Rattle.au_derivations.specs.Parts.{
-  ArmHead,
-  arms_fit,
-  binds_each,
-  borrow_type,
-  case_of_arm,
-  heads_of,
-  is_borrowed_within,
-  lent,
-  mode_for,
-}
+use Rattle.au_derivations.specs.Parts.{ArmHead, arms_fit, binds_each, borrow_type, case_of_arm, heads_of}
+use Rattle.au_derivations.specs.Parts.{is_borrowed_within, lent, mode_for}
 use Rattle.au_derivations.specs.Returns.{returns}
 use Rattle.au_derivations.specs.Trees.{NotedStatement, NotedStatements, NotedBranches, NotedArms}
 

@@ -5,28 +5,10 @@ use Rattle.std.specs.Prelude.{◌≡◌, true, false, List, [], ◌∷◌, None,
 use Rattle.au_syntax.specs.declared.expressions.BorrowMode.{BorrowMode}
 use Rattle.au_syntax.specs.Names.{Placed}
 use Rattle.au_syntax.specs.Plain.{Bytes}
-use Rattle.au_syntax.specs.Statements.{
-  skip,
-  declare,
-  destructure,
-  assign,
-  assign_through,
-  conditional,
-  conditional_else,
-  case_of,
-  while_loop,
-  for_loop,
-  borrow_in,
-  borrow_typed,
-  discard,
-  return_of,
-  no_statements,
-  statements,
-  no_branches,
-  branches,
-  no_arms,
-  arms,
-}
+use Rattle.au_syntax.specs.Statements.{skip, declare, destructure, assign, assign_through, conditional}
+use Rattle.au_syntax.specs.Statements.{conditional_else, case_of, while_loop, for_loop, borrow_in}
+use Rattle.au_syntax.specs.Statements.{borrow_typed, discard, return_of, no_statements, statements}
+use Rattle.au_syntax.specs.Statements.{no_branches, branches, no_arms, arms}
 use Rattle.au_syntax.specs.Types.{Bound, WrittenType, reference}
 use Rattle.au_types.specs.declared.types.Region.{Region}
 use Rattle.au_types.specs.declared.types.Region.TheVariants as regions
@@ -40,17 +22,8 @@ use Rattle.au_typing.specs.Lookups.{IsPart, is_free_in, type_of_name, variable_o
 use Rattle.au_typing.specs.Notes.{Mode, NotedExpression, mode_of, type_of}
 use Rattle.au_typing.specs.Rules.{is_integer}
 use Rattle.au_derivations.specs.InScope.{after, fixed_variable, with_bound, with_reference, with_variable}
-use Rattle.au_derivations.specs.Parts.{
-  ArmHead,
-  arms_fit,
-  binds_each,
-  borrow_type,
-  case_of_arm,
-  heads_of,
-  is_borrowed_within,
-  lent,
-  mode_for,
-}
+use Rattle.au_derivations.specs.Parts.{ArmHead, arms_fit, binds_each, borrow_type, case_of_arm, heads_of}
+use Rattle.au_derivations.specs.Parts.{is_borrowed_within, lent, mode_for}
 use Rattle.au_derivations.specs.Returns.{may_follow, returns}
 use Rattle.au_derivations.specs.Trees.{NotedStatement, NotedStatements, NotedBranches, NotedArms}
 

@@ -1,57 +1,15 @@
 -- Statements, declarations and modules whose expressions have notes, and the same without them.
 use Rattle.std.specs.Prelude.{ℕ, List, map, Option}
 use Rattle.std.specs.Option.{option_map}
-use Rattle.au_syntax.specs.Statements.{
-  Statement,
-  Statements,
-  Branches,
-  Arms,
-  skip,
-  declare,
-  destructure,
-  assign,
-  assign_through,
-  conditional,
-  conditional_else,
-  case_of,
-  while_loop,
-  for_loop,
-  borrow_in,
-  borrow_typed,
-  discard,
-  return_of,
-  no_statements,
-  statements,
-  no_branches,
-  branches,
-  no_arms,
-  arms,
-}
-use Rattle.au_syntax.specs.Modules.{
-  MethodBody,
-  Declaration,
-  ModuleTree,
-  constant,
-  opaque_type,
-  record_type,
-  union_type,
-  function,
-  class,
-  instance,
-  constant_body,
-  function_body,
-  instance_body,
-}
-use Rattle.au_syntax.specs.Plain.{
-  Bytes,
-  PlainStatement,
-  PlainStatements,
-  PlainBranches,
-  PlainArms,
-  PlainMethod,
-  PlainDeclaration,
-  PlainModule,
-}
+use Rattle.au_syntax.specs.Statements.{Statement, Statements, Branches, Arms, skip, declare, destructure}
+use Rattle.au_syntax.specs.Statements.{assign, assign_through, conditional, conditional_else, case_of}
+use Rattle.au_syntax.specs.Statements.{while_loop, for_loop, borrow_in, borrow_typed, discard, return_of}
+use Rattle.au_syntax.specs.Statements.{no_statements, statements, no_branches, branches, no_arms, arms}
+use Rattle.au_syntax.specs.Modules.{MethodBody, Declaration, ModuleTree, constant, opaque_type, record_type}
+use Rattle.au_syntax.specs.Modules.{union_type, function, class, instance, constant_body, function_body}
+use Rattle.au_syntax.specs.Modules.{instance_body}
+use Rattle.au_syntax.specs.Plain.{Bytes, PlainStatement, PlainStatements, PlainBranches, PlainArms}
+use Rattle.au_syntax.specs.Plain.{PlainMethod, PlainDeclaration, PlainModule}
 use Rattle.au_modules.specs.Programs.{Entry, ModuleParts}
 use Rattle.au_typing.specs.Notes.{Note, erase}
 

@@ -18,26 +18,11 @@ use Rattle.au_typing.specs.Lookups.{written_means}
 use Rattle.au_typing.specs.Notes.{Mode, NotedExpression, erase, note_of, type_of}
 use Rattle.au_typing.specs.Order.{JudgedNext}
 use Rattle.au_typing.specs.Rules.{int32, is_logical}
-use Rattle.au_first_faults.specs.CallClauses.{
-  Begins,
-  Call,
-  ComesTo,
-  FirstTaken,
-  GoesOver,
-  IsCall,
-  SecondTaken,
-  of_called,
-  of_callee,
-  wanted_under,
-}
+use Rattle.au_first_faults.specs.CallClauses.{Begins, Call, ComesTo, FirstTaken, GoesOver, IsCall}
+use Rattle.au_first_faults.specs.CallClauses.{SecondTaken, of_called, of_callee, wanted_under}
 use Rattle.au_first_faults.specs.Clauses.{TellsFirst, has_type}
-use Rattle.au_first_faults.specs.NodeClauses.{
-  of_arithmetic,
-  of_choice,
-  of_comparison,
-  of_dereference,
-  of_leaf,
-}
+use Rattle.au_first_faults.specs.NodeClauses.{of_arithmetic, of_choice, of_comparison, of_dereference}
+use Rattle.au_first_faults.specs.NodeClauses.{of_leaf}
 
 -- Two operands have good notes, with the modes of a pair.
 pub record PairNoted (scope : Scope) (a b : PlainExpression) (mode : Mode) (x y : NotedExpression) : Type 0

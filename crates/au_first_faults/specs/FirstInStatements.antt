@@ -5,33 +5,12 @@ use Rattle.au_syntax.specs.declared.expressions.BorrowMode.{BorrowMode}
 use Rattle.au_syntax.specs.declared.statements.Binding.{Binding}
 use Rattle.au_syntax.specs.declared.types.Access.{Access}
 use Rattle.au_syntax.specs.Names.{Placed}
-use Rattle.au_syntax.specs.Plain.{
-  Bytes,
-  PlainArms,
-  PlainBranches,
-  PlainExpression,
-  PlainStatement,
-  PlainStatements,
-}
-use Rattle.au_syntax.specs.Statements.{
-  declare,
-  destructure,
-  assign,
-  assign_through,
-  conditional,
-  conditional_else,
-  case_of,
-  while_loop,
-  for_loop,
-  borrow_in,
-  borrow_typed,
-  discard,
-  return_of,
-  statements,
-  no_branches,
-  branches,
-  arms,
-}
+use Rattle.au_syntax.specs.Plain.{Bytes, PlainArms, PlainBranches, PlainExpression, PlainStatement}
+use Rattle.au_syntax.specs.Plain.{PlainStatements}
+use Rattle.au_syntax.specs.Statements.{declare, destructure, assign, assign_through, conditional}
+use Rattle.au_syntax.specs.Statements.{conditional_else, case_of, while_loop, for_loop, borrow_in}
+use Rattle.au_syntax.specs.Statements.{borrow_typed, discard, return_of, statements, no_branches, branches}
+use Rattle.au_syntax.specs.Statements.{arms}
 use Rattle.au_syntax.specs.Types.{Bound, WrittenType}
 use Rattle.au_types.specs.declared.types.Region.{Region}
 use Rattle.au_types.specs.Types as mean
@@ -48,27 +27,13 @@ use Rattle.au_derivations.specs.InScope.{after, fixed_variable, with_bound, with
 use Rattle.au_derivations.specs.Parts.{borrow_type, heads_of, mode_for}
 use Rattle.au_derivations.specs.Returns.{returns}
 use Rattle.au_derivations.specs.Search.{place_of}
-use Rattle.au_derivations.specs.Statements.{
-  GoodBlock,
-  GoodBorrow,
-  GoodBounds,
-  GoodCase,
-  GoodStatement,
-  IsLent,
-}
+use Rattle.au_derivations.specs.Statements.{GoodBlock, GoodBorrow, GoodBounds, GoodCase, GoodStatement}
+use Rattle.au_derivations.specs.Statements.{IsLent}
 use Rattle.au_derivations.specs.Trees.{NotedStatement, NotedStatements, erase_block, erase_statement}
 use Rattle.au_first_faults.specs.Clauses.{TellsFirst}
 use Rattle.au_first_faults.specs.FirstFaults.{FirstFault, PairNoted}
-use Rattle.au_first_faults.specs.StatementClauses.{
-  of_assigned,
-  of_borrow_into,
-  of_bounds,
-  of_case,
-  of_free,
-  of_lent,
-  of_put,
-  of_taken,
-}
+use Rattle.au_first_faults.specs.StatementClauses.{of_assigned, of_borrow_into, of_bounds, of_case, of_free}
+use Rattle.au_first_faults.specs.StatementClauses.{of_lent, of_put, of_taken}
 
 -- ---- the notes of a statement's own
 

@@ -12,19 +12,8 @@ use Rattle.au_types.specs.Same.{same}
 use Rattle.au_types.specs.Types as mean
 use Rattle.au_types.specs.Types.{Meaning}
 use Rattle.au_scopes.specs.Scopes.{Scope}
-use Rattle.au_typing.specs.Faults.{
-  Why,
-  why,
-  unknown,
-  different,
-  not_free,
-  shape,
-  integer_wanted,
-  range_wanted,
-  record_wanted,
-  reference_wanted,
-  write_reference_wanted,
-}
+use Rattle.au_typing.specs.Faults.{Why, why, unknown, different, not_free, shape, integer_wanted}
+use Rattle.au_typing.specs.Faults.{range_wanted, record_wanted, reference_wanted, write_reference_wanted}
 use Rattle.au_typing.specs.Limits.{types_noted}
 use Rattle.au_typing.specs.Lookups.{behind, field_type, is_free_in, is_record, value_type, variable_type}
 use Rattle.au_typing.specs.Notes.{Mode, NotedExpression, type_of}

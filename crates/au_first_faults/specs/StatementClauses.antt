@@ -10,34 +10,14 @@ use Rattle.au_types.specs.Types.{Meaning}
 use Rattle.au_judged_types.specs.Judging.{refers}
 use Rattle.au_judged_types.specs.Reasons.{Outcome, means, fails}
 use Rattle.au_scopes.specs.Scopes.{Case, Scope, Typed}
-use Rattle.au_typing.specs.Faults.{
-  why,
-  unknown,
-  different,
-  not_free,
-  reason_why,
-  shape,
-  record_wanted,
-  union_wanted,
-  reference_wanted,
-  write_reference_wanted,
-  integer_wanted,
-  assignable_wanted,
-  labels_wanted,
-  arms_wanted,
-}
+use Rattle.au_typing.specs.Faults.{why, unknown, different, not_free, reason_why, shape, record_wanted}
+use Rattle.au_typing.specs.Faults.{union_wanted, reference_wanted, write_reference_wanted, integer_wanted}
+use Rattle.au_typing.specs.Faults.{assignable_wanted, labels_wanted, arms_wanted}
 use Rattle.au_typing.specs.Lookups.{is_free_in, type_of_name, value_type, variable_of, written_means}
 use Rattle.au_typing.specs.Notes.{NotedExpression, type_of}
 use Rattle.au_typing.specs.Rules.{is_integer}
-use Rattle.au_derivations.specs.Parts.{
-  ArmHead,
-  arms_fit,
-  binds_each,
-  borrow_type,
-  case_of_arm,
-  is_borrowed_within,
-  lent,
-}
+use Rattle.au_derivations.specs.Parts.{ArmHead, arms_fit, binds_each, borrow_type, case_of_arm}
+use Rattle.au_derivations.specs.Parts.{is_borrowed_within, lent}
 use Rattle.au_derivations.specs.Search.{not_assignable, not_writing, written_through}
 use Rattle.au_first_faults.specs.Clauses.{Clause, broken, must, must_be}
 use Rattle.au_first_faults.specs.NodeClauses.{of_one_type, of_part}

@@ -1,80 +1,21 @@
 -- Trees that code can follow, and views that know nothing besides.
-use Rattle.std.specs.Prelude.{
-  ◌≡◌,
-  ℕ,
-  Bool,
-  true,
-  false,
-  ◌&&◌,
-  not,
-  List,
-  [],
-  ◌∷◌,
-  map,
-  Option,
-  Some,
-  None,
-  if◌then◌else◌,
-}
+use Rattle.std.specs.Prelude.{◌≡◌, ℕ, Bool, true, false, ◌&&◌, not, List, [], ◌∷◌, map, Option, Some, None}
+use Rattle.std.specs.Prelude.{if◌then◌else◌}
 use Rattle.std.specs.Str.{bytes_eq}
 use Rattle.au_effects.specs.Values as values
 use Rattle.au_ints.specs.Ranges.{is_of_kind}
 use Rattle.au_meaning.specs.Views.{Act, Callee, Function, View, invokes, makes, ships}
 use Rattle.au_meaning.specs.Worlds.{Value}
 use Rattle.au_simulation.specs.Premises.{is_plain}
-use Rattle.au_syntax.specs.Expressions.{
-  Expression,
-  Expressions,
-  Arguments,
-  number,
-  negative,
-  text,
-  truth,
-  nil,
-  path,
-  arrow,
-  call,
-  named_call,
-  parenthesized,
-  dereference,
-  borrow,
-  borrow_part,
-  binary,
-  negation,
-  typed,
-  choice,
-  no_expressions,
-  expressions,
-  no_arguments,
-  arguments,
-}
+use Rattle.au_syntax.specs.Expressions.{Expression, Expressions, Arguments, number, negative, text, truth}
+use Rattle.au_syntax.specs.Expressions.{nil, path, arrow, call, named_call, parenthesized, dereference}
+use Rattle.au_syntax.specs.Expressions.{borrow, borrow_part, binary, negation, typed, choice, no_expressions}
+use Rattle.au_syntax.specs.Expressions.{expressions, no_arguments, arguments}
 use Rattle.au_syntax.specs.Plain.{Bytes}
-use Rattle.au_syntax.specs.Statements.{
-  Statement,
-  Statements,
-  Branches,
-  Arms,
-  skip,
-  declare,
-  destructure,
-  assign,
-  assign_through,
-  conditional,
-  conditional_else,
-  case_of,
-  while_loop,
-  for_loop,
-  borrow_in,
-  borrow_typed,
-  discard,
-  return_of,
-  no_statements,
-  statements,
-  no_branches,
-  branches,
-  no_arms,
-  arms,
-}
+use Rattle.au_syntax.specs.Statements.{Statement, Statements, Branches, Arms, skip, declare, destructure}
+use Rattle.au_syntax.specs.Statements.{assign, assign_through, conditional, conditional_else, case_of}
+use Rattle.au_syntax.specs.Statements.{while_loop, for_loop, borrow_in, borrow_typed, discard, return_of}
+use Rattle.au_syntax.specs.Statements.{no_statements, statements, no_branches, branches, no_arms, arms}
 
 -- ---- constants and calls
 

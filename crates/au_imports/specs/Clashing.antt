@@ -3,21 +3,8 @@
 -- what is pervasive, what the imports of its part bring under the name before it, and in a body what the
 -- interface declares. The first that imports bring under a name speaks for all before it, since
 -- an import that brings another is refused itself.
-use Rattle.std.specs.Prelude.{
-  ℕ,
-  Bool,
-  false,
-  not,
-  ◌||◌,
-  ◌&&◌,
-  ◌==◌,
-  List,
-  Option,
-  None,
-  Some,
-  slice_get,
-  reverse,
-}
+use Rattle.std.specs.Prelude.{ℕ, Bool, false, not, ◌||◌, ◌&&◌, ◌==◌, List, Option, None, Some, slice_get}
+use Rattle.std.specs.Prelude.{reverse}
 use Rattle.std.specs.Option.{option_map}
 use Rattle.std.specs.Str.{bytes_eq}
 use Rattle.au_syntax.specs.declared.modules.Part.{Part}

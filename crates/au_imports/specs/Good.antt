@@ -3,22 +3,8 @@
 -- The rules on names as they read: imports name modules that stand before and names that these offer, each
 -- name that is written for a type, a class or a region means something, and no name means two different
 -- declarations in one space of which at least one is imported or pervasive.
-use Rattle.std.specs.Prelude.{
-  ◌≡◌,
-  ◌≢◌,
-  ◌<◌,
-  ◌⊎◌,
-  ◌++◌,
-  ℕ,
-  false,
-  List,
-  [],
-  Some,
-  Contains,
-  IsTrue,
-  is_some,
-  slice_get,
-}
+use Rattle.std.specs.Prelude.{◌≡◌, ◌≢◌, ◌<◌, ◌⊎◌, ◌++◌, ℕ, false, List, [], Some, Contains, IsTrue, is_some}
+use Rattle.std.specs.Prelude.{slice_get}
 use Rattle.au_base.specs.declared.places.Pos.{Pos}
 use Rattle.au_syntax.specs.declared.modules.Part.{Part}
 use Rattle.au_syntax.specs.Modules.{Importing}

@@ -1,19 +1,6 @@
 -- A part of a module whose imports are looked at, with what is known of its program.
-use Rattle.std.specs.Prelude.{
-  ◌≡◌,
-  ◌<◌,
-  ℕ,
-  ◌&&◌,
-  ◌||◌,
-  Bool,
-  true,
-  List,
-  Option,
-  None,
-  Some,
-  length,
-  slice_get,
-}
+use Rattle.std.specs.Prelude.{◌≡◌, ◌<◌, ℕ, ◌&&◌, ◌||◌, Bool, true, List, Option, None, Some, length}
+use Rattle.std.specs.Prelude.{slice_get}
 use Rattle.std.specs.List.{list_all}
 use Rattle.au_base.specs.declared.places.Pos.{Pos}
 use Rattle.au_syntax.specs.Forms.{some}
@@ -33,14 +20,8 @@ use Rattle.au_imports.specs.declared.name_faults.NameFault.{NameFault}
 use Rattle.au_imports.specs.Choices.{first_of}
 use Rattle.au_imports.specs.Clashing.{brought_to, import_clashes, is_declared_before, pervasive_target}
 use Rattle.au_imports.specs.Gathered.{AreBrought, AreOffers}
-use Rattle.au_imports.specs.NameFaults.{
-  found_clashes,
-  import_fault,
-  is_hidden,
-  item_clashes,
-  item_fault,
-  member_fault,
-}
+use Rattle.au_imports.specs.NameFaults.{found_clashes, import_fault, is_hidden, item_clashes, item_fault}
+use Rattle.au_imports.specs.NameFaults.{member_fault}
 
 -- These names, with dots between, name a module: there is one at least, and they are within the limit of a
 -- name.

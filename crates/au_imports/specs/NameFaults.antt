@@ -1,25 +1,7 @@
 -- What names are refused for: the first fault, modules by place, the interface of each before its body,
 -- in the order of the text. Imports stand before declarations.
-use Rattle.std.specs.Prelude.{
-  ◌+◌,
-  ℕ,
-  Bool,
-  false,
-  not,
-  ◌||◌,
-  ◌==◌,
-  nat_lt,
-  List,
-  [],
-  ◌∷◌,
-  Option,
-  None,
-  Some,
-  unwrap_or,
-  is_some,
-  slice_get,
-  if◌then◌else◌,
-}
+use Rattle.std.specs.Prelude.{◌+◌, ℕ, Bool, false, not, ◌||◌, ◌==◌, nat_lt, List, [], ◌∷◌, Option, None, Some}
+use Rattle.std.specs.Prelude.{unwrap_or, is_some, slice_get, if◌then◌else◌}
 use Rattle.std.specs.Option.{option_or}
 use Rattle.au_base.specs.declared.places.Pos.{Pos}
 use Rattle.au_syntax.specs.declared.modules.Part.{Part}
@@ -43,13 +25,8 @@ use Rattle.au_imports.specs.declared.name_faults.NameFault.TheVariants.{NoModule
 use Rattle.au_mentions.specs.declared.mentions.Mention.{Mention}
 use Rattle.au_mentions.specs.declared.mentions.Mention.TheVariants.{Declares, Writes}
 use Rattle.au_imports.specs.Choices.{first_of, where_so}
-use Rattle.au_imports.specs.Clashing.{
-  declaration_clashes,
-  first_offered,
-  import_clashes,
-  is_offered,
-  last_offered,
-}
+use Rattle.au_imports.specs.Clashing.{declaration_clashes, first_offered, import_clashes, is_offered}
+use Rattle.au_imports.specs.Clashing.{last_offered}
 use Rattle.au_mentions.specs.Mentions.{mentions, type_parameters}
 
 -- the place of the first of names, or else this place

@@ -4,13 +4,8 @@ ghost use Rattle.std.specs.Prelude.{◌≡◌, ◌<◌, ◌==◌, IfOk, Some, le
 ghost use Rattle.au_modules.specs.Programs.{ModuleParts};
 ghost use Rattle.au_modules.specs.Slots as slots;
 ghost use Rattle.au_imports.specs.Choices.{first_of, where_so};
-ghost use Rattle.au_imports.specs.Declaring.{
-  clashes_at,
-  declaration_fault_at,
-  is_brought_by,
-  means_nothing_at,
-  mention_fault_at,
-};
+ghost use Rattle.au_imports.specs.Declaring.{clashes_at, declaration_fault_at, is_brought_by};
+ghost use Rattle.au_imports.specs.Declaring.{means_nothing_at, mention_fault_at};
 ghost use Rattle.au_imports.specs.Gathered.{AreBroughtTo, AreOffers, brought_in};
 ghost use Rattle.au_imports.specs.NameFaults.{declaration_fault};
 ghost use Rattle.au_names.specs.Exporting as exporting;

@@ -6,16 +6,8 @@ ghost use Rattle.au_modules.specs.Slots as slots;
 ghost use Rattle.au_imports.specs.Choices.{first_of};
 ghost use Rattle.au_imports.specs.Gathered.{AreBroughtTo, AreOffers};
 ghost use Rattle.au_imports.specs.Importers as importers;
-ghost use Rattle.au_imports.specs.Importers.{
-  AllPass,
-  IsFrom,
-  IsOf,
-  IsReady,
-  is_module_name,
-  item_fault_in,
-  name_modules,
-  program_of,
-};
+ghost use Rattle.au_imports.specs.Importers.{AllPass, IsFrom, IsOf, IsReady, is_module_name, item_fault_in};
+ghost use Rattle.au_imports.specs.Importers.{name_modules, program_of};
 ghost use Rattle.au_imports.specs.NameFaults as spec;
 ghost use Rattle.au_syntax.specs.Plain.{plain_name};
 ghost use Rattle.au_syntax.specs.Sizes.{joined};

@@ -1,24 +1,7 @@
 -- The instances of classes at closed types, of which regions are left out: a region parameter of a row takes
 -- any region, and a closed head stands for the type that it closes to.
-use Rattle.std.specs.Prelude.{
-  ◌≡◌,
-  ◌&&◌,
-  List,
-  [],
-  ◌∷◌,
-  ◌++◌,
-  Bool,
-  true,
-  false,
-  Option,
-  None,
-  Some,
-  IsTrue,
-  is_some,
-  unwrap_or,
-  Contains,
-  if◌then◌else◌,
-}
+use Rattle.std.specs.Prelude.{◌≡◌, ◌&&◌, List, [], ◌∷◌, ◌++◌, Bool, true, false, Option, None, Some, IsTrue}
+use Rattle.std.specs.Prelude.{is_some, unwrap_or, Contains, if◌then◌else◌}
 use Rattle.std.specs.List.{list_all}
 use Rattle.au_syntax.specs.declared.declarations.Universe.{Universe}
 use Rattle.au_syntax.specs.Plain.{Bytes}
@@ -35,19 +18,8 @@ use Rattle.au_universes.specs.Universes.{judged, of_row}
 use Rattle.au_matching.specs.Bindings.{Bindings, value_of}
 use Rattle.au_closed_types.specs.Closing.{closed}
 use Rattle.au_closed_types.specs.Same.{same}
-use Rattle.au_closed_types.specs.Types.{
-  ClosedType,
-  ClosedTypes,
-  unit,
-  truth,
-  integer,
-  text,
-  named,
-  reads,
-  writes,
-  no_types,
-  types,
-}
+use Rattle.au_closed_types.specs.Types.{ClosedType, ClosedTypes, unit, truth, integer, text, named, reads}
+use Rattle.au_closed_types.specs.Types.{writes, no_types, types}
 use Rattle.au_generics.specs.Bounds.{Bounded, constrains, parameters, classes_of}
 use Rattle.au_instances.specs.declared.constructors.Constructor.TheVariants as constructors
 use Rattle.au_instances.specs.Becoming.{Becomes}

@@ -1,20 +1,6 @@
 -- Which types may be heads of instances.
-use Rattle.std.specs.Prelude.{
-  ◌≡◌,
-  ◌⊎◌,
-  ◌&&◌,
-  ◌||◌,
-  List,
-  Bool,
-  true,
-  false,
-  not,
-  Option,
-  None,
-  Some,
-  IsTrue,
-  is_some,
-}
+use Rattle.std.specs.Prelude.{◌≡◌, ◌⊎◌, ◌&&◌, ◌||◌, List, Bool, true, false, not, Option, None, Some, IsTrue}
+use Rattle.std.specs.Prelude.{is_some}
 use Rattle.std.specs.List.{list_all}
 use Rattle.std.specs.Str.{bytes_eq}
 use Rattle.au_syntax.specs.declared.declarations.Universe.{Universe}
@@ -22,23 +8,8 @@ use Rattle.au_syntax.specs.Plain.{Bytes}
 use Rattle.au_types.specs.declared.parameters.Parameter.{Parameter}
 use Rattle.au_types.specs.declared.types.Region.{Region}
 use Rattle.au_types.specs.declared.types.Region.TheVariants.{Static, Named, Anonymous}
-use Rattle.au_types.specs.Types.{
-  Meaning,
-  Argument,
-  Arguments,
-  unit,
-  truth,
-  integer,
-  text,
-  parameter,
-  named,
-  reads,
-  writes,
-  of_type,
-  in_region,
-  no_arguments,
-  arguments,
-}
+use Rattle.au_types.specs.Types.{Meaning, Argument, Arguments, unit, truth, integer, text, parameter, named}
+use Rattle.au_types.specs.Types.{reads, writes, of_type, in_region, no_arguments, arguments}
 use Rattle.au_types.specs.Universes.{universe_in}
 use Rattle.au_universes.specs.Forming.{fits_in_kind}
 use Rattle.au_generics.specs.Bounds.{Bounded, parameters}

@@ -1,18 +1,6 @@
 -- Which constraints a class at a type leads to, and which of them is lacking first.
-use Rattle.std.specs.Prelude.{
-  List,
-  [],
-  ◌∷◌,
-  Bool,
-  not,
-  Option,
-  None,
-  Some,
-  is_none,
-  map,
-  unwrap_or,
-  if◌then◌else◌,
-}
+use Rattle.std.specs.Prelude.{List, [], ◌∷◌, Bool, not, Option, None, Some, is_none, map, unwrap_or}
+use Rattle.std.specs.Prelude.{if◌then◌else◌}
 use Rattle.std.specs.Borrow.{Bor}
 use Rattle.std.specs.List.{find, flat_map}
 use Rattle.au_syntax.specs.Plain.{Bytes}
@@ -21,23 +9,8 @@ use Rattle.au_types.specs.declared.parameters.Parameter.{Parameter}
 use Rattle.au_types.specs.declared.types.DeclAt.{DeclAt}
 use Rattle.au_types.specs.declared.types.Ty.{Ty}
 use Rattle.au_types.specs.Views.{meaning}
-use Rattle.au_types.specs.Types.{
-  Meaning,
-  Argument,
-  Arguments,
-  unit,
-  truth,
-  integer,
-  text,
-  parameter,
-  named,
-  reads,
-  writes,
-  of_type,
-  in_region,
-  no_arguments,
-  arguments,
-}
+use Rattle.au_types.specs.Types.{Meaning, Argument, Arguments, unit, truth, integer, text, parameter, named}
+use Rattle.au_types.specs.Types.{reads, writes, of_type, in_region, no_arguments, arguments}
 use Rattle.au_generics.specs.Bounds.{Bounded, classes_of}
 use Rattle.au_instances.specs.Forms.{arguments_of, is_called, name_of}
 use Rattle.au_instances.specs.Instances.{Known, is_known}

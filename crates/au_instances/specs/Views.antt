@@ -7,17 +7,8 @@ use Rattle.au_types.specs.Types.{Meaning, Argument, Arguments}
 use Rattle.au_generics.specs.Bounds.{Bounded}
 use Rattle.au_instances.specs.declared.lacking.Sight.{Sight}
 use Rattle.au_instances.specs.Forms.{arguments_of}
-use Rattle.au_instances.specs.Pairs.{
-  Pair,
-  Parts,
-  constraints_of,
-  is_lacking,
-  lacking,
-  named_with,
-  part_for,
-  part_of,
-  parts_of,
-}
+use Rattle.au_instances.specs.Pairs.{Pair, Parts, constraints_of, is_lacking, lacking, named_with, part_for}
+use Rattle.au_instances.specs.Pairs.{part_of, parts_of}
 
 -- the first lacking one of these pairs
 abbrev pub first_in : Sight → List Pair → Option Pair

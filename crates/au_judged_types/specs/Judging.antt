@@ -21,20 +21,8 @@ use Rattle.au_types.specs.Types as mean
 use Rattle.au_types.specs.Types.{Meaning, Argument, Arguments}
 use Rattle.au_universes.specs.Universes.{is_free, is_linear, universe_of}
 use Rattle.au_written_types.specs.Senses.{Sense, a_type, a_span, a_region, declared, sense_of}
-use Rattle.au_judged_types.specs.Reasons.{
-  Reason,
-  unknown,
-  number_wanted,
-  region_wanted,
-  not_free,
-  linear_wanted,
-  Outcome,
-  means,
-  fails,
-  kept,
-  in_order,
-  unless,
-}
+use Rattle.au_judged_types.specs.Reasons.{Reason, unknown, number_wanted, region_wanted, not_free}
+use Rattle.au_judged_types.specs.Reasons.{linear_wanted, Outcome, means, fails, kept, in_order, unless}
 
 -- ---- where a region is wanted
 

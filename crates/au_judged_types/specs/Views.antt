@@ -18,17 +18,8 @@ use Rattle.au_judged_types.specs.declared.reasons.Judged.{Judged}
 use Rattle.au_judged_types.specs.declared.reasons.Judged.TheVariants.{Means, Fails}
 use Rattle.au_judged_types.specs.declared.reasons.Reason as code
 use Rattle.au_judged_types.specs.declared.reasons.Reason.TheVariants as case
-use Rattle.au_judged_types.specs.Reasons.{
-  Reason,
-  unknown,
-  number_wanted,
-  region_wanted,
-  not_free,
-  linear_wanted,
-  Outcome,
-  means,
-  fails,
-}
+use Rattle.au_judged_types.specs.Reasons.{Reason, unknown, number_wanted, region_wanted, not_free}
+use Rattle.au_judged_types.specs.Reasons.{linear_wanted, Outcome, means, fails}
 use Rattle.au_judged_types.specs.Judging as judging
 use Rattle.au_judged_types.specs.Standing.{StandFor}
 

@@ -5,14 +5,8 @@ ghost use Rattle.std.specs.Option.{option_map};
 ghost use Rattle.au_syntax.specs.declared.declarations.Universe.TheVariants as universes;
 ghost use Rattle.au_types.specs.Types.{of_type};
 ghost use Rattle.au_types.specs.Views.{argument, argument_all, meaning};
-ghost use Rattle.au_judged_types.specs.Views.{
-  ArgumentStandsIn,
-  StandForIn,
-  StandsIn,
-  first_unfit_in,
-  reason,
-  unfit_in,
-};
+ghost use Rattle.au_judged_types.specs.Views.{ArgumentStandsIn, StandForIn, StandsIn, first_unfit_in, reason};
+ghost use Rattle.au_judged_types.specs.Views.{unfit_in};
 
 use crate::reasons::Reason;
 use au_base::Memory;

@@ -10,14 +10,8 @@ ghost use Rattle.au_written_types.specs.Views.{said, sense_in};
 ghost use Rattle.au_judged_types.specs.Judging as judging;
 ghost use Rattle.au_judged_types.specs.Reasons.{kept, means};
 ghost use Rattle.au_judged_types.specs.Views.{StandForIn, applied_in, arguments_in, declared_in, fitted_in};
-ghost use Rattle.au_judged_types.specs.Views.{
-  given_in,
-  judged_in,
-  outcome,
-  region,
-  region_in,
-  region_named_in,
-};
+ghost use Rattle.au_judged_types.specs.Views.{given_in, judged_in, outcome, region, region_in};
+ghost use Rattle.au_judged_types.specs.Views.{region_named_in};
 
 use crate::fitting::first_unfit;
 use crate::reasons::{Judged, Reason, unknown};

@@ -15,33 +15,11 @@ use Rattle.au_syntax.specs.declared.statements.Branch.{Branch}
 use Rattle.au_syntax.specs.declared.statements.Stmt.{Stmt}
 use Rattle.au_syntax.specs.Modules.{Constrained}
 use Rattle.au_syntax.specs.Names.{Placed}
-use Rattle.au_syntax.specs.Plain.{
-  Bytes,
-  PlainArguments,
-  PlainArms,
-  PlainBranches,
-  PlainExpression,
-  PlainExpressions,
-  PlainMethod,
-  PlainStatement,
-  PlainStatements,
-}
+use Rattle.au_syntax.specs.Plain.{Bytes, PlainArguments, PlainArms, PlainBranches, PlainExpression}
+use Rattle.au_syntax.specs.Plain.{PlainExpressions, PlainMethod, PlainStatement, PlainStatements}
 use Rattle.au_syntax.specs.Types.{Bound, Labelled}
-use Rattle.au_syntax.specs.Views.{
-  arm_all,
-  argument_all,
-  block,
-  bound,
-  branch_all,
-  constrained,
-  expression,
-  expression_all,
-  labelled,
-  method_body,
-  placed,
-  statement,
-  statement_all,
-}
+use Rattle.au_syntax.specs.Views.{arm_all, argument_all, block, bound, branch_all, constrained, expression}
+use Rattle.au_syntax.specs.Views.{expression_all, labelled, method_body, placed, statement, statement_all}
 
 -- a name, and several of them
 abbrev pub name_said : Ident Parsed (List ℕ) (Unit {0}) (Unit {0}) → Placed Bytes

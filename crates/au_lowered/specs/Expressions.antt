@@ -1,41 +1,14 @@
 -- The code of expressions: one equation for each form.
-use Rattle.std.specs.Prelude.{
-  ℕ,
-  ◌+◌,
-  Bool,
-  true,
-  false,
-  ◌||◌,
-  List,
-  [],
-  ◌∷◌,
-  map,
-  Option,
-  Some,
-  None,
-  ℤ,
-  neg_ℤ,
-  if◌then◌else◌,
-}
+use Rattle.std.specs.Prelude.{ℕ, ◌+◌, Bool, true, false, ◌||◌, List, [], ◌∷◌, map, Option, Some, None, ℤ}
+use Rattle.std.specs.Prelude.{neg_ℤ, if◌then◌else◌}
 use Rattle.std.specs.List.{position_or_len}
 use Rattle.std.specs.Str.{bytes_eq}
 use Rattle.au_closed_types.specs.Types.{ClosedType}
 use Rattle.au_effects.specs.Values as values
 use Rattle.au_low.specs.declared.instructions.Instr.TheVariants as instr
 use Rattle.au_low.specs.declared.instructions.Mode.TheVariants as mode
-use Rattle.au_meaning.specs.Expressions.{
-  Operation,
-  computes,
-  compares,
-  is_and,
-  is_or,
-  operation_of,
-  kind_in,
-  compared_kind,
-  note_of,
-  names_of,
-  labels,
-}
+use Rattle.au_meaning.specs.Expressions.{Operation, computes, compares, is_and, is_or, operation_of, kind_in}
+use Rattle.au_meaning.specs.Expressions.{compared_kind, note_of, names_of, labels}
 use Rattle.au_meaning.specs.Names.{Scope, Variable, variable_of, path_numbers}
 use Rattle.au_meaning.specs.Views.{View, Callee, Act, invokes, makes, ships}
 use Rattle.au_meaning.specs.Worlds.{Value}
@@ -43,45 +16,13 @@ use Rattle.au_shipped.specs.declared.prims.ShippedCall.{ShippedCall}
 use Rattle.au_shipped.specs.declared.prims.ShippedCall.TheVariants as prim
 use Rattle.au_syntax.specs.declared.expressions.BorrowMode.{BorrowMode}
 use Rattle.au_syntax.specs.declared.expressions.BorrowMode.TheVariants as borrowing
-use Rattle.au_syntax.specs.Expressions.{
-  Expression,
-  Expressions,
-  Arguments,
-  number,
-  negative,
-  text,
-  truth,
-  nil,
-  path,
-  arrow,
-  call,
-  named_call,
-  parenthesized,
-  dereference,
-  borrow,
-  borrow_part,
-  binary,
-  negation,
-  typed,
-  choice,
-  no_expressions,
-  expressions,
-  no_arguments,
-  arguments,
-}
+use Rattle.au_syntax.specs.Expressions.{Expression, Expressions, Arguments, number, negative, text, truth}
+use Rattle.au_syntax.specs.Expressions.{nil, path, arrow, call, named_call, parenthesized, dereference}
+use Rattle.au_syntax.specs.Expressions.{borrow, borrow_part, binary, negation, typed, choice, no_expressions}
+use Rattle.au_syntax.specs.Expressions.{expressions, no_arguments, arguments}
 use Rattle.au_syntax.specs.Plain.{Bytes}
-use Rattle.au_lowered.specs.Drafts.{
-  pushes_text,
-  makes_case,
-  ships_birth,
-  Written,
-  ◌>>◌,
-  nothing,
-  one,
-  does,
-  given,
-  either,
-}
+use Rattle.au_lowered.specs.Drafts.{pushes_text, makes_case, ships_birth, Written, ◌>>◌, nothing, one, does}
+use Rattle.au_lowered.specs.Drafts.{given, either}
 use Rattle.au_lowered.specs.Slots.{behind}
 
 -- ---- orders of arguments

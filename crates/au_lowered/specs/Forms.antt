@@ -1,22 +1,6 @@
 -- Programs with the forms that the other samples haven't, and the code of each, which was written by hand.
-use Rattle.std.specs.Prelude.{
-  ◌≡◌,
-  ℕ,
-  true,
-  false,
-  List,
-  [],
-  ◌∷◌,
-  ◌++◌,
-  map,
-  Option,
-  Some,
-  None,
-  pos,
-  negsuc,
-  codes,
-  if◌then◌else◌,
-}
+use Rattle.std.specs.Prelude.{◌≡◌, ℕ, true, false, List, [], ◌∷◌, ◌++◌, map, Option, Some, None, pos, negsuc}
+use Rattle.std.specs.Prelude.{codes, if◌then◌else◌}
 use Rattle.std.specs.Str.{bytes_eq}
 use Rattle.au_base.specs.declared.kinds.IntKind.TheVariants.{Nat8, Int8}
 use Rattle.au_closed_types.specs.Types as closed_type
@@ -30,70 +14,19 @@ use Rattle.au_low.specs.declared.instructions.Instr.TheVariants as instr
 use Rattle.au_low.specs.declared.instructions.Mode.TheVariants as mode
 use Rattle.au_low.specs.Runs.{low_run}
 use Rattle.au_meaning.specs.Views.{Callee, Function, ships}
-use Rattle.au_meaning.specs.Samples.{
-  Note,
-  Tree,
-  Sample,
-  Instance,
-  here,
-  word,
-  noted,
-  linear,
-  at_type,
-  bytes,
-  called_tree,
-  block,
-  variable,
-  prints,
-  succeeds,
-  main,
-  byte,
-  plain,
-  pair,
-  key,
-  maybe_of,
-  exit_code,
-  maybe,
-}
+use Rattle.au_meaning.specs.Samples.{Note, Tree, Sample, Instance, here, word, noted, linear, at_type, bytes}
+use Rattle.au_meaning.specs.Samples.{called_tree, block, variable, prints, succeeds, main, byte, plain, pair}
+use Rattle.au_meaning.specs.Samples.{key, maybe_of, exit_code, maybe}
 use Rattle.au_meaning.specs.Shown.{Line, line, alone, does, says, name, is}
 use Rattle.au_shipped.specs.declared.prims.ShippedCall.TheVariants as prim
 use Rattle.au_syntax.specs.declared.expressions.BorrowMode.TheVariants as borrowing
 use Rattle.au_syntax.specs.declared.types.Access.TheVariants as access
-use Rattle.au_syntax.specs.Expressions.{
-  Node,
-  negative,
-  nil,
-  path,
-  arrow,
-  named_call,
-  parenthesized,
-  dereference,
-  borrow,
-  borrow_part,
-  typed,
-  arguments,
-  no_arguments,
-}
+use Rattle.au_syntax.specs.Expressions.{Node, negative, nil, path, arrow, named_call, parenthesized}
+use Rattle.au_syntax.specs.Expressions.{dereference, borrow, borrow_part, typed, arguments, no_arguments}
 use Rattle.au_syntax.specs.Plain.{Bytes}
-use Rattle.au_syntax.specs.Statements.{
-  skip,
-  destructure,
-  assign,
-  assign_through,
-  conditional,
-  conditional_else,
-  case_of,
-  while_loop,
-  for_loop,
-  borrow_in,
-  borrow_typed,
-  discard,
-  return_of,
-  branches,
-  no_branches,
-  arms,
-  no_arms,
-}
+use Rattle.au_syntax.specs.Statements.{skip, destructure, assign, assign_through, conditional}
+use Rattle.au_syntax.specs.Statements.{conditional_else, case_of, while_loop, for_loop, borrow_in}
+use Rattle.au_syntax.specs.Statements.{borrow_typed, discard, return_of, branches, no_branches, arms, no_arms}
 use Rattle.au_syntax.specs.Types as written
 use Rattle.au_syntax.specs.Types.{Bound, WrittenType}
 use Rattle.au_types.specs.declared.types.Region.TheVariants.{Static}

@@ -7,25 +7,9 @@ use Rattle.au_meaning.specs.Names.{Scope}
 use Rattle.au_meaning.specs.Views.{Function, View}
 use Rattle.au_syntax.specs.Expressions.{Expression}
 use Rattle.au_syntax.specs.Plain.{Bytes}
-use Rattle.au_syntax.specs.Statements.{
-  Statement,
-  Statements,
-  Branches,
-  Arms,
-  conditional,
-  conditional_else,
-  case_of,
-  while_loop,
-  for_loop,
-  borrow_in,
-  borrow_typed,
-  no_statements,
-  statements,
-  no_branches,
-  branches,
-  no_arms,
-  arms,
-}
+use Rattle.au_syntax.specs.Statements.{Statement, Statements, Branches, Arms, conditional, conditional_else}
+use Rattle.au_syntax.specs.Statements.{case_of, while_loop, for_loop, borrow_in, borrow_typed, no_statements}
+use Rattle.au_syntax.specs.Statements.{statements, no_branches, branches, no_arms, arms}
 use Rattle.au_lowered.specs.Drafts.{Draft, plain, Written}
 use Rattle.au_lowered.specs.Expressions.{code}
 use Rattle.au_lowered.specs.Programs.{body_of}

@@ -1,23 +1,6 @@
 -- The sample programs that show the meaning, as closed programs.
-use Rattle.std.specs.Prelude.{
-  ◌≡◌,
-  ℕ,
-  ◌==◌,
-  ◌&&◌,
-  Bool,
-  true,
-  false,
-  List,
-  [],
-  ◌∷◌,
-  map,
-  Option,
-  option_map,
-  unwrap_or,
-  slice_get,
-  codes,
-  if◌then◌else◌,
-}
+use Rattle.std.specs.Prelude.{◌≡◌, ℕ, ◌==◌, ◌&&◌, Bool, true, false, List, [], ◌∷◌, map, Option, option_map}
+use Rattle.std.specs.Prelude.{unwrap_or, slice_get, codes, if◌then◌else◌}
 use Rattle.std.specs.List.{filter_map, position_or_len}
 use Rattle.std.specs.Option.{option_or}
 use Rattle.au_closed_types.specs.Same.{same}
@@ -30,18 +13,8 @@ use Rattle.au_low.specs.declared.instructions.Instr.{Instr}
 use Rattle.au_low.specs.Runs.{low_run}
 use Rattle.au_matching.specs.Bindings.{value_of}
 use Rattle.au_meaning.specs.Meanings.{mean}
-use Rattle.au_meaning.specs.Samples.{
-  Note,
-  Sample,
-  Instance,
-  functions,
-  given,
-  type_under,
-  exit_code,
-  root_capability,
-  pair,
-  key,
-}
+use Rattle.au_meaning.specs.Samples.{Note, Sample, Instance, functions, given, type_under, exit_code}
+use Rattle.au_meaning.specs.Samples.{root_capability, pair, key}
 use Rattle.au_meaning.specs.Views.{Act, Callee, View, Function, invokes, makes, ships}
 use Rattle.au_syntax.specs.Plain.{Bytes}
 use Rattle.au_types.specs.declared.types.DeclAt.{DeclAt}

@@ -6,49 +6,14 @@ use Rattle.au_ints.specs.declared.operations.Order.TheVariants as order
 use Rattle.au_ints.specs.declared.operations.WrapOp.TheVariants as wrap_op
 use Rattle.au_low.specs.declared.code.Code.{Code}
 use Rattle.au_low.specs.declared.instructions.Instr.{Instr}
-use Rattle.au_low.specs.declared.instructions.Instr.TheVariants.{
-  Push,
-  PushBool,
-  PushUnit,
-  PushText,
-  Look,
-  Move,
-  Store,
-  Set,
-  Discard,
-  Arith,
-  Wrap,
-  Compare,
-  Not,
-  Jump,
-  JumpNot,
-  ForTest,
-  ForStep,
-  Make,
-  Take,
-  Case,
-  Call,
-  Shipped,
-  Return,
-}
+use Rattle.au_low.specs.declared.instructions.Instr.TheVariants.{Push, PushBool, PushUnit, PushText, Look}
+use Rattle.au_low.specs.declared.instructions.Instr.TheVariants.{Move, Store, Set, Discard, Arith, Wrap}
+use Rattle.au_low.specs.declared.instructions.Instr.TheVariants.{Compare, Not, Jump, JumpNot, ForTest}
+use Rattle.au_low.specs.declared.instructions.Instr.TheVariants.{ForStep, Make, Take, Case, Call, Shipped}
+use Rattle.au_low.specs.declared.instructions.Instr.TheVariants.{Return}
 use Rattle.au_meaning.specs.Samples.{byte, exit_code, root_capability, pair, key, maybe}
-use Rattle.au_meaning.specs.Shown.{
-  hello,
-  overflow,
-  counting,
-  turns,
-  branching,
-  short,
-  parts,
-  once,
-  twice,
-  cases,
-  naming,
-  generic,
-  aborting,
-  shipped,
-  rooted,
-}
+use Rattle.au_meaning.specs.Shown.{hello, overflow, counting, turns, branching, short, parts, once, twice}
+use Rattle.au_meaning.specs.Shown.{cases, naming, generic, aborting, shipped, rooted}
 use Rattle.au_shipped.specs.declared.prims.ShippedCall.{ShippedCall}
 use Rattle.au_shipped.specs.declared.prims.ShippedCall.TheVariants as prim
 use Rattle.au_types.specs.declared.types.DeclAt.{DeclAt}

@@ -1,15 +1,8 @@
 -- Code that stands in a function: where what is written stands, its parts stand in a row, and its labels are
 -- the places between them.
 use Rattle.std.specs.Prelude.{◌≡◌, ℕ, ◌+◌, Bool, List, [], ◌∷◌, length, Option, Some}
-use Rattle.au_low.specs.declared.instructions.Instr.TheVariants.{
-  Jump,
-  JumpNot,
-  ForTest,
-  ForStep,
-  Look,
-  Store,
-  Case,
-}
+use Rattle.au_low.specs.declared.instructions.Instr.TheVariants.{Jump, JumpNot, ForTest, ForStep, Look, Store}
+use Rattle.au_low.specs.declared.instructions.Instr.TheVariants.{Case}
 use Rattle.au_lowered.specs.Drafts.{Draft, plain, Written, ◌>>◌, one, unless, when, either, loop}
 use Rattle.au_lowered.specs.Statements.{ArmsWritten, arm_then, cases, count_of_cases, labels_of, turns}
 

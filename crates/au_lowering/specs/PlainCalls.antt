@@ -3,66 +3,17 @@ use Rattle.std.specs.Prelude.{ℕ, Bool, true, false, ◌&&◌, List}
 use Rattle.std.specs.List.{list_all}
 use Rattle.au_shipped.specs.declared.prims.ShippedCall.{ShippedCall}
 use Rattle.au_shipped.specs.declared.prims.ShippedCall.TheVariants as prim
-use Rattle.au_syntax.specs.Expressions.{
-  Expressions,
-  Arguments,
-  number,
-  negative,
-  text,
-  truth,
-  nil,
-  path,
-  arrow,
-  call,
-  named_call,
-  parenthesized,
-  dereference,
-  borrow,
-  borrow_part,
-  binary,
-  negation,
-  typed,
-  choice,
-  no_expressions,
-  expressions,
-  no_arguments,
-  arguments,
-}
+use Rattle.au_syntax.specs.Expressions.{Expressions, Arguments, number, negative, text, truth, nil, path}
+use Rattle.au_syntax.specs.Expressions.{arrow, call, named_call, parenthesized, dereference, borrow}
+use Rattle.au_syntax.specs.Expressions.{borrow_part, binary, negation, typed, choice, no_expressions}
+use Rattle.au_syntax.specs.Expressions.{expressions, no_arguments, arguments}
 use Rattle.au_syntax.specs.Plain.{Bytes}
-use Rattle.au_syntax.specs.Statements.{
-  Branches,
-  Arms,
-  skip,
-  declare,
-  destructure,
-  assign,
-  assign_through,
-  conditional,
-  conditional_else,
-  case_of,
-  while_loop,
-  for_loop,
-  borrow_in,
-  borrow_typed,
-  discard,
-  return_of,
-  no_statements,
-  statements,
-  no_branches,
-  branches,
-  no_arms,
-  arms,
-}
-use Rattle.au_closed_trees.specs.ClosedNotes.{
-  Callee,
-  ClosedNote,
-  ClosedExpression,
-  ClosedStatement,
-  ClosedStatements,
-  instance,
-  constructor,
-  shipped,
-}
+use Rattle.au_syntax.specs.Statements.{Branches, Arms, skip, declare, destructure, assign, assign_through}
+use Rattle.au_syntax.specs.Statements.{conditional, conditional_else, case_of, while_loop, for_loop}
+use Rattle.au_syntax.specs.Statements.{borrow_in, borrow_typed, discard, return_of, no_statements, statements}
+use Rattle.au_syntax.specs.Statements.{no_branches, branches, no_arms, arms}
+use Rattle.au_closed_trees.specs.ClosedNotes.{Callee, ClosedNote, ClosedExpression, ClosedStatement}
+use Rattle.au_closed_trees.specs.ClosedNotes.{ClosedStatements, instance, constructor, shipped}
 use Rattle.au_closing.specs.Closes.{ClosedFunction}
 
 -- whether a shipped call has to do with no reference, box, buffer or terminal

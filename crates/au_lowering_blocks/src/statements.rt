@@ -1,20 +1,7 @@
 //! The code of statements.
 
-ghost use Rattle.std.specs.Prelude.{
-  ◌≡◌,
-  ◌+◌,
-  ◌++◌,
-  ◌||◌,
-  [],
-  true,
-  IfOk,
-  None,
-  OnOk,
-  Some,
-  length,
-  map,
-  unwrap_or,
-};
+ghost use Rattle.std.specs.Prelude.{◌≡◌, ◌+◌, ◌++◌, ◌||◌, [], true, IfOk, None, OnOk, Some, length, map};
+ghost use Rattle.std.specs.Prelude.{unwrap_or};
 ghost use Rattle.au_closed_trees.specs.contracts.phase.ClosedTreesPhase.TheImpl.{ghosts as closed};
 ghost use Rattle.au_closed_trees.specs.Views.{closed_note};
 ghost use Rattle.au_closed_views.specs.Surroundings.{view_in};

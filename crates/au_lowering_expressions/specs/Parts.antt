@@ -1,22 +1,7 @@
 -- What is found before code is written: the slot and the path of a part of a variable, and the variable that
 -- is looked at.
-use Rattle.std.specs.Prelude.{
-  ◌≡◌,
-  ℕ,
-  ◌+◌,
-  Bool,
-  true,
-  false,
-  List,
-  [],
-  ◌∷◌,
-  ◌++◌,
-  length,
-  set,
-  Option,
-  Some,
-  None,
-}
+use Rattle.std.specs.Prelude.{◌≡◌, ℕ, ◌+◌, Bool, true, false, List, [], ◌∷◌, ◌++◌, length, set, Option, Some}
+use Rattle.std.specs.Prelude.{None}
 use Rattle.std.specs.Option.{option_map}
 use Rattle.au_closed_trees.specs.ClosedNotes.{ClosedNote}
 use Rattle.au_effects.specs.Parts.{along}
@@ -28,16 +13,8 @@ use Rattle.au_low.specs.declared.instructions.Mode.TheVariants as mode
 use Rattle.au_lowered.specs.Drafts.{Draft, Written, ◌>>◌, does, either, given, plain}
 use Rattle.au_lowered.specs.Expressions.{mention, numbers_along, part_of}
 use Rattle.au_lowered.specs.Slots.{behind}
-use Rattle.au_meaning.specs.Expressions.{
-  Operation,
-  compares,
-  computes,
-  is_and,
-  is_or,
-  compared_kind,
-  kind_in,
-  names_of,
-}
+use Rattle.au_meaning.specs.Expressions.{Operation, compares, computes, is_and, is_or, compared_kind, kind_in}
+use Rattle.au_meaning.specs.Expressions.{names_of}
 use Rattle.au_meaning.specs.Names.{Scope, Variable, variable_of}
 use Rattle.au_meaning.specs.Views.{View}
 use Rattle.au_syntax.specs.declared.expressions.BorrowMode.{BorrowMode}

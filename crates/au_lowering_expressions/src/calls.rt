@@ -7,13 +7,8 @@ ghost use Rattle.au_closed_trees.specs.Views.{callee as callee_said, closed_note
 ghost use Rattle.au_closed_types.specs.Views.{closed_meaning};
 ghost use Rattle.au_closed_views.specs.Surroundings.{call_noted};
 ghost use Rattle.au_closed_views.specs.Views.{act_said};
-ghost use Rattle.au_lowered.specs.Expressions.{
-  acts,
-  by_labels as labelled,
-  by_position as placed,
-  calls,
-  ships_call,
-};
+ghost use Rattle.au_lowered.specs.Expressions.{acts, by_labels as labelled, by_position as placed, calls};
+ghost use Rattle.au_lowered.specs.Expressions.{ships_call};
 ghost use Rattle.au_lowering_expressions.specs.Views.{drafts_said};
 ghost use Rattle.au_lowering_expressions.specs.Wrote.{wrote};
 ghost use Rattle.au_meaning.specs.Expressions.{labels as labels_in};

@@ -8,14 +8,8 @@ ghost use Rattle.au_closed_views.specs.Surroundings as around;
 ghost use Rattle.au_closed_views.specs.Surroundings.{view_in};
 ghost use Rattle.au_lowered.specs.Drafts.{given, nothing, one, pushes_text};
 ghost use Rattle.au_lowered.specs.Expressions as spec;
-ghost use Rattle.au_lowering_expressions.specs.Parts.{
-  alone as alone_in,
-  looks,
-  opening,
-  path_code,
-  reads,
-  refers,
-};
+ghost use Rattle.au_lowering_expressions.specs.Parts.{alone as alone_in, looks, opening, path_code, reads};
+ghost use Rattle.au_lowering_expressions.specs.Parts.{refers};
 ghost use Rattle.au_lowering_expressions.specs.Views.{drafts_said, local_said, scope_said};
 ghost use Rattle.au_lowering_expressions.specs.Wrote.{wrote};
 ghost use Rattle.au_meaning.specs.Expressions.{names_of};

@@ -1,41 +1,11 @@
 -- Code whose jumps to its end lead to a place that is given: what is written before the end is known.
-use Rattle.std.specs.Prelude.{
-  ◌≡◌,
-  ◌≢◌,
-  ◌<◌,
-  ◌≤◌,
-  ℕ,
-  ◌+◌,
-  Bool,
-  true,
-  false,
-  ◌||◌,
-  List,
-  [],
-  ◌∷◌,
-  ◌++◌,
-  length,
-  set,
-  Option,
-  Some,
-  None,
-  unwrap_or,
-}
+use Rattle.std.specs.Prelude.{◌≡◌, ◌≢◌, ◌<◌, ◌≤◌, ℕ, ◌+◌, Bool, true, false, ◌||◌, List, [], ◌∷◌, ◌++◌}
+use Rattle.std.specs.Prelude.{length, set, Option, Some, None, unwrap_or}
 use Rattle.au_derivations.specs.Returns.{block_returns}
 use Rattle.au_low.specs.declared.instructions.Instr.{Instr}
 use Rattle.au_low.specs.declared.instructions.Instr.TheVariants as instr
-use Rattle.au_lowered.specs.Drafts.{
-  Draft,
-  plain,
-  Written,
-  ◌>>◌,
-  does,
-  given,
-  nothing,
-  unless,
-  count_unless,
-  when,
-}
+use Rattle.au_lowered.specs.Drafts.{Draft, plain, Written, ◌>>◌, does, given, nothing, unless, count_unless}
+use Rattle.au_lowered.specs.Drafts.{when}
 use Rattle.au_lowered.specs.Expressions.{whole}
 use Rattle.au_lowered.specs.Slots.{fields_of_case, tag_in, with_fields}
 use Rattle.au_lowered.specs.Statements.{ArmsWritten, block, is_last, mode_in}

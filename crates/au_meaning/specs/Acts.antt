@@ -1,28 +1,6 @@
 -- What is done to the world: names, values with births, and shipped calls.
-use Rattle.std.specs.Prelude.{
-  ℕ,
-  zero,
-  suc,
-  ◌+◌,
-  ◌-◌,
-  ◌==◌,
-  Bool,
-  true,
-  false,
-  List,
-  [],
-  ◌∷◌,
-  ◌++◌,
-  length,
-  map,
-  replicate,
-  take,
-  Option,
-  Some,
-  None,
-  slice_get,
-  if◌then◌else◌,
-}
+use Rattle.std.specs.Prelude.{ℕ, zero, suc, ◌+◌, ◌-◌, ◌==◌, Bool, true, false, List, [], ◌∷◌, ◌++◌, length}
+use Rattle.std.specs.Prelude.{map, replicate, take, Option, Some, None, slice_get, if◌then◌else◌}
 use Rattle.std.specs.List.{find}
 use Rattle.std.specs.Str.{bytes_eq}
 use Rattle.au_closed_types.specs.Types.{ClosedType}
@@ -39,20 +17,8 @@ use Rattle.au_shipped.specs.declared.prims.ShippedCall.TheVariants as prim
 use Rattle.au_syntax.specs.Plain.{Bytes}
 use Rattle.au_syntax.specs.Types.{Bound}
 use Rattle.au_meaning.specs.Names.{field_of}
-use Rattle.au_meaning.specs.Ticks.{
-  Action,
-  gives,
-  aborts,
-  no_rule,
-  pure,
-  stuck,
-  asks,
-  does,
-  takes,
-  comes,
-  ◌>>=◌,
-  ◌>>◌,
-}
+use Rattle.au_meaning.specs.Ticks.{Action, gives, aborts, no_rule, pure, stuck, asks, does, takes, comes}
+use Rattle.au_meaning.specs.Ticks.{◌>>=◌, ◌>>◌}
 use Rattle.au_meaning.specs.Views.{Field}
 use Rattle.au_meaning.specs.Worlds.{Value, Store, World}
 

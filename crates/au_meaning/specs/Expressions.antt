@@ -13,32 +13,10 @@ use Rattle.au_ints.specs.declared.operations.Order.TheVariants as order
 use Rattle.au_ints.specs.Ranges.{is_of_kind}
 use Rattle.au_syntax.specs.declared.expressions.BinaryOperator.{BinaryOperator}
 use Rattle.au_syntax.specs.declared.expressions.BinaryOperator.TheVariants as operator
-use Rattle.au_syntax.specs.Expressions.{
-  Expression,
-  Expressions,
-  Arguments,
-  number,
-  negative,
-  text,
-  truth,
-  nil,
-  path,
-  arrow,
-  call,
-  named_call,
-  parenthesized,
-  dereference,
-  borrow,
-  borrow_part,
-  binary,
-  negation,
-  typed,
-  choice,
-  no_expressions,
-  expressions,
-  no_arguments,
-  arguments,
-}
+use Rattle.au_syntax.specs.Expressions.{Expression, Expressions, Arguments, number, negative, text, truth}
+use Rattle.au_syntax.specs.Expressions.{nil, path, arrow, call, named_call, parenthesized, dereference}
+use Rattle.au_syntax.specs.Expressions.{borrow, borrow_part, binary, negation, typed, choice, no_expressions}
+use Rattle.au_syntax.specs.Expressions.{expressions, no_arguments, arguments}
 use Rattle.au_syntax.specs.Names.{Placed}
 use Rattle.au_syntax.specs.Plain.{Bytes}
 use Rattle.au_meaning.specs.Acts.{looks, moves, makes_value, by_position, by_labels, ships_call}

@@ -1,44 +1,14 @@
 -- The meaning of a program: what it does for at most so many ticks.
-use Rattle.std.specs.Prelude.{
-  ℕ,
-  zero,
-  suc,
-  ◌+◌,
-  ◌-◌,
-  ◌==◌,
-  true,
-  false,
-  List,
-  [],
-  ◌∷◌,
-  length,
-  Option,
-  Some,
-  None,
-  if◌then◌else◌,
-  codes,
-}
+use Rattle.std.specs.Prelude.{ℕ, zero, suc, ◌+◌, ◌-◌, ◌==◌, true, false, List, [], ◌∷◌, length, Option, Some}
+use Rattle.std.specs.Prelude.{None, if◌then◌else◌, codes}
 use Rattle.au_closed_types.specs.Types.{ClosedType}
 use Rattle.au_effects.specs.Values.{made, no_fields, field_then, root}
 use Rattle.au_effects.specs.Worlds.{bears, nothing}
 use Rattle.au_meaning.specs.Acts.{in_store, new_names, begins, ends_frame}
 use Rattle.au_meaning.specs.Names.{Scope, with_parameters, names_in_block}
 use Rattle.au_meaning.specs.Statements.{Flow, falls, returns, run_block}
-use Rattle.au_meaning.specs.Ticks.{
-  Out,
-  Action,
-  gives,
-  aborts,
-  cut,
-  no_rule,
-  pure,
-  stuck,
-  over,
-  where_true,
-  does,
-  ◌>>=◌,
-  ◌>>◌,
-}
+use Rattle.au_meaning.specs.Ticks.{Out, Action, gives, aborts, cut, no_rule, pure, stuck, over, where_true}
+use Rattle.au_meaning.specs.Ticks.{does, ◌>>=◌, ◌>>◌}
 use Rattle.au_meaning.specs.Views.{Field, Function}
 use Rattle.au_meaning.specs.Worlds as worlds
 use Rattle.au_meaning.specs.Worlds.{Value, World, Ending, Outcome, exit, abort, running}

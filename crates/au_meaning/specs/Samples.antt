@@ -1,28 +1,7 @@
 -- A few declarations, and noted trees over them, from which programs are made that show the meaning.
-use Rattle.std.specs.Prelude.{
-  ℕ,
-  Bool,
-  true,
-  false,
-  List,
-  [],
-  ◌∷◌,
-  map,
-  Option,
-  Some,
-  None,
-  pos,
-  ◌+◌,
-  ◌==◌,
-  ◌&&◌,
-  take,
-  slice_get,
-  unwrap_or,
-  option_map,
-  option_and_then,
-  codes,
-  if◌then◌else◌,
-}
+use Rattle.std.specs.Prelude.{ℕ, Bool, true, false, List, [], ◌∷◌, map, Option, Some, None, pos, ◌+◌, ◌==◌}
+use Rattle.std.specs.Prelude.{◌&&◌, take, slice_get, unwrap_or, option_map, option_and_then, codes}
+use Rattle.std.specs.Prelude.{if◌then◌else◌}
 use Rattle.std.specs.List.{find}
 use Rattle.std.specs.Option.{option_or}
 use Rattle.std.specs.Str.{bytes_eq}
@@ -42,43 +21,16 @@ use Rattle.au_shipped.specs.declared.prims.ShippedCall.{ShippedCall}
 use Rattle.au_shipped.specs.declared.prims.ShippedCall.TheVariants as prim
 use Rattle.au_syntax.specs.declared.expressions.BinaryOperator.{BinaryOperator}
 use Rattle.au_syntax.specs.declared.statements.Binding.TheVariants.{Var}
-use Rattle.au_syntax.specs.Expressions.{
-  Node,
-  Expression,
-  Expressions,
-  number,
-  path,
-  call,
-  binary,
-  expressions,
-  no_expressions,
-}
+use Rattle.au_syntax.specs.Expressions.{Node, Expression, Expressions, number, path, call, binary}
+use Rattle.au_syntax.specs.Expressions.{expressions, no_expressions}
 use Rattle.au_syntax.specs.Types.{named, no_types}
 use Rattle.au_syntax.specs.Names.{Placed}
 use Rattle.au_syntax.specs.Plain.{Bytes}
-use Rattle.au_syntax.specs.Statements.{
-  Statement,
-  Statements,
-  declare,
-  discard,
-  return_of,
-  statements,
-  no_statements,
-}
+use Rattle.au_syntax.specs.Statements.{Statement, Statements, declare, discard, return_of, statements}
+use Rattle.au_syntax.specs.Statements.{no_statements}
 use Rattle.au_types.specs.declared.types.DeclAt.{DeclAt}
-use Rattle.au_types.specs.Types.{
-  Meaning,
-  Argument,
-  unit,
-  truth,
-  integer,
-  text,
-  parameter,
-  of_type,
-  in_region,
-  arguments,
-  no_arguments,
-}
+use Rattle.au_types.specs.Types.{Meaning, Argument, unit, truth, integer, text, parameter, of_type, in_region}
+use Rattle.au_types.specs.Types.{arguments, no_arguments}
 use Rattle.au_types.specs.Types as mean_type
 use Rattle.au_meaning.specs.Meanings.{mean}
 use Rattle.au_meaning.specs.Views.{Field, Callee, View, Function, invokes, makes, ships}

@@ -5,66 +5,19 @@ use Rattle.au_closed_types.specs.Types as closed_type
 use Rattle.au_effects.specs.Answers.{arithmetic, called}
 use Rattle.au_effects.specs.Worlds.{born, consumed}
 use Rattle.au_syntax.specs.declared.expressions.BinaryOperator.TheVariants.{Add, Subtract, Less, And, Or}
-use Rattle.au_syntax.specs.Expressions.{
-  text,
-  truth,
-  nil,
-  path,
-  named_call,
-  arguments,
-  no_arguments,
-  negation,
-  choice,
-}
+use Rattle.au_syntax.specs.Expressions.{text, truth, nil, path, named_call, arguments, no_arguments, negation}
+use Rattle.au_syntax.specs.Expressions.{choice}
 use Rattle.au_syntax.specs.Plain.{Bytes}
-use Rattle.au_syntax.specs.Statements.{
-  Statement,
-  skip,
-  destructure,
-  assign,
-  conditional_else,
-  case_of,
-  while_loop,
-  for_loop,
-  discard,
-  return_of,
-  branches,
-  no_branches,
-  arms,
-  no_arms,
-}
+use Rattle.au_syntax.specs.Statements.{Statement, skip, destructure, assign, conditional_else, case_of}
+use Rattle.au_syntax.specs.Statements.{while_loop, for_loop, discard, return_of, branches, no_branches, arms}
+use Rattle.au_syntax.specs.Statements.{no_arms}
 use Rattle.au_syntax.specs.Types as written
 use Rattle.au_syntax.specs.Types.{Bound}
 use Rattle.au_types.specs.Types as type
-use Rattle.au_meaning.specs.Samples.{
-  Note,
-  Tree,
-  Sample,
-  Told,
-  given,
-  told,
-  here,
-  word,
-  noted,
-  linear,
-  at_type,
-  bytes,
-  free_name,
-  operated,
-  called_tree,
-  block,
-  variable,
-  prints,
-  succeeds,
-  main,
-  byte,
-  plain,
-  pair,
-  key,
-  maybe_of,
-  exit_code,
-  root_capability,
-}
+use Rattle.au_meaning.specs.Samples.{Note, Tree, Sample, Told, given, told, here, word, noted, linear}
+use Rattle.au_meaning.specs.Samples.{at_type, bytes, free_name, operated, called_tree, block, variable}
+use Rattle.au_meaning.specs.Samples.{prints, succeeds, main, byte, plain, pair, key, maybe_of, exit_code}
+use Rattle.au_meaning.specs.Samples.{root_capability}
 use Rattle.au_meaning.specs.Worlds.{Event, Ending, exit, abort, running, stuck}
 
 abbrev pub Line : Type 0

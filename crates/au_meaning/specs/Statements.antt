@@ -1,71 +1,22 @@
 -- The meaning of statements and blocks: one clause for each form. Each is given the number of the first name
 -- that it declares, and what is in scope.
-use Rattle.std.specs.Prelude.{
-  ℕ,
-  zero,
-  suc,
-  ◌+◌,
-  ◌==◌,
-  Bool,
-  true,
-  false,
-  List,
-  length,
-  Option,
-  Some,
-  None,
-  ℤ,
-  pos,
-  ◌+ℤ◌,
-  int_lt,
-  if◌then◌else◌,
-}
+use Rattle.std.specs.Prelude.{ℕ, zero, suc, ◌+◌, ◌==◌, Bool, true, false, List, length, Option, Some, None, ℤ}
+use Rattle.std.specs.Prelude.{pos, ◌+ℤ◌, int_lt, if◌then◌else◌}
 use Rattle.au_base.specs.declared.kinds.IntKind.{IntKind}
 use Rattle.au_effects.specs.Numbers.{number_in, same_kind}
 use Rattle.au_effects.specs.Parts.{along}
 use Rattle.au_effects.specs.Values as values
 use Rattle.au_syntax.specs.Expressions.{Expression}
 use Rattle.au_syntax.specs.Plain.{Bytes}
-use Rattle.au_syntax.specs.Statements.{
-  Statement,
-  Statements,
-  Branches,
-  Arms,
-  skip,
-  declare,
-  destructure,
-  assign,
-  assign_through,
-  conditional,
-  conditional_else,
-  case_of,
-  while_loop,
-  for_loop,
-  borrow_in,
-  borrow_typed,
-  discard,
-  return_of,
-  no_statements,
-  statements,
-  no_branches,
-  branches,
-  no_arms,
-  arms,
-}
+use Rattle.au_syntax.specs.Statements.{Statement, Statements, Branches, Arms, skip, declare, destructure}
+use Rattle.au_syntax.specs.Statements.{assign, assign_through, conditional, conditional_else, case_of}
+use Rattle.au_syntax.specs.Statements.{while_loop, for_loop, borrow_in, borrow_typed, discard, return_of}
+use Rattle.au_syntax.specs.Statements.{no_statements, statements, no_branches, branches, no_arms, arms}
 use Rattle.au_syntax.specs.Types.{Bound}
 use Rattle.au_meaning.specs.Acts.{holds, with_values, sets, emptied, apart, bound_counted}
 use Rattle.au_meaning.specs.Expressions.{names_of, note_of, chosen, eval}
-use Rattle.au_meaning.specs.Names.{
-  Scope,
-  Variable,
-  variable_of,
-  with_name,
-  with_bound,
-  path_numbers,
-  names_in,
-  names_in_block,
-  names_in_tests,
-}
+use Rattle.au_meaning.specs.Names.{Scope, Variable, variable_of, with_name, with_bound, path_numbers}
+use Rattle.au_meaning.specs.Names.{names_in, names_in_block, names_in_tests}
 use Rattle.au_meaning.specs.Ticks.{Action, pure, stuck, over, tick, needing, where_true, does, ◌>>=◌, ◌>>◌}
 use Rattle.au_meaning.specs.Views.{Field, View}
 use Rattle.au_meaning.specs.Worlds.{Value}

@@ -1,17 +1,8 @@
 -- The last steps of the search: what is made of noted operands.
 use Rattle.std.specs.Prelude.{List, Ok}
 use Rattle.au_syntax.specs.declared.expressions.BinaryOperator.{BinaryOperator}
-use Rattle.au_syntax.specs.Expressions.{
-  Node,
-  call,
-  named_call,
-  parenthesized,
-  dereference,
-  binary,
-  negation,
-  typed,
-  choice,
-}
+use Rattle.au_syntax.specs.Expressions.{Node, call, named_call, parenthesized, dereference, binary, negation}
+use Rattle.au_syntax.specs.Expressions.{typed, choice}
 use Rattle.au_syntax.specs.Names.{Placed}
 use Rattle.au_syntax.specs.Plain.{Bytes, PlainArguments}
 use Rattle.au_syntax.specs.Types.{WrittenType}

@@ -2,13 +2,8 @@
 
 ghost use Rattle.au_noting.specs.Giving.{Gives};
 ghost use Rattle.au_noting.specs.Modes.{wanted};
-ghost use Rattle.au_noting_leaves.specs.Leaves.{
-  negative_noted,
-  nil_noted,
-  number_noted,
-  text_noted,
-  truth_noted,
-};
+ghost use Rattle.au_noting_leaves.specs.Leaves.{negative_noted, nil_noted, number_noted, text_noted};
+ghost use Rattle.au_noting_leaves.specs.Leaves.{truth_noted};
 ghost use Rattle.au_notes.specs.contracts.noted.NotedPhase.TheImpl.{ghosts as noted};
 ghost use Rattle.au_syntax.specs.contracts.parsed.ParsedPhase.TheImpl.{ghosts as parsed};
 ghost use Rattle.au_syntax.specs.Views.{expression, node};

@@ -9,12 +9,8 @@ ghost use Rattle.au_modules.specs.Slots as slots;
 ghost use Rattle.au_outcomes.specs.Halts.{Says, is_read_halt};
 ghost use Rattle.au_outcomes.specs.Outcomes.{most_files};
 ghost use Rattle.au_outcomes.specs.Programs.{AcceptedCome, AreJudgedAs, RunComes, bodies_outcome};
-ghost use Rattle.au_outcomes.specs.Programs.{
-  modules_outcome,
-  program_modules,
-  program_outcome,
-  shipped_entries,
-};
+ghost use Rattle.au_outcomes.specs.Programs.{modules_outcome, program_modules, program_outcome};
+ghost use Rattle.au_outcomes.specs.Programs.{shipped_entries};
 ghost use Rattle.au_outcomes.specs.Trees.{ReadFile};
 ghost use Rattle.au_outcomes.specs.declared.outcomes.Outcome.TheVariants as outcome;
 

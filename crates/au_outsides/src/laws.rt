@@ -1,19 +1,7 @@
 //! Laws on what a part of a module sees.
 
-ghost use Rattle.std.specs.Prelude.{
-  ◌≡◌,
-  ◌==◌,
-  [],
-  ℕ,
-  List,
-  None,
-  Some,
-  codes,
-  false,
-  find as first,
-  map,
-  slice_get,
-};
+ghost use Rattle.std.specs.Prelude.{◌≡◌, ◌==◌, [], ℕ, List, None, Some, codes, false, find as first, map};
+ghost use Rattle.std.specs.Prelude.{slice_get};
 ghost use Rattle.std.specs.Str.{bytes_eq};
 ghost use Rattle.au_generics.specs.Bounds.{parameters};
 ghost use Rattle.au_modules.specs.Programs.{ModuleParts};

@@ -1,24 +1,6 @@
 -- What is wanted of a view, of the code of a function, and of calls.
-use Rattle.std.specs.Prelude.{
-  ◌≡◌,
-  ℕ,
-  suc,
-  ◌+◌,
-  ◌<◌,
-  Bool,
-  true,
-  false,
-  List,
-  [],
-  ◌∷◌,
-  ◌++◌,
-  length,
-  reverse,
-  Option,
-  Some,
-  slice_get,
-  nat_lt,
-}
+use Rattle.std.specs.Prelude.{◌≡◌, ℕ, suc, ◌+◌, ◌<◌, Bool, true, false, List, [], ◌∷◌, ◌++◌, length, reverse}
+use Rattle.std.specs.Prelude.{Option, Some, slice_get, nat_lt}
 use Rattle.std.specs.Str.{bytes_eq}
 use Rattle.au_closed_types.specs.Types.{ClosedType}
 use Rattle.au_effects.specs.Values as values
@@ -35,19 +17,8 @@ use Rattle.au_meaning.specs.Views.{View, Callee, ships}
 use Rattle.au_meaning.specs.Worlds.{Value}
 use Rattle.au_shipped.specs.declared.prims.ShippedCall.{ShippedCall}
 use Rattle.au_shipped.specs.declared.prims.ShippedCall.TheVariants as prim
-use Rattle.au_simulation_steps.specs.Sides.{
-  Coding,
-  Both,
-  Names,
-  Slots,
-  Common,
-  Frame,
-  spot,
-  world,
-  meant,
-  all_meant,
-  all_ran,
-}
+use Rattle.au_simulation_steps.specs.Sides.{Coding, Both, Names, Slots, Common, Frame, spot, world, meant}
+use Rattle.au_simulation_steps.specs.Sides.{all_meant, all_ran}
 use Rattle.au_simulation_steps.specs.Runs.{aim_at, Sim}
 use Rattle.au_syntax.specs.Plain.{Bytes}
 

@@ -3,15 +3,8 @@ use Rattle.std.specs.Prelude.{◌≡◌, ℕ, true, List, [], ◌∷◌, length,
 use Rattle.au_closed_types.specs.Types.{ClosedType}
 use Rattle.au_derivations.specs.Returns.{block_returns}
 use Rattle.au_lowered.specs.Laws.{BlockTidy}
-use Rattle.au_lowered.specs.Programs.{
-  body_of,
-  slots_of,
-  texts_in,
-  types_in,
-  text_number,
-  type_number,
-  lowered,
-}
+use Rattle.au_lowered.specs.Programs.{body_of, slots_of, texts_in, types_in, text_number, type_number}
+use Rattle.au_lowered.specs.Programs.{lowered}
 use Rattle.au_low.specs.declared.code.Function as low
 use Rattle.au_low.specs.declared.code.LowType.{LowType}
 use Rattle.au_meaning.specs.Views.{Field, Function}

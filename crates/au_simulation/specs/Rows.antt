@@ -6,18 +6,8 @@ use Rattle.au_lowered.specs.Standing.{Stands}
 use Rattle.au_meaning.specs.Ticks.{Action}
 use Rattle.au_meaning.specs.Worlds.{Value}
 use Rattle.au_simulation_steps.specs.Scopes.{Entry, Agree}
-use Rattle.au_simulation_steps.specs.Sides.{
-  Coding,
-  Both,
-  Names,
-  Slots,
-  Common,
-  Frame,
-  spot,
-  world,
-  meant,
-  all_meant,
-}
+use Rattle.au_simulation_steps.specs.Sides.{Coding, Both, Names, Slots, Common, Frame, spot, world, meant}
+use Rattle.au_simulation_steps.specs.Sides.{all_meant}
 use Rattle.au_simulation_steps.specs.Runs.{Aim, aim_at, Sim}
 
 module _ (by : Coding) (f : Frame) (get : ℕ → Option Draft) (depth wide room : ℕ) (scope : List (Entry by))

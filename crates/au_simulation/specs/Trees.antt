@@ -1,23 +1,8 @@
 -- Trees in which each field is bound once.
 use Rattle.au_syntax.specs.Plain.{Bytes}
-use Rattle.au_syntax.specs.Statements.{
-  Statement,
-  Statements,
-  Branches,
-  Arms,
-  destructure,
-  conditional,
-  conditional_else,
-  case_of,
-  while_loop,
-  for_loop,
-  no_statements,
-  statements,
-  no_branches,
-  branches,
-  no_arms,
-  arms,
-}
+use Rattle.au_syntax.specs.Statements.{Statement, Statements, Branches, Arms, destructure, conditional}
+use Rattle.au_syntax.specs.Statements.{conditional_else, case_of, while_loop, for_loop, no_statements}
+use Rattle.au_syntax.specs.Statements.{statements, no_branches, branches, no_arms, arms}
 use Rattle.au_simulation.specs.Binds.{fields_bound}
 use Rattle.au_simulation.specs.Premises.{Once}
 

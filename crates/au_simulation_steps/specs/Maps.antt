@@ -1,52 +1,11 @@
 -- Values, worlds and answers whose texts and types are changed into others.
 use Rattle.std.specs.Prelude.{List, map, Option}
-use Rattle.au_effects.specs.Values.{
-  Value,
-  Fields,
-  unit,
-  truth,
-  number,
-  text,
-  made,
-  reference,
-  box,
-  buffer,
-  terminal,
-  root,
-  no_fields,
-  field_then,
-}
-use Rattle.au_effects.specs.Worlds.{
-  World,
-  Held,
-  Deed,
-  nothing,
-  content,
-  elements,
-  born,
-  consumed,
-  opened,
-  used,
-  closed,
-}
-use Rattle.au_effects.specs.Answers.{
-  Fault,
-  arithmetic,
-  called,
-  not_empty,
-  empty,
-  out_of_range,
-  Result,
-  value,
-  fault,
-  no_rule,
-  Answer,
-  gives,
-  writes,
-  waits,
-  aborts,
-  none,
-}
+use Rattle.au_effects.specs.Values.{Value, Fields, unit, truth, number, text, made, reference, box, buffer}
+use Rattle.au_effects.specs.Values.{terminal, root, no_fields, field_then}
+use Rattle.au_effects.specs.Worlds.{World, Held, Deed, nothing, content, elements, born, consumed, opened}
+use Rattle.au_effects.specs.Worlds.{used, closed}
+use Rattle.au_effects.specs.Answers.{Fault, arithmetic, called, not_empty, empty, out_of_range, Result, value}
+use Rattle.au_effects.specs.Answers.{fault, no_rule, Answer, gives, writes, waits, aborts, none}
 
 module _ {T S : Type 0} (f : T → S) where
   abbrev mutual

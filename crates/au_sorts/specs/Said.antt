@@ -7,19 +7,9 @@ use Rattle.au_syntax.specs.declared.statements.Arm.{Arm}
 use Rattle.au_syntax.specs.declared.statements.Block.{Block}
 use Rattle.au_syntax.specs.declared.statements.Branch.{Branch}
 use Rattle.au_syntax.specs.declared.statements.Stmt.{Stmt}
-use Rattle.au_syntax.specs.Plain.{
-  Bytes,
-  PlainStatement,
-  PlainStatements,
-  PlainBranches,
-  PlainArms,
-  plain_labelled,
-  plain_bound,
-  plain_statement,
-  plain_statements,
-  plain_branches,
-  plain_arms,
-}
+use Rattle.au_syntax.specs.Plain.{Bytes, PlainStatement, PlainStatements, PlainBranches, PlainArms}
+use Rattle.au_syntax.specs.Plain.{plain_labelled, plain_bound, plain_statement, plain_statements}
+use Rattle.au_syntax.specs.Plain.{plain_branches, plain_arms}
 use Rattle.au_syntax.specs.Types.{Bound, Labelled}
 use Rattle.au_syntax.specs.Views.{labelled, bound, statement, statement_all, block, branch_all, arm_all}
 

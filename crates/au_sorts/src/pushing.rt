@@ -2,14 +2,8 @@
 
 ghost use Rattle.std.specs.Prelude.{◌≡◌, ◌++◌, ◌∷◌, [], IfOk, OnOk, map};
 ghost use Rattle.au_sorts.specs.Scopes.{opened_by, opened_in, scope_said};
-ghost use Rattle.au_sorts.specs.Said.{
-  arms_said,
-  binds_said,
-  block_said,
-  branches_said,
-  parameters_said,
-  statement_said,
-};
+ghost use Rattle.au_sorts.specs.Said.{arms_said, binds_said, block_said, branches_said, parameters_said};
+ghost use Rattle.au_sorts.specs.Said.{statement_said};
 ghost use Rattle.au_sorts.specs.Sorts as spec;
 ghost use Rattle.au_syntax.specs.Views.{placed, written};
 

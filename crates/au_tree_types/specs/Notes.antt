@@ -1,57 +1,14 @@
 -- What is said of the notes in a tree, in the order of the text: of the note of an expression before what is
 -- in it.
 use Rattle.std.specs.Prelude.{List, [], ◌++◌}
-use Rattle.au_syntax.specs.Expressions.{
-  Expression,
-  Expressions,
-  Arguments,
-  number,
-  negative,
-  text,
-  truth,
-  nil,
-  path,
-  arrow,
-  borrow,
-  borrow_part,
-  call,
-  named_call,
-  parenthesized,
-  dereference,
-  binary,
-  negation,
-  typed,
-  choice,
-  no_expressions,
-  expressions,
-  no_arguments,
-  arguments,
-}
-use Rattle.au_syntax.specs.Statements.{
-  Statement,
-  Statements,
-  Branches,
-  Arms,
-  declare,
-  destructure,
-  assign,
-  assign_through,
-  conditional,
-  conditional_else,
-  case_of,
-  while_loop,
-  for_loop,
-  borrow_in,
-  borrow_typed,
-  discard,
-  return_of,
-  no_statements,
-  statements,
-  no_branches,
-  branches,
-  no_arms,
-  arms,
-}
+use Rattle.au_syntax.specs.Expressions.{Expression, Expressions, Arguments, number, negative, text, truth}
+use Rattle.au_syntax.specs.Expressions.{nil, path, arrow, borrow, borrow_part, call, named_call}
+use Rattle.au_syntax.specs.Expressions.{parenthesized, dereference, binary, negation, typed, choice}
+use Rattle.au_syntax.specs.Expressions.{no_expressions, expressions, no_arguments, arguments}
+use Rattle.au_syntax.specs.Statements.{Statement, Statements, Branches, Arms, declare, destructure, assign}
+use Rattle.au_syntax.specs.Statements.{assign_through, conditional, conditional_else, case_of, while_loop}
+use Rattle.au_syntax.specs.Statements.{for_loop, borrow_in, borrow_typed, discard, return_of, no_statements}
+use Rattle.au_syntax.specs.Statements.{statements, no_branches, branches, no_arms, arms}
 
 -- by what is said of a note
 module _ {N T C A : Type 0} (said : T → List A) where

@@ -9,22 +9,8 @@ use Rattle.au_types.specs.declared.headings.Head.{Head}
 use Rattle.au_types.specs.declared.parameters.Parameter.{Parameter}
 use Rattle.au_types.specs.declared.types.DeclAt.{DeclAt}
 use Rattle.au_types.specs.declared.types.Region.TheVariants as regions
-use Rattle.au_types.specs.Types.{
-  Meaning,
-  Argument,
-  unit,
-  truth,
-  integer,
-  text,
-  parameter,
-  named,
-  reads,
-  writes,
-  of_type,
-  in_region,
-  no_arguments,
-  arguments,
-}
+use Rattle.au_types.specs.Types.{Meaning, Argument, unit, truth, integer, text, parameter, named, reads}
+use Rattle.au_types.specs.Types.{writes, of_type, in_region, no_arguments, arguments}
 
 -- two declared types: one that takes nothing, and one that takes a type and a region
 abbrev pub exit_code : DeclAt

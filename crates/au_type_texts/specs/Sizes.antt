@@ -3,23 +3,8 @@ use Rattle.std.specs.Prelude.{ℕ, ◌+◌, Option, None, Some, max, min, nat_le
 use Rattle.au_base.specs.declared.limits.Limit.{Limit}
 use Rattle.au_base.specs.declared.limits.LimitKind.TheVariants.{TypeDepth, TypeNodes}
 use Rattle.au_base.specs.Limits.{most_type_depth, most_type_nodes}
-use Rattle.au_types.specs.Types.{
-  Meaning,
-  Argument,
-  Arguments,
-  unit,
-  truth,
-  integer,
-  text,
-  parameter,
-  named,
-  reads,
-  writes,
-  of_type,
-  in_region,
-  no_arguments,
-  arguments,
-}
+use Rattle.au_types.specs.Types.{Meaning, Argument, Arguments, unit, truth, integer, text, parameter, named}
+use Rattle.au_types.specs.Types.{reads, writes, of_type, in_region, no_arguments, arguments}
 
 abbrev mutual
   -- The depth of a type: a name alone is 1, and a reference or a type with arguments is one more than the

@@ -4,14 +4,8 @@ ghost use Rattle.std.specs.Prelude.{◌≡◌, ◌++◌, IfOk, OnOk};
 ghost use Rattle.au_types.specs.Rows.{head_of};
 ghost use Rattle.au_types.specs.Views.{argument, argument_all, meaning};
 ghost use Rattle.au_type_texts.specs.Texts as texts;
-ghost use Rattle.au_type_texts.specs.Texts.{
-  argument_text,
-  arguments_text,
-  head_text,
-  reference_text,
-  region_text,
-  text_of,
-};
+ghost use Rattle.au_type_texts.specs.Texts.{argument_text, arguments_text, head_text, reference_text};
+ghost use Rattle.au_type_texts.specs.Texts.{region_text, text_of};
 
 use au_base::{IntKind, Memory, Text};
 use au_types::{Arg, DeclAt, Heads, Region, Ty};

@@ -1,25 +1,6 @@
 -- Expressions in a scope, and by hand the type of each or the fault.
-use Rattle.std.specs.Prelude.{
-  ℕ,
-  zero,
-  suc,
-  pos,
-  ◌==◌,
-  List,
-  [],
-  ◌∷◌,
-  true,
-  false,
-  Option,
-  Some,
-  None,
-  Ok,
-  Err,
-  codes,
-  find,
-  option_map,
-  if◌then◌else◌,
-}
+use Rattle.std.specs.Prelude.{ℕ, zero, suc, pos, ◌==◌, List, [], ◌∷◌, true, false, Option, Some, None, Ok}
+use Rattle.std.specs.Prelude.{Err, codes, find, option_map, if◌then◌else◌}
 use Rattle.std.specs.Str.{bytes_eq}
 use Rattle.au_base.specs.declared.kinds.IntKind.TheVariants as kinds
 use Rattle.au_base.specs.declared.limits.LimitKind.TheVariants.{TypeDepth}
@@ -28,30 +9,10 @@ use Rattle.au_syntax.specs.declared.declarations.Universe.TheVariants as univers
 use Rattle.au_syntax.specs.declared.expressions.BinaryOperator.{BinaryOperator}
 use Rattle.au_syntax.specs.declared.expressions.BinaryOperator.TheVariants as operators
 use Rattle.au_syntax.specs.declared.expressions.BorrowMode.TheVariants as borrows
-use Rattle.au_syntax.specs.Expressions.{
-  Node,
-  number,
-  negative,
-  text,
-  truth,
-  nil,
-  path,
-  arrow,
-  call,
-  named_call,
-  parenthesized,
-  dereference,
-  borrow,
-  borrow_part,
-  binary,
-  negation,
-  typed,
-  choice,
-  no_expressions,
-  expressions,
-  no_arguments,
-  arguments,
-}
+use Rattle.au_syntax.specs.Expressions.{Node, number, negative, text, truth, nil, path, arrow, call}
+use Rattle.au_syntax.specs.Expressions.{named_call, parenthesized, dereference, borrow, borrow_part, binary}
+use Rattle.au_syntax.specs.Expressions.{negation, typed, choice, no_expressions, expressions, no_arguments}
+use Rattle.au_syntax.specs.Expressions.{arguments}
 use Rattle.au_syntax.specs.Names.{Placed}
 use Rattle.au_syntax.specs.Plain.{Bytes, PlainArguments, PlainExpression, PlainExpressions}
 use Rattle.au_syntax.specs.Types as written
@@ -61,39 +22,13 @@ use Rattle.au_types.specs.Types as mean
 use Rattle.au_types.specs.Types.{Meaning}
 use Rattle.au_matching.specs.Bindings.{Bindings}
 use Rattle.au_generics.specs.Bounds.{Bounded}
-use Rattle.au_instances.specs.Examples.{
-  bounded_by,
-  box,
-  declared,
-  headed,
-  nat8,
-  of_one,
-  option,
-  place,
-  shown,
-  table,
-}
+use Rattle.au_instances.specs.Examples.{bounded_by, box, declared, headed, nat8, of_one, option, place, shown}
+use Rattle.au_instances.specs.Examples.{table}
 use Rattle.au_scopes.specs.Scopes.{Callable, Outside, Scope, Typed, Variable}
-use Rattle.au_typing.specs.Faults.{
-  Noting,
-  Why,
-  limit,
-  why,
-  unknown,
-  different,
-  unfixed,
-  no_instance,
-  not_free,
-  shape,
-  record_wanted,
-  reference_wanted,
-  write_reference_wanted,
-  integer_wanted,
-  linear_wanted,
-  arguments_wanted,
-  labels_wanted,
-  range_wanted,
-}
+use Rattle.au_typing.specs.Faults.{Noting, Why, limit, why, unknown, different, unfixed, no_instance}
+use Rattle.au_typing.specs.Faults.{not_free, shape, record_wanted, reference_wanted, write_reference_wanted}
+use Rattle.au_typing.specs.Faults.{integer_wanted, linear_wanted, arguments_wanted, labels_wanted}
+use Rattle.au_typing.specs.Faults.{range_wanted}
 use Rattle.au_typing.specs.Notes.{Mode, NotedExpression, note_of, type_of}
 use Rattle.au_typing.specs.Rules.{int32}
 

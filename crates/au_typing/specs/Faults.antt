@@ -5,14 +5,9 @@ use Rattle.au_base.specs.declared.limits.Limit.{Limit}
 use Rattle.au_syntax.specs.Plain.{Bytes}
 use Rattle.au_types.specs.declared.types.DeclAt.{DeclAt}
 use Rattle.au_types.specs.Types.{Meaning}
-use Rattle.au_judged_types.specs.Reasons.{
-  Reason,
-  unknown as name_unknown,
-  number_wanted,
-  region_wanted as no_region,
-  not_free as type_not_free,
-  linear_wanted as type_not_linear,
-}
+use Rattle.au_judged_types.specs.Reasons.{Reason, unknown as name_unknown, number_wanted}
+use Rattle.au_judged_types.specs.Reasons.{region_wanted as no_region, not_free as type_not_free}
+use Rattle.au_judged_types.specs.Reasons.{linear_wanted as type_not_linear}
 
 -- a form that a rule wants and a part hasn't: a record or a union that is known there, a reference, a write
 -- reference, an integer, a variable that `var` declares, a Linear type, a region, so many arguments, each

@@ -5,32 +5,10 @@ use Rattle.au_ints.specs.Ranges.{is_of_kind}
 use Rattle.au_syntax.specs.declared.expressions.BinaryOperator.{BinaryOperator}
 use Rattle.au_syntax.specs.declared.expressions.BorrowMode.{BorrowMode}
 use Rattle.au_syntax.specs.declared.expressions.BorrowMode.TheVariants.{Read, Write, Reborrow}
-use Rattle.au_syntax.specs.Expressions.{
-  Expression,
-  Expressions,
-  Arguments,
-  number,
-  negative,
-  text,
-  truth,
-  nil,
-  path,
-  arrow,
-  call,
-  named_call,
-  parenthesized,
-  dereference,
-  borrow,
-  borrow_part,
-  binary,
-  negation,
-  typed,
-  choice,
-  no_expressions,
-  expressions,
-  no_arguments,
-  arguments,
-}
+use Rattle.au_syntax.specs.Expressions.{Expression, Expressions, Arguments, number, negative, text, truth}
+use Rattle.au_syntax.specs.Expressions.{nil, path, arrow, call, named_call, parenthesized, dereference}
+use Rattle.au_syntax.specs.Expressions.{borrow, borrow_part, binary, negation, typed, choice, no_expressions}
+use Rattle.au_syntax.specs.Expressions.{expressions, no_arguments, arguments}
 use Rattle.au_syntax.specs.Names.{Placed}
 use Rattle.au_syntax.specs.Plain.{Bytes, PlainExpression}
 use Rattle.au_types.specs.declared.types.Region.{Region}
@@ -45,26 +23,10 @@ use Rattle.au_scopes.specs.Scopes.{Callable, Scope}
 use Rattle.au_typing.specs.Bare.{is_arithmetic, is_bare}
 use Rattle.au_typing.specs.Calls.{Shown, GoodCall, in_order, by_labels}
 use Rattle.au_typing.specs.Limits.{are_within, types_noted}
-use Rattle.au_typing.specs.Lookups.{
-  behind,
-  is_free_in,
-  is_record,
-  IsPart,
-  value_type,
-  variable_type,
-  written_means,
-}
-use Rattle.au_typing.specs.Notes.{
-  Mode,
-  Note,
-  NotedArguments,
-  NotedExpression,
-  NotedExpressions,
-  erase,
-  mode_of,
-  note_of,
-  type_of,
-}
+use Rattle.au_typing.specs.Lookups.{behind, is_free_in, is_record, IsPart, value_type, variable_type}
+use Rattle.au_typing.specs.Lookups.{written_means}
+use Rattle.au_typing.specs.Notes.{Mode, Note, NotedArguments, NotedExpression, NotedExpressions, erase}
+use Rattle.au_typing.specs.Notes.{mode_of, note_of, type_of}
 use Rattle.au_typing.specs.Rules.{is_compared, is_integer, is_logical, literal_kind, meets}
 
 -- A note of an expression that calls nothing: its types pass no limit, the type is the wanted one, and there

@@ -1,19 +1,6 @@
 -- What names, parts and written types mean in a scope.
-use Rattle.std.specs.Prelude.{
-  ◌≡◌,
-  List,
-  [],
-  ◌∷◌,
-  Bool,
-  Option,
-  Some,
-  None,
-  is_some,
-  option_map,
-  option_and_then,
-  Ok,
-  Err,
-}
+use Rattle.std.specs.Prelude.{◌≡◌, List, [], ◌∷◌, Bool, Option, Some, None, is_some, option_map}
+use Rattle.std.specs.Prelude.{option_and_then, Ok, Err}
 use Rattle.std.specs.List.{find}
 use Rattle.std.specs.Option.{option_or}
 use Rattle.std.specs.Str.{bytes_eq}
@@ -27,17 +14,8 @@ use Rattle.au_generics.specs.Bounds.{parameters}
 use Rattle.au_judged_types.specs.Judging.{judged}
 use Rattle.au_judged_types.specs.Reasons.{Outcome, means, fails}
 use Rattle.au_scopes.specs.Scopes.{Typed, Scope, Variable}
-use Rattle.au_typing.specs.Faults.{
-  Noting,
-  ◌>>=◌,
-  check,
-  known_or,
-  reason_why,
-  why,
-  unknown,
-  shape,
-  record_wanted,
-}
+use Rattle.au_typing.specs.Faults.{Noting, ◌>>=◌, check, known_or, reason_why, why, unknown, shape}
+use Rattle.au_typing.specs.Faults.{record_wanted}
 
 -- ---- names
 

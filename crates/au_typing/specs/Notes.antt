@@ -1,37 +1,10 @@
 -- What is noted at each expression, and trees with such notes.
 use Rattle.std.specs.Prelude.{Option, None}
-use Rattle.au_syntax.specs.Expressions.{
-  Node,
-  Expression,
-  Expressions,
-  Arguments,
-  number,
-  negative,
-  text,
-  truth,
-  nil,
-  path,
-  arrow,
-  call,
-  named_call,
-  parenthesized,
-  dereference,
-  borrow,
-  borrow_part,
-  binary,
-  negation,
-  typed,
-  choice,
-}
-use Rattle.au_syntax.specs.Plain.{
-  Bytes,
-  PlainExpression,
-  PlainExpressions,
-  PlainArguments,
-  plain_expression,
-  plain_expressions,
-  plain_arguments,
-}
+use Rattle.au_syntax.specs.Expressions.{Node, Expression, Expressions, Arguments, number, negative, text}
+use Rattle.au_syntax.specs.Expressions.{truth, nil, path, arrow, call, named_call, parenthesized, dereference}
+use Rattle.au_syntax.specs.Expressions.{borrow, borrow_part, binary, negation, typed, choice}
+use Rattle.au_syntax.specs.Plain.{Bytes, PlainExpression, PlainExpressions, PlainArguments, plain_expression}
+use Rattle.au_syntax.specs.Plain.{plain_expressions, plain_arguments}
 use Rattle.au_types.specs.Types.{Meaning}
 use Rattle.au_matching.specs.Bindings.{Bindings}
 

@@ -5,31 +5,10 @@ use Rattle.au_ints.specs.Ranges.{is_of_kind}
 use Rattle.au_syntax.specs.declared.expressions.BinaryOperator.{BinaryOperator}
 use Rattle.au_syntax.specs.declared.expressions.BorrowMode.{BorrowMode}
 use Rattle.au_syntax.specs.declared.expressions.BorrowMode.TheVariants.{Read, Write, Reborrow}
-use Rattle.au_syntax.specs.Expressions.{
-  Node,
-  Arguments,
-  number,
-  negative,
-  text,
-  truth,
-  nil,
-  path,
-  arrow,
-  call,
-  named_call,
-  parenthesized,
-  dereference,
-  borrow,
-  borrow_part,
-  binary,
-  negation,
-  typed,
-  choice,
-  no_expressions,
-  expressions,
-  no_arguments,
-  arguments,
-}
+use Rattle.au_syntax.specs.Expressions.{Node, Arguments, number, negative, text, truth, nil, path, arrow}
+use Rattle.au_syntax.specs.Expressions.{call, named_call, parenthesized, dereference, borrow, borrow_part}
+use Rattle.au_syntax.specs.Expressions.{binary, negation, typed, choice, no_expressions, expressions}
+use Rattle.au_syntax.specs.Expressions.{no_arguments, arguments}
 use Rattle.au_syntax.specs.Names.{Placed}
 use Rattle.au_syntax.specs.Plain.{Bytes, PlainArguments, PlainExpression, PlainExpressions}
 use Rattle.au_types.specs.declared.types.Region.TheVariants.{Anonymous}
@@ -38,35 +17,14 @@ use Rattle.au_types.specs.Types.{Meaning}
 use Rattle.au_scopes.specs.Scopes.{Scope, Typed}
 use Rattle.au_typing.specs.Bare.{is_arithmetic, is_bare}
 use Rattle.au_typing.specs.Calls.{by_labels, in_order}
-use Rattle.au_typing.specs.Faults.{
-  Noting,
-  ◌>>=◌,
-  Why,
-  why,
-  check,
-  known_or,
-  unknown,
-  not_free,
-  shape,
-  integer_wanted,
-  range_wanted,
-  reference_wanted,
-  write_reference_wanted,
-  arguments_wanted,
-  labels_wanted,
-}
+use Rattle.au_typing.specs.Faults.{Noting, ◌>>=◌, Why, why, check, known_or, unknown, not_free, shape}
+use Rattle.au_typing.specs.Faults.{integer_wanted, range_wanted, reference_wanted, write_reference_wanted}
+use Rattle.au_typing.specs.Faults.{arguments_wanted, labels_wanted}
 use Rattle.au_typing.specs.Good.{count_of, labels_of}
 use Rattle.au_typing.specs.Limits.{within, types_noted}
 use Rattle.au_typing.specs.Lookups.{behind, is_free_in, record_part, value_type, variable_type, written_type}
-use Rattle.au_typing.specs.Notes.{
-  Mode,
-  Note,
-  NotedArguments,
-  NotedExpression,
-  NotedExpressions,
-  noted_at,
-  type_of,
-}
+use Rattle.au_typing.specs.Notes.{Mode, Note, NotedArguments, NotedExpression, NotedExpressions, noted_at}
+use Rattle.au_typing.specs.Notes.{type_of}
 use Rattle.au_typing.specs.Operands.{Noter, of_one_type, paired}
 use Rattle.au_typing.specs.Rules.{is_compared, is_integer, is_logical, literal_kind, noted, wanted_note}
 use Rattle.au_typing.specs.SearchCalls.{Operand, call_noted}

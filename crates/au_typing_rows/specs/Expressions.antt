@@ -3,55 +3,17 @@ use Rattle.std.specs.Prelude.{List, [], ◌∷◌, true, false, Option, Some, No
 use Rattle.au_base.specs.declared.kinds.IntKind.TheVariants as kinds
 use Rattle.au_syntax.specs.declared.expressions.BinaryOperator.TheVariants as operators
 use Rattle.au_syntax.specs.declared.expressions.BorrowMode.TheVariants as borrows
-use Rattle.au_syntax.specs.Expressions.{
-  truth,
-  nil,
-  path,
-  arrow,
-  dereference,
-  borrow,
-  borrow_part,
-  negation,
-  typed,
-  choice,
-  parenthesized,
-}
+use Rattle.au_syntax.specs.Expressions.{truth, nil, path, arrow, dereference, borrow, borrow_part, negation}
+use Rattle.au_syntax.specs.Expressions.{typed, choice, parenthesized}
 use Rattle.au_syntax.specs.Plain.{Bytes, PlainExpression}
 use Rattle.au_syntax.specs.Types as written
 use Rattle.au_types.specs.declared.types.Region.TheVariants as regions
 use Rattle.au_types.specs.Types as mean
 use Rattle.au_instances.specs.Examples.{nat8, of_one, option, shown}
-use Rattle.au_typing.specs.Examples.{
-  Example,
-  alone,
-  both,
-  boxed,
-  calls,
-  fails,
-  here,
-  is,
-  kept,
-  mention,
-  minus,
-  named,
-  one,
-  operation,
-  part,
-  read,
-  whole,
-}
-use Rattle.au_typing.specs.Faults.{
-  unknown,
-  different,
-  no_instance,
-  not_free,
-  shape,
-  arguments_wanted,
-  integer_wanted,
-  range_wanted,
-  reference_wanted,
-  write_reference_wanted,
-}
+use Rattle.au_typing.specs.Examples.{Example, alone, both, boxed, calls, fails, here, is, kept, mention}
+use Rattle.au_typing.specs.Examples.{minus, named, one, operation, part, read, whole}
+use Rattle.au_typing.specs.Faults.{unknown, different, no_instance, not_free, shape, arguments_wanted}
+use Rattle.au_typing.specs.Faults.{integer_wanted, range_wanted, reference_wanted, write_reference_wanted}
 use Rattle.au_typing.specs.Rules.{int32}
 use Rattle.au_typing_rows.specs.Things.{outer, t, u}
 

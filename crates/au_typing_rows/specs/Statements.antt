@@ -10,63 +10,20 @@ use Rattle.au_syntax.specs.declared.types.Access.{Access}
 use Rattle.au_syntax.specs.declared.types.Access.TheVariants as access
 use Rattle.au_syntax.specs.Expressions.{borrow, nil, truth}
 use Rattle.au_syntax.specs.Plain.{Bytes, PlainArms, PlainExpression, PlainStatement, PlainStatements}
-use Rattle.au_syntax.specs.Statements.{
-  skip,
-  declare,
-  destructure,
-  assign,
-  assign_through,
-  conditional,
-  conditional_else,
-  case_of,
-  while_loop,
-  for_loop,
-  borrow_in,
-  borrow_typed,
-  discard,
-  return_of,
-  no_statements,
-  branches,
-  no_branches,
-  arms,
-  no_arms,
-}
+use Rattle.au_syntax.specs.Statements.{skip, declare, destructure, assign, assign_through, conditional}
+use Rattle.au_syntax.specs.Statements.{conditional_else, case_of, while_loop, for_loop, borrow_in}
+use Rattle.au_syntax.specs.Statements.{borrow_typed, discard, return_of, no_statements, branches, no_branches}
+use Rattle.au_syntax.specs.Statements.{arms, no_arms}
 use Rattle.au_syntax.specs.Types.{Bound, WrittenType, named as of_name, reference, no_types, types}
 use Rattle.au_types.specs.declared.types.Region.TheVariants as regions
 use Rattle.au_types.specs.Types as mean
 use Rattle.au_types.specs.Types.{Meaning}
 use Rattle.au_instances.specs.Examples.{nat8, of_one, option}
-use Rattle.au_typing.specs.Examples.{
-  alone,
-  boxed,
-  calls,
-  here,
-  kept,
-  mention,
-  named,
-  one,
-  operation,
-  read,
-  whole,
-  write,
-}
-use Rattle.au_typing.specs.Faults.{
-  Why,
-  unknown,
-  different,
-  not_free,
-  shape,
-  after_return,
-  arms_wanted,
-  assignable_wanted,
-  integer_wanted,
-  labels_wanted,
-  range_wanted,
-  record_wanted,
-  reference_wanted,
-  union_wanted,
-  write_reference_wanted,
-}
+use Rattle.au_typing.specs.Examples.{alone, boxed, calls, here, kept, mention, named, one, operation, read}
+use Rattle.au_typing.specs.Examples.{whole, write}
+use Rattle.au_typing.specs.Faults.{Why, unknown, different, not_free, shape, after_return, arms_wanted}
+use Rattle.au_typing.specs.Faults.{assignable_wanted, integer_wanted, labels_wanted, range_wanted}
+use Rattle.au_typing.specs.Faults.{record_wanted, reference_wanted, union_wanted, write_reference_wanted}
 use Rattle.au_typing.specs.Rules.{int32}
 use Rattle.au_derivations.specs.Examples.{Example, at_line, bad, block, good}
 

@@ -1,18 +1,6 @@
 -- The first of places: by file, then by line, then by column.
-use Rattle.std.specs.Prelude.{
-  Bool,
-  ◌==◌,
-  ◌&&◌,
-  ◌||◌,
-  nat_lt,
-  if◌then◌else◌,
-  List,
-  [],
-  ◌∷◌,
-  Option,
-  None,
-  Some,
-}
+use Rattle.std.specs.Prelude.{Bool, ◌==◌, ◌&&◌, ◌||◌, nat_lt, if◌then◌else◌, List, [], ◌∷◌, Option, None}
+use Rattle.std.specs.Prelude.{Some}
 use Rattle.au_base.specs.declared.places.Pos.{Pos}
 
 -- whether a place stands before another

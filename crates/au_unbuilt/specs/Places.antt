@@ -5,88 +5,21 @@
 use Rattle.std.specs.Prelude.{Bool, if◌then◌else◌, List, [], ◌∷◌, ◌++◌}
 use Rattle.std.specs.List.{flat_map}
 use Rattle.au_base.specs.declared.places.Pos.{Pos}
-use Rattle.au_syntax.specs.Expressions.{
-  number,
-  negative,
-  text,
-  truth,
-  nil,
-  path,
-  arrow,
-  call,
-  named_call,
-  parenthesized,
-  dereference,
-  borrow,
-  borrow_part,
-  binary,
-  negation,
-  typed,
-  choice,
-  no_expressions,
-  expressions,
-  no_arguments,
-  arguments,
-}
-use Rattle.au_syntax.specs.Modules.{
-  Header,
-  Variant,
-  constant,
-  opaque_type,
-  record_type,
-  union_type,
-  function,
-  class,
-  instance,
-  constant_body,
-  function_body,
-  instance_body,
-}
+use Rattle.au_syntax.specs.Expressions.{number, negative, text, truth, nil, path, arrow, call, named_call}
+use Rattle.au_syntax.specs.Expressions.{parenthesized, dereference, borrow, borrow_part, binary, negation}
+use Rattle.au_syntax.specs.Expressions.{typed, choice, no_expressions, expressions, no_arguments, arguments}
+use Rattle.au_syntax.specs.Modules.{Header, Variant, constant, opaque_type, record_type, union_type, function}
+use Rattle.au_syntax.specs.Modules.{class, instance, constant_body, function_body, instance_body}
 use Rattle.au_syntax.specs.Names.{Placed}
-use Rattle.au_syntax.specs.Plain.{
-  Bytes,
-  PlainArguments,
-  PlainArms,
-  PlainBranches,
-  PlainDeclaration,
-  PlainExpression,
-  PlainExpressions,
-  PlainMethod,
-  PlainStatement,
-  PlainStatements,
-}
-use Rattle.au_syntax.specs.Statements.{
-  skip,
-  declare,
-  destructure,
-  assign,
-  assign_through,
-  conditional,
-  conditional_else,
-  case_of,
-  while_loop,
-  for_loop,
-  borrow_in,
-  borrow_typed,
-  discard,
-  return_of,
-  no_statements,
-  statements,
-  no_branches,
-  branches,
-  no_arms,
-  arms,
-}
-use Rattle.au_syntax.specs.Types.{
-  WrittenType,
-  WrittenTypes,
-  Labelled,
-  Bound,
-  named,
-  reference,
-  no_types,
-  types,
-}
+use Rattle.au_syntax.specs.Plain.{Bytes, PlainArguments, PlainArms, PlainBranches, PlainDeclaration}
+use Rattle.au_syntax.specs.Plain.{PlainExpression, PlainExpressions, PlainMethod, PlainStatement}
+use Rattle.au_syntax.specs.Plain.{PlainStatements}
+use Rattle.au_syntax.specs.Statements.{skip, declare, destructure, assign, assign_through, conditional}
+use Rattle.au_syntax.specs.Statements.{conditional_else, case_of, while_loop, for_loop, borrow_in}
+use Rattle.au_syntax.specs.Statements.{borrow_typed, discard, return_of, no_statements, statements}
+use Rattle.au_syntax.specs.Statements.{no_branches, branches, no_arms, arms}
+use Rattle.au_syntax.specs.Types.{WrittenType, WrittenTypes, Labelled, Bound, named, reference, no_types}
+use Rattle.au_syntax.specs.Types.{types}
 
 -- the place of a name, if it means what isn't run
 abbrev pub place_if : (Bytes → Bool) → Placed Bytes → List Pos

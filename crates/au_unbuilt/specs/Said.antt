@@ -17,39 +17,12 @@ use Rattle.au_syntax.specs.declared.statements.Block.{Block}
 use Rattle.au_syntax.specs.declared.statements.Branch.{Branch}
 use Rattle.au_syntax.specs.declared.statements.Stmt.{Stmt}
 use Rattle.au_syntax.specs.declared.types.TypeText.{TypeText}
-use Rattle.au_syntax.specs.Plain.{
-  plain_arguments,
-  plain_arms,
-  plain_bound,
-  plain_branches,
-  plain_declaration,
-  plain_expression,
-  plain_expressions,
-  plain_header,
-  plain_labelled,
-  plain_method,
-  plain_statement,
-  plain_statements,
-  plain_variant,
-}
-use Rattle.au_syntax.specs.Views.{
-  argument_all,
-  arm_all,
-  block,
-  bound,
-  branch_all,
-  declaration,
-  expression,
-  expression_all,
-  header,
-  labelled,
-  method_body,
-  statement,
-  statement_all,
-  variant,
-  written,
-  written_all,
-}
+use Rattle.au_syntax.specs.Plain.{plain_arguments, plain_arms, plain_bound, plain_branches, plain_declaration}
+use Rattle.au_syntax.specs.Plain.{plain_expression, plain_expressions, plain_header, plain_labelled}
+use Rattle.au_syntax.specs.Plain.{plain_method, plain_statement, plain_statements, plain_variant}
+use Rattle.au_syntax.specs.Views.{argument_all, arm_all, block, bound, branch_all, declaration, expression}
+use Rattle.au_syntax.specs.Views.{expression_all, header, labelled, method_body, statement, statement_all}
+use Rattle.au_syntax.specs.Views.{variant, written, written_all}
 use Rattle.au_modules.specs.Programs.{ModuleParts}
 use Rattle.au_names.specs.declared.part_names.PartNames.{PartNames}
 use Rattle.au_unbuilt.specs.Names.{unbuilt_call, unbuilt_type}

@@ -5,13 +5,8 @@ ghost use Rattle.std.specs.Option.{option_map};
 ghost use Rattle.au_syntax.specs.Views.{written};
 ghost use Rattle.au_types.specs.Types as types;
 ghost use Rattle.au_types.specs.Views.{argument, argument_all, meaning};
-ghost use Rattle.au_written_types.specs.Meant.{
-  applied,
-  argument_meant,
-  arguments_meant,
-  region_of,
-  span_with,
-};
+ghost use Rattle.au_written_types.specs.Meant.{applied, argument_meant, arguments_meant, region_of};
+ghost use Rattle.au_written_types.specs.Meant.{span_with};
 ghost use Rattle.au_written_types.specs.Views.{given_in, meant_in, region_in, said, sense_in};
 
 use crate::parts::{alone, refers, span_of};

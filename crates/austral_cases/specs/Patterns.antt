@@ -1,21 +1,6 @@
 -- What bytes tell in which the three bytes `[*]` stand for any list of numbers in brackets.
-use Rattle.std.specs.Prelude.{
-  ℕ,
-  ◌==◌,
-  ◌&&◌,
-  ◌||◌,
-  nat_le,
-  Bool,
-  true,
-  false,
-  List,
-  [],
-  ◌∷◌,
-  length,
-  take,
-  drop,
-  if◌then◌else◌,
-}
+use Rattle.std.specs.Prelude.{ℕ, ◌==◌, ◌&&◌, ◌||◌, nat_le, Bool, true, false, List, [], ◌∷◌, length, take}
+use Rattle.std.specs.Prelude.{drop, if◌then◌else◌}
 use Rattle.std.specs.Str.{bytes_eq}
 
 -- a byte of a list of numbers: a digit, a comma or a blank
