@@ -191,7 +191,7 @@ release_terminal world a = given (terminal_in a) (λ id. gives unit (spends (Som
 abbrev pub swap_call : {T B : Type 0} → World T B → Value T → Value T → Answer T B
 swap_call world a new =
     given (reference_in a) (λ one. given (exchanged one.1 new world)
-        (λ pair. gives pair.0 (tells (used one.0) pair.1)))
+    (λ pair. gives pair.0 (tells (used one.0) pair.1)))
 
 -- `makeBox`, `unbox`, `boxGet` and `boxGetMut`
 abbrev pub make_box : {T B : Type 0} → Option B → World T B → Value T → Answer T B
@@ -201,7 +201,7 @@ make_box of world a =
 abbrev pub unbox_call : {T B : Type 0} → World T B → Value T → Answer T B
 unbox_call world a =
     given (box_in a) (λ id. given (along (slice_get world.births id) content_in)
-        (λ value. gives value (ends id world)))
+    (λ value. gives value (ends id world)))
 
 abbrev pub box_get : {T B : Type 0} → World T B → Value T → Answer T B
 box_get world a =
@@ -213,12 +213,12 @@ box_get world a =
 abbrev pub make_empty : {T B : Type 0} → Option B → World T B → Answer T B
 make_empty of world =
     given of (λ t. gives (buffer (length world.births))
-        (bears t (codes "Standard.Buffer") (elements []) world))
+    (bears t (codes "Standard.Buffer") (elements []) world))
 
 abbrev pub destroy_empty : {T B : Type 0} → World T B → Value T → Answer T B
 destroy_empty world a =
     given (buffer_in a) (λ id. given (along (slice_get world.births id) elements_in)
-        (λ values. buffer_ended id values world))
+    (λ values. buffer_ended id values world))
 
 abbrev pub length_call : {T B : Type 0} → World T B → Value T → Answer T B
 length_call world a = buffer_use a world (λ id values told. gives (number Index (pos (length values))) told)
@@ -234,7 +234,7 @@ remove_back world a =
 abbrev pub nth_call : {T B : Type 0} → World T B → Value T → Value T → Answer T B
 nth_call world a i =
     given (index_in i) (λ index. buffer_use a world
-        (λ id values told. element_copied (slice_get values index) told))
+    (λ id values told. element_copied (slice_get values index) told))
 
 abbrev pub replace_nth : {T B : Type 0} → World T B → Value T → Value T → Value T → Answer T B
 replace_nth world a i new =
@@ -248,7 +248,7 @@ acquire_terminal of world a =
     given (root_in held) (λ id.
     given of (λ t.
     gives (terminal (length world.births))
-        (bears t (codes "Standard.IO.Terminal") nothing (tells (used borrow) world)))))
+    (bears t (codes "Standard.IO.Terminal") nothing (tells (used borrow) world)))))
 
 abbrev pub write_byte : {T B : Type 0} → World T B → Value T → Value T → Answer T B
 write_byte world a b =

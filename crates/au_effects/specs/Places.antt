@@ -33,8 +33,10 @@ with_name name value (Some names) = slice_set names name value
 -- a name holds this value, or none
 abbrev pub name_set : {T B : Type 0} → ℕ → ℕ → Option (Value T) → World T B → World T B
 name_set frame name value world =
-    record world { frames =
-        slice_set world.frames frame (with_name name value (slice_get world.frames frame)) }
+    record world {
+      frames =
+          slice_set world.frames frame (with_name name value (slice_get world.frames frame));
+    }
 
 -- the beginning of a place holds this value
 abbrev pub base_set : {T B : Type 0} → Base → Value T → World T B → World T B

@@ -22,8 +22,13 @@ two_types = record { text = codes "M:L"; «module» = codes "M"; linear = true }
 -- code of an entry without the root and other functions, with the texts "hi" and "no"
 abbrev pub program : List Instr → List Function → Code
 program instrs others =
-    record { texts = codes "hi" ∷ codes "no" ∷ []; types = two_types; functions =
-        plain instrs ∷ others; root = false }
+    record {
+      texts = codes "hi" ∷ codes "no" ∷ [];
+      types = two_types;
+      functions =
+          plain instrs ∷ others;
+      root = false;
+    }
 
 -- the same of an entry that takes the root
 abbrev pub rooted : List Instr → Code

@@ -109,7 +109,7 @@ call_difference order = put_byte 9 ∷ put_byte 2 ∷ Call 1 order ∷ []
 abbrev pub CallGives : List ℕ → Low → Type 0
 CallGives order result =
     stack_after 7 (program (call_difference order) (record { params = 2; slots = 2; code = difference } ∷ []))
-        ≡ Some (result ∷ [])
+    ≡ Some (result ∷ [])
 
 -- calls, returns and exits
 pub record CallsAreShown : Type 0 where

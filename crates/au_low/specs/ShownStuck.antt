@@ -63,9 +63,24 @@ pub record BeginningIsShown : Type 0 where
   pub limit_first : ending_of (Discard ∷ []) 0 ≡ Steps
   pub no_function : (low_run true (record { texts = []; types = []; functions = []; root = false })
       [] 9).ending ≡ Stuck
-  pub parameters : (low_run true (record { texts = []; types = []; functions =
-      record { params = 1; slots = 1; code = [] } ∷ []; root = false }) [] 9).ending ≡ Stuck
-  pub root_slot : (low_run true (record { texts = []; types = []; functions =
-      record { params = 1; slots = 0; code = [] } ∷ []; root = true }) [] 9).ending ≡ Stuck
-  pub root_type : (low_run true (record { texts = []; types = []; functions =
-      record { params = 1; slots = 1; code = [] } ∷ []; root = true }) [] 9).ending ≡ Stuck
+  pub parameters : (low_run true (record {
+    texts = [];
+    types = [];
+    functions =
+        record { params = 1; slots = 1; code = [] } ∷ [];
+    root = false;
+  }) [] 9).ending ≡ Stuck
+  pub root_slot : (low_run true (record {
+    texts = [];
+    types = [];
+    functions =
+        record { params = 1; slots = 0; code = [] } ∷ [];
+    root = true;
+  }) [] 9).ending ≡ Stuck
+  pub root_type : (low_run true (record {
+    texts = [];
+    types = [];
+    functions =
+        record { params = 1; slots = 1; code = [] } ∷ [];
+    root = true;
+  }) [] 9).ending ≡ Stuck

@@ -21,8 +21,13 @@ pub record Bounds : Type 0 where
 
 -- the limits of the language
 abbrev pub usual : Bounds
-usual = record { nesting = most_nesting; depth = most_type_depth; nodes = most_type_nodes; bytes =
-    most_name_bytes }
+usual = record {
+  nesting = most_nesting;
+  depth = most_type_depth;
+  nodes = most_type_nodes;
+  bytes =
+      most_name_bytes;
+}
 
 -- what is told of each limit that is passed
 abbrev pub nesting_limit : Bounds → Limit
@@ -66,4 +71,4 @@ module_names m = map (λ (one : Importing Bytes). one.from) m.imports ++ m.name 
 abbrev pub ModulePasses : Bounds → PlainModule → Limit → Type 0
 ModulePasses b m l =
     TreePasses b b.nesting (module_depth m) (flat_map declaration_types m.declarations) l
-        ⊎ SomeNamePasses b (module_names m) l
+    ⊎ SomeNamePasses b (module_names m) l

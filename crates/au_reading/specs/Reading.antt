@@ -205,7 +205,7 @@ module _ {A : Type 0} where
   abbrev pub bracketed : SignOf → SignOf → (List Token → Read A) → List Token → Read (List A)
   bracketed left right part tokens =
       cond (begins_with (Sign left) tokens) (listed part (drop 1 tokens) >>= closed_at (Sign right ∷ []))
-          (Ok ([], tokens))
+      (Ok ([], tokens))
 
   -- a part behind a token, if that stands
   abbrev pub optional_of : A × List Token → Read (Option A)

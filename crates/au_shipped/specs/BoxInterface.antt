@@ -31,7 +31,7 @@ module _ (at : Pos) where
   box_get = a_function at
       (generic at (codes "T") AnyType ∷ generic at (codes "R") Region ∷ [])
       (codes "boxGet") (takes at (codes "ref")
-          (reads at (applied at (codes "Box") (simple at (codes "T"))) (codes "R")) ∷ [])
+      (reads at (applied at (codes "Box") (simple at (codes "T"))) (codes "R")) ∷ [])
       (reads at (simple at (codes "T")) (codes "R"))
 
   -- generic [T: Type, R: Region] function boxGetMut(ref: &![Box[T], R]): &![T, R];
@@ -39,7 +39,7 @@ module _ (at : Pos) where
   box_get_mut = a_function at
       (generic at (codes "T") AnyType ∷ generic at (codes "R") Region ∷ [])
       (codes "boxGetMut") (takes at (codes "ref")
-          (writes at (applied at (codes "Box") (simple at (codes "T"))) (codes "R")) ∷ [])
+      (writes at (applied at (codes "Box") (simple at (codes "T"))) (codes "R")) ∷ [])
       (writes at (simple at (codes "T")) (codes "R"))
 
   -- Standard.Box

@@ -24,7 +24,7 @@ module _ (at : Pos) where
   destroy_empty = a_function at
       (generic at (codes "T") AnyType ∷ [])
       (codes "destroyEmpty") (takes at (codes "buffer") (applied at (codes "Buffer") (simple at (codes "T")))
-          ∷ [])
+      ∷ [])
       (simple at (codes "Unit"))
 
   -- generic [T: Type, R: Region] function length(ref: &[Buffer[T], R]): Index;
@@ -32,7 +32,7 @@ module _ (at : Pos) where
   buffer_length = a_function at
       (generic at (codes "T") AnyType ∷ generic at (codes "R") Region ∷ [])
       (codes "length") (takes at (codes "ref")
-          (reads at (applied at (codes "Buffer") (simple at (codes "T"))) (codes "R")) ∷ [])
+      (reads at (applied at (codes "Buffer") (simple at (codes "T"))) (codes "R")) ∷ [])
       (simple at (codes "Index"))
 
   -- generic [T: Type, R: Region] function insertBack(ref: &![Buffer[T], R], value: T): Unit;
@@ -41,7 +41,7 @@ module _ (at : Pos) where
       (generic at (codes "T") AnyType ∷ generic at (codes "R") Region ∷ [])
       (codes "insertBack")
       (takes at (codes "ref") (writes at (applied at (codes "Buffer") (simple at (codes "T"))) (codes "R"))
-          ∷ takes at (codes "value") (simple at (codes "T")) ∷ [])
+      ∷ takes at (codes "value") (simple at (codes "T")) ∷ [])
       (simple at (codes "Unit"))
 
   -- generic [T: Type, R: Region] function removeBack(ref: &![Buffer[T], R]): T;
@@ -50,7 +50,7 @@ module _ (at : Pos) where
       (generic at (codes "T") AnyType ∷ generic at (codes "R") Region ∷ [])
       (codes "removeBack")
       (takes at (codes "ref") (writes at (applied at (codes "Buffer") (simple at (codes "T"))) (codes "R"))
-          ∷ [])
+      ∷ [])
       (simple at (codes "T"))
 
   -- generic [T: Free, R: Region] function nth(ref: &[Buffer[T], R], index: Index): T;
@@ -59,7 +59,7 @@ module _ (at : Pos) where
       (generic at (codes "T") Free ∷ generic at (codes "R") Region ∷ [])
       (codes "nth")
       (takes at (codes "ref") (reads at (applied at (codes "Buffer") (simple at (codes "T"))) (codes "R"))
-          ∷ takes at (codes "index") (simple at (codes "Index")) ∷ [])
+      ∷ takes at (codes "index") (simple at (codes "Index")) ∷ [])
       (simple at (codes "T"))
 
   -- generic [T: Type, R: Region] function replaceNth(ref: &![Buffer[T], R], index: Index, value: T): T;
@@ -68,8 +68,8 @@ module _ (at : Pos) where
       (generic at (codes "T") AnyType ∷ generic at (codes "R") Region ∷ [])
       (codes "replaceNth")
       (takes at (codes "ref") (writes at (applied at (codes "Buffer") (simple at (codes "T"))) (codes "R"))
-          ∷ takes at (codes "index") (simple at (codes "Index"))
-          ∷ takes at (codes "value") (simple at (codes "T")) ∷ [])
+      ∷ takes at (codes "index") (simple at (codes "Index"))
+      ∷ takes at (codes "value") (simple at (codes "T")) ∷ [])
       (simple at (codes "T"))
 
   -- Standard.Buffer

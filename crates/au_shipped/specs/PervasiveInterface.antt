@@ -20,14 +20,14 @@ module _ (at : Pos) where
   option_union = a_union at (codes "Option")
       (over at (codes "T") AnyType ∷ []) AnyType
       (a_case at (codes "None") [] ∷ a_case at (codes "Some")
-          (takes at (codes "value") (simple at (codes "T")) ∷ []) ∷ [])
+      (takes at (codes "value") (simple at (codes "T")) ∷ []) ∷ [])
 
   -- union Either[L: Type, R: Type]: Type is case Left is left: L; case Right is right: R; end;
   abbrev pub either_union : PlainDeclaration
   either_union = a_union at (codes "Either")
       (over at (codes "L") AnyType ∷ over at (codes "R") AnyType ∷ []) AnyType
       (a_case at (codes "Left") (takes at (codes "left") (simple at (codes "L")) ∷ [])
-          ∷ a_case at (codes "Right") (takes at (codes "right") (simple at (codes "R")) ∷ []) ∷ [])
+      ∷ a_case at (codes "Right") (takes at (codes "right") (simple at (codes "R")) ∷ []) ∷ [])
 
   -- union ExitCode: Free is case ExitSuccess; case ExitFailure; end;
   abbrev pub exit_code_union : PlainDeclaration
@@ -61,7 +61,7 @@ module _ (at : Pos) where
   swap_call = a_function at
       (generic at (codes "T") AnyType ∷ generic at (codes "R") Region ∷ [])
       (codes "swap") (takes at (codes "ref") (writes at (simple at (codes "T")) (codes "R"))
-          ∷ takes at (codes "value") (simple at (codes "T")) ∷ [])
+      ∷ takes at (codes "value") (simple at (codes "T")) ∷ [])
       (simple at (codes "T"))
 
   -- method NAME(value: T): Unit;
@@ -86,7 +86,7 @@ module _ (at : Pos) where
   modular_class = a_class at (codes "ModularArithmetic")
       (over at (codes "T") Free)
       (modular (codes "modularAdd") ∷ modular (codes "modularSubtract") ∷ modular (codes "modularMultiply")
-          ∷ [])
+      ∷ [])
 
   -- method NAME(value: T): Option[KIND];
   abbrev pub conversion : Bytes → Bytes → Header Bytes

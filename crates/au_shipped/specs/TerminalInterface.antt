@@ -17,7 +17,7 @@ module _ (at : Pos) where
   acquire_terminal = a_function at
       (generic at (codes "R") Region ∷ [])
       (codes "acquireTerminal") (takes at (codes "root")
-          (writes at (simple at (codes "RootCapability")) (codes "R")) ∷ [])
+      (writes at (simple at (codes "RootCapability")) (codes "R")) ∷ [])
       (simple at (codes "Terminal"))
 
   -- generic [R: Region] function readByte(ref: &![Terminal, R]): Option[Nat8];
@@ -32,7 +32,7 @@ module _ (at : Pos) where
   write_byte = a_function at
       (generic at (codes "R") Region ∷ [])
       (codes "writeByte") (takes at (codes "ref") (writes at (simple at (codes "Terminal")) (codes "R"))
-          ∷ takes at (codes "byte") (simple at (codes "Nat8")) ∷ [])
+      ∷ takes at (codes "byte") (simple at (codes "Nat8")) ∷ [])
       (simple at (codes "Unit"))
 
   -- function releaseTerminal(terminal: Terminal): Unit;

@@ -73,12 +73,16 @@ type_rows =
           ∷ Sign sign.RightBracket ∷ [],
     )
     -- &[T, R] and &![T, R]
-    ∷ (reference here access.Read T (name (codes "R")),
-        Sign sign.ReadBorrow ∷ Sign sign.LeftBracket ∷ n (codes "T") ∷ Sign sign.Comma ∷ n (codes "R")
-        ∷ Sign sign.RightBracket ∷ [])
-    ∷ (reference here access.Write T (name (codes "R")),
-        Sign sign.WriteBorrow ∷ Sign sign.LeftBracket ∷ n (codes "T") ∷ Sign sign.Comma ∷ n (codes "R")
-        ∷ Sign sign.RightBracket ∷ [])
+    ∷ (
+      reference here access.Read T (name (codes "R")),
+      Sign sign.ReadBorrow ∷ Sign sign.LeftBracket ∷ n (codes "T") ∷ Sign sign.Comma ∷ n (codes "R")
+          ∷ Sign sign.RightBracket ∷ [],
+    )
+    ∷ (
+      reference here access.Write T (name (codes "R")),
+      Sign sign.WriteBorrow ∷ Sign sign.LeftBracket ∷ n (codes "T") ∷ Sign sign.Comma ∷ n (codes "R")
+          ∷ Sign sign.RightBracket ∷ [],
+    )
     ∷ []
 
 abbrev pub expression_rows : List (PlainExpression × List What)
@@ -102,8 +106,10 @@ expression_rows =
       n (codes "r") ∷ Sign sign.Arrow ∷ n (codes "f") ∷ Sign sign.Dot ∷ n (codes "g") ∷ [],
     )
     -- f(), and f(x, nil)
-    ∷ (call spot (name (codes "f")) no_expressions tt,
-        n (codes "f") ∷ Sign sign.LeftParenthesis ∷ Sign sign.RightParenthesis ∷ [])
+    ∷ (
+      call spot (name (codes "f")) no_expressions tt,
+      n (codes "f") ∷ Sign sign.LeftParenthesis ∷ Sign sign.RightParenthesis ∷ [],
+    )
     ∷ (
       call spot (name (codes "f")) (expressions x (expressions (nil spot) no_expressions)) tt,
       n (codes "f") ∷ Sign sign.LeftParenthesis ∷ n (codes "x") ∷ Sign sign.Comma ∷ Word KwNil
@@ -139,8 +145,10 @@ expression_rows =
     -- x : T
     ∷ (typed spot x T, n (codes "x") ∷ Sign sign.Colon ∷ n (codes "T") ∷ [])
     -- if true then x else nil
-    ∷ (choice spot (truth spot true) x (nil spot),
-        Word KwIf ∷ Word KwTrue ∷ Word KwThen ∷ n (codes "x") ∷ Word KwElse ∷ Word KwNil ∷ [])
+    ∷ (
+      choice spot (truth spot true) x (nil spot),
+      Word KwIf ∷ Word KwTrue ∷ Word KwThen ∷ n (codes "x") ∷ Word KwElse ∷ Word KwNil ∷ [],
+    )
     ∷ []
 
 -- a block with `skip;` alone
@@ -157,28 +165,36 @@ statement_rows =
     -- skip;
     (skip here, Word KwSkip ∷ Sign sign.Semicolon ∷ [])
     -- let y: T := x; and with var
-    ∷ (declare here Let (name (codes "y")) T x,
-        Word KwLet ∷ n (codes "y") ∷ Sign sign.Colon ∷ n (codes "T") ∷ Sign sign.Assign ∷ n (codes "x")
-        ∷ Sign sign.Semicolon ∷ [])
-    ∷ (declare here Var (name (codes "y")) T x,
-        Word KwVar ∷ n (codes "y") ∷ Sign sign.Colon ∷ n (codes "T") ∷ Sign sign.Assign ∷ n (codes "x")
-        ∷ Sign sign.Semicolon ∷ [])
+    ∷ (
+      declare here Let (name (codes "y")) T x,
+      Word KwLet ∷ n (codes "y") ∷ Sign sign.Colon ∷ n (codes "T") ∷ Sign sign.Assign ∷ n (codes "x")
+          ∷ Sign sign.Semicolon ∷ [],
+    )
+    ∷ (
+      declare here Var (name (codes "y")) T x,
+      Word KwVar ∷ n (codes "y") ∷ Sign sign.Colon ∷ n (codes "T") ∷ Sign sign.Assign ∷ n (codes "x")
+          ∷ Sign sign.Semicolon ∷ [],
+    )
     -- let { f as a: T, g: T } := x;
     ∷ (
       destructure here binds x,
       Word KwLet ∷ Sign sign.LeftBrace ∷ n (codes "f") ∷ Word KwAs ∷ n (codes "a") ∷ Sign sign.Colon
           ∷ n (codes "T") ∷ Sign sign.Comma
           ∷ n (codes "g") ∷ Sign sign.Colon ∷ n (codes "T") ∷ Sign sign.RightBrace ∷ Sign sign.Assign
-              ∷ n (codes "x") ∷ Sign sign.Semicolon ∷ [],
+          ∷ n (codes "x") ∷ Sign sign.Semicolon ∷ [],
     )
     -- y.f := x;
-    ∷ (assign here (name (codes "y")) (name (codes "f") ∷ []) x,
-        n (codes "y") ∷ Sign sign.Dot ∷ n (codes "f") ∷ Sign sign.Assign ∷ n (codes "x") ∷ Sign sign.Semicolon
-        ∷ [])
+    ∷ (
+      assign here (name (codes "y")) (name (codes "f") ∷ []) x,
+      n (codes "y") ∷ Sign sign.Dot ∷ n (codes "f") ∷ Sign sign.Assign ∷ n (codes "x") ∷ Sign sign.Semicolon
+          ∷ [],
+    )
     -- r->f := x;
-    ∷ (assign_through here (name (codes "r")) (name (codes "f") ∷ []) x,
-        n (codes "r") ∷ Sign sign.Arrow ∷ n (codes "f") ∷ Sign sign.Assign ∷ n (codes "x")
-        ∷ Sign sign.Semicolon ∷ [])
+    ∷ (
+      assign_through here (name (codes "r")) (name (codes "f") ∷ []) x,
+      n (codes "r") ∷ Sign sign.Arrow ∷ n (codes "f") ∷ Sign sign.Assign ∷ n (codes "x")
+          ∷ Sign sign.Semicolon ∷ [],
+    )
     -- if x then skip; else if x then end if;
     ∷ (
       conditional here (branches x skips (branches x no_statements no_branches)),
@@ -198,13 +214,16 @@ statement_rows =
       Word KwCase ∷ n (codes "x") ∷ Word KwOf ∷ Word KwWhen ∷ n (codes "A") ∷ Word KwDo ∷ Word KwWhen
           ∷ n (codes "B") ∷ Sign sign.LeftParenthesis
           ∷ n (codes "f") ∷ Word KwAs ∷ n (codes "a") ∷ Sign sign.Colon ∷ n (codes "T") ∷ Sign sign.Comma
-              ∷ n (codes "g") ∷ Sign sign.Colon ∷ n (codes "T")
+          ∷ n (codes "g") ∷ Sign sign.Colon ∷ n (codes "T")
           ∷ Sign sign.RightParenthesis ∷ Word KwDo ∷ Word KwSkip ∷ Sign sign.Semicolon ∷ Word KwEnd
-              ∷ Word KwCase ∷ Sign sign.Semicolon ∷ [],
+          ∷ Word KwCase ∷ Sign sign.Semicolon ∷ [],
     )
     -- while x do skip; end while;
-    ∷ (while_loop here x skips, Word KwWhile ∷ n (codes "x") ∷ Word KwDo ∷ Word KwSkip ∷ Sign sign.Semicolon
-        ∷ Word KwEnd ∷ Word KwWhile ∷ Sign sign.Semicolon ∷ [])
+    ∷ (
+      while_loop here x skips,
+      Word KwWhile ∷ n (codes "x") ∷ Word KwDo ∷ Word KwSkip ∷ Sign sign.Semicolon
+          ∷ Word KwEnd ∷ Word KwWhile ∷ Sign sign.Semicolon ∷ [],
+    )
     -- for i from x to nil do skip; end for;
     ∷ (
       for_loop here (name (codes "i")) x (nil spot) skips,
@@ -229,8 +248,10 @@ statement_rows =
           ∷ n (codes "x") ∷ Word KwDo ∷ Word KwEnd ∷ Word KwBorrow ∷ Sign sign.Semicolon ∷ [],
     )
     -- f();
-    ∷ (discard here (call spot (name (codes "f")) no_expressions tt),
-        n (codes "f") ∷ Sign sign.LeftParenthesis ∷ Sign sign.RightParenthesis ∷ Sign sign.Semicolon ∷ [])
+    ∷ (
+      discard here (call spot (name (codes "f")) no_expressions tt),
+      n (codes "f") ∷ Sign sign.LeftParenthesis ∷ Sign sign.RightParenthesis ∷ Sign sign.Semicolon ∷ [],
+    )
     -- return x;
     ∷ (return_of here x, Word KwReturn ∷ n (codes "x") ∷ Sign sign.Semicolon ∷ [])
     ∷ []
@@ -254,13 +275,13 @@ header = record { name = name (codes "m"); parameters = field ∷ []; result = T
 abbrev pub header_tokens : List What → List What
 header_tokens behind =
     n (codes "m") ∷ Sign sign.LeftParenthesis ∷ n (codes "f") ∷ Sign sign.Colon ∷ n (codes "T")
-        ∷ Sign sign.RightParenthesis ∷ Sign sign.Colon ∷ n (codes "T") ∷ behind
+    ∷ Sign sign.RightParenthesis ∷ Sign sign.Colon ∷ n (codes "T") ∷ behind
 
 -- generic [A: Free(C, D)]
 abbrev pub generic_tokens : List What → List What
 generic_tokens behind =
     Word KwGeneric ∷ Sign sign.LeftBracket ∷ n (codes "A") ∷ Sign sign.Colon ∷ Word KwFree
-        ∷ Sign sign.LeftParenthesis ∷ n (codes "C") ∷ Sign sign.Comma ∷ n (codes "D")
+    ∷ Sign sign.LeftParenthesis ∷ n (codes "C") ∷ Sign sign.Comma ∷ n (codes "D")
     ∷ Sign sign.RightParenthesis ∷ Sign sign.RightBracket ∷ behind
 
 -- method m(f: T): T is skip; end;
@@ -270,16 +291,21 @@ method = record { header = header; body = skips; stop = here }
 abbrev pub declaration_rows : List (PlainDeclaration × List What)
 declaration_rows =
     -- constant c: T; and constant c: T := 007;
-    (constant here (name (codes "c")) T, Word KwConstant ∷ n (codes "c") ∷ Sign sign.Colon ∷ n (codes "T")
-        ∷ Sign sign.Semicolon ∷ [])
+    (
+      constant here (name (codes "c")) T,
+      Word KwConstant ∷ n (codes "c") ∷ Sign sign.Colon ∷ n (codes "T")
+          ∷ Sign sign.Semicolon ∷ [],
+    )
     ∷ (
       constant_body here (name (codes "c")) T (number spot seven),
       Word KwConstant ∷ n (codes "c") ∷ Sign sign.Colon ∷ n (codes "T") ∷ Sign sign.Assign ∷ Number (pos 7) 3
           ∷ Sign sign.Semicolon ∷ [],
     )
     -- type O: Linear; and type O[A: Free]: Type;
-    ∷ (opaque_type here (name (codes "O")) [] universe.Linear,
-        Word KwType ∷ n (codes "O") ∷ Sign sign.Colon ∷ Word KwLinear ∷ Sign sign.Semicolon ∷ [])
+    ∷ (
+      opaque_type here (name (codes "O")) [] universe.Linear,
+      Word KwType ∷ n (codes "O") ∷ Sign sign.Colon ∷ Word KwLinear ∷ Sign sign.Semicolon ∷ [],
+    )
     ∷ (
       opaque_type here (name (codes "O")) (parameter ∷ []) universe.AnyType,
       Word KwType ∷ n (codes "O") ∷ Sign sign.LeftBracket ∷ n (codes "A") ∷ Sign sign.Colon ∷ Word KwFree
@@ -299,7 +325,7 @@ declaration_rows =
       Word KwUnion ∷ n (codes "U") ∷ Sign sign.Colon ∷ Word KwFree ∷ Word KwIs ∷ Word KwCase ∷ n (codes "N")
           ∷ Sign sign.Semicolon
           ∷ Word KwCase ∷ n (codes "S") ∷ Word KwIs ∷ n (codes "f") ∷ Sign sign.Colon ∷ n (codes "T")
-              ∷ Sign sign.Semicolon ∷ Word KwEnd ∷ Sign sign.Semicolon ∷ [],
+          ∷ Sign sign.Semicolon ∷ Word KwEnd ∷ Sign sign.Semicolon ∷ [],
     )
     -- function m(f: T): T; and generic [A: Free(C, D)] function m(f: T): T is skip; end;
     ∷ (function here [] header, Word KwFunction ∷ header_tokens (Sign sign.Semicolon ∷ []))
@@ -326,7 +352,7 @@ declaration_rows =
       Word KwInstance ∷ n (codes "C") ∷ Sign sign.LeftParenthesis ∷ n (codes "T") ∷ Sign sign.RightParenthesis
           ∷ Word KwIs
           ∷ Word KwMethod ∷ header_tokens (Word KwIs ∷ Word KwSkip ∷ Sign sign.Semicolon ∷ Word KwEnd
-              ∷ Sign sign.Semicolon ∷ Word KwEnd ∷ Sign sign.Semicolon ∷ []),
+          ∷ Sign sign.Semicolon ∷ Word KwEnd ∷ Sign sign.Semicolon ∷ []),
     )
     ∷ []
 
@@ -350,7 +376,7 @@ module_rows =
       Word KwImport ∷ n (codes "N") ∷ Sign sign.Dot ∷ n (codes "M") ∷ Sign sign.LeftParenthesis
           ∷ n (codes "a") ∷ Sign sign.Comma ∷ n (codes "b") ∷ Word KwAs ∷ n (codes "c")
           ∷ Sign sign.RightParenthesis ∷ Sign sign.Semicolon ∷ Word KwModule ∷ n (codes "M") ∷ Word KwIs
-              ∷ Word KwEnd ∷ Word KwModule ∷ Sign sign.Dot ∷ [],
+          ∷ Word KwEnd ∷ Word KwModule ∷ Sign sign.Dot ∷ [],
     )
     -- module body M.N is pragma Unsafe_Module; constant c: T := 007; end module body.
     ∷ (
@@ -365,7 +391,7 @@ module_rows =
       Word KwModule ∷ Word KwBody ∷ n (codes "M") ∷ Sign sign.Dot ∷ n (codes "N") ∷ Word KwIs ∷ Word KwPragma
           ∷ n (codes "Unsafe_Module") ∷ Sign sign.Semicolon
           ∷ Word KwConstant ∷ n (codes "c") ∷ Sign sign.Colon ∷ n (codes "T") ∷ Sign sign.Assign
-              ∷ Number (pos 7) 3 ∷ Sign sign.Semicolon
+          ∷ Number (pos 7) 3 ∷ Sign sign.Semicolon
           ∷ Word KwEnd ∷ Word KwModule ∷ Word KwBody ∷ Sign sign.Dot ∷ [],
     )
     ∷ []

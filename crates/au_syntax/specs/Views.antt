@@ -201,8 +201,12 @@ module _ {X N T C : Type 0} (g : Ghosts X N T C) where
 
   -- a function's name, parameters and result
   abbrev pub header : Signature X N T C → Header g.SeenName
-  header s = record { name = placed s.name; parameters = map labelled s.parameters.items; result =
-      written s.result }
+  header s = record {
+    name = placed s.name;
+    parameters = map labelled s.parameters.items;
+    result =
+        written s.result;
+  }
 
   -- a case of a union
   abbrev pub variant : UnionCase X N T C → Variant g.SeenName

@@ -118,7 +118,7 @@ abbrev mutual
   type_words (named name args) = name_words name ++ listed_in LeftBracket RightBracket (words_of_types args)
   type_words (reference at access target region) =
       begun at (mark (access_sign access) ++ mark LeftBracket ++ type_words target ++ mark Comma
-          ++ name_words region ++ mark RightBracket)
+      ++ name_words region ++ mark RightBracket)
 
   pub words_of_types : WrittenTypes → List Words
   words_of_types no_types = []
@@ -174,24 +174,24 @@ abbrev mutual
   expression_words (arrow node name fields) = begun node.at (arrow_words name fields)
   expression_words (call node name args note) =
       begun node.at (name_words name ++ mark LeftParenthesis ++ listed (words_of_expressions args)
-          ++ mark RightParenthesis)
+      ++ mark RightParenthesis)
   expression_words (named_call node name args note) =
       begun node.at (name_words name ++ mark LeftParenthesis ++ listed (words_of_arguments args)
-          ++ mark RightParenthesis)
+      ++ mark RightParenthesis)
   expression_words (parenthesized node e) =
       begun node.at (mark LeftParenthesis ++ expression_words e ++ mark RightParenthesis)
   expression_words (dereference node e) = begun node.at (mark Exclamation ++ expression_words e)
   expression_words (borrow node mode name) = begun node.at (mark (mode_sign mode) ++ name_words name)
   expression_words (borrow_part node name fields) =
       begun node.at (mark ReadBorrow ++ mark LeftParenthesis ++ arrow_words name fields
-          ++ mark RightParenthesis)
+      ++ mark RightParenthesis)
   expression_words (binary node operator a b) =
       begun node.at (expression_words a ++ operator_words operator ++ expression_words b)
   expression_words (negation node e) = begun node.at (word KwNot ++ expression_words e)
   expression_words (typed node e t) = begun node.at (expression_words e ++ mark Colon ++ type_words t)
   expression_words (choice node c a b) =
       begun node.at (word KwIf ++ expression_words c ++ word KwThen ++ expression_words a ++ word KwElse
-          ++ expression_words b)
+      ++ expression_words b)
 
   pub words_of_expressions : PlainExpressions → List Words
   words_of_expressions no_expressions = []
@@ -221,38 +221,38 @@ abbrev mutual
   statement_words (skip at) = begun at (word KwSkip ++ mark Semicolon)
   statement_words (declare at binding name t e) =
       begun at (word (binding_word binding) ++ name_words name ++ mark Colon ++ type_words t ++ mark Assign
-          ++ expression_words e ++ mark Semicolon)
+      ++ expression_words e ++ mark Semicolon)
   statement_words (destructure at binds e) =
       begun at (word KwLet ++ mark LeftBrace ++ listed (map bound_words binds) ++ mark RightBrace
-          ++ mark Assign ++ expression_words e ++ mark Semicolon)
+      ++ mark Assign ++ expression_words e ++ mark Semicolon)
   statement_words (assign at name fields e) =
       begun at (path_words name fields ++ mark Assign ++ expression_words e ++ mark Semicolon)
   statement_words (assign_through at name fields e) =
       begun at (arrow_words name fields ++ mark Assign ++ expression_words e ++ mark Semicolon)
   statement_words (conditional at tests) =
       begun at (separated (word KwElse) (words_of_branches tests) ++ word KwEnd ++ word KwIf
-          ++ mark Semicolon)
+      ++ mark Semicolon)
   statement_words (conditional_else at tests block) =
       begun at (separated (word KwElse) (words_of_branches tests) ++ word KwElse ++ block_words block
-          ++ word KwEnd ++ word KwIf ++ mark Semicolon)
+      ++ word KwEnd ++ word KwIf ++ mark Semicolon)
   statement_words (case_of at e rest) =
       begun at (word KwCase ++ expression_words e ++ word KwOf ++ arm_words rest ++ word KwEnd ++ word KwCase
-          ++ mark Semicolon)
+      ++ mark Semicolon)
   statement_words (while_loop at e block) =
       begun at (word KwWhile ++ expression_words e ++ word KwDo ++ block_words block ++ word KwEnd
-          ++ word KwWhile ++ mark Semicolon)
+      ++ word KwWhile ++ mark Semicolon)
   statement_words (for_loop at name a z block) =
       begun at (word KwFor ++ name_words name ++ word KwFrom ++ expression_words a ++ word KwTo
-          ++ expression_words z ++ word KwDo ++ block_words block ++ word KwEnd ++ word KwFor
-          ++ mark Semicolon)
+      ++ expression_words z ++ word KwDo ++ block_words block ++ word KwEnd ++ word KwFor
+      ++ mark Semicolon)
   statement_words (borrow_in at access x r region block stop) =
       begun at (borrow_words access ++ name_words x ++ word KwAs ++ name_words r ++ word KwIn
-          ++ name_words region ++ word KwDo ++ block_words block ++ end_at stop ++ word KwBorrow
-          ++ mark Semicolon)
+      ++ name_words region ++ word KwDo ++ block_words block ++ end_at stop ++ word KwBorrow
+      ++ mark Semicolon)
   statement_words (borrow_typed at r t mode x block stop) =
       begun at (word KwBorrow ++ name_words r ++ mark Colon ++ type_words t ++ mark Assign
-          ++ mark (mode_sign mode) ++ name_words x ++ word KwDo ++ block_words block ++ end_at stop
-          ++ word KwBorrow ++ mark Semicolon)
+      ++ mark (mode_sign mode) ++ name_words x ++ word KwDo ++ block_words block ++ end_at stop
+      ++ word KwBorrow ++ mark Semicolon)
   statement_words (discard at e) = begun at (expression_words e ++ mark Semicolon)
   statement_words (return_of at e) = begun at (word KwReturn ++ expression_words e ++ mark Semicolon)
 
@@ -271,8 +271,8 @@ abbrev mutual
   arm_words no_arms = []
   arm_words (arms at name binds block rest) =
       begun at (word KwWhen ++ name_words name
-          ++ listed_in LeftParenthesis RightParenthesis (map bound_words binds) ++ word KwDo
-          ++ block_words block) ++ arm_words rest
+      ++ listed_in LeftParenthesis RightParenthesis (map bound_words binds) ++ word KwDo
+      ++ block_words block) ++ arm_words rest
 
 abbrev pub universe_word : Universe → Keyword
 universe_word universe.Free = KwFree
@@ -299,13 +299,13 @@ generic_words (first ∷ rest) =
 abbrev pub type_head_words : Placed Bytes → List (InUniverse Bytes) → Universe → Words
 type_head_words name parameters universe =
     name_words name ++ listed_in LeftBracket RightBracket (map in_universe_words parameters) ++ mark Colon
-        ++ word (universe_word universe)
+    ++ word (universe_word universe)
 
 -- a function's name, parameters and result
 abbrev pub header_words : Header Bytes → Words
 header_words h =
     name_words h.name ++ mark LeftParenthesis ++ listed (map labelled_words h.parameters)
-        ++ mark RightParenthesis ++ mark Colon ++ type_words h.result
+    ++ mark RightParenthesis ++ mark Colon ++ type_words h.result
 
 -- the fields of a record or a case
 abbrev pub fields_words : List (Labelled Bytes) → Words
@@ -343,33 +343,33 @@ declaration_words (opaque_type at name parameters universe) =
     begun at (word KwType ++ type_head_words name parameters universe ++ mark Semicolon)
 declaration_words (record_type at name parameters universe fields) =
     begun at (word KwRecord ++ type_head_words name parameters universe ++ word KwIs ++ fields_words fields
-        ++ word KwEnd ++ mark Semicolon)
+    ++ word KwEnd ++ mark Semicolon)
 declaration_words (union_type at name parameters universe cases) =
     begun at (word KwUnion ++ type_head_words name parameters universe ++ word KwIs
-        ++ flat_map variant_words cases ++ word KwEnd ++ mark Semicolon)
+    ++ flat_map variant_words cases ++ word KwEnd ++ mark Semicolon)
 declaration_words (function at generics header) =
     begun at (generic_words generics ++ word KwFunction ++ header_words header ++ mark Semicolon)
 declaration_words (class at name parameter methods) =
     begun at (word KwTypeclass ++ name_words name ++ mark LeftParenthesis ++ in_universe_words parameter
-        ++ mark RightParenthesis ++ word KwIs ++ flat_map class_method_words methods ++ word KwEnd
-        ++ mark Semicolon)
+    ++ mark RightParenthesis ++ word KwIs ++ flat_map class_method_words methods ++ word KwEnd
+    ++ mark Semicolon)
 declaration_words (instance at generics name t) =
     begun at (generic_words generics ++ instance_words name t ++ mark Semicolon)
 declaration_words (constant_body at name t e) =
     begun at (word KwConstant ++ name_words name ++ mark Colon ++ type_words t ++ mark Assign
-        ++ expression_words e ++ mark Semicolon)
+    ++ expression_words e ++ mark Semicolon)
 declaration_words (function_body at generics header body stop) =
     begun at (generic_words generics ++ word KwFunction ++ header_words header ++ word KwIs
-        ++ block_words body ++ end_at stop ++ mark Semicolon)
+    ++ block_words body ++ end_at stop ++ mark Semicolon)
 declaration_words (instance_body at generics name t methods) =
     begun at (generic_words generics ++ instance_words name t ++ word KwIs ++ flat_map method_words methods
-        ++ word KwEnd ++ mark Semicolon)
+    ++ word KwEnd ++ mark Semicolon)
 
 -- an import
 abbrev pub import_words : Importing Bytes → Words
 import_words i =
     begun i.at (word KwImport ++ dotted i.from ++ mark LeftParenthesis ++ listed (map renaming_words i.items)
-        ++ mark RightParenthesis ++ mark Semicolon)
+    ++ mark RightParenthesis ++ mark Semicolon)
 
 -- `module` or `module body`
 abbrev pub part_words : Part → Words
@@ -387,7 +387,7 @@ abbrev pub words : PlainModule → Words
 words m =
     flat_map import_words m.imports
     ++ begun m.at (part_words m.part ++ dotted m.name ++ word KwIs ++ pragma_words m.pragma
-        ++ flat_map declaration_words m.declarations ++ word KwEnd ++ part_words m.part ++ mark Dot)
+    ++ flat_map declaration_words m.declarations ++ word KwEnd ++ part_words m.part ++ mark Dot)
 
 -- A token stands at each of these places.
 abbrev pub StandsAt : List Pos → Token → Type 0

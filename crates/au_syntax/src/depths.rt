@@ -27,7 +27,8 @@ fn deeper(one: u32, other: u32) -> u32
 #[tactic(auto, using(crate::proofs::ExpressionLemmas::expression_steps, std::proofs::lemmas::Grind::common_steps))]
 #[cycle(expression_depth)]
 pub fn expression_depth<P: Phase>(expr: &Expr<P>) -> u32
-    ensures { result ≡ counted (spec.expression_depth (plain_expression P.name_bytes (expression P.Phase expr.now))) }
+    ensures { result ≡ counted (spec.expression_depth
+        (plain_expression P.name_bytes (expression P.Phase expr.now))) }
 {
     match expr {
         Expr::Number(_, _) => 1,
@@ -59,7 +60,8 @@ pub fn expression_depth<P: Phase>(expr: &Expr<P>) -> u32
 #[tactic(auto, using(crate::proofs::ExpressionLemmas::expression_steps))]
 #[cycle(expression_depth)]
 fn expressions_depth<P: Phase>(exprs: &Vec<Expr<P>>) -> u32
-    ensures { result ≡ counted (spec.expressions_depth (plain_expressions P.name_bytes (expression_all P.Phase exprs.now.items))) }
+    ensures { result ≡ counted (spec.expressions_depth
+        (plain_expressions P.name_bytes (expression_all P.Phase exprs.now.items))) }
 {
     let mut deepest = 0;
     for one in exprs {
@@ -73,7 +75,8 @@ fn expressions_depth<P: Phase>(exprs: &Vec<Expr<P>>) -> u32
 #[tactic(auto, using(crate::proofs::ExpressionLemmas::expression_steps))]
 #[cycle(expression_depth)]
 fn arguments_depth<P: Phase>(arguments: &Vec<Argument<P>>) -> u32
-    ensures { result ≡ counted (spec.arguments_depth (plain_arguments P.name_bytes (argument_all P.Phase arguments.now.items))) }
+    ensures { result ≡ counted (spec.arguments_depth
+        (plain_arguments P.name_bytes (argument_all P.Phase arguments.now.items))) }
 {
     let mut deepest = 0;
     for one in arguments {
@@ -86,7 +89,8 @@ fn arguments_depth<P: Phase>(arguments: &Vec<Argument<P>>) -> u32
 /// The nesting of a named argument.
 #[cycle(expression_depth)]
 fn argument_depth<P: Phase>(argument: &Argument<P>) -> u32
-    ensures { result ≡ counted (spec.expression_depth (plain_expression P.name_bytes (expression P.Phase argument.now.value))) }
+    ensures { result ≡ counted (spec.expression_depth
+        (plain_expression P.name_bytes (expression P.Phase argument.now.value))) }
 {
     expression_depth(&argument.value)
 }

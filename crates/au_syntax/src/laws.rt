@@ -1,7 +1,8 @@
 //! Laws of the definitions.
 
 ghost use Rattle.std.specs.Prelude.{◌≡◌, ◌<◌, Bool, IsTrue, length};
-ghost use Rattle.au_syntax.specs.Examples.{type_rows, expression_rows, statement_rows, declaration_rows, module_rows};
+ghost use Rattle.au_syntax.specs.Examples.{type_rows, expression_rows, statement_rows, declaration_rows};
+ghost use Rattle.au_syntax.specs.Examples.{module_rows};
 ghost use Rattle.au_syntax.specs.Depths.{expression_depth};
 ghost use Rattle.au_syntax.specs.Parts.{Each, parts, substatements, nodes};
 ghost use Rattle.au_syntax.specs.Plain.{PlainExpression, PlainStatement};
@@ -36,6 +37,7 @@ pub fn rows_are_spelled()
     ensures types { Each (λ row. words.spelled (words.type_words row.0) ≡ row.1) type_rows }
     ensures expressions { Each (λ row. words.spelled (words.expression_words row.0) ≡ row.1) expression_rows }
     ensures statements { Each (λ row. words.spelled (words.statement_words row.0) ≡ row.1) statement_rows }
-    ensures declarations { Each (λ row. words.spelled (words.declaration_words row.0) ≡ row.1) declaration_rows }
+    ensures declarations { Each (λ row. words.spelled (words.declaration_words row.0)
+        ≡ row.1) declaration_rows }
     ensures modules { Each (λ row. words.spelled (words.words row.0) ≡ row.1) module_rows }
 {}

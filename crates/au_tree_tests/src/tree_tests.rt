@@ -1,4 +1,5 @@
-//! Expressions and blocks that are mapped: each note is counted and each word stays, also where trees are as deep or
+//! Expressions and blocks that are mapped: each note is counted and each word stays, also where trees are as
+//! deep or
 //! as long as a file can have them.
 
 ghost use Rattle.std.specs.Prelude.{◌<◌, ◌≤◌, length};

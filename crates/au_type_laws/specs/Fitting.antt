@@ -24,7 +24,7 @@ stand_in None universes.Region name = in_region (regions.Named name)
 abbrev pub EachStandIn : (Universe → Argument → Type 0) → List Parameter → Bindings → Type 0
 EachStandIn P params s =
     (name : List ℕ) (universe : Universe) → universe_in params name ≡ Some universe
-        → P universe (stand_in (value_of name s) universe name)
+    → P universe (stand_in (value_of name s) universe name)
 
 module _ (rows : List (DeclAt × Head)) (params others : List Parameter) (s : Bindings) where
   -- What stands for a parameter fits it in universe, over the parameters of another scope: a Free type for
@@ -38,11 +38,11 @@ module _ (rows : List (DeclAt × Head)) (params others : List Parameter) (s : Bi
   abbrev pub BindingsStand : Type 0
   BindingsStand =
       EachStandIn (λ universe value. IsTrue (fits_in_kind universe value)
-          × IsTrue (argument_formed fits_in_kind rows others value)) params s
+      × IsTrue (argument_formed fits_in_kind rows others value)) params s
 
   -- What stands for a parameter fits it in universe, and is well formed over the rows and the parameters of
   -- another scope.
   abbrev pub BindingsAreWellFormed : Type 0
   BindingsAreWellFormed =
       EachStandIn (λ universe value. IsTrue (fits rows others universe value)
-          × IsTrue (argument_formed (fits rows others) rows others value)) params s
+      × IsTrue (argument_formed (fits rows others) rows others value)) params s

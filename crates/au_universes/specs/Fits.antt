@@ -31,13 +31,13 @@ module _ (test : Universe → Argument → Bool) (rows : List (DeclAt × Head)) 
   unfoldable pub formed_argument : Universe → Argument → Option TypeUniverse
   formed_argument wanted one =
       if test wanted one && argument_formed test rows params one then
-          Some (judged (argument_universe rows params one)) else None
+      Some (judged (argument_universe rows params one)) else None
 
   -- what arguments come to that fit and are formed
   unfoldable pub formed_arguments : List Parameter → Arguments → Option TypeUniverse
   formed_arguments expected args =
       if all_fit test expected args && all_formed test rows params args then
-          Some (judged (argument_universes rows params args)) else None
+      Some (judged (argument_universes rows params args)) else None
 
 -- the same for the arguments that are asked for: of a type, of an argument and of arguments
 abbrev pub type_found : Fit → List (DeclAt × Head) → List Parameter → Meaning → Option TypeUniverse

@@ -44,4 +44,4 @@ module _ (value : List ℕ → Meaning) where
 abbrev pub ValuesFit : List (DeclAt × Head) → List Parameter → List Parameter → (List ℕ → Meaning) → Type 0
 ValuesFit rows params others value =
     (name : List ℕ) (universe : TypeUniverse) → of_parameter (universe_in params name) ≡ Some universe
-        → IsTrue (may_be universe (universe_of rows others (value name)))
+    → IsTrue (may_be universe (universe_of rows others (value name)))

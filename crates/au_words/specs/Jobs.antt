@@ -41,8 +41,14 @@ pub record Task : Type 0 where
 -- what a job asks for
 abbrev pub task_of : Job → Task
 task_of job =
-    record { command = job.command; files = map string_bytes job.files.items; entry = job.entry; steps =
-    job.steps; life = job.life }
+    record {
+      command = job.command;
+      files = map string_bytes job.files.items;
+      entry = job.entry;
+      steps =
+          job.steps;
+      life = job.life;
+    }
 
 -- the steps without the option
 abbrev pub usual_steps : ℕ
@@ -251,8 +257,14 @@ Says pieces said =
 -- what a command and what is said behind it ask for
 abbrev pub task_said : Command → Said → Task
 task_said command said =
-    record { command = command; files = said.files; entry = said.entry; steps =
-        unwrap_or said.steps usual_steps; life = said.life }
+    record {
+      command = command;
+      files = said.files;
+      entry = said.entry;
+      steps =
+          unwrap_or said.steps usual_steps;
+      life = said.life;
+    }
 
 -- The words behind a command say this: they are pieces that the command takes, a part among them.
 pub record AreSaid (command : Command) (words : List (List ℕ)) (said : Said) : Type 0 where

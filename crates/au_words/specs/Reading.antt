@@ -75,7 +75,7 @@ unfoldable pub entry_at : List ℕ → Option Entry
 entry_at bytes =
     if home_size bytes == length bytes then None
     else (if is_home (home_at bytes) && is_function (function_at bytes) then
-        Some (record { «module» = home_at bytes; function = function_at bytes })
+    Some (record { «module» = home_at bytes; function = function_at bytes })
     else None)
 
 -- whether bytes are one to thirteen digits, the first of them no zero
@@ -87,7 +87,7 @@ are_digits bytes =
 unfoldable pub steps_at : List ℕ → Option ℕ
 steps_at bytes =
     if are_digits bytes && nat_le 1 (digits_value 10 bytes) && nat_le (digits_value 10 bytes) most_steps then
-        Some (digits_value 10 bytes)
+    Some (digits_value 10 bytes)
     else None
 
 -- what is read of a value that may be there: nothing where there is none

@@ -82,8 +82,7 @@ impl From<clap::Error> for WordsFault {
     ghost use Rattle.clap.specs.declared.error.kind.ErrorKind.TheVariants as kind;
     ghost use Rattle.au_words.specs.declared.jobs.WordsFault.TheVariants as fault;
 
-    ghost from_gives =
-        { λ error e. (kind_of error ≡ kind.OutOfMemory → e ≡ fault.Memory)
+    ghost from_gives = { λ error e. (kind_of error ≡ kind.OutOfMemory → e ≡ fault.Memory)
         × (kind_of error ≢ kind.OutOfMemory → e ≡ fault.NoJob) };
 
     fn from(error: clap::Error) -> WordsFault {
