@@ -5,7 +5,7 @@ use Rattle.std.specs.List.{list_all, list_any, position_from}
 use Rattle.std.proofs.lemmas.Bool.{and_parts, and_from}
 use Rattle.std.proofs.lemmas.List.{drop_all}
 use Rattle.std.proofs.lemmas.Option.{none-some, same_Some}
-use Rattle.au_imports.proofs.ChoiceLemmas.{Among}
+use Rattle.au_names.proofs.AmongLemmas.{Among}
 use Rattle.au_promises.proofs.DefinitionLemmas.{seen_left}
 
 -- an index is found where an item passes

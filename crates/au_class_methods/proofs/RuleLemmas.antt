@@ -12,7 +12,7 @@ use Rattle.au_syntax.specs.Plain.{Bytes, PlainMethod}
 use Rattle.au_syntax.specs.Types.{WrittenType, Labelled}
 use Rattle.au_types.specs.Types.{Meaning}
 use Rattle.au_types.proofs.SameLemmas.{same_decides}
-use Rattle.au_imports.proofs.ChoiceLemmas.{Among, among, contains, among-append, among-append_left, among-append_right}
+use Rattle.au_names.proofs.AmongLemmas.{Among, among, contains, among-append_left}
 use Rattle.au_promises.specs.Agreeing.{all_agree, same_meaning, same_name}
 use Rattle.au_promises.specs.Fulfilled.{Each}
 use Rattle.au_class_methods.specs.Methods.{AreMethods, SameLabelled, SameSignature, are_methods, doubled_from, has_signature, is_called, is_declared, is_defined, is_doubled, is_named, same_labelled, same_signature, same_type}

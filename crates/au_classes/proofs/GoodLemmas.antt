@@ -19,7 +19,7 @@ use Rattle.au_universes.specs.Forming.{takes}
 use Rattle.au_universes.specs.Universes.{universe_of}
 use Rattle.au_modules.specs.Programs.{ModuleParts}
 use Rattle.au_names.specs.HeadsOf.{heads_of}
-use Rattle.au_imports.proofs.ChoiceLemmas.{Among, among, contains, among-append, among-append_left, among-append_right, among-flat_map, among-flat_map_from}
+use Rattle.au_names.proofs.AmongLemmas.{Among, among, contains, among-flat_map, among-flat_map_from}
 use Rattle.au_promises.specs.Agreeing.{visible}
 use Rattle.au_generics.specs.Bounds.{parameters}
 use Rattle.au_instance_texts.specs.Texts.{InstanceText, instances_of}

@@ -14,7 +14,7 @@ use Rattle.au_cycles.proofs.CycleLemmas.{past_names}
 use Rattle.au_types.specs.declared.types.DeclAt.{DeclAt}
 use Rattle.au_types.specs.Rows.{same_place}
 use Rattle.au_types.proofs.SameLemmas.{place_is, place_self}
-use Rattle.au_imports.proofs.ChoiceLemmas.{Among, among, contains}
+use Rattle.au_names.proofs.AmongLemmas.{Among, among, contains}
 use Rattle.au_formed.specs.declared.namings.Naming.{Naming}
 use Rattle.au_formed.specs.Graphs.{declarer, declarer_from, graph_of}
 use Rattle.au_formed.specs.Infinite.{Leads, directly, onward, first_infinite, is_infinite, names_of}

@@ -9,7 +9,7 @@ use Rattle.std.proofs.lemmas.List.{length-map}
 use Rattle.au_types.specs.declared.types.DeclAt.{DeclAt}
 use Rattle.au_types.specs.Rows.{same_place}
 use Rattle.au_types.proofs.SameLemmas.{place_is, place_self}
-use Rattle.au_imports.proofs.ChoiceLemmas.{Among, among, contains}
+use Rattle.au_names.proofs.AmongLemmas.{Among, among, contains}
 use Rattle.au_formed.specs.declared.namings.Naming.{Naming}
 use Rattle.au_formed.specs.Infinite.{Leads, directly, onward, Names, is_infinite, leads_by, names_of}
 use Rattle.au_formed.specs.Infinite.{types_declared}

@@ -18,7 +18,7 @@ use Rattle.au_types.specs.declared.types.DeclAt.{DeclAt}
 use Rattle.au_names.specs.Walks.{written, written_all}
 use Rattle.au_modules.specs.Programs.{ModuleParts}
 use Rattle.au_names.specs.Owned.{declarations_in}
-use Rattle.au_imports.proofs.ChoiceLemmas.{Among, among-append}
+use Rattle.au_names.proofs.AmongLemmas.{Among, among-append}
 use Rattle.au_imports.proofs.OfferLemmas.{module_there}
 use Rattle.au_formed.proofs.DeclarerLemmas.{one_listed}
 use Rattle.au_formed.specs.Text.{Spot, module_spots, spots_from, text, text_from, visible_in}

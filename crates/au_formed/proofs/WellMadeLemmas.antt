@@ -29,8 +29,16 @@ use Rattle.au_written_types.specs.Meant.{meant}
 use Rattle.au_written_types.specs.Senses.{Sense, a_type as type_sense, a_span, a_region, declared}
 use Rattle.au_written_types.specs.Senses.{a_class as class_sense, sense_of}
 use Rattle.au_imports.specs.Choices.{first_of, where_so}
-use Rattle.au_imports.proofs.ChoiceLemmas.{Among, among, among-flat_map_from, contains, first_from}
-use Rattle.au_imports.proofs.ChoiceLemmas.{first_to, or_first, or_neither, or_second, so_from, so_to}
+use Rattle.au_names.proofs.AmongLemmas.{
+  Among,
+  among,
+  among-flat_map_from,
+  contains,
+  or_first,
+  or_neither,
+  or_second,
+}
+use Rattle.au_imports.proofs.ChoiceLemmas.{first_from, first_to, so_from, so_to}
 use Rattle.au_formed.specs.declared.faults.FormFault.{FormFault}
 use Rattle.au_formed.specs.declared.faults.FormFault.TheVariants.{Malformed, EmptyUnion, UniverseBelow}
 use Rattle.au_formed.specs.Fields.{above_place, case_above, empty_union, field_above, first_above, holds}

@@ -1,10 +1,7 @@
--- The first of several things that may be there, items of lists, and what is found by a name.
+-- The first of several things that may be there, and what is found by a name.
 use Rattle.std.proofs.Common.{
   ◌≡◌,
   ℕ,
-  zero,
-  suc,
-  ◌<◌,
   ◌⊎◌,
   inl,
   inr,
@@ -17,8 +14,6 @@ use Rattle.std.proofs.Common.{
   [],
   ◌∷◌,
   ◌++◌,
-  length,
-  get_or,
   Option,
   Some,
   None,
@@ -28,89 +23,13 @@ use Rattle.std.proofs.Common.{
   sym,
   ◌∙◌,
   subst,
-  Contains,
-  arith,
 }
-use Rattle.std.specs.List.{flat_map}
-use Rattle.std.specs.Option.{option_or}
 use Rattle.std.specs.Str.{bytes_eq}
 use Rattle.std.proofs.lemmas.Option.{none-some, same_Some}
 use Rattle.std.proofs.lemmas.Slice.Eq.{bytes_eq-Decides}
 use Rattle.au_tables.specs.Tables.{find, has_name}
+use Rattle.au_names.proofs.AmongLemmas.{Among, among-append, or_first, or_second, or_neither}
 use Rattle.au_imports.specs.Choices.{first_of, where_so}
-
--- ---- neither of two
-
-pub or_first : {A : Type 0} (o p : Option A) → option_or o p ≡ None → o ≡ None
-or_first None p h = refl
-or_first (Some x) p h = cc
-
-pub or_second : {A : Type 0} (o p : Option A) → option_or o p ≡ None → p ≡ None
-or_second None p h = h
-or_second (Some x) p h = cc
-
-pub or_neither : {A : Type 0} (o p : Option A) → o ≡ None → p ≡ None → option_or o p ≡ None
-or_neither o p h k = ap (λ one. option_or one p) h ∙ k
-
--- ---- one of a list
-
--- this is one of the items
-abbrev pub Among : {A : Type 0} → A → List A → Type 0
-Among x [] = ⊥
-Among x (y ∷ ys) = (y ≡ x) ⊎ Among x ys
-
-pub among : {A : Type 0} (xs : List A) (x : A) → Contains xs x → Among x xs
-among [] x c = omega (arith, c.1)
-among (y ∷ ys) x c = by c.0 c.1 c.2 (among ys x)
-  where
-    by : (k : ℕ) → k < length (y ∷ ys) → get_or (y ∷ ys) k x ≡ x → (Contains ys x → Among x ys)
-        → Among x (y ∷ ys)
-    by zero within here rest = inl here
-    by (suc k) within here rest = inr (rest (k, omega arith, here))
-
-pub contains : {A : Type 0} (xs : List A) (x : A) → Among x xs → Contains xs x
-contains [] x m = absurd m
-contains (y ∷ ys) x (inl here) = (0, omega arith, here)
-contains (y ∷ ys) x (inr later) =
-    let there : Contains ys x = contains ys x later in
-    (suc there.0, omega (arith, there.1), there.2)
-
-pub among-append_left : {A : Type 0} (xs ys : List A) (x : A) → Among x xs → Among x (xs ++ ys)
-among-append_left [] ys x m = absurd m
-among-append_left (y ∷ xs) ys x (inl here) = inl here
-among-append_left (y ∷ xs) ys x (inr later) = inr (among-append_left xs ys x later)
-
-pub among-append_right : {A : Type 0} (xs ys : List A) (x : A) → Among x ys → Among x (xs ++ ys)
-among-append_right [] ys x m = m
-among-append_right (y ∷ xs) ys x m = inr (among-append_right xs ys x m)
-
-pub among-append : {A : Type 0} (xs ys : List A) (x : A) → Among x (xs ++ ys) → Among x xs ⊎ Among x ys
-among-append [] ys x m = inr m
-among-append (y ∷ xs) ys x (inl here) = inl (inl here)
-among-append (y ∷ xs) ys x (inr later) = by (among-append xs ys x later)
-  where
-    by : Among x xs ⊎ Among x ys → Among x (y ∷ xs) ⊎ Among x ys
-    by (inl m) = inl (inr m)
-    by (inr m) = inr m
-
-pub among-flat_map : {A B : Type 0} (f : A → List B) (xs : List A) (y : B)
-    → Among y (flat_map f xs) → (x : A) × Among x xs × Among y (f x)
-among-flat_map f [] y m = absurd m
-among-flat_map f (x ∷ xs) y m = by (among-append (f x) (flat_map f xs) y m) (among-flat_map f xs y)
-  where
-    by : Among y (f x) ⊎ Among y (flat_map f xs)
-        → (Among y (flat_map f xs) → (z : _) × Among z xs × Among y (f z))
-        → (z : _) × Among z (x ∷ xs) × Among y (f z)
-    by (inl here) rest = (x, inl refl, here)
-    by (inr later) rest = ((rest later).0, inr (rest later).1, (rest later).2)
-
-pub among-flat_map_from : {A B : Type 0} (f : A → List B) (xs : List A) (x : A) (y : B)
-    → Among x xs → Among y (f x) → Among y (flat_map f xs)
-among-flat_map_from f [] x y m n = absurd m
-among-flat_map_from f (z ∷ xs) x y (inl here) n = among-append_left (f z)
-    (flat_map f xs) y (subst (λ w. Among y (f w)) (sym here) n)
-among-flat_map_from f (z ∷ xs) x y (inr later) n = among-append_right (f z)
-    (flat_map f xs) y (among-flat_map_from f xs x y later n)
 
 -- ---- nothing is the first
 

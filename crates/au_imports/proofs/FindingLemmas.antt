@@ -63,14 +63,14 @@ part_nowhere program place m part h = by (part_of part m) h
     by None k = refl
     by (Some e) k = absurd (none-some e.tree k)
 
-module _ (program : List ModuleParts) (goal : Option NameFault) where
-  faults_cons : (place : ℕ) (m : ModuleParts) (ms : List ModuleParts)
+module _ (program : List ModuleParts) where
+  pub faults_cons : (place : ℕ) (m : ModuleParts) (ms : List ModuleParts)
       → faults_from program place (m ∷ ms) ≡ option_or (module_fault program place m)
       (faults_from program (place + 1) ms)
   unfolding faults_from
   faults_cons place m ms = refl
 
-  faults_none : (place : ℕ) → faults_from program place [] ≡ None
+  pub faults_none : (place : ℕ) → faults_from program place [] ≡ None
   unfolding faults_from
   faults_none place = refl
 
@@ -81,13 +81,14 @@ module _ (program : List ModuleParts) (goal : Option NameFault) where
   faults_there place m here = ap (faults_from program place) (drop_at program place m here)
       ∙ faults_cons place m (drop (place + 1) program)
 
+module _ (program : List ModuleParts) (goal : Option NameFault) where
   -- one more module is refused for nothing
   pub faults_step : (place : ℕ) (m : ModuleParts) → slice_get program place ≡ Some m
       → None ≡ module_fault program place m → faults_from program place (drop place program) ≡ goal
       → faults_from program (place + 1) (drop (place + 1) program) ≡ goal
   faults_step place m here nothing old =
       ap (λ o. option_or o (faults_from program (place + 1) (drop (place + 1) program))) nothing
-      ∙ sym (faults_there place m here) ∙ old
+      ∙ sym (faults_there program place m here) ∙ old
 
   -- what a module is refused for comes first
   pub faults_found : (place : ℕ) (m : ModuleParts) (fault : NameFault) → slice_get program place ≡ Some m
@@ -95,10 +96,10 @@ module _ (program : List ModuleParts) (goal : Option NameFault) where
       → faults_from program place (drop place program) ≡ goal → Some fault ≡ goal
   faults_found place m fault here found old =
       ap (λ o. option_or o (faults_from program (place + 1) (drop (place + 1) program))) found
-      ∙ sym (faults_there place m here) ∙ old
+      ∙ sym (faults_there program place m here) ∙ old
 
   -- none is left
   pub faults_end : (place : ℕ) → length program ≤ place → faults_from program place (drop place program)
       ≡ goal → None ≡ goal
   faults_end place past old = sym (ap (faults_from program place) (drop_all place program past)
-      ∙ faults_none place) ∙ old
+      ∙ faults_none program place) ∙ old

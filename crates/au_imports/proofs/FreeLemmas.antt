@@ -25,17 +25,8 @@ use Rattle.au_imports.specs.NameFaults.{
   part_fault,
 }
 use Rattle.au_imports.specs.Good.{IsSourced}
-use Rattle.au_imports.proofs.ChoiceLemmas.{
-  or_first,
-  or_second,
-  or_neither,
-  Among,
-  contains,
-  first_from,
-  first_to,
-  so_from,
-  so_to,
-}
+use Rattle.au_names.proofs.AmongLemmas.{or_first, or_second, or_neither, Among, contains}
+use Rattle.au_imports.proofs.ChoiceLemmas.{first_from, first_to, so_from, so_to}
 use Rattle.au_imports.proofs.MentionLemmas.{declared_of_mention, mention_of_declared}
 use Rattle.au_imports.proofs.SourceLemmas.{IsBrought, brought_item, item_brings}
 use Rattle.au_imports.proofs.ItemLemmas.{AreAlone, ItemsPass, import_from, import_to, item_alone, item_to}

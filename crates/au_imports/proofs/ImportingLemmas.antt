@@ -1,8 +1,7 @@
--- What is refused first, and how what comes along is walked.
+-- What is refused of what comes along, and of items.
 use Rattle.std.proofs.Common.{
   ◌≡◌,
   ℕ,
-  ◌+◌,
   ◌≤◌,
   Bool,
   true,
@@ -10,14 +9,11 @@ use Rattle.std.proofs.Common.{
   ◌||◌,
   List,
   [],
-  ◌∷◌,
   map,
   length,
-  drop,
   Option,
   None,
   Some,
-  refl,
   sym,
   ap,
   ◌∙◌,
@@ -25,14 +21,13 @@ use Rattle.std.proofs.Common.{
 }
 use Rattle.std.specs.Prelude.{slice_get}
 use Rattle.std.specs.Option.{option_map, option_or}
-use Rattle.std.proofs.lemmas.List.{drop_all}
 use Rattle.std.proofs.lemmas.Option.{slice_get_past}
 use Rattle.au_syntax.specs.declared.modules.Part.{Part}
 use Rattle.au_syntax.specs.Names.{Renaming}
 use Rattle.au_syntax.specs.Plain.{Bytes, PlainDeclaration, PlainModule}
 use Rattle.au_tables.specs.declared.spaces.Space.{Space}
 use Rattle.au_tables.specs.declared.spaces.Space.TheVariants.{Values, Callables, Types}
-use Rattle.au_tables.specs.DeclaredNames.{names_in, numbered, table_of}
+use Rattle.au_tables.specs.DeclaredNames.{names_in, table_of}
 use Rattle.au_tables.specs.DeclaredNames as names
 use Rattle.au_tables.specs.Tables.{find}
 use Rattle.au_tables.proofs.TableLemmas.{find-firsts}
@@ -44,7 +39,6 @@ use Rattle.au_names.specs.Importing.{along, members, members_of}
 use Rattle.au_names.specs.Owned.{declarations_in, interface_of, targets}
 use Rattle.au_names.proofs.ExportLemmas.{interface_seen}
 use Rattle.au_names.proofs.ImportLemmas.{along_is, declaration_seen}
-use Rattle.au_names.proofs.PutLemmas.{drop_at}
 use Rattle.au_imports.specs.Choices.{first_of, where_so}
 use Rattle.au_imports.specs.Clashing.{first_offered, last_offered}
 use Rattle.au_imports.specs.NameFaults.{
@@ -57,47 +51,7 @@ use Rattle.au_imports.specs.NameFaults.{
   member_fault,
 }
 use Rattle.au_imports.specs.declared.name_faults.NameFault.TheVariants.{NotVisible, NameTwice}
-
-module _ {A B : Type 0} where
-  -- nothing is refused of nothing
-  pub first_none : (f : A → Option B) → first_of f [] ≡ None
-  unfolding first_of
-  first_none f = refl
-
-  pub first_cons : (f : A → Option B) (x : A) (xs : List A)
-      → first_of f (x ∷ xs) ≡ option_or (f x) (first_of f xs)
-  unfolding first_of
-  first_cons f x xs = refl
-
-module _ {A B C : Type 0} (f : B → Option C) (all : List A → List B) (one : A
-    → B) (more : (x : A) (xs : List A) → all (x ∷ xs) ≡ one x ∷ all xs) where
-  -- the first of those from a place on is that of the one there, or else of the others
-  first_there : (xs : List A) (i : ℕ) (x : A) → slice_get xs i ≡ Some x
-      → first_of f (all (drop i xs)) ≡ option_or (f (one x)) (first_of f (all (drop (i + 1) xs)))
-  first_there xs i x here =
-      ap (λ r. first_of f (all r)) (drop_at xs i x here) ∙ ap (first_of f) (more x (drop (i + 1) xs))
-      ∙ first_cons f (one x) (all (drop (i + 1) xs))
-
-  -- A step of a loop that finds nothing: what is left decides.
-  pub first_step : (goal : Option C) (xs : List A) (i : ℕ) (x : A) → slice_get xs i ≡ Some x
-      → None ≡ f (one x) → first_of f (all (drop i xs)) ≡ goal
-      → first_of f (all (drop (i + 1) xs)) ≡ goal
-  first_step goal xs i x here nothing old =
-      ap (λ o. option_or o (first_of f (all (drop (i + 1) xs)))) nothing ∙ sym (first_there xs i x here) ∙ old
-
-  -- what is found there is the first
-  pub first_found : (goal : Option C) (xs : List A) (i : ℕ) (x : A) (fault : C)
-      → slice_get xs i ≡ Some x → Some fault ≡ f (one x) → first_of f (all (drop i xs)) ≡ goal
-      → Some fault ≡ goal
-  first_found goal xs i x fault here found old =
-      ap (λ o. option_or o (first_of f (all (drop (i + 1) xs)))) found ∙ sym (first_there xs i x here) ∙ old
-
--- nothing is found once nothing is left
-pub first_end : {A B C : Type 0} (f : B → Option C) (all : List A → List B)
-    → all [] ≡ [] → (goal : Option C) (xs : List A) (i : ℕ) → length xs ≤ i
-    → first_of f (all (drop i xs)) ≡ goal → None ≡ goal
-first_end f all none goal xs i past old =
-    sym (ap (λ r. first_of f (all r)) (drop_all i xs past) ∙ ap (first_of f) none ∙ first_none f) ∙ old
+use Rattle.au_imports.proofs.DeclaringLemmas.{first_none}
 
 -- ---- what comes along
 
@@ -196,5 +150,3 @@ item_along program place m part from other item seen good =
     let twice = NameTwice (given item).at (given item).name in
     sym (ap (λ b. option_or (where_so b (NotVisible item.name.at item.name.name))
     (option_or (where_so any twice) rest)) seen ∙ ap (λ b. option_or (where_so b twice) rest) good)
-
-pub ruleset first_steps = (first_none, first_cons)

@@ -83,7 +83,7 @@ use Rattle.au_imports.specs.NameFaults.{
   import_fault,
 }
 use Rattle.au_imports.specs.Good.{IsOffered, IsSourced}
-use Rattle.au_imports.proofs.ChoiceLemmas.{
+use Rattle.au_names.proofs.AmongLemmas.{
   or_first,
   or_second,
   or_neither,
@@ -92,13 +92,8 @@ use Rattle.au_imports.proofs.ChoiceLemmas.{
   among-append,
   among-append_left,
   among-append_right,
-  first_from,
-  first_to,
-  so_from,
-  so_to,
-  found_among,
-  among_found,
 }
+use Rattle.au_imports.proofs.ChoiceLemmas.{first_from, first_to, so_from, so_to, found_among, among_found}
 use Rattle.au_imports.proofs.NumberLemmas.{one_number, one_number_to}
 use Rattle.au_imports.proofs.SourceLemmas.{renamed_among, renamed_from, place_there}
 

@@ -40,7 +40,7 @@ use Rattle.au_mentions.specs.Mentions.{
   instance_mentions,
   mentions,
 }
-use Rattle.au_imports.proofs.ChoiceLemmas.{
+use Rattle.au_names.proofs.AmongLemmas.{
   Among,
   among-append,
   among-append_right,

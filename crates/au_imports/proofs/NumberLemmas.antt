@@ -36,17 +36,8 @@ use Rattle.au_tables.specs.declared.spaces.Space.{Space}
 use Rattle.au_tables.specs.DeclaredNames.{declared_names, given, names_in, numbered}
 use Rattle.au_tables.specs.Tables.{find}
 use Rattle.au_imports.specs.NameFaults.{is_apart}
-use Rattle.au_imports.proofs.ChoiceLemmas.{
-  Among,
-  among-append,
-  among-append_left,
-  among-append_right,
-  found_among,
-  among_found,
-  Ordered,
-  ordered-append,
-  first_bounds,
-}
+use Rattle.au_names.proofs.AmongLemmas.{Among, among-append, among-append_left, among-append_right}
+use Rattle.au_imports.proofs.ChoiceLemmas.{found_among, among_found, Ordered, ordered-append, first_bounds}
 
 -- ---- the names of one declaration
 

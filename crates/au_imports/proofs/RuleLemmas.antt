@@ -69,18 +69,15 @@ use Rattle.au_imports.specs.Clashing.{
   declaration_clashes,
 }
 use Rattle.au_imports.specs.Good.{IsSourced, IsForeign, NamesAreGood}
-use Rattle.au_imports.proofs.ChoiceLemmas.{
+use Rattle.au_names.proofs.AmongLemmas.{
   Among,
   among,
   contains,
   among-append,
   among-append_left,
   among-append_right,
-  found_among,
-  among_has,
-  has_among,
-  has_some,
 }
+use Rattle.au_imports.proofs.ChoiceLemmas.{found_among, among_has, has_among, has_some}
 use Rattle.au_imports.proofs.NumberLemmas.{
   among-names_in,
   among-names_in_from,

@@ -63,7 +63,7 @@ use Rattle.au_names.specs.Owned.{exported, interface_of, target, targets}
 use Rattle.std.specs.Prelude as std
 use Rattle.au_imports.specs.Clashing.{brought_to}
 use Rattle.au_imports.specs.Good.{IsSourced}
-use Rattle.au_imports.proofs.ChoiceLemmas.{Among, among-append, among-flat_map, among-flat_map_from}
+use Rattle.au_names.proofs.AmongLemmas.{Among, among-append, among-flat_map, among-flat_map_from}
 
 -- ---- names with what they mean
 

@@ -2,15 +2,25 @@
 use Rattle.std.specs.Prelude.{◌≡◌, ℕ, List, map, Some, slice_get}
 use Rattle.au_syntax.specs.contracts.parsed.ParsedPhase.TheImpl.{ghosts as parsed}
 use Rattle.au_syntax.specs.declared.declarations.Decl.{Decl}
+use Rattle.au_syntax.specs.declared.declarations.Signature.{Signature}
+use Rattle.au_syntax.specs.declared.declarations.UnionCase.{UnionCase}
 use Rattle.au_syntax.specs.declared.modules.Import.{Import}
 use Rattle.au_syntax.specs.declared.names.Renamed.{Renamed}
 use Rattle.au_syntax.specs.declared.names.Ident.{Ident}
 use Rattle.au_syntax.specs.declared.parsed.Parsed.{Parsed}
 use Rattle.au_syntax.specs.Modules.{Importing}
 use Rattle.au_syntax.specs.Names.{Placed, Renaming}
-use Rattle.au_syntax.specs.Plain.{Bytes, PlainDeclaration, plain_declaration, plain_importing, plain_name}
-use Rattle.au_syntax.specs.Plain.{plain_renaming}
-use Rattle.au_syntax.specs.Views.{declaration, importing, placed, renaming}
+use Rattle.au_syntax.specs.Plain.{
+  Bytes,
+  PlainDeclaration,
+  plain_declaration,
+  plain_header,
+  plain_importing,
+  plain_name,
+  plain_renaming,
+  plain_variant,
+}
+use Rattle.au_syntax.specs.Views.{declaration, header, importing, placed, renaming, variant}
 use Rattle.au_modules.specs.declared.modules.Modules.{Modules}
 use Rattle.au_modules.specs.Programs.{ModuleParts}
 use Rattle.au_modules.specs.Slots as slots
@@ -42,6 +52,14 @@ declared_of one = plain_declaration parsed.name_bytes (declaration parsed one)
 -- declarations
 abbrev pub all_declared : List (Decl Parsed (List ℕ) (Unit {0}) (Unit {0})) → List PlainDeclaration
 all_declared all = map (plain_declaration parsed.name_bytes) (map (declaration parsed) all)
+
+-- the names of a union's cases
+abbrev pub cases_of : List (UnionCase Parsed (List ℕ) (Unit {0}) (Unit {0})) → List Bytes
+cases_of all = map (λ c. c.name.name) (map (plain_variant parsed.name_bytes) (map (variant parsed) all))
+
+-- the names of a class's methods
+abbrev pub methods_of : List (Signature Parsed (List ℕ) (Unit {0}) (Unit {0})) → List Bytes
+methods_of all = map (λ h. h.name.name) (map (plain_header parsed.name_bytes) (map (header parsed) all))
 
 -- This is the module at a place.
 abbrev pub IsAt : Modules → ℕ → ModuleParts → Type 0

@@ -51,7 +51,7 @@ fn first_place(at: Pos, names: &Vec<Ident<Parsed>>) -> Pos
 }
 
 /// The name that an item gives: that after its `as`, or its own.
-fn given(item: &Renamed<Parsed>) -> &Ident<Parsed>
+pub fn given(item: &Renamed<Parsed>) -> &Ident<Parsed>
     ensures { plain_name parsed.name_bytes (placed parsed result.now) ≡ spec.given (item_of item.now) }
 {
     match &item.alias {

@@ -9,11 +9,8 @@ ghost use Rattle.au_names.specs.Along.{members_in};
 ghost use Rattle.au_names.specs.Exporting.{declarations_seen, members_at};
 ghost use Rattle.au_names.specs.Importing.{along, members};
 ghost use Rattle.au_names.specs.Owned.{interface_of, target, targets};
-ghost use Rattle.au_syntax.specs.Plain.{plain_header, plain_variant};
-ghost use Rattle.au_syntax.specs.Views.{declaration, header, variant};
-ghost use Rattle.au_syntax.specs.contracts.parsed.ParsedPhase.TheImpl.{ghosts as parsed};
 ghost use Rattle.au_tables.specs.DeclaredNames.{given};
-ghost use Rattle.au_imports.specs.Written.{all_declared, declared_of};
+ghost use Rattle.au_imports.specs.Written.{all_declared, cases_of, declared_of, methods_of};
 
 use crate::clashes::{Importer, first_offered, import_clashes};
 use crate::name_faults::NameFault;
@@ -56,9 +53,7 @@ fn cases_fault(
     requires { IsReady importer.now }
     ensures { (m other : ModuleParts) → IsOf importer.now m
         → IfOk result (λ found. found ≡ first_of (fault_in importer.now m at.«module» other stands)
-        (targets at.«module»
-        (given at.decl (map (λ c. c.name.name) (map (plain_variant parsed.name_bytes)
-        (map (variant parsed) cases.now.items)))))) }
+        (targets at.«module» (given at.decl (cases_of cases.now.items)))) }
 {
     for one in cases {
         if let Some(fault) = one_fault(alloc, importer, stands, at, &one.name.name)? {
@@ -79,9 +74,7 @@ fn methods_fault(
     requires { IsReady importer.now }
     ensures { (m other : ModuleParts) → IsOf importer.now m
         → IfOk result (λ found. found ≡ first_of (fault_in importer.now m at.«module» other stands)
-        (targets at.«module»
-        (given at.decl (map (λ h. h.name.name) (map (plain_header parsed.name_bytes)
-        (map (header parsed) methods.now.items)))))) }
+        (targets at.«module» (given at.decl (methods_of methods.now.items)))) }
 {
     for one in methods {
         if let Some(fault) = one_fault(alloc, importer, stands, at, &one.name.name)? {
@@ -92,7 +85,6 @@ fn methods_fault(
 }
 
 /// What the cases or methods of a declaration are refused for.
-#[tactic(auto, using(au_syntax::proofs::DeclarationLemmas::declaration_steps, crate::proofs::ImportingLemmas::first_steps, std::proofs::lemmas::Grind::common_steps))]
 fn declared_fault(
     alloc: Global,
     importer: &Importer,
@@ -106,16 +98,9 @@ fn declared_fault(
         (targets at.«module» (given at.decl (members (declared_of decl.now))))) }
 {
     match decl {
-        Decl::Constant(_, _, _) => Ok(None),
-        Decl::Opaque(_, _, _, _) => Ok(None),
-        Decl::Record(_, _, _, _, _) => Ok(None),
         Decl::Union(_, _, _, _, cases) => cases_fault(alloc, importer, stands, at, cases),
-        Decl::Function(_, _, _) => Ok(None),
         Decl::Class(_, _, _, methods) => methods_fault(alloc, importer, stands, at, methods),
-        Decl::Instance(_, _, _, _) => Ok(None),
-        Decl::ConstantBody(_, _, _, _) => Ok(None),
-        Decl::FunctionBody(_, _, _, _, _) => Ok(None),
-        Decl::InstanceBody(_, _, _, _, _) => Ok(None),
+        _ => Ok(None),
     }
 }
 

@@ -1,4 +1,5 @@
 pub mod AlongLemmas
+pub mod AmongLemmas
 pub mod DeclaredRowLemmas
 pub mod DefinitionLemmas
 pub mod ExportLemmas

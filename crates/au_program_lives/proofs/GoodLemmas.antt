@@ -5,7 +5,8 @@ use Rattle.au_formed.specs.Text.{text}
 use Rattle.au_lives.specs.Refusals.{first_refused}
 use Rattle.au_lives.proofs.RefusalLemmas.{all_good, none_refused, some_refused}
 use Rattle.au_modules.specs.Programs.{ModuleParts}
-use Rattle.au_imports.proofs.ChoiceLemmas.{among, contains, first_from, first_to}
+use Rattle.au_names.proofs.AmongLemmas.{among, contains}
+use Rattle.au_imports.proofs.ChoiceLemmas.{first_from, first_to}
 use Rattle.au_program_lives.specs.declared.faults.LinearFault.{LinearFault}
 use Rattle.au_program_lives.specs.Good.{AllLivesAreGood, DeclarationIsGood, FunctionIsGood, IsRefused}
 use Rattle.au_program_lives.specs.LinearFaults.{declaration_fault, declared_fault, fault_told, function_fault, function_variables, linear_fault, method_fault, spot_types}

@@ -2,11 +2,7 @@
 use Rattle.std.proofs.Common.{
   ◌≡◌,
   ℕ,
-  zero,
-  suc,
   ◌+◌,
-  ◌<◌,
-  ◌⊎◌,
   inl,
   inr,
   Bool,
@@ -17,8 +13,6 @@ use Rattle.std.proofs.Common.{
   [],
   ◌∷◌,
   ◌++◌,
-  length,
-  get_or,
   Option,
   Some,
   None,
@@ -29,11 +23,7 @@ use Rattle.std.proofs.Common.{
   ◌∙◌,
   subst,
   find,
-  Contains,
   IsTrue,
-  slice_get,
-  arith,
-  zero-add,
 }
 use Rattle.std.specs.Prelude.{if◌then◌else◌}
 use Rattle.std.specs.Bool.{Decides}
@@ -43,6 +33,16 @@ use Rattle.au_syntax.specs.Modules.{constant, opaque_type, function, instance}
 use Rattle.au_syntax.specs.Plain.{Bytes, PlainDeclaration, PlainModule}
 use Rattle.au_modules.specs.Programs.{Entry, ModuleParts}
 use Rattle.au_promises.specs.declared.faults.PromiseFault.TheVariants.{Differs}
+use Rattle.au_names.proofs.AmongLemmas.{
+  Among,
+  among,
+  contains,
+  nothing_all,
+  nothing_at,
+  or_first,
+  or_neither,
+  or_second,
+}
 use Rattle.au_modules.specs.Seen.{body_tree, interface_tree}
 use Rattle.au_promises.specs.Agreeing.{Sight, sight_of}
 use Rattle.au_promises.specs.Promises.{
@@ -60,42 +60,6 @@ use Rattle.au_promises.specs.Promises.{
 }
 use Rattle.au_promises.specs.Fulfilled.{Defines, IsFirst, IsKept, Fulfils, AllFulfil}
 use Rattle.au_promises.proofs.DecidingLemmas.{defines_decides, keeps_decides}
-
--- ---- neither of two
-
-or_first : {A : Type 0} (o p : Option A) → option_or o p ≡ None → o ≡ None
-or_first None p h = refl
-or_first (Some x) p h = cc
-
-or_second : {A : Type 0} (o p : Option A) → option_or o p ≡ None → p ≡ None
-or_second None p h = h
-or_second (Some x) p h = cc
-
-or_neither : {A : Type 0} (o p : Option A) → o ≡ None → p ≡ None → option_or o p ≡ None
-or_neither o p h k = ap (λ one. option_or one p) h ∙ k
-
--- ---- one of a list
-
--- this is one of the items
-abbrev Among : {A : Type 0} → A → List A → Type 0
-Among x [] = ⊥
-Among x (y ∷ ys) = (y ≡ x) ⊎ Among x ys
-
-among : {A : Type 0} (xs : List A) (x : A) → Contains xs x → Among x xs
-among [] x c = omega (arith, c.1)
-among (y ∷ ys) x c = by c.0 c.1 c.2 (among ys x)
-  where
-    by : (k : ℕ) → k < length (y ∷ ys) → get_or (y ∷ ys) k x ≡ x → (Contains ys x → Among x ys)
-        → Among x (y ∷ ys)
-    by zero within here rest = inl here
-    by (suc k) within here rest = inr (rest (k, omega arith, here))
-
-contains : {A : Type 0} (xs : List A) (x : A) → Among x xs → Contains xs x
-contains [] x a = absurd a
-contains (y ∷ ys) x (inl here) = (0, omega arith, here)
-contains (y ∷ ys) x (inr later) =
-    let there : Contains ys x = contains ys x later in
-    (suc there.0, omega (arith, there.1), there.2)
 
 -- ---- the first definition
 
@@ -287,33 +251,15 @@ module _ (sight : Sight) where
 
 -- ---- modules by their places
 
-modules_from : (program : List ModuleParts) (start : ℕ) (rest : List ModuleParts)
-    → faults_from program start rest ≡ None
-    → (i : ℕ) (m : ModuleParts) → slice_get rest i ≡ Some m → module_fault program (start + i) m ≡ None
+faults_none : (program : List ModuleParts) (place : ℕ) → faults_from program place [] ≡ None
 unfolding faults_from
-modules_from program start [] h i m here = absurd (none-some m here)
-modules_from program start (x ∷ xs) h zero m here =
-    let same : start + 0 ≡ start = omega arith in
-    ap (λ place. module_fault program place m) same
-    ∙ ap (module_fault program start) (sym (same_Some x m here))
-    ∙ or_first (module_fault program start x) (faults_from program (start + 1) xs) h
-modules_from program start (x ∷ xs) h (suc i) m here =
-    let same : start + suc i ≡ start + 1 + i = omega arith in
-    ap (λ place. module_fault program place m) same
-    ∙ modules_from program (start + 1) xs (or_second (module_fault program start x)
-    (faults_from program (start + 1) xs) h) i m here
+faults_none program place = refl
 
-modules_to : (program : List ModuleParts) (start : ℕ) (rest : List ModuleParts)
-    → ((i : ℕ) (m : ModuleParts) → slice_get rest i ≡ Some m → module_fault program (start + i) m ≡ None)
-    → faults_from program start rest ≡ None
+faults_more : (program : List ModuleParts) (place : ℕ) (m : ModuleParts) (ms : List ModuleParts)
+    → faults_from program place (m ∷ ms)
+    ≡ option_or (module_fault program place m) (faults_from program (place + 1) ms)
 unfolding faults_from
-modules_to program start [] h = refl
-modules_to program start (x ∷ xs) h =
-    let first : start ≡ start + 0 = omega arith in
-    or_neither (module_fault program start x) (faults_from program (start + 1) xs)
-    (ap (λ place. module_fault program place x) first ∙ h 0 x refl)
-    (modules_to program (start + 1) xs (λ i m here. let next : start + 1 + i
-    ≡ start + suc i = omega arith in ap (λ place. module_fault program place m) next ∙ h (suc i) m here))
+faults_more program place m ms = refl
 
 -- ---- all
 
@@ -348,13 +294,13 @@ module_to program place m h =
 pub fulfilled_from : (program : List ModuleParts) → promise_fault program ≡ None → AllFulfil program
 fulfilled_from program h place m interface body here first second =
     let none : module_fault program place m ≡ None =
-    ap (λ p. module_fault program p m) (sym (zero-add place))
-    ∙ modules_from program 0 program h place m here in
+    nothing_at (module_fault program) (faults_from program) (faults_none program) (faults_more program)
+    program h place m here in
     module_from program place m none interface body first second
 
 pub fulfilled_accepted : (program : List ModuleParts) → AllFulfil program → promise_fault program ≡ None
 fulfilled_accepted program h =
-    modules_to program 0 program
-    (λ place m here. ap (λ p. module_fault program p m) (zero-add place)
-    ∙ module_to program place m (λ interface body first second. h place m interface
-    body here first second))
+    nothing_all (module_fault program) (faults_from program) (faults_none program) (faults_more program)
+    program
+    (λ place m here. module_to program place m
+    (λ interface body first second. h place m interface body here first second))

@@ -20,7 +20,7 @@ use Rattle.au_again.specs.Doubles.{behind, behind_all, doubles_behind, doubles_o
 use Rattle.au_again.specs.Doubles.{numbered_double}
 use Rattle.au_again.specs.Marks.{marks}
 use Rattle.au_again.specs.Outside.{outside}
-use Rattle.au_imports.proofs.ChoiceLemmas.{Among, among-append_left, among-append_right}
+use Rattle.au_names.proofs.AmongLemmas.{Among, among-append_left, among-append_right}
 use Rattle.au_formed.specs.Text.{Spot, module_spots, spots_from, text, text_from}
 
 -- ---- as many doubles as declarations

@@ -11,8 +11,8 @@ use Rattle.au_names.specs.HeadsOf.{heads_of}
 use Rattle.au_again.specs.declared.doubles.Double.{Double}
 use Rattle.au_again.specs.Doubles.{first_double}
 use Rattle.au_again.specs.Once.{AllNamesAreOnce}
-use Rattle.au_imports.proofs.ChoiceLemmas.{Among, among, contains, first_from, first_to, or_first}
-use Rattle.au_imports.proofs.ChoiceLemmas.{or_neither, or_second, so_from, so_to}
+use Rattle.au_names.proofs.AmongLemmas.{among, contains, or_first, or_neither, or_second}
+use Rattle.au_imports.proofs.ChoiceLemmas.{first_from, first_to, so_from, so_to}
 use Rattle.au_promises.specs.Promises.{declaration_place}
 use Rattle.au_formed.specs.Forms.{form_fault}
 use Rattle.au_formed.specs.Infinite.{IsInfinite, is_infinite}

@@ -1,22 +1,16 @@
-use Rattle.std.proofs.Common.{◌≡◌, drop, map}
-use Rattle.au_syntax.specs.contracts.parsed.ParsedPhase.TheImpl.{ghosts as parsed}
-use Rattle.au_syntax.specs.Plain.{plain_variant}
-use Rattle.au_syntax.specs.Views.{variant}
+use Rattle.std.proofs.Common.{◌≡◌, drop}
 use Rattle.au_tables.specs.DeclaredNames.{given}
 use Rattle.au_modules.specs.Programs.{ModuleParts}
 use Rattle.au_names.specs.Owned.{targets}
 use Rattle.au_imports.specs.Choices.{first_of}
 use Rattle.au_imports.specs.Importers.{IsOf, fault_in}
+use Rattle.au_imports.specs.Written.{cases_of}
 use Rattle.au_imports.proofs.members.cases_fault.Given as goal
 
 -- what is left decides
 abbrev pub invariant-loop-one : goal.invariant-loop-one
 invariant-loop-one l = (m other : ModuleParts) → IsOf l.importer m
     → first_of (fault_in l.importer m l.at.«module» other l.stands)
-    (targets l.at.«module»
-    (given l.at.decl (map (λ c. c.name.name) (map (plain_variant parsed.name_bytes)
-    (map (variant parsed) (drop l.one-index l.one-items))))))
+    (targets l.at.«module» (given l.at.decl (cases_of (drop l.one-index l.one-items))))
     ≡ first_of (fault_in l.importer m l.at.«module» other l.stands)
-    (targets l.at.«module»
-    (given l.at.decl (map (λ c. c.name.name) (map (plain_variant parsed.name_bytes)
-    (map (variant parsed) l.one-items)))))
+    (targets l.at.«module» (given l.at.decl (cases_of l.one-items)))
