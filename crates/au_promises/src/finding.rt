@@ -40,16 +40,16 @@ fn declaration_place(decl: &Decl<Parsed>) -> Pos
     ensures { result ≡ spec.declaration_place (declared_of decl.now) }
 {
     match decl {
-        Decl::Constant(at, _, _) => *at,
-        Decl::Opaque(at, _, _, _) => *at,
-        Decl::Record(at, _, _, _, _) => *at,
-        Decl::Union(at, _, _, _, _) => *at,
-        Decl::Function(at, _, _) => *at,
-        Decl::Class(at, _, _, _) => *at,
-        Decl::Instance(at, _, _, _) => *at,
-        Decl::ConstantBody(at, _, _, _) => *at,
-        Decl::FunctionBody(at, _, _, _, _) => *at,
-        Decl::InstanceBody(at, _, _, _, _) => *at,
+        Decl::Constant(at, ..)
+        | Decl::Opaque(at, ..)
+        | Decl::Record(at, ..)
+        | Decl::Union(at, ..)
+        | Decl::Function(at, ..)
+        | Decl::Class(at, ..)
+        | Decl::Instance(at, ..)
+        | Decl::ConstantBody(at, ..)
+        | Decl::FunctionBody(at, ..)
+        | Decl::InstanceBody(at, ..) => *at,
     }
 }
 
@@ -58,16 +58,11 @@ fn promised(decl: &Decl<Parsed>) -> Option<&Name>
     ensures { option_copied result ≡ spec.promised (declared_of decl.now) }
 {
     match decl {
-        Decl::Constant(_, name, _) => Some(&name.name),
-        Decl::Opaque(_, name, _, _) => Some(&name.name),
-        Decl::Record(_, _, _, _, _) => None,
-        Decl::Union(_, _, _, _, _) => None,
+        Decl::Constant(_, name, _) | Decl::Opaque(_, name, ..) | Decl::Instance(_, _, name, _) => {
+            Some(&name.name)
+        }
         Decl::Function(_, _, signature) => Some(&signature.name.name),
-        Decl::Class(_, _, _, _) => None,
-        Decl::Instance(_, _, name, _) => Some(&name.name),
-        Decl::ConstantBody(_, _, _, _) => None,
-        Decl::FunctionBody(_, _, _, _, _) => None,
-        Decl::InstanceBody(_, _, _, _, _) => None,
+        _ => None,
     }
 }
 
@@ -75,12 +70,10 @@ fn promised(decl: &Decl<Parsed>) -> Option<&Name>
 fn earlier(one: Option<usize>, other: Option<usize>) -> Option<usize>
     ensures { result ≡ defining.earlier one other }
 {
-    match one {
-        None => other,
-        Some(index) => match other {
-            None => Some(index),
-            Some(its) => Some(index.min(its)),
-        },
+    match (one, other) {
+        (Some(index), Some(its)) => Some(index.min(its)),
+        (None, _) => other,
+        (_, None) => one,
     }
 }
 
@@ -166,7 +159,6 @@ fn instance_found<'a>(
 }
 
 /// The first declaration of a body that defines a promise, if there is one.
-#[tactic(auto, using(au_syntax::proofs::DeclarationLemmas::declaration_steps, std::proofs::lemmas::Grind::common_steps))]
 fn definition_of<'a>(
     alloc: Global,
     sight: &Sight,
@@ -179,29 +171,17 @@ fn definition_of<'a>(
         ≡ find (spec.defines (sight_in sight.now) (declared_of promise.now))
         (declarations_of decls.now.items)) }
 {
+    let names = &definitions.names;
     match promise {
-        Decl::Constant(_, name, _) => {
-            Ok(found_by(decls, &definitions.names, Sort::Constants, &name.name))
-        }
-        Decl::Opaque(_, name, _, _) => Ok(found_by(
-            decls,
-            &definitions.names,
-            Sort::Types,
-            &name.name,
-        )),
-        Decl::Record(_, _, _, _, _) => Ok(None),
-        Decl::Union(_, _, _, _, _) => Ok(None),
+        Decl::Constant(_, name, _) => Ok(found_by(decls, names, Sort::Constants, &name.name)),
+        Decl::Opaque(_, name, ..) => Ok(found_by(decls, names, Sort::Types, &name.name)),
         Decl::Function(_, _, signature) => {
-            let name = &signature.name.name;
-            Ok(found_by(decls, &definitions.names, Sort::Functions, name))
+            Ok(found_by(decls, names, Sort::Functions, &signature.name.name))
         }
-        Decl::Class(_, _, _, _) => Ok(None),
         Decl::Instance(_, list, name, of) => {
             instance_found(alloc, sight, list, name, of, decls, definitions)
         }
-        Decl::ConstantBody(_, _, _, _) => Ok(None),
-        Decl::FunctionBody(_, _, _, _, _) => Ok(None),
-        Decl::InstanceBody(_, _, _, _, _) => Ok(None),
+        _ => Ok(None),
     }
 }
 
@@ -296,15 +276,12 @@ fn parts_fault(
     ensures { IfOk result (λ fault. fault ≡ spec.parts_fault (sight_in sight.now)
         (tree_seen interface.entry) (tree_seen body.entry)) }
 {
-    match interface {
-        None => Ok(None),
-        Some(promises) => match body {
-            None => Ok(None),
-            Some(file) => {
-                let decls = &file.tree().declarations;
-                body_fault(alloc, sight, decls, &promises.tree().declarations)
-            }
-        },
+    match (interface, body) {
+        (Some(promises), Some(file)) => {
+            let decls = &file.tree().declarations;
+            body_fault(alloc, sight, decls, &promises.tree().declarations)
+        }
+        _ => Ok(None),
     }
 }
 

@@ -11,9 +11,9 @@ ghost use Rattle.au_promises.specs.Written.{declarations_of, declared_of, generi
 ghost use Rattle.au_syntax.specs.Views.{written, written_all};
 ghost use Rattle.au_written_types.specs.Meant.{meant};
 
-use crate::agreeing::{meant_with, scope_of};
+use crate::agreeing::scope_of;
 use crate::sights::Sight;
-use crate::wording::declaration_meant;
+use crate::wording::{declaration_meant, is_meaningless};
 use au_base::{Memory, Name};
 use au_syntax::{Access, Decl, Generic, Ident, Parsed, TypeText};
 use au_tables::Table;
@@ -196,8 +196,7 @@ fn nothing_key(
         ≡ defining.nothing_key (meant [] params.now (sight_in sight.now).body (sight_in sight.now).rows
         (written of.now)) (spec.class_key (sight_in sight.now).body (name_of name.now))) }
 {
-    let found = meant_with(alloc, params, sight.body, sight.heads, of)?;
-    if found.is_some() {
+    if !is_meaningless(alloc, params, sight.body, sight.heads, of)? {
         return Ok(None);
     }
     let key = class_key(alloc, sight.body, name)?;
@@ -238,16 +237,8 @@ fn key_defined(
         ≡ defining.key_defined sort (sight_in sight.now) (declared_of decl.now)) }
 {
     match decl {
-        Decl::Constant(_, _, _) => Ok(None),
-        Decl::Opaque(_, _, _, _) => Ok(None),
-        Decl::Record(_, _, _, _, _) => Ok(None),
-        Decl::Union(_, _, _, _, _) => Ok(None),
-        Decl::Function(_, _, _) => Ok(None),
-        Decl::Class(_, _, _, _) => Ok(None),
-        Decl::Instance(_, _, _, _) => Ok(None),
-        Decl::ConstantBody(_, _, _, _) => Ok(None),
-        Decl::FunctionBody(_, _, _, _, _) => Ok(None),
         Decl::InstanceBody(_, list, name, of, _) => body_key(alloc, sight, sort, list, name, of),
+        _ => Ok(None),
     }
 }
 

@@ -21,15 +21,8 @@ fn declaration_of(name: &Name, sense: &Sense) -> Option<DeclAt>
     ensures { result ≡ spec.declaration_of (Some (said name.now sense.now)) }
 {
     match sense {
-        Sense::Unit => None,
-        Sense::Bool => None,
-        Sense::Int(_) => None,
-        Sense::Param => None,
-        Sense::Span => None,
-        Sense::Static => None,
-        Sense::Region => None,
-        Sense::Declared(at, _) => Some(*at),
-        Sense::Class(at) => Some(*at),
+        Sense::Declared(at, _) | Sense::Class(at) => Some(*at),
+        _ => None,
     }
 }
 
@@ -55,6 +48,25 @@ pub fn declaration_meant(
     }
 }
 
+/// Whether a written type means nothing among these type parameters, names and rows.
+///
+/// # Errors
+///
+/// Only for want of memory.
+pub fn is_meaningless(
+    alloc: Global,
+    params: &Params,
+    names: &Table<DeclAt>,
+    heads: &Heads,
+    of: &TypeText,
+) -> Result<bool, Memory>
+    ensures { IfOk result (λ nothing. nothing
+        ≡ is_none (meant [] params.now names.now heads.now (written of.now))) }
+{
+    let found = meant_with(alloc, params, names, heads, of)?;
+    Ok(found.is_none())
+}
+
 /// Whether a written type of the interface means nothing.
 ///
 /// # Errors
@@ -70,6 +82,5 @@ pub fn means_nothing(
         ≡ is_none (meant [] scope.now (sight_in sight.now).interface (sight_in sight.now).rows
         (written of.now))) }
 {
-    let found = meant_with(alloc, scope, sight.interface, sight.heads, of)?;
-    Ok(found.is_none())
+    is_meaningless(alloc, scope, sight.interface, sight.heads, of)
 }
