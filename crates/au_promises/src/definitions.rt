@@ -92,14 +92,12 @@ impl ByName {
     {
         let constants = first_defined(alloc, Sort::Constants, decls)?;
         let types = first_defined(alloc, Sort::Types, decls)?;
-        match first_defined(alloc, Sort::Functions, decls) {
-            Ok(functions) => Ok(ByName {
-                constants,
-                types,
-                functions,
-            }),
-            Err(fault) => Err(fault),
-        }
+        let functions = first_defined(alloc, Sort::Functions, decls)?;
+        Ok(ByName {
+            constants,
+            types,
+            functions,
+        })
     }
 
     /// The table of a sort.
@@ -126,14 +124,12 @@ impl Definitions {
     {
         let worded = first_keyed(alloc, sight, KeySort::Worded, decls)?;
         let meaningless = first_keyed(alloc, sight, KeySort::Meaningless, decls)?;
-        match ByName::of(alloc, decls) {
-            Ok(names) => Ok(Definitions {
-                names,
-                worded,
-                meaningless,
-            }),
-            Err(fault) => Err(fault),
-        }
+        let names = ByName::of(alloc, decls)?;
+        Ok(Definitions {
+            names,
+            worded,
+            meaningless,
+        })
     }
 }
 

@@ -5,7 +5,6 @@ ghost use Rattle.std.specs.Option.{option_copied};
 ghost use Rattle.au_modules.specs.Programs.{ModuleParts};
 ghost use Rattle.au_modules.specs.Seen.{tree_seen};
 ghost use Rattle.au_modules.specs.Slots as slots;
-ghost use Rattle.au_promises.specs.Agreeing as agreeing;
 ghost use Rattle.au_promises.specs.Defining as defining;
 ghost use Rattle.au_promises.specs.Defining.{AreDefinitions};
 ghost use Rattle.au_promises.specs.Keys as keys;
@@ -147,8 +146,8 @@ fn instance_found<'a>(
 ) -> Result<Option<&'a Decl<Parsed>>, Memory>
     requires { AreDefinitions (sight_in sight.now) (declarations_of decls.now.items) definitions.now }
     ensures { IfOk result (λ found. declared_seen found
-        ≡ find (spec.instance_defined (sight_in sight.now) (agreeing.scope_of (generics_of list.now.items))
-        (name_of name.now) (written of.now)) (declarations_of decls.now.items)) }
+        ≡ defining.instance_among (sight_in sight.now) (generics_of list.now.items) (name_of name.now)
+        (written of.now) (declarations_of decls.now.items)) }
 {
     let scope = scope_of(alloc, list)?;
     let index = instance_index(alloc, sight, &scope, name, of, definitions)?;

@@ -2,14 +2,13 @@
 //! instances, one of the interface and one of the body, have one key exactly where they are of one class and
 //! their types are the same word for word.
 
-ghost use Rattle.std.specs.Prelude.{◌≡◌, ◌∷◌, ◌++◌, [], IfOk, OnOk, length};
+ghost use Rattle.std.specs.Prelude.{◌≡◌, ◌∷◌, ◌++◌, IfOk, OnOk, length};
 ghost use Rattle.std.specs.Option.{option_map};
 ghost use Rattle.au_promises.specs.Defining as defining;
 ghost use Rattle.au_promises.specs.Defining.{AreFirst};
 ghost use Rattle.au_promises.specs.Keys as spec;
 ghost use Rattle.au_promises.specs.Written.{declarations_of, declared_of, generics_of, name_of, sight_in};
 ghost use Rattle.au_syntax.specs.Views.{written, written_all};
-ghost use Rattle.au_written_types.specs.Meant.{meant};
 
 use crate::agreeing::scope_of;
 use crate::sights::Sight;
@@ -185,7 +184,7 @@ pub fn instance_key(
 }
 
 /// The key of the class of an instance of the body, given its type parameters, where its type means nothing.
-fn nothing_key(
+fn meaningless_key(
     alloc: Global,
     sight: &Sight,
     params: &Params,
@@ -193,8 +192,7 @@ fn nothing_key(
     of: &TypeText,
 ) -> Result<Option<Vec<u8>>, Memory>
     ensures { IfOk result (λ key. option_map (λ k. k.items) key
-        ≡ defining.nothing_key (meant [] params.now (sight_in sight.now).body (sight_in sight.now).rows
-        (written of.now)) (spec.class_key (sight_in sight.now).body (name_of name.now))) }
+        ≡ defining.meaningless_key (sight_in sight.now) params.now (name_of name.now) (written of.now)) }
 {
     if !is_meaningless(alloc, params, sight.body, sight.heads, of)? {
         return Ok(None);
@@ -222,7 +220,7 @@ fn body_key(
             let key = instance_key(alloc, &scope, sight.body, sight.heads, name, of)?;
             Ok(Some(key))
         }
-        KeySort::Meaningless => nothing_key(alloc, sight, &scope, name, of),
+        KeySort::Meaningless => meaningless_key(alloc, sight, &scope, name, of),
     }
 }
 
