@@ -27,7 +27,7 @@ use crate::faults::PromiseFault;
 use crate::keeping::keeps;
 use crate::keys::{class_key, instance_key};
 use crate::sights::Sight;
-use crate::wording::means_nothing;
+use crate::wording::is_meaningless;
 use au_base::{Memory, Name, Pos};
 use au_names::NamedModules as Resolved;
 use au_syntax::{Decl, Generic, Ident, Parsed, Part, TypeText, Whole};
@@ -126,7 +126,7 @@ pub fn instance_index(
         (name_of name.now) (written of.now)) all) }
 {
     let worded = first_worded(alloc, sight, scope, name, of, definitions)?;
-    let nothing = means_nothing(alloc, sight, scope, of)?;
+    let nothing = is_meaningless(alloc, scope, sight.interface, sight.heads, of)?;
     if !nothing {
         return Ok(worded);
     }

@@ -2,13 +2,11 @@
 
 ghost use Rattle.std.specs.Prelude.{◌≡◌, [], IfOk, Some, is_none};
 ghost use Rattle.au_promises.specs.Wording as spec;
-ghost use Rattle.au_promises.specs.Written.{sight_in};
 ghost use Rattle.au_syntax.specs.Views.{written};
 ghost use Rattle.au_written_types.specs.Meant.{meant};
 ghost use Rattle.au_written_types.specs.Views.{said};
 
 use crate::agreeing::meant_with;
-use crate::sights::Sight;
 use au_base::{Memory, Name};
 use au_syntax::TypeText;
 use au_tables::Table;
@@ -65,22 +63,4 @@ pub fn is_meaningless(
 {
     let found = meant_with(alloc, params, names, heads, of)?;
     Ok(found.is_none())
-}
-
-/// Whether a written type of the interface means nothing.
-///
-/// # Errors
-///
-/// Only for want of memory.
-pub fn means_nothing(
-    alloc: Global,
-    sight: &Sight,
-    scope: &Params,
-    of: &TypeText,
-) -> Result<bool, Memory>
-    ensures { IfOk result (λ nothing. nothing
-        ≡ is_none (meant [] scope.now (sight_in sight.now).interface (sight_in sight.now).rows
-        (written of.now))) }
-{
-    is_meaningless(alloc, scope, sight.interface, sight.heads, of)
 }
