@@ -23,6 +23,7 @@ use Rattle.std.proofs.Common.{
   ◌∙◌,
   add-one,
   drop-cons,
+  arith,
 }
 use Rattle.std.proofs.lemmas.List.{drop_all}
 use denote.Enum.Bare.{sameb}
@@ -134,3 +135,26 @@ module _ {A B C : Type 0} (agree : C → C → Bool) (p : B → C) (v : A → B)
       ∙ ap (λ r. all_agree agree r (map p (map v (drop i ys)))) (none_left p v xs i h)
       ∙ ap (λ r. all_agree agree [] r) (none_left p v ys i k)
       ∙ agree_nil)
+
+  -- what a loop over the first list reads, which is another list: two items that don't agree
+  pub differ_at : {xs zs ys : List A} {i : ℕ} {x y : A} → AgreeSoFar xs ys i → i < length xs
+      → x ≡ get_or xs i x → y ≡ get_or ys i y → agree (p (v x)) (p (v y)) ≡ false → xs ≡ zs
+      → false ≡ all_agree agree (map p (map v zs)) (map p (map v ys))
+  differ_at {xs} {zs} {ys} {i} {x} {y} old h here there differ is =
+      let within : i < length ys = omega (arith, old.lengths, h) in
+      agree_not xs ys i x y old h within here there differ
+      ∙ ap (λ r. all_agree agree (map p (map v r)) (map p (map v ys))) is
+
+  -- two items more that agree
+  pub agree_more : {xs ys : List A} {i : ℕ} {x y : A} → AgreeSoFar xs ys i → i < length xs
+      → x ≡ get_or xs i x → y ≡ get_or ys i y → agree (p (v x)) (p (v y)) ≡ true → AgreeSoFar xs ys (i + 1)
+  agree_more {xs} {ys} {i} {x} {y} old h here there same =
+      let within : i < length ys = omega (arith, old.lengths, h) in
+      agree_next xs ys i x y old h within here there same
+
+  -- all have agreed
+  pub agree_all : {xs zs ys : List A} {i : ℕ} → AgreeSoFar xs ys i → length xs ≤ i → xs ≡ zs
+      → true ≡ all_agree agree (map p (map v zs)) (map p (map v ys))
+  agree_all {xs} {zs} {ys} {i} old h is =
+      let past : length ys ≤ i = omega (arith, old.lengths, h) in
+      agree_end xs ys i old h past ∙ ap (λ r. all_agree agree (map p (map v r)) (map p (map v ys))) is

@@ -1,6 +1,7 @@
 pub mod AgreeingLemmas
 pub mod DecidingLemmas
 pub mod DefinitionLemmas
+pub mod FormLemmas
 pub mod FulfilledLemmas
 pub mod KeyLemmas
 pub mod PromiseLemmas

@@ -1,11 +1,12 @@
 -- Where the definitions of a body stand among its declarations.
-use Rattle.std.specs.Prelude.{◌≡◌, ℕ, min, Bool, List, [], Option, None, Some, position}
+use Rattle.std.specs.Prelude.{◌≡◌, ℕ, min, Bool, List, [], Option, None, Some, find, position}
 use Rattle.au_syntax.specs.Modules.{Constrained, instance_body}
 use Rattle.au_syntax.specs.Names.{Placed}
 use Rattle.au_syntax.specs.Plain.{Bytes, PlainDeclaration}
 use Rattle.au_syntax.specs.Types.{WrittenType}
 use Rattle.au_tables.specs.Tables as tables
 use Rattle.au_tables.specs.Tables.{with_pair}
+use Rattle.au_types.specs.declared.parameters.Parameter.{Parameter}
 use Rattle.au_types.specs.Types.{Meaning}
 use Rattle.au_written_types.specs.Meant.{meant}
 use Rattle.au_promises.specs.declared.definitions.ByName.{ByName}
@@ -16,7 +17,13 @@ use Rattle.au_promises.specs.declared.keys.KeySort.{KeySort}
 use Rattle.au_promises.specs.declared.keys.KeySort.TheVariants.{Worded, Meaningless}
 use Rattle.au_promises.specs.Agreeing.{scope_of, Sight}
 use Rattle.au_promises.specs.Keys.{class_key, instance_key}
-use Rattle.au_promises.specs.Promises.{constant_defined, type_defined, function_defined, is_name}
+use Rattle.au_promises.specs.Promises.{
+  constant_defined,
+  type_defined,
+  function_defined,
+  instance_defined,
+  is_name,
+}
 
 -- the name that a declaration defines of a sort, if it defines one
 abbrev pub name_defined : Sort → PlainDeclaration → Option Bytes
@@ -37,12 +44,16 @@ abbrev pub nothing_key : Option Meaning → Bytes → Option Bytes
 nothing_key None key = Some key
 nothing_key (Some t) key = None
 
+-- the key of the class of an instance of a body, given its type parameters, where its type means nothing
+abbrev pub meaningless_key : Sight → List Parameter → Placed Bytes → WrittenType → Option Bytes
+meaningless_key sight scope name t =
+    nothing_key (meant [] scope sight.body sight.rows t) (class_key sight.body name)
+
 -- the key of an instance of a body: by its class and its written type, or by its class alone where its type
 -- means nothing
 abbrev pub body_key : KeySort → Sight → List (Constrained Bytes) → Placed Bytes → WrittenType → Option Bytes
 body_key Worded sight generics name t = Some (instance_key (scope_of generics) sight.body sight.rows name t)
-body_key Meaningless sight generics name t =
-    nothing_key (meant [] (scope_of generics) sight.body sight.rows t) (class_key sight.body name)
+body_key Meaningless sight generics name t = meaningless_key sight (scope_of generics) name t
 
 -- the key of a sort of the instance that a declaration of a body defines, if it has one
 abbrev pub key_defined : KeySort → Sight → PlainDeclaration → Option Bytes
@@ -53,6 +64,11 @@ key_defined sort sight d = None
 abbrev pub with_name : List (Bytes × ℕ) → Option Bytes → ℕ → List (Bytes × ℕ)
 with_name table None index = table
 with_name table (Some name) index = with_pair table name index
+
+-- the first declaration of a body that defines an instance of this class for this written type
+abbrev pub instance_among : Sight → List (Constrained Bytes) → Placed Bytes → WrittenType
+    → List PlainDeclaration → Option PlainDeclaration
+instance_among sight generics name t all = find (instance_defined sight (scope_of generics) name t) all
 
 -- By each key a table finds where the first of some declarations stands that has it.
 abbrev pub AreFirst : (PlainDeclaration → Option Bytes) → List PlainDeclaration → List (Bytes × ℕ) → Type 0

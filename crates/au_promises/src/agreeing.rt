@@ -72,15 +72,10 @@ pub fn same_parameters(
 pub fn same_declaration(name: &Name, other: &Name, one: Option<DeclAt>, its: Option<DeclAt>) -> bool
     ensures { result ≡ spec.same_declaration name.now other.now one its }
 {
-    match one {
-        None => match its {
-            None => name.as_bytes() == other.as_bytes(),
-            Some(_) => false,
-        },
-        Some(at) => match its {
-            None => false,
-            Some(by) => at == by,
-        },
+    match (one, its) {
+        (Some(at), Some(by)) => at == by,
+        (None, None) => name.as_bytes() == other.as_bytes(),
+        _ => false,
     }
 }
 
@@ -142,15 +137,10 @@ pub fn same_generics(
 fn same_meaning(one: &Option<Ty>, other: &Option<Ty>) -> bool
     ensures { result ≡ spec.same_meaning (option_map meaning one.now) (option_map meaning other.now) }
 {
-    match one {
-        None => match other {
-            None => true,
-            Some(_) => false,
-        },
-        Some(of) => match other {
-            None => false,
-            Some(its) => is_same(of, its),
-        },
+    match (one, other) {
+        (Some(of), Some(its)) => is_same(of, its),
+        (None, None) => true,
+        _ => false,
     }
 }
 
@@ -178,6 +168,22 @@ pub fn meant_with(
     type_meant(alloc, &scope, node)
 }
 
+/// Whether a written type means this type, if any, among these type parameters, names and rows.
+fn means_this(
+    alloc: Global,
+    of: &Option<Ty>,
+    params: &Params,
+    names: &Table<DeclAt>,
+    heads: &Heads,
+    node: &TypeText,
+) -> Result<bool, Memory>
+    ensures { IfOk result (λ same. same ≡ spec.same_meaning (option_map meaning of.now)
+        (meant [] params.now names.now heads.now (written node.now))) }
+{
+    let its = meant_with(alloc, params, names, heads, node)?;
+    Ok(same_meaning(of, &its))
+}
+
 /// Whether a written type of the interface and one of the body, each with its type parameters, mean one
 /// type.
 ///
@@ -196,8 +202,7 @@ pub fn same_type(
         (written one.now) outer.now (written other.now)) }
 {
     let of = meant_with(alloc, scope, sight.interface, sight.heads, one)?;
-    let its = meant_with(alloc, outer, sight.body, sight.heads, other)?;
-    Ok(same_meaning(&of, &its))
+    means_this(alloc, &of, outer, sight.body, sight.heads, other)
 }
 
 /// The type parameters behind `generic`, as those of a scope.

@@ -48,68 +48,15 @@ pub struct Definitions {
     pub meaningless: Table<usize>,
 }
 
-/// The name of the constant that a declaration defines, if it defines one.
-fn constant_defined(decl: &Decl<Parsed>) -> Option<&Name>
-    ensures { option_copied result ≡ spec.constant_defined (declared_of decl.now) }
-{
-    match decl {
-        Decl::Constant(_, _, _) => None,
-        Decl::Opaque(_, _, _, _) => None,
-        Decl::Record(_, _, _, _, _) => None,
-        Decl::Union(_, _, _, _, _) => None,
-        Decl::Function(_, _, _) => None,
-        Decl::Class(_, _, _, _) => None,
-        Decl::Instance(_, _, _, _) => None,
-        Decl::ConstantBody(_, name, _, _) => Some(&name.name),
-        Decl::FunctionBody(_, _, _, _, _) => None,
-        Decl::InstanceBody(_, _, _, _, _) => None,
-    }
-}
-
-/// The name of the type that a declaration defines, if it defines one.
-fn type_defined(decl: &Decl<Parsed>) -> Option<&Name>
-    ensures { option_copied result ≡ spec.type_defined (declared_of decl.now) }
-{
-    match decl {
-        Decl::Constant(_, _, _) => None,
-        Decl::Opaque(_, _, _, _) => None,
-        Decl::Record(_, name, _, _, _) => Some(&name.name),
-        Decl::Union(_, name, _, _, _) => Some(&name.name),
-        Decl::Function(_, _, _) => None,
-        Decl::Class(_, _, _, _) => None,
-        Decl::Instance(_, _, _, _) => None,
-        Decl::ConstantBody(_, _, _, _) => None,
-        Decl::FunctionBody(_, _, _, _, _) => None,
-        Decl::InstanceBody(_, _, _, _, _) => None,
-    }
-}
-
-/// The name of the function that a declaration defines, if it defines one.
-fn function_defined(decl: &Decl<Parsed>) -> Option<&Name>
-    ensures { option_copied result ≡ spec.function_defined (declared_of decl.now) }
-{
-    match decl {
-        Decl::Constant(_, _, _) => None,
-        Decl::Opaque(_, _, _, _) => None,
-        Decl::Record(_, _, _, _, _) => None,
-        Decl::Union(_, _, _, _, _) => None,
-        Decl::Function(_, _, _) => None,
-        Decl::Class(_, _, _, _) => None,
-        Decl::Instance(_, _, _, _) => None,
-        Decl::ConstantBody(_, _, _, _) => None,
-        Decl::FunctionBody(_, _, signature, _, _) => Some(&signature.name.name),
-        Decl::InstanceBody(_, _, _, _, _) => None,
-    }
-}
-
 /// The name that a declaration defines of a sort, if it defines one.
 fn name_defined(sort: Sort, decl: &Decl<Parsed>) -> Option<&Name>
     ensures { option_copied result ≡ defining.name_defined sort (declared_of decl.now) }
 {
-    match sort {
-        Sort::Constants => constant_defined(decl),
-        Sort::Types => type_defined(decl),
-        Sort::Functions => function_defined(decl),
+    match (sort, decl) {
+        (Sort::Constants, Decl::ConstantBody(_, name, ..)) => Some(&name.name),
+        (Sort::Types, Decl::Record(_, name, ..) | Decl::Union(_, name, ..)) => Some(&name.name),
+        (Sort::Functions, Decl::FunctionBody(_, _, signature, ..)) => Some(&signature.name.name),
+        _ => None,
     }
 }
 
@@ -175,9 +122,9 @@ impl Definitions {
         ensures { IfOk result (λ definitions. AreDefinitions (sight_in sight.now)
             (declarations_of decls.now) definitions) }
     {
-        let names = ByName::of(alloc, decls)?;
         let worded = first_keyed(alloc, sight, KeySort::Worded, decls)?;
         let meaningless = first_keyed(alloc, sight, KeySort::Meaningless, decls)?;
+        let names = ByName::of(alloc, decls)?;
         Ok(Definitions {
             names,
             worded,

@@ -5,7 +5,6 @@ ghost use Rattle.std.specs.Option.{option_copied};
 ghost use Rattle.au_modules.specs.Programs.{ModuleParts};
 ghost use Rattle.au_modules.specs.Seen.{tree_seen};
 ghost use Rattle.au_modules.specs.Slots as slots;
-ghost use Rattle.au_promises.specs.Agreeing as agreeing;
 ghost use Rattle.au_promises.specs.Defining as defining;
 ghost use Rattle.au_promises.specs.Defining.{AreDefinitions};
 ghost use Rattle.au_promises.specs.Keys as keys;
@@ -28,7 +27,7 @@ use crate::faults::PromiseFault;
 use crate::keeping::keeps;
 use crate::keys::{class_key, instance_key};
 use crate::sights::Sight;
-use crate::wording::means_nothing;
+use crate::wording::is_meaningless;
 use au_base::{Memory, Name, Pos};
 use au_names::NamedModules as Resolved;
 use au_syntax::{Decl, Generic, Ident, Parsed, Part, TypeText, Whole};
@@ -40,16 +39,16 @@ fn declaration_place(decl: &Decl<Parsed>) -> Pos
     ensures { result ≡ spec.declaration_place (declared_of decl.now) }
 {
     match decl {
-        Decl::Constant(at, _, _) => *at,
-        Decl::Opaque(at, _, _, _) => *at,
-        Decl::Record(at, _, _, _, _) => *at,
-        Decl::Union(at, _, _, _, _) => *at,
-        Decl::Function(at, _, _) => *at,
-        Decl::Class(at, _, _, _) => *at,
-        Decl::Instance(at, _, _, _) => *at,
-        Decl::ConstantBody(at, _, _, _) => *at,
-        Decl::FunctionBody(at, _, _, _, _) => *at,
-        Decl::InstanceBody(at, _, _, _, _) => *at,
+        Decl::Constant(at, ..)
+        | Decl::Opaque(at, ..)
+        | Decl::Record(at, ..)
+        | Decl::Union(at, ..)
+        | Decl::Function(at, ..)
+        | Decl::Class(at, ..)
+        | Decl::Instance(at, ..)
+        | Decl::ConstantBody(at, ..)
+        | Decl::FunctionBody(at, ..)
+        | Decl::InstanceBody(at, ..) => *at,
     }
 }
 
@@ -58,16 +57,11 @@ fn promised(decl: &Decl<Parsed>) -> Option<&Name>
     ensures { option_copied result ≡ spec.promised (declared_of decl.now) }
 {
     match decl {
-        Decl::Constant(_, name, _) => Some(&name.name),
-        Decl::Opaque(_, name, _, _) => Some(&name.name),
-        Decl::Record(_, _, _, _, _) => None,
-        Decl::Union(_, _, _, _, _) => None,
+        Decl::Constant(_, name, _) | Decl::Opaque(_, name, ..) | Decl::Instance(_, _, name, _) => {
+            Some(&name.name)
+        }
         Decl::Function(_, _, signature) => Some(&signature.name.name),
-        Decl::Class(_, _, _, _) => None,
-        Decl::Instance(_, _, name, _) => Some(&name.name),
-        Decl::ConstantBody(_, _, _, _) => None,
-        Decl::FunctionBody(_, _, _, _, _) => None,
-        Decl::InstanceBody(_, _, _, _, _) => None,
+        _ => None,
     }
 }
 
@@ -75,12 +69,10 @@ fn promised(decl: &Decl<Parsed>) -> Option<&Name>
 fn earlier(one: Option<usize>, other: Option<usize>) -> Option<usize>
     ensures { result ≡ defining.earlier one other }
 {
-    match one {
-        None => other,
-        Some(index) => match other {
-            None => Some(index),
-            Some(its) => Some(index.min(its)),
-        },
+    match (one, other) {
+        (Some(index), Some(its)) => Some(index.min(its)),
+        (None, _) => other,
+        (_, None) => one,
     }
 }
 
@@ -134,7 +126,7 @@ pub fn instance_index(
         (name_of name.now) (written of.now)) all) }
 {
     let worded = first_worded(alloc, sight, scope, name, of, definitions)?;
-    let nothing = means_nothing(alloc, sight, scope, of)?;
+    let nothing = is_meaningless(alloc, scope, sight.interface, sight.heads, of)?;
     if !nothing {
         return Ok(worded);
     }
@@ -154,8 +146,8 @@ fn instance_found<'a>(
 ) -> Result<Option<&'a Decl<Parsed>>, Memory>
     requires { AreDefinitions (sight_in sight.now) (declarations_of decls.now.items) definitions.now }
     ensures { IfOk result (λ found. declared_seen found
-        ≡ find (spec.instance_defined (sight_in sight.now) (agreeing.scope_of (generics_of list.now.items))
-        (name_of name.now) (written of.now)) (declarations_of decls.now.items)) }
+        ≡ defining.instance_among (sight_in sight.now) (generics_of list.now.items) (name_of name.now)
+        (written of.now) (declarations_of decls.now.items)) }
 {
     let scope = scope_of(alloc, list)?;
     let index = instance_index(alloc, sight, &scope, name, of, definitions)?;
@@ -166,7 +158,6 @@ fn instance_found<'a>(
 }
 
 /// The first declaration of a body that defines a promise, if there is one.
-#[tactic(auto, using(au_syntax::proofs::DeclarationLemmas::declaration_steps, std::proofs::lemmas::Grind::common_steps))]
 fn definition_of<'a>(
     alloc: Global,
     sight: &Sight,
@@ -179,29 +170,17 @@ fn definition_of<'a>(
         ≡ find (spec.defines (sight_in sight.now) (declared_of promise.now))
         (declarations_of decls.now.items)) }
 {
+    let names = &definitions.names;
     match promise {
-        Decl::Constant(_, name, _) => {
-            Ok(found_by(decls, &definitions.names, Sort::Constants, &name.name))
-        }
-        Decl::Opaque(_, name, _, _) => Ok(found_by(
-            decls,
-            &definitions.names,
-            Sort::Types,
-            &name.name,
-        )),
-        Decl::Record(_, _, _, _, _) => Ok(None),
-        Decl::Union(_, _, _, _, _) => Ok(None),
+        Decl::Constant(_, name, _) => Ok(found_by(decls, names, Sort::Constants, &name.name)),
+        Decl::Opaque(_, name, ..) => Ok(found_by(decls, names, Sort::Types, &name.name)),
         Decl::Function(_, _, signature) => {
-            let name = &signature.name.name;
-            Ok(found_by(decls, &definitions.names, Sort::Functions, name))
+            Ok(found_by(decls, names, Sort::Functions, &signature.name.name))
         }
-        Decl::Class(_, _, _, _) => Ok(None),
         Decl::Instance(_, list, name, of) => {
             instance_found(alloc, sight, list, name, of, decls, definitions)
         }
-        Decl::ConstantBody(_, _, _, _) => Ok(None),
-        Decl::FunctionBody(_, _, _, _, _) => Ok(None),
-        Decl::InstanceBody(_, _, _, _, _) => Ok(None),
+        _ => Ok(None),
     }
 }
 
@@ -296,15 +275,12 @@ fn parts_fault(
     ensures { IfOk result (λ fault. fault ≡ spec.parts_fault (sight_in sight.now)
         (tree_seen interface.entry) (tree_seen body.entry)) }
 {
-    match interface {
-        None => Ok(None),
-        Some(promises) => match body {
-            None => Ok(None),
-            Some(file) => {
-                let decls = &file.tree().declarations;
-                body_fault(alloc, sight, decls, &promises.tree().declarations)
-            }
-        },
+    match (interface, body) {
+        (Some(promises), Some(file)) => {
+            let decls = &file.tree().declarations;
+            body_fault(alloc, sight, decls, &promises.tree().declarations)
+        }
+        _ => Ok(None),
     }
 }
 

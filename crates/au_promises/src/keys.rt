@@ -2,18 +2,17 @@
 //! instances, one of the interface and one of the body, have one key exactly where they are of one class and
 //! their types are the same word for word.
 
-ghost use Rattle.std.specs.Prelude.{◌≡◌, ◌∷◌, ◌++◌, [], IfOk, OnOk, length};
+ghost use Rattle.std.specs.Prelude.{◌≡◌, ◌∷◌, ◌++◌, IfOk, OnOk, length};
 ghost use Rattle.std.specs.Option.{option_map};
 ghost use Rattle.au_promises.specs.Defining as defining;
 ghost use Rattle.au_promises.specs.Defining.{AreFirst};
 ghost use Rattle.au_promises.specs.Keys as spec;
 ghost use Rattle.au_promises.specs.Written.{declarations_of, declared_of, generics_of, name_of, sight_in};
 ghost use Rattle.au_syntax.specs.Views.{written, written_all};
-ghost use Rattle.au_written_types.specs.Meant.{meant};
 
-use crate::agreeing::{meant_with, scope_of};
+use crate::agreeing::scope_of;
 use crate::sights::Sight;
-use crate::wording::declaration_meant;
+use crate::wording::{declaration_meant, is_meaningless};
 use au_base::{Memory, Name};
 use au_syntax::{Access, Decl, Generic, Ident, Parsed, TypeText};
 use au_tables::Table;
@@ -185,7 +184,7 @@ pub fn instance_key(
 }
 
 /// The key of the class of an instance of the body, given its type parameters, where its type means nothing.
-fn nothing_key(
+fn meaningless_key(
     alloc: Global,
     sight: &Sight,
     params: &Params,
@@ -193,11 +192,9 @@ fn nothing_key(
     of: &TypeText,
 ) -> Result<Option<Vec<u8>>, Memory>
     ensures { IfOk result (λ key. option_map (λ k. k.items) key
-        ≡ defining.nothing_key (meant [] params.now (sight_in sight.now).body (sight_in sight.now).rows
-        (written of.now)) (spec.class_key (sight_in sight.now).body (name_of name.now))) }
+        ≡ defining.meaningless_key (sight_in sight.now) params.now (name_of name.now) (written of.now)) }
 {
-    let found = meant_with(alloc, params, sight.body, sight.heads, of)?;
-    if found.is_some() {
+    if !is_meaningless(alloc, params, sight.body, sight.heads, of)? {
         return Ok(None);
     }
     let key = class_key(alloc, sight.body, name)?;
@@ -223,7 +220,7 @@ fn body_key(
             let key = instance_key(alloc, &scope, sight.body, sight.heads, name, of)?;
             Ok(Some(key))
         }
-        KeySort::Meaningless => nothing_key(alloc, sight, &scope, name, of),
+        KeySort::Meaningless => meaningless_key(alloc, sight, &scope, name, of),
     }
 }
 
@@ -238,16 +235,8 @@ fn key_defined(
         ≡ defining.key_defined sort (sight_in sight.now) (declared_of decl.now)) }
 {
     match decl {
-        Decl::Constant(_, _, _) => Ok(None),
-        Decl::Opaque(_, _, _, _) => Ok(None),
-        Decl::Record(_, _, _, _, _) => Ok(None),
-        Decl::Union(_, _, _, _, _) => Ok(None),
-        Decl::Function(_, _, _) => Ok(None),
-        Decl::Class(_, _, _, _) => Ok(None),
-        Decl::Instance(_, _, _, _) => Ok(None),
-        Decl::ConstantBody(_, _, _, _) => Ok(None),
-        Decl::FunctionBody(_, _, _, _, _) => Ok(None),
         Decl::InstanceBody(_, list, name, of, _) => body_key(alloc, sight, sort, list, name, of),
+        _ => Ok(None),
     }
 }
 

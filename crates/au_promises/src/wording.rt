@@ -2,13 +2,11 @@
 
 ghost use Rattle.std.specs.Prelude.{◌≡◌, [], IfOk, Some, is_none};
 ghost use Rattle.au_promises.specs.Wording as spec;
-ghost use Rattle.au_promises.specs.Written.{sight_in};
 ghost use Rattle.au_syntax.specs.Views.{written};
 ghost use Rattle.au_written_types.specs.Meant.{meant};
 ghost use Rattle.au_written_types.specs.Views.{said};
 
 use crate::agreeing::meant_with;
-use crate::sights::Sight;
 use au_base::{Memory, Name};
 use au_syntax::TypeText;
 use au_tables::Table;
@@ -21,15 +19,8 @@ fn declaration_of(name: &Name, sense: &Sense) -> Option<DeclAt>
     ensures { result ≡ spec.declaration_of (Some (said name.now sense.now)) }
 {
     match sense {
-        Sense::Unit => None,
-        Sense::Bool => None,
-        Sense::Int(_) => None,
-        Sense::Param => None,
-        Sense::Span => None,
-        Sense::Static => None,
-        Sense::Region => None,
-        Sense::Declared(at, _) => Some(*at),
-        Sense::Class(at) => Some(*at),
+        Sense::Declared(at, _) | Sense::Class(at) => Some(*at),
+        _ => None,
     }
 }
 
@@ -55,21 +46,21 @@ pub fn declaration_meant(
     }
 }
 
-/// Whether a written type of the interface means nothing.
+/// Whether a written type means nothing among these type parameters, names and rows.
 ///
 /// # Errors
 ///
 /// Only for want of memory.
-pub fn means_nothing(
+pub fn is_meaningless(
     alloc: Global,
-    sight: &Sight,
-    scope: &Params,
+    params: &Params,
+    names: &Table<DeclAt>,
+    heads: &Heads,
     of: &TypeText,
 ) -> Result<bool, Memory>
     ensures { IfOk result (λ nothing. nothing
-        ≡ is_none (meant [] scope.now (sight_in sight.now).interface (sight_in sight.now).rows
-        (written of.now))) }
+        ≡ is_none (meant [] params.now names.now heads.now (written of.now))) }
 {
-    let found = meant_with(alloc, scope, sight.interface, sight.heads, of)?;
+    let found = meant_with(alloc, params, names, heads, of)?;
     Ok(found.is_none())
 }

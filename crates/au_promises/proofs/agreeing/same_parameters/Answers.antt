@@ -1,9 +1,9 @@
-use Rattle.std.proofs.Common.{◌<◌, ◌≤◌, length, map, ap, sym, ◌∙◌, arith}
+use Rattle.std.proofs.Common.{sym, ◌∙◌}
 use Rattle.au_syntax.specs.contracts.parsed.ParsedPhase.TheImpl.{ghosts as parsed}
 use Rattle.au_syntax.specs.Plain.{plain_in_universe}
 use Rattle.au_syntax.specs.Views.{in_universe}
-use Rattle.au_promises.specs.Agreeing.{all_agree, same_parameter}
-use Rattle.au_promises.proofs.AgreeingLemmas.{disagree, agree_next, agree_not, agree_end}
+use Rattle.au_promises.specs.Agreeing.{same_parameter}
+use Rattle.au_promises.proofs.AgreeingLemmas.{disagree, differ_at, agree_more, agree_all}
 use Rattle.au_promises.proofs.agreeing.same_parameters.Goals as goal
 
 -- lists of two lengths
@@ -12,45 +12,19 @@ returns-then-len c =
     let one = c.args.list.now in
     let other = c.args.others.now in
     sym (disagree same_parameter (plain_in_universe parsed.name_bytes)
-    (in_universe parsed) one.items other.items (λ e. c.if-len.true (c.len.ensures
-    ∙ one.ok.0 ∙ e ∙ sym other.ok.0 ∙ sym c.len-2.ensures)))
+    (in_universe parsed) one.items other.items
+    (λ e. c.if-len.true (c.len.ensures ∙ one.ok.0 ∙ e ∙ sym other.ok.0 ∙ sym c.len-2.ensures)))
 
 pub returns-then-not-same_parameter : goal.returns-then-not-same_parameter
 returns-then-not-same_parameter c =
-    let xs = c.deref-one-items.result.now in
-    let ys = c.args.others.now.items in
-    let within : c.loop-index.index < length ys =
-    omega (arith, c.loop-index.invariant.lengths, c.loop-index-test.true) in
-    agree_not same_parameter (plain_in_universe parsed.name_bytes)
-    (in_universe parsed) xs ys c.loop-index.index c.one-item.result c.index.result.now
-    c.loop-index.invariant c.loop-index-test.true within c.one-item.is c.index.ensures
-    (sym c.if-not-same_parameter.ensures)
-    ∙ ap (λ r. all_agree same_parameter (map (plain_in_universe parsed.name_bytes)
-    (map (in_universe parsed) r)) (map (plain_in_universe parsed.name_bytes)
-    (map (in_universe parsed) ys))) c.deref-one-items.ensures.value
+    differ_at _ _ _ c.loop-index.invariant c.loop-index-test.true c.one-item.is c.index.ensures
+    (sym c.if-not-same_parameter.ensures) c.deref-one-items.ensures.value
 
 pub loop-index-preserved : goal.loop-index-preserved
 loop-index-preserved c =
-    let xs = c.deref-one-items.result.now in
-    let ys = c.args.others.now.items in
-    let within : c.loop-index.index < length ys =
-    omega (arith, c.loop-index.invariant.lengths, c.loop-index-test.true) in
-    agree_next same_parameter (plain_in_universe parsed.name_bytes)
-    (in_universe parsed) xs ys c.loop-index.index c.one-item.result c.index.result.now
-    c.loop-index.invariant c.loop-index-test.true within c.one-item.is c.index.ensures
+    agree_more _ _ _ c.loop-index.invariant c.loop-index-test.true c.one-item.is c.index.ensures
     (sym c.if-not-same_parameter.ensures)
 
 pub returns : goal.returns
 returns c =
-    let xs = c.deref-one-items.result.now in
-    let ys = c.args.others.now.items in
-    let past : length ys ≤ c.loop-index.index = omega (
-      arith,
-      c.loop-index.invariant.lengths,
-      c.loop-index-test.false,
-    ) in
-    agree_end same_parameter (plain_in_universe parsed.name_bytes)
-    (in_universe parsed) xs ys c.loop-index.index c.loop-index.invariant c.loop-index-test.false past
-    ∙ ap (λ r. all_agree same_parameter (map (plain_in_universe parsed.name_bytes)
-    (map (in_universe parsed) r)) (map (plain_in_universe parsed.name_bytes)
-    (map (in_universe parsed) ys))) c.deref-one-items.ensures.value
+    agree_all _ _ _ c.loop-index.invariant c.loop-index-test.false c.deref-one-items.ensures.value

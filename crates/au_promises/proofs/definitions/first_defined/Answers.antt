@@ -13,7 +13,8 @@ pub loop-index-preserved : goal.loop-index-preserved
 loop-index-preserved c =
     first_next (plain_declaration parsed.name_bytes) (declaration parsed)
     (name_defined c.args.sort) c.loop-index.table c.put_name.new.table c.args.decls.now
-    c.loop-index.index c.index-decls-index.result c.loop-index-test.true c.index-decls-index.is c.loop-index.invariant
+    c.loop-index.index c.index-decls-index.result c.loop-index-test.true c.index-decls-index.is
+    c.loop-index.invariant
     (c.in_ok-put_name.ensures ∙ ap (λ name. with_name c.loop-index.table name c.loop-index.index)
     c.name_defined.ensures)
 
