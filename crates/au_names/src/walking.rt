@@ -3,7 +3,8 @@
 ghost use Rattle.std.specs.Prelude.{◌≡◌, ◌++◌, ◌+◌, ◌<◌, ◌^◌, IfOk, OnOk, length, map, slice_get};
 ghost use Rattle.au_names.specs.Exporting.{declarations_seen};
 ghost use Rattle.au_names.specs.HeadsOf as spec;
-ghost use Rattle.au_names.specs.Walks.{IsFreeFrom, is_new, row_on, rows_on, type_names_of, walk_over, walk_past, written, written_all};
+ghost use Rattle.au_names.specs.Walks.{IsFreeFrom, is_new, row_on, rows_on, type_names_of};
+ghost use Rattle.au_names.specs.Walks.{walk_over, walk_past, written, written_all};
 ghost use Rattle.au_modules.specs.Seen.{tree_seen};
 ghost use Rattle.au_modules.specs.Slots.{modules};
 ghost use Rattle.au_tables.specs.DeclaredNames.{given};

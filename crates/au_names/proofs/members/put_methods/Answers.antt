@@ -13,16 +13,52 @@ loop-one-preserved g c =
     let number = c.args.at.decl in
     let before = c.loop-one.table in
     let item = c.one-item.result in
-    put_step (λ xs. targets place (given number (map (λ one. one.name.name) (map (plain_header g.P.Phase.name_bytes) (map (header g.P.Phase) xs)))))
-    (λ x. ((plain_header g.P.Phase.name_bytes (header g.P.Phase x)).name.name, target place (plain_header g.P.Phase.name_bytes (header g.P.Phase x)).name.name number) ∷ [])
+    put_step
+    (λ xs.
+    targets place
+    (given number
+    (map (λ one. one.name.name)
+    (map (plain_header g.P.Phase.name_bytes) (map (header g.P.Phase) xs)))))
+    (λ x. (
+      (plain_header g.P.Phase.name_bytes (header g.P.Phase x)).name.name,
+      target place (plain_header g.P.Phase.name_bytes (header g.P.Phase x)).name.name number,
+    )
+    ∷ [])
     (λ x xs. refl) before c.put_target.new.table
-    (with_all c.args.table.now (targets place (given number (map (λ one. one.name.name) (map (plain_header g.P.Phase.name_bytes) (map (header g.P.Phase) c.deref-one-items.result.now))))))
-    c.deref-one-items.result.now c.loop-one.one-index item (read_at c.deref-one-items.result.now c.loop-one.one-index item c.loop-one-test.true c.one-item.is) c.loop-one.invariant
-    (target_put before c.put_target.new.table c.bytes_of-name.result.now (plain_header g.P.Phase.name_bytes (header g.P.Phase item)).name.name place number c.bytes_of-name.ensures.bytes c.in_ok-put_target.ensures)
+    (with_all c.args.table.now
+    (targets place
+    (given number
+    (map (λ one. one.name.name)
+    (map (plain_header g.P.Phase.name_bytes)
+    (map (header g.P.Phase) c.deref-one-items.result.now))))))
+    c.deref-one-items.result.now c.loop-one.one-index item
+    (read_at c.deref-one-items.result.now c.loop-one.one-index item c.loop-one-test.true c.one-item.is)
+    c.loop-one.invariant
+    (target_put before c.put_target.new.table c.bytes_of-name.result.now
+    (plain_header g.P.Phase.name_bytes (header g.P.Phase item)).name.name place number
+    c.bytes_of-name.ensures.bytes c.in_ok-put_target.ensures)
 
 pub returns : goal.returns
 returns g c =
-    put_end (λ xs. targets c.args.at.«module» (given c.args.at.decl (map (λ one. one.name.name) (map (plain_header g.P.Phase.name_bytes) (map (header g.P.Phase) xs))))) refl c.loop-one.table
-    (with_all c.args.table.now (targets c.args.at.«module» (given c.args.at.decl (map (λ one. one.name.name) (map (plain_header g.P.Phase.name_bytes) (map (header g.P.Phase) c.deref-one-items.result.now))))))
+    put_end
+    (λ xs.
+    targets c.args.at.«module»
+    (given c.args.at.decl
+    (map (λ one. one.name.name)
+    (map (plain_header g.P.Phase.name_bytes) (map (header g.P.Phase) xs)))))
+    refl c.loop-one.table
+    (with_all c.args.table.now
+    (targets c.args.at.«module»
+    (given c.args.at.decl
+    (map (λ one. one.name.name)
+    (map (plain_header g.P.Phase.name_bytes)
+    (map (header g.P.Phase) c.deref-one-items.result.now))))))
     c.deref-one-items.result.now c.loop-one.one-index c.loop-one-test.false c.loop-one.invariant
-    ∙ ap (λ xs. with_all c.args.table.now (targets c.args.at.«module» (given c.args.at.decl (map (λ one. one.name.name) (map (plain_header g.P.Phase.name_bytes) (map (header g.P.Phase) xs)))))) c.deref-one-items.ensures.value
+    ∙ ap
+    (λ xs.
+    with_all c.args.table.now
+    (targets c.args.at.«module»
+    (given c.args.at.decl
+    (map (λ one. one.name.name)
+    (map (plain_header g.P.Phase.name_bytes) (map (header g.P.Phase) xs))))))
+    c.deref-one-items.ensures.value

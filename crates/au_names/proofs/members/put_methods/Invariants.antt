@@ -9,5 +9,14 @@ use Rattle.au_names.proofs.members.put_methods.Given as goal
 -- what is left to put comes to the same
 abbrev pub invariant-loop-one : goal.invariant-loop-one
 invariant-loop-one g l =
-    with_all l.table (targets l.at.«module» (given l.at.decl (map (λ h. h.name.name) (map (plain_header g.P.Phase.name_bytes) (map (header g.P.Phase) (drop l.one-index l.one-items))))))
-    ≡ with_all l.fn.table (targets l.at.«module» (given l.at.decl (map (λ h. h.name.name) (map (plain_header g.P.Phase.name_bytes) (map (header g.P.Phase) l.one-items)))))
+    with_all l.table
+    (targets l.at.«module»
+    (given l.at.decl
+    (map (λ h. h.name.name)
+    (map (plain_header g.P.Phase.name_bytes)
+    (map (header g.P.Phase) (drop l.one-index l.one-items))))))
+    ≡ with_all l.fn.table
+    (targets l.at.«module»
+    (given l.at.decl
+    (map (λ h. h.name.name)
+    (map (plain_header g.P.Phase.name_bytes) (map (header g.P.Phase) l.one-items)))))

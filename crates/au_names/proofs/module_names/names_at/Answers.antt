@@ -10,5 +10,9 @@ returns c =
     let interface = c.in_ok-interface in
     let body = c.in_ok-body in
     both_are program place interface.interface body.body c.requires.within
-    (λ m here. part_is program place Interface m interface.interface (interface.ensures.values m here) (interface.ensures.callables m here) (interface.ensures.types m here))
-    (λ m here. part_is program place Body m body.body (body.ensures.values m here) (body.ensures.callables m here) (body.ensures.types m here))
+    (λ m here.
+    part_is program place Interface m interface.interface (interface.ensures.values m here)
+    (interface.ensures.callables m here) (interface.ensures.types m here))
+    (λ m here.
+    part_is program place Body m body.body (body.ensures.values m here) (body.ensures.callables m here)
+    (body.ensures.types m here))

@@ -27,7 +27,8 @@ names_from-requires c =
 
 pub returns-in_ok-names-in-Some : goal.returns-in_ok-names-in-Some
 returns-in_ok-names-in-Some c =
-    body_names_seen (slots.modules c.args.modules.now) c.args.place (Some (says parsed c.in-Some.file.now.tree)) c.requires c.in-Some.ensures
+    body_names_seen (slots.modules c.args.modules.now) c.args.place
+    (Some (says parsed c.in-Some.file.now.tree)) c.requires c.in-Some.ensures
     ∙ ap (λ n. Some (tables_from n (says parsed c.in-Some.file.now.tree).declarations))
     (sym (c.count_in-first.ensures ∙ ap (λ o. length (declarations_seen o)) c.interface.ensures))
     ∙ ap (λ t. Some (tables_from c.count_in-first.result (says parsed t).declarations))

@@ -11,7 +11,13 @@ use Rattle.au_names.proofs.SeenLemmas.{part_imports, seen_put, pervasive_put}
 use Rattle.au_names.proofs.seeing.table_seen.Goals as goal
 
 pub offered_names-pervasive-requires : goal.offered_names-pervasive-requires
-offered_names-pervasive-requires c = omega (arith, c.requires.within, as_many c.args.exports.now.interfaces.items (slots.modules c.args.modules.now) c.requires.made.interfaces)
+offered_names-pervasive-requires c =
+    omega (
+      arith,
+      c.requires.within,
+      as_many c.args.exports.now.interfaces.items (slots.modules c.args.modules.now)
+          c.requires.made.interfaces,
+    )
 
 pub returns : goal.returns
 returns c = λ m here.
@@ -19,9 +25,14 @@ returns c = λ m here.
     let some : 0 < length program = omega (arith, c.requires.within) in
     let first = get_or program 0 nothing in
     let there : slice_get program 0 ≡ Some first = slice_get-get_or program 0 nothing some in
-    let imports = ap imports_seen (c.part-file.ensures ∙ ap (part_tree c.args.part) here) ∙ part_imports c.args.part m in
-    seen_put c.args.space program c.args.place m c.args.part c.new-table.result c.put_own.new.table c.put_imported.new.table c.put_table.new.table c.new-table.ensures
+    let imports =
+    ap imports_seen (c.part-file.ensures ∙ ap (part_tree c.args.part) here) ∙ part_imports c.args.part m in
+    seen_put c.args.space program c.args.place m c.args.part c.new-table.result c.put_own.new.table
+    c.put_imported.new.table c.put_table.new.table c.new-table.ensures
     (c.in_ok-put_own.ensures m here)
-    (c.in_ok-put_imported.ensures ∙ ap (λ imports. with_all c.put_own.new.table (imported c.args.space program c.args.place imports)) imports)
-    (pervasive_put c.args.space program first c.put_imported.new.table c.put_table.new.table c.offered_names-pervasive.result.now there
+    (c.in_ok-put_imported.ensures
+    ∙ ap (λ imports. with_all c.put_own.new.table (imported c.args.space program c.args.place imports))
+    imports)
+    (pervasive_put c.args.space program first c.put_imported.new.table c.put_table.new.table
+    c.offered_names-pervasive.result.now there
     (c.offered_names-pervasive.ensures program first c.requires.made there) c.in_ok-put_table.ensures)

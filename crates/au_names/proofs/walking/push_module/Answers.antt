@@ -13,21 +13,29 @@ use Rattle.au_names.proofs.walking.push_module.Goals as goal
 pub returns-clause-rows : goal.returns-clause-rows
 returns-clause-rows c =
     let found = slice_get (modules c.args.program.now) c.args.place in
-    module_done c.args.place c.args.place c.new.result found c.name-owner.result.now (tree_seen c.interface.result) (tree_seen c.body.result)
-    c.args.heads.now c.pass_part.new.heads c.pass_part-2.new.heads c.pass_part.new.walk refl c.new.ensures c.name-owner.ensures
-    c.interface.ensures c.body.ensures c.in_ok-pass_part.ensures.rows c.in_ok-pass_part.ensures.walk c.in_ok-pass_part-2.ensures.rows
+    module_done c.args.place c.args.place c.new.result found c.name-owner.result.now
+    (tree_seen c.interface.result) (tree_seen c.body.result)
+    c.args.heads.now c.pass_part.new.heads c.pass_part-2.new.heads c.pass_part.new.walk refl c.new.ensures
+    c.name-owner.ensures
+    c.interface.ensures c.body.ensures c.in_ok-pass_part.ensures.rows c.in_ok-pass_part.ensures.walk
+    c.in_ok-pass_part-2.ensures.rows
 
 pub returns-clause-free : goal.returns-clause-free
 returns-clause-free c =
     let w = c.pass_part-2.new.walk in
     free_behind c.args.place w.place w.number c.pass_part-2.new.heads
-    (place_done c.args.place c.args.place c.new.result (declarations_seen (tree_seen c.interface.result)) (declarations_seen (tree_seen c.body.result))
+    (place_done c.args.place c.args.place c.new.result (declarations_seen (tree_seen c.interface.result))
+    (declarations_seen (tree_seen c.body.result))
     c.pass_part.new.walk w refl c.in_ok-pass_part.ensures.walk c.in_ok-pass_part-2.ensures.walk)
     c.in_ok-pass_part-2.ensures.free
 
 pub pass_part-requires-clause-fits : goal.pass_part-requires-clause-fits
 pass_part-requires-clause-fits c =
-    omega (arith, few_seen (tree_seen c.interface.result) _ c.interface.ensures (numbers_fit c.args.program.now c.args.place).0)
+    omega (
+      arith,
+      few_seen (tree_seen c.interface.result) _ c.interface.ensures
+          (numbers_fit c.args.program.now c.args.place).0,
+    )
 
 pub pass_part-requires-2-clause-fits : goal.pass_part-requires-2-clause-fits
 pass_part-requires-2-clause-fits c =
