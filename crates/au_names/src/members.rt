@@ -14,6 +14,7 @@ ghost use Rattle.au_tables.specs.Tables.{with_all};
 
 use crate::putting::put_target;
 use crate::targets::Target;
+use crate::trees::tree_of;
 use au_base::Memory;
 use au_syntax::{Decl, Parsed, Signature, UnionCase, Whole};
 use au_tables::Table;
@@ -111,7 +112,7 @@ pub fn put_members_in(
     match file {
         None => Ok(()),
         Some(file) => {
-            let tree = file.tree();
+            let tree = tree_of(file);
             put_members_at(alloc, table, at, &tree.declarations)
         }
     }
