@@ -5,6 +5,7 @@ pub mod DefinitionLemmas
 pub mod ExportLemmas
 pub mod ImportLemmas
 pub mod NameLemmas
+pub mod OtherLemmas
 pub mod PutLemmas
 pub mod RowLemmas
 pub mod SeenLemmas

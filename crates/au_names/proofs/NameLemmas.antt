@@ -1,5 +1,6 @@
 -- What names mean in the modules of a program, one place after another.
-use Rattle.std.proofs.Common.{◌≡◌, ℕ, suc, zero, ◌+◌, ◌<◌, ◌≤◌, ◌⊎◌, inl, inr, List, [], ◌∷◌, ◌++◌, length, get_or, None, Some, refl, sym, ap, ◌∙◌, subst, arith}
+use Rattle.std.proofs.Common.{◌≡◌, ℕ, suc, zero, ◌+◌, ◌<◌, ◌≤◌, ◌⊎◌, inl, inr, List, [], ◌∷◌, ◌++◌, length}
+use Rattle.std.proofs.Common.{get_or, None, Some, refl, sym, ap, ◌∙◌, subst, arith}
 use Rattle.std.specs.Prelude.{slice_get}
 use Rattle.std.specs.Option.{option_map}
 use Rattle.std.proofs.lemmas.Bool.{cases_lt}
@@ -41,15 +42,21 @@ part_is program place part m names values callables types =
 pub both_are : (program : List ModuleParts) (place : ℕ) (interface body : PartNames) → place < length program
     → ((m : ModuleParts) → slice_get program place ≡ Some m → interface ≡ seen_by program place Interface m)
     → ((m : ModuleParts) → slice_get program place ≡ Some m → body ≡ seen_by program place Body m)
-    → option_map (names_of program place) (slice_get program place) ≡ Some (record { interface = interface; body = body })
+    → option_map (names_of program place) (slice_get program place)
+    ≡ Some (record { interface = interface; body = body })
 both_are program place interface body within first second = by (slice_get_cases program place).1
   where
-    by : ((m : ModuleParts) × (place < length program) × (slice_get program place ≡ Some m) × (get_or program place m ≡ m)) ⊎ ((length program ≤ place) × (slice_get program place ≡ None))
-        → option_map (names_of program place) (slice_get program place) ≡ Some (record { interface = interface; body = body })
+    by :
+        ((m : ModuleParts) × (place < length program) × (slice_get program place ≡ Some m) ×
+        (get_or program place m ≡ m))
+        ⊎ ((length program ≤ place) × (slice_get program place ≡ None))
+        → option_map (names_of program place) (slice_get program place)
+        ≡ Some (record { interface = interface; body = body })
     by (inl found) =
         let left : seen_by program place Interface found.0 ≡ interface = sym (first found.0 found.2) in
         let right : seen_by program place Body found.0 ≡ body = sym (second found.0 found.2) in
-        ap (option_map (names_of program place)) found.2 ∙ (λ i. Some (record { interface = left i; body = right i }))
+        ap (option_map (names_of program place)) found.2
+        ∙ (λ i. Some (record { interface = left i; body = right i }))
     by (inr past) = absurd (omega (arith, past.0, within))
 
 -- ---- modules in order
@@ -60,14 +67,17 @@ pub record AreBelow (program : List ModuleParts) (place : ℕ) (all : List Modul
   pub each : (k : ℕ) → k < place → slice_get all k ≡ option_map (names_of program k) (slice_get program k)
 
 -- those of one more
-pub below_next : (program : List ModuleParts) (place : ℕ) (all after : List ModuleNames) (one : ModuleNames) → AreBelow program place all
-    → option_map (names_of program place) (slice_get program place) ≡ Some one → after ≡ all ++ one ∷ [] → AreBelow program (place + 1) after
+pub below_next : (program : List ModuleParts) (place : ℕ) (all after : List ModuleNames) (one : ModuleNames)
+    → AreBelow program place all
+    → option_map (names_of program place) (slice_get program place) ≡ Some one → after ≡ all ++ one ∷ []
+    → AreBelow program (place + 1) after
 below_next program place all after one old here new = record {
   count = ap length new ∙ one_more all one ∙ ap (λ n. n + 1) old.count;
   each = λ k h. by k h (cases_lt k place);
 }
   where
-    by : (k : ℕ) → k < place + 1 → (k < place) ⊎ (place ≤ k) → slice_get after k ≡ option_map (names_of program k) (slice_get program k)
+    by : (k : ℕ) → k < place + 1 → (k < place) ⊎ (place ≤ k)
+        → slice_get after k ≡ option_map (names_of program k) (slice_get program k)
     by k h (inl less) =
         let within : k < length all = omega (arith, less, old.count) in
         ap (λ r. slice_get r k) new ∙ got_before all (one ∷ []) k within ∙ old.each k less
@@ -78,10 +88,12 @@ below_next program place all after one old here new = record {
         ap (λ r. slice_get r k) new ∙ got_last all one k at_end ∙ sym (subst P same here)
 
 -- those of all
-pub below_all : (program : List ModuleParts) (place : ℕ) (all : List ModuleNames) → length program ≤ place → AreBelow program place all → AreNames program all
+pub below_all : (program : List ModuleParts) (place : ℕ) (all : List ModuleNames) → length program ≤ place
+    → AreBelow program place all → AreNames program all
 below_all program place all past below = λ k. by k (cases_lt k place)
   where
-    by : (k : ℕ) → (k < place) ⊎ (place ≤ k) → slice_get all k ≡ option_map (names_of program k) (slice_get program k)
+    by : (k : ℕ) → (k < place) ⊎ (place ≤ k)
+        → slice_get all k ≡ option_map (names_of program k) (slice_get program k)
     by k (inl less) = below.each k less
     by k (inr more) =
         let end : length all ≤ k = omega (arith, more, below.count) in
@@ -90,25 +102,40 @@ below_all program place all past below = λ k. by k (cases_lt k place)
 
 -- ---- what is found
 
-names_found : (program : List ModuleParts) (all : List ModuleNames) (place : ℕ) (m : ModuleParts) → AreNames program all
+names_found : (program : List ModuleParts) (all : List ModuleNames) (place : ℕ) (m : ModuleParts)
+    → AreNames program all
     → slice_get program place ≡ Some m → slice_get all place ≡ Some (names_of program place m)
 names_found program all place m are here = are place ∙ ap (option_map (names_of program place)) here
 
 -- where there is a module there are its names
-pub names_within : (program : List ModuleParts) (all : List ModuleNames) (place : ℕ) → AreNames program all → place < length program → place < length all
+pub names_within : (program : List ModuleParts) (all : List ModuleNames) (place : ℕ) → AreNames program all
+    → place < length program → place < length all
 names_within program all place are within = by (slice_get_cases program place).1
   where
-    by : ((m : ModuleParts) × (place < length program) × (slice_get program place ≡ Some m) × (get_or program place m ≡ m)) ⊎ ((length program ≤ place) × (slice_get program place ≡ None)) → place < length all
-    by (inl found) = slice_get_within all place (names_of program place found.0) (names_found program all place found.0 are found.2)
+    by :
+        ((m : ModuleParts) × (place < length program) × (slice_get program place ≡ Some m) ×
+        (get_or program place m ≡ m))
+        ⊎ ((length program ≤ place) × (slice_get program place ≡ None))
+        → place < length all
+    by (inl found) =
+        slice_get_within all place (names_of program place found.0)
+        (names_found program all place found.0 are found.2)
     by (inr past) = absurd (omega (arith, past.0, within))
 
-in_part_of : (program : List ModuleParts) (place : ℕ) (part : Part) (m : ModuleParts) → in_part part (names_of program place m) ≡ seen_by program place part m
+in_part_of : (program : List ModuleParts) (place : ℕ) (part : Part) (m : ModuleParts)
+    → in_part part (names_of program place m) ≡ seen_by program place part m
 in_part_of program place Interface m = refl
 in_part_of program place Body m = refl
 
 -- the names of a part of the module at a place
-pub part_known : (program : List ModuleParts) (all : List ModuleNames) (place : ℕ) (part : Part) (m : ModuleParts) (one : ModuleNames) → AreNames program all
-    → slice_get program place ≡ Some m → one ≡ get_or all place one → in_part part one ≡ seen_by program place part m
+pub part_known : (program : List ModuleParts) (all : List ModuleNames) (place : ℕ) (part : Part)
+    (m : ModuleParts) (one : ModuleNames)
+    → AreNames program all
+    → slice_get program place ≡ Some m → one ≡ get_or all place one
+    → in_part part one ≡ seen_by program place part m
 part_known program all place part m one are here is =
-    ap (in_part part) (is ∙ get_or_from_slice_get all place (names_of program place m) one (names_found program all place m are here))
+    ap (in_part part)
+    (is
+    ∙ get_or_from_slice_get all place (names_of program place m) one
+    (names_found program all place m are here))
     ∙ in_part_of program place part m

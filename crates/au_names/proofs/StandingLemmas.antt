@@ -1,5 +1,7 @@
 -- Which declaration is found, and which defines a type.
-use Rattle.std.proofs.Common.{◌≡◌, ℕ, zero, suc, ◌+◌, ◌-◌, ◌<◌, ◌≤◌, Bool, true, false, cond, List, [], ◌∷◌, ◌++◌, length, map, find, drop, get_or, Option, None, Some, refl, sym, ap, ◌∙◌, arith, zero-add}
+use Rattle.std.proofs.Common.{◌≡◌, ℕ, zero, suc, ◌+◌, ◌-◌, ◌<◌, ◌≤◌, Bool, true, false, cond, List, [], ◌∷◌}
+use Rattle.std.proofs.Common.{◌++◌, length, map, find, drop, get_or, Option, None, Some, refl, sym, ap, ◌∙◌}
+use Rattle.std.proofs.Common.{arith, zero-add}
 use Rattle.std.specs.Prelude.{slice_get}
 use Rattle.std.specs.Option.{option_map}
 use Rattle.std.proofs.lemmas.List.{drop_all, drop_more}
@@ -17,7 +19,8 @@ use Rattle.au_names.specs.Walks.{written, written_all}
 use Rattle.au_names.specs.Exporting.{declarations_seen}
 use Rattle.au_names.specs.Owned.{declarations_in}
 use Rattle.au_names.proofs.ExportLemmas.{body_seen, interface_seen}
-use Rattle.au_names.specs.Standing.{Standing, body_at, body_standing, is_named, is_whole, standing_from, standing_in, whole_name}
+use Rattle.au_names.specs.Standing.{Standing, body_at, body_standing, is_named, is_whole, standing_from}
+use Rattle.au_names.specs.Standing.{standing_in, whole_name}
 
 -- a declaration of the code
 abbrev pub Written : Type 0
@@ -25,12 +28,14 @@ Written = Decl Parsed (List ℕ) (Unit {0}) (Unit {0})
 
 -- ---- lists behind others
 
-pub got_before : {X : Type 0} (xs ys : List X) (k : ℕ) → k < length xs → slice_get (xs ++ ys) k ≡ slice_get xs k
+pub got_before : {X : Type 0} (xs ys : List X) (k : ℕ) → k < length xs
+    → slice_get (xs ++ ys) k ≡ slice_get xs k
 got_before [] ys k h = absurd (omega arith)
 got_before (x ∷ xs) ys zero h = refl
 got_before (x ∷ xs) ys (suc k) h = got_before xs ys k (omega arith)
 
-got_behind : {X : Type 0} (xs ys : List X) (k : ℕ) → length xs ≤ k → slice_get ys (k - length xs) ≡ slice_get (xs ++ ys) k
+got_behind : {X : Type 0} (xs ys : List X) (k : ℕ) → length xs ≤ k
+    → slice_get ys (k - length xs) ≡ slice_get (xs ++ ys) k
 got_behind [] ys k h = let same : k - 0 ≡ k = omega arith in ap (slice_get ys) same
 got_behind (x ∷ xs) ys zero h = absurd (omega arith)
 got_behind (x ∷ xs) ys (suc k) h =
@@ -43,36 +48,52 @@ module _ (place : ℕ) (part : Part) where
   abbrev pub stands : ℕ → PlainDeclaration → Standing
   stands index d = record { place = place; part = part; index = index; says = d }
 
-  from_got : (first : ℕ) (ds : List PlainDeclaration) (i : ℕ) → slice_get (standing_from place part first ds) i ≡ option_map (stands (first + i)) (slice_get ds i)
+  from_got : (first : ℕ) (ds : List PlainDeclaration) (i : ℕ)
+      → slice_get (standing_from place part first ds) i ≡ option_map (stands (first + i)) (slice_get ds i)
   unfolding standing_from
   from_got first [] i = refl
-  from_got first (d ∷ ds) zero = let same : first ≡ first + 0 = omega arith in ap (λ n. Some (stands n d)) same
+  from_got first (d ∷ ds) zero =
+      let same : first ≡ first + 0 = omega arith in ap (λ n. Some (stands n d)) same
   from_got first (d ∷ ds) (suc i) =
       let same : first + 1 + i ≡ first + suc i = omega arith in
       from_got (first + 1) ds i ∙ ap (λ n. option_map (stands n) (slice_get ds i)) same
 
-  from_length : (first : ℕ) (ds : List PlainDeclaration) → length (standing_from place part first ds) ≡ length ds
+  from_length : (first : ℕ) (ds : List PlainDeclaration)
+      → length (standing_from place part first ds) ≡ length ds
   unfolding standing_from
   from_length first [] = refl
   from_length first (d ∷ ds) = ap suc (from_length (first + 1) ds)
 
   -- what is found at an index of the declarations of the code
-  read_from : (xs : List Written) (i : ℕ) → slice_get (standing_from place part 0 (written_all xs)) i ≡ option_map (λ x. stands i (written x)) (slice_get xs i)
+  read_from : (xs : List Written) (i : ℕ)
+      → slice_get (standing_from place part 0 (written_all xs)) i
+      ≡ option_map (λ x. stands i (written x)) (slice_get xs i)
   read_from xs i =
       from_got 0 (written_all xs) i
       ∙ ap (λ n. option_map (stands n) (slice_get (written_all xs) i)) (zero-add i)
-      ∙ ap (option_map (stands i)) (slice_get-map (plain_declaration parsed.name_bytes) (map (declaration parsed) xs) i ∙ ap (option_map (plain_declaration parsed.name_bytes)) (slice_get-map (declaration parsed) xs i))
+      ∙ ap (option_map (stands i))
+      (slice_get-map (plain_declaration parsed.name_bytes) (map (declaration parsed) xs) i
+      ∙ ap (option_map (plain_declaration parsed.name_bytes)) (slice_get-map (declaration parsed) xs i))
       ∙ both (slice_get xs i)
     where
-      both : (o : Option Written) → option_map (stands i) (option_map (plain_declaration parsed.name_bytes) (option_map (declaration parsed) o)) ≡ option_map (λ x. stands i (written x)) o
+      both : (o : Option Written)
+          → option_map (stands i)
+          (option_map (plain_declaration parsed.name_bytes) (option_map (declaration parsed) o))
+          ≡ option_map (λ x. stands i (written x)) o
       both None = refl
       both (Some x) = refl
 
-  pub found_there : (xs : List Written) (i : ℕ) (x : Written) → i < length xs → x ≡ get_or xs i x → Some (stands i (written x)) ≡ slice_get (standing_from place part 0 (written_all xs)) i
-  found_there xs i x within is = sym (read_from xs i ∙ ap (option_map (λ y. stands i (written y))) (slice_get_read xs (length xs) i x refl within is))
+  pub found_there : (xs : List Written) (i : ℕ) (x : Written) → i < length xs → x ≡ get_or xs i x
+      → Some (stands i (written x)) ≡ slice_get (standing_from place part 0 (written_all xs)) i
+  found_there xs i x within is =
+      sym
+      (read_from xs i
+      ∙ ap (option_map (λ y. stands i (written y))) (slice_get_read xs (length xs) i x refl within is))
 
-  pub found_past : (xs : List Written) (i : ℕ) → length xs ≤ i → None ≡ slice_get (standing_from place part 0 (written_all xs)) i
-  found_past xs i past = sym (read_from xs i ∙ ap (option_map (λ y. stands i (written y))) (slice_get_past xs i past))
+  pub found_past : (xs : List Written) (i : ℕ) → length xs ≤ i
+      → None ≡ slice_get (standing_from place part 0 (written_all xs)) i
+  found_past xs i past =
+      sym (read_from xs i ∙ ap (option_map (λ y. stands i (written y))) (slice_get_past xs i past))
 
 -- ---- the declarations of a module
 
@@ -80,31 +101,48 @@ no_count : (seen : Option PlainModule) → seen ≡ None → length (declaration
 no_count seen is = ap (λ s. length (declarations_seen s)) is
 
 -- one of the interface
-pub interface_found : (place number : ℕ) (found : Option ModuleParts) (seen : Option PlainModule) → seen ≡ interface_tree found → number < length (declarations_seen seen)
-    → slice_get (standing_from place Interface 0 (declarations_seen seen)) number ≡ standing_in place number found
+pub interface_found : (place number : ℕ) (found : Option ModuleParts) (seen : Option PlainModule)
+    → seen ≡ interface_tree found → number < length (declarations_seen seen)
+    → slice_get (standing_from place Interface 0 (declarations_seen seen)) number
+    ≡ standing_in place number found
 interface_found place number None seen is less = let none = no_count seen is in absurd (omega arith)
 interface_found place number (Some m) seen is less =
-    let same : declarations_seen seen ≡ declarations_in m.interface = ap declarations_seen is ∙ sym (interface_seen m) in
-    let count : length (standing_from place Interface 0 (declarations_in m.interface)) ≡ length (declarations_seen seen) = from_length place Interface 0 (declarations_in m.interface) ∙ ap length (sym same) in
+    let same : declarations_seen seen ≡ declarations_in m.interface =
+    ap declarations_seen is ∙ sym (interface_seen m) in
+    let count : length (standing_from place Interface 0 (declarations_in m.interface))
+    ≡ length (declarations_seen seen) =
+    from_length place Interface 0 (declarations_in m.interface) ∙ ap length (sym same) in
     ap (λ ds. slice_get (standing_from place Interface 0 ds) number) same
-    ∙ sym (got_before (standing_from place Interface 0 (declarations_in m.interface)) (body_standing place m) number (omega arith))
+    ∙ sym
+    (got_before (standing_from place Interface 0 (declarations_in m.interface)) (body_standing place m)
+    number (omega arith))
 
 -- the declarations of the body
-pub body_list : (place : ℕ) (found : Option ModuleParts) (body : Option PlainModule) → body ≡ body_tree found → standing_from place Body 0 (declarations_seen body) ≡ body_at place found
+pub body_list : (place : ℕ) (found : Option ModuleParts) (body : Option PlainModule) → body ≡ body_tree found
+    → standing_from place Body 0 (declarations_seen body) ≡ body_at place found
 unfolding standing_from
 body_list place None body is = ap (λ b. standing_from place Body 0 (declarations_seen b)) is
-body_list place (Some m) body is = ap (standing_from place Body 0) (ap declarations_seen is ∙ sym (body_seen m))
+body_list place (Some m) body is =
+    ap (standing_from place Body 0) (ap declarations_seen is ∙ sym (body_seen m))
 
 -- one of the body
-pub body_found : (place number : ℕ) (found : Option ModuleParts) (seen body : Option PlainModule) → seen ≡ interface_tree found → body ≡ body_tree found → length (declarations_seen seen) ≤ number
-    → slice_get (standing_from place Body 0 (declarations_seen body)) (number - length (declarations_seen seen)) ≡ standing_in place number found
-body_found place number None seen body none is past = ap (λ l. slice_get l (number - length (declarations_seen seen))) (body_list place None body is)
+pub body_found : (place number : ℕ) (found : Option ModuleParts) (seen body : Option PlainModule)
+    → seen ≡ interface_tree found → body ≡ body_tree found → length (declarations_seen seen) ≤ number
+    → slice_get (standing_from place Body 0 (declarations_seen body))
+    (number - length (declarations_seen seen))
+    ≡ standing_in place number found
+body_found place number None seen body none is past =
+    ap (λ l. slice_get l (number - length (declarations_seen seen))) (body_list place None body is)
 body_found place number (Some m) seen body interface is past =
-    let same : declarations_seen seen ≡ declarations_in m.interface = ap declarations_seen interface ∙ sym (interface_seen m) in
-    let count : length (standing_from place Interface 0 (declarations_in m.interface)) ≡ length (declarations_seen seen) = from_length place Interface 0 (declarations_in m.interface) ∙ ap length (sym same) in
+    let same : declarations_seen seen ≡ declarations_in m.interface =
+    ap declarations_seen interface ∙ sym (interface_seen m) in
+    let count : length (standing_from place Interface 0 (declarations_in m.interface))
+    ≡ length (declarations_seen seen) =
+    from_length place Interface 0 (declarations_in m.interface) ∙ ap length (sym same) in
     ap (λ l. slice_get l (number - length (declarations_seen seen))) (body_list place (Some m) body is)
     ∙ ap (λ n. slice_get (body_standing place m) (number - n)) (sym count)
-    ∙ got_behind (standing_from place Interface 0 (declarations_in m.interface)) (body_standing place m) number (omega arith)
+    ∙ got_behind (standing_from place Interface 0 (declarations_in m.interface)) (body_standing place m)
+    number (omega arith)
 
 -- ---- the first record or union of a name
 
@@ -113,27 +151,44 @@ module _ (place : ℕ) (name : Bytes) where
   pub left : ℕ → List Written → Option Standing
   left i xs = find (is_whole name) (standing_from place Body i (written_all (drop i xs)))
 
-  rest_of : (xs : List Written) (i : ℕ) (x : Written) → i < length xs → x ≡ get_or xs i x → written_all (drop i xs) ≡ written x ∷ written_all (drop (i + 1) xs)
-  rest_of xs i x within is = ap written_all (drop_more xs i x within) ∙ ap (λ y. written y ∷ written_all (drop (i + 1) xs)) (sym is)
+  rest_of : (xs : List Written) (i : ℕ) (x : Written) → i < length xs → x ≡ get_or xs i x
+      → written_all (drop i xs) ≡ written x ∷ written_all (drop (i + 1) xs)
+  rest_of xs i x within is =
+      ap written_all (drop_more xs i x within) ∙ ap (λ y. written y ∷ written_all (drop (i + 1) xs)) (sym is)
 
-  next_of : (xs : List Written) (i : ℕ) (x : Written) (b : Bool) → i < length xs → x ≡ get_or xs i x → b ≡ is_named name (whole_name (written x))
+  next_of : (xs : List Written) (i : ℕ) (x : Written) (b : Bool) → i < length xs → x ≡ get_or xs i x
+      → b ≡ is_named name (whole_name (written x))
       → left i xs ≡ cond b (Some (stands place Body i (written x))) (left (i + 1) xs)
   unfolding left standing_from
   next_of xs i x b within is test =
       ap (λ ds. find (is_whole name) (standing_from place Body i ds)) (rest_of xs i x within is)
-      ∙ ap (λ c. cond c (Some (stands place Body i (written x))) (find (is_whole name) (standing_from place Body (i + 1) (written_all (drop (i + 1) xs))))) (sym test)
+      ∙ ap
+      (λ c.
+      cond c (Some (stands place Body i (written x)))
+      (find (is_whole name) (standing_from place Body (i + 1) (written_all (drop (i + 1) xs)))))
+      (sym test)
 
-  pub whole_first : (xs : List Written) → left 0 xs ≡ find (is_whole name) (standing_from place Body 0 (written_all xs))
+  pub whole_first : (xs : List Written)
+      → left 0 xs ≡ find (is_whole name) (standing_from place Body 0 (written_all xs))
   unfolding left
   whole_first xs = refl
 
-  pub whole_here : (xs : List Written) (i : ℕ) (x : Written) (b : Bool) → i < length xs → x ≡ get_or xs i x → b ≡ is_named name (whole_name (written x)) → b ≡ true
+  pub whole_here : (xs : List Written) (i : ℕ) (x : Written) (b : Bool) → i < length xs → x ≡ get_or xs i x
+      → b ≡ is_named name (whole_name (written x)) → b ≡ true
       → Some (stands place Body i (written x)) ≡ left i xs
-  whole_here xs i x b within is test passes = sym (next_of xs i x b within is test ∙ ap (λ c. cond c (Some (stands place Body i (written x))) (left (i + 1) xs)) passes)
+  whole_here xs i x b within is test passes =
+      sym
+      (next_of xs i x b within is test
+      ∙ ap (λ c. cond c (Some (stands place Body i (written x))) (left (i + 1) xs)) passes)
 
-  pub whole_on : (xs : List Written) (i : ℕ) (x : Written) (b : Bool) → i < length xs → x ≡ get_or xs i x → b ≡ is_named name (whole_name (written x)) → b ≡ false → left (i + 1) xs ≡ left i xs
-  whole_on xs i x b within is test fails = sym (next_of xs i x b within is test ∙ ap (λ c. cond c (Some (stands place Body i (written x))) (left (i + 1) xs)) fails)
+  pub whole_on : (xs : List Written) (i : ℕ) (x : Written) (b : Bool) → i < length xs → x ≡ get_or xs i x
+      → b ≡ is_named name (whole_name (written x)) → b ≡ false → left (i + 1) xs ≡ left i xs
+  whole_on xs i x b within is test fails =
+      sym
+      (next_of xs i x b within is test
+      ∙ ap (λ c. cond c (Some (stands place Body i (written x))) (left (i + 1) xs)) fails)
 
   pub whole_nowhere : (xs : List Written) (i : ℕ) → length xs ≤ i → None ≡ left i xs
   unfolding left standing_from
-  whole_nowhere xs i past = sym (ap (λ ds. find (is_whole name) (standing_from place Body i (written_all ds))) (drop_all i xs past))
+  whole_nowhere xs i past =
+      sym (ap (λ ds. find (is_whole name) (standing_from place Body i (written_all ds))) (drop_all i xs past))

@@ -2,7 +2,8 @@
 -- it, in each space. A union brings its cases along, and a class its methods, under their own names. A
 -- record's constructor has the record's name, and comes under the name that the import gives. An opaque
 -- type has no constructor in the interface, so that none comes.
-use Rattle.std.specs.Prelude.{ℕ, Bool, nat_lt, List, [], ◌++◌, map, filter, find, Option, None, Some, unwrap_or, position, slice_get, if◌then◌else◌}
+use Rattle.std.specs.Prelude.{ℕ, Bool, nat_lt, List, [], ◌++◌, map, filter, find, Option, None, Some}
+use Rattle.std.specs.Prelude.{unwrap_or, position, slice_get, if◌then◌else◌}
 use Rattle.std.specs.List.{flat_map, list_any}
 use Rattle.std.specs.Option.{option_map}
 use Rattle.std.specs.Str.{bytes_eq}
@@ -48,7 +49,9 @@ along place name offered = members_of place (find (is_type name) offered)
 -- what an item brings from the module at this place, into a space
 abbrev pub brought : Space → ℕ → ModuleParts → Renaming Bytes → List (Bytes × Target)
 brought Values place m item = renamed item.name.name (given_name item) (exported Values place m)
-brought Callables place m item = renamed item.name.name (given_name item) (exported Callables place m) ++ along place item.name.name (interface_of m)
+brought Callables place m item =
+    renamed item.name.name (given_name item) (exported Callables place m)
+    ++ along place item.name.name (interface_of m)
 brought Types place m item = renamed item.name.name (given_name item) (exported Types place m)
 
 -- the place of the module of this name
@@ -58,7 +61,8 @@ place_of program name = position (λ (m : ModuleParts). bytes_eq name m.name) pr
 -- the module at a place, with it, if it stands before another place
 abbrev pub earlier : List ModuleParts → ℕ → Option ℕ → Option (ℕ × ModuleParts)
 earlier program place None = None
-earlier program place (Some other) = if nat_lt other place then option_map (λ m. (other, m)) (slice_get program other) else None
+earlier program place (Some other) =
+    if nat_lt other place then option_map (λ m. (other, m)) (slice_get program other) else None
 
 -- the module that an import names, with its place, if it stands before this place
 abbrev pub source : List ModuleParts → ℕ → Importing Bytes → Option (ℕ × ModuleParts)

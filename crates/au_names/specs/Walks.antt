@@ -1,5 +1,6 @@
 -- How a walk through the declarations of a module goes on.
-use Rattle.std.specs.Prelude.{ℕ, ◌+◌, ◌≡◌, ◌<◌, ◌≤◌, ◌⊎◌, Bool, false, not, List, [], ◌∷◌, ◌++◌, map, None, if◌then◌else◌}
+use Rattle.std.specs.Prelude.{ℕ, ◌+◌, ◌≡◌, ◌<◌, ◌≤◌, ◌⊎◌, Bool, false, not, List, [], ◌∷◌, ◌++◌, map, None}
+use Rattle.std.specs.Prelude.{if◌then◌else◌}
 use Rattle.au_syntax.specs.contracts.parsed.ParsedPhase.TheImpl.{ghosts as parsed}
 use Rattle.au_syntax.specs.declared.parsed.Parsed.{Parsed}
 use Rattle.au_syntax.specs.declared.declarations.Decl.{Decl}

@@ -11,6 +11,7 @@ ghost use Rattle.au_names.specs.Standing.{standing_from, standing_seen};
 ghost use Rattle.au_syntax.specs.declared.modules.Part.TheVariants as parts;
 
 use crate::declared_types::type_declared;
+use crate::trees::tree_of;
 use au_base::Name;
 use au_modules::Modules;
 use au_syntax::{Decl, Parsed, Part, Whole};
@@ -57,7 +58,7 @@ pub(crate) fn count_in(file: Option<&Whole<Parsed>>) -> usize
 {
     match file {
         None => 0,
-        Some(file) => file.tree().declarations.len(),
+        Some(file) => tree_of(file).declarations.len(),
     }
 }
 
@@ -73,7 +74,7 @@ fn declared_in<'a>(
 {
     match file {
         None => None,
-        Some(file) => declared_at(place, part, &file.tree().declarations, index),
+        Some(file) => declared_at(place, part, &tree_of(file).declarations, index),
     }
 }
 
@@ -169,7 +170,7 @@ fn whole_in<'a>(modules: &'a Modules, place: u16, name: &Name) -> Option<Declare
 {
     match body_at(modules, place) {
         None => None,
-        Some(file) => whole_among(place, &file.tree().declarations, name),
+        Some(file) => whole_among(place, &tree_of(file).declarations, name),
     }
 }
 

@@ -25,30 +25,19 @@ pub fn type_declared(decl: &Decl<Parsed>) -> Option<TypeDeclared<'_>>
     ensures { spec.type_seen result ≡ spec.type_declared (written decl.now) }
 {
     match decl {
-        Decl::Constant(_, _, _) => None,
         Decl::Opaque(_, name, parameters, universe) => Some(TypeDeclared {
             opaque: true,
             name: &name.name,
             parameters,
             universe: *universe,
         }),
-        Decl::Record(_, name, parameters, universe, _) => Some(TypeDeclared {
+        Decl::Record(_, name, parameters, universe, _)
+        | Decl::Union(_, name, parameters, universe, _) => Some(TypeDeclared {
             opaque: false,
             name: &name.name,
             parameters,
             universe: *universe,
         }),
-        Decl::Union(_, name, parameters, universe, _) => Some(TypeDeclared {
-            opaque: false,
-            name: &name.name,
-            parameters,
-            universe: *universe,
-        }),
-        Decl::Function(_, _, _) => None,
-        Decl::Class(_, _, _, _) => None,
-        Decl::Instance(_, _, _, _) => None,
-        Decl::ConstantBody(_, _, _, _) => None,
-        Decl::FunctionBody(_, _, _, _, _) => None,
-        Decl::InstanceBody(_, _, _, _, _) => None,
+        _ => None,
     }
 }

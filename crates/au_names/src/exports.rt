@@ -13,6 +13,7 @@ ghost use Rattle.au_tables.specs.DeclaredNames.{table_of};
 ghost use Rattle.au_tables.specs.Tables.{with_all};
 
 use crate::putting::in_space;
+use crate::trees::tree_of;
 use au_base::Memory;
 use au_modules::Modules;
 use au_syntax::{Module, Parsed};
@@ -65,7 +66,7 @@ fn offered(alloc: Global, modules: &Modules, place: usize) -> Result<NameTables,
     match modules.interface(place) {
         None => Ok(no_names(alloc)),
         Some(file) => {
-            let tree = file.tree();
+            let tree = tree_of(file);
             let names = names_from(alloc, tree, 0)?;
             Ok(names)
         }
@@ -104,8 +105,10 @@ pub fn exports_of(alloc: Global, modules: &Modules) -> Result<Exports, Memory>
     ensures { IfOk result (λ exports. AreExports exports (slots.modules modules.now)) }
 {
     let places = places_by_name(alloc, modules)?;
-    let interfaces = interfaces(alloc, modules)?;
-    Ok(Exports { places, interfaces })
+    match interfaces(alloc, modules) {
+        Ok(interfaces) => Ok(Exports { places, interfaces }),
+        Err(fault) => Err(fault),
+    }
 }
 
 /// The names of a space that the interface of the module at a place offers.

@@ -21,6 +21,7 @@ use crate::exports::{Exports, offered_names};
 use crate::members::put_members_in;
 use crate::putting::put_found;
 use crate::targets::Target;
+use crate::trees::tree_of;
 use au_base::Memory;
 use au_modules::{Modules, dotted_text};
 use au_syntax::{Ident, Import, Parsed, Renamed, Whole};
@@ -213,6 +214,30 @@ fn put_import(
     }
 }
 
+/// Puts what imports in the module at a place bring, past what has come along before.
+fn put_each(
+    alloc: Global,
+    table: &mut Table<Target>,
+    done: &mut DeclSet,
+    modules: &Modules,
+    exports: &Exports,
+    space: Space,
+    place: usize,
+    imports: &Vec<Import<Parsed>>,
+) -> Result<(), Memory>
+    requires within { place < length (slots.modules modules.now) }
+    requires made { AreExports exports.now (slots.modules modules.now) }
+    requires done { AreAlong (slots.modules modules.now) done.old table.old }
+    ensures { OnOk result (table.new ≡ with_all table.old
+        (imported space (slots.modules modules.now) place
+        (map (plain_importing parsed.name_bytes) (map (importing parsed) imports.now.items)))) }
+{
+    for import in imports {
+        put_import(alloc, table, done, modules, exports, space, place, import)?;
+    }
+    Ok(())
+}
+
 /// Puts what imports in the module at a place bring.
 fn put_imports(
     alloc: Global,
@@ -230,12 +255,9 @@ fn put_imports(
         (map (plain_importing parsed.name_bytes) (map (importing parsed) imports.now.items)))) }
 {
     let mut done = DeclSet::new(alloc);
-    for import in imports {
-        put_import(
-            alloc, table, &mut done, modules, exports, space, place, import,
-        )?;
-    }
-    Ok(())
+    put_each(
+        alloc, table, &mut done, modules, exports, space, place, imports,
+    )
 }
 
 /// Puts what the imports of a file of the module at a place bring, if there is one.
@@ -261,7 +283,7 @@ pub fn put_imported(
     match file {
         None => Ok(()),
         Some(file) => {
-            let tree = file.tree();
+            let tree = tree_of(file);
             put_imports(alloc, table, modules, exports, space, place, &tree.imports)?;
             Ok(())
         }

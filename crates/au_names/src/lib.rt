@@ -17,6 +17,7 @@ mod putting;
 mod rows;
 pub mod seeing;
 pub mod targets;
+mod trees;
 mod walking;
 
 pub use decl_sets::DeclSet;

@@ -50,8 +50,10 @@ fn names_at(
         (slice_get (slots.modules modules.now) place) ≡ Some names) }
 {
     let interface = names_seen(alloc, modules, exports, place, Part::Interface)?;
-    let body = names_seen(alloc, modules, exports, place, Part::Body)?;
-    Ok(ModuleNames { interface, body })
+    match names_seen(alloc, modules, exports, place, Part::Body) {
+        Ok(body) => Ok(ModuleNames { interface, body }),
+        Err(fault) => Err(fault),
+    }
 }
 
 /// What names mean in the modules of a program, given what its interfaces offer.
@@ -80,6 +82,5 @@ pub fn all_names(alloc: Global, modules: &Modules) -> Result<Vec<ModuleNames>, M
     ensures { IfOk result (λ all. AreNames (slots.modules modules.now) all.items) }
 {
     let exports = exports_of(alloc, modules)?;
-    let all = names_by_place(alloc, modules, &exports)?;
-    Ok(all)
+    names_by_place(alloc, modules, &exports)
 }

@@ -1,6 +1,6 @@
 //! Type parameters that are written.
 
-ghost use Rattle.std.specs.Prelude.{◌≡◌, IfOk, map};
+ghost use Rattle.std.specs.Prelude.{◌≡◌, ◌++◌, ◌∷◌, [], IfOk, OnOk, map};
 ghost use Rattle.au_names.specs.HeadsOf.{parameter};
 ghost use Rattle.au_names.specs.Walks.{written_parameter, written_parameters};
 
@@ -22,6 +22,18 @@ pub fn parameter_of(alloc: Global, one: &TypeParameter<Parsed>) -> Result<Parame
     Ok(Parameter { name, universe })
 }
 
+/// Puts a type parameter that is written behind others.
+fn push_parameter(
+    alloc: Global,
+    params: &mut Params,
+    one: &TypeParameter<Parsed>,
+) -> Result<(), Memory>
+    ensures { OnOk result (params.new ≡ params.old ++ parameter (written_parameter one.now) ∷ []) }
+{
+    let made = parameter_of(alloc, one)?;
+    params.push(made)
+}
+
 /// Type parameters that are written, in order.
 ///
 /// # Errors
@@ -32,7 +44,7 @@ pub fn params_of(alloc: Global, list: &Vec<TypeParameter<Parsed>>) -> Result<Par
 {
     let mut params = Params::new(alloc);
     for one in list {
-        params.push(parameter_of(alloc, one)?)?;
+        push_parameter(alloc, &mut params, one)?;
     }
     Ok(params)
 }

@@ -13,14 +13,23 @@ use au_syntax::{Decl, Parsed};
 use au_types::{DeclAt, Head, Heads};
 use std::alloc::Global;
 
+/// Puts a colon and a name behind a text.
+fn put_name(text: &mut Text, name: &Name) -> Result<(), Memory>
+    ensures { OnOk result (text.new ≡ text.old ++ 58 ∷ name.now) }
+{
+    text.push(b':')?;
+    text.append(name.as_bytes())
+}
+
 /// The text of a type: its module's name, a colon and its own name.
 fn text_of(alloc: Global, owner: &Name, name: &Name) -> Result<Text, Memory>
     ensures { IfOk result (λ text. text ≡ owner.now ++ 58 ∷ name.now) }
 {
     let mut text = Text::copy_of(alloc, owner.as_bytes())?;
-    text.push(b':')?;
-    text.append(name.as_bytes())?;
-    Ok(text)
+    match put_name(&mut text, name) {
+        Ok(()) => Ok(text),
+        Err(fault) => Err(fault),
+    }
 }
 
 /// The head of a type of a module.
@@ -28,12 +37,15 @@ fn type_head(alloc: Global, owner: &Name, one: &TypeDeclared) -> Result<Option<H
     ensures { IfOk result (λ head. head ≡ Some (spec.head_for owner.now (type_says one.now))) }
 {
     let text = text_of(alloc, owner, one.name)?;
-    let params = params_of(alloc, one.parameters)?;
-    Ok(Some(Head {
-        text,
-        universe: one.universe,
-        params,
-    }))
+    let universe = one.universe;
+    match params_of(alloc, one.parameters) {
+        Ok(params) => Ok(Some(Head {
+            text,
+            universe,
+            params,
+        })),
+        Err(fault) => Err(fault),
+    }
 }
 
 /// The head of a declaration of a module, if it is that of a type.

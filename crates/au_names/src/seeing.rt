@@ -1,6 +1,6 @@
 //! The names that a part of a module sees.
 
-ghost use Rattle.std.specs.Prelude.{◌≡◌, ◌<◌, IfOk, OnOk, Some, length, slice_get};
+ghost use Rattle.std.specs.Prelude.{◌≡◌, ◌<◌, [], IfOk, OnOk, Some, length, slice_get};
 ghost use Rattle.std.specs.Option.{option_map};
 ghost use Rattle.au_modules.specs.Programs.{ModuleParts};
 ghost use Rattle.au_modules.specs.Slots as slots;
@@ -15,6 +15,7 @@ use crate::imports::put_imported;
 use crate::part_names::{PartNames, declarations};
 use crate::putting::{in_space, put_table};
 use crate::targets::Target;
+use crate::trees::tree_of;
 use au_base::Memory;
 use au_modules::Modules;
 use au_syntax::Part;
@@ -32,7 +33,7 @@ fn named_in_body(alloc: Global, modules: &Modules, place: usize) -> Result<NameT
     match modules.body(place) {
         None => Ok(no_names(alloc)),
         Some(file) => {
-            let tree = file.tree();
+            let tree = tree_of(file);
             let names = names_from(alloc, tree, first)?;
             Ok(names)
         }
@@ -62,6 +63,32 @@ fn put_own(
     Ok(())
 }
 
+/// Puts the names of a space that a part of the module at a place sees, given what its body brings in.
+fn put_seen(
+    alloc: Global,
+    table: &mut Table<Target>,
+    modules: &Modules,
+    exports: &Exports,
+    body: &NameTables,
+    space: Space,
+    place: usize,
+    part: Part,
+) -> Result<(), Memory>
+    requires empty { table.old ≡ [] }
+    requires within { place < length (slots.modules modules.now) }
+    requires made { AreExports exports.now (slots.modules modules.now) }
+    requires body { option_map body_names (slice_get (slots.modules modules.now) place) ≡ Some body.now }
+    ensures { (m : ModuleParts) → slice_get (slots.modules modules.now) place ≡ Some m
+        → OnOk result (table.new ≡ seen space (slots.modules modules.now) place m part) }
+{
+    let file = modules.part(place, part);
+    let number = place as u16;
+    put_own(alloc, table, modules, exports, body, space, number)?;
+    put_imported(alloc, table, modules, exports, space, place, file)?;
+    let pervasive = offered_names(exports, 0, space);
+    put_table(alloc, table, 0, pervasive)
+}
+
 /// The names of a space that a part of the module at a place sees, given what its body brings in.
 fn table_seen(
     alloc: Global,
@@ -78,14 +105,13 @@ fn table_seen(
     ensures { (m : ModuleParts) → slice_get (slots.modules modules.now) place ≡ Some m
         → IfOk result (λ table. table ≡ seen space (slots.modules modules.now) place m part) }
 {
-    let file = modules.part(place, part);
     let mut table = Table::new(alloc);
-    let number = place as u16;
-    put_own(alloc, &mut table, modules, exports, body, space, number)?;
-    put_imported(alloc, &mut table, modules, exports, space, place, file)?;
-    let pervasive = offered_names(exports, 0, space);
-    put_table(alloc, &mut table, 0, pervasive)?;
-    Ok(table)
+    match put_seen(
+        alloc, &mut table, modules, exports, body, space, place, part,
+    ) {
+        Ok(()) => Ok(table),
+        Err(fault) => Err(fault),
+    }
 }
 
 /// The declarations in a space that a part of the module at a place sees, given what its body brings in.
@@ -131,13 +157,25 @@ fn names_beside(
         ≡ declared_by (seen Space.Types (slots.modules modules.now) place m part)) }
 {
     let values = declared_seen(alloc, modules, exports, body, Space::Values, place, part)?;
-    let callables = table_seen(alloc, modules, exports, body, Space::Callables, place, part)?;
-    let types = declared_seen(alloc, modules, exports, body, Space::Types, place, part)?;
-    Ok(PartNames {
-        values,
-        callables,
-        types,
-    })
+    match table_seen(alloc, modules, exports, body, Space::Callables, place, part) {
+        Ok(callables) => match declared_seen(
+            alloc,
+            modules,
+            exports,
+            body,
+            Space::Types,
+            place,
+            part,
+        ) {
+            Ok(types) => Ok(PartNames {
+                values,
+                callables,
+                types,
+            }),
+            Err(fault) => Err(fault),
+        },
+        Err(fault) => Err(fault),
+    }
 }
 
 /// What names mean in a part of the module at a place, the first that each name means: what the module
@@ -165,6 +203,8 @@ pub fn names_seen(
         → IfOk result (λ names. names.types
         ≡ declared_by (seen Space.Types (slots.modules modules.now) place m part)) }
 {
-    let body = named_in_body(alloc, modules, place)?;
-    names_beside(alloc, modules, exports, &body, place, part)
+    match named_in_body(alloc, modules, place) {
+        Ok(body) => names_beside(alloc, modules, exports, &body, place, part),
+        Err(fault) => Err(fault),
+    }
 }

@@ -3,13 +3,15 @@
 ghost use Rattle.std.specs.Prelude.{◌≡◌, ◌++◌, ◌+◌, ◌<◌, ◌^◌, IfOk, OnOk, length, map, slice_get};
 ghost use Rattle.au_names.specs.Exporting.{declarations_seen};
 ghost use Rattle.au_names.specs.HeadsOf as spec;
-ghost use Rattle.au_names.specs.Walks.{IsFreeFrom, is_new, row_on, rows_on, type_names_of, walk_over, walk_past, written, written_all};
+ghost use Rattle.au_names.specs.Walks.{IsFreeFrom, is_new, row_on, rows_on, type_names_of};
+ghost use Rattle.au_names.specs.Walks.{walk_over, walk_past, written, written_all};
 ghost use Rattle.au_modules.specs.Seen.{tree_seen};
 ghost use Rattle.au_modules.specs.Slots.{modules};
 ghost use Rattle.au_tables.specs.DeclaredNames.{given};
 ghost use Rattle.au_tables.specs.Tables.{with_all};
 
 use crate::rows::push_row;
+use crate::trees::tree_of;
 use au_base::{Memory, Name};
 use au_modules::Modules;
 use au_syntax::{Decl, Parsed, Whole};
@@ -105,7 +107,7 @@ fn pass_part(
 {
     match part {
         None => Ok(()),
-        Some(file) => pass_all(alloc, owner, &file.tree().declarations, walk, heads),
+        Some(file) => pass_all(alloc, owner, &tree_of(file).declarations, walk, heads),
     }
 }
 
@@ -129,8 +131,7 @@ fn push_module(
         seen: Table::new(alloc),
     };
     pass_part(alloc, owner, program.interface(place), &mut walk, heads)?;
-    pass_part(alloc, owner, program.body(place), &mut walk, heads)?;
-    Ok(())
+    pass_part(alloc, owner, program.body(place), &mut walk, heads)
 }
 
 /// The rows of the declared types of a program: module by module in the order of their places, and in each

@@ -12,15 +12,23 @@ use Rattle.au_names.proofs.declarations.declaration.Goals as goal
 pub returns-then-number-first : goal.returns-then-number-first
 returns-then-number-first c =
     let seen = tree_seen c.interface_at-interface.result in
-    let less : c.args.at.decl < length (declarations_seen seen) = omega (arith, c.count_in-first.ensures, c.if-number-first.true) in
+    let less : c.args.at.decl < length (declarations_seen seen) =
+    omega (arith, c.count_in-first.ensures, c.if-number-first.true) in
     c.declared_in.ensures
-    ∙ interface_found c.args.at.«module» c.args.at.decl (slice_get (slots.modules c.args.modules.now) c.args.at.«module») seen c.interface_at-interface.ensures less
+    ∙ interface_found c.args.at.«module» c.args.at.decl
+    (slice_get (slots.modules c.args.modules.now) c.args.at.«module») seen c.interface_at-interface.ensures
+    less
 
 pub returns-else-number-first : goal.returns-else-number-first
 returns-else-number-first c =
     let seen = tree_seen c.interface_at-interface.result in
     let body = tree_seen c.body_at-body.result in
-    let past : length (declarations_seen seen) ≤ c.args.at.decl = omega (arith, c.count_in-first.ensures, c.if-number-first.false) in
+    let past : length (declarations_seen seen) ≤ c.args.at.decl =
+    omega (arith, c.count_in-first.ensures, c.if-number-first.false) in
     c.declared_in-else-number-first.ensures
-    ∙ ap (λ n. slice_get (standing_from c.args.at.«module» Body 0 (declarations_seen body)) (c.args.at.decl - n)) c.count_in-first.ensures
-    ∙ body_found c.args.at.«module» c.args.at.decl (slice_get (slots.modules c.args.modules.now) c.args.at.«module») seen body c.interface_at-interface.ensures c.body_at-body.ensures past
+    ∙ ap
+    (λ n. slice_get (standing_from c.args.at.«module» Body 0 (declarations_seen body)) (c.args.at.decl - n))
+    c.count_in-first.ensures
+    ∙ body_found c.args.at.«module» c.args.at.decl
+    (slice_get (slots.modules c.args.modules.now) c.args.at.«module») seen body
+    c.interface_at-interface.ensures c.body_at-body.ensures past

@@ -7,4 +7,9 @@ use Rattle.au_names.proofs.declarations.declared_in.Goals as goal
 
 pub returns-in-None : goal.returns-in-None
 unfolding standing_from
-returns-in-None c = ap (λ file. slice_get (standing_from c.args.place c.args.part 0 (declarations_seen (tree_seen file))) c.args.index) (sym c.in-None.is)
+returns-in-None c =
+    ap
+    (λ file.
+    slice_get (standing_from c.args.place c.args.part 0 (declarations_seen (tree_seen file)))
+    c.args.index)
+    (sym c.in-None.is)

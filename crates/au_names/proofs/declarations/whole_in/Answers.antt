@@ -7,4 +7,7 @@ use Rattle.au_names.proofs.declarations.whole_in.Goals as goal
 
 pub returns-in-None : goal.returns-in-None
 unfolding standing_from
-returns-in-None c = ap (find (is_whole c.args.name.now)) (body_list c.args.place (slice_get (slots.modules c.args.modules.now) c.args.place) None c.in-None.ensures)
+returns-in-None c =
+    ap (find (is_whole c.args.name.now))
+    (body_list c.args.place (slice_get (slots.modules c.args.modules.now) c.args.place) None
+    c.in-None.ensures)

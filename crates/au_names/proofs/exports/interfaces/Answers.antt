@@ -8,9 +8,11 @@ pub loop-place-preserved : goal.loop-place-preserved
 loop-place-preserved c =
     let program = slots.modules c.args.modules.now in
     ap (λ r. r ++ map offers (drop (c.loop-place.place + 1) program)) c.in_ok-push.ensures.items
-    ∙ offered_step c.loop-place.interfaces.items program c.loop-place.place c.in_ok-names.names c.loop-place.invariant c.in_ok-names.ensures
+    ∙ offered_step c.loop-place.interfaces.items program c.loop-place.place c.in_ok-names.names
+    c.loop-place.invariant c.in_ok-names.ensures
 
 pub returns : goal.returns
 returns c =
     let program = slots.modules c.args.modules.now in
-    offered_end c.loop-place.interfaces.items program c.loop-place.place (omega (arith, c.len-place-end.ensures, c.loop-place-test.false)) c.loop-place.invariant
+    offered_end c.loop-place.interfaces.items program c.loop-place.place
+    (omega (arith, c.len-place-end.ensures, c.loop-place-test.false)) c.loop-place.invariant

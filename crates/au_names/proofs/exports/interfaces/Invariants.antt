@@ -5,4 +5,6 @@ use Rattle.au_names.proofs.exports.interfaces.Given as goal
 
 -- what is there, and what is left, are all
 abbrev pub invariant-loop-place : goal.invariant-loop-place
-invariant-loop-place l = l.interfaces.items ++ map offers (drop l.place (slots.modules l.modules)) ≡ map offers (slots.modules l.modules)
+invariant-loop-place l =
+    l.interfaces.items ++ map offers (drop l.place (slots.modules l.modules))
+    ≡ map offers (slots.modules l.modules)

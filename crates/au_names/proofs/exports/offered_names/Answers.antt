@@ -5,4 +5,5 @@ use Rattle.au_names.proofs.exports.offered_names.Goals as goal
 pub returns : goal.returns
 returns c = λ program m made here.
     c.in_space.ensures
-    ∙ offered_is c.args.space c.args.exports.now.interfaces.items program c.args.place m c.index-names.result.now made.interfaces here c.index-names.ensures
+    ∙ offered_is c.args.space c.args.exports.now.interfaces.items program c.args.place m
+    c.index-names.result.now made.interfaces here c.index-names.ensures

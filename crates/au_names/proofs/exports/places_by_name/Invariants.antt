@@ -6,4 +6,6 @@ use Rattle.au_names.proofs.exports.places_by_name.Given as goal
 
 -- what is left to put comes to the same
 abbrev pub invariant-loop-place : goal.invariant-loop-place
-invariant-loop-place l = with_all l.places (places_from l.place (drop l.place (slots.modules l.modules))) ≡ with_all [] (places_from 0 (slots.modules l.modules))
+invariant-loop-place l =
+    with_all l.places (places_from l.place (drop l.place (slots.modules l.modules)))
+    ≡ with_all [] (places_from 0 (slots.modules l.modules))

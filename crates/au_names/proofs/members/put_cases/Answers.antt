@@ -1,6 +1,7 @@
 use Rattle.std.proofs.Common.{◌∷◌, [], map, refl, ap, ◌∙◌}
 use Rattle.au_syntax.specs.Plain.{plain_variant}
 use Rattle.au_syntax.specs.Views.{variant}
+use Rattle.au_syntax.specs.contracts.parsed.ParsedPhase.TheImpl.{ghosts as parsed}
 use Rattle.au_tables.specs.DeclaredNames.{given}
 use Rattle.au_tables.specs.Tables.{with_all}
 use Rattle.au_names.specs.Owned.{target, targets}
@@ -8,21 +9,57 @@ use Rattle.au_names.proofs.PutLemmas.{put_step, put_end, read_at, target_put}
 use Rattle.au_names.proofs.members.put_cases.Goals as goal
 
 pub loop-one-preserved : goal.loop-one-preserved
-loop-one-preserved g c =
+loop-one-preserved c =
     let place = c.args.at.«module» in
     let number = c.args.at.decl in
     let before = c.loop-one.table in
     let item = c.one-item.result in
-    put_step (λ xs. targets place (given number (map (λ one. one.name.name) (map (plain_variant g.P.Phase.name_bytes) (map (variant g.P.Phase) xs)))))
-    (λ x. ((plain_variant g.P.Phase.name_bytes (variant g.P.Phase x)).name.name, target place (plain_variant g.P.Phase.name_bytes (variant g.P.Phase x)).name.name number) ∷ [])
+    put_step
+    (λ xs.
+    targets place
+    (given number
+    (map (λ one. one.name.name)
+    (map (plain_variant parsed.name_bytes) (map (variant parsed) xs)))))
+    (λ x. (
+      (plain_variant parsed.name_bytes (variant parsed x)).name.name,
+      target place (plain_variant parsed.name_bytes (variant parsed x)).name.name number,
+    )
+    ∷ [])
     (λ x xs. refl) before c.put_target.new.table
-    (with_all c.args.table.now (targets place (given number (map (λ one. one.name.name) (map (plain_variant g.P.Phase.name_bytes) (map (variant g.P.Phase) c.deref-one-items.result.now))))))
-    c.deref-one-items.result.now c.loop-one.one-index item (read_at c.deref-one-items.result.now c.loop-one.one-index item c.loop-one-test.true c.one-item.is) c.loop-one.invariant
-    (target_put before c.put_target.new.table c.bytes_of-name.result.now (plain_variant g.P.Phase.name_bytes (variant g.P.Phase item)).name.name place number c.bytes_of-name.ensures.bytes c.in_ok-put_target.ensures)
+    (with_all c.args.table.now
+    (targets place
+    (given number
+    (map (λ one. one.name.name)
+    (map (plain_variant parsed.name_bytes)
+    (map (variant parsed) c.deref-one-items.result.now))))))
+    c.deref-one-items.result.now c.loop-one.one-index item
+    (read_at c.deref-one-items.result.now c.loop-one.one-index item c.loop-one-test.true c.one-item.is)
+    c.loop-one.invariant
+    (target_put before c.put_target.new.table c.as_bytes-name.result.now
+    (plain_variant parsed.name_bytes (variant parsed item)).name.name place number
+    c.as_bytes-name.ensures.bytes c.in_ok-put_target.ensures)
 
 pub returns : goal.returns
-returns g c =
-    put_end (λ xs. targets c.args.at.«module» (given c.args.at.decl (map (λ one. one.name.name) (map (plain_variant g.P.Phase.name_bytes) (map (variant g.P.Phase) xs))))) refl c.loop-one.table
-    (with_all c.args.table.now (targets c.args.at.«module» (given c.args.at.decl (map (λ one. one.name.name) (map (plain_variant g.P.Phase.name_bytes) (map (variant g.P.Phase) c.deref-one-items.result.now))))))
+returns c =
+    put_end
+    (λ xs.
+    targets c.args.at.«module»
+    (given c.args.at.decl
+    (map (λ one. one.name.name)
+    (map (plain_variant parsed.name_bytes) (map (variant parsed) xs)))))
+    refl c.loop-one.table
+    (with_all c.args.table.now
+    (targets c.args.at.«module»
+    (given c.args.at.decl
+    (map (λ one. one.name.name)
+    (map (plain_variant parsed.name_bytes)
+    (map (variant parsed) c.deref-one-items.result.now))))))
     c.deref-one-items.result.now c.loop-one.one-index c.loop-one-test.false c.loop-one.invariant
-    ∙ ap (λ xs. with_all c.args.table.now (targets c.args.at.«module» (given c.args.at.decl (map (λ one. one.name.name) (map (plain_variant g.P.Phase.name_bytes) (map (variant g.P.Phase) xs)))))) c.deref-one-items.ensures.value
+    ∙ ap
+    (λ xs.
+    with_all c.args.table.now
+    (targets c.args.at.«module»
+    (given c.args.at.decl
+    (map (λ one. one.name.name)
+    (map (plain_variant parsed.name_bytes) (map (variant parsed) xs))))))
+    c.deref-one-items.ensures.value

@@ -1,34 +1,21 @@
-use Rattle.std.proofs.Common.{arith}
-use Rattle.au_syntax.proofs.DeclarationLemmas.{constant_says, opaque_says, record_says, union_says, function_says, class_says, instance_says, constant_body_says, function_body_says, instance_body_says}
+use Rattle.std.proofs.Common.{arith, sym, ap, ◌∙◌}
+use Rattle.au_syntax.proofs.DeclarationLemmas.{class_says, union_says}
 use Rattle.au_tables.proofs.TableLemmas.{with_all-none}
+use Rattle.au_tables.specs.DeclaredNames.{given}
+use Rattle.au_tables.specs.Tables.{with_all}
+use Rattle.au_names.specs.Owned.{targets}
+use Rattle.au_names.proofs.OtherLemmas.{no_members}
 use Rattle.au_names.proofs.members.put_members.Goals as goal
 
-pub returns-in-Constant : goal.returns-in-Constant
-returns-in-Constant g c = grind (arith, constant_says, with_all-none)
-
-pub returns-in-Opaque : goal.returns-in-Opaque
-returns-in-Opaque g c = grind (arith, opaque_says, with_all-none)
-
-pub returns-in-Record : goal.returns-in-Record
-returns-in-Record g c = grind (arith, record_says, with_all-none)
-
 pub returns-in-Union : goal.returns-in-Union
-returns-in-Union g c = grind (arith, union_says)
-
-pub returns-in-Function : goal.returns-in-Function
-returns-in-Function g c = grind (arith, function_says, with_all-none)
+returns-in-Union c = grind (arith, union_says)
 
 pub returns-in-Class : goal.returns-in-Class
-returns-in-Class g c = grind (arith, class_says)
+returns-in-Class c = grind (arith, class_says)
 
-pub returns-in-Instance : goal.returns-in-Instance
-returns-in-Instance g c = grind (arith, instance_says, with_all-none)
-
-pub returns-in-ConstantBody : goal.returns-in-ConstantBody
-returns-in-ConstantBody g c = grind (arith, constant_body_says, with_all-none)
-
-pub returns-in-FunctionBody : goal.returns-in-FunctionBody
-returns-in-FunctionBody g c = grind (arith, function_body_says, with_all-none)
-
-pub returns-in-InstanceBody : goal.returns-in-InstanceBody
-returns-in-InstanceBody g c = grind (arith, instance_body_says, with_all-none)
+pub returns-in_default : goal.returns-in_default
+returns-in_default c =
+    sym
+    (ap (λ names. with_all c.args.table.now (targets c.args.at.«module» (given c.args.at.decl names)))
+    (no_members c.args.decl.now c.in_default.not-Union c.in_default.not-Class)
+    ∙ with_all-none c.args.table.now)

@@ -8,11 +8,22 @@ use Rattle.au_names.proofs.SeenLemmas.{own_put}
 use Rattle.au_names.proofs.seeing.put_own.Goals as goal
 
 pub offered_names-offered-requires : goal.offered_names-offered-requires
-offered_names-offered-requires c = omega (arith, c.requires.within, as_many c.args.exports.now.interfaces.items (slots.modules c.args.modules.now) c.requires.made.interfaces)
+offered_names-offered-requires c =
+    omega (
+      arith,
+      c.requires.within,
+      as_many c.args.exports.now.interfaces.items (slots.modules c.args.modules.now)
+          c.requires.made.interfaces,
+    )
 
 pub returns : goal.returns
 returns c = λ m here.
-    own_put c.args.space c.args.place m c.args.table.now c.put_table.new.table c.put_table-2.new.table c.offered_names-offered.result.now c.in_space-hidden.result.now
+    own_put c.args.space c.args.place m c.args.table.now c.put_table.new.table c.put_table-2.new.table
+    c.offered_names-offered.result.now c.in_space-hidden.result.now
     (c.offered_names-offered.ensures (slots.modules c.args.modules.now) m c.requires.made here)
-    (c.in_space-hidden.ensures ∙ ap (in_space c.args.space) (sym (same_Some (body_names m) c.args.body.now (ap (option_map body_names) (sym here) ∙ c.requires.body))))
+    (c.in_space-hidden.ensures
+    ∙ ap (in_space c.args.space)
+    (sym
+    (same_Some (body_names m) c.args.body.now
+    (ap (option_map body_names) (sym here) ∙ c.requires.body))))
     c.in_ok-put_table.ensures c.in_ok-put_table-2.ensures

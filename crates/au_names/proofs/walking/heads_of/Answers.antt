@@ -9,7 +9,10 @@ loop-place-preserved c =
     let program = modules c.args.program.now in
     let within : c.loop-place.place < length program = omega arith in
     record {
-      rows = from_next program c.loop-place.place c.loop-place.heads c.push_module.new.heads (rows_from 0 program) within c.loop-place.invariant.rows c.in_ok-push_module.ensures.rows;
+      rows =
+          from_next program c.loop-place.place c.loop-place.heads c.push_module.new.heads
+          (rows_from 0 program)
+          within c.loop-place.invariant.rows c.in_ok-push_module.ensures.rows;
       free = c.in_ok-push_module.ensures.free;
     }
 
@@ -17,4 +20,5 @@ pub returns : goal.returns
 returns c =
     let program = modules c.args.program.now in
     let past : length program ≤ c.loop-place.place = omega arith in
-    from_end program c.loop-place.place c.loop-place.heads (rows_from 0 program) past c.loop-place.invariant.rows
+    from_end program c.loop-place.place c.loop-place.heads (rows_from 0 program) past
+    c.loop-place.invariant.rows

@@ -6,7 +6,7 @@ use Rattle.au_tables.specs.Tables.{with_all}
 use Rattle.au_modules.specs.Slots as slots
 use Rattle.au_names.specs.Along.{AreAlong}
 use Rattle.au_names.specs.Importing.{imported}
-use Rattle.au_names.proofs.imports.put_imports.Given as goal
+use Rattle.au_names.proofs.imports.put_each.Given as goal
 
 -- what is left to put comes to the same, and what has come along is in the table
 abbrev pub invariant-loop-import : goal.invariant-loop-import
