@@ -1,13 +1,21 @@
 //! The shipped calls by name.
 
-use au_base::{IntKind, Name};
+use au_base::{IntKind, Memory, Name};
 use au_shipped::{ShippedCall, prim_of};
 use std::alloc::Global;
 use std::test::Fail;
 
-/// Calls by the names of their modules and their own, with the kind of integers that they are for, and
-/// the shipped calls that they are.
-const CALLS: [(&[u8], &[u8], Option<IntKind>, Option<ShippedCall>); 5] = [
+/// The names of a module and a call, the kind of integers that the call is for, and the shipped call that it is.
+type Row = (
+    &'static [u8],
+    &'static [u8],
+    Option<IntKind>,
+    Option<ShippedCall>,
+);
+
+/// A call that is chosen by its kind, one that has none, one that converts, one of another module, and a name that
+/// is a call of another module alone.
+const CALLS: [Row; 5] = [
     (
         b"Austral.Pervasive",
         b"print",
@@ -30,27 +38,27 @@ const CALLS: [(&[u8], &[u8], Option<IntKind>, Option<ShippedCall>); 5] = [
     (b"Standard.Box", b"nth", None, None),
 ];
 
-/// What the call of these names is.
-fn call_of(
-    alloc: Global,
-    home: &[u8],
-    call: &[u8],
-    of: Option<IntKind>,
-) -> Result<Option<ShippedCall>, Fail> {
-    if home.is_empty() || home.len() > 64 || call.is_empty() || call.len() > 64 {
-        return Err(Fail::new("no name"));
+/// A name of these bytes. Bytes that are no name stand in no row: they are answered by `Memory`.
+fn name_of(alloc: Global, bytes: &[u8]) -> Result<Name, Memory> {
+    if bytes.is_empty() || bytes.len() > 64 {
+        return Err(Memory);
     }
-    let home = Name::copy_of(alloc, home)?;
-    let call = Name::copy_of(alloc, call)?;
-    Ok(prim_of(&home, &call, of))
+    Name::copy_of(alloc, bytes)
 }
 
+/// Whether the call of a row is the one that is due.
+fn is_due(alloc: Global, row: &Row) -> Result<bool, Memory> {
+    let (home, call, of, due) = *row;
+    let home = name_of(alloc, home)?;
+    let call = name_of(alloc, call)?;
+    Ok(prim_of(&home, &call, of) == due)
+}
+
+/// A shipped call is found by the name of its module, its own and its kind, and no other is.
 #[test]
 fn shipped_calls_are_found_by_their_names(rt: HostRuntime) -> Result<(), Fail> {
-    let alloc = rt.alloc();
-    for (home, call, of, due) in CALLS {
-        let found = call_of(alloc, home, call, of)?;
-        assert!(rt; found == due);
+    for row in &CALLS {
+        assert!(rt; is_due(rt.alloc(), row)?);
     }
     Ok(())
 }

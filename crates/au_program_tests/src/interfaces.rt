@@ -1,7 +1,7 @@
-//! Interfaces as texts, in the layout of the chapter of `docs/LANGUAGE.md` on the modules that come
-//! with the compiler.
+//! Interfaces read against texts in the layout of the chapter of `docs/LANGUAGE.md` on the modules that come
+//! with the compiler: each call answers what stands behind its part of the text, and nothing where another
+//! text stands. Behind nothing stands nothing.
 
-use au_base::{Memory, Text};
 use au_syntax::{
     Access, Decl, Field, Generic, Ident, Module, Parsed, Part, Signature, TypeParameter, TypeText,
     UnionCase, Universe,
@@ -25,237 +25,199 @@ fn sign_of(access: Access) -> &'static [u8] {
     }
 }
 
-/// What stands before the part of an index, where parts have this between them.
-fn put_between(text: &mut Text, index: usize, between: &[u8]) -> Result<(), Memory> {
-    if index > 0 {
-        text.append(between)?;
+/// What stands behind these bytes in a text that begins with them.
+fn behind<'a>(text: &'a [u8], bytes: &[u8]) -> &'a [u8] {
+    match text.strip_prefix(bytes) {
+        Some(rest) => rest,
+        None => &[],
     }
-    Ok(())
 }
 
-/// A written type.
-#[cycle(put_type)]
-fn put_type(text: &mut Text, of: &TypeText) -> Result<(), Memory> {
+/// Behind what stands before the part of an index, where parts have this between them.
+fn gap<'a>(text: &'a [u8], index: usize, between: &[u8]) -> &'a [u8] {
+    if index > 0 {
+        behind(text, between)
+    } else {
+        text
+    }
+}
+
+/// Behind a written type.
+#[cycle(written)]
+fn written<'a>(text: &'a [u8], of: &TypeText) -> &'a [u8] {
     match of {
         TypeText::Named(name, arguments) => {
-            text.append(name.name.as_bytes())?;
-            put_arguments(text, arguments)
+            written_arguments(behind(text, name.name.as_bytes()), arguments)
         }
         TypeText::Reference(_, access, to, region) => {
-            text.append(sign_of(*access))?;
-            put_type(text, to)?;
-            text.append(b", ")?;
-            text.append(region.name.as_bytes())?;
-            text.push(b']')
+            let rest = written(behind(text, sign_of(*access)), to);
+            behind(behind(behind(rest, b", "), region.name.as_bytes()), b"]")
         }
     }
 }
 
-/// The arguments of a type in brackets, where it has some.
-#[cycle(put_type)]
-fn put_arguments(text: &mut Text, arguments: &Vec<TypeText>) -> Result<(), Memory> {
+/// Behind the arguments of a type in brackets, where it has some.
+#[cycle(written)]
+fn written_arguments<'a>(text: &'a [u8], arguments: &Vec<TypeText>) -> &'a [u8] {
     if arguments.is_empty() {
-        return Ok(());
+        return text;
     }
-    text.push(b'[')?;
+    let mut rest = behind(text, b"[");
     for (index, one) in arguments.iter().enumerate() {
-        put_between(text, index, b", ")?;
-        put_type(text, one)?;
+        rest = written(gap(rest, index, b", "), one);
     }
-    text.push(b']')
+    behind(rest, b"]")
 }
 
-/// Names with something between.
-fn put_names(text: &mut Text, names: &Vec<Ident<Parsed>>, between: &[u8]) -> Result<(), Memory> {
+/// Behind names with dots between.
+fn names<'a>(text: &'a [u8], names: &Vec<Ident<Parsed>>) -> &'a [u8] {
+    let mut rest = text;
     for (index, one) in names.iter().enumerate() {
-        put_between(text, index, between)?;
-        text.append(one.name.as_bytes())?;
+        rest = behind(gap(rest, index, b"."), one.name.as_bytes());
     }
-    Ok(())
+    rest
 }
 
-/// `NAME: UNIVERSE`
-fn put_parameter(text: &mut Text, parameter: &TypeParameter<Parsed>) -> Result<(), Memory> {
-    text.append(parameter.name.name.as_bytes())?;
-    text.append(b": ")?;
-    text.append(word_of(parameter.universe))
+/// Behind `NAME: UNIVERSE`.
+fn parameter<'a>(text: &'a [u8], parameter: &TypeParameter<Parsed>) -> &'a [u8] {
+    let rest = behind(text, parameter.name.name.as_bytes());
+    behind(behind(rest, b": "), word_of(parameter.universe))
 }
 
-/// Type parameters in brackets, where there are some.
-fn put_parameters(text: &mut Text, parameters: &Vec<TypeParameter<Parsed>>) -> Result<(), Memory> {
-    if parameters.is_empty() {
-        return Ok(());
+/// Behind type parameters in brackets, where there are some.
+fn parameters<'a>(text: &'a [u8], all: &Vec<TypeParameter<Parsed>>) -> &'a [u8] {
+    if all.is_empty() {
+        return text;
     }
-    text.push(b'[')?;
-    for (index, one) in parameters.iter().enumerate() {
-        put_between(text, index, b", ")?;
-        put_parameter(text, one)?;
+    let mut rest = behind(text, b"[");
+    for (index, one) in all.iter().enumerate() {
+        rest = parameter(gap(rest, index, b", "), one);
     }
-    text.push(b']')
+    behind(rest, b"]")
 }
 
-/// The classes of a type parameter in parentheses, where it has some.
-fn put_classes(text: &mut Text, classes: &Vec<Ident<Parsed>>) -> Result<(), Memory> {
-    if classes.is_empty() {
-        return Ok(());
+/// Behind a type parameter behind `generic`. No shipped one has a constraint.
+fn generic<'a>(text: &'a [u8], one: &Generic<Parsed>) -> &'a [u8] {
+    if one.classes.is_empty() {
+        parameter(text, &one.parameter)
+    } else {
+        &[]
     }
-    text.push(b'(')?;
-    put_names(text, classes, b", ")?;
-    text.push(b')')
 }
 
-/// `generic [..]` with a space behind, where there are type parameters.
-fn put_generics(text: &mut Text, generics: &Vec<Generic<Parsed>>) -> Result<(), Memory> {
-    if generics.is_empty() {
-        return Ok(());
+/// Behind `generic [..]` with a space behind, where there are type parameters.
+fn generics<'a>(text: &'a [u8], all: &Vec<Generic<Parsed>>) -> &'a [u8] {
+    if all.is_empty() {
+        return text;
     }
-    text.append(b"generic [")?;
-    for (index, one) in generics.iter().enumerate() {
-        put_between(text, index, b", ")?;
-        put_parameter(text, &one.parameter)?;
-        put_classes(text, &one.classes)?;
+    let mut rest = behind(text, b"generic [");
+    for (index, one) in all.iter().enumerate() {
+        rest = generic(gap(rest, index, b", "), one);
     }
-    text.append(b"] ")
+    behind(rest, b"] ")
 }
 
-/// `NAME: TYPE`
-fn put_field(text: &mut Text, field: &Field<Parsed>) -> Result<(), Memory> {
-    text.append(field.name.name.as_bytes())?;
-    text.append(b": ")?;
-    put_type(text, &field.of)
+/// Behind `NAME: TYPE`.
+fn field<'a>(text: &'a [u8], field: &Field<Parsed>) -> &'a [u8] {
+    let rest = behind(text, field.name.name.as_bytes());
+    written(behind(rest, b": "), &field.of)
 }
 
-/// Fields, each with a space before it and a semicolon behind.
-fn put_fields(text: &mut Text, fields: &Vec<Field<Parsed>>) -> Result<(), Memory> {
-    for one in fields {
-        text.push(b' ')?;
-        put_field(text, one)?;
-        text.push(b';')?;
+/// Behind fields, each with a space before it and a semicolon behind.
+fn fields<'a>(text: &'a [u8], all: &Vec<Field<Parsed>>) -> &'a [u8] {
+    let mut rest = text;
+    for one in all {
+        rest = behind(field(behind(rest, b" "), one), b";");
     }
-    Ok(())
+    rest
 }
 
-/// Cases, each with a space before it.
-fn put_cases(text: &mut Text, cases: &Vec<UnionCase<Parsed>>) -> Result<(), Memory> {
-    for one in cases {
-        text.append(b" case ")?;
-        text.append(one.name.name.as_bytes())?;
-        if one.fields.is_empty() {
-            text.push(b';')?;
-        } else {
-            text.append(b" is")?;
-            put_fields(text, &one.fields)?;
-        }
+/// Behind a case, with a space before it.
+fn case<'a>(text: &'a [u8], one: &UnionCase<Parsed>) -> &'a [u8] {
+    let rest = behind(behind(text, b" case "), one.name.name.as_bytes());
+    if one.fields.is_empty() {
+        behind(rest, b";")
+    } else {
+        fields(behind(rest, b" is"), &one.fields)
     }
-    Ok(())
 }
 
-/// `NAME(NAME: TYPE, ..): TYPE;`
-fn put_signature(text: &mut Text, signature: &Signature<Parsed>) -> Result<(), Memory> {
-    text.append(signature.name.name.as_bytes())?;
-    text.push(b'(')?;
-    for (index, one) in signature.parameters.iter().enumerate() {
-        put_between(text, index, b", ")?;
-        put_field(text, one)?;
+/// Behind cases, and the end of their union.
+fn cases<'a>(text: &'a [u8], all: &Vec<UnionCase<Parsed>>) -> &'a [u8] {
+    let mut rest = text;
+    for one in all {
+        rest = case(rest, one);
     }
-    text.append(b"): ")?;
-    put_type(text, &signature.result)?;
-    text.push(b';')
+    behind(rest, b" end;")
 }
 
-/// `WORD NAME[..]: UNIVERSE`
-fn put_heading(
-    text: &mut Text,
-    word: &[u8],
+/// Behind `NAME(NAME: TYPE, ..): TYPE;`.
+fn signature<'a>(text: &'a [u8], of: &Signature<Parsed>) -> &'a [u8] {
+    let mut rest = behind(behind(text, of.name.name.as_bytes()), b"(");
+    for (index, one) in of.parameters.iter().enumerate() {
+        rest = field(gap(rest, index, b", "), one);
+    }
+    behind(written(behind(rest, b"): "), &of.result), b";")
+}
+
+/// Behind `NAME[..]: UNIVERSE`.
+fn heading<'a>(
+    text: &'a [u8],
     name: &Ident<Parsed>,
-    parameters: &Vec<TypeParameter<Parsed>>,
+    all: &Vec<TypeParameter<Parsed>>,
     universe: Universe,
-) -> Result<(), Memory> {
-    text.append(word)?;
-    text.append(name.name.as_bytes())?;
-    put_parameters(text, parameters)?;
-    text.append(b": ")?;
-    text.append(word_of(universe))
+) -> &'a [u8] {
+    let rest = parameters(behind(text, name.name.as_bytes()), all);
+    behind(behind(rest, b": "), word_of(universe))
 }
 
-/// A class, each of its methods on a line.
-fn put_class(
-    text: &mut Text,
-    name: &Ident<Parsed>,
-    parameter: &TypeParameter<Parsed>,
-    methods: &Vec<Signature<Parsed>>,
-) -> Result<(), Memory> {
-    text.append(b"typeclass ")?;
-    text.append(name.name.as_bytes())?;
-    text.push(b'(')?;
-    put_parameter(text, parameter)?;
-    text.append(b") is\n")?;
-    for one in methods {
-        text.append(b"        method ")?;
-        put_signature(text, one)?;
-        text.push(b'\n')?;
+/// Behind methods, each on a line, and the end of their class.
+fn methods<'a>(text: &'a [u8], all: &Vec<Signature<Parsed>>) -> &'a [u8] {
+    let mut rest = text;
+    for one in all {
+        rest = behind(signature(behind(rest, b"        method "), one), b"\n");
     }
-    text.append(b"    end;")
+    behind(rest, b"    end;")
 }
 
-/// A declaration. Of one of a kind that no shipped interface has it is said what it is.
-fn put_declaration(text: &mut Text, decl: &Decl<Parsed>) -> Result<(), Memory> {
+/// Behind a declaration of a kind that a shipped interface has.
+fn declaration<'a>(text: &'a [u8], decl: &Decl<Parsed>) -> &'a [u8] {
     match decl {
-        Decl::Opaque(_, name, parameters, universe) => {
-            put_heading(text, b"type ", name, parameters, *universe)?;
-            text.push(b';')
+        Decl::Opaque(_, name, all, universe) => {
+            behind(heading(behind(text, b"type "), name, all, *universe), b";")
         }
-        Decl::Union(_, name, parameters, universe, cases) => {
-            put_heading(text, b"union ", name, parameters, *universe)?;
-            text.append(b" is")?;
-            put_cases(text, cases)?;
-            text.append(b" end;")
+        Decl::Union(_, name, all, universe, of) => {
+            let rest = heading(behind(text, b"union "), name, all, *universe);
+            cases(behind(rest, b" is"), of)
         }
-        Decl::Function(_, generics, signature) => {
-            put_generics(text, generics)?;
-            text.append(b"function ")?;
-            put_signature(text, signature)
+        Decl::Function(_, all, of) => signature(behind(generics(text, all), b"function "), of),
+        Decl::Class(_, name, of, all) => {
+            let rest = behind(behind(text, b"typeclass "), name.name.as_bytes());
+            methods(behind(parameter(behind(rest, b"("), of), b") is\n"), all)
         }
-        Decl::Class(_, name, parameter, methods) => put_class(text, name, parameter, methods),
-        Decl::Instance(_, generics, name, of) => {
-            put_generics(text, generics)?;
-            text.append(b"instance ")?;
-            text.append(name.name.as_bytes())?;
-            text.push(b'(')?;
-            put_type(text, of)?;
-            text.append(b");")
+        Decl::Instance(_, all, name, of) => {
+            let rest = behind(generics(text, all), b"instance ");
+            let rest = behind(behind(rest, name.name.as_bytes()), b"(");
+            behind(written(rest, of), b");")
         }
-        Decl::Constant(_, _, _) => text.append(b"a constant"),
-        Decl::Record(_, _, _, _, _) => text.append(b"a record"),
-        Decl::ConstantBody(_, _, _, _) => text.append(b"a constant of a body"),
-        Decl::FunctionBody(_, _, _, _, _) => text.append(b"a function of a body"),
-        Decl::InstanceBody(_, _, _, _, _) => text.append(b"an instance of a body"),
+        _ => &[],
     }
 }
 
-/// What stands first in a file that holds a part of a module.
-fn opening_of(part: Part) -> &'static [u8] {
-    match part {
-        Part::Interface => b"module ",
-        Part::Body => b"module body ",
+/// Behind declarations, each on a line.
+fn declarations<'a>(text: &'a [u8], all: &Vec<Decl<Parsed>>) -> &'a [u8] {
+    let mut rest = text;
+    for one in all {
+        rest = behind(declaration(behind(rest, b"    "), one), b"\n");
     }
+    rest
 }
 
-/// An interface without imports and without a pragma. Of others it is said that they have some.
-pub(crate) fn put_interface(text: &mut Text, tree: &Module<Parsed>) -> Result<(), Memory> {
-    if !tree.imports.is_empty() {
-        text.append(b"with imports\n")?;
-    }
-    text.append(opening_of(tree.part))?;
-    put_names(text, &tree.name, b".")?;
-    text.append(b" is\n")?;
-    if tree.pragma.is_some() {
-        text.append(b"    with a pragma\n")?;
-    }
-    for one in &tree.declarations {
-        text.append(b"    ")?;
-        put_declaration(text, one)?;
-        text.push(b'\n')?;
-    }
-    text.append(b"end module.\n")
+/// Whether a text is that of an interface without imports and without a pragma.
+pub(crate) fn is_interface(text: &[u8], tree: &Module<Parsed>) -> bool {
+    let rest = behind(names(behind(text, b"module "), &tree.name), b" is\n");
+    tree.imports.is_empty()
+        && tree.pragma.is_none()
+        && matches!(tree.part, Part::Interface)
+        && declarations(rest, &tree.declarations) == b"end module.\n".as_slice()
 }

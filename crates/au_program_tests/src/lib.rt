@@ -5,8 +5,6 @@
 #[cfg(test)]
 mod calls;
 #[cfg(test)]
-mod copies;
-#[cfg(test)]
 mod interfaces;
 #[cfg(test)]
 mod jobs;

@@ -4,25 +4,31 @@ use au_imports::{Resolved, resolve};
 use au_lexer::lex;
 use au_modules::{are_few, gather};
 use au_parser::parse;
-use au_syntax::FileTree;
+use au_syntax::{FileTree, Parsed, Whole};
 use std::alloc::Global;
-use std::process::Abort;
 use std::test::Fail;
+
+/// The tree of the file of a number that holds this text.
+fn tree_of(alloc: Global, file: u16, source: &[u8]) -> Result<Whole<Parsed>, Fail> {
+    if source.len() > 10_000_000 {
+        return Err(Fail::new("a long file"));
+    }
+    let tokens = lex(alloc, file, source)?;
+    if tokens.len() > 1_000_000 {
+        return Err(Fail::new("many tokens"));
+    }
+    Ok(parse(alloc, tokens.as_slice())?)
+}
 
 /// Puts the file of a number that holds this text behind others.
 pub(crate) fn put_file(
-    rt: &impl Abort,
     alloc: Global,
     files: &mut Vec<FileTree>,
     file: u16,
     source: &[u8],
 ) -> Result<(), Fail> {
-    assert!(rt; source.len() < 10_000_000);
-    let tokens = lex(alloc, file, source)?;
-    assert!(rt; tokens.len() < 1_000_000);
-    let tree = parse(alloc, tokens.as_slice())?;
-    files.push(FileTree { file, tree })?;
-    Ok(())
+    let tree = tree_of(alloc, file, source)?;
+    Ok(files.push(FileTree { file, tree })?)
 }
 
 /// The program of these files.

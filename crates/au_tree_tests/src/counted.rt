@@ -1,4 +1,4 @@
-//! A phase whose notes are numbers, and the turn that counts them.
+//! A phase whose notes are numbers, and the turn that counts them, into that phase and into the one that has none.
 
 ghost use Rattle.std.specs.Prelude.{◌<◌};
 
@@ -81,5 +81,21 @@ impl Turn<Parsed, Counted> for Count {
 
     fn call_note(&mut self, _alloc: Global, _old: ()) -> Result<u32, Memory> {
         Ok(self.next())
+    }
+}
+
+impl Turn<Parsed, Parsed> for Count {
+    fn name(&mut self, _alloc: Global, old: Name) -> Result<Name, Memory> {
+        Ok(old)
+    }
+
+    fn type_note(&mut self, _alloc: Global, _old: ()) -> Result<(), Memory> {
+        let _ = self.next();
+        Ok(())
+    }
+
+    fn call_note(&mut self, _alloc: Global, _old: ()) -> Result<(), Memory> {
+        let _ = self.next();
+        Ok(())
     }
 }

@@ -7,5 +7,3 @@
 mod counted;
 #[cfg(test)]
 mod tree_tests;
-#[cfg(test)]
-mod whole_tests;

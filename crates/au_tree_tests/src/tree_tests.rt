@@ -1,19 +1,19 @@
-//! Expressions and blocks that are mapped: each note is counted and each word stays, also where trees are as
-//! deep or
+//! Trees that are mapped and copied: each note is counted and each word stays, also where trees are as deep or
 //! as long as a file can have them.
 
 ghost use Rattle.std.specs.Prelude.{◌<◌, ◌≤◌, length};
 
 use crate::counted::{Count, Counted};
 use au_base::{Memory, Name, Pos};
-use au_mapping::{map_block, map_expr};
+use au_copying::{copy_whole, depth_of};
+use au_mapping::{map_block, map_expr, map_phase};
 use au_syntax::depths::expression_depth;
-use au_syntax::{Block, Expr, Ident, Literal, Parsed, Site, Stmt};
+use au_syntax::{Block, Expr, Ident, Literal, Module, Parsed, Part, Site, Stmt, Whole};
 use std::alloc::Global;
 use std::test::Fail;
 
 /// A place of the first line.
-pub(crate) fn at(column: u32) -> Pos {
+fn at(column: u32) -> Pos {
     Pos {
         file: 0,
         line: 1,
@@ -22,7 +22,7 @@ pub(crate) fn at(column: u32) -> Pos {
 }
 
 /// A name at the first place.
-pub(crate) fn ident(alloc: Global, bytes: &[u8]) -> Result<Ident<Parsed>, Memory>
+fn ident(alloc: Global, bytes: &[u8]) -> Result<Ident<Parsed>, Memory>
     requires some { 0 < length bytes.now }
     requires most { length bytes.now ≤ 64 }
 {
@@ -39,61 +39,126 @@ fn site(column: u32) -> Site<Parsed> {
 }
 
 /// `007`
-fn number(column: u32) -> Expr<Parsed> {
-    Expr::Number(
-        site(column),
-        Literal {
-            value: 7,
-            digits: 3,
-        },
-    )
+fn number() -> Expr<Parsed> {
+    let literal = Literal {
+        value: 7,
+        digits: 3,
+    };
+    Expr::Number(site(3), literal)
 }
 
-/// A call keeps its name, its place and its arguments, and has two notes of its own.
-#[test]
-fn notes_are_counted_and_words_stay(rt: HostRuntime) -> Result<(), Fail> {
-    let mut arguments = Vec::new(rt.alloc());
-    arguments.push(number(3))?;
-    let call = Expr::Call(site(1), ident(rt.alloc(), b"f")?, arguments, ());
-    let mut count = Count { made: 0 };
-    let mapped = map_expr::<Parsed, Counted, Count>(rt.alloc(), call, &mut count)?;
-    match &mapped {
-        Expr::Call(site, name, arguments, note) => {
-            assert_eq!(rt; name.name.as_bytes(), b"f".as_slice());
-            assert_eq!(rt; site.at, at(1));
-            assert_eq!(rt; arguments.len(), 1);
-            assert!(rt; site.note != *note, "two notes of a call");
-        }
-        _ => assert!(rt; false, "a call"),
+/// A number in 98 pairs of parentheses.
+fn nested(alloc: Global) -> Result<Expr<Parsed>, Memory> {
+    let mut expr = number();
+    for _ in 0..98u32 {
+        expr = Expr::Parenthesized(site(1), Box::new(alloc, expr)?);
     }
-    assert_eq!(rt; count.made, 3);
-    Ok(())
+    Ok(expr)
 }
 
-/// A block of as many statements as a file has tokens for is mapped and dropped.
-#[test]
-fn a_long_block_is_mapped(rt: HostRuntime) -> Result<(), Fail> {
-    let mut statements = Vec::new(rt.alloc());
+/// A call with a nested number as its argument, which is as deep as a file can have an expression.
+fn call(alloc: Global) -> Result<Expr<Parsed>, Memory> {
+    let name = ident(alloc, b"f")?;
+    let mut arguments = Vec::new(alloc);
+    arguments.push(nested(alloc)?)?;
+    Ok(Expr::Call(site(2), name, arguments, ()))
+}
+
+/// Whether an expression is the call, with two notes of its own.
+fn is_call(expr: &Expr<Counted>) -> bool {
+    match expr {
+        Expr::Call(site, name, arguments, note) => {
+            name.name.as_bytes() == b"f".as_slice()
+                && site.at.line == 1
+                && site.at.column == 2
+                && arguments.len() == 1
+                && site.note != *note
+        }
+        _ => false,
+    }
+}
+
+/// Whether the call keeps its name, its place, its argument and its depth, and each expression in it has a note,
+/// and the call another one.
+fn call_is_mapped(alloc: Global) -> Result<bool, Memory> {
+    let old = call(alloc)?;
+    let mut count = Count { made: 0 };
+    match map_expr::<Parsed, Counted, Count>(alloc, old, &mut count) {
+        Ok(new) => Ok(count.made == 101 && expression_depth(&new) == 100 && is_call(&new)),
+        Err(fault) => Err(fault),
+    }
+}
+
+/// A block of as many statements as a file has tokens for.
+fn long(alloc: Global) -> Result<Block<Parsed>, Memory> {
+    let mut statements = Vec::new(alloc);
     for column in 0..131_072u32 {
         statements.push(Stmt::<Parsed>::Skip(at(column)))?;
     }
-    let mut count = Count { made: 0 };
-    let block = Block { statements };
-    let mapped = map_block::<Parsed, Counted, Count>(rt.alloc(), block, &mut count)?;
-    assert_eq!(rt; mapped.statements.len(), 131_072);
-    Ok(())
+    Ok(Block { statements })
 }
 
-/// An expression as deep as a file can have one is mapped and dropped.
-#[test]
-fn a_deep_expression_is_mapped(rt: HostRuntime) -> Result<(), Fail> {
-    let mut expr = number(100);
-    for _ in 0..99u32 {
-        expr = Expr::Parenthesized(site(1), Box::new(rt.alloc(), expr)?);
-    }
+/// Whether a long block keeps its statements, and none of them has a note.
+fn block_is_mapped(alloc: Global) -> Result<bool, Memory> {
+    let old = long(alloc)?;
     let mut count = Count { made: 0 };
-    let mapped = map_expr::<Parsed, Counted, Count>(rt.alloc(), expr, &mut count)?;
-    assert_eq!(rt; expression_depth(&mapped), 100);
-    assert_eq!(rt; count.made, 100);
+    match map_block::<Parsed, Parsed, Count>(alloc, old, &mut count) {
+        Ok(new) => Ok(count.made == 0 && new.statements.len() == 131_072),
+        Err(fault) => Err(fault),
+    }
+}
+
+/// `module M is end module.`
+fn empty(alloc: Global) -> Result<Whole<Parsed>, Memory> {
+    let mut name = Vec::new(alloc);
+    name.push(ident(alloc, b"M")?)?;
+    Ok(Whole::new(Module::<Parsed> {
+        imports: Vec::new(alloc),
+        at: at(1),
+        part: Part::Interface,
+        name,
+        pragma: None,
+        declarations: Vec::new(alloc),
+    }))
+}
+
+/// Whether a file has the name and the place of the empty one, and no nesting.
+fn is_empty(whole: &Whole<Parsed>) -> bool {
+    let tree = whole.tree();
+    match tree.name.as_slice() {
+        [only] => {
+            only.name.as_bytes() == b"M".as_slice()
+                && tree.at.line == 1
+                && tree.at.column == 1
+                && depth_of(whole) == 0
+        }
+        _ => false,
+    }
+}
+
+/// A copy of a file that is gone.
+fn copied(alloc: Global) -> Result<Whole<Parsed>, Memory> {
+    let whole = empty(alloc)?;
+    copy_whole(alloc, &whole)
+}
+
+/// Whether a copy has the name, the place and the nesting of the file, and stays whole where it is mapped, with no
+/// note where there is no expression.
+fn copy_is_mapped(alloc: Global) -> Result<bool, Memory> {
+    let old = copied(alloc)?;
+    let mut count = Count { made: 0 };
+    match map_phase::<Parsed, Parsed, Count>(alloc, old, &mut count) {
+        Ok(new) => Ok(count.made == 0 && is_empty(&new)),
+        Err(fault) => Err(fault),
+    }
+}
+
+/// An expression as deep as a file can have one and a block as long as a file can have one are mapped and dropped,
+/// and so is a copy of a whole file.
+#[test]
+fn trees_stay_and_notes_are_counted(rt: HostRuntime) -> Result<(), Fail> {
+    assert!(rt; call_is_mapped(rt.alloc())?);
+    assert!(rt; block_is_mapped(rt.alloc())?);
+    assert!(rt; copy_is_mapped(rt.alloc())?);
     Ok(())
 }
