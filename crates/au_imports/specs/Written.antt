@@ -10,16 +10,8 @@ use Rattle.au_syntax.specs.declared.names.Ident.{Ident}
 use Rattle.au_syntax.specs.declared.parsed.Parsed.{Parsed}
 use Rattle.au_syntax.specs.Modules.{Importing}
 use Rattle.au_syntax.specs.Names.{Placed, Renaming}
-use Rattle.au_syntax.specs.Plain.{
-  Bytes,
-  PlainDeclaration,
-  plain_declaration,
-  plain_header,
-  plain_importing,
-  plain_name,
-  plain_renaming,
-  plain_variant,
-}
+use Rattle.au_syntax.specs.Plain.{Bytes, PlainDeclaration, plain_declaration, plain_header, plain_importing}
+use Rattle.au_syntax.specs.Plain.{plain_name, plain_renaming, plain_variant}
 use Rattle.au_syntax.specs.Views.{declaration, header, importing, placed, renaming, variant}
 use Rattle.au_modules.specs.declared.modules.Modules.{Modules}
 use Rattle.au_modules.specs.Programs.{ModuleParts}

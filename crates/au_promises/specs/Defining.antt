@@ -17,13 +17,8 @@ use Rattle.au_promises.specs.declared.keys.KeySort.{KeySort}
 use Rattle.au_promises.specs.declared.keys.KeySort.TheVariants.{Worded, Meaningless}
 use Rattle.au_promises.specs.Agreeing.{scope_of, Sight}
 use Rattle.au_promises.specs.Keys.{class_key, instance_key}
-use Rattle.au_promises.specs.Promises.{
-  constant_defined,
-  type_defined,
-  function_defined,
-  instance_defined,
-  is_name,
-}
+use Rattle.au_promises.specs.Promises.{constant_defined, type_defined, function_defined, instance_defined}
+use Rattle.au_promises.specs.Promises.{is_name}
 
 -- the name that a declaration defines of a sort, if it defines one
 abbrev pub name_defined : Sort → PlainDeclaration → Option Bytes

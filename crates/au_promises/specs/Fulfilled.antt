@@ -3,20 +3,9 @@
 -- and the first such definition has the same type parameters, parameters, types and universe.
 use Rattle.std.specs.Prelude.{◌≡◌, ◌⊎◌, ℕ, List, [], ◌∷◌, ◌++◌, Option, None, Some, Contains, slice_get}
 use Rattle.au_syntax.specs.declared.declarations.Universe.{Universe}
-use Rattle.au_syntax.specs.Modules.{
-  InUniverse,
-  Constrained,
-  Header,
-  constant,
-  opaque_type,
-  record_type,
-  union_type,
-  function,
-  instance,
-  constant_body,
-  function_body,
-  instance_body,
-}
+use Rattle.au_syntax.specs.Modules.{InUniverse, Constrained, Header, constant, opaque_type, record_type}
+use Rattle.au_syntax.specs.Modules.{union_type, function, instance, constant_body, function_body}
+use Rattle.au_syntax.specs.Modules.{instance_body}
 use Rattle.au_syntax.specs.Names.{Placed}
 use Rattle.au_syntax.specs.Plain.{Bytes, PlainDeclaration, PlainModule}
 use Rattle.au_syntax.specs.Types.{WrittenType, WrittenTypes, named, reference, no_types, types, Labelled}

@@ -1,39 +1,14 @@
 -- What the interface of a module promises, and what its body is refused for: each constant, opaque type,
 -- function and instance of the interface has a definition in the body, and the first of them agrees with it.
-use Rattle.std.specs.Prelude.{
-  ◌+◌,
-  ℕ,
-  Bool,
-  false,
-  ◌&&◌,
-  List,
-  [],
-  ◌∷◌,
-  Option,
-  None,
-  Some,
-  find,
-  if◌then◌else◌,
-}
+use Rattle.std.specs.Prelude.{◌+◌, ℕ, Bool, false, ◌&&◌, List, [], ◌∷◌, Option, None, Some, find}
+use Rattle.std.specs.Prelude.{if◌then◌else◌}
 use Rattle.std.specs.Option.{option_or}
 use Rattle.std.specs.Str.{bytes_eq}
 use Rattle.au_base.specs.declared.places.Pos.{Pos}
 use Rattle.au_syntax.specs.declared.declarations.Universe.{Universe}
-use Rattle.au_syntax.specs.Modules.{
-  InUniverse,
-  Constrained,
-  Header,
-  constant,
-  opaque_type,
-  record_type,
-  union_type,
-  function,
-  class,
-  instance,
-  constant_body,
-  function_body,
-  instance_body,
-}
+use Rattle.au_syntax.specs.Modules.{InUniverse, Constrained, Header, constant, opaque_type, record_type}
+use Rattle.au_syntax.specs.Modules.{union_type, function, class, instance, constant_body, function_body}
+use Rattle.au_syntax.specs.Modules.{instance_body}
 use Rattle.au_syntax.specs.Names.{Placed}
 use Rattle.au_syntax.specs.Plain.{Bytes, PlainDeclaration, PlainModule}
 use Rattle.au_syntax.specs.Types.{WrittenType}
@@ -42,18 +17,8 @@ use Rattle.au_modules.specs.Seen.{interface_tree, body_tree}
 use Rattle.au_types.specs.declared.parameters.Parameter.{Parameter}
 use Rattle.au_promises.specs.declared.faults.PromiseFault.{PromiseFault}
 use Rattle.au_promises.specs.declared.faults.PromiseFault.TheVariants.{NotDefined, Differs}
-use Rattle.au_promises.specs.Agreeing.{
-  all_agree,
-  same_class,
-  same_function,
-  same_generic,
-  same_parameter,
-  same_type,
-  same_universe,
-  scope_of,
-  Sight,
-  sight_of,
-}
+use Rattle.au_promises.specs.Agreeing.{all_agree, same_class, same_function, same_generic, same_parameter}
+use Rattle.au_promises.specs.Agreeing.{same_type, same_universe, scope_of, Sight, sight_of}
 use Rattle.au_promises.specs.Wording.{same_written}
 
 -- the place of a declaration's first token

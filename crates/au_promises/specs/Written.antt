@@ -12,16 +12,8 @@ use Rattle.au_syntax.specs.declared.names.Ident.{Ident}
 use Rattle.au_syntax.specs.declared.parsed.Parsed.{Parsed}
 use Rattle.au_syntax.specs.Modules.{InUniverse, Constrained, Header}
 use Rattle.au_syntax.specs.Names.{Placed}
-use Rattle.au_syntax.specs.Plain.{
-  Bytes,
-  PlainDeclaration,
-  plain_constrained,
-  plain_declaration,
-  plain_header,
-  plain_in_universe,
-  plain_labelled,
-  plain_name,
-}
+use Rattle.au_syntax.specs.Plain.{Bytes, PlainDeclaration, plain_constrained, plain_declaration, plain_header}
+use Rattle.au_syntax.specs.Plain.{plain_in_universe, plain_labelled, plain_name}
 use Rattle.au_syntax.specs.Types.{Labelled}
 use Rattle.au_syntax.specs.Views.{constrained, declaration, header, in_universe, labelled, placed}
 use Rattle.au_promises.specs.declared.sights.Sight as code

@@ -3,18 +3,8 @@
 ghost use Rattle.std.specs.Prelude.{◌≡◌, [], IfOk};
 ghost use Rattle.std.specs.Option.{option_map};
 ghost use Rattle.au_promises.specs.Agreeing as spec;
-ghost use Rattle.au_promises.specs.Written.{
-  generic_of,
-  generics_of,
-  header_of,
-  labelled_of,
-  labels_of,
-  name_of,
-  names_of,
-  parameter_of,
-  parameters_of,
-  sight_in,
-};
+ghost use Rattle.au_promises.specs.Written.{generic_of, generics_of, header_of, labelled_of, labels_of};
+ghost use Rattle.au_promises.specs.Written.{name_of, names_of, parameter_of, parameters_of, sight_in};
 ghost use Rattle.au_syntax.specs.Views.{written};
 ghost use Rattle.au_types.specs.Views.{meaning};
 ghost use Rattle.au_written_types.specs.Meant.{meant};

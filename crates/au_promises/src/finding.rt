@@ -9,14 +9,8 @@ ghost use Rattle.au_promises.specs.Defining as defining;
 ghost use Rattle.au_promises.specs.Defining.{AreDefinitions};
 ghost use Rattle.au_promises.specs.Keys as keys;
 ghost use Rattle.au_promises.specs.Promises as spec;
-ghost use Rattle.au_promises.specs.Written.{
-  declarations_of,
-  declared_of,
-  declared_seen,
-  generics_of,
-  name_of,
-  sight_in,
-};
+ghost use Rattle.au_promises.specs.Written.{declarations_of, declared_of, declared_seen, generics_of};
+ghost use Rattle.au_promises.specs.Written.{name_of, sight_in};
 ghost use Rattle.au_syntax.specs.Plain.{PlainDeclaration};
 ghost use Rattle.au_syntax.specs.Views.{written};
 ghost use Rattle.au_tables.specs.Tables as tables;
