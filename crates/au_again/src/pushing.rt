@@ -5,14 +5,14 @@ ghost use Rattle.au_again.specs.Marks.{bound_mark, enclosed, function_marks, gen
 ghost use Rattle.au_again.specs.Marks.{parameter_mark};
 ghost use Rattle.au_again.specs.Said.{binds_said};
 ghost use Rattle.au_mentions.specs.Said.{fields_said, generics_said, header_said, parameters_said};
-ghost use Rattle.au_imports.specs.NameFaults.{given};
-ghost use Rattle.au_syntax.specs.Plain.{plain_bound, plain_name, plain_renaming};
-ghost use Rattle.au_syntax.specs.Views.{bound, placed, renaming};
+ghost use Rattle.au_syntax.specs.Plain.{plain_bound};
+ghost use Rattle.au_syntax.specs.Views.{bound};
 ghost use Rattle.au_syntax.specs.contracts.parsed.ParsedPhase.TheImpl.{ghosts as parsed};
 
 use crate::marks::{Kind, Mark, Role};
 use au_base::Memory;
-use au_syntax::{Bind, Field, Generic, Ident, Parsed, Renamed, Signature, TypeParameter};
+use au_imports::importing::given;
+use au_syntax::{Bind, Field, Generic, Ident, Parsed, Signature, TypeParameter};
 use std::alloc::Global;
 
 /// Puts the beginning of a block.
@@ -93,17 +93,6 @@ pub fn push_generics(
     Ok(())
 }
 
-/// The name that is given: that after `as`, or its own.
-fn given_name(item: &Renamed<Parsed>) -> &Ident<Parsed>
-    ensures { plain_name parsed.name_bytes (placed parsed result.now)
-        ≡ given (plain_renaming parsed.name_bytes (renaming parsed item.now)) }
-{
-    match &item.alias {
-        None => &item.name,
-        Some(alias) => alias,
-    }
-}
-
 /// Puts the names of variables to which fields are bound.
 pub fn push_binds(
     alloc: Global,
@@ -123,7 +112,7 @@ fn push_bind(alloc: Global, list: &mut Vec<Mark>, one: &Bind<Parsed>) -> Result<
     ensures { OnOk result (list.new.items ≡ list.old.items
         ++ bound_mark (plain_bound parsed.name_bytes (bound parsed one.now)) ∷ []) }
 {
-    let name = given_name(&one.name);
+    let name = given(&one.name);
     push_declared(alloc, list, Role::Local, Kind::Values, name)
 }
 
