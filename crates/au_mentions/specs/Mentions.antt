@@ -4,9 +4,12 @@
 -- names of an instance's methods, which are those of its class.
 use Rattle.std.specs.Prelude.{List, [], ◌∷◌, ◌++◌, map}
 use Rattle.std.specs.List.{flat_map}
-use Rattle.au_syntax.specs.Modules.{Constrained, Header, Variant, constant, opaque_type, record_type, union_type, function, class, instance, constant_body, function_body, instance_body}
+use Rattle.au_syntax.specs.Modules.{Constrained, Header, Variant, constant, opaque_type, record_type}
+use Rattle.au_syntax.specs.Modules.{union_type, function, class, instance, constant_body, function_body}
+use Rattle.au_syntax.specs.Modules.{instance_body}
 use Rattle.au_syntax.specs.Names.{Placed}
-use Rattle.au_syntax.specs.Plain.{Bytes, PlainArguments, PlainDeclaration, PlainExpression, PlainExpressions, PlainMethod}
+use Rattle.au_syntax.specs.Plain.{Bytes, PlainArguments, PlainDeclaration, PlainExpression, PlainExpressions}
+use Rattle.au_syntax.specs.Plain.{PlainMethod}
 use Rattle.au_syntax.specs.Sizes.{expression_types, expressions_types, arguments_types}
 use Rattle.au_syntax.specs.Types.{WrittenType, WrittenTypes, Labelled, named, reference, no_types, types}
 use Rattle.au_tables.specs.declared.spaces.Space.TheVariants.{Values, Callables, Types}
@@ -74,14 +77,20 @@ abbrev pub mentions : PlainDeclaration → List Mention
 mentions (constant at name t) = Declares Values name.name name.at ∷ type_mentions t
 mentions (opaque_type at name parameters universe) = Declares Types name.name name.at ∷ []
 mentions (record_type at name parameters universe fields) =
-    Declares Callables name.name name.at ∷ Declares Types name.name name.at ∷ flat_map labelled_mentions fields
-mentions (union_type at name parameters universe cases) = Declares Types name.name name.at ∷ flat_map case_mentions cases
+    Declares Callables name.name name.at ∷ Declares Types name.name name.at
+    ∷ flat_map labelled_mentions fields
+mentions (union_type at name parameters universe cases) =
+    Declares Types name.name name.at ∷ flat_map case_mentions cases
 mentions (function at generics header) = flat_map constraint_mentions generics ++ function_mentions header
-mentions (class at name parameter methods) = Declares Types name.name name.at ∷ flat_map function_mentions methods
+mentions (class at name parameter methods) =
+    Declares Types name.name name.at ∷ flat_map function_mentions methods
 mentions (instance at generics name t) = instance_mentions generics name t
-mentions (constant_body at name t value) = Declares Values name.name name.at ∷ (type_mentions t ++ value_mentions value)
-mentions (function_body at generics header body stop) = flat_map constraint_mentions generics ++ function_mentions header
-mentions (instance_body at generics name t methods) = instance_mentions generics name t ++ flat_map method_mentions methods
+mentions (constant_body at name t value) =
+    Declares Values name.name name.at ∷ (type_mentions t ++ value_mentions value)
+mentions (function_body at generics header body stop) =
+    flat_map constraint_mentions generics ++ function_mentions header
+mentions (instance_body at generics name t methods) =
+    instance_mentions generics name t ++ flat_map method_mentions methods
 
 -- a type parameter behind `generic`
 abbrev pub generic_parameter : Constrained Bytes → Parameter

@@ -1,4 +1,4 @@
--- What the lists and expressions in a declaration of the code say.
+-- What a declaration of the code says, and what the lists and expressions in it say.
 use Rattle.std.specs.Prelude.{ℕ, List, map}
 use Rattle.au_syntax.specs.contracts.parsed.ParsedPhase.TheImpl.{ghosts as parsed}
 use Rattle.au_syntax.specs.declared.parsed.Parsed.{Parsed}
@@ -6,6 +6,7 @@ use Rattle.au_syntax.specs.declared.expressions.Argument.{Argument}
 use Rattle.au_syntax.specs.declared.expressions.Expr.{Expr}
 use Rattle.au_syntax.specs.declared.names.Field.{Field}
 use Rattle.au_syntax.specs.declared.names.Ident.{Ident}
+use Rattle.au_syntax.specs.declared.declarations.Decl.{Decl}
 use Rattle.au_syntax.specs.declared.declarations.Generic.{Generic}
 use Rattle.au_syntax.specs.declared.declarations.Method.{Method}
 use Rattle.au_syntax.specs.declared.declarations.Signature.{Signature}
@@ -13,11 +14,21 @@ use Rattle.au_syntax.specs.declared.declarations.TypeParameter.{TypeParameter}
 use Rattle.au_syntax.specs.declared.declarations.UnionCase.{UnionCase}
 use Rattle.au_syntax.specs.Modules.{Constrained, Header, InUniverse, Variant}
 use Rattle.au_syntax.specs.Names.{Placed}
-use Rattle.au_syntax.specs.Plain.{Bytes, PlainArguments, PlainExpression, PlainExpressions, PlainMethod, plain_name, plain_labelled, plain_in_universe, plain_constrained, plain_header, plain_variant, plain_method, plain_expression, plain_expressions, plain_arguments}
+use Rattle.au_syntax.specs.Plain.{Bytes, PlainArguments, PlainDeclaration, PlainExpression, PlainExpressions}
+use Rattle.au_syntax.specs.Plain.{PlainMethod, plain_name, plain_labelled, plain_in_universe}
+use Rattle.au_syntax.specs.Plain.{plain_constrained, plain_declaration, plain_header, plain_variant}
+use Rattle.au_syntax.specs.Plain.{plain_method, plain_expression, plain_expressions, plain_arguments}
 use Rattle.au_syntax.specs.Types.{Labelled}
-use Rattle.au_syntax.specs.Views.{placed, labelled, in_universe, constrained, header, variant, method_body, expression, expression_all, argument_all}
+use Rattle.au_syntax.specs.Views.{placed, labelled, in_universe, constrained, header, variant, method_body}
+use Rattle.au_syntax.specs.Views.{declaration, expression, expression_all, argument_all}
+use Rattle.au_tables.specs.declared.spaces.Space.{Space}
+use Rattle.au_mentions.specs.declared.mentions.Mention.{Mention}
+use Rattle.au_mentions.specs.declared.mentions.Mention.TheVariants.{Declares}
 
--- names
+-- a name, and several of them
+abbrev pub name_said : Ident Parsed (List ℕ) (Unit {0}) (Unit {0}) → Placed Bytes
+name_said name = plain_name parsed.name_bytes (placed parsed name)
+
 abbrev pub names_said : List (Ident Parsed (List ℕ) (Unit {0}) (Unit {0})) → List (Placed Bytes)
 names_said names = map (plain_name parsed.name_bytes) (map (placed parsed) names)
 
@@ -26,7 +37,8 @@ abbrev pub fields_said : List (Field Parsed (List ℕ) (Unit {0}) (Unit {0})) �
 fields_said fields = map (plain_labelled parsed.name_bytes) (map (labelled parsed) fields)
 
 -- type parameters
-abbrev pub parameters_said : List (TypeParameter Parsed (List ℕ) (Unit {0}) (Unit {0})) → List (InUniverse Bytes)
+abbrev pub parameters_said : List (TypeParameter Parsed (List ℕ) (Unit {0}) (Unit {0}))
+    → List (InUniverse Bytes)
 parameters_said parameters = map (plain_in_universe parsed.name_bytes) (map (in_universe parsed) parameters)
 
 -- a type parameter behind `generic`, and several of them
@@ -63,3 +75,11 @@ expressions_said es = plain_expressions parsed.name_bytes (expression_all parsed
 
 abbrev pub arguments_said : List (Argument Parsed (List ℕ) (Unit {0}) (Unit {0})) → PlainArguments
 arguments_said args = plain_arguments parsed.name_bytes (argument_all parsed args)
+
+-- a declaration
+abbrev pub declaration_said : Decl Parsed (List ℕ) (Unit {0}) (Unit {0}) → PlainDeclaration
+declaration_said d = plain_declaration parsed.name_bytes (declaration parsed d)
+
+-- a name that is declared in a space, as a mention
+abbrev pub declares : Space → Ident Parsed (List ℕ) (Unit {0}) (Unit {0}) → Mention
+declares space name = Declares space name.name name.at

@@ -2,10 +2,14 @@
 
 ghost use Rattle.std.specs.Prelude.{◌≡◌, ◌++◌, ◌∷◌, [], IfOk, OnOk};
 ghost use Rattle.std.specs.List.{flat_map};
-ghost use Rattle.au_mentions.specs.Mentions.{case_mentions, constraint_mentions, function_mentions, instance_mentions, labelled_mentions, mentions, method_mentions, type_mentions, value_mentions};
-ghost use Rattle.au_mentions.specs.Said.{cases_said, expression_said, fields_said, generics_said, header_said, headers_said, methods_said};
-ghost use Rattle.au_syntax.specs.Plain.{plain_declaration, plain_name};
-ghost use Rattle.au_syntax.specs.Views.{declaration, placed, written};
+ghost use Rattle.au_mentions.specs.Mentions.{case_mentions, constraint_mentions, function_mentions};
+ghost use Rattle.au_mentions.specs.Mentions.{instance_mentions, labelled_mentions, mentions, method_mentions};
+ghost use Rattle.au_mentions.specs.Mentions.{type_mentions, value_mentions};
+ghost use Rattle.au_mentions.specs.Said.{cases_said, declaration_said, declares, expression_said};
+ghost use Rattle.au_mentions.specs.Said.{fields_said, generics_said, header_said, headers_said};
+ghost use Rattle.au_mentions.specs.Said.{methods_said, name_said};
+ghost use Rattle.au_syntax.specs.Plain.{plain_declaration};
+ghost use Rattle.au_syntax.specs.Views.{declaration, written};
 ghost use Rattle.au_syntax.specs.contracts.parsed.ParsedPhase.TheImpl.{ghosts as parsed};
 
 use crate::mentions::Mention;
@@ -28,7 +32,8 @@ fn push_constant(
     name: &Ident<Parsed>,
     of: &TypeText,
 ) -> Result<(), Memory>
-    ensures { OnOk result (list.new.items ≡ list.old.items ++ Mention.Declares Space.Values name.now.name name.now.at ∷ type_mentions (written of.now)) }
+    ensures { OnOk result (list.new.items
+        ≡ list.old.items ++ declares Space.Values name.now ∷ type_mentions (written of.now)) }
 {
     push_declared(alloc, list, Space::Values, name)?;
     push_type(alloc, list, of)
@@ -42,7 +47,9 @@ fn push_constant_body(
     of: &TypeText,
     value: &Expr<Parsed>,
 ) -> Result<(), Memory>
-    ensures { OnOk result (list.new.items ≡ list.old.items ++ Mention.Declares Space.Values name.now.name name.now.at ∷ (type_mentions (written of.now) ++ value_mentions (expression_said value.now))) }
+    ensures { OnOk result (list.new.items
+        ≡ list.old.items ++ declares Space.Values name.now
+        ∷ (type_mentions (written of.now) ++ value_mentions (expression_said value.now))) }
 {
     push_constant(alloc, list, name, of)?;
     push_value(alloc, list, value)
@@ -55,7 +62,9 @@ fn push_record(
     name: &Ident<Parsed>,
     fields: &Vec<Field<Parsed>>,
 ) -> Result<(), Memory>
-    ensures { OnOk result (list.new.items ≡ list.old.items ++ Mention.Declares Space.Callables name.now.name name.now.at ∷ Mention.Declares Space.Types name.now.name name.now.at ∷ flat_map labelled_mentions (fields_said fields.now.items)) }
+    ensures { OnOk result (list.new.items
+        ≡ list.old.items ++ declares Space.Callables name.now ∷ declares Space.Types name.now
+        ∷ flat_map labelled_mentions (fields_said fields.now.items)) }
 {
     push_declared(alloc, list, Space::Callables, name)?;
     push_declared(alloc, list, Space::Types, name)?;
@@ -69,7 +78,9 @@ fn push_union(
     name: &Ident<Parsed>,
     cases: &Vec<UnionCase<Parsed>>,
 ) -> Result<(), Memory>
-    ensures { OnOk result (list.new.items ≡ list.old.items ++ Mention.Declares Space.Types name.now.name name.now.at ∷ flat_map case_mentions (cases_said cases.now.items)) }
+    ensures { OnOk result (list.new.items
+        ≡ list.old.items ++ declares Space.Types name.now
+        ∷ flat_map case_mentions (cases_said cases.now.items)) }
 {
     push_declared(alloc, list, Space::Types, name)?;
     push_cases(alloc, list, cases)
@@ -82,7 +93,9 @@ fn push_function(
     generics: &Vec<Generic<Parsed>>,
     signature: &Signature<Parsed>,
 ) -> Result<(), Memory>
-    ensures { OnOk result (list.new.items ≡ list.old.items ++ (flat_map constraint_mentions (generics_said generics.now.items) ++ function_mentions (header_said signature.now))) }
+    ensures { OnOk result (list.new.items
+        ≡ list.old.items ++ (flat_map constraint_mentions (generics_said generics.now.items)
+        ++ function_mentions (header_said signature.now))) }
 {
     push_generics(alloc, list, generics)?;
     push_signature(alloc, list, signature)
@@ -95,7 +108,9 @@ fn push_class(
     name: &Ident<Parsed>,
     methods: &Vec<Signature<Parsed>>,
 ) -> Result<(), Memory>
-    ensures { OnOk result (list.new.items ≡ list.old.items ++ Mention.Declares Space.Types name.now.name name.now.at ∷ flat_map function_mentions (headers_said methods.now.items)) }
+    ensures { OnOk result (list.new.items
+        ≡ list.old.items ++ declares Space.Types name.now
+        ∷ flat_map function_mentions (headers_said methods.now.items)) }
 {
     push_declared(alloc, list, Space::Types, name)?;
     push_signatures(alloc, list, methods)
@@ -109,7 +124,8 @@ fn push_instance(
     name: &Ident<Parsed>,
     of: &TypeText,
 ) -> Result<(), Memory>
-    ensures { OnOk result (list.new.items ≡ list.old.items ++ instance_mentions (generics_said generics.now.items) (plain_name parsed.name_bytes (placed parsed name.now)) (written of.now)) }
+    ensures { OnOk result (list.new.items ≡ list.old.items
+        ++ instance_mentions (generics_said generics.now.items) (name_said name.now) (written of.now)) }
 {
     push_generics(alloc, list, generics)?;
     push_written(alloc, list, name)?;
@@ -125,7 +141,9 @@ fn push_instance_body(
     of: &TypeText,
     methods: &Vec<Method<Parsed>>,
 ) -> Result<(), Memory>
-    ensures { OnOk result (list.new.items ≡ list.old.items ++ (instance_mentions (generics_said generics.now.items) (plain_name parsed.name_bytes (placed parsed name.now)) (written of.now) ++ flat_map method_mentions (methods_said methods.now.items))) }
+    ensures { OnOk result (list.new.items ≡ list.old.items
+        ++ (instance_mentions (generics_said generics.now.items) (name_said name.now) (written of.now)
+        ++ flat_map method_mentions (methods_said methods.now.items))) }
 {
     push_instance(alloc, list, generics, name, of)?;
     push_methods(alloc, list, methods)
@@ -133,20 +151,20 @@ fn push_instance_body(
 
 /// Puts the names of a declaration.
 fn push_mentions(alloc: Global, list: &mut Vec<Mention>, decl: &Decl<Parsed>) -> Result<(), Memory>
-    ensures { OnOk result (list.new.items ≡ list.old.items ++ mentions (plain_declaration parsed.name_bytes (declaration parsed decl.now))) }
+    ensures { OnOk result
+        (list.new.items ≡ list.old.items ++ mentions (declaration_said decl.now)) }
 {
     match decl {
         Decl::Constant(_, name, of) => push_constant(alloc, list, name, of),
         Decl::Opaque(_, name, _, _) => push_declared(alloc, list, Space::Types, name),
         Decl::Record(_, name, _, _, fields) => push_record(alloc, list, name, fields),
         Decl::Union(_, name, _, _, cases) => push_union(alloc, list, name, cases),
-        Decl::Function(_, generics, signature) => push_function(alloc, list, generics, signature),
+        Decl::Function(_, generics, header) | Decl::FunctionBody(_, generics, header, _, _) => {
+            push_function(alloc, list, generics, header)
+        }
         Decl::Class(_, name, _, methods) => push_class(alloc, list, name, methods),
         Decl::Instance(_, generics, name, of) => push_instance(alloc, list, generics, name, of),
         Decl::ConstantBody(_, name, of, value) => push_constant_body(alloc, list, name, of, value),
-        Decl::FunctionBody(_, generics, signature, _, _) => {
-            push_function(alloc, list, generics, signature)
-        }
         Decl::InstanceBody(_, generics, name, of, methods) => {
             push_instance_body(alloc, list, generics, name, of, methods)
         }
@@ -161,7 +179,8 @@ fn push_mentions(alloc: Global, list: &mut Vec<Mention>, decl: &Decl<Parsed>) ->
 ///
 /// Only for want of memory.
 pub fn mentions_of(alloc: Global, decl: &Decl<Parsed>) -> Result<Vec<Mention>, Memory>
-    ensures { IfOk result (λ found. found.items ≡ mentions (plain_declaration parsed.name_bytes (declaration parsed decl.now))) }
+    ensures { IfOk result (λ found. found.items
+        ≡ mentions (plain_declaration parsed.name_bytes (declaration parsed decl.now))) }
 {
     let mut list = Vec::new(alloc);
     push_mentions(alloc, &mut list, decl)?;

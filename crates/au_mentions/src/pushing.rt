@@ -2,8 +2,11 @@
 
 ghost use Rattle.std.specs.Prelude.{◌≡◌, ◌++◌, ◌∷◌, [], OnOk};
 ghost use Rattle.std.specs.List.{flat_map};
-ghost use Rattle.au_mentions.specs.Mentions.{argument_mentions, case_mentions, constraint_mentions, function_mentions, header_mentions, labelled_mentions, method_mentions, type_mentions, writes};
-ghost use Rattle.au_mentions.specs.Said.{case_said, cases_said, fields_said, generic_said, generics_said, header_said, headers_said, methods_said, names_said};
+ghost use Rattle.au_mentions.specs.Mentions.{argument_mentions, case_mentions, constraint_mentions};
+ghost use Rattle.au_mentions.specs.Mentions.{function_mentions, header_mentions, labelled_mentions};
+ghost use Rattle.au_mentions.specs.Mentions.{method_mentions, type_mentions, writes};
+ghost use Rattle.au_mentions.specs.Said.{case_said, cases_said, declares, fields_said, generic_said};
+ghost use Rattle.au_mentions.specs.Said.{generics_said, header_said, headers_said, methods_said, names_said};
 ghost use Rattle.au_syntax.specs.Views.{written, written_all};
 
 use crate::mentions::Mention;
@@ -19,7 +22,7 @@ pub fn push_declared(
     space: Space,
     name: &Ident<Parsed>,
 ) -> Result<(), Memory>
-    ensures { OnOk result (list.new.items ≡ list.old.items ++ Mention.Declares space name.now.name name.now.at ∷ []) }
+    ensures { OnOk result (list.new.items ≡ list.old.items ++ declares space name.now ∷ []) }
 {
     let copy = name.name.copy(alloc)?;
     list.push(Mention::Declares(space, copy, name.at))?;
@@ -49,7 +52,7 @@ fn push_type_name(alloc: Global, list: &mut Vec<Mention>, name: &TypeName) -> Re
 }
 
 /// Puts the names in a written type.
-#[tactic(auto, using(au_syntax::proofs::TypeLemmas::type_steps, crate::proofs::MentionLemmas::mention_steps, std::proofs::lemmas::Grind::common_steps))]
+#[tactic(auto, using(crate::proofs::MentionLemmas::pushing_steps))]
 #[cycle(push_type)]
 pub fn push_type(alloc: Global, list: &mut Vec<Mention>, node: &TypeText) -> Result<(), Memory>
     ensures { OnOk result (list.new.items ≡ list.old.items ++ type_mentions (written node.now)) }
@@ -69,7 +72,8 @@ pub fn push_type(alloc: Global, list: &mut Vec<Mention>, node: &TypeText) -> Res
 /// Puts the names in written types.
 #[cycle(push_type)]
 fn push_types(alloc: Global, list: &mut Vec<Mention>, nodes: &Vec<TypeText>) -> Result<(), Memory>
-    ensures { OnOk result (list.new.items ≡ list.old.items ++ argument_mentions (written_all nodes.now.items)) }
+    ensures { OnOk result (list.new.items
+        ≡ list.old.items ++ argument_mentions (written_all nodes.now.items)) }
 {
     for one in nodes {
         push_type(alloc, list, one)?;
@@ -83,7 +87,8 @@ pub fn push_fields(
     list: &mut Vec<Mention>,
     fields: &Vec<Field<Parsed>>,
 ) -> Result<(), Memory>
-    ensures { OnOk result (list.new.items ≡ list.old.items ++ flat_map labelled_mentions (fields_said fields.now.items)) }
+    ensures { OnOk result (list.new.items
+        ≡ list.old.items ++ flat_map labelled_mentions (fields_said fields.now.items)) }
 {
     for one in fields {
         push_type(alloc, list, &one.of)?;
@@ -97,7 +102,8 @@ fn push_classes(
     list: &mut Vec<Mention>,
     classes: &Vec<Ident<Parsed>>,
 ) -> Result<(), Memory>
-    ensures { OnOk result (list.new.items ≡ list.old.items ++ flat_map writes (names_said classes.now.items)) }
+    ensures { OnOk result (list.new.items
+        ≡ list.old.items ++ flat_map writes (names_said classes.now.items)) }
 {
     for one in classes {
         push_written(alloc, list, one)?;
@@ -111,7 +117,8 @@ pub fn push_generics(
     list: &mut Vec<Mention>,
     generics: &Vec<Generic<Parsed>>,
 ) -> Result<(), Memory>
-    ensures { OnOk result (list.new.items ≡ list.old.items ++ flat_map constraint_mentions (generics_said generics.now.items)) }
+    ensures { OnOk result (list.new.items
+        ≡ list.old.items ++ flat_map constraint_mentions (generics_said generics.now.items)) }
 {
     for one in generics {
         push_classes(alloc, list, &one.classes)?;
@@ -149,7 +156,8 @@ pub fn push_signatures(
     list: &mut Vec<Mention>,
     signatures: &Vec<Signature<Parsed>>,
 ) -> Result<(), Memory>
-    ensures { OnOk result (list.new.items ≡ list.old.items ++ flat_map function_mentions (headers_said signatures.now.items)) }
+    ensures { OnOk result (list.new.items
+        ≡ list.old.items ++ flat_map function_mentions (headers_said signatures.now.items)) }
 {
     for one in signatures {
         push_signature(alloc, list, one)?;
@@ -171,7 +179,8 @@ pub fn push_cases(
     list: &mut Vec<Mention>,
     cases: &Vec<UnionCase<Parsed>>,
 ) -> Result<(), Memory>
-    ensures { OnOk result (list.new.items ≡ list.old.items ++ flat_map case_mentions (cases_said cases.now.items)) }
+    ensures { OnOk result (list.new.items
+        ≡ list.old.items ++ flat_map case_mentions (cases_said cases.now.items)) }
 {
     for one in cases {
         push_case(alloc, list, one)?;
@@ -185,7 +194,8 @@ pub fn push_methods(
     list: &mut Vec<Mention>,
     methods: &Vec<Method<Parsed>>,
 ) -> Result<(), Memory>
-    ensures { OnOk result (list.new.items ≡ list.old.items ++ flat_map method_mentions (methods_said methods.now.items)) }
+    ensures { OnOk result (list.new.items
+        ≡ list.old.items ++ flat_map method_mentions (methods_said methods.now.items)) }
 {
     for one in methods {
         push_header(alloc, list, &one.signature)?;

@@ -27,7 +27,8 @@ fn generic_params_of(alloc: Global, list: &Vec<Generic<Parsed>>) -> Result<Param
 
 /// The type parameter of a class, alone.
 fn alone(alloc: Global, one: &TypeParameter<Parsed>) -> Result<Params, Memory>
-    ensures { IfOk result (λ params. params ≡ parameter (plain_in_universe parsed.name_bytes (in_universe parsed one.now)) ∷ []) }
+    ensures { IfOk result (λ params. params
+        ≡ parameter (plain_in_universe parsed.name_bytes (in_universe parsed one.now)) ∷ []) }
 {
     let mut params = Params::new(alloc);
     params.push(parameter_of(alloc, one)?)?;
@@ -40,18 +41,18 @@ fn alone(alloc: Global, one: &TypeParameter<Parsed>) -> Result<Params, Memory>
 ///
 /// Only for want of memory.
 pub fn type_parameters(alloc: Global, decl: &Decl<Parsed>) -> Result<Params, Memory>
-    ensures { IfOk result (λ params. params ≡ spec.type_parameters (plain_declaration parsed.name_bytes (declaration parsed decl.now))) }
+    ensures { IfOk result (λ params. params
+        ≡ spec.type_parameters (plain_declaration parsed.name_bytes (declaration parsed decl.now))) }
 {
     match decl {
-        Decl::Constant(_, _, _) => Ok(Params::new(alloc)),
-        Decl::Opaque(_, _, list, _) => params_of(alloc, list),
-        Decl::Record(_, _, list, _, _) => params_of(alloc, list),
-        Decl::Union(_, _, list, _, _) => params_of(alloc, list),
-        Decl::Function(_, generics, _) => generic_params_of(alloc, generics),
+        Decl::Opaque(_, _, list, _)
+        | Decl::Record(_, _, list, _, _)
+        | Decl::Union(_, _, list, _, _) => params_of(alloc, list),
         Decl::Class(_, _, one, _) => alone(alloc, one),
-        Decl::Instance(_, generics, _, _) => generic_params_of(alloc, generics),
-        Decl::ConstantBody(_, _, _, _) => Ok(Params::new(alloc)),
-        Decl::FunctionBody(_, generics, _, _, _) => generic_params_of(alloc, generics),
-        Decl::InstanceBody(_, generics, _, _, _) => generic_params_of(alloc, generics),
+        Decl::Function(_, generics, _)
+        | Decl::FunctionBody(_, generics, _, _, _)
+        | Decl::Instance(_, generics, _, _)
+        | Decl::InstanceBody(_, generics, _, _, _) => generic_params_of(alloc, generics),
+        Decl::Constant(_, _, _) | Decl::ConstantBody(_, _, _, _) => Ok(Params::new(alloc)),
     }
 }

@@ -57,7 +57,8 @@ fn push_values(
     list: &mut Vec<Mention>,
     values: &Vec<Expr<Parsed>>,
 ) -> Result<(), Memory>
-    ensures { OnOk result (list.new.items ≡ list.old.items ++ values_mentions (expressions_said values.now.items)) }
+    ensures { OnOk result (list.new.items
+        ≡ list.old.items ++ values_mentions (expressions_said values.now.items)) }
 {
     for one in values {
         push_value(alloc, list, one)?;
@@ -72,7 +73,8 @@ fn push_named_values(
     list: &mut Vec<Mention>,
     arguments: &Vec<Argument<Parsed>>,
 ) -> Result<(), Memory>
-    ensures { OnOk result (list.new.items ≡ list.old.items ++ named_values_mentions (arguments_said arguments.now.items)) }
+    ensures { OnOk result (list.new.items
+        ≡ list.old.items ++ named_values_mentions (arguments_said arguments.now.items)) }
 {
     for one in arguments {
         push_named_value(alloc, list, one)?;
@@ -87,7 +89,8 @@ fn push_named_value(
     list: &mut Vec<Mention>,
     argument: &Argument<Parsed>,
 ) -> Result<(), Memory>
-    ensures { OnOk result (list.new.items ≡ list.old.items ++ value_mentions (expression_said argument.now.value)) }
+    ensures { OnOk result (list.new.items
+        ≡ list.old.items ++ value_mentions (expression_said argument.now.value)) }
 {
     push_value(alloc, list, &argument.value)
 }

@@ -1,2 +1,3 @@
+pub mod AbsentLemmas
 pub mod DeclaredLemmas
 pub mod TableLemmas

@@ -2,8 +2,14 @@
 -- methods of classes, records and cases of unions are callables. Opaque types, records, unions and
 -- classes are types. An instance brings in no name: its methods are those of its class.
 use Rattle.std.specs.Prelude.{ℕ, ◌+◌, List, [], ◌∷◌, ◌++◌, map}
-use Rattle.au_syntax.specs.Modules.{constant, opaque_type, record_type, union_type, function, class, instance, constant_body, function_body, instance_body}
-use Rattle.au_syntax.specs.Plain.{Bytes, PlainDeclaration}
+use Rattle.au_syntax.specs.Modules.{constant, opaque_type, record_type, union_type, function, class, instance}
+use Rattle.au_syntax.specs.Modules.{constant_body, function_body, instance_body}
+use Rattle.au_syntax.specs.Plain.{Bytes, PlainDeclaration, plain_declaration, plain_header, plain_variant}
+use Rattle.au_syntax.specs.Views.{declaration, header, variant}
+use Rattle.au_syntax.specs.declared.declarations.Decl.{Decl}
+use Rattle.au_syntax.specs.declared.declarations.Signature.{Signature}
+use Rattle.au_syntax.specs.declared.declarations.UnionCase.{UnionCase}
+use Rattle.au_syntax.specs.declared.phases.Phase.{Ghosts}
 use Rattle.au_tables.specs.declared.spaces.Space.{Space}
 use Rattle.au_tables.specs.declared.spaces.Space.TheVariants.{Values, Callables, Types}
 use Rattle.au_tables.specs.Tables.{firsts}
@@ -72,3 +78,16 @@ names_in space (d ∷ ds) = given d.0 (declared_names space d.1) ++ names_in spa
 -- the table of a space: the first of each name
 abbrev pub table_of : Space → List (ℕ × PlainDeclaration) → List (Bytes × ℕ)
 table_of space file = firsts (names_in space file)
+
+module _ {X N T C : Type 0} (g : Ghosts X N T C) where
+  -- what is written in a declaration of the code
+  abbrev pub declaration_said : Decl X N T C → PlainDeclaration
+  declaration_said d = plain_declaration g.name_bytes (declaration g d)
+
+  -- the names of a union's cases
+  abbrev pub case_names : List (UnionCase X N T C) → List Bytes
+  case_names cases = map (λ c. c.name.name) (map (plain_variant g.name_bytes) (map (variant g) cases))
+
+  -- the names of a class's methods
+  abbrev pub method_names : List (Signature X N T C) → List Bytes
+  method_names methods = map (λ h. h.name.name) (map (plain_header g.name_bytes) (map (header g) methods))

@@ -1,9 +1,10 @@
 //! Puts the names that one declaration brings in.
 
-ghost use Rattle.std.specs.Prelude.{◌≡◌, map, OnOk};
-ghost use Rattle.au_syntax.specs.Plain.{plain_declaration, plain_header, plain_variant};
-ghost use Rattle.au_syntax.specs.Views.{declaration, header, variant};
-ghost use Rattle.au_tables.specs.DeclaredNames.{callable_names, declared_names, given, type_names, value_names};
+ghost use Rattle.std.specs.Prelude.{◌≡◌, OnOk};
+ghost use Rattle.au_syntax.specs.Plain.{plain_declaration};
+ghost use Rattle.au_syntax.specs.Views.{declaration};
+ghost use Rattle.au_tables.specs.DeclaredNames.{callable_names, case_names, declaration_said};
+ghost use Rattle.au_tables.specs.DeclaredNames.{declared_names, given, method_names, type_names, value_names};
 ghost use Rattle.au_tables.specs.Tables.{with_all, with_pair};
 
 use crate::spaces::Space;
@@ -25,7 +26,8 @@ fn put_cases<P: Phase>(
     cases: &Vec<UnionCase<P>>,
     number: u32,
 ) -> Result<(), Memory>
-    ensures { OnOk result (table.new ≡ with_all table.old (given number (map (λ c. c.name.name) (map (plain_variant P.name_bytes) (map (variant P.Phase) cases.now.items))))) }
+    ensures { OnOk result
+        (table.new ≡ with_all table.old (given number (case_names P.Phase cases.now.items))) }
 {
     for one in cases {
         put_name(table, &one.name, number)?;
@@ -39,7 +41,8 @@ fn put_methods<P: Phase>(
     methods: &Vec<Signature<P>>,
     number: u32,
 ) -> Result<(), Memory>
-    ensures { OnOk result (table.new ≡ with_all table.old (given number (map (λ h. h.name.name) (map (plain_header P.name_bytes) (map (header P.Phase) methods.now.items))))) }
+    ensures { OnOk result
+        (table.new ≡ with_all table.old (given number (method_names P.Phase methods.now.items))) }
 {
     for one in methods {
         put_name(table, &one.name, number)?;
@@ -49,19 +52,14 @@ fn put_methods<P: Phase>(
 
 /// Puts the values that a declaration brings in.
 fn put_values<P: Phase>(table: &mut Table<u32>, decl: &Decl<P>, number: u32) -> Result<(), Memory>
-    ensures { OnOk result (table.new ≡ with_all table.old (given number (value_names (plain_declaration P.name_bytes (declaration P.Phase decl.now))))) }
+    ensures { OnOk result
+        (table.new ≡ with_all table.old (given number (value_names (declaration_said P.Phase decl.now)))) }
 {
     match decl {
-        Decl::Constant(_, name, _) => put_name(table, name, number),
-        Decl::Opaque(_, _, _, _) => Ok(()),
-        Decl::Record(_, _, _, _, _) => Ok(()),
-        Decl::Union(_, _, _, _, _) => Ok(()),
-        Decl::Function(_, _, _) => Ok(()),
-        Decl::Class(_, _, _, _) => Ok(()),
-        Decl::Instance(_, _, _, _) => Ok(()),
-        Decl::ConstantBody(_, name, _, _) => put_name(table, name, number),
-        Decl::FunctionBody(_, _, _, _, _) => Ok(()),
-        Decl::InstanceBody(_, _, _, _, _) => Ok(()),
+        Decl::Constant(_, name, _) | Decl::ConstantBody(_, name, _, _) => {
+            put_name(table, name, number)
+        }
+        _ => Ok(()),
     }
 }
 
@@ -71,37 +69,31 @@ fn put_callables<P: Phase>(
     decl: &Decl<P>,
     number: u32,
 ) -> Result<(), Memory>
-    ensures { OnOk result (table.new ≡ with_all table.old (given number (callable_names (plain_declaration P.name_bytes (declaration P.Phase decl.now))))) }
+    ensures { OnOk result
+        (table.new ≡ with_all table.old (given number (callable_names (declaration_said P.Phase decl.now)))) }
 {
     match decl {
-        Decl::Constant(_, _, _) => Ok(()),
-        Decl::Opaque(_, _, _, _) => Ok(()),
         Decl::Record(_, name, _, _, _) => put_name(table, name, number),
         Decl::Union(_, _, _, _, cases) => put_cases(table, cases, number),
-        Decl::Function(_, _, signature) => put_name(table, &signature.name, number),
+        Decl::Function(_, _, signature) | Decl::FunctionBody(_, _, signature, _, _) => {
+            put_name(table, &signature.name, number)
+        }
         Decl::Class(_, _, _, methods) => put_methods(table, methods, number),
-        Decl::Instance(_, _, _, _) => Ok(()),
-        Decl::ConstantBody(_, _, _, _) => Ok(()),
-        Decl::FunctionBody(_, _, signature, _, _) => put_name(table, &signature.name, number),
-        Decl::InstanceBody(_, _, _, _, _) => Ok(()),
+        _ => Ok(()),
     }
 }
 
 /// Puts the types that a declaration brings in.
 fn put_types<P: Phase>(table: &mut Table<u32>, decl: &Decl<P>, number: u32) -> Result<(), Memory>
-    ensures { OnOk result (table.new ≡ with_all table.old (given number (type_names (plain_declaration P.name_bytes (declaration P.Phase decl.now))))) }
+    ensures { OnOk result
+        (table.new ≡ with_all table.old (given number (type_names (declaration_said P.Phase decl.now)))) }
 {
     match decl {
-        Decl::Constant(_, _, _) => Ok(()),
-        Decl::Opaque(_, name, _, _) => put_name(table, name, number),
-        Decl::Record(_, name, _, _, _) => put_name(table, name, number),
-        Decl::Union(_, name, _, _, _) => put_name(table, name, number),
-        Decl::Function(_, _, _) => Ok(()),
-        Decl::Class(_, name, _, _) => put_name(table, name, number),
-        Decl::Instance(_, _, _, _) => Ok(()),
-        Decl::ConstantBody(_, _, _, _) => Ok(()),
-        Decl::FunctionBody(_, _, _, _, _) => Ok(()),
-        Decl::InstanceBody(_, _, _, _, _) => Ok(()),
+        Decl::Opaque(_, name, _, _)
+        | Decl::Record(_, name, _, _, _)
+        | Decl::Union(_, name, _, _, _)
+        | Decl::Class(_, name, _, _) => put_name(table, name, number),
+        _ => Ok(()),
     }
 }
 
@@ -116,7 +108,9 @@ pub fn put_declared<P: Phase>(
     decl: &Decl<P>,
     number: u32,
 ) -> Result<(), Memory>
-    ensures { OnOk result (table.new ≡ with_all table.old (given number (declared_names space (plain_declaration P.name_bytes (declaration P.Phase decl.now))))) }
+    ensures { OnOk result
+        (table.new ≡ with_all table.old (given number
+        (declared_names space (plain_declaration P.name_bytes (declaration P.Phase decl.now))))) }
 {
     match space {
         Space::Values => put_values(table, decl, number),

@@ -34,9 +34,12 @@ impl NameTables {
     /// Only for want of memory.
     pub fn of<P: Phase>(alloc: Global, tree: &Module<P>, first: u32) -> Result<NameTables, Memory>
         requires { first + length tree.now.declarations.items ≤ 2 ^ 32 }
-        ensures values { IfOk result (λ tables. tables.values ≡ table_of Space.Values (numbered first (says P.Phase tree.now).declarations)) }
-        ensures callables { IfOk result (λ tables. tables.callables ≡ table_of Space.Callables (numbered first (says P.Phase tree.now).declarations)) }
-        ensures types { IfOk result (λ tables. tables.types ≡ table_of Space.Types (numbered first (says P.Phase tree.now).declarations)) }
+        ensures values { IfOk result (λ tables. tables.values
+            ≡ table_of Space.Values (numbered first (says P.Phase tree.now).declarations)) }
+        ensures callables { IfOk result (λ tables. tables.callables
+            ≡ table_of Space.Callables (numbered first (says P.Phase tree.now).declarations)) }
+        ensures types { IfOk result (λ tables. tables.types
+            ≡ table_of Space.Types (numbered first (says P.Phase tree.now).declarations)) }
     {
         let values = table_of_space(alloc, Space::Values, &tree.declarations, first)?;
         let callables = table_of_space(alloc, Space::Callables, &tree.declarations, first)?;
@@ -57,7 +60,9 @@ fn table_of_space<P: Phase>(
     first: u32,
 ) -> Result<Table<u32>, Memory>
     requires { first + length decls.now.items ≤ 2 ^ 32 }
-    ensures { IfOk result (λ table. table ≡ table_of space (numbered first (map (plain_declaration P.name_bytes) (map (declaration P.Phase) decls.now.items)))) }
+    ensures { IfOk result (λ table. table
+        ≡ table_of space (numbered first (map (plain_declaration P.name_bytes)
+        (map (declaration P.Phase) decls.now.items)))) }
 {
     let mut table = Table::new(alloc);
     for (place, one) in decls.iter().enumerate() {

@@ -6,4 +6,5 @@ use Rattle.au_mentions.proofs.pushing.push_generics.Given as goal
 
 -- the names of the items that are visited
 abbrev pub invariant-loop-one : goal.invariant-loop-one
-invariant-loop-one l = l.list.items ≡ l.fn.list.items ++ flat_map constraint_mentions (generics_said (take l.one-index l.one-items))
+invariant-loop-one l = l.list.items
+    ≡ l.fn.list.items ++ flat_map constraint_mentions (generics_said (take l.one-index l.one-items))

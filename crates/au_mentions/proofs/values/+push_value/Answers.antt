@@ -5,7 +5,12 @@ use Rattle.au_syntax.specs.declared.expressions.Argument.{size-Argument}
 use Rattle.au_syntax.proofs.DepthLemmas.{item_falls}
 use Rattle.au_mentions.specs.Mentions.{named_values_mentions, value_mentions, values_mentions}
 use Rattle.au_mentions.specs.Said.{arguments_said, expression_said, expressions_said}
-use Rattle.au_mentions.proofs.ValueLemmas.{number_values, negative_values, text_values, bool_values, nil_values, path_values, arrow_values, borrow_values, borrow_part_values, call_values, named_call_values, parenthesized_values, dereference_values, not_values, binary_values, typed_values, if_values, no_values, no_named_values, more_values, more_named_values}
+use Rattle.au_mentions.proofs.ValueLemmas.{number_values, negative_values, text_values, bool_values}
+use Rattle.au_mentions.proofs.ValueLemmas.{nil_values, path_values, arrow_values, borrow_values}
+use Rattle.au_mentions.proofs.ValueLemmas.{borrow_part_values, call_values, named_call_values}
+use Rattle.au_mentions.proofs.ValueLemmas.{parenthesized_values, dereference_values, not_values}
+use Rattle.au_mentions.proofs.ValueLemmas.{binary_values, typed_values, if_values, no_values, no_named_values}
+use Rattle.au_mentions.proofs.ValueLemmas.{more_values, more_named_values}
 use Rattle.au_mentions.proofs.values.+push_value.Goals as goal
 
 pub push_value-returns-in-Number : goal.push_value-returns-in-Number
@@ -72,7 +77,8 @@ push_values-loop-one-preserved t c =
     let item = c.one-item.result in
     c.in_ok-push_value.ensures
     ∙ ap (λ r. r ++ value_mentions (expression_said item)) c.loop-one.invariant
-    ∙ append_assoc start (values_mentions (expressions_said (take i items))) (value_mentions (expression_said item))
+    ∙ append_assoc start (values_mentions (expressions_said (take i items)))
+    (value_mentions (expression_said item))
     ∙ ap (λ r. start ++ r) (sym (more_values items i item c.loop-one-test.true c.one-item.is))
 
 pub push_named_values-loop-one-init : goal.push_named_values-loop-one-init
@@ -88,12 +94,14 @@ push_named_values-loop-one-preserved t c =
     let item = c.one-item.result in
     c.in_ok-push_named_value.ensures
     ∙ ap (λ r. r ++ value_mentions (expression_said item.value)) c.loop-one.invariant
-    ∙ append_assoc start (named_values_mentions (arguments_said (take i items))) (value_mentions (expression_said item.value))
+    ∙ append_assoc start (named_values_mentions (arguments_said (take i items)))
+    (value_mentions (expression_said item.value))
     ∙ ap (λ r. start ++ r) (sym (more_named_values items i item c.loop-one-test.true c.one-item.is))
 
 pub push_named_values-push_named_value-requires : goal.push_named_values-push_named_value-requires
 push_named_values-push_named_value-requires t c = (
-  item_falls (size-Argument _ _ _ _) c.deref-one-items.result.now c.args.arguments.now.items c.loop-one.one-index c.one-item.result t
+  item_falls (size-Argument _ _ _ _) c.deref-one-items.result.now c.args.arguments.now.items
+      c.loop-one.one-index c.one-item.result t
       c.decreases c.deref-one-items.ensures.value c.loop-one-test.true c.one-item.is,
   tt,
 )

@@ -10,4 +10,7 @@ loop-one-init g c = sym (with_all-none c.args.table.now)
 
 pub loop-one-preserved : goal.loop-one-preserved
 loop-one-preserved g c =
-    given_step (λ one. one.name.name) (plain_variant g.P.Phase.name_bytes) (variant g.P.Phase) c.args.table.now c.loop-one.table c.put_name.new.table c.args.number c.deref-one-items.result.now c.loop-one.one-index c.one-item.result c.loop-one-test.true c.one-item.is c.loop-one.invariant c.in_ok-put_name.ensures
+    given_step (λ one. one.name.name) (plain_variant g.P.Phase.name_bytes)
+    (variant g.P.Phase) c.args.table.now c.loop-one.table c.put_name.new.table c.args.number
+    c.deref-one-items.result.now c.loop-one.one-index c.one-item.result c.loop-one-test.true c.one-item.is
+    c.loop-one.invariant c.in_ok-put_name.ensures

@@ -1,34 +1,14 @@
 use Rattle.std.proofs.Common.{arith}
-use Rattle.au_syntax.proofs.DeclarationLemmas.{constant_says, opaque_says, record_says, union_says, function_says, class_says, instance_says, constant_body_says, function_body_says, instance_body_says}
-use Rattle.au_tables.proofs.TableLemmas.{with_all-none, with_all-one}
+use Rattle.au_syntax.proofs.DeclarationLemmas.{constant_says, constant_body_says}
+use Rattle.au_tables.proofs.TableLemmas.{with_all-one}
+use Rattle.au_tables.proofs.AbsentLemmas.{no_value, puts_none}
 use Rattle.au_tables.proofs.declared_names.put_values.Goals as goal
 
 pub returns-in-Constant : goal.returns-in-Constant
-returns-in-Constant g c = grind (arith, constant_says, with_all-one)
+returns-in-Constant g c = grind (arith, constant_says, constant_body_says, with_all-one)
 
-pub returns-in-Opaque : goal.returns-in-Opaque
-returns-in-Opaque g c = grind (arith, opaque_says, with_all-none)
-
-pub returns-in-Record : goal.returns-in-Record
-returns-in-Record g c = grind (arith, record_says, with_all-none)
-
-pub returns-in-Union : goal.returns-in-Union
-returns-in-Union g c = grind (arith, union_says, with_all-none)
-
-pub returns-in-Function : goal.returns-in-Function
-returns-in-Function g c = grind (arith, function_says, with_all-none)
-
-pub returns-in-Class : goal.returns-in-Class
-returns-in-Class g c = grind (arith, class_says, with_all-none)
-
-pub returns-in-Instance : goal.returns-in-Instance
-returns-in-Instance g c = grind (arith, instance_says, with_all-none)
-
-pub returns-in-ConstantBody : goal.returns-in-ConstantBody
-returns-in-ConstantBody g c = grind (arith, constant_body_says, with_all-one)
-
-pub returns-in-FunctionBody : goal.returns-in-FunctionBody
-returns-in-FunctionBody g c = grind (arith, function_body_says, with_all-none)
-
-pub returns-in-InstanceBody : goal.returns-in-InstanceBody
-returns-in-InstanceBody g c = grind (arith, instance_body_says, with_all-none)
+pub returns-in_default : goal.returns-in_default
+returns-in_default g c =
+    let k = c.in_default in
+    puts_none c.args.table.now c.args.number _
+    (no_value g.P.Phase c.args.decl.now k.not-Constant k.not-ConstantBody)
