@@ -86,8 +86,7 @@ fn put_once(
         return Ok(());
     }
     let file = modules.interface(at.module as usize);
-    put_members_in(alloc, table, at, file)?;
-    Ok(())
+    put_members_in(alloc, table, at, file)
 }
 
 /// Puts the cases or methods that come along under a name from the module at a place.
@@ -115,8 +114,7 @@ fn put_along(
                 module: other,
                 decl: *number,
             };
-            put_once(alloc, table, done, modules, at)?;
-            Ok(())
+            put_once(alloc, table, done, modules, at)
         }
     }
 }
@@ -146,10 +144,7 @@ fn put_item(
     put_found(alloc, table, other, names, name, local)?;
     match space {
         Space::Values => Ok(()),
-        Space::Callables => {
-            put_along(alloc, table, done, modules, exports, other, name)?;
-            Ok(())
-        }
+        Space::Callables => put_along(alloc, table, done, modules, exports, other, name),
         Space::Types => Ok(()),
     }
 }
@@ -205,8 +200,7 @@ fn put_import(
         Some(other) => {
             if (other as usize) < place {
                 let items = &import.items;
-                put_items(alloc, table, done, modules, exports, space, other, items)?;
-                Ok(())
+                put_items(alloc, table, done, modules, exports, space, other, items)
             } else {
                 Ok(())
             }
@@ -265,7 +259,6 @@ fn put_imports(
 /// # Errors
 ///
 /// Only for want of memory.
-#[tactic(auto, using(au_tables::proofs::TableLemmas::put_steps, std::proofs::lemmas::Grind::common_steps))]
 pub fn put_imported(
     alloc: Global,
     table: &mut Table<Target>,
@@ -284,8 +277,7 @@ pub fn put_imported(
         None => Ok(()),
         Some(file) => {
             let tree = tree_of(file);
-            put_imports(alloc, table, modules, exports, space, place, &tree.imports)?;
-            Ok(())
+            put_imports(alloc, table, modules, exports, space, place, &tree.imports)
         }
     }
 }

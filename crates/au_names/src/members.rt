@@ -98,7 +98,6 @@ fn put_members_at(
 }
 
 /// Puts the cases or methods of the declaration of a number in a file, if it has it.
-#[tactic(auto, using(au_tables::proofs::TableLemmas::put_steps, std::proofs::lemmas::Grind::common_steps))]
 pub fn put_members_in(
     alloc: Global,
     table: &mut Table<Target>,

@@ -48,7 +48,6 @@ pub fn put_table(
 }
 
 /// Puts what has a name among names with their numbers, if anything has it, under a local name.
-#[tactic(auto, using(au_tables::proofs::TableLemmas::put_steps, std::proofs::lemmas::Grind::common_steps))]
 pub fn put_found(
     alloc: Global,
     table: &mut Table<Target>,

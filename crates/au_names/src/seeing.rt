@@ -59,8 +59,7 @@ fn put_own(
     let offered = offered_names(exports, place as usize, space);
     put_table(alloc, table, place, offered)?;
     let hidden = in_space(body, space);
-    put_table(alloc, table, place, hidden)?;
-    Ok(())
+    put_table(alloc, table, place, hidden)
 }
 
 /// Puts the names of a space that a part of the module at a place sees, given what its body brings in.
@@ -157,23 +156,13 @@ fn names_beside(
         ≡ declared_by (seen Space.Types (slots.modules modules.now) place m part)) }
 {
     let values = declared_seen(alloc, modules, exports, body, Space::Values, place, part)?;
-    match table_seen(alloc, modules, exports, body, Space::Callables, place, part) {
-        Ok(callables) => match declared_seen(
-            alloc,
-            modules,
-            exports,
-            body,
-            Space::Types,
-            place,
-            part,
-        ) {
-            Ok(types) => Ok(PartNames {
-                values,
-                callables,
-                types,
-            }),
-            Err(fault) => Err(fault),
-        },
+    let callables = table_seen(alloc, modules, exports, body, Space::Callables, place, part)?;
+    match declared_seen(alloc, modules, exports, body, Space::Types, place, part) {
+        Ok(types) => Ok(PartNames {
+            values,
+            callables,
+            types,
+        }),
         Err(fault) => Err(fault),
     }
 }

@@ -1,4 +1,5 @@
 use Rattle.std.proofs.Common.{Some, arith, refl, sym, ap, ◌∙◌}
+use Rattle.std.proofs.lemmas.Result.{on_ok_weaker}
 use Rattle.au_tables.specs.Tables.{with_all}
 use Rattle.au_modules.specs.Seen.{interface_tree}
 use Rattle.au_modules.specs.Slots as slots
@@ -20,13 +21,15 @@ returns-in-None-clause-along c = λ m here.
     (c.offered_names-types.ensures (slots.modules c.args.modules.now) m c.requires.made here)
     c.in-None.ensures
 
-pub returns-in_ok-put_once-in-Some-clause-along : goal.returns-in_ok-put_once-in-Some-clause-along
-returns-in_ok-put_once-in-Some-clause-along c = λ m here.
-    along_some c.args.table.now c.put_once.new.table c.args.other c.args.name.now
+pub returns-in-Some-clause-along : goal.returns-in-Some-clause-along
+returns-in-Some-clause-along c = λ m here.
+    on_ok_weaker c.put_once.result
+    (λ put. along_some c.args.table.now c.put_once.new.table c.args.other c.args.name.now
     m c.offered_names-types.result.now c.in-Some.number.now (interface_tree (Some m))
     (c.offered_names-types.ensures (slots.modules c.args.modules.now) m c.requires.made here)
     c.in-Some.ensures refl
-    (c.in_ok-put_once-in-Some.ensures.members m here
+    (put
     ∙ ap (with_all c.args.table.now)
     (sym (along_file (record { «module» = c.args.other; decl = c.in-Some.number.now }) m
-    (interface_tree (Some m)) refl)))
+    (interface_tree (Some m)) refl))))
+    (c.put_once.ensures.members m here)

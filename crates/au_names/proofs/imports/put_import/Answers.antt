@@ -1,5 +1,6 @@
 use Rattle.std.proofs.Common.{get_or, sym, ap, ◌∙◌, arith, ◌<◌}
 use Rattle.std.proofs.lemmas.Option.{slice_get-get_or}
+use Rattle.std.proofs.lemmas.Result.{on_ok_weaker}
 use Rattle.au_syntax.specs.contracts.parsed.ParsedPhase.TheImpl.{ghosts as parsed}
 use Rattle.au_syntax.specs.Plain.{plain_importing}
 use Rattle.au_syntax.specs.Sizes.{joined}
@@ -22,17 +23,19 @@ put_items-requires c =
     let less : c.in-Some.other < c.args.place = c.if-other-place.true in
     record { within = omega (arith, c.requires.within, less); made = c.requires.made; done = c.requires.done }
 
-pub returns-in_ok-put_items-in-Some-clause-import : goal.returns-in_ok-put_items-in-Some-clause-import
-returns-in_ok-put_items-in-Some-clause-import c =
+pub returns-then-other-place-clause-import : goal.returns-then-other-place-clause-import
+returns-then-other-place-clause-import c =
     let program = slots.modules c.args.modules.now in
     let one = plain_importing parsed.name_bytes (importing parsed c.args.import.now) in
     let other = c.in-Some.other in
     let less : other < c.args.place = c.if-other-place.true in
     let here = slice_get-get_or program other nothing (omega (arith, c.requires.within, less)) in
-    c.in_ok-put_items-in-Some.ensures.items (get_or program other nothing) here
+    on_ok_weaker c.put_items.result
+    (λ put. put
     ∙ sym (ap (with_all c.args.table.now) (brings_earlier c.args.space program c.args.place other one
     (get_or program other nothing)
-    (sym (c.requires.made.places (joined one.from)) ∙ sym c.in_ok-found.ensures ∙ c.in-Some.is) less here))
+    (sym (c.requires.made.places (joined one.from)) ∙ sym c.in_ok-found.ensures ∙ c.in-Some.is) less here)))
+    (c.put_items.ensures.items (get_or program other nothing) here)
 
 pub returns-else-other-place-clause-import : goal.returns-else-other-place-clause-import
 returns-else-other-place-clause-import c =

@@ -1,4 +1,5 @@
 use Rattle.std.proofs.Common.{arith}
+use Rattle.std.proofs.lemmas.Result.{on_ok_weaker}
 use Rattle.au_syntax.specs.contracts.parsed.ParsedPhase.TheImpl.{ghosts as parsed}
 use Rattle.au_syntax.specs.Plain.{plain_renaming}
 use Rattle.au_syntax.specs.Views.{renaming}
@@ -28,16 +29,18 @@ returns-in-Values-clause-item c = λ m here.
     c.as_bytes-name.result.now item.name.name c.given_name-local.result.now (given_name item)
     c.as_bytes-name.ensures.bytes c.given_name-local.ensures c.in_ok-put_found.ensures)
 
-pub returns-in_ok-put_along-in-Callables-clause-item : goal.returns-in_ok-put_along-in-Callables-clause-item
-returns-in_ok-put_along-in-Callables-clause-item c = λ m here.
+pub returns-in-Callables-clause-item : goal.returns-in-Callables-clause-item
+returns-in-Callables-clause-item c = λ m here.
     let item = plain_renaming parsed.name_bytes (renaming parsed c.args.item.now) in
-    brought_callable c.args.space c.args.table.now c.put_found.new.table c.put_along.new.table
+    on_ok_weaker c.put_along.result
+    (λ put. brought_callable c.args.space c.args.table.now c.put_found.new.table c.put_along.new.table
     c.args.other m item c.offered_names-names.result.now c.in-Callables.is
     (c.offered_names-names.ensures (slots.modules c.args.modules.now) m c.requires.made here)
     (found_put c.args.table.now c.put_found.new.table c.args.other c.offered_names-names.result.now
     c.as_bytes-name.result.now item.name.name c.given_name-local.result.now (given_name item)
     c.as_bytes-name.ensures.bytes c.given_name-local.ensures c.in_ok-put_found.ensures)
-    (rw c.as_bytes-name.ensures.bytes at c.in_ok-put_along-in-Callables.ensures.along m here)
+    (rw c.as_bytes-name.ensures.bytes at put))
+    (c.put_along.ensures.along m here)
 
 pub returns-in-Types-clause-item : goal.returns-in-Types-clause-item
 returns-in-Types-clause-item c = λ m here.

@@ -1,5 +1,6 @@
 use Rattle.std.proofs.Common.{◌≡◌, Some, ap, sym, ◌∙◌, subst}
 use Rattle.std.specs.Prelude.{slice_get}
+use Rattle.std.proofs.lemmas.Result.{on_ok_weaker}
 use Rattle.au_tables.specs.Tables.{with_all}
 use Rattle.au_modules.specs.Programs.{ModuleParts}
 use Rattle.au_modules.specs.Seen.{interface_tree, tree_seen}
@@ -32,9 +33,11 @@ returns c =
     ≡ Some m). along_file c.args.at m (tree_seen c.interface-file.result) (c.interface-file.ensures
     ∙ ap interface_tree here) in
     record {
-      members = λ m here. c.in_ok-put_members_in.ensures ∙ ap (with_all c.args.table.now) (those m here);
-      done = subst (λ some. AreAlong program some c.put_members_in.new.table)
+      members = λ m here. on_ok_weaker c.put_members_in.result
+          (λ put. put ∙ ap (with_all c.args.table.now) (those m here)) c.put_members_in.ensures;
+      done = on_ok_weaker c.put_members_in.result
+          (λ put. subst (λ some. AreAlong program some c.put_members_in.new.table)
           (sym c.in_ok-fresh.ensures.places)
           (along_more program c.args.done.now c.args.at c.args.table.now c.put_members_in.new.table
-          more c.requires.done c.in_ok-put_members_in.ensures those);
+          more c.requires.done put those)) c.put_members_in.ensures;
     }

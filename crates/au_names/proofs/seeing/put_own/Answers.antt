@@ -1,6 +1,7 @@
 use Rattle.std.proofs.Common.{sym, ap, ◌∙◌, arith}
 use Rattle.std.specs.Option.{option_map}
 use Rattle.std.proofs.lemmas.Option.{same_Some}
+use Rattle.std.proofs.lemmas.Result.{on_ok_weaker}
 use Rattle.au_modules.specs.Slots as slots
 use Rattle.au_names.specs.Exporting.{in_space, body_names}
 use Rattle.au_names.proofs.ExportLemmas.{as_many}
@@ -18,7 +19,8 @@ offered_names-offered-requires c =
 
 pub returns : goal.returns
 returns c = λ m here.
-    own_put c.args.space c.args.place m c.args.table.now c.put_table.new.table c.put_table-2.new.table
+    on_ok_weaker c.put_table-2.result
+    (own_put c.args.space c.args.place m c.args.table.now c.put_table.new.table c.put_table-2.new.table
     c.offered_names-offered.result.now c.in_space-hidden.result.now
     (c.offered_names-offered.ensures (slots.modules c.args.modules.now) m c.requires.made here)
     (c.in_space-hidden.ensures
@@ -26,4 +28,5 @@ returns c = λ m here.
     (sym
     (same_Some (body_names m) c.args.body.now
     (ap (option_map body_names) (sym here) ∙ c.requires.body))))
-    c.in_ok-put_table.ensures c.in_ok-put_table-2.ensures
+    c.in_ok-put_table.ensures)
+    c.put_table-2.ensures
