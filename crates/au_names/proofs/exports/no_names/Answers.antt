@@ -5,10 +5,10 @@ use Rattle.au_names.proofs.exports.no_names.Goals as goal
 
 pub returns : goal.returns
 returns c = λ first.
-    let same : ◌≡◌ {A = NameTables}
-    (record
-    { values = c.new-values.result; callables = c.new-callables.result; types = c.new-types.result })
-    (record { values = []; callables = []; types = [] }) =
+    let made : NameTables =
+    record { values = c.new-values.result; callables = c.new-callables.result; types = c.new-types.result } in
+    let none : NameTables = record { values = []; callables = []; types = [] } in
+    let same : made ≡ none =
     λ i. record {
       values = c.new-values.ensures i;
       callables = c.new-callables.ensures i;
