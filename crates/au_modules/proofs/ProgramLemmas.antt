@@ -1,5 +1,7 @@
 -- Files are refused for nothing exactly where they are those of a program.
-use Rattle.std.proofs.Common.{◌≡◌, ℕ, zero, suc, ◌<◌, Bool, true, false, not, ◌&&◌, ◌||◌, true≢false, List, [], ◌∷◌, ◌++◌, map, take, Option, Some, None, refl, ap, sym, ◌∙◌, subst, arith, find, append_assoc, append-nil}
+use Rattle.std.proofs.Common.{◌≡◌, ℕ, zero, suc, ◌<◌, Bool, true, false, not, ◌&&◌, ◌||◌, true≢false, List}
+use Rattle.std.proofs.Common.{[], ◌∷◌, ◌++◌, map, take, Option, Some, None, refl, ap, sym, ◌∙◌, subst, arith}
+use Rattle.std.proofs.Common.{find, append_assoc, append-nil}
 use Rattle.std.specs.Prelude.{if◌then◌else◌, slice_get}
 use Rattle.std.specs.List.{list_any}
 use Rattle.std.specs.Option.{option_or, option_map}
@@ -12,7 +14,9 @@ use Rattle.au_syntax.specs.declared.modules.Part.TheVariants.{Interface, Body}
 use Rattle.au_modules.specs.declared.faults.ModuleFault.TheVariants.{TwiceGiven, Unsafe, Limit}
 use Rattle.au_modules.specs.declared.parts.Given.{Given}
 use Rattle.au_modules.specs.Limits.{limit_in}
-use Rattle.au_modules.specs.Programs.{Entry, first_shipped, is_shipped, given, pragma_fault, fault_in, first_fault, is_interface, is_same_part, clashes, is_again, first_again, is_body_of, lacks_body, body_fault, first_bodiless, refusal_of}
+use Rattle.au_modules.specs.Programs.{Entry, first_shipped, is_shipped, given, pragma_fault, fault_in}
+use Rattle.au_modules.specs.Programs.{first_fault, is_interface, is_same_part, clashes, is_again, first_again}
+use Rattle.au_modules.specs.Programs.{is_body_of, lacks_body, body_fault, first_bodiless, refusal_of}
 use Rattle.au_modules.specs.Accepted.{Stands, module_name, IsOwn, AreOfOne, IsProgram}
 
 -- ---- neither of two

@@ -5,7 +5,8 @@ use Rattle.std.specs.Prelude.{nat_lt, Some, None, if◌then◌else◌}
 use Rattle.au_base.specs.declared.limits.Limit.{Limit}
 use Rattle.au_base.specs.declared.limits.LimitKind.{LimitKind}
 use Rattle.au_base.specs.declared.limits.LimitKind.TheVariants.{Parameters, Fields, Cases, TypeParameters}
-use Rattle.au_syntax.specs.Modules.{Header, Variant, constant, opaque_type, record_type, union_type, function, class, instance, constant_body, function_body, instance_body}
+use Rattle.au_syntax.specs.Modules.{Header, Variant, constant, opaque_type, record_type, union_type, function}
+use Rattle.au_syntax.specs.Modules.{class, instance, constant_body, function_body, instance_body}
 use Rattle.au_syntax.specs.Plain.{Bytes, PlainMethod, PlainDeclaration}
 
 -- the most parameters of a function or method

@@ -1,5 +1,6 @@
 -- Where the parts of modules lie among the files that give them.
-use Rattle.std.specs.Prelude.{ℕ, ◌+◌, Bool, not, ◌&&◌, if◌then◌else◌, List, [], ◌∷◌, ◌++◌, map, Option, Some, None, slice_get, position}
+use Rattle.std.specs.Prelude.{ℕ, ◌+◌, Bool, not, ◌&&◌, if◌then◌else◌, List, [], ◌∷◌, ◌++◌, map, Option, Some}
+use Rattle.std.specs.Prelude.{None, slice_get, position}
 use Rattle.std.specs.Str.{bytes_eq}
 use Rattle.au_modules.specs.declared.modules.Modules.{Modules}
 use Rattle.au_modules.specs.declared.modules.Slot.{Slot}
@@ -29,7 +30,8 @@ shipped_slot index g = record { name = g.name; interface = Some index; body = No
 abbrev pub shipped_slots : ℕ → List Given → List Slot
 shipped_slots index [] = []
 shipped_slots index (g ∷ rest) =
-    if g.shipped then shipped_slot index g ∷ shipped_slots (index + 1) rest else shipped_slots (index + 1) rest
+    if g.shipped then shipped_slot index g ∷ shipped_slots (index + 1) rest else shipped_slots
+    (index + 1) rest
 
 -- the interface of the module of this name
 abbrev pub gives_interface : Bytes → Given → Bool

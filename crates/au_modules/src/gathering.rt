@@ -4,7 +4,8 @@ ghost use Rattle.std.specs.Prelude.{◌≡◌, ◌++◌, ◌⊎◌, IfOk, IsTrue
 ghost use Rattle.au_modules.specs.Counts.{are_few};
 ghost use Rattle.au_modules.specs.Programs as spec;
 ghost use Rattle.au_modules.specs.Programs.{entry, refusal_of, modules_of};
-ghost use Rattle.au_modules.specs.Slots.{all_slots, modules, shipped_slots, body_slots, body_slot, gives_interface};
+ghost use Rattle.au_modules.specs.Slots.{all_slots, modules, shipped_slots, body_slots, body_slot};
+ghost use Rattle.au_modules.specs.Slots.{gives_interface};
 
 use crate::faults::ModuleFault;
 use crate::modules::{Modules, Slot};

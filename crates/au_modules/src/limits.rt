@@ -116,12 +116,10 @@ fn methods_limit<P: Phase>(methods: &Vec<Method<P>>) -> Option<Limit>
 }
 
 /// The limit that a declaration passes, the first in the order of the text.
-#[tactic(auto, using(crate::proofs::LimitLemmas::limit_steps, std::proofs::lemmas::Grind::common_steps))]
 pub fn limit_of<P: Phase>(decl: &Decl<P>) -> Option<Limit>
     ensures { result ≡ spec.limit_of (plain_declaration P.name_bytes (declaration P.Phase decl.now)) }
 {
     match decl {
-        Decl::Constant(_, _, _) => None,
         Decl::Opaque(_, _, parameters, _) => type_parameters_limit(parameters.len()),
         Decl::Record(_, _, parameters, _, fields) => {
             type_parameters_limit(parameters.len()).or(fields_limit(fields.len()))
@@ -129,20 +127,16 @@ pub fn limit_of<P: Phase>(decl: &Decl<P>) -> Option<Limit>
         Decl::Union(_, _, parameters, _, cases) => {
             type_parameters_limit(parameters.len()).or(cases_limit(cases))
         }
-        Decl::Function(_, generics, signature) => {
-            let parameters = parameters_limit(signature.parameters.len());
+        Decl::Function(_, generics, header) | Decl::FunctionBody(_, generics, header, _, _) => {
+            let parameters = parameters_limit(header.parameters.len());
             type_parameters_limit(generics.len()).or(parameters)
         }
         Decl::Class(_, _, _, methods) => signatures_limit(methods),
         Decl::Instance(_, generics, _, _) => type_parameters_limit(generics.len()),
-        Decl::ConstantBody(_, _, _, _) => None,
-        Decl::FunctionBody(_, generics, signature, _, _) => {
-            let parameters = parameters_limit(signature.parameters.len());
-            type_parameters_limit(generics.len()).or(parameters)
-        }
         Decl::InstanceBody(_, generics, _, _, methods) => {
             type_parameters_limit(generics.len()).or(methods_limit(methods))
         }
+        Decl::Constant(_, _, _) | Decl::ConstantBody(_, _, _, _) => None,
     }
 }
 

@@ -33,7 +33,8 @@ pub struct Modules {
 impl Modules {
     ghost use Rattle.std.specs.Prelude.{◌≡◌, ◌<◌, Some, length, map, slice_get};
     ghost use Rattle.au_modules.specs.Programs.{entry};
-    ghost use Rattle.au_modules.specs.Seen.{body_tree, interface_tree, name_of, part_tree, tree_at, tree_seen};
+    ghost use Rattle.au_modules.specs.Seen.{body_tree, interface_tree, name_of, part_tree, tree_at};
+    ghost use Rattle.au_modules.specs.Seen.{tree_seen};
     ghost use Rattle.au_modules.specs.Slots.{modules};
 
     /// How many modules there are.

@@ -7,4 +7,8 @@ use Rattle.au_modules.proofs.limits.methods_limit.Given as goal
 
 -- what is left decides
 abbrev pub invariant-loop-one : goal.invariant-loop-one
-invariant-loop-one g l = spec.first_passed (flat_map spec.counted_method (map (plain_method g.P.Phase.name_bytes) (map (method_body g.P.Phase) (drop l.one-index l.one-items)))) ≡ spec.first_passed (flat_map spec.counted_method (map (plain_method g.P.Phase.name_bytes) (map (method_body g.P.Phase) l.one-items)))
+invariant-loop-one g l = spec.first_passed
+    (flat_map spec.counted_method (map (plain_method g.P.Phase.name_bytes)
+    (map (method_body g.P.Phase) (drop l.one-index l.one-items))))
+    ≡ spec.first_passed (flat_map spec.counted_method
+    (map (plain_method g.P.Phase.name_bytes) (map (method_body g.P.Phase) l.one-items)))

@@ -5,4 +5,5 @@ use Rattle.au_modules.proofs.rounds.has_body.Given as goal
 
 -- what is left decides
 abbrev pub invariant-loop-one : goal.invariant-loop-one
-invariant-loop-one l = list_any (spec.is_body_of l.name) (drop l.one-index l.one-items) ≡ list_any (spec.is_body_of l.name) l.one-items
+invariant-loop-one l = list_any (spec.is_body_of l.name) (drop l.one-index l.one-items)
+    ≡ list_any (spec.is_body_of l.name) l.one-items
