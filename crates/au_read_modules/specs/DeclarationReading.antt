@@ -1,8 +1,12 @@
 -- Reading declarations.
 use Rattle.std.specs.Prelude.{Bool, true, false, List, [], ◌∷◌, Option, Some, None, Ok, cond}
 use Rattle.au_base.specs.declared.places.Pos.{Pos}
-use Rattle.au_base.specs.declared.tokens.Keyword.TheVariants.{KwIs, KwEnd, KwConstant, KwType, KwRecord, KwUnion, KwCase, KwFunction, KwGeneric, KwTypeclass, KwInstance, KwMethod, KwFree, KwLinear, KwAnyUniverse, KwRegion}
-use Rattle.au_base.specs.declared.tokens.Sign.TheVariants.{Assign, LeftParenthesis, RightParenthesis, LeftBracket, RightBracket, Semicolon, Colon}
+use Rattle.au_base.specs.declared.tokens.Keyword.TheVariants.{KwIs, KwEnd, KwConstant, KwType, KwRecord}
+use Rattle.au_base.specs.declared.tokens.Keyword.TheVariants.{KwUnion, KwCase, KwFunction, KwGeneric}
+use Rattle.au_base.specs.declared.tokens.Keyword.TheVariants.{KwTypeclass, KwInstance, KwMethod, KwFree}
+use Rattle.au_base.specs.declared.tokens.Keyword.TheVariants.{KwLinear, KwAnyUniverse, KwRegion}
+use Rattle.au_base.specs.declared.tokens.Sign.TheVariants.{Assign, LeftParenthesis, RightParenthesis}
+use Rattle.au_base.specs.declared.tokens.Sign.TheVariants.{LeftBracket, RightBracket, Semicolon, Colon}
 use Rattle.au_base.specs.declared.tokens.Token.{Token}
 use Rattle.au_base.specs.declared.tokens.What.{What}
 use Rattle.au_base.specs.declared.tokens.What.TheVariants.{Word, Sign, Name}
@@ -10,12 +14,15 @@ use Rattle.au_syntax.specs.declared.declarations.Universe.{Universe}
 use Rattle.au_syntax.specs.declared.declarations.Universe.TheVariants as universe
 use Rattle.au_syntax.specs.declared.modules.Part.{Part}
 use Rattle.au_syntax.specs.declared.modules.Part.TheVariants.{Interface, Body}
-use Rattle.au_syntax.specs.Modules.{InUniverse, Constrained, Header, Variant, constant, opaque_type, record_type, union_type, function, class, instance, constant_body, function_body, instance_body}
+use Rattle.au_syntax.specs.Modules.{InUniverse, Constrained, Header, Variant, constant, opaque_type}
+use Rattle.au_syntax.specs.Modules.{record_type, union_type, function, class, instance, constant_body}
+use Rattle.au_syntax.specs.Modules.{function_body, instance_body}
 use Rattle.au_syntax.specs.Names.{Placed}
 use Rattle.au_syntax.specs.Plain.{Bytes, PlainExpression, PlainStatements, PlainMethod, PlainDeclaration}
 use Rattle.au_syntax.specs.Types.{WrittenType, Labelled}
 use Rattle.au_reading.specs.Bounds.{Bounds}
-use Rattle.au_reading.specs.Reading.{Read, front, is_front, begins_with, no, value_at, name_at, exactly, behind, closed, pair, shaped, built, repeated, listed, bracketed}
+use Rattle.au_reading.specs.Reading.{Read, front, is_front, begins_with, no, value_at, name_at, exactly}
+use Rattle.au_reading.specs.Reading.{behind, closed, pair, shaped, built, repeated, listed, bracketed}
 use Rattle.au_read_types.specs.TypeReading.{type_at}
 use Rattle.au_read_expressions.specs.ExpressionReading.{expression_at}
 use Rattle.au_read_statements.specs.StatementReading.{block_at, end_place}
@@ -49,12 +56,15 @@ abbrev pub constrained_of : InUniverse Bytes × List (Placed Bytes) → Constrai
 constrained_of x = record { parameter = x.0; classes = x.1 }
 
 abbrev pub constrained_at : List Token → Read (Constrained Bytes)
-constrained_at = shaped constrained_of (pair in_universe_at (bracketed LeftParenthesis RightParenthesis name_at))
+constrained_at =
+    shaped constrained_of (pair in_universe_at (bracketed LeftParenthesis RightParenthesis name_at))
 
 -- `generic [..]`, or nothing
 abbrev pub generics_at : List Token → Read (List (Constrained Bytes))
 generics_at tokens =
-    cond (begins_with (Word KwGeneric) tokens) (behind (Word KwGeneric ∷ Sign LeftBracket ∷ []) (closed (Sign RightBracket ∷ []) (listed constrained_at)) tokens) (Ok ([], tokens))
+    cond (begins_with (Word KwGeneric) tokens)
+    (behind (Word KwGeneric ∷ Sign LeftBracket ∷ []) (closed (Sign RightBracket ∷ []) (listed constrained_at))
+    tokens) (Ok ([], tokens))
 
 -- the head of a type's declaration: its name, type parameters and universe
 abbrev pub type_head_at : List Token → Read (Placed Bytes × (List (InUniverse Bytes) × Universe))
@@ -98,7 +108,9 @@ module _ (b : Bounds) where
   unfoldable pub header_at : List Token → Read (Header Bytes)
   header_at =
       shaped header_of
-      (pair name_at (behind (Sign LeftParenthesis ∷ []) (pair (maybe_listed (Sign RightParenthesis) labelled_at) (behind (Sign RightParenthesis ∷ Sign Colon ∷ []) (type_at b)))))
+      (pair name_at (behind (Sign LeftParenthesis ∷ [])
+      (pair (maybe_listed (Sign RightParenthesis) labelled_at)
+      (behind (Sign RightParenthesis ∷ Sign Colon ∷ []) (type_at b)))))
 
   -- a field with its semicolon, and fields one after another
   abbrev pub field_at : List Token → Read (Labelled Bytes)
@@ -110,7 +122,8 @@ module _ (b : Bounds) where
   -- the rest of a case behind its name
   abbrev pub case_fields_at : List Token → Read (List (Labelled Bytes))
   case_fields_at tokens =
-      cond (begins_with (Sign Semicolon) tokens) (shaped no_fields (exactly (Sign Semicolon ∷ [])) tokens) (behind (Word KwIs ∷ []) (shaped first_and_rest (pair field_at members_at)) tokens)
+      cond (begins_with (Sign Semicolon) tokens) (shaped no_fields (exactly (Sign Semicolon ∷ [])) tokens)
+      (behind (Word KwIs ∷ []) (shaped first_and_rest (pair field_at members_at)) tokens)
 
   -- a case of a union
   unfoldable pub variant_at : List Token → Read (Variant Bytes)
@@ -122,11 +135,16 @@ module _ (b : Bounds) where
 
   -- a method of an instance
   unfoldable pub method_at : List Token → Read PlainMethod
-  method_at = shaped method_of (behind (Word KwMethod ∷ []) (pair header_at (behind (Word KwIs ∷ []) (pair (block_at b b.nesting) (closed (Sign Semicolon ∷ []) end_place)))))
+  method_at =
+      shaped method_of (behind (Word KwMethod ∷ [])
+      (pair header_at (behind (Word KwIs ∷ [])
+      (pair (block_at b b.nesting) (closed (Sign Semicolon ∷ []) end_place)))))
 
   -- the class and the type of an instance
   unfoldable pub instance_head_at : List Token → Read (Placed Bytes × WrittenType)
-  instance_head_at = behind (Word KwInstance ∷ []) (pair name_at (behind (Sign LeftParenthesis ∷ []) (closed (Sign RightParenthesis ∷ []) (type_at b))))
+  instance_head_at =
+      behind (Word KwInstance ∷ [])
+      (pair name_at (behind (Sign LeftParenthesis ∷ []) (closed (Sign RightParenthesis ∷ []) (type_at b))))
 
 -- ---- declarations
 
@@ -155,10 +173,12 @@ constant_body_of at x = constant_body at x.0 x.1.0 x.1.1
 abbrev pub opaque_of : Pos → Placed Bytes × (List (InUniverse Bytes) × Universe) → PlainDeclaration
 opaque_of at x = opaque_type at x.0 x.1.0 x.1.1
 
-abbrev pub record_of : Pos → (Placed Bytes × (List (InUniverse Bytes) × Universe)) × List (Labelled Bytes) → PlainDeclaration
+abbrev pub record_of : Pos → (Placed Bytes × (List (InUniverse Bytes) × Universe)) × List (Labelled Bytes)
+    → PlainDeclaration
 record_of at x = record_type at x.0.0 x.0.1.0 x.0.1.1 x.1
 
-abbrev pub union_of : Pos → (Placed Bytes × (List (InUniverse Bytes) × Universe)) × List (Variant Bytes) → PlainDeclaration
+abbrev pub union_of : Pos → (Placed Bytes × (List (InUniverse Bytes) × Universe)) × List (Variant Bytes)
+    → PlainDeclaration
 union_of at x = union_type at x.0.0 x.0.1.0 x.0.1.1 x.1
 
 abbrev pub class_of : Pos → Placed Bytes × (InUniverse Bytes × List (Header Bytes)) → PlainDeclaration
@@ -166,42 +186,59 @@ class_of at x = class at x.0 x.1.0 x.1.1
 
 module _ (b : Bounds) where
   unfoldable pub constant_at : List Token → Read PlainDeclaration
-  constant_at = built constant_of (behind (Word KwConstant ∷ []) (pair name_at (behind (Sign Colon ∷ []) (closed (Sign Semicolon ∷ []) (type_at b)))))
+  constant_at =
+      built constant_of (behind (Word KwConstant ∷ [])
+      (pair name_at (behind (Sign Colon ∷ []) (closed (Sign Semicolon ∷ []) (type_at b)))))
 
   unfoldable pub constant_body_at : List Token → Read PlainDeclaration
   constant_body_at =
       built constant_body_of
       (behind (Word KwConstant ∷ [])
-      (pair name_at (behind (Sign Colon ∷ []) (pair (type_at b) (behind (Sign Assign ∷ []) (closed (Sign Semicolon ∷ []) (expression_at b b.nesting)))))))
+      (pair name_at (behind (Sign Colon ∷ [])
+      (pair (type_at b) (behind (Sign Assign ∷ [])
+      (closed (Sign Semicolon ∷ []) (expression_at b b.nesting)))))))
 
   unfoldable pub opaque_at : List Token → Read PlainDeclaration
   opaque_at = built opaque_of (behind (Word KwType ∷ []) (closed (Sign Semicolon ∷ []) type_head_at))
 
   unfoldable pub record_at : List Token → Read PlainDeclaration
-  record_at = built record_of (behind (Word KwRecord ∷ []) (pair type_head_at (behind (Word KwIs ∷ []) (closed (Word KwEnd ∷ Sign Semicolon ∷ []) (members_at b)))))
+  record_at =
+      built record_of (behind (Word KwRecord ∷ [])
+      (pair type_head_at (behind (Word KwIs ∷ [])
+      (closed (Word KwEnd ∷ Sign Semicolon ∷ []) (members_at b)))))
 
   unfoldable pub union_at : List Token → Read PlainDeclaration
   union_at =
       built union_of
-      (behind (Word KwUnion ∷ []) (pair type_head_at (behind (Word KwIs ∷ []) (closed (Word KwEnd ∷ Sign Semicolon ∷ []) (repeated (is_front (Word KwCase)) (variant_at b))))))
+      (behind (Word KwUnion ∷ [])
+      (pair type_head_at (behind (Word KwIs ∷ [])
+      (closed (Word KwEnd ∷ Sign Semicolon ∷ []) (repeated (is_front (Word KwCase)) (variant_at b))))))
 
   unfoldable pub class_at : List Token → Read PlainDeclaration
   class_at =
       built class_of
       (behind (Word KwTypeclass ∷ [])
       (pair name_at (behind (Sign LeftParenthesis ∷ [])
-      (pair in_universe_at (behind (Sign RightParenthesis ∷ Word KwIs ∷ []) (closed (Word KwEnd ∷ Sign Semicolon ∷ []) (repeated (is_front (Word KwMethod)) (class_method_at b))))))))
+      (pair in_universe_at (behind (Sign RightParenthesis ∷ Word KwIs ∷ [])
+      (closed (Word KwEnd ∷ Sign Semicolon ∷ [])
+      (repeated (is_front (Word KwMethod)) (class_method_at b))))))))
 
   -- what stands behind the type parameters, in an interface and in a body
   abbrev pub generalized_in : Part → Option What → List Token → Read Generalized
-  generalized_in Interface (Some (Word KwFunction)) tokens = shaped a_function (behind (Word KwFunction ∷ []) (closed (Sign Semicolon ∷ []) (header_at b))) tokens
-  generalized_in Interface other tokens = shaped an_instance (closed (Sign Semicolon ∷ []) (instance_head_at b)) tokens
+  generalized_in Interface (Some (Word KwFunction)) tokens =
+      shaped a_function (behind (Word KwFunction ∷ []) (closed (Sign Semicolon ∷ []) (header_at b))) tokens
+  generalized_in Interface other tokens =
+      shaped an_instance (closed (Sign Semicolon ∷ []) (instance_head_at b)) tokens
   generalized_in Body (Some (Word KwFunction)) tokens =
       shaped a_function_body
-      (behind (Word KwFunction ∷ []) (pair (header_at b) (behind (Word KwIs ∷ []) (pair (block_at b b.nesting) (closed (Sign Semicolon ∷ []) end_place))))) tokens
+      (behind (Word KwFunction ∷ [])
+      (pair (header_at b) (behind (Word KwIs ∷ [])
+      (pair (block_at b b.nesting) (closed (Sign Semicolon ∷ []) end_place))))) tokens
   generalized_in Body other tokens =
       shaped an_instance_body
-      (pair (instance_head_at b) (behind (Word KwIs ∷ []) (closed (Word KwEnd ∷ Sign Semicolon ∷ []) (repeated (is_front (Word KwMethod)) (method_at b))))) tokens
+      (pair (instance_head_at b)
+      (behind (Word KwIs ∷ [])
+      (closed (Word KwEnd ∷ Sign Semicolon ∷ []) (repeated (is_front (Word KwMethod)) (method_at b))))) tokens
 
   unfoldable pub generalized_at : Part → List Token → Read Generalized
   generalized_at part tokens = generalized_in part (front tokens) tokens

@@ -1,8 +1,10 @@
 -- Reading the module of a file.
-use Rattle.std.specs.Prelude.{ℕ, suc, ◌+◌, Bool, nat_le, List, [], ◌∷◌, Option, Some, None, Ok, Err, length, drop, cond, codes}
+use Rattle.std.specs.Prelude.{ℕ, suc, ◌+◌, Bool, nat_le, List, [], ◌∷◌, Option, Some, None, Ok, Err, length}
+use Rattle.std.specs.Prelude.{drop, cond, codes}
 use Prim.Native.Nat.{zero}
 use Rattle.au_base.specs.declared.places.Pos.{Pos}
-use Rattle.au_base.specs.declared.tokens.Keyword.TheVariants.{KwModule, KwBody, KwIs, KwEnd, KwImport, KwPragma}
+use Rattle.au_base.specs.declared.tokens.Keyword.TheVariants.{KwModule, KwBody, KwIs, KwEnd, KwImport}
+use Rattle.au_base.specs.declared.tokens.Keyword.TheVariants.{KwPragma}
 use Rattle.au_base.specs.declared.tokens.Sign.TheVariants.{LeftParenthesis, RightParenthesis, Semicolon, Dot}
 use Rattle.au_base.specs.declared.tokens.Token.{Token}
 use Rattle.au_base.specs.declared.tokens.What.{What}
@@ -14,7 +16,8 @@ use Rattle.au_syntax.specs.Names.{Placed, Renaming}
 use Rattle.au_syntax.specs.Plain.{Bytes, PlainDeclaration, PlainModule}
 use Rattle.au_reading.specs.declared.faults.Fault.TheVariants.{Passed}
 use Rattle.au_reading.specs.Bounds.{Bounds, bytes_limit}
-use Rattle.au_reading.specs.Reading.{Read, ◌>>=◌, is_front, begins_with, no, name_at, exactly, behind, closed, pair, shaped, built, before_all, repeated, listed}
+use Rattle.au_reading.specs.Reading.{Read, ◌>>=◌, is_front, begins_with, no, name_at, exactly, behind, closed}
+use Rattle.au_reading.specs.Reading.{pair, shaped, built, before_all, repeated, listed}
 use Rattle.au_read_statements.specs.StatementReading.{renaming_at}
 use Rattle.au_read_modules.specs.DeclarationReading.{begins_declaration, declaration_at}
 
@@ -25,13 +28,16 @@ bytes_with used name = used + length name.name
 -- Names with dots between. With the name with which they have too many bytes, they pass the limit. The
 -- first number is that of the bytes before, the second bounds how many names there may be.
 module _ (b : Bounds) where
-  abbrev pub after_name : (ℕ → List Token → Read (List (Placed Bytes))) → ℕ → Placed Bytes × List Token → Read (List (Placed Bytes))
+  abbrev pub after_name : (ℕ → List Token → Read (List (Placed Bytes))) → ℕ → Placed Bytes × List Token
+      → Read (List (Placed Bytes))
   after_name others bytes x =
       cond (nat_le bytes b.bytes)
-      (cond (begins_with (Sign Dot) x.1) (others (bytes + 1) (drop 1 x.1) >>= before_all x.0) (Ok (x.0 ∷ [], x.1)))
+      (cond (begins_with (Sign Dot) x.1) (others (bytes + 1) (drop 1 x.1) >>= before_all x.0)
+      (Ok (x.0 ∷ [], x.1)))
       (Err (Passed (bytes_limit b) (length x.1)))
 
-  abbrev pub name_step : (ℕ → List Token → Read (List (Placed Bytes))) → ℕ → Placed Bytes × List Token → Read (List (Placed Bytes))
+  abbrev pub name_step : (ℕ → List Token → Read (List (Placed Bytes))) → ℕ → Placed Bytes × List Token
+      → Read (List (Placed Bytes))
   name_step others used x = after_name others (bytes_with used x.0) x
 
   abbrev pub names_within : ℕ → ℕ → List Token → Read (List (Placed Bytes))
@@ -48,7 +54,9 @@ module _ (b : Bounds) where
   unfoldable pub import_at : List Token → Read (Importing Bytes)
   import_at =
       built importing_of
-      (behind (Word KwImport ∷ []) (pair module_name_at (behind (Sign LeftParenthesis ∷ []) (closed (Sign RightParenthesis ∷ Sign Semicolon ∷ []) (listed renaming_at)))))
+      (behind (Word KwImport ∷ [])
+      (pair module_name_at (behind (Sign LeftParenthesis ∷ [])
+      (closed (Sign RightParenthesis ∷ Sign Semicolon ∷ []) (listed renaming_at)))))
 
   abbrev pub imports_at : List Token → Read (List (Importing Bytes))
   imports_at = repeated (is_front (Word KwImport)) import_at
@@ -61,7 +69,9 @@ abbrev pub pragma_of : Pos → Unit {0} → Option Pos
 pragma_of at x = Some at
 
 abbrev pub pragma_at : List Token → Read (Option Pos)
-pragma_at tokens = cond (begins_with (Word KwPragma) tokens) (built pragma_of (exactly pragma_whats) tokens) (Ok (None, tokens))
+pragma_at tokens =
+    cond (begins_with (Word KwPragma) tokens) (built pragma_of (exactly pragma_whats) tokens)
+    (Ok (None, tokens))
 
 -- a module behind its imports
 pub record ModuleParts : Type 0 where
@@ -88,7 +98,14 @@ abbrev pub part_by : Bool → Part
 part_by body = cond body Body Interface
 
 abbrev pub module_of : List (Importing Bytes) × ModuleParts → PlainModule
-module_of x = record { imports = x.0; at = x.1.at; part = x.1.part; name = x.1.name; pragma = x.1.pragma; declarations = x.1.declarations }
+module_of x = record {
+  imports = x.0;
+  at = x.1.at;
+  part = x.1.part;
+  name = x.1.name;
+  pragma = x.1.pragma;
+  declarations = x.1.declarations;
+}
 
 module _ (b : Bounds) where
   -- a module of this part
@@ -96,7 +113,10 @@ module _ (b : Bounds) where
   parts_with part =
       built (parts_of part)
       (behind (part_whats part)
-      (pair (module_name_at b) (behind (Word KwIs ∷ []) (pair pragma_at (closed (end_whats part) (repeated (begins_declaration part) (declaration_at b part)))))))
+      (pair (module_name_at b)
+      (behind (Word KwIs ∷ [])
+      (pair pragma_at (closed (end_whats part)
+      (repeated (begins_declaration part) (declaration_at b part)))))))
 
   -- an interface or a body, by the second token
   abbrev pub parts_at : List Token → Read ModuleParts

@@ -8,7 +8,8 @@ ghost use Rattle.au_read_types.specs.TypeReading.{type_at};
 ghost use Rattle.au_reading.specs.Reading.{Gives, front};
 ghost use Rattle.au_reading.specs.Reading as steps;
 ghost use Rattle.au_reading.specs.Bounds.{usual};
-ghost use Rattle.au_read_modules.specs.DeclarationReading.{begins_declaration, constant_at, constant_body_at, declaration_at};
+ghost use Rattle.au_read_modules.specs.DeclarationReading.{begins_declaration, constant_at, constant_body_at};
+ghost use Rattle.au_read_modules.specs.DeclarationReading.{declaration_at};
 ghost use Rattle.au_syntax.specs.Plain.{PlainDeclaration};
 ghost use Rattle.au_syntax.specs.Views as views;
 ghost use Rattle.au_syntax.specs.declared.modules.Part.TheVariants as file_part;
@@ -25,23 +26,39 @@ use std::alloc::Global;
 /// Reads `:`, a type and `;`.
 fn last_type(alloc: Global, tokens: &[Token]) -> Result<(TypeText, &[Token]), Stop>
     ensures { Gives (λ x. (views.written x.0, x.1.now)) result
-        (steps.behind (what.Sign sign.Colon ∷ []) (steps.closed (what.Sign sign.Semicolon ∷ []) (type_at usual)) tokens.now) }
+        (steps.behind (what.Sign sign.Colon ∷ [])
+        (steps.closed (what.Sign sign.Semicolon ∷ []) (type_at usual)) tokens.now) }
 {
     let rest = expect(&[Expected::Sign(Sign::Colon)], tokens)?;
     let (of, rest) = written_type(alloc, rest)?;
-    let rest = expect(&[Expected::Sign(Sign::Semicolon)], rest)?;
-    Ok((of, rest))
+    match expect(&[Expected::Sign(Sign::Semicolon)], rest) {
+        Ok(rest) => Ok((of, rest)),
+        Err(stop) => Err(stop),
+    }
+}
+
+/// Reads an expression.
+fn boxed(alloc: Global, tokens: &[Token]) -> Result<(Box<Expr<Parsed>>, &[Token]), Stop>
+    ensures { Gives (λ x. (views.expression ⟦<Parsed as Phase>⟧ x.0.value, x.1.now)) result
+        (expression_at usual usual.nesting tokens.now) }
+{
+    let (value, rest) = expression(alloc, MOST_NESTING, tokens)?;
+    let value = Box::new(alloc, value)?;
+    Ok((value, rest))
 }
 
 /// Reads `:=`, an expression and `;`.
 fn last_value(alloc: Global, tokens: &[Token]) -> Result<(Box<Expr<Parsed>>, &[Token]), Stop>
     ensures { Gives (λ x. (views.expression ⟦<Parsed as Phase>⟧ x.0.value, x.1.now)) result
-        (steps.behind (what.Sign sign.Assign ∷ []) (steps.closed (what.Sign sign.Semicolon ∷ []) (expression_at usual usual.nesting)) tokens.now) }
+        (steps.behind (what.Sign sign.Assign ∷ [])
+        (steps.closed (what.Sign sign.Semicolon ∷ []) (expression_at usual usual.nesting)) tokens.now) }
 {
     let rest = expect(&[Expected::Sign(Sign::Assign)], tokens)?;
-    let (value, rest) = expression(alloc, MOST_NESTING, rest)?;
-    let rest = expect(&[Expected::Sign(Sign::Semicolon)], rest)?;
-    Ok((Box::new(alloc, value)?, rest))
+    let (value, rest) = boxed(alloc, rest)?;
+    match expect(&[Expected::Sign(Sign::Semicolon)], rest) {
+        Ok(rest) => Ok((value, rest)),
+        Err(stop) => Err(stop),
+    }
 }
 
 /// Reads `:`, a type and a value behind it.
@@ -49,14 +66,18 @@ fn type_and_value(
     alloc: Global,
     tokens: &[Token],
 ) -> Result<(TypeText, Box<Expr<Parsed>>, &[Token]), Stop>
-    ensures { Gives (λ x. ((views.written x.0, views.expression ⟦<Parsed as Phase>⟧ x.1.value), x.2.now)) result
+    ensures { Gives (λ x. ((views.written x.0, views.expression ⟦<Parsed as Phase>⟧ x.1.value), x.2.now))
+        result
         (steps.behind (what.Sign sign.Colon ∷ []) (steps.pair (type_at usual)
-        (steps.behind (what.Sign sign.Assign ∷ []) (steps.closed (what.Sign sign.Semicolon ∷ []) (expression_at usual usual.nesting)))) tokens.now) }
+        (steps.behind (what.Sign sign.Assign ∷ [])
+        (steps.closed (what.Sign sign.Semicolon ∷ []) (expression_at usual usual.nesting)))) tokens.now) }
 {
     let rest = expect(&[Expected::Sign(Sign::Colon)], tokens)?;
     let (of, rest) = written_type(alloc, rest)?;
-    let (value, rest) = last_value(alloc, rest)?;
-    Ok((of, value, rest))
+    match last_value(alloc, rest) {
+        Ok((value, rest)) => Ok((of, value, rest)),
+        Err(stop) => Err(stop),
+    }
 }
 
 /// Reads a constant of an interface.
@@ -66,13 +87,16 @@ fn type_and_value(
 /// `Fault::Syntax` where a token is missing, and `Fault::Passed` where its type passes a limit.
 #[tactic(auto, unfolding(crate::specs::DeclarationReading::constant_at))]
 pub fn constant(alloc: Global, tokens: &[Token]) -> Result<(Decl<Parsed>, &[Token]), Stop>
-    ensures { Gives (λ x. (views.declaration ⟦<Parsed as Phase>⟧ x.0, x.1.now)) result (constant_at usual tokens.now) }
+    ensures { Gives (λ x. (views.declaration ⟦<Parsed as Phase>⟧ x.0, x.1.now)) result
+        (constant_at usual tokens.now) }
 {
     let at = place(tokens);
     let rest = expect(&[Expected::Word(Keyword::KwConstant)], tokens)?;
     let (name, rest) = name(alloc, rest)?;
-    let (of, rest) = last_type(alloc, rest)?;
-    Ok((Decl::Constant(at, name, of), rest))
+    match last_type(alloc, rest) {
+        Ok((of, rest)) => Ok((Decl::Constant(at, name, of), rest)),
+        Err(stop) => Err(stop),
+    }
 }
 
 /// Reads a constant of a body.
@@ -82,13 +106,16 @@ pub fn constant(alloc: Global, tokens: &[Token]) -> Result<(Decl<Parsed>, &[Toke
 /// `Fault::Syntax` where a token is missing, and `Fault::Passed` where a limit is passed.
 #[tactic(auto, unfolding(crate::specs::DeclarationReading::constant_body_at))]
 pub fn constant_body(alloc: Global, tokens: &[Token]) -> Result<(Decl<Parsed>, &[Token]), Stop>
-    ensures { Gives (λ x. (views.declaration ⟦<Parsed as Phase>⟧ x.0, x.1.now)) result (constant_body_at usual tokens.now) }
+    ensures { Gives (λ x. (views.declaration ⟦<Parsed as Phase>⟧ x.0, x.1.now)) result
+        (constant_body_at usual tokens.now) }
 {
     let at = place(tokens);
     let rest = expect(&[Expected::Word(Keyword::KwConstant)], tokens)?;
     let (name, rest) = name(alloc, rest)?;
-    let (of, value, rest) = type_and_value(alloc, rest)?;
-    Ok((Decl::ConstantBody(at, name, of, value), rest))
+    match type_and_value(alloc, rest) {
+        Ok((of, value, rest)) => Ok((Decl::ConstantBody(at, name, of, value), rest)),
+        Err(stop) => Err(stop),
+    }
 }
 
 /// Reads a declaration of an interface or of a body.
@@ -103,7 +130,8 @@ pub fn declaration(
     part: Part,
     tokens: &[Token],
 ) -> Result<(Decl<Parsed>, &[Token]), Stop>
-    ensures { Gives (λ x. (views.declaration ⟦<Parsed as Phase>⟧ x.0, x.1.now)) result (declaration_at usual part tokens.now) }
+    ensures { Gives (λ x. (views.declaration ⟦<Parsed as Phase>⟧ x.0, x.1.now)) result
+        (declaration_at usual part tokens.now) }
 {
     let [first, ..] = tokens else {
         return Err(stop_before(tokens));
@@ -206,7 +234,8 @@ pub fn declarations(
     part: Part,
     tokens: &[Token],
 ) -> Result<(Vec<Decl<Parsed>>, &[Token]), Stop>
-    ensures { Gives (λ x. (map (views.declaration ⟦<Parsed as Phase>⟧) x.0.items, x.1.now)) result (steps.repeated (begins_declaration part) (declaration_at usual part) tokens.now) }
+    ensures { Gives (λ x. (map (views.declaration ⟦<Parsed as Phase>⟧) x.0.items, x.1.now)) result
+        (steps.repeated (begins_declaration part) (declaration_at usual part) tokens.now) }
 {
     match part {
         Part::Interface => repeated::<InterfaceEntry>(alloc, tokens),

@@ -42,7 +42,8 @@ fn too_long(tokens: &[Token]) -> Stop
 /// `Fault::Syntax` where a name is missing, and `Fault::Passed` behind the name with which the limit is
 /// passed.
 pub fn module_name(alloc: Global, tokens: &[Token]) -> Result<(Vec<Ident<Parsed>>, &[Token]), Stop>
-    ensures { Gives (λ x. (map (views.placed ⟦<Parsed as Phase>⟧) x.0.items, x.1.now)) result (module_name_at usual tokens.now) }
+    ensures { Gives (λ x. (map (views.placed ⟦<Parsed as Phase>⟧) x.0.items, x.1.now)) result
+        (module_name_at usual tokens.now) }
 {
     let mut names = Vec::new(alloc);
     let mut rest = tokens;
@@ -67,7 +68,8 @@ pub fn module_name(alloc: Global, tokens: &[Token]) -> Result<(Vec<Ident<Parsed>
 fn imported(alloc: Global, tokens: &[Token]) -> Result<(Vec<Renamed<Parsed>>, &[Token]), Stop>
     ensures { Gives (λ x. (map (views.renaming ⟦<Parsed as Phase>⟧) x.0.items, x.1.now)) result
         (steps.behind (what.Sign sign.LeftParenthesis ∷ [])
-        (steps.closed (what.Sign sign.RightParenthesis ∷ what.Sign sign.Semicolon ∷ []) (steps.listed renaming_at)) tokens.now) }
+        (steps.closed (what.Sign sign.RightParenthesis ∷ what.Sign sign.Semicolon ∷ [])
+        (steps.listed renaming_at)) tokens.now) }
 {
     let rest = expect(&[Expected::Sign(Sign::LeftParenthesis)], tokens)?;
     let (items, rest) = listed::<RenamingPart>(alloc, rest)?;
@@ -75,8 +77,10 @@ fn imported(alloc: Global, tokens: &[Token]) -> Result<(Vec<Renamed<Parsed>>, &[
         Expected::Sign(Sign::RightParenthesis),
         Expected::Sign(Sign::Semicolon),
     ];
-    let rest = expect(&closing, rest)?;
-    Ok((items, rest))
+    match expect(&closing, rest) {
+        Ok(rest) => Ok((items, rest)),
+        Err(stop) => Err(stop),
+    }
 }
 
 /// An import.
@@ -102,8 +106,10 @@ impl Entry for ImportEntry {
         let at = place(tokens);
         let rest = expect(&[Expected::Word(Keyword::KwImport)], tokens)?;
         let (module, rest) = module_name(alloc, rest)?;
-        let (items, rest) = imported(alloc, rest)?;
-        Ok((Import { at, module, items }, rest))
+        match imported(alloc, rest) {
+            Ok((items, rest)) => Ok((Import { at, module, items }, rest)),
+            Err(stop) => Err(stop),
+        }
     }
 }
 
@@ -113,7 +119,8 @@ impl Entry for ImportEntry {
 ///
 /// The fault of the first import that isn't read.
 pub fn imports(alloc: Global, tokens: &[Token]) -> Result<(Vec<Import<Parsed>>, &[Token]), Stop>
-    ensures { Gives (λ x. (map (views.importing ⟦<Parsed as Phase>⟧) x.0.items, x.1.now)) result (imports_at usual tokens.now) }
+    ensures { Gives (λ x. (map (views.importing ⟦<Parsed as Phase>⟧) x.0.items, x.1.now)) result
+        (imports_at usual tokens.now) }
 {
     repeated::<ImportEntry>(alloc, tokens)
 }

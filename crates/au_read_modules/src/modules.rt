@@ -6,7 +6,8 @@ ghost use Rattle.au_read_modules.specs.DeclarationReading.{begins_declaration, d
 ghost use Rattle.au_reading.specs.Bounds.{usual};
 ghost use Rattle.au_base.specs.declared.tokens.Keyword.TheVariants as word;
 ghost use Rattle.au_base.specs.declared.tokens.What.TheVariants as what;
-ghost use Rattle.au_read_modules.specs.ModuleReading.{end_whats, file_at, module_at, part_by, part_whats, parts_of, parts_with, pragma_at};
+ghost use Rattle.au_read_modules.specs.ModuleReading.{end_whats, file_at, module_at, part_by, part_whats};
+ghost use Rattle.au_read_modules.specs.ModuleReading.{parts_of, parts_with, pragma_at};
 ghost use Rattle.au_syntax.specs.Views as views;
 
 use crate::declarations::declarations;
@@ -93,13 +94,16 @@ fn contents(
 ) -> Result<(Option<Pos>, Vec<Decl<Parsed>>, &[Token]), Stop>
     ensures { Gives (λ x. ((x.0, map (views.declaration ⟦<Parsed as Phase>⟧) x.1.items), x.2.now)) result
         (behind (what.Word word.KwIs ∷ []) (pair pragma_at
-        (closed (end_whats part) (repeated (begins_declaration part) (declaration_at usual part)))) tokens.now) }
+        (closed (end_whats part) (repeated (begins_declaration part) (declaration_at usual part))))
+        tokens.now) }
 {
     let rest = expect(&[Expected::Word(Keyword::KwIs)], tokens)?;
     let (pragma, rest) = pragma(rest)?;
     let (declarations, rest) = declarations(alloc, part, rest)?;
-    let rest = closing(part, rest)?;
-    Ok((pragma, declarations, rest))
+    match closing(part, rest) {
+        Ok(rest) => Ok((pragma, declarations, rest)),
+        Err(stop) => Err(stop),
+    }
 }
 
 /// A module without its imports.
@@ -114,40 +118,54 @@ struct Inner {
 /// Reads a module of this part behind its imports.
 #[tactic(auto, unfolding(crate::specs::ModuleReading::parts_with))]
 fn inside(alloc: Global, part: Part, tokens: &[Token]) -> Result<(Inner, &[Token]), Stop>
-    ensures { Gives (λ x. (parts_of part x.0.at (map (views.placed ⟦<Parsed as Phase>⟧) x.0.name.items, (x.0.pragma, map (views.declaration ⟦<Parsed as Phase>⟧) x.0.declarations.items)), x.1.now)) result (parts_with usual part tokens.now) }
+    ensures { Gives (λ x. (
+      parts_of part x.0.at (
+        map (views.placed ⟦<Parsed as Phase>⟧) x.0.name.items,
+        (x.0.pragma, map (views.declaration ⟦<Parsed as Phase>⟧) x.0.declarations.items),
+      ),
+      x.1.now,
+    )) result
+        (parts_with usual part tokens.now) }
 {
     let at = place(tokens);
     let rest = opening(part, tokens)?;
     let (name, rest) = module_name(alloc, rest)?;
-    let (pragma, declarations, rest) = contents(alloc, part, rest)?;
-    Ok((
-        Inner {
-            at,
-            name,
-            pragma,
-            declarations,
-        },
-        rest,
-    ))
+    match contents(alloc, part, rest) {
+        Ok((pragma, declarations, rest)) => Ok((
+            Inner {
+                at,
+                name,
+                pragma,
+                declarations,
+            },
+            rest,
+        )),
+        Err(stop) => Err(stop),
+    }
 }
 
 /// Reads a module.
 #[tactic(auto, unfolding(crate::specs::ModuleReading::module_at))]
 fn module(alloc: Global, tokens: &[Token]) -> Result<(Module<Parsed>, &[Token]), Stop>
-    ensures { Gives (λ x. (views.module_tree ⟦<Parsed as Phase>⟧ x.0, x.1.now)) result (module_at usual tokens.now) }
+    ensures { Gives (λ x. (views.module_tree ⟦<Parsed as Phase>⟧ x.0, x.1.now)) result
+        (module_at usual tokens.now) }
 {
     let (imports, rest) = imports(alloc, tokens)?;
     let part = part_of(rest);
-    let (inside, rest) = inside(alloc, part, rest)?;
-    let tree = Module {
-        imports,
-        at: inside.at,
-        part,
-        name: inside.name,
-        pragma: inside.pragma,
-        declarations: inside.declarations,
-    };
-    Ok((tree, rest))
+    match inside(alloc, part, rest) {
+        Ok((inside, rest)) => Ok((
+            Module {
+                imports,
+                at: inside.at,
+                part,
+                name: inside.name,
+                pragma: inside.pragma,
+                declarations: inside.declarations,
+            },
+            rest,
+        )),
+        Err(stop) => Err(stop),
+    }
 }
 
 /// Reads a file: a module, and no token behind it.
@@ -157,7 +175,8 @@ fn module(alloc: Global, tokens: &[Token]) -> Result<(Module<Parsed>, &[Token]),
 /// `Fault::Syntax` at the first token that continues no file, and `Fault::Passed` where a limit is passed.
 #[tactic(auto, unfolding(crate::specs::ModuleReading::file_at))]
 pub fn file(alloc: Global, tokens: &[Token]) -> Result<Module<Parsed>, Stop>
-    ensures { Gives (λ tree. (views.module_tree ⟦<Parsed as Phase>⟧ tree, [])) result (file_at usual tokens.now) }
+    ensures { Gives (λ tree. (views.module_tree ⟦<Parsed as Phase>⟧ tree, [])) result
+        (file_at usual tokens.now) }
 {
     let (tree, rest) = module(alloc, tokens)?;
     match rest {

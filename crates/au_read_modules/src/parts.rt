@@ -9,7 +9,9 @@ ghost use Rattle.au_reading.specs.Reading as steps;
 ghost use Rattle.au_reading.specs.Reading.{Gives};
 ghost use Rattle.au_reading.specs.Bounds.{usual};
 ghost use Rattle.au_read_modules.specs.DeclarationReading as reading;
-ghost use Rattle.au_read_modules.specs.DeclarationReading.{universe_at, in_universe_at, parameters_at, constrained_at, generics_at, type_head_at, labelled_at, header_at, instance_head_at};
+ghost use Rattle.au_read_modules.specs.DeclarationReading.{universe_at, in_universe_at, parameters_at};
+ghost use Rattle.au_read_modules.specs.DeclarationReading.{constrained_at, generics_at, type_head_at};
+ghost use Rattle.au_read_modules.specs.DeclarationReading.{labelled_at, header_at, instance_head_at};
 ghost use Rattle.au_syntax.specs.Modules.{InUniverse, Constrained};
 ghost use Rattle.au_syntax.specs.Types.{Labelled};
 ghost use Rattle.au_syntax.specs.Views as views;
@@ -45,6 +47,15 @@ pub fn universe(tokens: &[Token]) -> Result<(Universe, &[Token]), Stop>
     }
 }
 
+/// Reads `:` and a universe.
+fn universe_behind(tokens: &[Token]) -> Result<(Universe, &[Token]), Stop>
+    ensures { Gives (λ x. (x.0, x.1.now)) result
+        (steps.behind (what.Sign sign.Colon ∷ []) universe_at tokens.now) }
+{
+    let rest = expect(&[Expected::Sign(Sign::Colon)], tokens)?;
+    universe(rest)
+}
+
 /// Reads a type parameter and its universe.
 ///
 /// # Errors
@@ -54,12 +65,14 @@ pub fn type_parameter(
     alloc: Global,
     tokens: &[Token],
 ) -> Result<(TypeParameter<Parsed>, &[Token]), Stop>
-    ensures { Gives (λ x. (views.in_universe ⟦<Parsed as Phase>⟧ x.0, x.1.now)) result (in_universe_at tokens.now) }
+    ensures { Gives (λ x. (views.in_universe ⟦<Parsed as Phase>⟧ x.0, x.1.now)) result
+        (in_universe_at tokens.now) }
 {
     let (name, rest) = name(alloc, tokens)?;
-    let rest = expect(&[Expected::Sign(Sign::Colon)], rest)?;
-    let (universe, rest) = universe(rest)?;
-    Ok((TypeParameter { name, universe }, rest))
+    match universe_behind(rest) {
+        Ok((universe, rest)) => Ok((TypeParameter { name, universe }, rest)),
+        Err(stop) => Err(stop),
+    }
 }
 
 /// A type parameter in a list.
@@ -93,13 +106,10 @@ impl Part for GenericPart {
 
     fn read(alloc: Global, tokens: &[Token]) -> Result<(Generic<Parsed>, &[Token]), Stop> {
         let (parameter, rest) = type_parameter(alloc, tokens)?;
-        let (classes, rest) = bracketed::<NamePart>(
-            alloc,
-            Sign::LeftParenthesis,
-            Sign::RightParenthesis,
-            rest,
-        )?;
-        Ok((Generic { parameter, classes }, rest))
+        match bracketed::<NamePart>(alloc, Sign::LeftParenthesis, Sign::RightParenthesis, rest) {
+            Ok((classes, rest)) => Ok((Generic { parameter, classes }, rest)),
+            Err(stop) => Err(stop),
+        }
     }
 }
 
@@ -109,7 +119,8 @@ impl Part for GenericPart {
 ///
 /// `Fault::Syntax` where one of its tokens is missing.
 pub fn generics(alloc: Global, tokens: &[Token]) -> Result<(Vec<Generic<Parsed>>, &[Token]), Stop>
-    ensures { Gives (λ x. (map (views.constrained ⟦<Parsed as Phase>⟧) x.0.items, x.1.now)) result (generics_at tokens.now) }
+    ensures { Gives (λ x. (map (views.constrained ⟦<Parsed as Phase>⟧) x.0.items, x.1.now)) result
+        (generics_at tokens.now) }
 {
     if !is_word(Keyword::KwGeneric, tokens) {
         return Ok((Vec::new(alloc), tokens));
@@ -120,8 +131,10 @@ pub fn generics(alloc: Global, tokens: &[Token]) -> Result<(Vec<Generic<Parsed>>
     ];
     let rest = expect(&opening, tokens)?;
     let (generics, rest) = listed::<GenericPart>(alloc, rest)?;
-    let rest = expect(&[Expected::Sign(Sign::RightBracket)], rest)?;
-    Ok((generics, rest))
+    match expect(&[Expected::Sign(Sign::RightBracket)], rest) {
+        Ok(rest) => Ok((generics, rest)),
+        Err(stop) => Err(stop),
+    }
 }
 
 /// The head of a type's declaration.
@@ -135,31 +148,62 @@ pub struct TypeHead {
     pub universe: Universe,
 }
 
+/// Reads the type parameters and the universe of a type's declaration.
+fn parameters_and_universe(
+    alloc: Global,
+    tokens: &[Token],
+) -> Result<(Vec<TypeParameter<Parsed>>, Universe, &[Token]), Stop>
+    ensures { Gives (λ x. ((map (views.in_universe ⟦<Parsed as Phase>⟧) x.0.items, x.1), x.2.now)) result
+        (steps.pair parameters_at (steps.behind (what.Sign sign.Colon ∷ []) universe_at) tokens.now) }
+{
+    let (parameters, rest) = bracketed::<TypeParameterPart>(
+        alloc,
+        Sign::LeftBracket,
+        Sign::RightBracket,
+        tokens,
+    )?;
+    match universe_behind(rest) {
+        Ok((universe, rest)) => Ok((parameters, universe, rest)),
+        Err(stop) => Err(stop),
+    }
+}
+
 /// Reads the name, the type parameters and the universe of a type's declaration.
 ///
 /// # Errors
 ///
 /// `Fault::Syntax` where one of its tokens is missing.
 pub fn type_head(alloc: Global, tokens: &[Token]) -> Result<(TypeHead, &[Token]), Stop>
-    ensures { Gives (λ x. ((views.placed ⟦<Parsed as Phase>⟧ x.0.name, (map (views.in_universe ⟦<Parsed as Phase>⟧) x.0.parameters.items, x.0.universe)), x.1.now)) result (type_head_at tokens.now) }
+    ensures { Gives (λ x. (
+      (
+        views.placed ⟦<Parsed as Phase>⟧ x.0.name,
+        (map (views.in_universe ⟦<Parsed as Phase>⟧) x.0.parameters.items, x.0.universe),
+      ),
+      x.1.now,
+    )) result
+        (type_head_at tokens.now) }
 {
     let (name, rest) = name(alloc, tokens)?;
-    let (parameters, rest) = bracketed::<TypeParameterPart>(
-        alloc,
-        Sign::LeftBracket,
-        Sign::RightBracket,
-        rest,
-    )?;
-    let rest = expect(&[Expected::Sign(Sign::Colon)], rest)?;
-    let (universe, rest) = universe(rest)?;
-    Ok((
-        TypeHead {
-            name,
-            parameters,
-            universe,
-        },
-        rest,
-    ))
+    match parameters_and_universe(alloc, rest) {
+        Ok((parameters, universe, rest)) => Ok((
+            TypeHead {
+                name,
+                parameters,
+                universe,
+            },
+            rest,
+        )),
+        Err(stop) => Err(stop),
+    }
+}
+
+/// Reads `:` and a type.
+fn type_behind(alloc: Global, tokens: &[Token]) -> Result<(TypeText, &[Token]), Stop>
+    ensures { Gives (λ x. (views.written x.0, x.1.now)) result
+        (steps.behind (what.Sign sign.Colon ∷ []) (type_at usual) tokens.now) }
+{
+    let rest = expect(&[Expected::Sign(Sign::Colon)], tokens)?;
+    written_type(alloc, rest)
 }
 
 /// Reads a name with its type.
@@ -168,12 +212,14 @@ pub fn type_head(alloc: Global, tokens: &[Token]) -> Result<(TypeHead, &[Token])
 ///
 /// `Fault::Syntax` where a token is missing, and `Fault::Passed` where the type passes a limit.
 pub fn labelled(alloc: Global, tokens: &[Token]) -> Result<(Field<Parsed>, &[Token]), Stop>
-    ensures { Gives (λ x. (views.labelled ⟦<Parsed as Phase>⟧ x.0, x.1.now)) result (labelled_at usual tokens.now) }
+    ensures { Gives (λ x. (views.labelled ⟦<Parsed as Phase>⟧ x.0, x.1.now)) result
+        (labelled_at usual tokens.now) }
 {
     let (name, rest) = name(alloc, tokens)?;
-    let rest = expect(&[Expected::Sign(Sign::Colon)], rest)?;
-    let (of, rest) = written_type(alloc, rest)?;
-    Ok((Field { name, of }, rest))
+    match type_behind(alloc, rest) {
+        Ok((of, rest)) => Ok((Field { name, of }, rest)),
+        Err(stop) => Err(stop),
+    }
 }
 
 /// A parameter of a function.
@@ -195,7 +241,8 @@ impl Part for LabelledPart {
 
 /// Reads the parameters of a function, or none before its parenthesis.
 fn parameters(alloc: Global, tokens: &[Token]) -> Result<(Vec<Field<Parsed>>, &[Token]), Stop>
-    ensures { Gives (λ x. (map (views.labelled ⟦<Parsed as Phase>⟧) x.0.items, x.1.now)) result (reading.maybe_listed (what.Sign sign.RightParenthesis) (labelled_at usual) tokens.now) }
+    ensures { Gives (λ x. (map (views.labelled ⟦<Parsed as Phase>⟧) x.0.items, x.1.now)) result
+        (reading.maybe_listed (what.Sign sign.RightParenthesis) (labelled_at usual) tokens.now) }
 {
     if is_sign(Sign::RightParenthesis, tokens) {
         return Ok((Vec::new(alloc), tokens));
@@ -203,24 +250,38 @@ fn parameters(alloc: Global, tokens: &[Token]) -> Result<(Vec<Field<Parsed>>, &[
     listed::<LabelledPart>(alloc, tokens)
 }
 
+/// Reads `)`, `:` and a function's result.
+fn function_result(alloc: Global, tokens: &[Token]) -> Result<(TypeText, &[Token]), Stop>
+    ensures { Gives (λ x. (views.written x.0, x.1.now)) result
+        (steps.behind (what.Sign sign.RightParenthesis ∷ what.Sign sign.Colon ∷ []) (type_at usual)
+        tokens.now) }
+{
+    let closing = [
+        Expected::Sign(Sign::RightParenthesis),
+        Expected::Sign(Sign::Colon),
+    ];
+    let rest = expect(&closing, tokens)?;
+    written_type(alloc, rest)
+}
+
 /// Reads the parameters of a function in their parentheses, and its result.
 fn parameters_and_result(
     alloc: Global,
     tokens: &[Token],
 ) -> Result<(Vec<Field<Parsed>>, TypeText, &[Token]), Stop>
-    ensures { Gives (λ x. ((map (views.labelled ⟦<Parsed as Phase>⟧) x.0.items, views.written x.1), x.2.now)) result
-        (steps.behind (what.Sign sign.LeftParenthesis ∷ []) (steps.pair (reading.maybe_listed (what.Sign sign.RightParenthesis) (labelled_at usual))
-        (steps.behind (what.Sign sign.RightParenthesis ∷ what.Sign sign.Colon ∷ []) (type_at usual))) tokens.now) }
+    ensures { Gives (λ x. ((map (views.labelled ⟦<Parsed as Phase>⟧) x.0.items, views.written x.1), x.2.now))
+        result
+        (steps.behind (what.Sign sign.LeftParenthesis ∷ [])
+        (steps.pair (reading.maybe_listed (what.Sign sign.RightParenthesis) (labelled_at usual))
+        (steps.behind (what.Sign sign.RightParenthesis ∷ what.Sign sign.Colon ∷ []) (type_at usual)))
+        tokens.now) }
 {
     let rest = expect(&[Expected::Sign(Sign::LeftParenthesis)], tokens)?;
     let (parameters, rest) = parameters(alloc, rest)?;
-    let closing = [
-        Expected::Sign(Sign::RightParenthesis),
-        Expected::Sign(Sign::Colon),
-    ];
-    let rest = expect(&closing, rest)?;
-    let (result, rest) = written_type(alloc, rest)?;
-    Ok((parameters, result, rest))
+    match function_result(alloc, rest) {
+        Ok((result, rest)) => Ok((parameters, result, rest)),
+        Err(stop) => Err(stop),
+    }
 }
 
 /// Reads a function's name, parameters and result.
@@ -230,18 +291,21 @@ fn parameters_and_result(
 /// `Fault::Syntax` where a token is missing, and `Fault::Passed` where a type passes a limit.
 #[tactic(auto, unfolding(crate::specs::DeclarationReading::header_at))]
 pub fn signature(alloc: Global, tokens: &[Token]) -> Result<(Signature<Parsed>, &[Token]), Stop>
-    ensures { Gives (λ x. (views.header ⟦<Parsed as Phase>⟧ x.0, x.1.now)) result (header_at usual tokens.now) }
+    ensures { Gives (λ x. (views.header ⟦<Parsed as Phase>⟧ x.0, x.1.now)) result
+        (header_at usual tokens.now) }
 {
     let (name, rest) = name(alloc, tokens)?;
-    let (parameters, result, rest) = parameters_and_result(alloc, rest)?;
-    Ok((
-        Signature {
-            name,
-            parameters,
-            result,
-        },
-        rest,
-    ))
+    match parameters_and_result(alloc, rest) {
+        Ok((parameters, result, rest)) => Ok((
+            Signature {
+                name,
+                parameters,
+                result,
+            },
+            rest,
+        )),
+        Err(stop) => Err(stop),
+    }
 }
 
 /// The class and the type of an instance.
@@ -256,12 +320,15 @@ pub struct InstanceHead {
 /// Reads a type in parentheses.
 fn parenthesized_type(alloc: Global, tokens: &[Token]) -> Result<(TypeText, &[Token]), Stop>
     ensures { Gives (λ x. (views.written x.0, x.1.now)) result
-        (steps.behind (what.Sign sign.LeftParenthesis ∷ []) (steps.closed (what.Sign sign.RightParenthesis ∷ []) (type_at usual)) tokens.now) }
+        (steps.behind (what.Sign sign.LeftParenthesis ∷ [])
+        (steps.closed (what.Sign sign.RightParenthesis ∷ []) (type_at usual)) tokens.now) }
 {
     let rest = expect(&[Expected::Sign(Sign::LeftParenthesis)], tokens)?;
     let (of, rest) = written_type(alloc, rest)?;
-    let rest = expect(&[Expected::Sign(Sign::RightParenthesis)], rest)?;
-    Ok((of, rest))
+    match expect(&[Expected::Sign(Sign::RightParenthesis)], rest) {
+        Ok(rest) => Ok((of, rest)),
+        Err(stop) => Err(stop),
+    }
 }
 
 /// Reads the class and the type of an instance.
@@ -271,12 +338,15 @@ fn parenthesized_type(alloc: Global, tokens: &[Token]) -> Result<(TypeText, &[To
 /// `Fault::Syntax` where a token is missing, and `Fault::Passed` where the type passes a limit.
 #[tactic(auto, unfolding(crate::specs::DeclarationReading::instance_head_at))]
 pub fn instance_head(alloc: Global, tokens: &[Token]) -> Result<(InstanceHead, &[Token]), Stop>
-    ensures { Gives (λ x. ((views.placed ⟦<Parsed as Phase>⟧ x.0.class, views.written x.0.of), x.1.now)) result (instance_head_at usual tokens.now) }
+    ensures { Gives (λ x. ((views.placed ⟦<Parsed as Phase>⟧ x.0.class, views.written x.0.of), x.1.now))
+        result (instance_head_at usual tokens.now) }
 {
     let rest = expect(&[Expected::Word(Keyword::KwInstance)], tokens)?;
     let (class, rest) = name(alloc, rest)?;
-    let (of, rest) = parenthesized_type(alloc, rest)?;
-    Ok((InstanceHead { class, of }, rest))
+    match parenthesized_type(alloc, rest) {
+        Ok((of, rest)) => Ok((InstanceHead { class, of }, rest)),
+        Err(stop) => Err(stop),
+    }
 }
 
 /// Reads entries up to `end;`.
@@ -286,15 +356,18 @@ pub fn instance_head(alloc: Global, tokens: &[Token]) -> Result<(InstanceHead, &
 /// The fault of the first entry that isn't read, or `Fault::Syntax` where a token is missing.
 pub fn entries<E: Entry>(alloc: Global, tokens: &[Token]) -> Result<(Vec<E::Item>, &[Token]), Stop>
     ensures { Gives (λ x. (map E.see x.0.items, x.1.now)) result
-        (steps.closed (what.Word word.KwEnd ∷ what.Sign sign.Semicolon ∷ []) (steps.repeated E.begins_by E.read_at) tokens.now) }
+        (steps.closed (what.Word word.KwEnd ∷ what.Sign sign.Semicolon ∷ [])
+        (steps.repeated E.begins_by E.read_at) tokens.now) }
 {
     let (entries, rest) = repeated::<E>(alloc, tokens)?;
     let closing = [
         Expected::Word(Keyword::KwEnd),
         Expected::Sign(Sign::Semicolon),
     ];
-    let rest = expect(&closing, rest)?;
-    Ok((entries, rest))
+    match expect(&closing, rest) {
+        Ok(rest) => Ok((entries, rest)),
+        Err(stop) => Err(stop),
+    }
 }
 
 /// Reads entries behind `is`, up to `end;`.
@@ -307,7 +380,9 @@ pub fn inner_entries<E: Entry>(
     tokens: &[Token],
 ) -> Result<(Vec<E::Item>, &[Token]), Stop>
     ensures { Gives (λ x. (map E.see x.0.items, x.1.now)) result
-        (steps.behind (what.Word word.KwIs ∷ []) (steps.closed (what.Word word.KwEnd ∷ what.Sign sign.Semicolon ∷ []) (steps.repeated E.begins_by E.read_at)) tokens.now) }
+        (steps.behind (what.Word word.KwIs ∷ [])
+        (steps.closed (what.Word word.KwEnd ∷ what.Sign sign.Semicolon ∷ [])
+        (steps.repeated E.begins_by E.read_at)) tokens.now) }
 {
     let rest = expect(&[Expected::Word(Keyword::KwIs)], tokens)?;
     entries::<E>(alloc, rest)

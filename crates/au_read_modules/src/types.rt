@@ -6,7 +6,9 @@ ghost use Rattle.au_reading.specs.Bounds.{usual};
 ghost use Rattle.au_reading.specs.Reading as steps;
 ghost use Rattle.au_base.specs.declared.tokens.Keyword.TheVariants as word;
 ghost use Rattle.au_base.specs.declared.tokens.What.TheVariants as what;
-ghost use Rattle.au_read_modules.specs.DeclarationReading.{is_name, field_at, first_and_rest, members_at, case_fields_at, variant_at, opaque_at, record_at, union_at};
+ghost use Rattle.au_read_modules.specs.DeclarationReading.{is_name, field_at, first_and_rest, members_at};
+ghost use Rattle.au_read_modules.specs.DeclarationReading.{case_fields_at, variant_at, opaque_at, record_at};
+ghost use Rattle.au_read_modules.specs.DeclarationReading.{union_at};
 ghost use Rattle.au_syntax.specs.Modules.{Variant};
 ghost use Rattle.au_syntax.specs.Types.{Labelled};
 ghost use Rattle.au_syntax.specs.Views as views;
@@ -23,11 +25,14 @@ use std::alloc::Global;
 ///
 /// `Fault::Syntax` where a token is missing, and `Fault::Passed` where its type passes a limit.
 pub fn field(alloc: Global, tokens: &[Token]) -> Result<(Field<Parsed>, &[Token]), Stop>
-    ensures { Gives (λ x. (views.labelled ⟦<Parsed as Phase>⟧ x.0, x.1.now)) result (field_at usual tokens.now) }
+    ensures { Gives (λ x. (views.labelled ⟦<Parsed as Phase>⟧ x.0, x.1.now)) result
+        (field_at usual tokens.now) }
 {
     let (field, rest) = labelled(alloc, tokens)?;
-    let rest = expect(&[Expected::Sign(Sign::Semicolon)], rest)?;
-    Ok((field, rest))
+    match expect(&[Expected::Sign(Sign::Semicolon)], rest) {
+        Ok(rest) => Ok((field, rest)),
+        Err(stop) => Err(stop),
+    }
 }
 
 /// A field, which begins with its name.
@@ -65,7 +70,8 @@ impl Entry for FieldEntry {
 ///
 /// The fault of the first field that isn't read.
 pub fn members(alloc: Global, tokens: &[Token]) -> Result<(Vec<Field<Parsed>>, &[Token]), Stop>
-    ensures { Gives (λ x. (map (views.labelled ⟦<Parsed as Phase>⟧) x.0.items, x.1.now)) result (members_at usual tokens.now) }
+    ensures { Gives (λ x. (map (views.labelled ⟦<Parsed as Phase>⟧) x.0.items, x.1.now)) result
+        (members_at usual tokens.now) }
 {
     repeated::<FieldEntry>(alloc, tokens)
 }
@@ -84,7 +90,8 @@ fn some_members(alloc: Global, tokens: &[Token]) -> Result<(Vec<Field<Parsed>>, 
 
 /// Reads the rest of a case behind its name: a semicolon, or its fields.
 fn case_fields(alloc: Global, tokens: &[Token]) -> Result<(Vec<Field<Parsed>>, &[Token]), Stop>
-    ensures { Gives (λ x. (map (views.labelled ⟦<Parsed as Phase>⟧) x.0.items, x.1.now)) result (case_fields_at usual tokens.now) }
+    ensures { Gives (λ x. (map (views.labelled ⟦<Parsed as Phase>⟧) x.0.items, x.1.now)) result
+        (case_fields_at usual tokens.now) }
 {
     if is_sign(Sign::Semicolon, tokens) {
         let rest = expect(&[Expected::Sign(Sign::Semicolon)], tokens)?;
@@ -116,8 +123,10 @@ impl Entry for CaseEntry {
     fn read(alloc: Global, tokens: &[Token]) -> Result<(UnionCase<Parsed>, &[Token]), Stop> {
         let rest = expect(&[Expected::Word(Keyword::KwCase)], tokens)?;
         let (name, rest) = name(alloc, rest)?;
-        let (fields, rest) = case_fields(alloc, rest)?;
-        Ok((UnionCase { name, fields }, rest))
+        match case_fields(alloc, rest) {
+            Ok((fields, rest)) => Ok((UnionCase { name, fields }, rest)),
+            Err(stop) => Err(stop),
+        }
     }
 }
 
@@ -128,16 +137,17 @@ impl Entry for CaseEntry {
 /// `Fault::Syntax` where a token is missing.
 #[tactic(auto, unfolding(crate::specs::DeclarationReading::opaque_at))]
 pub fn opaque(alloc: Global, tokens: &[Token]) -> Result<(Decl<Parsed>, &[Token]), Stop>
-    ensures { Gives (λ x. (views.declaration ⟦<Parsed as Phase>⟧ x.0, x.1.now)) result (opaque_at usual tokens.now) }
+    ensures { Gives (λ x. (views.declaration ⟦<Parsed as Phase>⟧ x.0, x.1.now)) result
+        (opaque_at usual tokens.now) }
 {
     let at = place(tokens);
     let rest = expect(&[Expected::Word(Keyword::KwType)], tokens)?;
     let (head, rest) = type_head(alloc, rest)?;
-    let rest = expect(&[Expected::Sign(Sign::Semicolon)], rest)?;
-    Ok((
-        Decl::Opaque(at, head.name, head.parameters, head.universe),
-        rest,
-    ))
+    let universe = head.universe;
+    match expect(&[Expected::Sign(Sign::Semicolon)], rest) {
+        Ok(rest) => Ok((Decl::Opaque(at, head.name, head.parameters, universe), rest)),
+        Err(stop) => Err(stop),
+    }
 }
 
 /// Reads a record.
@@ -147,16 +157,20 @@ pub fn opaque(alloc: Global, tokens: &[Token]) -> Result<(Decl<Parsed>, &[Token]
 /// `Fault::Syntax` where a token is missing, and `Fault::Passed` where a field's type passes a limit.
 #[tactic(auto, unfolding(crate::specs::DeclarationReading::record_at))]
 pub fn record(alloc: Global, tokens: &[Token]) -> Result<(Decl<Parsed>, &[Token]), Stop>
-    ensures { Gives (λ x. (views.declaration ⟦<Parsed as Phase>⟧ x.0, x.1.now)) result (record_at usual tokens.now) }
+    ensures { Gives (λ x. (views.declaration ⟦<Parsed as Phase>⟧ x.0, x.1.now)) result
+        (record_at usual tokens.now) }
 {
     let at = place(tokens);
     let rest = expect(&[Expected::Word(Keyword::KwRecord)], tokens)?;
     let (head, rest) = type_head(alloc, rest)?;
-    let (fields, rest) = inner_entries::<FieldEntry>(alloc, rest)?;
-    Ok((
-        Decl::Record(at, head.name, head.parameters, head.universe, fields),
-        rest,
-    ))
+    let universe = head.universe;
+    match inner_entries::<FieldEntry>(alloc, rest) {
+        Ok((fields, rest)) => Ok((
+            Decl::Record(at, head.name, head.parameters, universe, fields),
+            rest,
+        )),
+        Err(stop) => Err(stop),
+    }
 }
 
 /// Reads a union.
@@ -166,14 +180,18 @@ pub fn record(alloc: Global, tokens: &[Token]) -> Result<(Decl<Parsed>, &[Token]
 /// `Fault::Syntax` where a token is missing, and `Fault::Passed` where a field's type passes a limit.
 #[tactic(auto, unfolding(crate::specs::DeclarationReading::union_at))]
 pub fn union(alloc: Global, tokens: &[Token]) -> Result<(Decl<Parsed>, &[Token]), Stop>
-    ensures { Gives (λ x. (views.declaration ⟦<Parsed as Phase>⟧ x.0, x.1.now)) result (union_at usual tokens.now) }
+    ensures { Gives (λ x. (views.declaration ⟦<Parsed as Phase>⟧ x.0, x.1.now)) result
+        (union_at usual tokens.now) }
 {
     let at = place(tokens);
     let rest = expect(&[Expected::Word(Keyword::KwUnion)], tokens)?;
     let (head, rest) = type_head(alloc, rest)?;
-    let (cases, rest) = inner_entries::<CaseEntry>(alloc, rest)?;
-    Ok((
-        Decl::Union(at, head.name, head.parameters, head.universe, cases),
-        rest,
-    ))
+    let universe = head.universe;
+    match inner_entries::<CaseEntry>(alloc, rest) {
+        Ok((cases, rest)) => Ok((
+            Decl::Union(at, head.name, head.parameters, universe, cases),
+            rest,
+        )),
+        Err(stop) => Err(stop),
+    }
 }

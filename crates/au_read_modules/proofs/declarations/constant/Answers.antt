@@ -4,6 +4,6 @@ use Rattle.au_syntax.proofs.DeclarationLemmas.{constant_says}
 use Rattle.au_read_modules.specs.DeclarationReading.{constant_at}
 use Rattle.au_read_modules.proofs.declarations.constant.Goals as goal
 
-pub returns : goal.returns
+pub returns-in-Ok : goal.returns-in-Ok
 unfolding constant_at
-returns c = grind (arith, common_steps, constant_says)
+returns-in-Ok c = grind (arith, common_steps, constant_says)

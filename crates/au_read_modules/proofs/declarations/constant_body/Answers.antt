@@ -4,6 +4,6 @@ use Rattle.au_syntax.proofs.DeclarationLemmas.{constant_body_says}
 use Rattle.au_read_modules.specs.DeclarationReading.{constant_body_at}
 use Rattle.au_read_modules.proofs.declarations.constant_body.Goals as goal
 
-pub returns : goal.returns
+pub returns-in-Ok : goal.returns-in-Ok
 unfolding constant_body_at
-returns c = grind (arith, common_steps, constant_body_says)
+returns-in-Ok c = grind (arith, common_steps, constant_body_says)

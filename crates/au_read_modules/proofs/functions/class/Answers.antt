@@ -4,6 +4,6 @@ use Rattle.au_syntax.proofs.DeclarationLemmas.{class_says}
 use Rattle.au_read_modules.specs.DeclarationReading.{class_at}
 use Rattle.au_read_modules.proofs.functions.class.Goals as goal
 
-pub returns : goal.returns
+pub returns-in-Ok : goal.returns-in-Ok
 unfolding class_at
-returns c = grind (arith, common_steps, class_says)
+returns-in-Ok c = grind (arith, common_steps, class_says)

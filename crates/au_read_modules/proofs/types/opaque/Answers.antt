@@ -4,6 +4,6 @@ use Rattle.au_syntax.proofs.DeclarationLemmas.{opaque_says}
 use Rattle.au_read_modules.specs.DeclarationReading.{opaque_at}
 use Rattle.au_read_modules.proofs.types.opaque.Goals as goal
 
-pub returns : goal.returns
+pub returns-in-Ok : goal.returns-in-Ok
 unfolding opaque_at
-returns c = grind (arith, common_steps, opaque_says)
+returns-in-Ok c = grind (arith, common_steps, opaque_says)

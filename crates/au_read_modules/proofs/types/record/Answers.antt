@@ -4,6 +4,6 @@ use Rattle.au_syntax.proofs.DeclarationLemmas.{record_says}
 use Rattle.au_read_modules.specs.DeclarationReading.{record_at}
 use Rattle.au_read_modules.proofs.types.record.Goals as goal
 
-pub returns : goal.returns
+pub returns-in-Ok : goal.returns-in-Ok
 unfolding record_at
-returns c = grind (arith, common_steps, record_says)
+returns-in-Ok c = grind (arith, common_steps, record_says)

@@ -4,6 +4,6 @@ use Rattle.au_syntax.proofs.DeclarationLemmas.{union_says}
 use Rattle.au_read_modules.specs.DeclarationReading.{union_at}
 use Rattle.au_read_modules.proofs.types.union.Goals as goal
 
-pub returns : goal.returns
+pub returns-in-Ok : goal.returns-in-Ok
 unfolding union_at
-returns c = grind (arith, common_steps, union_says)
+returns-in-Ok c = grind (arith, common_steps, union_says)
