@@ -1,7 +1,7 @@
 //! What a written type means in a part of a module, and which declared types have rows.
 
 use crate::programs::{program_of, put_file};
-use au_base::{IntKind, Memory};
+use au_base::IntKind;
 use au_imports::Resolved;
 use au_shipped::shipped;
 use au_syntax::{Decl, Parsed, TypeText, Whole};
@@ -34,9 +34,10 @@ fn is_byte(of: &Option<Ty>) -> bool {
     matches!(of, Some(Ty::Int(IntKind::Nat8)))
 }
 
-/// Whether the written type of the constant means `Nat8` in the body of the module at place 4.
-fn is_meant(alloc: Global, resolved: &Resolved) -> Result<bool, Memory> {
-    if resolved.modules().len() != 5 {
+/// Whether seven declared types have rows, and the written type of the constant means `Nat8` in the body of the
+/// module at place 4.
+fn are_meant(alloc: Global, resolved: &Resolved) -> Result<bool, Fail> {
+    if resolved.modules().len() != 5 || resolved.heads_ref().len() != 7 {
         return Ok(false);
     }
     let Some(whole) = resolved.modules().body(4) else {
@@ -48,24 +49,20 @@ fn is_meant(alloc: Global, resolved: &Resolved) -> Result<bool, Memory> {
     let params = Params::new(alloc);
     match resolved.type_of(alloc, 4, true, &params, &[], of) {
         Ok(meant) => Ok(is_byte(&meant)),
-        Err(fault) => Err(fault),
+        Err(_) => Err(Fail::new("out of memory")),
     }
 }
 
-/// Whether a written type means a type, and so many declared types have rows.
-fn has_types(alloc: Global, rows: usize) -> Result<bool, Fail> {
+/// Whether types have their meanings and rows in the program.
+fn has_types(alloc: Global) -> Result<bool, Fail> {
     let resolved = with_body(alloc)?;
-    if resolved.heads_ref().len() == rows {
-        Ok(is_meant(alloc, &resolved)?)
-    } else {
-        Ok(false)
-    }
+    are_meant(alloc, &resolved)
 }
 
 /// A written type means a type. The declared types of the shipped modules have rows: `Option`, `Either`,
 /// `ExitCode`, `RootCapability`, `Box`, `Buffer` and `Terminal`.
 #[test]
 fn types_have_meanings_and_rows(rt: HostRuntime) -> Result<(), Fail> {
-    assert!(rt; has_types(rt.alloc(), 7)?);
+    assert!(rt; has_types(rt.alloc())?);
     Ok(())
 }
