@@ -26,7 +26,7 @@ fn sign_of(access: Access) -> &'static [u8] {
 }
 
 /// What stands behind these bytes in a text that begins with them.
-fn behind<'a>(text: &'a [u8], bytes: &[u8]) -> &'a [u8] {
+pub(crate) fn behind<'a>(text: &'a [u8], bytes: &[u8]) -> &'a [u8] {
     match text.strip_prefix(bytes) {
         Some(rest) => rest,
         None => &[],

@@ -1,5 +1,6 @@
 //! Word lists and the jobs that they ask for, written by hand from the rule.
 
+use crate::interfaces::behind;
 use au_base::{Entry, Memory};
 use au_words::{Command, Job, laws, read_words};
 use std::alloc::Global;
@@ -8,8 +9,13 @@ use std::test::Fail;
 /// The steps of a run whose words give none.
 const USUAL: u64 = 1_000_000_000;
 
+<<<<<<< HEAD
 /// Words with `|` between, and the job that they ask for: its command, its files with `|` between, its entry
 /// as `M:f` or nothing, its steps, and whether lives are told.
+=======
+/// Words with `|` between, and the job that they ask for: its command, its files with `|` behind each and a dot
+/// at the end, its entry as `M:f` or nothing, its steps, and whether lives are told.
+>>>>>>> aa6aa2f9dd38a6638f14820eec75530f22dd7a7d
 struct Row {
     words: &'static str,
     command: Command,
@@ -25,7 +31,7 @@ const JOBS: [Row; 6] = [
     Row {
         words: "run|--life|a.aum",
         command: Command::Run,
-        files: "a.aum",
+        files: "a.aum|.",
         entry: "",
         steps: USUAL,
         life: true,
@@ -33,7 +39,7 @@ const JOBS: [Row; 6] = [
     Row {
         words: "run|a.aum|--life|--entry|A.B_2.C:main_1|--steps|10",
         command: Command::Run,
-        files: "a.aum",
+        files: "a.aum|.",
         entry: "A.B_2.C:main_1",
         steps: 10,
         life: true,
@@ -41,7 +47,7 @@ const JOBS: [Row; 6] = [
     Row {
         words: "compile|a.aum",
         command: Command::Compile,
-        files: "a.aum",
+        files: "a.aum|.",
         entry: "",
         steps: USUAL,
         life: false,
@@ -49,7 +55,7 @@ const JOBS: [Row; 6] = [
     Row {
         words: "compile|a.aum|--entry=M:f",
         command: Command::Compile,
-        files: "a.aum",
+        files: "a.aum|.",
         entry: "M:f",
         steps: USUAL,
         life: false,
@@ -57,7 +63,7 @@ const JOBS: [Row; 6] = [
     Row {
         words: "check|a b.aum,-b",
         command: Command::Check,
-        files: "a b.aum|-b",
+        files: "a b.aum|-b|.",
         entry: "",
         steps: USUAL,
         life: false,
@@ -65,7 +71,7 @@ const JOBS: [Row; 6] = [
     Row {
         words: "run|--steps|1000000000000|a.aum",
         command: Command::Run,
-        files: "a.aum",
+        files: "a.aum|.",
         entry: "",
         steps: 1_000_000_000_000,
         life: false,
@@ -81,16 +87,13 @@ fn words_of(alloc: Global, text: &str) -> Result<Vec<String>, Memory> {
     Ok(words)
 }
 
-/// Whether names are those of a text with `|` between.
+/// Whether names are those of a text with `|` behind each, and a dot at its end.
 fn are_named(names: &[String], text: &str) -> bool {
-    let mut rest = names.iter();
-    for name in text.split('|') {
-        match rest.next() {
-            Some(one) if one.as_str() == name => {}
-            _ => return false,
-        }
+    let mut rest = text.as_bytes();
+    for name in names {
+        rest = behind(behind(rest, name.as_bytes()), b"|");
     }
-    rest.next().is_none()
+    rest == b".".as_slice()
 }
 
 /// Whether an entry is the one of a text `M:f`, or none of an empty text.

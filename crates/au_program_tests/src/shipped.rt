@@ -6,24 +6,22 @@ use au_shipped::shipped;
 use au_syntax::FileTree;
 use std::test::Fail;
 
-/// The interfaces as they are written down, each behind the number of its file: the last four numbers.
-const INTERFACES: [(u16, &[u8]); 4] = [
-    (65_532, PERVASIVE),
-    (65_533, BOXES),
-    (65_534, BUFFERS),
-    (65_535, TERMINAL),
-];
+/// Whether a file has this number and is this interface.
+fn is_written(file: &FileTree, number: u16, text: &[u8]) -> bool {
+    file.file == number && is_interface(text, file.tree.tree())
+}
 
-/// Whether the files are the interfaces as they are written down.
+/// Whether files are the interfaces as they are written down, by the last four numbers.
 fn are_written(files: &[FileTree]) -> bool {
-    let mut rest = files.iter();
-    for (number, text) in INTERFACES {
-        match rest.next() {
-            Some(file) if file.file == number && is_interface(text, file.tree.tree()) => {}
-            _ => return false,
+    match files {
+        [own, boxes, buffers, terminal] => {
+            is_written(own, 65_532, PERVASIVE)
+                && is_written(boxes, 65_533, BOXES)
+                && is_written(buffers, 65_534, BUFFERS)
+                && is_written(terminal, 65_535, TERMINAL)
         }
+        _ => false,
     }
-    rest.next().is_none()
 }
 
 /// The shipped files are these interfaces.

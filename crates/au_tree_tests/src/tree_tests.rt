@@ -58,9 +58,10 @@ fn nested(alloc: Global) -> Result<Expr<Parsed>, Memory> {
 
 /// A call with a nested number as its argument, which is as deep as a file can have an expression.
 fn call(alloc: Global) -> Result<Expr<Parsed>, Memory> {
+    let argument = nested(alloc)?;
     let name = ident(alloc, b"f")?;
     let mut arguments = Vec::new(alloc);
-    arguments.push(nested(alloc)?)?;
+    arguments.push(argument)?;
     Ok(Expr::Call(site(2), name, arguments, ()))
 }
 
@@ -78,31 +79,30 @@ fn is_call(expr: &Expr<Counted>) -> bool {
     }
 }
 
+/// Whether an expression is the call, as deep as it was, and so many notes were made as it has.
+fn is_counted(expr: &Expr<Counted>, made: u32) -> bool {
+    made == 101 && expression_depth(expr) == 100 && is_call(expr)
+}
+
 /// Whether the call keeps its name, its place, its argument and its depth, and each expression in it has a note,
 /// and the call another one.
 fn call_is_mapped(alloc: Global) -> Result<bool, Memory> {
     let old = call(alloc)?;
     let mut count = Count { made: 0 };
     match map_expr::<Parsed, Counted, Count>(alloc, old, &mut count) {
-        Ok(new) => Ok(count.made == 101 && expression_depth(&new) == 100 && is_call(&new)),
+        Ok(new) => Ok(is_counted(&new, count.made)),
         Err(fault) => Err(fault),
     }
 }
 
-/// A block of as many statements as a file has tokens for.
-fn long(alloc: Global) -> Result<Block<Parsed>, Memory> {
+/// Whether a block of as many statements as a file has tokens for keeps them, and none of them has a note.
+fn block_is_mapped(alloc: Global) -> Result<bool, Memory> {
+    let mut count = Count { made: 0 };
     let mut statements = Vec::new(alloc);
     for column in 0..131_072u32 {
         statements.push(Stmt::<Parsed>::Skip(at(column)))?;
     }
-    Ok(Block { statements })
-}
-
-/// Whether a long block keeps its statements, and none of them has a note.
-fn block_is_mapped(alloc: Global) -> Result<bool, Memory> {
-    let old = long(alloc)?;
-    let mut count = Count { made: 0 };
-    match map_block::<Parsed, Parsed, Count>(alloc, old, &mut count) {
+    match map_block::<Parsed, Parsed, Count>(alloc, Block { statements }, &mut count) {
         Ok(new) => Ok(count.made == 0 && new.statements.len() == 131_072),
         Err(fault) => Err(fault),
     }
@@ -153,12 +153,15 @@ fn copy_is_mapped(alloc: Global) -> Result<bool, Memory> {
     }
 }
 
-/// An expression as deep as a file can have one and a block as long as a file can have one are mapped and dropped,
-/// and so is a copy of a whole file.
+/// Whether an expression as deep as a file can have one and a block as long as a file can have one are mapped and
+/// dropped, and so is a copy of a whole file.
+fn all_are_mapped(alloc: Global) -> Result<bool, Memory> {
+    Ok(call_is_mapped(alloc)? && block_is_mapped(alloc)? && copy_is_mapped(alloc)?)
+}
+
+/// Trees stay the same where they are mapped and copied, and their notes are counted.
 #[test]
 fn trees_stay_and_notes_are_counted(rt: HostRuntime) -> Result<(), Fail> {
-    assert!(rt; call_is_mapped(rt.alloc())?);
-    assert!(rt; block_is_mapped(rt.alloc())?);
-    assert!(rt; copy_is_mapped(rt.alloc())?);
+    assert!(rt; all_are_mapped(rt.alloc())?);
     Ok(())
 }
