@@ -9,13 +9,8 @@ use std::test::Fail;
 /// The steps of a run whose words give none.
 const USUAL: u64 = 1_000_000_000;
 
-<<<<<<< HEAD
-/// Words with `|` between, and the job that they ask for: its command, its files with `|` between, its entry
-/// as `M:f` or nothing, its steps, and whether lives are told.
-=======
 /// Words with `|` between, and the job that they ask for: its command, its files with `|` behind each and a dot
 /// at the end, its entry as `M:f` or nothing, its steps, and whether lives are told.
->>>>>>> aa6aa2f9dd38a6638f14820eec75530f22dd7a7d
 struct Row {
     words: &'static str,
     command: Command,
