@@ -11,4 +11,5 @@ mod statements;
 mod types;
 mod wholes;
 
+pub use types::copy_type;
 pub use wholes::{copy_whole, depth_of};

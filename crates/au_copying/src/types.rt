@@ -16,8 +16,12 @@ fn copy_type_name(alloc: Global, name: &TypeName) -> Result<TypeName, Memory>
 }
 
 /// A written type that says the same.
+///
+/// # Errors
+///
+/// Only for want of memory.
 #[cycle(copy_type)]
-pub(crate) fn copy_type(alloc: Global, of: &TypeText) -> Result<TypeText, Memory>
+pub fn copy_type(alloc: Global, of: &TypeText) -> Result<TypeText, Memory>
     ensures { IfOk result (λ copy. written copy ≡ written of.now) }
 {
     match of {

@@ -1,2 +1,6 @@
-pub mod TreeLemmas
-pub mod StatementLemmas
+pub mod WordLemmas
+pub mod NoteLemmas
+pub mod KeptLemmas
+pub mod TurnLemmas
+pub mod BlockLemmas
+pub mod DeclarationLemmas

@@ -1,286 +1,316 @@
 //! Expressions of one phase as expressions of another.
 
-ghost use Rattle.std.specs.Prelude.{◌≡◌, List, [], ◌∷◌, IfOk, IsTrue, map};
-ghost use Rattle.std.specs.List.{list_all};
-ghost use Rattle.au_syntax.specs.Views.{placed, node, expression, argument_all};
-ghost use Rattle.au_syntax.specs.Plain.{plain_name, plain_node, plain_expression, plain_arguments};
+ghost use Rattle.std.specs.Prelude.{◌≡◌, Bool, true, ℕ, List, IfOk, IsTrue};
+ghost use Rattle.au_syntax.specs.Expressions.{Node, Expression, call, named_call, typed};
 ghost use Rattle.au_syntax.specs.Notes.{notes_of_expression};
+ghost use Rattle.au_syntax.specs.Plain.{plain_expression};
+ghost use Rattle.au_syntax.specs.Views.{written, placed, node, expression, expression_all, argument_all};
+ghost use Rattle.au_mapping.specs.Words.{marked, wanted};
 
-use crate::turns::{Turn, map_ident, map_idents, map_site};
-use au_base::Memory;
-use au_syntax::{Argument, BinaryOperator, BorrowMode, Expr, Ident, Phase, Site};
+use crate::parts::{Part, turned_three, turned_two};
+use crate::turns::Turn;
+use au_base::{Memory, Text};
+use au_syntax::{Argument, Expr, Ident, Phase, Site, TypeText};
 use std::alloc::Global;
+
+impl<P: Phase, Q: Phase, F: Turn<P, Q>> Part<Q, F> for Site<P> {
+    type New = Site<Q>;
+
+    ghost Kept = { Node Bool };
+
+    ghost old = { node (wanted P.Phase) };
+
+    ghost new = { node (marked Q.Phase) };
+
+    fn turned(&self, alloc: Global, turn: &mut F) -> Result<Site<Q>, Memory> {
+        let note = P::copy_type_note(alloc, &self.note)?;
+        let note = turn.type_note(alloc, note)?;
+        Ok(Site { at: self.at, note })
+    }
+}
+
+impl<Q: Phase, F> Part<Q, F> for Text {
+    type New = Text;
+
+    ghost Kept = { List ℕ };
+
+    ghost old = { λ text. text };
+
+    ghost new = { λ text. text };
+
+    fn turned(&self, alloc: Global, _turn: &mut F) -> Result<Text, Memory> {
+        self.copy(alloc)
+    }
+}
+
+impl<P: Phase, Q: Phase, F: Turn<P, Q>> Part<Q, F> for Box<Expr<P>> {
+    type New = Box<Expr<Q>>;
+
+    ghost Kept = { Expression (List ℕ) Bool Bool };
+
+    ghost old = { λ boxed. expression (wanted P.Phase) boxed.value };
+
+    ghost new = { λ boxed. expression (marked Q.Phase) boxed.value };
+
+    fn turned(&self, alloc: Global, turn: &mut F) -> Result<Box<Expr<Q>>, Memory> {
+        turned_boxed(alloc, self, turn)
+    }
+}
 
 /// The same expression in another phase.
 ///
 /// # Errors
 ///
 /// Only for want of memory.
-#[tactic(auto, using(au_syntax::proofs::ExpressionLemmas::expression_steps, std::proofs::lemmas::Grind::common_steps))]
-#[cycle(map_expression)]
 pub fn map_expr<P: Phase, Q: Phase, F: Turn<P, Q>>(
     alloc: Global,
     expr: Expr<P>,
     turn: &mut F,
 ) -> Result<Expr<Q>, Memory>
-    ensures same { IfOk result (λ new. plain_expression Q.name_bytes (expression Q.Phase new) ≡ plain_expression P.name_bytes (expression P.Phase expr)) }
-    ensures notes { IfOk result (λ new. IsTrue (notes_of_expression Q.allows_type Q.allows_call (expression Q.Phase new))) }
+    ensures same { IfOk result (λ new.
+        plain_expression Q.name_bytes (expression Q.Phase new)
+        ≡ plain_expression P.name_bytes (expression P.Phase expr)) }
+    ensures notes { IfOk result (λ new.
+        IsTrue (notes_of_expression Q.allows_type Q.allows_call (expression Q.Phase new))) }
 {
-    match expr {
-        Expr::Number(site, number) => Ok(Expr::Number(map_site(alloc, site, turn)?, number)),
-        Expr::Negative(site, number) => Ok(Expr::Negative(map_site(alloc, site, turn)?, number)),
-        Expr::Text(site, text) => Ok(Expr::Text(map_site(alloc, site, turn)?, text)),
-        Expr::Bool(site, value) => Ok(Expr::Bool(map_site(alloc, site, turn)?, value)),
-        Expr::Nil(site) => Ok(Expr::Nil(map_site(alloc, site, turn)?)),
-        Expr::Path(site, name, fields) => map_path(alloc, site, name, fields, turn),
-        Expr::Arrow(site, name, fields) => map_arrow(alloc, site, name, fields, turn),
-        Expr::Call(site, name, arguments, note) => map_call(
-            alloc, site, name, arguments, note, turn,
-        ),
-        Expr::NamedCall(site, name, arguments, note) => map_named_call(
-            alloc, site, name, arguments, note, turn,
-        ),
-        Expr::Parenthesized(site, of) => {
-            let (site, of) = map_operand(alloc, site, of, turn)?;
-            Ok(Expr::Parenthesized(site, of))
+    let new = turned_expression(alloc, &expr, turn)?;
+    Ok(new)
+}
+
+/// The note of a call in the new phase.
+fn turned_note<P: Phase, Q: Phase, F: Turn<P, Q>>(
+    alloc: Global,
+    note: &P::CallNote,
+    turn: &mut F,
+) -> Result<Q::CallNote, Memory>
+    ensures { IfOk result (λ new. IsTrue (Q.allows_call (Q.see_call new))) }
+{
+    let note = P::copy_call_note(alloc, note)?;
+    turn.call_note(alloc, note)
+}
+
+/// What a call has besides its arguments.
+fn turned_callee<P: Phase, Q: Phase, F: Turn<P, Q>>(
+    alloc: Global,
+    site: &Site<P>,
+    name: &Ident<P>,
+    note: &P::CallNote,
+    turn: &mut F,
+) -> Result<(Site<Q>, Ident<Q>, Q::CallNote), Memory>
+    ensures site { IfOk result (λ new. node (marked Q.Phase) new.0 ≡ node (wanted P.Phase) site.now) }
+    ensures name { IfOk result (λ new. placed (marked Q.Phase) new.1 ≡ placed (wanted P.Phase) name.now) }
+    ensures note { IfOk result (λ new. IsTrue (Q.allows_call (Q.see_call new.2))) }
+{
+    let (site, name) = turned_two(alloc, site, name, turn)?;
+    let note = turned_note(alloc, note, turn)?;
+    Ok((site, name, note))
+}
+
+/// The expression in the new phase.
+#[cycle(turned_expression)]
+fn turned_expression<P: Phase, Q: Phase, F: Turn<P, Q>>(
+    alloc: Global,
+    of: &Expr<P>,
+    turn: &mut F,
+) -> Result<Expr<Q>, Memory>
+    ensures { IfOk result (λ new.
+        expression (marked Q.Phase) new ≡ expression (wanted P.Phase) of.now) }
+{
+    match of {
+        Expr::Number(site, literal) => Ok(Expr::Number(site.turned(alloc, turn)?, *literal)),
+        Expr::Negative(site, literal) => Ok(Expr::Negative(site.turned(alloc, turn)?, *literal)),
+        Expr::Text(site, text) => {
+            let (site, text) = turned_two(alloc, site, text, turn)?;
+            Ok(Expr::Text(site, text))
         }
-        Expr::Dereference(site, of) => {
-            let (site, of) = map_operand(alloc, site, of, turn)?;
-            Ok(Expr::Dereference(site, of))
+        Expr::Bool(site, truth) => Ok(Expr::Bool(site.turned(alloc, turn)?, *truth)),
+        Expr::Nil(site) => Ok(Expr::Nil(site.turned(alloc, turn)?)),
+        Expr::Path(site, name, fields) => {
+            let (site, name, fields) = turned_three(alloc, site, name, fields, turn)?;
+            Ok(Expr::Path(site, name, fields))
         }
-        Expr::Borrow(site, mode, name) => map_borrow(alloc, site, mode, name, turn),
-        Expr::BorrowPart(site, name, fields) => map_borrow_part(alloc, site, name, fields, turn),
-        Expr::Binary(site, operator, left, right) => map_binary(
-            alloc, site, operator, left, right, turn,
-        ),
-        Expr::Not(site, of) => {
-            let (site, of) = map_operand(alloc, site, of, turn)?;
-            Ok(Expr::Not(site, of))
+        Expr::Arrow(site, name, fields) => {
+            let (site, name, fields) = turned_three(alloc, site, name, fields, turn)?;
+            Ok(Expr::Arrow(site, name, fields))
         }
-        Expr::Typed(site, of, as_type) => {
-            let (site, of) = map_operand(alloc, site, of, turn)?;
-            Ok(Expr::Typed(site, of, as_type))
+        Expr::Call(site, name, arguments, note) => {
+            turned_call(alloc, arguments, site, name, note, turn)
         }
-        Expr::If(site, test, yes, no) => map_choice(alloc, site, test, yes, no, turn),
+        Expr::NamedCall(site, name, arguments, note) => {
+            turned_named_call(alloc, arguments, site, name, note, turn)
+        }
+        Expr::Parenthesized(site, inner) => {
+            let (site, inner) = turned_operand(alloc, inner, site, turn)?;
+            Ok(Expr::Parenthesized(site, inner))
+        }
+        Expr::Dereference(site, inner) => {
+            let (site, inner) = turned_operand(alloc, inner, site, turn)?;
+            Ok(Expr::Dereference(site, inner))
+        }
+        Expr::Borrow(site, mode, name) => {
+            let (site, name) = turned_two(alloc, site, name, turn)?;
+            Ok(Expr::Borrow(site, *mode, name))
+        }
+        Expr::BorrowPart(site, name, fields) => {
+            let (site, name, fields) = turned_three(alloc, site, name, fields, turn)?;
+            Ok(Expr::BorrowPart(site, name, fields))
+        }
+        Expr::Binary(site, operator, left, right) => {
+            let (site, left) = turned_operand(alloc, left, site, turn)?;
+            Ok(Expr::Binary(site, *operator, left, turned_boxed(alloc, right, turn)?))
+        }
+        Expr::Not(site, inner) => {
+            let (site, inner) = turned_operand(alloc, inner, site, turn)?;
+            Ok(Expr::Not(site, inner))
+        }
+        Expr::Typed(site, inner, text) => turned_typed(alloc, inner, site, text, turn),
+        Expr::If(site, test, then, otherwise) => {
+            let (site, test) = turned_operand(alloc, test, site, turn)?;
+            let then = turned_boxed(alloc, then, turn)?;
+            Ok(Expr::If(site, test, then, turned_boxed(alloc, otherwise, turn)?))
+        }
     }
 }
 
-#[cycle(map_expression)]
-pub(crate) fn map_boxed<P: Phase, Q: Phase, F: Turn<P, Q>>(
+/// The expression in the new phase, in a box.
+#[cycle(turned_expression)]
+pub(crate) fn turned_boxed<P: Phase, Q: Phase, F: Turn<P, Q>>(
     alloc: Global,
-    expr: Box<Expr<P>>,
+    of: &Expr<P>,
     turn: &mut F,
 ) -> Result<Box<Expr<Q>>, Memory>
-    ensures same { IfOk result (λ new. plain_expression Q.name_bytes (expression Q.Phase new.value) ≡ plain_expression P.name_bytes (expression P.Phase expr.value)) }
-    ensures notes { IfOk result (λ new. IsTrue (notes_of_expression Q.allows_type Q.allows_call (expression Q.Phase new.value))) }
+    ensures { IfOk result (λ new.
+        expression (marked Q.Phase) new.value ≡ expression (wanted P.Phase) of.now) }
 {
-    let made = map_expr(alloc, Box::into_inner(expr), turn)?;
-    Ok(Box::new(alloc, made)?)
+    let new = turned_expression(alloc, of, turn)?;
+    Ok(Box::new(alloc, new)?)
 }
 
-#[cycle(map_expression)]
-fn map_operand<P: Phase, Q: Phase, F: Turn<P, Q>>(
+/// A site and an operand.
+#[cycle(turned_expression)]
+fn turned_operand<P: Phase, Q: Phase, F: Turn<P, Q>>(
     alloc: Global,
-    site: Site<P>,
-    of: Box<Expr<P>>,
+    of: &Expr<P>,
+    site: &Site<P>,
     turn: &mut F,
 ) -> Result<(Site<Q>, Box<Expr<Q>>), Memory>
-    ensures place { IfOk result (λ new. plain_node (node Q.Phase new.0) ≡ plain_node (node P.Phase site)) }
-    ensures note { IfOk result (λ new. IsTrue (Q.allows_type (Q.see_type new.0.note))) }
-    ensures same { IfOk result (λ new. plain_expression Q.name_bytes (expression Q.Phase new.1.value) ≡ plain_expression P.name_bytes (expression P.Phase of.value)) }
-    ensures notes { IfOk result (λ new. IsTrue (notes_of_expression Q.allows_type Q.allows_call (expression Q.Phase new.1.value))) }
+    ensures site { IfOk result (λ new. node (marked Q.Phase) new.0 ≡ node (wanted P.Phase) site.now) }
+    ensures operand { IfOk result (λ new.
+        expression (marked Q.Phase) new.1.value ≡ expression (wanted P.Phase) of.now) }
 {
-    let site = map_site(alloc, site, turn)?;
-    let of = map_boxed(alloc, of, turn)?;
-    Ok((site, of))
+    let site = site.turned(alloc, turn)?;
+    let operand = turned_boxed(alloc, of, turn)?;
+    Ok((site, operand))
 }
 
-#[tactic(auto, using(au_syntax::proofs::ExpressionLemmas::expression_steps, std::proofs::lemmas::Grind::common_steps))]
-#[cycle(map_expression)]
-fn map_binary<P: Phase, Q: Phase, F: Turn<P, Q>>(
+/// An expression with its type in the new phase.
+#[cycle(turned_expression)]
+fn turned_typed<P: Phase, Q: Phase, F: Turn<P, Q>>(
     alloc: Global,
-    site: Site<P>,
-    operator: BinaryOperator,
-    left: Box<Expr<P>>,
-    right: Box<Expr<P>>,
+    of: &Expr<P>,
+    site: &Site<P>,
+    text: &TypeText,
     turn: &mut F,
 ) -> Result<Expr<Q>, Memory>
-    ensures same { IfOk result (λ new. plain_expression Q.name_bytes (expression Q.Phase new) ≡ plain_expression P.name_bytes (expression P.Phase (Expr.Binary site operator left right))) }
-    ensures notes { IfOk result (λ new. IsTrue (notes_of_expression Q.allows_type Q.allows_call (expression Q.Phase new))) }
+    ensures { IfOk result (λ new.
+        expression (marked Q.Phase) new
+        ≡ typed (node (wanted P.Phase) site.now) (expression (wanted P.Phase) of.now)
+        (written text.now)) }
 {
-    let (site, left) = map_operand(alloc, site, left, turn)?;
-    let right = map_boxed(alloc, right, turn)?;
-    Ok(Expr::Binary(site, operator, left, right))
+    let (site, text) = turned_two(alloc, site, text, turn)?;
+    let operand = turned_boxed(alloc, of, turn)?;
+    Ok(Expr::Typed(site, operand, text))
 }
 
-#[tactic(auto, using(au_syntax::proofs::ExpressionLemmas::expression_steps, std::proofs::lemmas::Grind::common_steps))]
-#[cycle(map_expression)]
-fn map_choice<P: Phase, Q: Phase, F: Turn<P, Q>>(
+/// A call in the new phase.
+#[cycle(turned_expression)]
+fn turned_call<P: Phase, Q: Phase, F: Turn<P, Q>>(
     alloc: Global,
-    site: Site<P>,
-    test: Box<Expr<P>>,
-    yes: Box<Expr<P>>,
-    no: Box<Expr<P>>,
+    arguments: &Vec<Expr<P>>,
+    site: &Site<P>,
+    name: &Ident<P>,
+    note: &P::CallNote,
     turn: &mut F,
 ) -> Result<Expr<Q>, Memory>
-    ensures same { IfOk result (λ new. plain_expression Q.name_bytes (expression Q.Phase new) ≡ plain_expression P.name_bytes (expression P.Phase (Expr.If site test yes no))) }
-    ensures notes { IfOk result (λ new. IsTrue (notes_of_expression Q.allows_type Q.allows_call (expression Q.Phase new))) }
+    ensures { IfOk result (λ new.
+        expression (marked Q.Phase) new
+        ≡ call (node (wanted P.Phase) site.now) (placed (wanted P.Phase) name.now)
+        (expression_all (wanted P.Phase) arguments.now.items) true) }
 {
-    let (site, test) = map_operand(alloc, site, test, turn)?;
-    let yes = map_boxed(alloc, yes, turn)?;
-    let no = map_boxed(alloc, no, turn)?;
-    Ok(Expr::If(site, test, yes, no))
-}
-
-#[cycle(map_expression)]
-fn map_call<P: Phase, Q: Phase, F: Turn<P, Q>>(
-    alloc: Global,
-    site: Site<P>,
-    name: Ident<P>,
-    arguments: Vec<Expr<P>>,
-    note: P::CallNote,
-    turn: &mut F,
-) -> Result<Expr<Q>, Memory>
-    ensures same { IfOk result (λ new. plain_expression Q.name_bytes (expression Q.Phase new) ≡ plain_expression P.name_bytes (expression P.Phase (Expr.Call site name arguments note))) }
-    ensures notes { IfOk result (λ new. IsTrue (notes_of_expression Q.allows_type Q.allows_call (expression Q.Phase new))) }
-{
-    let site = map_site(alloc, site, turn)?;
-    let name = map_ident(alloc, name, turn)?;
-    let arguments = map_exprs(alloc, arguments, turn)?;
-    let note = turn.call_note(alloc, note)?;
+    let (site, name, note) = turned_callee(alloc, site, name, note, turn)?;
+    let arguments = turned_expressions(alloc, arguments, turn)?;
     Ok(Expr::Call(site, name, arguments, note))
 }
 
-#[cycle(map_expression)]
-fn map_named_call<P: Phase, Q: Phase, F: Turn<P, Q>>(
+/// A call with named arguments in the new phase.
+#[cycle(turned_expression)]
+fn turned_named_call<P: Phase, Q: Phase, F: Turn<P, Q>>(
     alloc: Global,
-    site: Site<P>,
-    name: Ident<P>,
-    arguments: Vec<Argument<P>>,
-    note: P::CallNote,
+    arguments: &Vec<Argument<P>>,
+    site: &Site<P>,
+    name: &Ident<P>,
+    note: &P::CallNote,
     turn: &mut F,
 ) -> Result<Expr<Q>, Memory>
-    ensures same { IfOk result (λ new. plain_expression Q.name_bytes (expression Q.Phase new) ≡ plain_expression P.name_bytes (expression P.Phase (Expr.NamedCall site name arguments note))) }
-    ensures notes { IfOk result (λ new. IsTrue (notes_of_expression Q.allows_type Q.allows_call (expression Q.Phase new))) }
+    ensures { IfOk result (λ new.
+        expression (marked Q.Phase) new
+        ≡ named_call (node (wanted P.Phase) site.now) (placed (wanted P.Phase) name.now)
+        (argument_all (wanted P.Phase) arguments.now.items) true) }
 {
-    let site = map_site(alloc, site, turn)?;
-    let name = map_ident(alloc, name, turn)?;
-    let arguments = map_arguments(alloc, arguments, turn)?;
-    let note = turn.call_note(alloc, note)?;
+    let (site, name, note) = turned_callee(alloc, site, name, note, turn)?;
+    let arguments = turned_arguments(alloc, arguments, turn)?;
     Ok(Expr::NamedCall(site, name, arguments, note))
 }
 
-#[cycle(map_expression)]
-fn map_exprs<P: Phase, Q: Phase, F: Turn<P, Q>>(
+/// An argument in the new phase.
+#[cycle(turned_expression)]
+fn turned_argument<P: Phase, Q: Phase, F: Turn<P, Q>>(
     alloc: Global,
-    exprs: Vec<Expr<P>>,
-    turn: &mut F,
-) -> Result<Vec<Expr<Q>>, Memory>
-    ensures same { IfOk result (λ new. map (plain_expression Q.name_bytes) (map (expression Q.Phase) new.items) ≡ map (plain_expression P.name_bytes) (map (expression P.Phase) exprs.items)) }
-    ensures notes { IfOk result (λ new. IsTrue (list_all (notes_of_expression Q.allows_type Q.allows_call) (map (expression Q.Phase) new.items))) }
-{
-    let mut made = Vec::new(alloc);
-    for expr in exprs {
-        let new = map_expr(alloc, expr, turn)?;
-        made.push(new)?;
-    }
-    Ok(made)
-}
-
-#[cycle(map_expression)]
-fn map_argument<P: Phase, Q: Phase, F: Turn<P, Q>>(
-    alloc: Global,
-    argument: Argument<P>,
+    of: &Argument<P>,
     turn: &mut F,
 ) -> Result<Argument<Q>, Memory>
-    ensures same { IfOk result (λ new. plain_arguments Q.name_bytes (argument_all Q.Phase (new ∷ [])) ≡ plain_arguments P.name_bytes (argument_all P.Phase (argument ∷ []))) }
-    ensures notes { IfOk result (λ new. IsTrue (notes_of_expression Q.allows_type Q.allows_call (expression Q.Phase new.value))) }
+    ensures label { IfOk result (λ new.
+        placed (marked Q.Phase) new.label ≡ placed (wanted P.Phase) of.now.label) }
+    ensures value { IfOk result (λ new.
+        expression (marked Q.Phase) new.value ≡ expression (wanted P.Phase) of.now.value) }
 {
-    let label = map_ident(alloc, argument.label, turn)?;
-    let value = map_expr(alloc, argument.value, turn)?;
+    let label = of.label.turned(alloc, turn)?;
+    let value = turned_expression(alloc, &of.value, turn)?;
     Ok(Argument { label, value })
 }
 
-#[cycle(map_expression)]
-fn map_arguments<P: Phase, Q: Phase, F: Turn<P, Q>>(
+#[cycle(turned_expression)]
+fn turned_expressions<P: Phase, Q: Phase, F: Turn<P, Q>>(
     alloc: Global,
-    arguments: Vec<Argument<P>>,
+    expressions: &Vec<Expr<P>>,
     turn: &mut F,
-) -> Result<Vec<Argument<Q>>, Memory>
-    ensures same { IfOk result (λ new. map (λ a. plain_arguments Q.name_bytes (argument_all Q.Phase (a ∷ []))) new.items ≡ map (λ a. plain_arguments P.name_bytes (argument_all P.Phase (a ∷ []))) arguments.items) }
-    ensures notes { IfOk result (λ new. IsTrue (list_all (λ a. notes_of_expression Q.allows_type Q.allows_call (expression Q.Phase a.value)) new.items)) }
+) -> Result<Vec<Expr<Q>>, Memory>
+    ensures { IfOk result (λ made.
+        expression_all (marked Q.Phase) made.items
+        ≡ expression_all (wanted P.Phase) expressions.now.items) }
 {
     let mut made = Vec::new(alloc);
-    for argument in arguments {
-        let new = map_argument(alloc, argument, turn)?;
+    for one in expressions {
+        let new = turned_expression(alloc, one, turn)?;
         made.push(new)?;
     }
     Ok(made)
 }
 
-#[tactic(auto, using(au_syntax::proofs::ExpressionLemmas::expression_steps, std::proofs::lemmas::Grind::common_steps))]
-fn map_path<P: Phase, Q: Phase, F: Turn<P, Q>>(
+#[cycle(turned_expression)]
+fn turned_arguments<P: Phase, Q: Phase, F: Turn<P, Q>>(
     alloc: Global,
-    site: Site<P>,
-    name: Ident<P>,
-    fields: Vec<Ident<P>>,
+    arguments: &Vec<Argument<P>>,
     turn: &mut F,
-) -> Result<Expr<Q>, Memory>
-    ensures same { IfOk result (λ new. plain_expression Q.name_bytes (expression Q.Phase new) ≡ plain_expression P.name_bytes (expression P.Phase (Expr.Path site name fields))) }
-    ensures notes { IfOk result (λ new. IsTrue (notes_of_expression Q.allows_type Q.allows_call (expression Q.Phase new))) }
+) -> Result<Vec<Argument<Q>>, Memory>
+    ensures { IfOk result (λ made.
+        argument_all (marked Q.Phase) made.items
+        ≡ argument_all (wanted P.Phase) arguments.now.items) }
 {
-    let site = map_site(alloc, site, turn)?;
-    let name = map_ident(alloc, name, turn)?;
-    let fields = map_idents(alloc, fields, turn)?;
-    Ok(Expr::Path(site, name, fields))
-}
-
-#[tactic(auto, using(au_syntax::proofs::ExpressionLemmas::expression_steps, std::proofs::lemmas::Grind::common_steps))]
-fn map_arrow<P: Phase, Q: Phase, F: Turn<P, Q>>(
-    alloc: Global,
-    site: Site<P>,
-    name: Ident<P>,
-    fields: Vec<Ident<P>>,
-    turn: &mut F,
-) -> Result<Expr<Q>, Memory>
-    ensures same { IfOk result (λ new. plain_expression Q.name_bytes (expression Q.Phase new) ≡ plain_expression P.name_bytes (expression P.Phase (Expr.Arrow site name fields))) }
-    ensures notes { IfOk result (λ new. IsTrue (notes_of_expression Q.allows_type Q.allows_call (expression Q.Phase new))) }
-{
-    let site = map_site(alloc, site, turn)?;
-    let name = map_ident(alloc, name, turn)?;
-    let fields = map_idents(alloc, fields, turn)?;
-    Ok(Expr::Arrow(site, name, fields))
-}
-
-#[tactic(auto, using(au_syntax::proofs::ExpressionLemmas::expression_steps, std::proofs::lemmas::Grind::common_steps))]
-fn map_borrow_part<P: Phase, Q: Phase, F: Turn<P, Q>>(
-    alloc: Global,
-    site: Site<P>,
-    name: Ident<P>,
-    fields: Vec<Ident<P>>,
-    turn: &mut F,
-) -> Result<Expr<Q>, Memory>
-    ensures same { IfOk result (λ new. plain_expression Q.name_bytes (expression Q.Phase new) ≡ plain_expression P.name_bytes (expression P.Phase (Expr.BorrowPart site name fields))) }
-    ensures notes { IfOk result (λ new. IsTrue (notes_of_expression Q.allows_type Q.allows_call (expression Q.Phase new))) }
-{
-    let site = map_site(alloc, site, turn)?;
-    let name = map_ident(alloc, name, turn)?;
-    let fields = map_idents(alloc, fields, turn)?;
-    Ok(Expr::BorrowPart(site, name, fields))
-}
-
-#[tactic(auto, using(au_syntax::proofs::ExpressionLemmas::expression_steps, std::proofs::lemmas::Grind::common_steps))]
-fn map_borrow<P: Phase, Q: Phase, F: Turn<P, Q>>(
-    alloc: Global,
-    site: Site<P>,
-    mode: BorrowMode,
-    name: Ident<P>,
-    turn: &mut F,
-) -> Result<Expr<Q>, Memory>
-    ensures same { IfOk result (λ new. plain_expression Q.name_bytes (expression Q.Phase new) ≡ plain_expression P.name_bytes (expression P.Phase (Expr.Borrow site mode name))) }
-    ensures notes { IfOk result (λ new. IsTrue (notes_of_expression Q.allows_type Q.allows_call (expression Q.Phase new))) }
-{
-    let site = map_site(alloc, site, turn)?;
-    let name = map_ident(alloc, name, turn)?;
-    Ok(Expr::Borrow(site, mode, name))
+    let mut made = Vec::new(alloc);
+    for one in arguments {
+        let new = turned_argument(alloc, one, turn)?;
+        made.push(new)?;
+    }
+    Ok(made)
 }

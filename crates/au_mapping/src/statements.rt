@@ -1,41 +1,32 @@
 //! Statements of one phase as statements of another.
 
-ghost use Rattle.std.specs.Prelude.{◌≡◌, List, [], ◌∷◌, IfOk, IsTrue, map, ◌&&◌};
-ghost use Rattle.std.specs.List.{list_all};
-ghost use Rattle.au_syntax.specs.Views.{placed, expression, statement, block, branch_all, arm_all};
-ghost use Rattle.au_syntax.specs.Plain.{plain_name, plain_statement, plain_statements, plain_branches, plain_arms};
-ghost use Rattle.au_syntax.specs.Notes.{notes_of_expression, notes_of_statement, notes_of_statements};
+ghost use Rattle.std.specs.Prelude.{◌≡◌, Bool, ℕ, List, IfOk, IsTrue, map};
+ghost use Rattle.au_syntax.specs.Notes.{notes_of_statement, notes_of_statements};
+ghost use Rattle.au_syntax.specs.Plain.{plain_statement, plain_statements};
+ghost use Rattle.au_syntax.specs.Statements.{Statements};
+ghost use Rattle.au_syntax.specs.Views.{placed, bound, expression, statement, block, branch_all, arm_all};
+ghost use Rattle.au_mapping.specs.Words.{marked, wanted};
 
-use crate::expressions::map_boxed;
-use crate::parts::map_binds;
-use crate::turns::{Turn, map_ident, map_idents};
+use crate::parts::{Part, turned_three, turned_two};
+use crate::turns::Turn;
 use au_base::{Memory, Pos};
 use au_syntax::{
-    Access, Arm, Bind, Binding, Block, BorrowMode, BorrowNames, Branch, Expr, Ident, Phase, Stmt,
-    TypeText,
+    Access, Arm, Block, BorrowMode, BorrowNames, Branch, Expr, Ident, Phase, Stmt, TypeText,
 };
 use std::alloc::Global;
 
-/// The same block in another phase.
-///
-/// # Errors
-///
-/// Only for want of memory.
-#[cycle(map_statement)]
-pub fn map_block<P: Phase, Q: Phase, F: Turn<P, Q>>(
-    alloc: Global,
-    body: Block<P>,
-    turn: &mut F,
-) -> Result<Block<Q>, Memory>
-    ensures same { IfOk result (λ new. plain_statements Q.name_bytes (block Q.Phase new) ≡ plain_statements P.name_bytes (block P.Phase body)) }
-    ensures notes { IfOk result (λ new. IsTrue (notes_of_statements Q.allows_type Q.allows_call (block Q.Phase new))) }
-{
-    let mut made = Vec::new(alloc);
-    for stmt in body.statements {
-        let new = map_stmt(alloc, stmt, turn)?;
-        made.push(new)?;
+impl<P: Phase, Q: Phase, F: Turn<P, Q>> Part<Q, F> for Block<P> {
+    type New = Block<Q>;
+
+    ghost Kept = { Statements (List ℕ) Bool Bool };
+
+    ghost old = { block (wanted P.Phase) };
+
+    ghost new = { block (marked Q.Phase) };
+
+    fn turned(&self, alloc: Global, turn: &mut F) -> Result<Block<Q>, Memory> {
+        turned_block(alloc, self, turn)
     }
-    Ok(Block { statements: made })
 }
 
 /// The same statement in another phase.
@@ -43,274 +34,61 @@ pub fn map_block<P: Phase, Q: Phase, F: Turn<P, Q>>(
 /// # Errors
 ///
 /// Only for want of memory.
-#[tactic(auto, using(au_syntax::proofs::StatementLemmas::statement_steps, std::proofs::lemmas::Grind::common_steps))]
-#[cycle(map_statement)]
 pub fn map_stmt<P: Phase, Q: Phase, F: Turn<P, Q>>(
     alloc: Global,
     stmt: Stmt<P>,
     turn: &mut F,
 ) -> Result<Stmt<Q>, Memory>
-    ensures same { IfOk result (λ new. plain_statement Q.name_bytes (statement Q.Phase new) ≡ plain_statement P.name_bytes (statement P.Phase stmt)) }
-    ensures notes { IfOk result (λ new. IsTrue (notes_of_statement Q.allows_type Q.allows_call (statement Q.Phase new))) }
+    ensures same { IfOk result (λ new.
+        plain_statement Q.name_bytes (statement Q.Phase new)
+        ≡ plain_statement P.name_bytes (statement P.Phase stmt)) }
+    ensures notes { IfOk result (λ new.
+        IsTrue (notes_of_statement Q.allows_type Q.allows_call (statement Q.Phase new))) }
 {
-    match stmt {
-        Stmt::Skip(at) => Ok(Stmt::Skip(at)),
-        Stmt::Let(at, binding, name, of, value) => map_let(
-            alloc, at, binding, name, of, value, turn,
-        ),
-        Stmt::Destructure(at, binds, value) => map_destructure(alloc, at, binds, value, turn),
-        Stmt::Assign(at, name, fields, value) => map_assign(alloc, at, name, fields, value, turn),
-        Stmt::AssignThrough(at, name, fields, value) => map_assign_through(
-            alloc, at, name, fields, value, turn,
-        ),
-        Stmt::If(at, branches) => map_if(alloc, at, branches, turn),
-        Stmt::IfElse(at, branches, last) => map_if_else(alloc, at, branches, last, turn),
-        Stmt::Case(at, value, arms) => map_case(alloc, at, value, arms, turn),
-        Stmt::While(at, test, body) => map_while(alloc, at, test, body, turn),
-        Stmt::For(at, name, first, last, body) => map_for(alloc, at, name, first, last, body, turn),
-        Stmt::Borrow(at, access, names, body, end) => {
-            map_borrow(alloc, at, access, names, body, end, turn)
-        }
-        Stmt::BorrowTyped(at, name, of, mode, variable, body, end) => map_borrow_typed(
-            alloc, at, name, of, mode, variable, body, end, turn,
-        ),
-        Stmt::Call(at, call) => Ok(Stmt::Call(at, map_boxed(alloc, call, turn)?)),
-        Stmt::Return(at, value) => Ok(Stmt::Return(at, map_boxed(alloc, value, turn)?)),
-    }
+    let new = turned_statement(alloc, &stmt, turn)?;
+    Ok(new)
 }
 
-#[cycle(map_statement)]
-fn map_branch<P: Phase, Q: Phase, F: Turn<P, Q>>(
+/// The same block in another phase.
+///
+/// # Errors
+///
+/// Only for want of memory.
+pub fn map_block<P: Phase, Q: Phase, F: Turn<P, Q>>(
     alloc: Global,
-    branch: Branch<P>,
-    turn: &mut F,
-) -> Result<Branch<Q>, Memory>
-    ensures same { IfOk result (λ new. plain_branches Q.name_bytes (branch_all Q.Phase (new ∷ [])) ≡ plain_branches P.name_bytes (branch_all P.Phase (branch ∷ []))) }
-    ensures notes { IfOk result (λ new. IsTrue (notes_of_expression Q.allows_type Q.allows_call (expression Q.Phase new.test.value) && notes_of_statements Q.allows_type Q.allows_call (block Q.Phase new.block))) }
-{
-    let test = map_boxed(alloc, branch.test, turn)?;
-    let block = map_block(alloc, branch.block, turn)?;
-    Ok(Branch { test, block })
-}
-
-#[cycle(map_statement)]
-fn map_branches<P: Phase, Q: Phase, F: Turn<P, Q>>(
-    alloc: Global,
-    branches: Vec<Branch<P>>,
-    turn: &mut F,
-) -> Result<Vec<Branch<Q>>, Memory>
-    ensures same { IfOk result (λ new. map (λ b. plain_branches Q.name_bytes (branch_all Q.Phase (b ∷ []))) new.items ≡ map (λ b. plain_branches P.name_bytes (branch_all P.Phase (b ∷ []))) branches.items) }
-    ensures notes { IfOk result (λ new. IsTrue (list_all (λ b. notes_of_expression Q.allows_type Q.allows_call (expression Q.Phase b.test.value) && notes_of_statements Q.allows_type Q.allows_call (block Q.Phase b.block)) new.items)) }
-{
-    let mut made = Vec::new(alloc);
-    for branch in branches {
-        let new = map_branch(alloc, branch, turn)?;
-        made.push(new)?;
-    }
-    Ok(made)
-}
-
-#[cycle(map_statement)]
-fn map_arm<P: Phase, Q: Phase, F: Turn<P, Q>>(
-    alloc: Global,
-    arm: Arm<P>,
-    turn: &mut F,
-) -> Result<Arm<Q>, Memory>
-    ensures same { IfOk result (λ new. plain_arms Q.name_bytes (arm_all Q.Phase (new ∷ [])) ≡ plain_arms P.name_bytes (arm_all P.Phase (arm ∷ []))) }
-    ensures notes { IfOk result (λ new. IsTrue (notes_of_statements Q.allows_type Q.allows_call (block Q.Phase new.block))) }
-{
-    let case = map_ident(alloc, arm.case, turn)?;
-    let binds = map_binds(alloc, arm.binds, turn)?;
-    let block = map_block(alloc, arm.block, turn)?;
-    Ok(Arm {
-        at: arm.at,
-        case,
-        binds,
-        block,
-    })
-}
-
-#[cycle(map_statement)]
-fn map_arms<P: Phase, Q: Phase, F: Turn<P, Q>>(
-    alloc: Global,
-    arms: Vec<Arm<P>>,
-    turn: &mut F,
-) -> Result<Vec<Arm<Q>>, Memory>
-    ensures same { IfOk result (λ new. map (λ a. plain_arms Q.name_bytes (arm_all Q.Phase (a ∷ []))) new.items ≡ map (λ a. plain_arms P.name_bytes (arm_all P.Phase (a ∷ []))) arms.items) }
-    ensures notes { IfOk result (λ new. IsTrue (list_all (λ a. notes_of_statements Q.allows_type Q.allows_call (block Q.Phase a.block)) new.items)) }
-{
-    let mut made = Vec::new(alloc);
-    for arm in arms {
-        let new = map_arm(alloc, arm, turn)?;
-        made.push(new)?;
-    }
-    Ok(made)
-}
-
-#[tactic(auto, using(au_syntax::proofs::StatementLemmas::statement_steps, std::proofs::lemmas::Grind::common_steps))]
-fn map_let<P: Phase, Q: Phase, F: Turn<P, Q>>(
-    alloc: Global,
-    at: Pos,
-    binding: Binding,
-    name: Ident<P>,
-    of: TypeText,
-    value: Box<Expr<P>>,
-    turn: &mut F,
-) -> Result<Stmt<Q>, Memory>
-    ensures same { IfOk result (λ new. plain_statement Q.name_bytes (statement Q.Phase new) ≡ plain_statement P.name_bytes (statement P.Phase (Stmt.Let at binding name of value))) }
-    ensures notes { IfOk result (λ new. IsTrue (notes_of_statement Q.allows_type Q.allows_call (statement Q.Phase new))) }
-{
-    let name = map_ident(alloc, name, turn)?;
-    let value = map_boxed(alloc, value, turn)?;
-    Ok(Stmt::Let(at, binding, name, of, value))
-}
-
-#[tactic(auto, using(au_syntax::proofs::StatementLemmas::statement_steps, std::proofs::lemmas::Grind::common_steps))]
-fn map_destructure<P: Phase, Q: Phase, F: Turn<P, Q>>(
-    alloc: Global,
-    at: Pos,
-    binds: Vec<Bind<P>>,
-    value: Box<Expr<P>>,
-    turn: &mut F,
-) -> Result<Stmt<Q>, Memory>
-    ensures same { IfOk result (λ new. plain_statement Q.name_bytes (statement Q.Phase new) ≡ plain_statement P.name_bytes (statement P.Phase (Stmt.Destructure at binds value))) }
-    ensures notes { IfOk result (λ new. IsTrue (notes_of_statement Q.allows_type Q.allows_call (statement Q.Phase new))) }
-{
-    let binds = map_binds(alloc, binds, turn)?;
-    let value = map_boxed(alloc, value, turn)?;
-    Ok(Stmt::Destructure(at, binds, value))
-}
-
-#[tactic(auto, using(au_syntax::proofs::StatementLemmas::statement_steps, std::proofs::lemmas::Grind::common_steps))]
-fn map_assign<P: Phase, Q: Phase, F: Turn<P, Q>>(
-    alloc: Global,
-    at: Pos,
-    name: Ident<P>,
-    fields: Vec<Ident<P>>,
-    value: Box<Expr<P>>,
-    turn: &mut F,
-) -> Result<Stmt<Q>, Memory>
-    ensures same { IfOk result (λ new. plain_statement Q.name_bytes (statement Q.Phase new) ≡ plain_statement P.name_bytes (statement P.Phase (Stmt.Assign at name fields value))) }
-    ensures notes { IfOk result (λ new. IsTrue (notes_of_statement Q.allows_type Q.allows_call (statement Q.Phase new))) }
-{
-    let name = map_ident(alloc, name, turn)?;
-    let fields = map_idents(alloc, fields, turn)?;
-    let value = map_boxed(alloc, value, turn)?;
-    Ok(Stmt::Assign(at, name, fields, value))
-}
-
-#[tactic(auto, using(au_syntax::proofs::StatementLemmas::statement_steps, std::proofs::lemmas::Grind::common_steps))]
-fn map_assign_through<P: Phase, Q: Phase, F: Turn<P, Q>>(
-    alloc: Global,
-    at: Pos,
-    name: Ident<P>,
-    fields: Vec<Ident<P>>,
-    value: Box<Expr<P>>,
-    turn: &mut F,
-) -> Result<Stmt<Q>, Memory>
-    ensures same { IfOk result (λ new. plain_statement Q.name_bytes (statement Q.Phase new) ≡ plain_statement P.name_bytes (statement P.Phase (Stmt.AssignThrough at name fields value))) }
-    ensures notes { IfOk result (λ new. IsTrue (notes_of_statement Q.allows_type Q.allows_call (statement Q.Phase new))) }
-{
-    let name = map_ident(alloc, name, turn)?;
-    let fields = map_idents(alloc, fields, turn)?;
-    let value = map_boxed(alloc, value, turn)?;
-    Ok(Stmt::AssignThrough(at, name, fields, value))
-}
-
-#[cycle(map_statement)]
-fn map_if<P: Phase, Q: Phase, F: Turn<P, Q>>(
-    alloc: Global,
-    at: Pos,
-    branches: Vec<Branch<P>>,
-    turn: &mut F,
-) -> Result<Stmt<Q>, Memory>
-    ensures same { IfOk result (λ new. plain_statement Q.name_bytes (statement Q.Phase new) ≡ plain_statement P.name_bytes (statement P.Phase (Stmt.If at branches))) }
-    ensures notes { IfOk result (λ new. IsTrue (notes_of_statement Q.allows_type Q.allows_call (statement Q.Phase new))) }
-{
-    let branches = map_branches(alloc, branches, turn)?;
-    Ok(Stmt::If(at, branches))
-}
-
-#[cycle(map_statement)]
-fn map_if_else<P: Phase, Q: Phase, F: Turn<P, Q>>(
-    alloc: Global,
-    at: Pos,
-    branches: Vec<Branch<P>>,
-    last: Block<P>,
-    turn: &mut F,
-) -> Result<Stmt<Q>, Memory>
-    ensures same { IfOk result (λ new. plain_statement Q.name_bytes (statement Q.Phase new) ≡ plain_statement P.name_bytes (statement P.Phase (Stmt.IfElse at branches last))) }
-    ensures notes { IfOk result (λ new. IsTrue (notes_of_statement Q.allows_type Q.allows_call (statement Q.Phase new))) }
-{
-    let branches = map_branches(alloc, branches, turn)?;
-    let last = map_block(alloc, last, turn)?;
-    Ok(Stmt::IfElse(at, branches, last))
-}
-
-#[cycle(map_statement)]
-fn map_case<P: Phase, Q: Phase, F: Turn<P, Q>>(
-    alloc: Global,
-    at: Pos,
-    value: Box<Expr<P>>,
-    arms: Vec<Arm<P>>,
-    turn: &mut F,
-) -> Result<Stmt<Q>, Memory>
-    ensures same { IfOk result (λ new. plain_statement Q.name_bytes (statement Q.Phase new) ≡ plain_statement P.name_bytes (statement P.Phase (Stmt.Case at value arms))) }
-    ensures notes { IfOk result (λ new. IsTrue (notes_of_statement Q.allows_type Q.allows_call (statement Q.Phase new))) }
-{
-    let value = map_boxed(alloc, value, turn)?;
-    let arms = map_arms(alloc, arms, turn)?;
-    Ok(Stmt::Case(at, value, arms))
-}
-
-#[cycle(map_statement)]
-fn map_while<P: Phase, Q: Phase, F: Turn<P, Q>>(
-    alloc: Global,
-    at: Pos,
-    test: Box<Expr<P>>,
     body: Block<P>,
     turn: &mut F,
-) -> Result<Stmt<Q>, Memory>
-    ensures same { IfOk result (λ new. plain_statement Q.name_bytes (statement Q.Phase new) ≡ plain_statement P.name_bytes (statement P.Phase (Stmt.While at test body))) }
-    ensures notes { IfOk result (λ new. IsTrue (notes_of_statement Q.allows_type Q.allows_call (statement Q.Phase new))) }
+) -> Result<Block<Q>, Memory>
+    ensures same { IfOk result (λ new.
+        plain_statements Q.name_bytes (block Q.Phase new)
+        ≡ plain_statements P.name_bytes (block P.Phase body)) }
+    ensures notes { IfOk result (λ new.
+        IsTrue (notes_of_statements Q.allows_type Q.allows_call (block Q.Phase new))) }
 {
-    let test = map_boxed(alloc, test, turn)?;
-    let body = map_block(alloc, body, turn)?;
-    Ok(Stmt::While(at, test, body))
+    let new = turned_block(alloc, &body, turn)?;
+    Ok(new)
 }
 
-#[cycle(map_statement)]
-fn map_for<P: Phase, Q: Phase, F: Turn<P, Q>>(
+/// The three names of a borrowing block.
+fn turned_borrow_names<P: Phase, Q: Phase, F: Turn<P, Q>>(
     alloc: Global,
-    at: Pos,
-    name: Ident<P>,
-    first: Box<Expr<P>>,
-    last: Box<Expr<P>>,
-    body: Block<P>,
-    turn: &mut F,
-) -> Result<Stmt<Q>, Memory>
-    ensures same { IfOk result (λ new. plain_statement Q.name_bytes (statement Q.Phase new) ≡ plain_statement P.name_bytes (statement P.Phase (Stmt.For at name first last body))) }
-    ensures notes { IfOk result (λ new. IsTrue (notes_of_statement Q.allows_type Q.allows_call (statement Q.Phase new))) }
-{
-    let name = map_ident(alloc, name, turn)?;
-    let first = map_boxed(alloc, first, turn)?;
-    let last = map_boxed(alloc, last, turn)?;
-    let body = map_block(alloc, body, turn)?;
-    Ok(Stmt::For(at, name, first, last, body))
-}
-
-fn map_borrow_names<P: Phase, Q: Phase, F: Turn<P, Q>>(
-    alloc: Global,
-    names: BorrowNames<P>,
+    of: &BorrowNames<P>,
     turn: &mut F,
 ) -> Result<BorrowNames<Q>, Memory>
-    ensures variable { IfOk result (λ new. plain_name Q.name_bytes (placed Q.Phase new.variable) ≡ plain_name P.name_bytes (placed P.Phase names.variable)) }
-    ensures reference { IfOk result (λ new. plain_name Q.name_bytes (placed Q.Phase new.reference) ≡ plain_name P.name_bytes (placed P.Phase names.reference)) }
-    ensures region { IfOk result (λ new. plain_name Q.name_bytes (placed Q.Phase new.region) ≡ plain_name P.name_bytes (placed P.Phase names.region)) }
+    ensures variable { IfOk result (λ new.
+        placed (marked Q.Phase) new.variable ≡ placed (wanted P.Phase) of.now.variable) }
+    ensures reference { IfOk result (λ new.
+        placed (marked Q.Phase) new.reference ≡ placed (wanted P.Phase) of.now.reference) }
+    ensures region { IfOk result (λ new.
+        placed (marked Q.Phase) new.region ≡ placed (wanted P.Phase) of.now.region) }
 {
-    let variable = map_ident(alloc, names.variable, turn)?;
-    let reference = map_ident(alloc, names.reference, turn)?;
-    let region = map_ident(alloc, names.region, turn)?;
+    let (variable, reference, region) = turned_three(
+        alloc,
+        &of.variable,
+        &of.reference,
+        &of.region,
+        turn,
+    )?;
     Ok(BorrowNames {
         variable,
         reference,
@@ -318,41 +96,227 @@ fn map_borrow_names<P: Phase, Q: Phase, F: Turn<P, Q>>(
     })
 }
 
-#[cycle(map_statement)]
-fn map_borrow<P: Phase, Q: Phase, F: Turn<P, Q>>(
+/// The statement in the new phase.
+#[cycle(turned_statement)]
+fn turned_statement<P: Phase, Q: Phase, F: Turn<P, Q>>(
     alloc: Global,
+    of: &Stmt<P>,
+    turn: &mut F,
+) -> Result<Stmt<Q>, Memory>
+    ensures { IfOk result (λ new. statement (marked Q.Phase) new ≡ statement (wanted P.Phase) of.now) }
+{
+    match of {
+        Stmt::Skip(at) => Ok(Stmt::Skip(*at)),
+        Stmt::Let(at, binding, name, text, value) => {
+            let (name, text, value) = turned_three(alloc, name, text, value, turn)?;
+            Ok(Stmt::Let(*at, *binding, name, text, value))
+        }
+        Stmt::Destructure(at, binds, value) => {
+            let (binds, value) = turned_two(alloc, binds, value, turn)?;
+            Ok(Stmt::Destructure(*at, binds, value))
+        }
+        Stmt::Assign(at, name, fields, value) => {
+            let (name, fields, value) = turned_three(alloc, name, fields, value, turn)?;
+            Ok(Stmt::Assign(*at, name, fields, value))
+        }
+        Stmt::AssignThrough(at, name, fields, value) => {
+            let (name, fields, value) = turned_three(alloc, name, fields, value, turn)?;
+            Ok(Stmt::AssignThrough(*at, name, fields, value))
+        }
+        Stmt::If(at, branches) => Ok(Stmt::If(*at, turned_branches(alloc, branches, turn)?)),
+        Stmt::IfElse(at, branches, last) => {
+            let branches = turned_branches(alloc, branches, turn)?;
+            Ok(Stmt::IfElse(*at, branches, turned_block(alloc, last, turn)?))
+        }
+        Stmt::Case(at, value, arms) => {
+            let value = value.turned(alloc, turn)?;
+            Ok(Stmt::Case(*at, value, turned_arms(alloc, arms, turn)?))
+        }
+        Stmt::While(at, test, body) => turned_while(alloc, body, *at, test, turn),
+        Stmt::For(at, name, from, to, body) => turned_for(alloc, body, *at, name, from, to, turn),
+        Stmt::Borrow(at, access, names, body, end) => {
+            turned_borrow(alloc, body, *at, *access, names, *end, turn)
+        }
+        Stmt::BorrowTyped(at, name, text, mode, variable, body, end) => {
+            turned_borrow_typed(alloc, body, *at, name, text, *mode, variable, *end, turn)
+        }
+        Stmt::Call(at, call) => Ok(Stmt::Call(*at, call.turned(alloc, turn)?)),
+        Stmt::Return(at, value) => Ok(Stmt::Return(*at, value.turned(alloc, turn)?)),
+    }
+}
+
+/// A loop with a test in the new phase.
+#[cycle(turned_statement)]
+fn turned_while<P: Phase, Q: Phase, F: Turn<P, Q>>(
+    alloc: Global,
+    body: &Block<P>,
+    at: Pos,
+    test: &Box<Expr<P>>,
+    turn: &mut F,
+) -> Result<Stmt<Q>, Memory>
+    ensures { IfOk result (λ new.
+        statement (marked Q.Phase) new
+        ≡ statement (wanted P.Phase) (Stmt.While at test.now body.now)) }
+{
+    let test = test.turned(alloc, turn)?;
+    let body = turned_block(alloc, body, turn)?;
+    Ok(Stmt::While(at, test, body))
+}
+
+/// A loop over numbers in the new phase.
+#[cycle(turned_statement)]
+fn turned_for<P: Phase, Q: Phase, F: Turn<P, Q>>(
+    alloc: Global,
+    body: &Block<P>,
+    at: Pos,
+    name: &Ident<P>,
+    from: &Box<Expr<P>>,
+    to: &Box<Expr<P>>,
+    turn: &mut F,
+) -> Result<Stmt<Q>, Memory>
+    ensures { IfOk result (λ new.
+        statement (marked Q.Phase) new
+        ≡ statement (wanted P.Phase) (Stmt.For at name.now «from».now to.now body.now)) }
+{
+    let (name, from, to) = turned_three(alloc, name, from, to, turn)?;
+    let body = turned_block(alloc, body, turn)?;
+    Ok(Stmt::For(at, name, from, to, body))
+}
+
+/// A borrowing block in the new phase.
+#[cycle(turned_statement)]
+fn turned_borrow<P: Phase, Q: Phase, F: Turn<P, Q>>(
+    alloc: Global,
+    body: &Block<P>,
     at: Pos,
     access: Access,
-    names: BorrowNames<P>,
-    body: Block<P>,
+    names: &BorrowNames<P>,
     end: Pos,
     turn: &mut F,
 ) -> Result<Stmt<Q>, Memory>
-    ensures same { IfOk result (λ new. plain_statement Q.name_bytes (statement Q.Phase new) ≡ plain_statement P.name_bytes (statement P.Phase (Stmt.Borrow at access names body end))) }
-    ensures notes { IfOk result (λ new. IsTrue (notes_of_statement Q.allows_type Q.allows_call (statement Q.Phase new))) }
+    ensures { IfOk result (λ new.
+        statement (marked Q.Phase) new
+        ≡ statement (wanted P.Phase) (Stmt.Borrow at access names.now body.now end)) }
 {
-    let names = map_borrow_names(alloc, names, turn)?;
-    let body = map_block(alloc, body, turn)?;
+    let names = turned_borrow_names(alloc, names, turn)?;
+    let body = turned_block(alloc, body, turn)?;
     Ok(Stmt::Borrow(at, access, names, body, end))
 }
 
-#[cycle(map_statement)]
-fn map_borrow_typed<P: Phase, Q: Phase, F: Turn<P, Q>>(
+/// A borrowing block with a type in the new phase.
+#[cycle(turned_statement)]
+fn turned_borrow_typed<P: Phase, Q: Phase, F: Turn<P, Q>>(
     alloc: Global,
+    body: &Block<P>,
     at: Pos,
-    name: Ident<P>,
-    of: TypeText,
+    name: &Ident<P>,
+    text: &TypeText,
     mode: BorrowMode,
-    variable: Ident<P>,
-    body: Block<P>,
+    variable: &Ident<P>,
     end: Pos,
     turn: &mut F,
 ) -> Result<Stmt<Q>, Memory>
-    ensures same { IfOk result (λ new. plain_statement Q.name_bytes (statement Q.Phase new) ≡ plain_statement P.name_bytes (statement P.Phase (Stmt.BorrowTyped at name of mode variable body end))) }
-    ensures notes { IfOk result (λ new. IsTrue (notes_of_statement Q.allows_type Q.allows_call (statement Q.Phase new))) }
+    ensures { IfOk result (λ new.
+        statement (marked Q.Phase) new
+        ≡ statement (wanted P.Phase)
+        (Stmt.BorrowTyped at name.now text.now mode variable.now body.now end)) }
 {
-    let name = map_ident(alloc, name, turn)?;
-    let variable = map_ident(alloc, variable, turn)?;
-    let body = map_block(alloc, body, turn)?;
-    Ok(Stmt::BorrowTyped(at, name, of, mode, variable, body, end))
+    let (name, text, variable) = turned_three(alloc, name, text, variable, turn)?;
+    let body = turned_block(alloc, body, turn)?;
+    Ok(Stmt::BorrowTyped(at, name, text, mode, variable, body, end))
+}
+
+/// The block in the new phase.
+#[cycle(turned_statement)]
+pub(crate) fn turned_block<P: Phase, Q: Phase, F: Turn<P, Q>>(
+    alloc: Global,
+    of: &Block<P>,
+    turn: &mut F,
+) -> Result<Block<Q>, Memory>
+    ensures { IfOk result (λ new. block (marked Q.Phase) new ≡ block (wanted P.Phase) of.now) }
+{
+    let mut statements = Vec::new(alloc);
+    for one in &of.statements {
+        let new = turned_statement(alloc, one, turn)?;
+        statements.push(new)?;
+    }
+    Ok(Block { statements })
+}
+
+/// A branch in the new phase.
+#[cycle(turned_statement)]
+fn turned_branch<P: Phase, Q: Phase, F: Turn<P, Q>>(
+    alloc: Global,
+    of: &Branch<P>,
+    turn: &mut F,
+) -> Result<Branch<Q>, Memory>
+    ensures test { IfOk result (λ new.
+        expression (marked Q.Phase) new.test.value ≡ expression (wanted P.Phase) of.now.test.value) }
+    ensures block { IfOk result (λ new.
+        block (marked Q.Phase) new.block ≡ block (wanted P.Phase) of.now.block) }
+{
+    let test = of.test.turned(alloc, turn)?;
+    let block = turned_block(alloc, &of.block, turn)?;
+    Ok(Branch { test, block })
+}
+
+/// An arm in the new phase.
+#[cycle(turned_statement)]
+fn turned_arm<P: Phase, Q: Phase, F: Turn<P, Q>>(
+    alloc: Global,
+    of: &Arm<P>,
+    turn: &mut F,
+) -> Result<Arm<Q>, Memory>
+    ensures at { IfOk result (λ new. new.at ≡ of.now.at) }
+    ensures case { IfOk result (λ new.
+        placed (marked Q.Phase) new.case ≡ placed (wanted P.Phase) of.now.case) }
+    ensures binds { IfOk result (λ new.
+        map (bound (marked Q.Phase)) new.binds.items
+        ≡ map (bound (wanted P.Phase)) of.now.binds.items) }
+    ensures block { IfOk result (λ new.
+        block (marked Q.Phase) new.block ≡ block (wanted P.Phase) of.now.block) }
+{
+    let (case, binds) = turned_two(alloc, &of.case, &of.binds, turn)?;
+    let block = turned_block(alloc, &of.block, turn)?;
+    let at = of.at;
+    Ok(Arm {
+        at,
+        case,
+        binds,
+        block,
+    })
+}
+
+#[cycle(turned_statement)]
+fn turned_branches<P: Phase, Q: Phase, F: Turn<P, Q>>(
+    alloc: Global,
+    branches: &Vec<Branch<P>>,
+    turn: &mut F,
+) -> Result<Vec<Branch<Q>>, Memory>
+    ensures { IfOk result (λ made.
+        branch_all (marked Q.Phase) made.items ≡ branch_all (wanted P.Phase) branches.now.items) }
+{
+    let mut made = Vec::new(alloc);
+    for one in branches {
+        let new = turned_branch(alloc, one, turn)?;
+        made.push(new)?;
+    }
+    Ok(made)
+}
+
+#[cycle(turned_statement)]
+fn turned_arms<P: Phase, Q: Phase, F: Turn<P, Q>>(
+    alloc: Global,
+    arms: &Vec<Arm<P>>,
+    turn: &mut F,
+) -> Result<Vec<Arm<Q>>, Memory>
+    ensures { IfOk result (λ made.
+        arm_all (marked Q.Phase) made.items ≡ arm_all (wanted P.Phase) arms.now.items) }
+{
+    let mut made = Vec::new(alloc);
+    for one in arms {
+        let new = turned_arm(alloc, one, turn)?;
+        made.push(new)?;
+    }
+    Ok(made)
 }

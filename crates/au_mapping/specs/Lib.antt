@@ -1,0 +1,3 @@
+pub mod Words
+pub use Rattle.au_syntax.specs.Views
+pub use Rattle.au_syntax.specs.Files
