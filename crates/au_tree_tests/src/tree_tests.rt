@@ -58,10 +58,9 @@ fn nested(alloc: Global) -> Result<Expr<Parsed>, Memory> {
 
 /// A call with a nested number as its argument, which is as deep as a file can have an expression.
 fn call(alloc: Global) -> Result<Expr<Parsed>, Memory> {
-    let argument = nested(alloc)?;
     let name = ident(alloc, b"f")?;
     let mut arguments = Vec::new(alloc);
-    arguments.push(argument)?;
+    arguments.push(nested(alloc)?)?;
     Ok(Expr::Call(site(2), name, arguments, ()))
 }
 
@@ -84,15 +83,18 @@ fn is_counted(expr: &Expr<Counted>, made: u32) -> bool {
     made == 101 && expression_depth(expr) == 100 && is_call(expr)
 }
 
+/// The call, mapped.
+fn mapped(alloc: Global, count: &mut Count) -> Result<Expr<Counted>, Memory> {
+    let old = call(alloc)?;
+    map_expr(alloc, old, count)
+}
+
 /// Whether the call keeps its name, its place, its argument and its depth, and each expression in it has a note,
 /// and the call another one.
 fn call_is_mapped(alloc: Global) -> Result<bool, Memory> {
-    let old = call(alloc)?;
     let mut count = Count { made: 0 };
-    match map_expr::<Parsed, Counted, Count>(alloc, old, &mut count) {
-        Ok(new) => Ok(is_counted(&new, count.made)),
-        Err(fault) => Err(fault),
-    }
+    let new = mapped(alloc, &mut count)?;
+    Ok(is_counted(&new, count.made))
 }
 
 /// Whether a block of as many statements as a file has tokens for keeps them, and none of them has a note.
