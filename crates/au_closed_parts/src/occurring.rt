@@ -52,8 +52,7 @@ fn counts(everywhere: bool, heads: &Heads, at: DeclAt) -> bool
 /// # Errors
 ///
 /// Only for want of memory.
-#[tactic(auto, // by the steps of closed types and of lists
-using(au_closed_types::proofs::ClosedLemmas::closed_steps, std::proofs::lemmas::Grind::common_steps))]
+#[tactic(auto, using(au_closed_types::proofs::ClosedLemmas::closed_steps, std::proofs::lemmas::Grind::common_steps))]
 #[cycle(add_occurring)]
 pub fn add_occurring(
     alloc: Global,
@@ -95,8 +94,7 @@ fn add_copy(alloc: Global, of: &Closed, found: &mut Vec<Closed>) -> Result<(), M
 }
 
 /// Puts those that occur in closed types behind others.
-#[tactic(auto, // by the steps of closed types and of lists
-using(au_closed_types::proofs::ClosedLemmas::closed_steps, std::proofs::lemmas::Grind::common_steps))]
+#[tactic(auto, using(au_closed_types::proofs::ClosedLemmas::closed_steps, std::proofs::lemmas::Grind::common_steps))]
 #[cycle(add_occurring)]
 fn add_all(
     alloc: Global,

@@ -71,9 +71,7 @@ fn is_holder(heads: &Heads, at: DeclAt) -> bool
 }
 
 /// Puts the declared types that are named in a written type, under references too.
-#[tactic(auto, using(au_syntax::proofs::TypeLemmas::type_steps, // of written types
-crate::proofs::NamedLemmas::named_steps, // of what they name
-std::proofs::lemmas::Grind::common_steps))]
+#[tactic(auto, using(au_syntax::proofs::TypeLemmas::type_steps, crate::proofs::NamedLemmas::named_steps, std::proofs::lemmas::Grind::common_steps))]
 #[cycle(push_named)]
 fn push_named(list: &mut Vec<DeclAt>, scope: &Scope, node: &TypeText) -> Result<(), Memory>
     ensures { OnOk result

@@ -111,8 +111,7 @@ pub(crate) fn push_parameters(
 }
 
 /// Puts the lives of the variables that a statement declares for those behind it, which are in scope.
-#[tactic(auto, // by the steps of statements and of lists
-using(au_syntax::proofs::StatementLemmas::statement_steps, std::proofs::lemmas::Grind::common_steps))]
+#[tactic(auto, using(au_syntax::proofs::StatementLemmas::statement_steps, std::proofs::lemmas::Grind::common_steps))]
 pub(crate) fn push_after(
     alloc: Global,
     scope: &Scope,

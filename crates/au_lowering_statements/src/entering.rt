@@ -157,8 +157,7 @@ pub fn declare_noted(
 /// # Errors
 ///
 /// Only for want of memory.
-#[tactic(auto, // by the steps of statements, and that a scope begins with itself
-using(au_syntax::proofs::StatementLemmas::statement_steps, crate::proofs::BlockLemmas::begins_same))]
+#[tactic(auto, using(au_syntax::proofs::StatementLemmas::statement_steps, crate::proofs::BlockLemmas::begins_same))]
 pub fn enter<R: Lookup>(
     alloc: Global,
     lookup: &R,

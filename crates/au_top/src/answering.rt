@@ -18,8 +18,8 @@ use au_refusals::{limit_line, missing_line, refusal_text};
 use std::alloc::Global;
 
 /// The line for words that are no job.
-pub const WORDS_LINE: &[u8] = b"words: run [--entry=M:f] [--steps=N] [--life] PART.. \
-    | compile [--entry=M:f] PART.. | explain PART.. | check PART..\n";
+pub const WORDS_LINE: &[u8] =
+    b"words: run [--entry=M:f] [--steps=N] [--life] PART.. | compile [--entry=M:f] PART.. | explain PART.. | check PART..\n";
 
 /// The line for a program that is checked and accepted.
 const ACCEPTED_LINE: &[u8] = b"accepted\n";
