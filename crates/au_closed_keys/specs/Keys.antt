@@ -1,9 +1,11 @@
 -- The keys of closed types: numbers from which a type is told, whatever stands behind them.
 use Rattle.std.specs.Prelude.{ℕ, List, [], ◌∷◌, ◌++◌}
 use Rattle.au_base.specs.declared.kinds.IntKind.{IntKind}
-use Rattle.au_base.specs.declared.kinds.IntKind.TheVariants.{Nat8, Nat16, Nat32, Nat64, Int8, Int16, Int32, Int64, Index}
+use Rattle.au_base.specs.declared.kinds.IntKind.TheVariants.{Nat8, Nat16, Nat32, Nat64, Int8, Int16, Int32}
+use Rattle.au_base.specs.declared.kinds.IntKind.TheVariants.{Int64, Index}
 use Rattle.au_types.specs.declared.types.DeclAt.{DeclAt}
-use Rattle.au_closed_types.specs.Types.{ClosedType, ClosedTypes, unit, truth, integer, text, named, reads, writes, no_types, types}
+use Rattle.au_closed_types.specs.Types.{ClosedType, ClosedTypes, unit, truth, integer, text, named, reads}
+use Rattle.au_closed_types.specs.Types.{writes, no_types, types}
 
 -- a number for each kind of integers
 abbrev pub kind_key : IntKind → ℕ

@@ -9,7 +9,8 @@ use Rattle.au_matching.specs.Bindings.{Bindings}
 use Rattle.au_matching.specs.Substituted.{EachName, substituted}
 use Rattle.au_closed_types.specs.Closing.{closed}
 use Rattle.au_closed_types.specs.Same.{same}
-use Rattle.au_closed_types.specs.Types.{ClosedType, ClosedTypes, unit, truth, integer, text, named, reads, writes, no_types, types}
+use Rattle.au_closed_types.specs.Types.{ClosedType, ClosedTypes, unit, truth, integer, text, named, reads}
+use Rattle.au_closed_types.specs.Types.{writes, no_types, types}
 
 -- type parameters by their names, each with the closed type that is given for it
 abbrev pub Given : Type 0

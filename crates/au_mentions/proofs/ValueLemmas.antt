@@ -1,6 +1,5 @@
 -- The names in the types that are written in an expression of the code, variant by variant, and in a list of
--- them. The
--- definitions are opaque; these equations stand for them.
+-- them. The definitions are opaque; these equations stand for them.
 use Rattle.std.proofs.Common.{◌≡◌, ℕ, ◌+◌, ◌<◌, Bool, List, [], ◌∷◌, ◌++◌, length, take, get_or, Vec, refl}
 use Rattle.std.proofs.Common.{sym, ap, ◌∙◌, append_assoc}
 use Rattle.std.specs.Global.{Global}

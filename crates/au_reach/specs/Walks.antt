@@ -64,9 +64,8 @@ module _ {A W : Type 0} (same : A → A → Bool) (over : A → Option W) (full 
     listed starts = on_ok (adds_within [] starts) (λ ks. walk (suc most) ks 0)
 
     -- A list is how the list of what is reached begins, and an element comes next: the list has the starts,
-    -- and
-    -- what follows some of its own first elements, in order and each once, up to that element, which is new.
-    -- It has nothing that isn't reached.
+    -- and what follows some of its own first elements, in order and each once, up to that element, which is
+    -- new. It has nothing that isn't reached.
     pub record Begins (starts ks : List A) (x : A) : Type 0 where
       pub looked : List A
       pub later : List A

@@ -1,4 +1,5 @@
--- The law of declarations, for those above; and what is found wrong with declarations is never want of memory.
+-- The law of declarations, for those above; and what is found wrong with declarations is never want of
+-- memory.
 use Rattle.std.proofs.Common.{◌≡◌, Bool, true, false, List, [], ◌∷◌, Option, Some, None}
 use Rattle.std.specs.Option.{option_map, option_or}
 use Rattle.au_syntax.specs.Plain.{PlainDeclaration}

@@ -40,8 +40,7 @@ pub fn is_well_formed(heads: &Heads, scope: &Params, of: &Ty) -> bool
 }
 
 /// Whether a parameter of this universe takes an argument, over these rows and type parameters: `Free` takes
-/// a
-/// Free type, `Linear` a Linear one, `Type` any type, and a region parameter a region.
+/// a Free type, `Linear` a Linear one, `Type` any type, and a region parameter a region.
 ///
 /// It takes no memory.
 pub fn fits(heads: &Heads, scope: &Params, wanted: Universe, one: &Arg) -> bool

@@ -18,8 +18,7 @@ use au_types::{Arg, DeclAt, Heads, Params, Ty, universe_in};
 /// universe that they are declared in; one that is declared `Type` is judged by its arguments.
 ///
 /// It takes no memory and looks at each part of the type at most once. Asked of every part of a type, it
-/// looks
-/// at a part once for each level above it, of which a written type has at most 24.
+/// looks at a part once for each level above it, of which a written type has at most 24.
 pub fn universe_of(heads: &Heads, scope: &Params, of: &Ty) -> TypeUniverse
     ensures { result ≡ universes.universe_of heads.now scope.now (meaning of.now) }
 {

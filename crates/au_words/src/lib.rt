@@ -1,8 +1,7 @@
 //! From the words of a command line to the job that they ask for.
 //!
 //! `specs/Jobs.antt` says what the jobs are and how words spell them, `read_words` reads them by `clap`, and
-//! `laws`
-//! says that words ask for one job at most.
+//! `laws` says that words ask for one job at most.
 #![tactic(auto)]
 
 mod counts;
