@@ -23,7 +23,7 @@ use Rattle.au_syntax.specs.declared.declarations.Decl.TheVariants as decl
 use Rattle.au_syntax.specs.Statements.{destructure, conditional_else, while_loop, for_loop, borrow_in}
 use Rattle.au_syntax.specs.Statements.{borrow_typed, no_branches, branches, no_arms, arms}
 use Rattle.au_syntax.specs.Modules.{function_body}
-use Rattle.au_syntax.specs.Views.{written, placed, bound, expression, statement, block, branch_all, arm_all}
+use Rattle.au_syntax.specs.Views.{written, placed, bound, expression, statement, block, branch_all}
 use Rattle.au_syntax.specs.Views.{constrained, header, declaration}
 use Rattle.au_syntax.proofs.StatementLemmas.{one_branch, one_arm, if_else_says, while_says}
 use Rattle.au_syntax.proofs.StatementLemmas.{skip_says, destructure_says, for_says, borrow_says}
