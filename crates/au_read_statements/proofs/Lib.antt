@@ -10,3 +10,4 @@ pub mod ConditionalRow
 pub mod StatementLaws
 pub mod CodeLists
 pub mod CodeBorrows
+pub mod BlockHeads

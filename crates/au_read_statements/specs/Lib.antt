@@ -1,2 +1,3 @@
 pub mod StatementReading
 pub mod Seen
+pub mod BlockHeads

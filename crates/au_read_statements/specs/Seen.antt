@@ -11,9 +11,15 @@ use Rattle.au_syntax.specs.Views.{placed, bound, expression, block}
 use Rattle.au_read_statements.specs.StatementReading.{ArmParts}
 
 -- a branch
-abbrev pub branch_seen : {X N T C : Type 0} (g : Ghosts X N T C) → Branch X N T C → Expression g.SeenName g.SeenType g.SeenCall × Statements g.SeenName g.SeenType g.SeenCall
+abbrev pub branch_seen : {X N T C : Type 0} (g : Ghosts X N T C) → Branch X N T C
+    → Expression g.SeenName g.SeenType g.SeenCall × Statements g.SeenName g.SeenType g.SeenCall
 branch_seen g b = (expression g b.test.value, block g b.block)
 
 -- an arm
 abbrev pub arm_seen : Arm Parsed (List ℕ) (Unit {0}) (Unit {0}) → ArmParts
-arm_seen a = record { at = a.at; name = placed parsed a.case; binds = map (bound parsed) a.binds.items; block = block parsed a.block }
+arm_seen a = record {
+  at = a.at;
+  name = placed parsed a.case;
+  binds = map (bound parsed) a.binds.items;
+  block = block parsed a.block;
+}

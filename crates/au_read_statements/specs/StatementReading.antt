@@ -1,10 +1,17 @@
 -- Reading statements and blocks.
-use Rattle.std.specs.Prelude.{ℕ, suc, Bool, true, false, not, ◌&&◌, List, [], ◌∷◌, Option, Some, None, Ok, Err, length, drop, cond}
+use Rattle.std.specs.Prelude.{ℕ, suc, Bool, true, false, not, ◌&&◌, List, [], ◌∷◌, Option, Some, None, Ok}
+use Rattle.std.specs.Prelude.{Err, length, drop, cond}
 use Prim.Native.Nat.{zero}
 use Rattle.au_base.specs.declared.places.Pos.{Pos}
 use Rattle.au_base.specs.declared.tokens.Keyword.{Keyword}
-use Rattle.au_base.specs.declared.tokens.Keyword.TheVariants.{KwSkip, KwLet, KwVar, KwIf, KwThen, KwElse, KwCase, KwOf, KwWhen, KwDo, KwWhile, KwFor, KwFrom, KwTo, KwBorrow, KwAs, KwIn, KwReturn, KwEnd}
-use Rattle.au_base.specs.declared.tokens.Sign.TheVariants.{Assign, Arrow, WriteBorrow, Reborrow, LeftParenthesis, RightParenthesis, LeftBrace, RightBrace, Semicolon, Colon, ReadBorrow, Exclamation}
+use Rattle.au_base.specs.declared.tokens.Keyword.TheVariants.{KwSkip, KwLet, KwVar, KwIf, KwThen, KwElse}
+use Rattle.au_base.specs.declared.tokens.Keyword.TheVariants.{KwCase, KwOf, KwWhen, KwDo, KwWhile, KwFor}
+use Rattle.au_base.specs.declared.tokens.Keyword.TheVariants.{KwFrom, KwTo, KwBorrow, KwAs, KwIn, KwReturn}
+use Rattle.au_base.specs.declared.tokens.Keyword.TheVariants.{KwEnd}
+use Rattle.au_base.specs.declared.tokens.Sign.TheVariants.{Assign, Arrow, WriteBorrow, Reborrow}
+use Rattle.au_base.specs.declared.tokens.Sign.TheVariants.{LeftParenthesis, RightParenthesis, LeftBrace}
+use Rattle.au_base.specs.declared.tokens.Sign.TheVariants.{RightBrace, Semicolon, Colon, ReadBorrow}
+use Rattle.au_base.specs.declared.tokens.Sign.TheVariants.{Exclamation}
 use Rattle.au_base.specs.declared.tokens.Token.{Token}
 use Rattle.au_base.specs.declared.tokens.What.{What}
 use Rattle.au_base.specs.declared.tokens.What.TheVariants.{Word, Sign, Name}
@@ -15,12 +22,18 @@ use Rattle.au_syntax.specs.declared.statements.Binding.TheVariants.{Let, Var}
 use Rattle.au_syntax.specs.declared.types.Access.{Access}
 use Rattle.au_syntax.specs.declared.types.Access.TheVariants as access
 use Rattle.au_syntax.specs.Names.{Placed, Renaming}
-use Rattle.au_syntax.specs.Plain.{Bytes, PlainExpression, PlainStatement, PlainStatements, PlainBranches, PlainArms}
-use Rattle.au_syntax.specs.Statements.{skip, declare, destructure, assign, assign_through, conditional, conditional_else, case_of, while_loop, for_loop, borrow_in, borrow_typed, discard, return_of, no_statements, statements, no_branches, branches, no_arms, arms}
+use Rattle.au_syntax.specs.Plain.{Bytes, PlainExpression, PlainStatement, PlainStatements, PlainBranches}
+use Rattle.au_syntax.specs.Plain.{PlainArms}
+use Rattle.au_syntax.specs.Statements.{skip, declare, destructure, assign, assign_through, conditional}
+use Rattle.au_syntax.specs.Statements.{conditional_else, case_of, while_loop, for_loop, borrow_in}
+use Rattle.au_syntax.specs.Statements.{borrow_typed, discard, return_of, no_statements, statements}
+use Rattle.au_syntax.specs.Statements.{no_branches, branches, no_arms, arms}
 use Rattle.au_syntax.specs.Types.{WrittenType, Bound}
 use Rattle.au_reading.specs.declared.faults.Fault.TheVariants.{Passed}
 use Rattle.au_reading.specs.Bounds.{Bounds, nesting_limit}
-use Rattle.au_reading.specs.Reading.{Read, ◌>>=◌, front, is_front, begins_with, no, value_at, name_at, exactly, behind, closed, pair, shaped, built, before_all, repeated, listed, bracketed, optional, fields_at}
+use Rattle.au_reading.specs.Reading.{Read, ◌>>=◌, front, is_front, begins_with, no, value_at, name_at}
+use Rattle.au_reading.specs.Reading.{exactly, behind, closed, pair, shaped, built, before_all, repeated}
+use Rattle.au_reading.specs.Reading.{listed, bracketed, optional, fields_at}
 use Rattle.au_read_types.specs.TypeReading.{type_at}
 use Rattle.au_read_expressions.specs.ExpressionReading.{arrow_parts, expression_at, call_at}
 
@@ -119,11 +132,13 @@ assign_of at x = assign at x.0.0 x.0.1 x.1
 abbrev pub assign_through_of : Pos → (Placed Bytes × List (Placed Bytes)) × PlainExpression → PlainStatement
 assign_through_of at x = assign_through at x.0.0 x.0.1 x.1
 
-abbrev pub conditional_by : Pos → List (PlainExpression × PlainStatements) → Option PlainStatements → PlainStatement
+abbrev pub conditional_by : Pos → List (PlainExpression × PlainStatements) → Option PlainStatements
+    → PlainStatement
 conditional_by at tests None = conditional at (branches_of tests)
 conditional_by at tests (Some block) = conditional_else at (branches_of tests) block
 
-abbrev pub conditional_of : Pos → List (PlainExpression × PlainStatements) × Option PlainStatements → PlainStatement
+abbrev pub conditional_of : Pos → List (PlainExpression × PlainStatements) × Option PlainStatements
+    → PlainStatement
 conditional_of at x = conditional_by at x.0 x.1
 
 abbrev pub case_of_parts : Pos → PlainExpression × List ArmParts → PlainStatement
@@ -132,13 +147,16 @@ case_of_parts at x = case_of at x.0 (arms_of x.1)
 abbrev pub while_of : Pos → PlainExpression × PlainStatements → PlainStatement
 while_of at x = while_loop at x.0 x.1
 
-abbrev pub for_of : Pos → Placed Bytes × (PlainExpression × (PlainExpression × PlainStatements)) → PlainStatement
+abbrev pub for_of : Pos → Placed Bytes × (PlainExpression × (PlainExpression × PlainStatements))
+    → PlainStatement
 for_of at x = for_loop at x.0 x.1.0 x.1.1.0 x.1.1.1
 
-abbrev pub borrow_in_of : Access → Pos → Placed Bytes × (Placed Bytes × (Placed Bytes × (PlainStatements × Pos))) → PlainStatement
+abbrev pub borrow_in_of : Access → Pos
+    → Placed Bytes × (Placed Bytes × (Placed Bytes × (PlainStatements × Pos))) → PlainStatement
 borrow_in_of access at x = borrow_in at access x.0 x.1.0 x.1.1.0 x.1.1.1.0 x.1.1.1.1
 
-abbrev pub borrow_typed_of : Pos → Placed Bytes × (WrittenType × (BorrowMode × (Placed Bytes × (PlainStatements × Pos)))) → PlainStatement
+abbrev pub borrow_typed_of : Pos
+    → Placed Bytes × (WrittenType × (BorrowMode × (Placed Bytes × (PlainStatements × Pos)))) → PlainStatement
 borrow_typed_of at x = borrow_typed at x.0 x.1.0 x.1.1.0 x.1.1.1.0 x.1.1.1.1.0 x.1.1.1.1.1
 
 abbrev pub discard_of : Pos → PlainExpression → PlainStatement
@@ -154,33 +172,43 @@ abbrev pub else_if : List Token → Bool
 else_if tokens = begins_with (Word KwElse) tokens && begins_with (Word KwIf) (drop 1 tokens)
 
 -- `inner` reads the expressions inside, `calls` a call, and `blocks` the blocks inside
-module _ (b : Bounds) (inner calls : List Token → Read PlainExpression) (blocks : List Token → Read PlainStatements) where
+module _ (b : Bounds) (inner calls : List Token → Read PlainExpression)
+    (blocks : List Token → Read PlainStatements) where
   -- `let NAME: TYPE := EXPRESSION;`
   unfoldable pub declare_with : Keyword → Binding → List Token → Read PlainStatement
   declare_with word binding =
       built (declare_of binding)
-      (behind (Word word ∷ []) (pair name_at (behind (Sign Colon ∷ []) (pair (type_at b) (behind (Sign Assign ∷ []) (closed (Sign Semicolon ∷ []) inner))))))
+      (behind (Word word ∷ [])
+      (pair name_at (behind (Sign Colon ∷ [])
+      (pair (type_at b) (behind (Sign Assign ∷ []) (closed (Sign Semicolon ∷ []) inner))))))
 
   -- `let { .. } := EXPRESSION;`
   unfoldable pub destructure_with : List Token → Read PlainStatement
   destructure_with =
       built destructure_of
-      (behind (Word KwLet ∷ Sign LeftBrace ∷ []) (pair (listed (bound_at b)) (behind (Sign RightBrace ∷ Sign Assign ∷ []) (closed (Sign Semicolon ∷ []) inner))))
+      (behind (Word KwLet ∷ Sign LeftBrace ∷ [])
+      (pair (listed (bound_at b))
+      (behind (Sign RightBrace ∷ Sign Assign ∷ []) (closed (Sign Semicolon ∷ []) inner))))
 
   -- `NAME.FIELD := EXPRESSION;`
   unfoldable pub assign_with : List Token → Read PlainStatement
-  assign_with = built assign_of (pair (pair name_at fields_at) (behind (Sign Assign ∷ []) (closed (Sign Semicolon ∷ []) inner)))
+  assign_with =
+      built assign_of (pair (pair name_at fields_at)
+      (behind (Sign Assign ∷ []) (closed (Sign Semicolon ∷ []) inner)))
 
   -- `NAME->FIELD := EXPRESSION;`
   unfoldable pub assign_through_with : List Token → Read PlainStatement
-  assign_through_with = built assign_through_of (pair arrow_parts (behind (Sign Assign ∷ []) (closed (Sign Semicolon ∷ []) inner)))
+  assign_through_with =
+      built assign_through_of
+      (pair arrow_parts (behind (Sign Assign ∷ []) (closed (Sign Semicolon ∷ []) inner)))
 
   -- `if EXPRESSION then BLOCK`
   unfoldable pub branch_with : List Token → Read (PlainExpression × PlainStatements)
   branch_with = behind (Word KwIf ∷ []) (pair inner (behind (Word KwThen ∷ []) blocks))
 
   -- Branches with `else` between, as long as `else if` follows. The number bounds how many there may be.
-  abbrev pub after_branch : (List Token → Read (List (PlainExpression × PlainStatements))) → (PlainExpression × PlainStatements) × List Token → Read (List (PlainExpression × PlainStatements))
+  abbrev pub after_branch : (List Token → Read (List (PlainExpression × PlainStatements)))
+      → (PlainExpression × PlainStatements) × List Token → Read (List (PlainExpression × PlainStatements))
   after_branch others x = cond (else_if x.1) (others (drop 1 x.1) >>= before_all x.0) (Ok (x.0 ∷ [], x.1))
 
   abbrev pub branches_within : ℕ → List Token → Read (List (PlainExpression × PlainStatements))
@@ -192,11 +220,16 @@ module _ (b : Bounds) (inner calls : List Token → Read PlainExpression) (block
 
   -- `if .. end if;`, with an `else` block or without
   unfoldable pub conditional_with : List Token → Read PlainStatement
-  conditional_with = built conditional_of (closed (Word KwEnd ∷ Word KwIf ∷ Sign Semicolon ∷ []) (pair branches_with (optional (Word KwElse) blocks)))
+  conditional_with =
+      built conditional_of (closed (Word KwEnd ∷ Word KwIf ∷ Sign Semicolon ∷ [])
+      (pair branches_with (optional (Word KwElse) blocks)))
 
   -- `when NAME(..) do BLOCK`
   unfoldable pub arm_with : List Token → Read ArmParts
-  arm_with = built arm_of (behind (Word KwWhen ∷ []) (pair name_at (pair (bracketed LeftParenthesis RightParenthesis (bound_at b)) (behind (Word KwDo ∷ []) blocks))))
+  arm_with =
+      built arm_of (behind (Word KwWhen ∷ [])
+      (pair name_at (pair (bracketed LeftParenthesis RightParenthesis (bound_at b))
+      (behind (Word KwDo ∷ []) blocks))))
 
   unfoldable pub arms_with : List Token → Read (List ArmParts)
   arms_with = repeated (is_front (Word KwWhen)) arm_with
@@ -205,36 +238,48 @@ module _ (b : Bounds) (inner calls : List Token → Read PlainExpression) (block
   unfoldable pub case_with : List Token → Read PlainStatement
   case_with =
       built case_of_parts
-      (behind (Word KwCase ∷ []) (pair inner (behind (Word KwOf ∷ []) (closed (Word KwEnd ∷ Word KwCase ∷ Sign Semicolon ∷ []) arms_with))))
+      (behind (Word KwCase ∷ [])
+      (pair inner (behind (Word KwOf ∷ [])
+      (closed (Word KwEnd ∷ Word KwCase ∷ Sign Semicolon ∷ []) arms_with))))
 
   -- `while EXPRESSION do BLOCK end while;`
   unfoldable pub while_with : List Token → Read PlainStatement
   while_with =
       built while_of
-      (behind (Word KwWhile ∷ []) (pair inner (behind (Word KwDo ∷ []) (closed (Word KwEnd ∷ Word KwWhile ∷ Sign Semicolon ∷ []) blocks))))
+      (behind (Word KwWhile ∷ [])
+      (pair inner (behind (Word KwDo ∷ [])
+      (closed (Word KwEnd ∷ Word KwWhile ∷ Sign Semicolon ∷ []) blocks))))
 
   -- `for NAME from EXPRESSION to EXPRESSION do BLOCK end for;`
   unfoldable pub for_with : List Token → Read PlainStatement
   for_with =
       built for_of
       (behind (Word KwFor ∷ [])
-      (pair name_at (behind (Word KwFrom ∷ []) (pair inner (behind (Word KwTo ∷ []) (pair inner (behind (Word KwDo ∷ []) (closed (Word KwEnd ∷ Word KwFor ∷ Sign Semicolon ∷ []) blocks))))))))
+      (pair name_at (behind (Word KwFrom ∷ [])
+      (pair inner (behind (Word KwTo ∷ [])
+      (pair inner (behind (Word KwDo ∷ [])
+      (closed (Word KwEnd ∷ Word KwFor ∷ Sign Semicolon ∷ []) blocks))))))))
 
   -- a block of a borrow, and the place of its `end`
   unfoldable pub borrowed_block : List Token → Read (PlainStatements × Pos)
-  borrowed_block = behind (Word KwDo ∷ []) (pair blocks (closed (Word KwBorrow ∷ Sign Semicolon ∷ []) end_place))
+  borrowed_block =
+      behind (Word KwDo ∷ []) (pair blocks (closed (Word KwBorrow ∷ Sign Semicolon ∷ []) end_place))
 
   -- `borrow NAME as NAME in NAME do BLOCK end borrow;`, or with `borrow!`
   unfoldable pub borrow_in_with : Access → List Token → Read PlainStatement
   borrow_in_with access =
       built (borrow_in_of access)
-      (behind (borrow_whats access) (pair name_at (behind (Word KwAs ∷ []) (pair name_at (behind (Word KwIn ∷ []) (pair name_at borrowed_block))))))
+      (behind (borrow_whats access)
+      (pair name_at (behind (Word KwAs ∷ [])
+      (pair name_at (behind (Word KwIn ∷ []) (pair name_at borrowed_block))))))
 
   -- `borrow NAME: TYPE := &NAME do BLOCK end borrow;`
   unfoldable pub borrow_typed_with : List Token → Read PlainStatement
   borrow_typed_with =
       built borrow_typed_of
-      (behind (Word KwBorrow ∷ []) (pair name_at (behind (Sign Colon ∷ []) (pair (type_at b) (behind (Sign Assign ∷ []) (pair mode_at (pair name_at borrowed_block)))))))
+      (behind (Word KwBorrow ∷ [])
+      (pair name_at (behind (Sign Colon ∷ [])
+      (pair (type_at b) (behind (Sign Assign ∷ []) (pair mode_at (pair name_at borrowed_block)))))))
 
   -- `CALL;`
   unfoldable pub discard_with : List Token → Read PlainStatement
@@ -274,7 +319,8 @@ module _ (b : Bounds) (inner calls : List Token → Read PlainExpression) (block
   statement_by (Some (Word KwCase)) tokens = case_with tokens
   statement_by (Some (Word KwWhile)) tokens = while_with tokens
   statement_by (Some (Word KwFor)) tokens = for_with tokens
-  statement_by (Some (Word KwBorrow)) tokens = borrow_by (front (drop 1 tokens)) (front (drop 2 tokens)) tokens
+  statement_by (Some (Word KwBorrow)) tokens =
+      borrow_by (front (drop 1 tokens)) (front (drop 2 tokens)) tokens
   statement_by (Some (Word KwReturn)) tokens = return_with tokens
   statement_by (Some (Name bytes)) tokens = named_by (front (drop 1 tokens)) tokens
   statement_by other tokens = no tokens
@@ -289,8 +335,10 @@ block_with one = shaped statements_of (repeated begins_statement one)
 module _ (b : Bounds) where
   -- a statement, with so many levels left
   unfoldable pub statement_at : ℕ → List Token → Read PlainStatement
-  statement_at zero tokens = cond (begins_statement (front tokens)) (Err (Passed (nesting_limit b) (length tokens))) (no tokens)
-  statement_at (suc n) tokens = statement_with b (expression_at b n) (call_at b n) (block_with (statement_at n)) tokens
+  statement_at zero tokens =
+      cond (begins_statement (front tokens)) (Err (Passed (nesting_limit b) (length tokens))) (no tokens)
+  statement_at (suc n) tokens =
+      statement_with b (expression_at b n) (call_at b n) (block_with (statement_at n)) tokens
 
   -- a block, with so many levels left for its statements
   unfoldable pub block_at : ℕ → List Token → Read PlainStatements

@@ -71,7 +71,8 @@ pub(crate) fn too_deep(tokens: &[Token]) -> Stop
 
 /// Reads `end`, this word and `;`.
 pub(crate) fn closing(word: Keyword, tokens: &[Token]) -> Result<&[Token], Stop>
-    ensures { Gives (λ rest. rest.now) result (tokens_at (what.Word keyword.KwEnd ∷ what.Word word ∷ what.Sign sign.Semicolon ∷ []) tokens.now) }
+    ensures { Gives (λ rest. rest.now) result
+        (tokens_at (what.Word keyword.KwEnd ∷ what.Word word ∷ what.Sign sign.Semicolon ∷ []) tokens.now) }
 {
     let known = [
         Expected::Word(Keyword::KwEnd),

@@ -2,6 +2,7 @@
 #![tactic(auto)]
 
 mod first;
+mod heads;
 pub mod parts;
 mod simple;
 pub mod statements;

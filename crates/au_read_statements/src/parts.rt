@@ -1,9 +1,12 @@
 //! Parts of statements.
 
-ghost use Rattle.std.specs.Prelude.{◌≡◌, List, ℕ};
+ghost use Rattle.std.specs.Prelude.{◌≡◌, ◌∷◌, [], List, ℕ};
+ghost use Rattle.au_base.specs.declared.tokens.Sign.TheVariants as sign;
+ghost use Rattle.au_base.specs.declared.tokens.What.TheVariants as what;
 ghost use Rattle.au_read_statements.specs.StatementReading as spec;
 ghost use Rattle.au_reading.specs.Bounds.{usual};
-ghost use Rattle.au_reading.specs.Reading.{Gives};
+ghost use Rattle.au_reading.specs.Reading.{Gives, behind};
+ghost use Rattle.au_read_types.specs.TypeReading.{type_at};
 ghost use Rattle.au_syntax.specs.Names.{Renaming};
 ghost use Rattle.au_syntax.specs.Types.{Bound};
 ghost use Rattle.au_syntax.specs.Views as views;
@@ -11,7 +14,7 @@ ghost use Rattle.au_syntax.specs.Views as views;
 use au_base::{Keyword, Pos, Sign, Token, What};
 use au_read_types::written_type;
 use au_reading::{Expected, Part, Stop, after, expect, is_word, name, place, stop_before};
-use au_syntax::{Bind, BorrowMode, Parsed, Phase, Renamed};
+use au_syntax::{Bind, BorrowMode, Parsed, Phase, Renamed, TypeText};
 use std::alloc::Global;
 
 /// Reads a name, and the name after `as` where that word follows.
@@ -20,7 +23,8 @@ use std::alloc::Global;
 ///
 /// `Fault::Syntax` where a name is missing.
 pub fn renaming(alloc: Global, tokens: &[Token]) -> Result<(Renamed<Parsed>, &[Token]), Stop>
-    ensures { Gives (λ x. (views.renaming ⟦<Parsed as Phase>⟧ x.0, x.1.now)) result (spec.renaming_at tokens.now) }
+    ensures { Gives (λ x. (views.renaming ⟦<Parsed as Phase>⟧ x.0, x.1.now)) result
+        (spec.renaming_at tokens.now) }
 {
     let (first, rest) = name(alloc, tokens)?;
     if !is_word(Keyword::KwAs, rest) {
@@ -32,14 +36,16 @@ pub fn renaming(alloc: Global, tokens: &[Token]) -> Result<(Renamed<Parsed>, &[T
             rest,
         ));
     }
-    let (alias, rest) = name(alloc, after(rest))?;
-    Ok((
-        Renamed {
-            name: first,
-            alias: Some(alias),
-        },
-        rest,
-    ))
+    match name(alloc, after(rest)) {
+        Ok((alias, rest)) => Ok((
+            Renamed {
+                name: first,
+                alias: Some(alias),
+            },
+            rest,
+        )),
+        Err(stop) => Err(stop),
+    }
 }
 
 /// A name in a list, with or without a name after `as`.
@@ -59,14 +65,25 @@ impl Part for RenamingPart {
     }
 }
 
+/// Reads `:` and a type.
+fn type_behind(alloc: Global, tokens: &[Token]) -> Result<(TypeText, &[Token]), Stop>
+    ensures { Gives (λ x. (views.written x.0, x.1.now)) result
+        (behind (what.Sign sign.Colon ∷ []) (type_at usual) tokens.now) }
+{
+    let rest = expect(&[Expected::Sign(Sign::Colon)], tokens)?;
+    written_type(alloc, rest)
+}
+
 /// Reads a field that is bound.
 fn bound(alloc: Global, tokens: &[Token]) -> Result<(Bind<Parsed>, &[Token]), Stop>
-    ensures { Gives (λ x. (views.bound ⟦<Parsed as Phase>⟧ x.0, x.1.now)) result (spec.bound_at usual tokens.now) }
+    ensures { Gives (λ x. (views.bound ⟦<Parsed as Phase>⟧ x.0, x.1.now)) result
+        (spec.bound_at usual tokens.now) }
 {
     let (name, rest) = renaming(alloc, tokens)?;
-    let rest = expect(&[Expected::Sign(Sign::Colon)], rest)?;
-    let (of, rest) = written_type(alloc, rest)?;
-    Ok((Bind { name, of }, rest))
+    match type_behind(alloc, rest) {
+        Ok((of, rest)) => Ok((Bind { name, of }, rest)),
+        Err(stop) => Err(stop),
+    }
 }
 
 /// A field in a list of those that are bound.

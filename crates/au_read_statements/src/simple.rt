@@ -8,7 +8,8 @@ ghost use Rattle.au_read_expressions.specs.ExpressionReading as spelled;
 ghost use Rattle.au_read_statements.specs.StatementReading as spec;
 ghost use Rattle.au_reading.specs.Bounds.{usual};
 ghost use Rattle.au_read_types.specs.TypeReading.{type_at};
-ghost use Rattle.au_reading.specs.Reading.{Gives, behind, built, closed, exactly, front, pair};
+ghost use Rattle.au_reading.specs.Reading.{Gives, behind, built, closed, dotted_at, exactly, fields_at};
+ghost use Rattle.au_reading.specs.Reading.{front, name_at, pair};
 ghost use Rattle.au_syntax.specs.Views as views;
 
 use crate::parts::BoundPart;
@@ -25,7 +26,8 @@ pub(crate) fn boxed(
     levels: u32,
     tokens: &[Token],
 ) -> Result<(Box<Expr<Parsed>>, &[Token]), Stop>
-    ensures { Gives (λ x. (views.expression ⟦<Parsed as Phase>⟧ x.0.value, x.1.now)) result (spelled.expression_at usual levels tokens.now) }
+    ensures { Gives (λ x. (views.expression ⟦<Parsed as Phase>⟧ x.0.value, x.1.now)) result
+        (spelled.expression_at usual levels tokens.now) }
 {
     let (value, rest) = expression(alloc, levels, tokens)?;
     let value = Box::new(alloc, value)?;
@@ -38,11 +40,14 @@ fn ended(
     levels: u32,
     tokens: &[Token],
 ) -> Result<(Box<Expr<Parsed>>, &[Token]), Stop>
-    ensures { Gives (λ x. (views.expression ⟦<Parsed as Phase>⟧ x.0.value, x.1.now)) result (closed (what.Sign sign.Semicolon ∷ []) (spelled.expression_at usual levels) tokens.now) }
+    ensures { Gives (λ x. (views.expression ⟦<Parsed as Phase>⟧ x.0.value, x.1.now)) result
+        (closed (what.Sign sign.Semicolon ∷ []) (spelled.expression_at usual levels) tokens.now) }
 {
     let (value, rest) = boxed(alloc, levels, tokens)?;
-    let rest = expect(&[Expected::Sign(Sign::Semicolon)], rest)?;
-    Ok((value, rest))
+    match expect(&[Expected::Sign(Sign::Semicolon)], rest) {
+        Ok(rest) => Ok((value, rest)),
+        Err(stop) => Err(stop),
+    }
 }
 
 /// Reads `:=`, an expression and `;`.
@@ -52,7 +57,8 @@ fn assigned(
     tokens: &[Token],
 ) -> Result<(Box<Expr<Parsed>>, &[Token]), Stop>
     ensures { Gives (λ x. (views.expression ⟦<Parsed as Phase>⟧ x.0.value, x.1.now)) result
-        (behind (what.Sign sign.Assign ∷ []) (closed (what.Sign sign.Semicolon ∷ []) (spelled.expression_at usual levels)) tokens.now) }
+        (behind (what.Sign sign.Assign ∷ [])
+        (closed (what.Sign sign.Semicolon ∷ []) (spelled.expression_at usual levels)) tokens.now) }
 {
     let rest = expect(&[Expected::Sign(Sign::Assign)], tokens)?;
     ended(alloc, levels, rest)
@@ -64,14 +70,18 @@ fn typed_value(
     levels: u32,
     tokens: &[Token],
 ) -> Result<(TypeText, Box<Expr<Parsed>>, &[Token]), Stop>
-    ensures { Gives (λ x. ((views.written x.0, views.expression ⟦<Parsed as Phase>⟧ x.1.value), x.2.now)) result
+    ensures { Gives (λ x. ((views.written x.0, views.expression ⟦<Parsed as Phase>⟧ x.1.value), x.2.now))
+        result
         (behind (what.Sign sign.Colon ∷ []) (pair (type_at usual)
-        (behind (what.Sign sign.Assign ∷ []) (closed (what.Sign sign.Semicolon ∷ []) (spelled.expression_at usual levels)))) tokens.now) }
+        (behind (what.Sign sign.Assign ∷ [])
+        (closed (what.Sign sign.Semicolon ∷ []) (spelled.expression_at usual levels)))) tokens.now) }
 {
     let rest = expect(&[Expected::Sign(Sign::Colon)], tokens)?;
     let (of, rest) = written_type(alloc, rest)?;
-    let (value, rest) = assigned(alloc, levels, rest)?;
-    Ok((of, value, rest))
+    match assigned(alloc, levels, rest) {
+        Ok((value, rest)) => Ok((of, value, rest)),
+        Err(stop) => Err(stop),
+    }
 }
 
 /// Reads `skip;`.
@@ -97,12 +107,34 @@ pub(crate) fn declare(
     tokens: &[Token],
 ) -> Result<(Stmt<Parsed>, &[Token]), Stop>
     ensures { Gives (λ x. (views.statement ⟦<Parsed as Phase>⟧ x.0, x.1.now)) result
-        (spec.declare_with usual (spelled.expression_at usual levels) (spelled.call_at usual levels) (spec.block_at usual levels) word binding tokens.now) }
+        (spec.declare_with usual (spelled.expression_at usual levels) (spelled.call_at usual levels)
+        (spec.block_at usual levels) word binding tokens.now) }
 {
     let rest = expect(&[Expected::Word(word)], tokens)?;
     let (variable, rest) = name(alloc, rest)?;
-    let (of, value, rest) = typed_value(alloc, levels, rest)?;
-    Ok((Stmt::Let(place(tokens), binding, variable, of, value), rest))
+    let at = place(tokens);
+    match typed_value(alloc, levels, rest) {
+        Ok((of, value, rest)) => Ok((Stmt::Let(at, binding, variable, of, value), rest)),
+        Err(stop) => Err(stop),
+    }
+}
+
+/// Reads `}`, `:=`, an expression and `;`.
+fn value_of_fields(
+    alloc: Global,
+    levels: u32,
+    tokens: &[Token],
+) -> Result<(Box<Expr<Parsed>>, &[Token]), Stop>
+    ensures { Gives (λ x. (views.expression ⟦<Parsed as Phase>⟧ x.0.value, x.1.now)) result
+        (behind (what.Sign sign.RightBrace ∷ what.Sign sign.Assign ∷ [])
+        (closed (what.Sign sign.Semicolon ∷ []) (spelled.expression_at usual levels)) tokens.now) }
+{
+    let closing = [
+        Expected::Sign(Sign::RightBrace),
+        Expected::Sign(Sign::Assign),
+    ];
+    let rest = expect(&closing, tokens)?;
+    ended(alloc, levels, rest)
 }
 
 /// Reads a declaration of a variable for each field.
@@ -113,7 +145,8 @@ fn destructure(
     tokens: &[Token],
 ) -> Result<(Stmt<Parsed>, &[Token]), Stop>
     ensures { Gives (λ x. (views.statement ⟦<Parsed as Phase>⟧ x.0, x.1.now)) result
-        (spec.destructure_with usual (spelled.expression_at usual levels) (spelled.call_at usual levels) (spec.block_at usual levels) tokens.now) }
+        (spec.destructure_with usual (spelled.expression_at usual levels) (spelled.call_at usual levels)
+        (spec.block_at usual levels) tokens.now) }
 {
     let opening = [
         Expected::Word(Keyword::KwLet),
@@ -121,13 +154,11 @@ fn destructure(
     ];
     let rest = expect(&opening, tokens)?;
     let (binds, rest) = listed::<BoundPart>(alloc, rest)?;
-    let closing = [
-        Expected::Sign(Sign::RightBrace),
-        Expected::Sign(Sign::Assign),
-    ];
-    let rest = expect(&closing, rest)?;
-    let (value, rest) = ended(alloc, levels, rest)?;
-    Ok((Stmt::Destructure(place(tokens), binds, value), rest))
+    let at = place(tokens);
+    match value_of_fields(alloc, levels, rest) {
+        Ok((value, rest)) => Ok((Stmt::Destructure(at, binds, value), rest)),
+        Err(stop) => Err(stop),
+    }
 }
 
 /// Reads what begins with `let`.
@@ -137,7 +168,8 @@ pub(crate) fn let_statement(
     tokens: &[Token],
 ) -> Result<(Stmt<Parsed>, &[Token]), Stop>
     ensures { Gives (λ x. (views.statement ⟦<Parsed as Phase>⟧ x.0, x.1.now)) result
-        (spec.let_by usual (spelled.expression_at usual levels) (spelled.call_at usual levels) (spec.block_at usual levels) (front (drop 1 tokens.now)) tokens.now) }
+        (spec.let_by usual (spelled.expression_at usual levels) (spelled.call_at usual levels)
+        (spec.block_at usual levels) (front (drop 1 tokens.now)) tokens.now) }
 {
     match after(tokens) {
         [] => declare(alloc, levels, Keyword::KwLet, Binding::Let, tokens),
@@ -148,16 +180,60 @@ pub(crate) fn let_statement(
     }
 }
 
+/// Reads a variable and the fields behind it.
+fn path(
+    alloc: Global,
+    tokens: &[Token],
+) -> Result<(Ident<Parsed>, Vec<Ident<Parsed>>, &[Token]), Stop>
+    ensures { Gives (λ x.
+        ((views.placed ⟦<Parsed as Phase>⟧ x.0, map (views.placed ⟦<Parsed as Phase>⟧) x.1.items), x.2.now))
+        result (pair name_at fields_at tokens.now) }
+{
+    let (variable, rest) = name(alloc, tokens)?;
+    match fields(alloc, rest) {
+        Ok((parts, rest)) => Ok((variable, parts, rest)),
+        Err(stop) => Err(stop),
+    }
+}
+
 /// Reads an assignment to a variable or to a part of it.
 #[tactic(auto, unfolding(crate::specs::StatementReading::assign_with))]
 fn assign(alloc: Global, levels: u32, tokens: &[Token]) -> Result<(Stmt<Parsed>, &[Token]), Stop>
     ensures { Gives (λ x. (views.statement ⟦<Parsed as Phase>⟧ x.0, x.1.now)) result
-        (spec.assign_with usual (spelled.expression_at usual levels) (spelled.call_at usual levels) (spec.block_at usual levels) tokens.now) }
+        (spec.assign_with usual (spelled.expression_at usual levels) (spelled.call_at usual levels)
+        (spec.block_at usual levels) tokens.now) }
+{
+    let (variable, parts, rest) = path(alloc, tokens)?;
+    let at = place(tokens);
+    match assigned(alloc, levels, rest) {
+        Ok((value, rest)) => Ok((Stmt::Assign(at, variable, parts, value), rest)),
+        Err(stop) => Err(stop),
+    }
+}
+
+/// Reads `->` and the fields behind it.
+fn arrow_fields(alloc: Global, tokens: &[Token]) -> Result<(Vec<Ident<Parsed>>, &[Token]), Stop>
+    ensures { Gives (λ x. (map (views.placed ⟦<Parsed as Phase>⟧) x.0.items, x.1.now)) result
+        (behind (what.Sign sign.Arrow ∷ []) dotted_at tokens.now) }
+{
+    let rest = expect(&[Expected::Sign(Sign::Arrow)], tokens)?;
+    dotted(alloc, rest)
+}
+
+/// Reads a variable, `->` and the fields behind it.
+fn arrow_path(
+    alloc: Global,
+    tokens: &[Token],
+) -> Result<(Ident<Parsed>, Vec<Ident<Parsed>>, &[Token]), Stop>
+    ensures { Gives (λ x.
+        ((views.placed ⟦<Parsed as Phase>⟧ x.0, map (views.placed ⟦<Parsed as Phase>⟧) x.1.items), x.2.now))
+        result (spelled.arrow_parts tokens.now) }
 {
     let (variable, rest) = name(alloc, tokens)?;
-    let (parts, rest) = fields(alloc, rest)?;
-    let (value, rest) = assigned(alloc, levels, rest)?;
-    Ok((Stmt::Assign(place(tokens), variable, parts, value), rest))
+    match arrow_fields(alloc, rest) {
+        Ok((parts, rest)) => Ok((variable, parts, rest)),
+        Err(stop) => Err(stop),
+    }
 }
 
 /// Reads an assignment to a part behind a reference.
@@ -168,16 +244,15 @@ fn assign_through(
     tokens: &[Token],
 ) -> Result<(Stmt<Parsed>, &[Token]), Stop>
     ensures { Gives (λ x. (views.statement ⟦<Parsed as Phase>⟧ x.0, x.1.now)) result
-        (spec.assign_through_with usual (spelled.expression_at usual levels) (spelled.call_at usual levels) (spec.block_at usual levels) tokens.now) }
+        (spec.assign_through_with usual (spelled.expression_at usual levels) (spelled.call_at usual levels)
+        (spec.block_at usual levels) tokens.now) }
 {
-    let (variable, rest) = name(alloc, tokens)?;
-    let rest = expect(&[Expected::Sign(Sign::Arrow)], rest)?;
-    let (parts, rest) = dotted(alloc, rest)?;
-    let (value, rest) = assigned(alloc, levels, rest)?;
-    Ok((
-        Stmt::AssignThrough(place(tokens), variable, parts, value),
-        rest,
-    ))
+    let (variable, parts, rest) = arrow_path(alloc, tokens)?;
+    let at = place(tokens);
+    match assigned(alloc, levels, rest) {
+        Ok((value, rest)) => Ok((Stmt::AssignThrough(at, variable, parts, value), rest)),
+        Err(stop) => Err(stop),
+    }
 }
 
 /// Reads a call.
@@ -186,7 +261,8 @@ fn boxed_call(
     levels: u32,
     tokens: &[Token],
 ) -> Result<(Box<Expr<Parsed>>, &[Token]), Stop>
-    ensures { Gives (λ x. (views.expression ⟦<Parsed as Phase>⟧ x.0.value, x.1.now)) result (spelled.call_at usual levels tokens.now) }
+    ensures { Gives (λ x. (views.expression ⟦<Parsed as Phase>⟧ x.0.value, x.1.now)) result
+        (spelled.call_at usual levels tokens.now) }
 {
     let (value, rest) = call(alloc, levels, tokens)?;
     let value = Box::new(alloc, value)?;
@@ -197,11 +273,15 @@ fn boxed_call(
 #[tactic(auto, unfolding(crate::specs::StatementReading::discard_with))]
 fn discard(alloc: Global, levels: u32, tokens: &[Token]) -> Result<(Stmt<Parsed>, &[Token]), Stop>
     ensures { Gives (λ x. (views.statement ⟦<Parsed as Phase>⟧ x.0, x.1.now)) result
-        (spec.discard_with usual (spelled.expression_at usual levels) (spelled.call_at usual levels) (spec.block_at usual levels) tokens.now) }
+        (spec.discard_with usual (spelled.expression_at usual levels) (spelled.call_at usual levels)
+        (spec.block_at usual levels) tokens.now) }
 {
     let (value, rest) = boxed_call(alloc, levels, tokens)?;
-    let rest = expect(&[Expected::Sign(Sign::Semicolon)], rest)?;
-    Ok((Stmt::Call(place(tokens), value), rest))
+    let at = place(tokens);
+    match expect(&[Expected::Sign(Sign::Semicolon)], rest) {
+        Ok(rest) => Ok((Stmt::Call(at, value), rest)),
+        Err(stop) => Err(stop),
+    }
 }
 
 /// Reads what begins with a name.
@@ -211,7 +291,8 @@ pub(crate) fn named_statement(
     tokens: &[Token],
 ) -> Result<(Stmt<Parsed>, &[Token]), Stop>
     ensures { Gives (λ x. (views.statement ⟦<Parsed as Phase>⟧ x.0, x.1.now)) result
-        (spec.named_by usual (spelled.expression_at usual levels) (spelled.call_at usual levels) (spec.block_at usual levels) (front (drop 1 tokens.now)) tokens.now) }
+        (spec.named_by usual (spelled.expression_at usual levels) (spelled.call_at usual levels)
+        (spec.block_at usual levels) (front (drop 1 tokens.now)) tokens.now) }
 {
     match after(tokens) {
         [] => assign(alloc, levels, tokens),
@@ -231,7 +312,8 @@ pub(crate) fn return_statement(
     tokens: &[Token],
 ) -> Result<(Stmt<Parsed>, &[Token]), Stop>
     ensures { Gives (λ x. (views.statement ⟦<Parsed as Phase>⟧ x.0, x.1.now)) result
-        (spec.return_with usual (spelled.expression_at usual levels) (spelled.call_at usual levels) (spec.block_at usual levels) tokens.now) }
+        (spec.return_with usual (spelled.expression_at usual levels) (spelled.call_at usual levels)
+        (spec.block_at usual levels) tokens.now) }
 {
     let rest = expect(&[Expected::Word(Keyword::KwReturn)], tokens)?;
     let (value, rest) = ended(alloc, levels, rest)?;

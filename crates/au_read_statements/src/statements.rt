@@ -1,6 +1,7 @@
 //! Statements and blocks.
 
-ghost use Rattle.std.specs.Prelude.{◌≡◌, cond, drop, map};
+ghost use Rattle.std.specs.Prelude.{◌≡◌, ◌∷◌, [], cond, drop, map};
+ghost use Rattle.au_base.specs.declared.tokens.Keyword.TheVariants as keyword;
 ghost use Rattle.au_base.specs.declared.tokens.Sign.TheVariants as sign;
 ghost use Rattle.au_base.specs.declared.tokens.What.TheVariants as what;
 ghost use Rattle.au_read_expressions.specs.ExpressionReading.{call_at, expression_at};
@@ -8,19 +9,16 @@ ghost use Rattle.au_read_statements.specs.Seen.{arm_seen, branch_seen};
 ghost use Rattle.au_read_statements.specs.StatementReading as spec;
 ghost use Rattle.au_read_statements.specs.StatementReading.{block_at};
 ghost use Rattle.au_reading.specs.Bounds.{usual};
-ghost use Rattle.au_reading.specs.Reading.{Gives, begins_with, repeated};
+ghost use Rattle.au_reading.specs.Reading.{Gives, begins_with, closed, repeated};
 ghost use Rattle.au_syntax.specs.Views as views;
 ghost use Rattle.au_syntax.specs.declared.types.Access.TheVariants as access;
 
-use crate::first::{begins, borrowing, closing, else_if, too_deep};
-use crate::parts::{BoundPart, end_place, mode};
-use crate::simple::{boxed, declare, let_statement, named_statement, return_statement, skip};
+use crate::first::{begins, closing, else_if, too_deep};
+use crate::heads::{arm_head, borrow_end, borrow_head, for_head, typed_head, value_between};
+use crate::simple::{declare, let_statement, named_statement, return_statement, skip};
 use au_base::{Keyword, Pos, Sign, Token, What};
-use au_read_types::written_type;
-use au_reading::{
-    Expected, Stop, after, bracketed, expect, is_sign, is_word, name, place, stop_before,
-};
-use au_syntax::{Access, Arm, Binding, Block, BorrowNames, Branch, Parsed, Phase, Stmt};
+use au_reading::{Expected, Stop, after, expect, is_sign, is_word, place, stop_before};
+use au_syntax::{Access, Arm, Binding, Block, Branch, Parsed, Phase, Stmt};
 use std::alloc::Global;
 
 /// Reads a block where so many levels of nesting are left for its statements.
@@ -36,7 +34,8 @@ pub fn block(
     levels: u32,
     tokens: &[Token],
 ) -> Result<(Block<Parsed>, &[Token]), Stop>
-    ensures { Gives (λ x. (views.block ⟦<Parsed as Phase>⟧ x.0, x.1.now)) result (block_at usual levels tokens.now) }
+    ensures { Gives (λ x. (views.block ⟦<Parsed as Phase>⟧ x.0, x.1.now)) result
+        (block_at usual levels tokens.now) }
 {
     let (statements, rest) = several(alloc, levels, tokens)?;
     Ok((Block { statements }, rest))
@@ -49,7 +48,8 @@ fn several(
     levels: u32,
     tokens: &[Token],
 ) -> Result<(Vec<Stmt<Parsed>>, &[Token]), Stop>
-    ensures { Gives (λ x. (map (views.statement ⟦<Parsed as Phase>⟧) x.0.items, x.1.now)) result (repeated spec.begins_statement (spec.statement_at usual levels) tokens.now) }
+    ensures { Gives (λ x. (map (views.statement ⟦<Parsed as Phase>⟧) x.0.items, x.1.now)) result
+        (repeated spec.begins_statement (spec.statement_at usual levels) tokens.now) }
 {
     let mut statements = Vec::new(alloc);
     let mut rest = tokens;
@@ -68,7 +68,8 @@ fn several(
 #[tactic(auto, using(crate::proofs::CodeLists::level_steps))]
 #[cycle(statements)]
 fn statement(alloc: Global, levels: u32, tokens: &[Token]) -> Result<(Stmt<Parsed>, &[Token]), Stop>
-    ensures { Gives (λ x. (views.statement ⟦<Parsed as Phase>⟧ x.0, x.1.now)) result (spec.statement_at usual levels tokens.now) }
+    ensures { Gives (λ x. (views.statement ⟦<Parsed as Phase>⟧ x.0, x.1.now)) result
+        (spec.statement_at usual levels tokens.now) }
 {
     if levels == 0 {
         return Err(too_deep(tokens));
@@ -85,7 +86,8 @@ fn statement_with(
     tokens: &[Token],
 ) -> Result<(Stmt<Parsed>, &[Token]), Stop>
     ensures { Gives (λ x. (views.statement ⟦<Parsed as Phase>⟧ x.0, x.1.now)) result
-        (spec.statement_with usual (expression_at usual levels) (call_at usual levels) (block_at usual levels) tokens.now) }
+        (spec.statement_with usual (expression_at usual levels) (call_at usual levels) (block_at usual levels)
+        tokens.now) }
 {
     match tokens {
         [] => Err(stop_before(tokens)),
@@ -120,7 +122,8 @@ fn conditional(
     tokens: &[Token],
 ) -> Result<(Stmt<Parsed>, &[Token]), Stop>
     ensures { Gives (λ x. (views.statement ⟦<Parsed as Phase>⟧ x.0, x.1.now)) result
-        (spec.conditional_with usual (expression_at usual levels) (call_at usual levels) (block_at usual levels) tokens.now) }
+        (spec.conditional_with usual (expression_at usual levels) (call_at usual levels)
+        (block_at usual levels) tokens.now) }
 {
     let (tests, rest) = branches(alloc, levels, tokens)?;
     if is_word(Keyword::KwElse, rest) {
@@ -141,7 +144,8 @@ fn branches(
     tokens: &[Token],
 ) -> Result<(Vec<Branch<Parsed>>, &[Token]), Stop>
     ensures { Gives (λ x. (map (branch_seen ⟦<Parsed as Phase>⟧) x.0.items, x.1.now)) result
-        (spec.branches_with usual (expression_at usual levels) (call_at usual levels) (block_at usual levels) tokens.now) }
+        (spec.branches_with usual (expression_at usual levels) (call_at usual levels) (block_at usual levels)
+        tokens.now) }
 {
     let mut tests = Vec::new(alloc);
     let mut rest = tokens;
@@ -157,32 +161,71 @@ fn branches(
 }
 
 /// Reads `if`, a test and its block.
-#[tactic(auto, unfolding(crate::specs::StatementReading::branch_with))]
+#[tactic(auto, using(crate::proofs::BlockHeads::branch_said))]
 #[cycle(statements)]
 fn branch(alloc: Global, levels: u32, tokens: &[Token]) -> Result<(Branch<Parsed>, &[Token]), Stop>
     ensures { Gives (λ x. (branch_seen ⟦<Parsed as Phase>⟧ x.0, x.1.now)) result
-        (spec.branch_with usual (expression_at usual levels) (call_at usual levels) (block_at usual levels) tokens.now) }
+        (spec.branch_with usual (expression_at usual levels) (call_at usual levels) (block_at usual levels)
+        tokens.now) }
 {
-    let rest = expect(&[Expected::Word(Keyword::KwIf)], tokens)?;
-    let (test, rest) = boxed(alloc, levels, rest)?;
-    let rest = expect(&[Expected::Word(Keyword::KwThen)], rest)?;
-    let (block, rest) = block(alloc, levels, rest)?;
-    Ok((Branch { test, block }, rest))
+    let (test, rest) = value_between(alloc, levels, Keyword::KwIf, Keyword::KwThen, tokens)?;
+    match block(alloc, levels, rest) {
+        Ok((block, rest)) => Ok((Branch { test, block }, rest)),
+        Err(stop) => Err(stop),
+    }
 }
 
 /// Reads a case and its arms.
-#[tactic(auto, unfolding(crate::specs::StatementReading::case_with))]
+#[tactic(auto, using(crate::proofs::BlockHeads::case_said))]
 #[cycle(statements)]
 fn case(alloc: Global, levels: u32, tokens: &[Token]) -> Result<(Stmt<Parsed>, &[Token]), Stop>
     ensures { Gives (λ x. (views.statement ⟦<Parsed as Phase>⟧ x.0, x.1.now)) result
-        (spec.case_with usual (expression_at usual levels) (call_at usual levels) (block_at usual levels) tokens.now) }
+        (spec.case_with usual (expression_at usual levels) (call_at usual levels) (block_at usual levels)
+        tokens.now) }
 {
-    let rest = expect(&[Expected::Word(Keyword::KwCase)], tokens)?;
-    let (value, rest) = boxed(alloc, levels, rest)?;
-    let rest = expect(&[Expected::Word(Keyword::KwOf)], rest)?;
-    let (cases, rest) = arms(alloc, levels, rest)?;
-    let rest = closing(Keyword::KwCase, rest)?;
-    Ok((Stmt::Case(place(tokens), value, cases), rest))
+    let (value, rest) = value_between(alloc, levels, Keyword::KwCase, Keyword::KwOf, tokens)?;
+    match closed_arms(alloc, levels, rest) {
+        Ok((cases, rest)) => Ok((Stmt::Case(place(tokens), value, cases), rest)),
+        Err(stop) => Err(stop),
+    }
+}
+
+/// Reads arms, and the end of their statement.
+#[cycle(statements)]
+fn closed_arms(
+    alloc: Global,
+    levels: u32,
+    tokens: &[Token],
+) -> Result<(Vec<Arm<Parsed>>, &[Token]), Stop>
+    ensures { Gives (λ x. (map arm_seen x.0.items, x.1.now)) result
+        (closed (what.Word keyword.KwEnd ∷ what.Word keyword.KwCase ∷ what.Sign sign.Semicolon ∷ [])
+        (spec.arms_with usual (expression_at usual levels) (call_at usual levels) (block_at usual levels))
+        tokens.now) }
+{
+    let (cases, rest) = arms(alloc, levels, tokens)?;
+    match closing(Keyword::KwCase, rest) {
+        Ok(rest) => Ok((cases, rest)),
+        Err(stop) => Err(stop),
+    }
+}
+
+/// Reads a block, and the end of its statement.
+#[cycle(statements)]
+fn closed_block(
+    alloc: Global,
+    levels: u32,
+    word: Keyword,
+    tokens: &[Token],
+) -> Result<(Block<Parsed>, &[Token]), Stop>
+    ensures { Gives (λ x. (views.block ⟦<Parsed as Phase>⟧ x.0, x.1.now)) result
+        (closed (what.Word keyword.KwEnd ∷ what.Word word ∷ what.Sign sign.Semicolon ∷ [])
+        (block_at usual levels) tokens.now) }
+{
+    let (block, rest) = block(alloc, levels, tokens)?;
+    match closing(word, rest) {
+        Ok(rest) => Ok((block, rest)),
+        Err(stop) => Err(stop),
+    }
 }
 
 /// Reads arms, as long as `when` follows.
@@ -190,7 +233,8 @@ fn case(alloc: Global, levels: u32, tokens: &[Token]) -> Result<(Stmt<Parsed>, &
 #[cycle(statements)]
 fn arms(alloc: Global, levels: u32, tokens: &[Token]) -> Result<(Vec<Arm<Parsed>>, &[Token]), Stop>
     ensures { Gives (λ x. (map arm_seen x.0.items, x.1.now)) result
-        (spec.arms_with usual (expression_at usual levels) (call_at usual levels) (block_at usual levels) tokens.now) }
+        (spec.arms_with usual (expression_at usual levels) (call_at usual levels) (block_at usual levels)
+        tokens.now) }
 {
     let mut cases = Vec::new(alloc);
     let mut rest = tokens;
@@ -206,36 +250,31 @@ fn arms(alloc: Global, levels: u32, tokens: &[Token]) -> Result<(Vec<Arm<Parsed>
 }
 
 /// Reads an arm.
-#[tactic(auto, unfolding(crate::specs::StatementReading::arm_with))]
+#[tactic(auto, using(crate::proofs::BlockHeads::arm_said))]
 #[cycle(statements)]
 fn arm(alloc: Global, levels: u32, tokens: &[Token]) -> Result<(Arm<Parsed>, &[Token]), Stop>
     ensures { Gives (λ x. (arm_seen x.0, x.1.now)) result
-        (spec.arm_with usual (expression_at usual levels) (call_at usual levels) (block_at usual levels) tokens.now) }
+        (spec.arm_with usual (expression_at usual levels) (call_at usual levels) (block_at usual levels)
+        tokens.now) }
 {
-    let rest = expect(&[Expected::Word(Keyword::KwWhen)], tokens)?;
-    let (case, rest) = name(alloc, rest)?;
-    let (binds, rest) = bracketed::<BoundPart>(
-        alloc,
-        Sign::LeftParenthesis,
-        Sign::RightParenthesis,
-        rest,
-    )?;
-    let inside = expect(&[Expected::Word(Keyword::KwDo)], rest)?;
-    let (block, rest) = block(alloc, levels, inside)?;
+    let (head, rest) = arm_head(alloc, tokens)?;
     let at = place(tokens);
-    Ok((
-        Arm {
-            at,
-            case,
-            binds,
-            block,
-        },
-        rest,
-    ))
+    match block(alloc, levels, rest) {
+        Ok((block, rest)) => Ok((
+            Arm {
+                at,
+                case: head.case,
+                binds: head.binds,
+                block,
+            },
+            rest,
+        )),
+        Err(stop) => Err(stop),
+    }
 }
 
 /// Reads a loop with a test.
-#[tactic(auto, unfolding(crate::specs::StatementReading::while_with))]
+#[tactic(auto, using(crate::proofs::BlockHeads::while_said))]
 #[cycle(statements)]
 fn while_loop(
     alloc: Global,
@@ -243,33 +282,33 @@ fn while_loop(
     tokens: &[Token],
 ) -> Result<(Stmt<Parsed>, &[Token]), Stop>
     ensures { Gives (λ x. (views.statement ⟦<Parsed as Phase>⟧ x.0, x.1.now)) result
-        (spec.while_with usual (expression_at usual levels) (call_at usual levels) (block_at usual levels) tokens.now) }
+        (spec.while_with usual (expression_at usual levels) (call_at usual levels) (block_at usual levels)
+        tokens.now) }
 {
-    let rest = expect(&[Expected::Word(Keyword::KwWhile)], tokens)?;
-    let (test, rest) = boxed(alloc, levels, rest)?;
-    let rest = expect(&[Expected::Word(Keyword::KwDo)], rest)?;
-    let (body, rest) = block(alloc, levels, rest)?;
-    let rest = closing(Keyword::KwWhile, rest)?;
-    Ok((Stmt::While(place(tokens), test, body), rest))
+    let (test, rest) = value_between(alloc, levels, Keyword::KwWhile, Keyword::KwDo, tokens)?;
+    match closed_block(alloc, levels, Keyword::KwWhile, rest) {
+        Ok((body, rest)) => Ok((Stmt::While(place(tokens), test, body), rest)),
+        Err(stop) => Err(stop),
+    }
 }
 
 /// Reads a loop over numbers.
-#[tactic(auto, unfolding(crate::specs::StatementReading::for_with))]
+#[tactic(auto, using(crate::proofs::BlockHeads::for_said))]
 #[cycle(statements)]
 fn for_loop(alloc: Global, levels: u32, tokens: &[Token]) -> Result<(Stmt<Parsed>, &[Token]), Stop>
     ensures { Gives (λ x. (views.statement ⟦<Parsed as Phase>⟧ x.0, x.1.now)) result
-        (spec.for_with usual (expression_at usual levels) (call_at usual levels) (block_at usual levels) tokens.now) }
+        (spec.for_with usual (expression_at usual levels) (call_at usual levels) (block_at usual levels)
+        tokens.now) }
 {
-    let rest = expect(&[Expected::Word(Keyword::KwFor)], tokens)?;
-    let (variable, rest) = name(alloc, rest)?;
-    let rest = expect(&[Expected::Word(Keyword::KwFrom)], rest)?;
-    let (first, rest) = boxed(alloc, levels, rest)?;
-    let rest = expect(&[Expected::Word(Keyword::KwTo)], rest)?;
-    let (last, rest) = boxed(alloc, levels, rest)?;
-    let rest = expect(&[Expected::Word(Keyword::KwDo)], rest)?;
-    let (body, rest) = block(alloc, levels, rest)?;
-    let rest = closing(Keyword::KwFor, rest)?;
-    Ok((Stmt::For(place(tokens), variable, first, last, body), rest))
+    let (head, rest) = for_head(alloc, levels, tokens)?;
+    let at = place(tokens);
+    match closed_block(alloc, levels, Keyword::KwFor, rest) {
+        Ok((body, rest)) => Ok((
+            Stmt::For(at, head.variable, head.first, head.last, body),
+            rest,
+        )),
+        Err(stop) => Err(stop),
+    }
 }
 
 /// Reads what begins with `borrow`.
@@ -281,10 +320,13 @@ fn borrow_statement(
 ) -> Result<(Stmt<Parsed>, &[Token]), Stop>
     ensures { Gives (λ x. (views.statement ⟦<Parsed as Phase>⟧ x.0, x.1.now)) result
         (cond (begins_with (what.Sign sign.Exclamation) (drop 1 tokens.now))
-        (spec.borrow_in_with usual (expression_at usual levels) (call_at usual levels) (block_at usual levels) access.Write tokens.now)
+        (spec.borrow_in_with usual (expression_at usual levels) (call_at usual levels) (block_at usual levels)
+        access.Write tokens.now)
         (cond (begins_with (what.Sign sign.Colon) (drop 1 (drop 1 tokens.now)))
-        (spec.borrow_typed_with usual (expression_at usual levels) (call_at usual levels) (block_at usual levels) tokens.now)
-        (spec.borrow_in_with usual (expression_at usual levels) (call_at usual levels) (block_at usual levels) access.Read tokens.now))) }
+        (spec.borrow_typed_with usual (expression_at usual levels) (call_at usual levels)
+        (block_at usual levels) tokens.now)
+        (spec.borrow_in_with usual (expression_at usual levels) (call_at usual levels) (block_at usual levels)
+        access.Read tokens.now))) }
 {
     let second = after(tokens);
     if is_sign(Sign::Exclamation, second) {
@@ -297,7 +339,7 @@ fn borrow_statement(
 }
 
 /// Reads a borrow in a region.
-#[tactic(auto, unfolding(crate::specs::StatementReading::borrow_in_with))]
+#[tactic(auto, using(crate::proofs::BlockHeads::borrow_in_said))]
 #[cycle(statements)]
 fn borrow_in(
     alloc: Global,
@@ -306,26 +348,19 @@ fn borrow_in(
     tokens: &[Token],
 ) -> Result<(Stmt<Parsed>, &[Token]), Stop>
     ensures { Gives (λ x. (views.statement ⟦<Parsed as Phase>⟧ x.0, x.1.now)) result
-        (spec.borrow_in_with usual (expression_at usual levels) (call_at usual levels) (block_at usual levels) access tokens.now) }
+        (spec.borrow_in_with usual (expression_at usual levels) (call_at usual levels) (block_at usual levels)
+        access tokens.now) }
 {
-    let rest = borrowing(access, tokens)?;
-    let (variable, rest) = name(alloc, rest)?;
-    let rest = expect(&[Expected::Word(Keyword::KwAs)], rest)?;
-    let (reference, rest) = name(alloc, rest)?;
-    let rest = expect(&[Expected::Word(Keyword::KwIn)], rest)?;
-    let (region, rest) = name(alloc, rest)?;
-    let (body, end, rest) = borrowed_block(alloc, levels, rest)?;
+    let (names, rest) = borrow_head(alloc, access, tokens)?;
     let at = place(tokens);
-    let names = BorrowNames {
-        variable,
-        reference,
-        region,
-    };
-    Ok((Stmt::Borrow(at, access, names, body, end), rest))
+    match borrowed_block(alloc, levels, rest) {
+        Ok((body, end, rest)) => Ok((Stmt::Borrow(at, access, names, body, end), rest)),
+        Err(stop) => Err(stop),
+    }
 }
 
 /// Reads a borrow with the type of its reference.
-#[tactic(auto, unfolding(crate::specs::StatementReading::borrow_typed_with))]
+#[tactic(auto, using(crate::proofs::BlockHeads::borrow_typed_said))]
 #[cycle(statements)]
 fn borrow_typed(
     alloc: Global,
@@ -333,21 +368,19 @@ fn borrow_typed(
     tokens: &[Token],
 ) -> Result<(Stmt<Parsed>, &[Token]), Stop>
     ensures { Gives (λ x. (views.statement ⟦<Parsed as Phase>⟧ x.0, x.1.now)) result
-        (spec.borrow_typed_with usual (expression_at usual levels) (call_at usual levels) (block_at usual levels) tokens.now) }
+        (spec.borrow_typed_with usual (expression_at usual levels) (call_at usual levels)
+        (block_at usual levels) tokens.now) }
 {
-    let rest = expect(&[Expected::Word(Keyword::KwBorrow)], tokens)?;
-    let (reference, rest) = name(alloc, rest)?;
-    let rest = expect(&[Expected::Sign(Sign::Colon)], rest)?;
-    let (of, rest) = written_type(alloc, rest)?;
-    let rest = expect(&[Expected::Sign(Sign::Assign)], rest)?;
-    let (mode, rest) = mode(rest)?;
-    let (variable, rest) = name(alloc, rest)?;
-    let (body, end, rest) = borrowed_block(alloc, levels, rest)?;
+    let (head, rest) = typed_head(alloc, tokens)?;
     let at = place(tokens);
-    Ok((
-        Stmt::BorrowTyped(at, reference, of, mode, variable, body, end),
-        rest,
-    ))
+    let mode = head.mode;
+    match borrowed_block(alloc, levels, rest) {
+        Ok((body, end, rest)) => Ok((
+            Stmt::BorrowTyped(at, head.reference, head.of, mode, head.variable, body, end),
+            rest,
+        )),
+        Err(stop) => Err(stop),
+    }
 }
 
 /// Reads the block of a borrow, and the place of its `end`.
@@ -359,15 +392,13 @@ fn borrowed_block(
     tokens: &[Token],
 ) -> Result<(Block<Parsed>, Pos, &[Token]), Stop>
     ensures { Gives (λ x. ((views.block ⟦<Parsed as Phase>⟧ x.0, x.1), x.2.now)) result
-        (spec.borrowed_block usual (expression_at usual levels) (call_at usual levels) (block_at usual levels) tokens.now) }
+        (spec.borrowed_block usual (expression_at usual levels) (call_at usual levels) (block_at usual levels)
+        tokens.now) }
 {
     let rest = expect(&[Expected::Word(Keyword::KwDo)], tokens)?;
     let (body, rest) = block(alloc, levels, rest)?;
-    let (end, rest) = end_place(rest)?;
-    let known = [
-        Expected::Word(Keyword::KwBorrow),
-        Expected::Sign(Sign::Semicolon),
-    ];
-    let rest = expect(&known, rest)?;
-    Ok((body, end, rest))
+    match borrow_end(rest) {
+        Ok((end, rest)) => Ok((body, end, rest)),
+        Err(stop) => Err(stop),
+    }
 }

@@ -4,6 +4,6 @@ use Rattle.au_syntax.proofs.StatementLemmas.{destructure_says}
 use Rattle.au_read_statements.specs.StatementReading.{destructure_with}
 use Rattle.au_read_statements.proofs.simple.destructure.Goals as goal
 
-pub returns : goal.returns
+pub returns-in-Ok : goal.returns-in-Ok
 unfolding destructure_with
-returns c = grind (arith, common_steps, destructure_says)
+returns-in-Ok c = grind (arith, common_steps, destructure_says)

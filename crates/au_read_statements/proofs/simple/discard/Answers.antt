@@ -4,6 +4,6 @@ use Rattle.au_syntax.proofs.StatementLemmas.{call_says}
 use Rattle.au_read_statements.specs.StatementReading.{discard_with}
 use Rattle.au_read_statements.proofs.simple.discard.Goals as goal
 
-pub returns : goal.returns
+pub returns-in-Ok : goal.returns-in-Ok
 unfolding discard_with
-returns c = grind (arith, common_steps, call_says)
+returns-in-Ok c = grind (arith, common_steps, call_says)

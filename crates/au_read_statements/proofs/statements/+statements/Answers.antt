@@ -6,7 +6,8 @@ use Rattle.au_base.specs.declared.tokens.What.TheVariants as what
 use Rattle.au_read_expressions.specs.ExpressionReading.{call_at, expression_at}
 use Rattle.au_read_statements.specs.Seen.{arm_seen, branch_seen}
 use Rattle.au_read_statements.specs.StatementReading as spec
-use Rattle.au_read_statements.specs.StatementReading.{block_at, conditional_with, case_with, while_with, for_with, borrow_in_with, borrow_typed_with}
+use Rattle.au_read_statements.specs.StatementReading.{block_at, conditional_with}
+use Rattle.au_read_statements.proofs.BlockHeads.{case_said, while_said, for_said, borrow_in_said, borrow_typed_said}
 use Rattle.au_read_statements.proofs.CodeBorrows.{borrow_said, front_is, word_is}
 use Rattle.au_read_statements.proofs.CodeLists.{branches_are, arms_are, branches_on, branches_end, branches_fail}
 use Rattle.au_reading.specs.Bounds.{usual}
@@ -85,22 +86,17 @@ pub conditional-returns : goal.conditional-returns
 unfolding conditional_with
 conditional-returns t c = grind (arith, common_steps, if_says, branches_are)
 
-pub case-returns : goal.case-returns
-unfolding case_with
-case-returns t c = grind (arith, common_steps, case_says, arms_are)
+pub case-returns-in-Ok : goal.case-returns-in-Ok
+case-returns-in-Ok t c = grind (arith, common_steps, case_said, case_says, arms_are)
 
-pub while_loop-returns : goal.while_loop-returns
-unfolding while_with
-while_loop-returns t c = grind (arith, common_steps, while_says)
+pub while_loop-returns-in-Ok : goal.while_loop-returns-in-Ok
+while_loop-returns-in-Ok t c = grind (arith, common_steps, while_said, while_says)
 
-pub for_loop-returns : goal.for_loop-returns
-unfolding for_with
-for_loop-returns t c = grind (arith, common_steps, for_says)
+pub for_loop-returns-in-Ok : goal.for_loop-returns-in-Ok
+for_loop-returns-in-Ok t c = grind (arith, common_steps, for_said, for_says)
 
-pub borrow_in-returns : goal.borrow_in-returns
-unfolding borrow_in_with
-borrow_in-returns t c = grind (arith, common_steps, borrow_says)
+pub borrow_in-returns-in-Ok : goal.borrow_in-returns-in-Ok
+borrow_in-returns-in-Ok t c = grind (arith, common_steps, borrow_in_said, borrow_says)
 
-pub borrow_typed-returns : goal.borrow_typed-returns
-unfolding borrow_typed_with
-borrow_typed-returns t c = grind (arith, common_steps, borrow_typed_says)
+pub borrow_typed-returns-in-Ok : goal.borrow_typed-returns-in-Ok
+borrow_typed-returns-in-Ok t c = grind (arith, common_steps, borrow_typed_said, borrow_typed_says)

@@ -39,13 +39,19 @@ abbrev pub decreases-arms : goal.decreases-arms
 decreases-arms l = 8 * l.levels + 4
 
 abbrev pub decreases-case : goal.decreases-case
-decreases-case l = 8 * l.levels + 5
+decreases-case l = 8 * l.levels + 6
+
+abbrev pub decreases-closed_arms : goal.decreases-closed_arms
+decreases-closed_arms l = 8 * l.levels + 5
+
+abbrev pub decreases-closed_block : goal.decreases-closed_block
+decreases-closed_block l = 8 * l.levels + 3
 
 abbrev pub decreases-while_loop : goal.decreases-while_loop
-decreases-while_loop l = 8 * l.levels + 3
+decreases-while_loop l = 8 * l.levels + 4
 
 abbrev pub decreases-for_loop : goal.decreases-for_loop
-decreases-for_loop l = 8 * l.levels + 3
+decreases-for_loop l = 8 * l.levels + 4
 
 abbrev pub decreases-borrowed_block : goal.decreases-borrowed_block
 decreases-borrowed_block l = 8 * l.levels + 3
@@ -60,7 +66,7 @@ abbrev pub decreases-borrow_statement : goal.decreases-borrow_statement
 decreases-borrow_statement l = 8 * l.levels + 5
 
 abbrev pub decreases-statement_with : goal.decreases-statement_with
-decreases-statement_with l = 8 * l.levels + 6
+decreases-statement_with l = 8 * l.levels + 7
 
 abbrev pub invariant-several-loop : goal.invariant-several-loop
 invariant-several-loop l =
