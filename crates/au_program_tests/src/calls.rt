@@ -5,7 +5,8 @@ use au_shipped::{ShippedCall, prim_of};
 use std::alloc::Global;
 use std::test::Fail;
 
-/// The names of a module and a call, the kind of integers that the call is for, and the shipped call that it is.
+/// The names of a module and a call, the kind of integers that the call is for, and the shipped call that it
+/// is.
 type Row = (
     &'static [u8],
     &'static [u8],
@@ -13,8 +14,8 @@ type Row = (
     Option<ShippedCall>,
 );
 
-/// A call that is chosen by its kind, one that has none, one that converts, one of another module, and a name that
-/// is a call of another module alone.
+/// A call that is chosen by its kind, one that has none, one that converts, one of another module, and a name
+/// that is a call of another module alone.
 const CALLS: [Row; 5] = [
     (
         b"Austral.Pervasive",

@@ -9,8 +9,8 @@ use std::test::Fail;
 /// The steps of a run whose words give none.
 const USUAL: u64 = 1_000_000_000;
 
-/// Words with `|` between, and the job that they ask for: its command, its files with `|` behind each and a dot
-/// at the end, its entry as `M:f` or nothing, its steps, and whether lives are told.
+/// Words with `|` between, and the job that they ask for: its command, its files with `|` behind each and a
+/// dot at the end, its entry as `M:f` or nothing, its steps, and whether lives are told.
 struct Row {
     words: &'static str,
     command: Command,
@@ -121,8 +121,8 @@ fn is_asked(alloc: Global, row: &Row) -> Result<bool, Memory> {
     }
 }
 
-/// Lists of words, and the job that each of them asks for. Words ask for one job at most, and their names are those
-/// of the language.
+/// Lists of words, and the job that each of them asks for. Words ask for one job at most, and their names are
+/// those of the language.
 #[test]
 fn words_ask_for_their_job(rt: HostRuntime) -> Result<(), Fail> {
     laws::one_job();

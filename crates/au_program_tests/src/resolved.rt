@@ -34,8 +34,8 @@ fn is_byte(of: &Option<Ty>) -> bool {
     matches!(of, Some(Ty::Int(IntKind::Nat8)))
 }
 
-/// Whether seven declared types have rows, and the written type of the constant means `Nat8` in the body of the
-/// module at place 4.
+/// Whether seven declared types have rows, and the written type of the constant means `Nat8` in the body of
+/// the module at place 4.
 fn are_meant(alloc: Global, resolved: &Resolved) -> Result<bool, Fail> {
     if resolved.modules().len() != 5 || resolved.heads_ref().len() != 7 {
         return Ok(false);

@@ -12,8 +12,8 @@ use std::time::{CpuClock, Duration};
 /// How often times are taken at most: the shortest count.
 const TRIES: u32 = 5;
 
-/// Bytes in which `#` stands for the number of a function, `@` for that of the module, and `<` for that of the
-/// module before it, and whether they stand once for each function, or once.
+/// Bytes in which `#` stands for the number of a function, `@` for that of the module, and `<` for that of
+/// the module before it, and whether they stand once for each function, or once.
 type Piece = (&'static [u8], bool);
 
 /// The interface of a module.
@@ -145,8 +145,8 @@ fn time_of(
     Ok(end.saturating_sub(start))
 }
 
-/// Whether the second program takes less than three times the time of the first one, the shortest times of some
-/// tries. Programs are told by their files and by the functions of each.
+/// Whether the second program takes less than three times the time of the first one, the shortest times of
+/// some tries. Programs are told by their files and by the functions of each.
 fn grows(
     rt: &impl CpuClock,
     alloc: Global,
@@ -165,7 +165,8 @@ fn grows(
     Ok(false)
 }
 
-/// Twice a program takes less than three times the time: 10,200 declarations and 20,400, and 30 modules and 60.
+/// Twice a program takes less than three times the time: 10,200 declarations and 20,400, and 30 modules and
+/// 60.
 #[test]
 fn time_grows_as_programs_do(rt: HostRuntime) -> Result<(), Fail> {
     assert!(rt; grows(&rt, rt.alloc(), (4, 2_549), (4, 5_099))?);

@@ -1,4 +1,5 @@
-//! A phase whose notes are numbers, and the turn that counts them, into that phase and into the one that has none.
+//! A phase whose notes are numbers, and the turn that counts them, into that phase and into the one that has
+//! none.
 
 ghost use Rattle.std.specs.Prelude.{◌<◌};
 

@@ -1,5 +1,5 @@
-//! Trees that are mapped and copied: each note is counted and each word stays, also where trees are as deep or
-//! as long as a file can have them.
+//! Trees that are mapped and copied: each note is counted and each word stays, also where trees are as deep
+//! or as long as a file can have them.
 
 ghost use Rattle.std.specs.Prelude.{◌<◌, ◌≤◌, length};
 
@@ -89,8 +89,8 @@ fn mapped(alloc: Global, count: &mut Count) -> Result<Expr<Counted>, Memory> {
     map_expr(alloc, old, count)
 }
 
-/// Whether the call keeps its name, its place, its argument and its depth, and each expression in it has a note,
-/// and the call another one.
+/// Whether the call keeps its name, its place, its argument and its depth, and each expression in it has a
+/// note, and the call another one.
 fn call_is_mapped(alloc: Global) -> Result<bool, Memory> {
     let mut count = Count { made: 0 };
     let new = mapped(alloc, &mut count)?;
@@ -144,8 +144,8 @@ fn copied(alloc: Global) -> Result<Whole<Parsed>, Memory> {
     copy_whole(alloc, &whole)
 }
 
-/// Whether a copy has the name, the place and the nesting of the file, and stays whole where it is mapped, with no
-/// note where there is no expression.
+/// Whether a copy has the name, the place and the nesting of the file, and stays whole where it is mapped,
+/// with no note where there is no expression.
 fn copy_is_mapped(alloc: Global) -> Result<bool, Memory> {
     let old = copied(alloc)?;
     let mut count = Count { made: 0 };
@@ -155,8 +155,8 @@ fn copy_is_mapped(alloc: Global) -> Result<bool, Memory> {
     }
 }
 
-/// Whether an expression as deep as a file can have one and a block as long as a file can have one are mapped and
-/// dropped, and so is a copy of a whole file.
+/// Whether an expression as deep as a file can have one and a block as long as a file can have one are mapped
+/// and dropped, and so is a copy of a whole file.
 fn all_are_mapped(alloc: Global) -> Result<bool, Memory> {
     Ok(call_is_mapped(alloc)? && block_is_mapped(alloc)? && copy_is_mapped(alloc)?)
 }
