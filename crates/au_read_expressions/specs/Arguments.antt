@@ -25,8 +25,12 @@ module _ (inner inner_atom : List Token → Read PlainExpression) (at : Pos) (na
 
   -- a call whose arguments are in order, of which there is one
   unfoldable pub called_in_order : List Token → Read PlainExpression
-  called_in_order tokens = shaped in_order (closed (Sign RightParenthesis ∷ []) (listed inner)) tokens >>= joined_with name >>= built_at (call_of at)
+  called_in_order tokens =
+      shaped in_order (closed (Sign RightParenthesis ∷ [])
+      (listed inner)) tokens >>= joined_with name >>= built_at (call_of at)
 
   -- a call whose arguments are given by the names of parameters
   unfoldable pub called_by_name : List Token → Read PlainExpression
-  called_by_name tokens = shaped by_name (closed (Sign RightParenthesis ∷ []) (listed (labelled inner inner_atom))) tokens >>= joined_with name >>= built_at (call_of at)
+  called_by_name tokens =
+      shaped by_name (closed (Sign RightParenthesis ∷ [])
+      (listed (labelled inner inner_atom))) tokens >>= joined_with name >>= built_at (call_of at)

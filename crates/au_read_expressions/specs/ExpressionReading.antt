@@ -1,9 +1,15 @@
 -- Reading an expression.
-use Rattle.std.specs.Prelude.{ℕ, suc, Bool, true, false, nat_le, List, [], ◌∷◌, Option, Some, None, Ok, Err, length, drop, cond}
+use Rattle.std.specs.Prelude.{ℕ, suc, Bool, true, false, nat_le, List, [], ◌∷◌, Option, Some, None, Ok, Err}
+use Rattle.std.specs.Prelude.{length, drop, cond}
 use Prim.Native.Nat.{zero}
 use Rattle.au_base.specs.declared.places.Pos.{Pos}
-use Rattle.au_base.specs.declared.tokens.Keyword.TheVariants.{KwIf, KwThen, KwElse, KwNot, KwAnd, KwOr, KwTrue, KwFalse, KwNil}
-use Rattle.au_base.specs.declared.tokens.Sign.TheVariants.{FatArrow, Arrow, WriteBorrow, Reborrow, NotEqual, LessEqual, GreaterEqual, LeftParenthesis, RightParenthesis, LeftBracket, Colon, Dot, ReadBorrow, Exclamation, Plus, Minus, Star, Slash, Equal, Less, Greater}
+use Rattle.au_base.specs.declared.tokens.Keyword.TheVariants.{KwIf, KwThen, KwElse, KwNot, KwAnd, KwOr}
+use Rattle.au_base.specs.declared.tokens.Keyword.TheVariants.{KwTrue, KwFalse, KwNil}
+use Rattle.au_base.specs.declared.tokens.Sign.TheVariants.{FatArrow, Arrow, WriteBorrow, Reborrow, NotEqual}
+use Rattle.au_base.specs.declared.tokens.Sign.TheVariants.{LessEqual, GreaterEqual, LeftParenthesis}
+use Rattle.au_base.specs.declared.tokens.Sign.TheVariants.{RightParenthesis, LeftBracket, Colon, Dot}
+use Rattle.au_base.specs.declared.tokens.Sign.TheVariants.{ReadBorrow, Exclamation, Plus, Minus, Star, Slash}
+use Rattle.au_base.specs.declared.tokens.Sign.TheVariants.{Equal, Less, Greater}
 use Rattle.au_base.specs.declared.tokens.Token.{Token}
 use Rattle.au_base.specs.declared.tokens.What.{What}
 use Rattle.au_base.specs.declared.tokens.What.TheVariants.{Word, Sign, Name, Number, Text}
@@ -14,12 +20,17 @@ use Rattle.au_syntax.specs.declared.expressions.BorrowMode.TheVariants as mode
 use Rattle.au_syntax.specs.declared.expressions.Literal.{Literal}
 use Rattle.au_syntax.specs.Depths.{expression_depth}
 use Rattle.au_syntax.specs.Types.{WrittenType}
-use Rattle.au_syntax.specs.Expressions.{Node, number, negative, text, truth, nil, path, arrow, call, named_call, parenthesized, dereference, borrow, borrow_part, binary, negation, typed, choice, no_expressions, expressions, no_arguments, arguments}
+use Rattle.au_syntax.specs.Expressions.{Node, number, negative, text, truth, nil, path, arrow, call}
+use Rattle.au_syntax.specs.Expressions.{named_call, parenthesized, dereference, borrow, borrow_part, binary}
+use Rattle.au_syntax.specs.Expressions.{negation, typed, choice, no_expressions, expressions, no_arguments}
+use Rattle.au_syntax.specs.Expressions.{arguments}
 use Rattle.au_syntax.specs.Names.{Placed}
 use Rattle.au_syntax.specs.Plain.{Bytes, PlainExpression, PlainExpressions, PlainArguments}
 use Rattle.au_reading.specs.declared.faults.Fault.TheVariants.{Passed}
 use Rattle.au_reading.specs.Bounds.{Bounds, nesting_limit}
-use Rattle.au_reading.specs.Reading.{Read, ◌>>=◌, front, place_of, begins_with, no, name_at, number_at, text_at, exactly, behind, closed, pair, shaped, built, listed, dotted_at, fields_at}
+use Rattle.au_reading.specs.Reading.{Read, ◌>>=◌, front, place_of, begins_with, no, name_at, number_at}
+use Rattle.au_reading.specs.Reading.{text_at, exactly, behind, closed, pair, shaped, built, listed, dotted_at}
+use Rattle.au_reading.specs.Reading.{fields_at}
 use Rattle.au_read_types.specs.TypeReading.{type_at}
 
 -- the place of an expression, without a note
@@ -160,8 +171,10 @@ module _ (inner inner_atom : List Token → Read PlainExpression) where
 
   -- the arguments of a call behind its parenthesis: the next one or two tokens tell which
   abbrev pub given_by : Option What → Option What → List Token → Read Given
-  given_by (Some (Sign RightParenthesis)) second tokens = shaped none_given (exactly (Sign RightParenthesis ∷ [])) tokens
-  given_by (Some (Name bytes)) (Some (Sign FatArrow)) tokens = shaped by_name (closed (Sign RightParenthesis ∷ []) (listed labelled)) tokens
+  given_by (Some (Sign RightParenthesis)) second tokens =
+      shaped none_given (exactly (Sign RightParenthesis ∷ [])) tokens
+  given_by (Some (Name bytes)) (Some (Sign FatArrow)) tokens =
+      shaped by_name (closed (Sign RightParenthesis ∷ []) (listed labelled)) tokens
   given_by first second tokens = shaped in_order (closed (Sign RightParenthesis ∷ []) (listed inner)) tokens
 
   abbrev pub given_at : List Token → Read Given
@@ -180,7 +193,8 @@ module _ (inner inner_atom : List Token → Read PlainExpression) where
   -- what begins with `&`
   abbrev pub borrowed_by : Option What → List Token → Read PlainExpression
   borrowed_by (Some (Sign LeftParenthesis)) tokens =
-      built borrow_part_of (behind (Sign ReadBorrow ∷ Sign LeftParenthesis ∷ []) (closed (Sign RightParenthesis ∷ []) arrow_parts)) tokens
+      built borrow_part_of (behind (Sign ReadBorrow ∷ Sign LeftParenthesis ∷ [])
+      (closed (Sign RightParenthesis ∷ []) arrow_parts)) tokens
   borrowed_by other tokens = built (borrow_of mode.Read) (behind (Sign ReadBorrow ∷ []) name_at) tokens
 
   -- an atom, by its first two tokens
@@ -192,11 +206,16 @@ module _ (inner inner_atom : List Token → Read PlainExpression) where
   atom_by (Some (Word KwFalse)) second tokens = built (truth_of false) (exactly (Word KwFalse ∷ [])) tokens
   atom_by (Some (Word KwNil)) second tokens = built nil_of (exactly (Word KwNil ∷ [])) tokens
   atom_by (Some (Name bytes)) second tokens = named_by second tokens
-  atom_by (Some (Sign LeftParenthesis)) second tokens = built parenthesized_of (behind (Sign LeftParenthesis ∷ []) (closed (Sign RightParenthesis ∷ []) inner)) tokens
-  atom_by (Some (Sign Exclamation)) second tokens = built dereference_of (behind (Sign Exclamation ∷ []) inner_atom) tokens
+  atom_by (Some (Sign LeftParenthesis)) second tokens =
+      built parenthesized_of (behind (Sign LeftParenthesis ∷ [])
+      (closed (Sign RightParenthesis ∷ []) inner)) tokens
+  atom_by (Some (Sign Exclamation)) second tokens =
+      built dereference_of (behind (Sign Exclamation ∷ []) inner_atom) tokens
   atom_by (Some (Sign ReadBorrow)) second tokens = borrowed_by second tokens
-  atom_by (Some (Sign WriteBorrow)) second tokens = built (borrow_of mode.Write) (behind (Sign WriteBorrow ∷ []) name_at) tokens
-  atom_by (Some (Sign Reborrow)) second tokens = built (borrow_of mode.Reborrow) (behind (Sign Reborrow ∷ []) name_at) tokens
+  atom_by (Some (Sign WriteBorrow)) second tokens =
+      built (borrow_of mode.Write) (behind (Sign WriteBorrow ∷ []) name_at) tokens
+  atom_by (Some (Sign Reborrow)) second tokens =
+      built (borrow_of mode.Reborrow) (behind (Sign Reborrow ∷ []) name_at) tokens
   atom_by other second tokens = no tokens
 
   unfoldable pub atom_with : List Token → Read PlainExpression
@@ -204,21 +223,26 @@ module _ (inner inner_atom : List Token → Read PlainExpression) where
 
   -- `if .. then .. else ..`
   unfoldable pub choice_with : List Token → Read PlainExpression
-  choice_with = built choice_of (behind (Word KwIf ∷ []) (pair inner (behind (Word KwThen ∷ []) (pair inner (behind (Word KwElse ∷ []) inner)))))
+  choice_with =
+      built choice_of (behind (Word KwIf ∷ [])
+      (pair inner (behind (Word KwThen ∷ []) (pair inner (behind (Word KwElse ∷ []) inner)))))
 
   module _ (b : Bounds) (n : ℕ) where
     -- An atom that goes on is one deeper: this is known at the token that continues it.
     abbrev pub deeper : PlainExpression → List Token → Read PlainExpression → Read PlainExpression
-    deeper atom tokens read = cond (nat_le (expression_depth atom) n) read (Err (Passed (nesting_limit b) (length tokens)))
+    deeper atom tokens read =
+        cond (nat_le (expression_depth atom) n) read (Err (Passed (nesting_limit b) (length tokens)))
 
-    abbrev pub binary_of : Pos → BinaryOperator → PlainExpression → PlainExpression × List Token → Read PlainExpression
+    abbrev pub binary_of : Pos → BinaryOperator → PlainExpression → PlainExpression × List Token
+        → Read PlainExpression
     binary_of at op a y = Ok (binary (site at) op a y.0, y.1)
 
     abbrev pub typed_of : Pos → PlainExpression → WrittenType × List Token → Read PlainExpression
     typed_of at a y = Ok (typed (site at) a y.0, y.1)
 
     -- what stands behind an atom, by its first token
-    abbrev pub continued_by : Option BinaryOperator → Bool → Pos → PlainExpression × List Token → Read PlainExpression
+    abbrev pub continued_by : Option BinaryOperator → Bool → Pos → PlainExpression × List Token
+        → Read PlainExpression
     continued_by (Some op) colon at x = deeper x.0 x.1 (inner_atom (drop 1 x.1) >>= binary_of at op x.0)
     continued_by None true at x = deeper x.0 x.1 (type_at b (drop 1 x.1) >>= typed_of at x.0)
     continued_by None false at x = Ok x

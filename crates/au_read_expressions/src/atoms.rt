@@ -4,7 +4,8 @@ ghost use Rattle.std.specs.Prelude.{◌≡◌, ◌∷◌, [], true, false, map, 
 ghost use Rattle.au_base.specs.declared.tokens.Keyword.TheVariants as keyword;
 ghost use Rattle.au_base.specs.declared.tokens.Sign.TheVariants as sign;
 ghost use Rattle.au_base.specs.declared.tokens.What.TheVariants as what;
-ghost use Rattle.au_reading.specs.Reading.{Gives, place_of, name_at, number_at, text_at, fields_at, exactly, behind, closed, pair, built};
+ghost use Rattle.au_reading.specs.Reading.{Gives, place_of, name_at, number_at, text_at, fields_at, exactly};
+ghost use Rattle.au_reading.specs.Reading.{behind, closed, pair, built};
 ghost use Rattle.au_read_expressions.specs.ExpressionReading as spec;
 ghost use Rattle.au_syntax.specs.Views as views;
 
@@ -36,7 +37,8 @@ pub(crate) fn number_atom(
     alloc: Global,
     tokens: &[Token],
 ) -> Result<(Box<Expr<Parsed>>, &[Token]), Stop>
-    ensures { Gives (λ x. (views.expression ⟦<Parsed as Phase>⟧ x.0.value, x.1.now)) result (built spec.number_of number_at tokens.now) }
+    ensures { Gives (λ x. (views.expression ⟦<Parsed as Phase>⟧ x.0.value, x.1.now)) result
+        (built spec.number_of number_at tokens.now) }
 {
     let at = site(tokens);
     let (literal, rest) = number(tokens)?;
@@ -48,7 +50,8 @@ pub(crate) fn negative_atom(
     alloc: Global,
     tokens: &[Token],
 ) -> Result<(Box<Expr<Parsed>>, &[Token]), Stop>
-    ensures { Gives (λ x. (views.expression ⟦<Parsed as Phase>⟧ x.0.value, x.1.now)) result (built spec.negative_of (behind (what.Sign sign.Minus ∷ []) number_at) tokens.now) }
+    ensures { Gives (λ x. (views.expression ⟦<Parsed as Phase>⟧ x.0.value, x.1.now)) result
+        (built spec.negative_of (behind (what.Sign sign.Minus ∷ []) number_at) tokens.now) }
 {
     let at = site(tokens);
     let rest = expect(&[Expected::Sign(Sign::Minus)], tokens)?;
@@ -61,7 +64,8 @@ pub(crate) fn text_atom(
     alloc: Global,
     tokens: &[Token],
 ) -> Result<(Box<Expr<Parsed>>, &[Token]), Stop>
-    ensures { Gives (λ x. (views.expression ⟦<Parsed as Phase>⟧ x.0.value, x.1.now)) result (built spec.text_of text_at tokens.now) }
+    ensures { Gives (λ x. (views.expression ⟦<Parsed as Phase>⟧ x.0.value, x.1.now)) result
+        (built spec.text_of text_at tokens.now) }
 {
     let at = site(tokens);
     let (bytes, rest) = text(alloc, tokens)?;
@@ -73,7 +77,8 @@ pub(crate) fn true_atom(
     alloc: Global,
     tokens: &[Token],
 ) -> Result<(Box<Expr<Parsed>>, &[Token]), Stop>
-    ensures { Gives (λ x. (views.expression ⟦<Parsed as Phase>⟧ x.0.value, x.1.now)) result (built (spec.truth_of true) (exactly (what.Word keyword.KwTrue ∷ [])) tokens.now) }
+    ensures { Gives (λ x. (views.expression ⟦<Parsed as Phase>⟧ x.0.value, x.1.now)) result
+        (built (spec.truth_of true) (exactly (what.Word keyword.KwTrue ∷ [])) tokens.now) }
 {
     let at = site(tokens);
     let rest = expect(&[Expected::Word(Keyword::KwTrue)], tokens)?;
@@ -85,7 +90,8 @@ pub(crate) fn false_atom(
     alloc: Global,
     tokens: &[Token],
 ) -> Result<(Box<Expr<Parsed>>, &[Token]), Stop>
-    ensures { Gives (λ x. (views.expression ⟦<Parsed as Phase>⟧ x.0.value, x.1.now)) result (built (spec.truth_of false) (exactly (what.Word keyword.KwFalse ∷ [])) tokens.now) }
+    ensures { Gives (λ x. (views.expression ⟦<Parsed as Phase>⟧ x.0.value, x.1.now)) result
+        (built (spec.truth_of false) (exactly (what.Word keyword.KwFalse ∷ [])) tokens.now) }
 {
     let at = site(tokens);
     let rest = expect(&[Expected::Word(Keyword::KwFalse)], tokens)?;
@@ -97,7 +103,8 @@ pub(crate) fn nil_atom(
     alloc: Global,
     tokens: &[Token],
 ) -> Result<(Box<Expr<Parsed>>, &[Token]), Stop>
-    ensures { Gives (λ x. (views.expression ⟦<Parsed as Phase>⟧ x.0.value, x.1.now)) result (built spec.nil_of (exactly (what.Word keyword.KwNil ∷ [])) tokens.now) }
+    ensures { Gives (λ x. (views.expression ⟦<Parsed as Phase>⟧ x.0.value, x.1.now)) result
+        (built spec.nil_of (exactly (what.Word keyword.KwNil ∷ [])) tokens.now) }
 {
     let at = site(tokens);
     let rest = expect(&[Expected::Word(Keyword::KwNil)], tokens)?;
@@ -109,7 +116,8 @@ pub(crate) fn path_atom(
     alloc: Global,
     tokens: &[Token],
 ) -> Result<(Box<Expr<Parsed>>, &[Token]), Stop>
-    ensures { Gives (λ x. (views.expression ⟦<Parsed as Phase>⟧ x.0.value, x.1.now)) result (built spec.path_of (pair name_at fields_at) tokens.now) }
+    ensures { Gives (λ x. (views.expression ⟦<Parsed as Phase>⟧ x.0.value, x.1.now)) result
+        (built spec.path_of (pair name_at fields_at) tokens.now) }
 {
     let at = site(tokens);
     let (of, rest) = name(alloc, tokens)?;
@@ -122,7 +130,13 @@ fn arrow_parts(
     alloc: Global,
     tokens: &[Token],
 ) -> Result<(Ident<Parsed>, Vec<Ident<Parsed>>, &[Token]), Stop>
-    ensures { Gives (λ x. ((views.placed ⟦<Parsed as Phase>⟧ x.0, map (views.placed ⟦<Parsed as Phase>⟧) x.1.items), x.2.now)) result (spec.arrow_parts tokens.now) }
+    ensures { Gives (λ x. (
+      (
+        views.placed ⟦<Parsed as Phase>⟧ x.0,
+        map (views.placed ⟦<Parsed as Phase>⟧) x.1.items,
+      ),
+      x.2.now,
+    )) result (spec.arrow_parts tokens.now) }
 {
     let (of, rest) = name(alloc, tokens)?;
     let rest = expect(&[Expected::Sign(Sign::Arrow)], rest)?;
@@ -135,7 +149,8 @@ pub(crate) fn arrow_atom(
     alloc: Global,
     tokens: &[Token],
 ) -> Result<(Box<Expr<Parsed>>, &[Token]), Stop>
-    ensures { Gives (λ x. (views.expression ⟦<Parsed as Phase>⟧ x.0.value, x.1.now)) result (built spec.arrow_of spec.arrow_parts tokens.now) }
+    ensures { Gives (λ x. (views.expression ⟦<Parsed as Phase>⟧ x.0.value, x.1.now)) result
+        (built spec.arrow_of spec.arrow_parts tokens.now) }
 {
     let at = site(tokens);
     let (of, parts, rest) = arrow_parts(alloc, tokens)?;
@@ -149,7 +164,8 @@ pub(crate) fn borrow_atom(
     mode: BorrowMode,
     tokens: &[Token],
 ) -> Result<(Box<Expr<Parsed>>, &[Token]), Stop>
-    ensures { Gives (λ x. (views.expression ⟦<Parsed as Phase>⟧ x.0.value, x.1.now)) result (built (spec.borrow_of mode) (behind (what.Sign first ∷ []) name_at) tokens.now) }
+    ensures { Gives (λ x. (views.expression ⟦<Parsed as Phase>⟧ x.0.value, x.1.now)) result
+        (built (spec.borrow_of mode) (behind (what.Sign first ∷ []) name_at) tokens.now) }
 {
     let at = site(tokens);
     let rest = expect(&[Expected::Sign(first)], tokens)?;
@@ -163,7 +179,8 @@ pub(crate) fn borrow_part_atom(
     tokens: &[Token],
 ) -> Result<(Box<Expr<Parsed>>, &[Token]), Stop>
     ensures { Gives (λ x. (views.expression ⟦<Parsed as Phase>⟧ x.0.value, x.1.now)) result
-        (built spec.borrow_part_of (behind (what.Sign sign.ReadBorrow ∷ what.Sign sign.LeftParenthesis ∷ []) (closed (what.Sign sign.RightParenthesis ∷ []) spec.arrow_parts)) tokens.now) }
+        (built spec.borrow_part_of (behind (what.Sign sign.ReadBorrow ∷ what.Sign sign.LeftParenthesis ∷ [])
+        (closed (what.Sign sign.RightParenthesis ∷ []) spec.arrow_parts)) tokens.now) }
 {
     let at = site(tokens);
     let opening = [

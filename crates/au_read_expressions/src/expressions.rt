@@ -36,7 +36,8 @@ pub fn expression(
     levels: u32,
     tokens: &[Token],
 ) -> Result<(Expr<Parsed>, &[Token]), Stop>
-    ensures { Gives (λ x. (views.expression ⟦<Parsed as Phase>⟧ x.0, x.1.now)) result (expression_at usual levels tokens.now) }
+    ensures { Gives (λ x. (views.expression ⟦<Parsed as Phase>⟧ x.0, x.1.now)) result
+        (expression_at usual levels tokens.now) }
 {
     let (made, rest) = nested(alloc, levels, tokens)?;
     Ok((Box::into_inner(made), rest))
@@ -48,7 +49,8 @@ pub fn expression(
 ///
 /// As those of `expression`; that there is a call is known at its parenthesis.
 pub fn call(alloc: Global, levels: u32, tokens: &[Token]) -> Result<(Expr<Parsed>, &[Token]), Stop>
-    ensures { Gives (λ x. (views.expression ⟦<Parsed as Phase>⟧ x.0, x.1.now)) result (call_at usual levels tokens.now) }
+    ensures { Gives (λ x. (views.expression ⟦<Parsed as Phase>⟧ x.0, x.1.now)) result
+        (call_at usual levels tokens.now) }
 {
     let (made, rest) = nested_call(alloc, levels, tokens)?;
     Ok((Box::into_inner(made), rest))
@@ -62,7 +64,8 @@ fn nested(
     levels: u32,
     tokens: &[Token],
 ) -> Result<(Box<Expr<Parsed>>, &[Token]), Stop>
-    ensures { Gives (λ x. (views.expression ⟦<Parsed as Phase>⟧ x.0.value, x.1.now)) result (expression_at usual levels tokens.now) }
+    ensures { Gives (λ x. (views.expression ⟦<Parsed as Phase>⟧ x.0.value, x.1.now)) result
+        (expression_at usual levels tokens.now) }
 {
     if levels == 0 {
         return Err(too_deep(begins_expression(tokens), tokens));
@@ -77,7 +80,8 @@ fn nested_call(
     levels: u32,
     tokens: &[Token],
 ) -> Result<(Box<Expr<Parsed>>, &[Token]), Stop>
-    ensures { Gives (λ x. (views.expression ⟦<Parsed as Phase>⟧ x.0.value, x.1.now)) result (call_at usual levels tokens.now) }
+    ensures { Gives (λ x. (views.expression ⟦<Parsed as Phase>⟧ x.0.value, x.1.now)) result
+        (call_at usual levels tokens.now) }
 {
     if levels == 0 {
         let (_, rest) = name(alloc, tokens)?;
@@ -90,7 +94,8 @@ fn nested_call(
 #[tactic(auto, using(crate::proofs::CodeLemmas::level_steps))]
 #[cycle(expressions)]
 fn atom(alloc: Global, levels: u32, tokens: &[Token]) -> Result<(Box<Expr<Parsed>>, &[Token]), Stop>
-    ensures { Gives (λ x. (views.expression ⟦<Parsed as Phase>⟧ x.0.value, x.1.now)) result (atom_at usual levels tokens.now) }
+    ensures { Gives (λ x. (views.expression ⟦<Parsed as Phase>⟧ x.0.value, x.1.now)) result
+        (atom_at usual levels tokens.now) }
 {
     if levels == 0 {
         return Err(too_deep(begins_atom(tokens), tokens));
@@ -129,7 +134,8 @@ fn operation(
 ) -> Result<(Box<Expr<Parsed>>, &[Token]), Stop>
     requires { levels < 4294967295 }
     ensures { Gives (λ x. (views.expression ⟦<Parsed as Phase>⟧ x.0.value, x.1.now)) result
-        (spec.expression_by (expression_at usual levels) (atom_at usual levels) usual levels None tokens.now) }
+        (spec.expression_by (expression_at usual levels)
+        (atom_at usual levels) usual levels None tokens.now) }
 {
     let at = site(tokens);
     let (first, rest) = atom_within(alloc, levels, tokens)?;
@@ -184,7 +190,8 @@ fn continued(
 ) -> Result<(Box<Expr<Parsed>>, &[Token]), Stop>
     requires { levels < 4294967295 }
     ensures { Gives (λ x. (views.expression ⟦<Parsed as Phase>⟧ x.0.value, x.1.now)) result
-        (spec.continued (expression_at usual levels) (atom_at usual levels) usual levels at.at (views.expression ⟦<Parsed as Phase>⟧ first.value, tokens.now)) }
+        (spec.continued (expression_at usual levels) (atom_at usual levels) usual levels at.at
+        (views.expression ⟦<Parsed as Phase>⟧ first.value, tokens.now)) }
 {
     match operator(tokens) {
         Some(op) => binary(alloc, levels, at, op, first, tokens),
@@ -210,7 +217,8 @@ fn binary(
 ) -> Result<(Box<Expr<Parsed>>, &[Token]), Stop>
     requires { levels < 4294967295 }
     ensures { Gives (λ x. (views.expression ⟦<Parsed as Phase>⟧ x.0.value, x.1.now)) result
-        (spec.continued_by (expression_at usual levels) (atom_at usual levels) usual levels (Some op) false at.at (views.expression ⟦<Parsed as Phase>⟧ first.value, tokens.now)) }
+        (spec.continued_by (expression_at usual levels) (atom_at usual levels) usual levels
+        (Some op) false at.at (views.expression ⟦<Parsed as Phase>⟧ first.value, tokens.now)) }
 {
     if !is_within(&first, levels) {
         return Err(passed(tokens));
@@ -229,7 +237,8 @@ fn typed(
 ) -> Result<(Box<Expr<Parsed>>, &[Token]), Stop>
     requires { levels < 4294967295 }
     ensures { Gives (λ x. (views.expression ⟦<Parsed as Phase>⟧ x.0.value, x.1.now)) result
-        (spec.continued_by (expression_at usual levels) (atom_at usual levels) usual levels None true at.at (views.expression ⟦<Parsed as Phase>⟧ first.value, tokens.now)) }
+        (spec.continued_by (expression_at usual levels) (atom_at usual levels) usual levels None true at.at
+        (views.expression ⟦<Parsed as Phase>⟧ first.value, tokens.now)) }
 {
     if !is_within(&first, levels) {
         return Err(passed(tokens));
@@ -281,7 +290,8 @@ fn parenthesized(
     tokens: &[Token],
 ) -> Result<(Box<Expr<Parsed>>, &[Token]), Stop>
     ensures { Gives (λ x. (views.expression ⟦<Parsed as Phase>⟧ x.0.value, x.1.now)) result
-        (built spec.parenthesized_of (behind (what.Sign sign.LeftParenthesis ∷ []) (closed (what.Sign sign.RightParenthesis ∷ []) (expression_at usual levels))) tokens.now) }
+        (built spec.parenthesized_of (behind (what.Sign sign.LeftParenthesis ∷ [])
+        (closed (what.Sign sign.RightParenthesis ∷ []) (expression_at usual levels))) tokens.now) }
 {
     let at = site(tokens);
     let rest = expect(&[Expected::Sign(Sign::LeftParenthesis)], tokens)?;
@@ -298,7 +308,8 @@ fn dereference(
     tokens: &[Token],
 ) -> Result<(Box<Expr<Parsed>>, &[Token]), Stop>
     ensures { Gives (λ x. (views.expression ⟦<Parsed as Phase>⟧ x.0.value, x.1.now)) result
-        (built spec.dereference_of (behind (what.Sign sign.Exclamation ∷ []) (atom_at usual levels)) tokens.now) }
+        (built spec.dereference_of (behind (what.Sign sign.Exclamation ∷ [])
+        (atom_at usual levels)) tokens.now) }
 {
     let at = site(tokens);
     let rest = expect(&[Expected::Sign(Sign::Exclamation)], tokens)?;
@@ -313,7 +324,8 @@ fn borrowed(
     tokens: &[Token],
 ) -> Result<(Box<Expr<Parsed>>, &[Token]), Stop>
     ensures { Gives (λ x. (views.expression ⟦<Parsed as Phase>⟧ x.0.value, x.1.now)) result
-        (spec.borrowed_by (expression_at usual _levels) (atom_at usual _levels) (front (drop 1 tokens.now)) tokens.now) }
+        (spec.borrowed_by (expression_at usual _levels) (atom_at usual _levels)
+        (front (drop 1 tokens.now)) tokens.now) }
 {
     match after(tokens) {
         [] => borrow_atom(alloc, Sign::ReadBorrow, BorrowMode::Read, tokens),
@@ -332,7 +344,8 @@ fn named(
     tokens: &[Token],
 ) -> Result<(Box<Expr<Parsed>>, &[Token]), Stop>
     ensures { Gives (λ x. (views.expression ⟦<Parsed as Phase>⟧ x.0.value, x.1.now)) result
-        (spec.named_by (expression_at usual levels) (atom_at usual levels) (front (drop 1 tokens.now)) tokens.now) }
+        (spec.named_by (expression_at usual levels) (atom_at usual levels)
+        (front (drop 1 tokens.now)) tokens.now) }
 {
     match after(tokens) {
         [] => path_atom(alloc, tokens),
@@ -372,7 +385,8 @@ fn given(
     tokens: &[Token],
 ) -> Result<(Box<Expr<Parsed>>, &[Token]), Stop>
     ensures { Gives (λ x. (views.expression ⟦<Parsed as Phase>⟧ x.0.value, x.1.now)) result
-        (called (expression_at usual levels) (atom_at usual levels) at.at (views.placed ⟦<Parsed as Phase>⟧ of) tokens.now) }
+        (called (expression_at usual levels) (atom_at usual levels) at.at
+        (views.placed ⟦<Parsed as Phase>⟧ of) tokens.now) }
 {
     if is_sign(Sign::RightParenthesis, tokens) {
         let made = boxed(alloc, Expr::Call(at, of, Vec::new(alloc), ()))?;
@@ -395,7 +409,8 @@ fn given_by_name(
     tokens: &[Token],
 ) -> Result<(Box<Expr<Parsed>>, &[Token]), Stop>
     ensures { Gives (λ x. (views.expression ⟦<Parsed as Phase>⟧ x.0.value, x.1.now)) result
-        (called_by_name (expression_at usual levels) (atom_at usual levels) at.at (views.placed ⟦<Parsed as Phase>⟧ of) tokens.now) }
+        (called_by_name (expression_at usual levels) (atom_at usual levels) at.at
+        (views.placed ⟦<Parsed as Phase>⟧ of) tokens.now) }
 {
     let (arguments, rest) = labelled_list(alloc, levels, tokens)?;
     let rest = expect(&[Expected::Sign(Sign::RightParenthesis)], rest)?;
@@ -413,7 +428,8 @@ fn given_in_order(
     tokens: &[Token],
 ) -> Result<(Box<Expr<Parsed>>, &[Token]), Stop>
     ensures { Gives (λ x. (views.expression ⟦<Parsed as Phase>⟧ x.0.value, x.1.now)) result
-        (called_in_order (expression_at usual levels) (atom_at usual levels) at.at (views.placed ⟦<Parsed as Phase>⟧ of) tokens.now) }
+        (called_in_order (expression_at usual levels) (atom_at usual levels) at.at
+        (views.placed ⟦<Parsed as Phase>⟧ of) tokens.now) }
 {
     let (arguments, rest) = expression_list(alloc, levels, tokens)?;
     let rest = expect(&[Expected::Sign(Sign::RightParenthesis)], rest)?;

@@ -1,8 +1,10 @@
 -- Reading a type.
-use Rattle.std.specs.Prelude.{ℕ, suc, ◌+◌, ◌-◌, Bool, true, false, nat_le, List, [], ◌∷◌, Option, Some, None, Ok, Err, length, take, cond, ◌==◌, ◌&&◌, not}
+use Rattle.std.specs.Prelude.{ℕ, suc, ◌+◌, ◌-◌, Bool, true, false, nat_le, List, [], ◌∷◌, Option, Some, None}
+use Rattle.std.specs.Prelude.{Ok, Err, length, take, cond, ◌==◌, ◌&&◌, not}
 use Prim.Native.Nat.{zero}
 use Rattle.au_base.specs.declared.places.Pos.{Pos}
-use Rattle.au_base.specs.declared.tokens.Sign.TheVariants.{LeftBracket, RightBracket, Comma, ReadBorrow, WriteBorrow}
+use Rattle.au_base.specs.declared.tokens.Sign.TheVariants.{LeftBracket, RightBracket, Comma, ReadBorrow}
+use Rattle.au_base.specs.declared.tokens.Sign.TheVariants.{WriteBorrow}
 use Rattle.au_base.specs.declared.tokens.Token.{Token}
 use Rattle.au_base.specs.declared.tokens.What.{What}
 use Rattle.au_base.specs.declared.tokens.What.TheVariants.{Sign, Name}
@@ -14,7 +16,8 @@ use Rattle.au_syntax.specs.Types.{WrittenType, WrittenTypes, named, reference, n
 use Rattle.au_syntax.specs.Words.{access_sign}
 use Rattle.au_reading.specs.declared.faults.Fault.TheVariants.{Syntax, Passed}
 use Rattle.au_reading.specs.Bounds.{Bounds, depth_limit, nodes_limit}
-use Rattle.au_reading.specs.Reading.{Read, front, is_front, no, name_at, behind, closed, pair, shaped, built, bracketed}
+use Rattle.au_reading.specs.Reading.{Read, front, is_front, no, name_at, behind, closed, pair, shaped, built}
+use Rattle.au_reading.specs.Reading.{bracketed}
 
 -- with which tokens a type begins
 abbrev pub begins_type : Option What → Bool
@@ -47,7 +50,8 @@ module _ (inner : List Token → Read WrittenType) where
   abbrev pub reference_with : Access → List Token → Read WrittenType
   reference_with access =
       built (reference_of access)
-      (behind (Sign (access_sign access) ∷ Sign LeftBracket ∷ []) (pair inner (behind (Sign Comma ∷ []) (closed (Sign RightBracket ∷ []) name_at))))
+      (behind (Sign (access_sign access) ∷ Sign LeftBracket ∷ [])
+      (pair inner (behind (Sign Comma ∷ []) (closed (Sign RightBracket ∷ []) name_at))))
 
   -- by the first token
   abbrev pub type_by : Option What → List Token → Read WrittenType
@@ -62,7 +66,8 @@ module _ (inner : List Token → Read WrittenType) where
 module _ (b : Bounds) where
   -- a type that isn't deeper than the number; a type that begins deeper passes the limit
   unfoldable pub type_within : ℕ → List Token → Read WrittenType
-  type_within zero tokens = cond (begins_type (front tokens)) (Err (Passed (depth_limit b) (length tokens))) (no tokens)
+  type_within zero tokens =
+      cond (begins_type (front tokens)) (Err (Passed (depth_limit b) (length tokens))) (no tokens)
   type_within (suc d) tokens = type_with (type_within d) tokens
 
 -- a name, `&` and `&!` each stand for a node
@@ -93,17 +98,21 @@ open_behind depth other tokens = None
 abbrev pub nodes_on : Option ℕ → List Token → ℕ
 nodes_on None tokens = 0
 nodes_on (Some depth) [] = 0
-nodes_on (Some depth) (token ∷ tokens) = weight token.what + nodes_on (open_behind depth token.what tokens) tokens
+nodes_on (Some depth) (token ∷ tokens) =
+    weight token.what + nodes_on (open_behind depth token.what tokens) tokens
 
 module _ (b : Bounds) where
   -- more nodes than there may be pass their limit, at the first token of the type
   abbrev pub too_many : {A : Type 0} → ℕ → List Token → Read A → Read A
-  too_many nodes tokens read = cond (nat_le nodes b.nodes) read (Err (Passed (nodes_limit b nodes) (length tokens)))
+  too_many nodes tokens read =
+      cond (nat_le nodes b.nodes) read (Err (Passed (nodes_limit b nodes) (length tokens)))
 
   abbrev pub judged : List Token → Read WrittenType → Read WrittenType
   judged tokens (Ok x) = too_many (nodes_before (length x.1) tokens) tokens (Ok x)
   judged tokens (Err (Syntax left)) = too_many (nodes_before left tokens) tokens (Err (Syntax left))
-  judged tokens (Err (Passed l left)) = cond (nat_le (nodes_before left tokens) b.nodes) (Err (Passed l left)) (too_many (nodes_on (Some 0) tokens) tokens (Err (Passed l left)))
+  judged tokens (Err (Passed l left)) =
+      cond (nat_le (nodes_before left tokens) b.nodes) (Err (Passed l left))
+      (too_many (nodes_on (Some 0) tokens) tokens (Err (Passed l left)))
 
   -- a type within the limits
   unfoldable pub type_at : List Token → Read WrittenType

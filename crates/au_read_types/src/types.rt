@@ -5,7 +5,8 @@ ghost use Rattle.au_base.specs.declared.tokens.Sign.TheVariants.{LeftBracket, Ri
 ghost use Rattle.au_reading.specs.Reading as reading;
 ghost use Rattle.au_reading.specs.Reading.{Gives, name_at};
 ghost use Rattle.au_reading.specs.Bounds.{usual};
-ghost use Rattle.au_read_types.specs.TypeReading.{named_with, reference_with, type_at, type_with, type_within};
+ghost use Rattle.au_read_types.specs.TypeReading.{named_with, reference_with, type_at, type_with};
+ghost use Rattle.au_read_types.specs.TypeReading.{type_within};
 ghost use Rattle.au_syntax.specs.Views.{type_name, written};
 ghost use Rattle.au_syntax.specs.Words as words;
 
@@ -115,7 +116,8 @@ fn arguments(
     levels: u32,
     tokens: &[Token],
 ) -> Result<(Vec<TypeText>, &[Token]), Stop>
-    ensures { Gives (λ x. (map written x.0.items, x.1.now)) result (reading.bracketed LeftBracket RightBracket (type_within usual levels) tokens.now) }
+    ensures { Gives (λ x. (map written x.0.items, x.1.now)) result
+        (reading.bracketed LeftBracket RightBracket (type_within usual levels) tokens.now) }
 {
     if !is_sign(Sign::LeftBracket, tokens) {
         return Ok((Vec::new(alloc), tokens));
@@ -128,7 +130,8 @@ fn arguments(
 /// Types with commas between.
 #[cycle(types)]
 fn listed(alloc: Global, levels: u32, tokens: &[Token]) -> Result<(Vec<TypeText>, &[Token]), Stop>
-    ensures { Gives (λ x. (map written x.0.items, x.1.now)) result (reading.listed (type_within usual levels) tokens.now) }
+    ensures { Gives (λ x. (map written x.0.items, x.1.now)) result
+        (reading.listed (type_within usual levels) tokens.now) }
 {
     let mut args = Vec::new(alloc);
     let mut rest = tokens;
@@ -162,7 +165,8 @@ fn reference(
     access: Access,
     tokens: &[Token],
 ) -> Result<(TypeText, &[Token]), Stop>
-    ensures { Gives (λ x. (written x.0, x.1.now)) result (reference_with (type_within usual levels) access tokens.now) }
+    ensures { Gives (λ x. (written x.0, x.1.now)) result
+        (reference_with (type_within usual levels) access tokens.now) }
 {
     let at = place(tokens);
     let sign = access_sign(access);
