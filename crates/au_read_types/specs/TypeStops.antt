@@ -1,0 +1,53 @@
+-- Where the reading of a type stops, however deep the type is: token by token, with what is open.
+use Rattle.std.specs.Prelude.{ℕ, suc, Bool, true, false, List, [], ◌∷◌, Option, Some, None, cond, length}
+use Rattle.au_base.specs.declared.tokens.Sign.TheVariants.{LeftBracket, RightBracket, Comma, ReadBorrow}
+use Rattle.au_base.specs.declared.tokens.Sign.TheVariants.{WriteBorrow}
+use Rattle.au_base.specs.declared.tokens.Token.{Token}
+use Rattle.au_base.specs.declared.tokens.What.{What}
+use Rattle.au_base.specs.declared.tokens.What.TheVariants.{Sign, Name}
+use Rattle.au_reading.specs.Reading.{same_what}
+use Rattle.au_read_types.specs.declared.stops.Awaits.{Awaits}
+use Rattle.au_read_types.specs.declared.stops.Awaits.TheVariants as awaits
+use Rattle.au_read_types.specs.declared.stops.Within.{Within}
+use Rattle.au_read_types.specs.declared.stops.Within.TheVariants as within
+
+-- what may stand at a place of a type, and what is open there, the innermost first
+abbrev pub Place : Type 0
+Place = Awaits × List Within
+
+-- behind the first token of a type
+abbrev pub begun : List Within → What → Option Place
+begun open (Name bytes) = Some (awaits.Arguments, open)
+begun open (Sign ReadBorrow) = Some (awaits.Target, open)
+begun open (Sign WriteBorrow) = Some (awaits.Target, open)
+begun open other = None
+
+abbrev pub is_name : What → Bool
+is_name (Name bytes) = true
+is_name other = false
+
+-- behind a token that stands behind a whole type
+abbrev pub behind_type : List Within → What → Option Place
+behind_type [] what = None
+behind_type (within.Arguments ∷ open) what =
+    cond (same_what what (Sign Comma)) (Some (awaits.Type, within.Arguments ∷ open))
+    (cond (same_what what (Sign RightBracket)) (Some (awaits.Behind, open)) None)
+behind_type (within.Target ∷ open) what = cond (same_what what (Sign Comma)) (Some (awaits.Region, open)) None
+
+-- behind a token, if it may stand at the place
+abbrev pub next : Place → What → Option Place
+next (awaits.Type, open) what = begun open what
+next (awaits.Target, open) what =
+    cond (same_what what (Sign LeftBracket)) (Some (awaits.Type, within.Target ∷ open)) None
+next (awaits.Arguments, open) what =
+    cond (same_what what (Sign LeftBracket)) (Some (awaits.Type, within.Arguments ∷ open)) (behind_type open what)
+next (awaits.Behind, open) what = behind_type open what
+next (awaits.Region, open) what = cond (is_name what) (Some (awaits.Close, open)) None
+next (awaits.Close, open) what = cond (same_what what (Sign RightBracket)) (Some (awaits.Behind, open)) None
+
+-- how many tokens are left where reading stops: with the first one that may not stand at its place, which the
+-- place behind it tells, or where there is none any more
+abbrev pub stops : Option Place → List Token → ℕ
+stops None tokens = suc (length tokens)
+stops (Some place) [] = 0
+stops (Some place) (token ∷ tokens) = stops (next place token.what) tokens
