@@ -1,5 +1,6 @@
 -- Where the reading of a type stops, however deep the type is: token by token, with what is open.
 use Rattle.std.specs.Prelude.{ℕ, suc, Bool, true, false, List, [], ◌∷◌, Option, Some, None, cond, length}
+use Rattle.std.specs.Prelude.{reverse}
 use Rattle.au_base.specs.declared.tokens.Sign.TheVariants.{LeftBracket, RightBracket, Comma, ReadBorrow}
 use Rattle.au_base.specs.declared.tokens.Sign.TheVariants.{WriteBorrow}
 use Rattle.au_base.specs.declared.tokens.Token.{Token}
@@ -17,10 +18,10 @@ Place = Awaits × List Within
 
 -- behind the first token of a type
 abbrev pub begun : List Within → What → Option Place
-begun open (Name bytes) = Some (awaits.Arguments, open)
-begun open (Sign ReadBorrow) = Some (awaits.Target, open)
-begun open (Sign WriteBorrow) = Some (awaits.Target, open)
-begun open other = None
+begun inside (Name bytes) = Some (awaits.Arguments, inside)
+begun inside (Sign ReadBorrow) = Some (awaits.Target, inside)
+begun inside (Sign WriteBorrow) = Some (awaits.Target, inside)
+begun inside other = None
 
 abbrev pub is_name : What → Bool
 is_name (Name bytes) = true
@@ -29,21 +30,24 @@ is_name other = false
 -- behind a token that stands behind a whole type
 abbrev pub behind_type : List Within → What → Option Place
 behind_type [] what = None
-behind_type (within.Arguments ∷ open) what =
-    cond (same_what what (Sign Comma)) (Some (awaits.Type, within.Arguments ∷ open))
-    (cond (same_what what (Sign RightBracket)) (Some (awaits.Behind, open)) None)
-behind_type (within.Target ∷ open) what = cond (same_what what (Sign Comma)) (Some (awaits.Region, open)) None
+behind_type (within.Arguments ∷ inside) what =
+    cond (same_what what (Sign Comma)) (Some (awaits.Type, within.Arguments ∷ inside))
+    (cond (same_what what (Sign RightBracket)) (Some (awaits.Behind, inside)) None)
+behind_type (within.Target ∷ inside) what =
+    cond (same_what what (Sign Comma)) (Some (awaits.Region, inside)) None
 
 -- behind a token, if it may stand at the place
 abbrev pub next : Place → What → Option Place
-next (awaits.Type, open) what = begun open what
-next (awaits.Target, open) what =
-    cond (same_what what (Sign LeftBracket)) (Some (awaits.Type, within.Target ∷ open)) None
-next (awaits.Arguments, open) what =
-    cond (same_what what (Sign LeftBracket)) (Some (awaits.Type, within.Arguments ∷ open)) (behind_type open what)
-next (awaits.Behind, open) what = behind_type open what
-next (awaits.Region, open) what = cond (is_name what) (Some (awaits.Close, open)) None
-next (awaits.Close, open) what = cond (same_what what (Sign RightBracket)) (Some (awaits.Behind, open)) None
+next (awaits.Type, inside) what = begun inside what
+next (awaits.Target, inside) what =
+    cond (same_what what (Sign LeftBracket)) (Some (awaits.Type, within.Target ∷ inside)) None
+next (awaits.Arguments, inside) what =
+    cond (same_what what (Sign LeftBracket)) (Some (awaits.Type, within.Arguments ∷ inside))
+    (behind_type inside what)
+next (awaits.Behind, inside) what = behind_type inside what
+next (awaits.Region, inside) what = cond (is_name what) (Some (awaits.Close, inside)) None
+next (awaits.Close, inside) what =
+    cond (same_what what (Sign RightBracket)) (Some (awaits.Behind, inside)) None
 
 -- how many tokens are left where reading stops: with the first one that may not stand at its place, which the
 -- place behind it tells, or where there is none any more
@@ -51,3 +55,8 @@ abbrev pub stops : Option Place → List Token → ℕ
 stops None tokens = suc (length tokens)
 stops (Some place) [] = 0
 stops (Some place) (token ∷ tokens) = stops (next place token.what) tokens
+
+-- the place that code holds: with what is open there, the innermost last
+abbrev pub place_held : Option Awaits → List Within → Option Place
+place_held None inside = None
+place_held (Some awaits) inside = Some (awaits, reverse inside)
