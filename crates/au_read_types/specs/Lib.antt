@@ -1,1 +1,2 @@
 pub mod TypeReading
+pub mod TypeStops

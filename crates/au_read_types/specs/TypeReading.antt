@@ -83,23 +83,11 @@ nodes_in (token ∷ tokens) = weight token.what + nodes_in tokens
 abbrev pub nodes_before : ℕ → List Token → ℕ
 nodes_before left tokens = nodes_in (take (length tokens - left) tokens)
 
--- How many brackets are open behind a token of a type, where so many are open before it; none, where the
--- type ends with the token or the token stands in no type.
-abbrev pub open_behind : ℕ → What → List Token → Option ℕ
-open_behind depth (Name bytes) tokens = cond (depth == 0 && ends_type (front tokens)) None (Some depth)
-open_behind depth (Sign ReadBorrow) tokens = Some depth
-open_behind depth (Sign WriteBorrow) tokens = Some depth
-open_behind depth (Sign LeftBracket) tokens = Some (depth + 1)
-open_behind depth (Sign RightBracket) tokens = cond (nat_le depth 1) None (Some (depth - 1))
-open_behind depth (Sign Comma) tokens = Some depth
-open_behind depth other tokens = None
-
--- the nodes of the type that stands here, however deep, where so many brackets are open
-abbrev pub nodes_on : Option ℕ → List Token → ℕ
-nodes_on None tokens = 0
-nodes_on (Some depth) [] = 0
-nodes_on (Some depth) (token ∷ tokens) =
-    weight token.what + nodes_on (open_behind depth token.what tokens) tokens
+-- how many tokens are left where reading stopped
+abbrev pub left_at : Read WrittenType → ℕ
+left_at (Ok x) = length x.1
+left_at (Err (Syntax left)) = left
+left_at (Err (Passed l left)) = left
 
 module _ (b : Bounds) where
   -- more nodes than there may be pass their limit, at the first token of the type
@@ -107,12 +95,17 @@ module _ (b : Bounds) where
   too_many nodes tokens read =
       cond (nat_le nodes b.nodes) read (Err (Passed (nodes_limit b nodes) (length tokens)))
 
+  -- the nodes of the type that stands here, however deep: those before what is behind it, or before the token
+  -- that doesn't continue it
+  abbrev pub nodes_here : List Token → ℕ
+  nodes_here tokens = nodes_before (left_at (type_within b (length tokens) tokens)) tokens
+
   abbrev pub judged : List Token → Read WrittenType → Read WrittenType
   judged tokens (Ok x) = too_many (nodes_before (length x.1) tokens) tokens (Ok x)
   judged tokens (Err (Syntax left)) = too_many (nodes_before left tokens) tokens (Err (Syntax left))
   judged tokens (Err (Passed l left)) =
       cond (nat_le (nodes_before left tokens) b.nodes) (Err (Passed l left))
-      (too_many (nodes_on (Some 0) tokens) tokens (Err (Passed l left)))
+      (too_many (nodes_here tokens) tokens (Err (Passed l left)))
 
   -- a type within the limits
   unfoldable pub type_at : List Token → Read WrittenType

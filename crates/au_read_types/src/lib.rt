@@ -2,6 +2,7 @@
 #![tactic(auto)]
 
 mod nodes;
+mod stops;
 pub mod types;
 
 pub use types::written_type;

@@ -1,12 +1,16 @@
 //! The nodes that tokens stand for.
 
-ghost use Rattle.std.specs.Prelude.{◌≡◌, ◌<◌, ◌+◌, ◌^◌, Some, Err, length, nat_le};
-ghost use Rattle.au_reading.specs.Reading.{front};
+ghost use Rattle.std.specs.Prelude.{◌≡◌, Some, Err, IfOk, length, nat_le};
+ghost use Rattle.au_reading.specs.Reading as reading;
 ghost use Rattle.au_reading.specs.Bounds.{nodes_limit, usual};
-ghost use Rattle.au_read_types.specs.TypeReading.{begins_type, judged, nodes_before, nodes_on, open_behind};
+ghost use Rattle.au_read_types.specs.TypeReading as types;
+ghost use Rattle.au_read_types.specs.TypeReading.{begins_type, judged, nodes_before, nodes_here};
+ghost use Rattle.au_syntax.specs.Types.{WrittenType};
 
-use au_base::{Limit, LimitKind, MOST_TYPE_NODES, Sign, Token, What};
-use au_reading::{Fault, is_sign};
+use crate::stops::tokens_left;
+use au_base::{Limit, LimitKind, MOST_TYPE_NODES, Memory, Sign, Token, What};
+use au_reading::{Fault, Stop};
+use std::alloc::Global;
 
 /// Whether a type begins with this token.
 pub(crate) fn begins(token: &Token) -> bool
@@ -38,49 +42,18 @@ pub(crate) fn count_before(left: usize, tokens: &[Token]) -> u64
     count
 }
 
-/// How many brackets are open behind a token of a type, or none where the type ends there.
-fn open_after(depth: usize, token: &Token, behind: &[Token]) -> Option<usize>
-    requires { depth + 1 < 2 ^ 64 }
-    ensures { result ≡ open_behind depth token.now.what behind.now }
+/// The nodes of the type that stands here, however deep it is: those of all tokens before the first one that
+/// doesn't continue the type, or before what is behind the type.
+///
+/// # Errors
+///
+/// `Memory` when memory runs out.
+#[tactic(auto, using(crate::proofs::TypeStops::reading_stops))]
+fn count_here(alloc: Global, tokens: &[Token]) -> Result<u64, Memory>
+    ensures { IfOk result (λ count. count ≡ nodes_here usual tokens.now) }
 {
-    match &token.what {
-        What::Name(_) => {
-            if depth == 0 && !is_sign(Sign::LeftBracket, behind) {
-                None
-            } else {
-                Some(depth)
-            }
-        }
-        What::Sign(Sign::ReadBorrow) => Some(depth),
-        What::Sign(Sign::WriteBorrow) => Some(depth),
-        What::Sign(Sign::LeftBracket) => Some(depth + 1),
-        What::Sign(Sign::RightBracket) => { if depth <= 1 { None } else { Some(depth - 1) } }
-        What::Sign(Sign::Comma) => Some(depth),
-        _ => None,
-    }
-}
-
-/// The nodes of the type that stands here.
-pub(crate) fn count_here(tokens: &[Token]) -> u64
-    ensures { result ≡ nodes_on (Some 0) tokens.now }
-{
-    let mut count = 0;
-    let mut depth = 0;
-    let mut rest = tokens;
-    for _ in 0..tokens.len() {
-        let [token, behind @ ..] = rest else {
-            return count;
-        };
-        if begins(token) {
-            count += 1;
-        }
-        let Some(open) = open_after(depth, token, behind) else {
-            return count;
-        };
-        depth = open;
-        rest = behind;
-    }
-    count
+    let left = tokens_left(alloc, tokens)?;
+    Ok(count_before(left, tokens))
 }
 
 /// A type has more nodes than it may.
@@ -102,28 +75,35 @@ pub(crate) fn is_few(count: u64) -> bool
     count <= u64::from(MOST_TYPE_NODES)
 }
 
-/// What is wrong with a type, where this is wrong with it or it has too many nodes before that.
-pub(crate) fn judge(fault: Fault, tokens: &[Token]) -> Fault
-    ensures { judged usual tokens.now (Err fault) ≡ Err result }
+/// What is wrong with a type that has so many nodes: that these are too many, or else the fault.
+fn too_many_or(fault: Fault, count: u64, tokens: &[Token]) -> Fault
+    ensures { types.too_many usual {A = WrittenType} count tokens.now (Err fault) ≡ Err result }
+{
+    if is_few(count) {
+        fault
+    } else {
+        too_many(count, tokens)
+    }
+}
+
+/// What is wrong with a type that has a fault: the fault, unless the type passes the limit of nodes before it.
+/// COUNT is then the nodes before the token that doesn't continue the type. A type that is too deep is read on for
+/// it, to the first token that doesn't continue it or to the type's end.
+pub(crate) fn judge(alloc: Global, fault: Fault, tokens: &[Token]) -> Stop
+    ensures { reading.Stops result (judged usual tokens.now (Err fault)) }
 {
     match fault {
         Fault::Syntax(left) => {
             let count = count_before(left, tokens);
-            if is_few(count) {
-                fault
-            } else {
-                too_many(count, tokens)
-            }
+            Stop::Fault(too_many_or(fault, count, tokens))
         }
         Fault::Passed(_, left) => {
             if is_few(count_before(left, tokens)) {
-                return fault;
+                return Stop::Fault(fault);
             }
-            let count = count_here(tokens);
-            if is_few(count) {
-                fault
-            } else {
-                too_many(count, tokens)
+            match count_here(alloc, tokens) {
+                Ok(count) => Stop::Fault(too_many_or(fault, count, tokens)),
+                Err(Memory) => Stop::Memory,
             }
         }
     }

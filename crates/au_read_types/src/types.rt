@@ -36,7 +36,7 @@ pub fn written_type(alloc: Global, tokens: &[Token]) -> Result<(TypeText, &[Toke
             }
         }
         Err(Stop::Memory) => Err(Stop::Memory),
-        Err(Stop::Fault(fault)) => Err(Stop::Fault(judge(fault, tokens))),
+        Err(Stop::Fault(fault)) => Err(judge(alloc, fault, tokens)),
     }
 }
 
