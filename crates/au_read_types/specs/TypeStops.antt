@@ -17,10 +17,10 @@ Place = Awaits × List Within
 
 -- behind the first token of a type
 abbrev pub begun : List Within → What → Option Place
-begun open (Name bytes) = Some (awaits.Arguments, open)
-begun open (Sign ReadBorrow) = Some (awaits.Target, open)
-begun open (Sign WriteBorrow) = Some (awaits.Target, open)
-begun open other = None
+begun inside (Name bytes) = Some (awaits.Arguments, inside)
+begun inside (Sign ReadBorrow) = Some (awaits.Target, inside)
+begun inside (Sign WriteBorrow) = Some (awaits.Target, inside)
+begun inside other = None
 
 abbrev pub is_name : What → Bool
 is_name (Name bytes) = true
@@ -29,21 +29,24 @@ is_name other = false
 -- behind a token that stands behind a whole type
 abbrev pub behind_type : List Within → What → Option Place
 behind_type [] what = None
-behind_type (within.Arguments ∷ open) what =
-    cond (same_what what (Sign Comma)) (Some (awaits.Type, within.Arguments ∷ open))
-    (cond (same_what what (Sign RightBracket)) (Some (awaits.Behind, open)) None)
-behind_type (within.Target ∷ open) what = cond (same_what what (Sign Comma)) (Some (awaits.Region, open)) None
+behind_type (within.Arguments ∷ inside) what =
+    cond (same_what what (Sign Comma)) (Some (awaits.Type, within.Arguments ∷ inside))
+    (cond (same_what what (Sign RightBracket)) (Some (awaits.Behind, inside)) None)
+behind_type (within.Target ∷ inside) what =
+    cond (same_what what (Sign Comma)) (Some (awaits.Region, inside)) None
 
 -- behind a token, if it may stand at the place
 abbrev pub next : Place → What → Option Place
-next (awaits.Type, open) what = begun open what
-next (awaits.Target, open) what =
-    cond (same_what what (Sign LeftBracket)) (Some (awaits.Type, within.Target ∷ open)) None
-next (awaits.Arguments, open) what =
-    cond (same_what what (Sign LeftBracket)) (Some (awaits.Type, within.Arguments ∷ open)) (behind_type open what)
-next (awaits.Behind, open) what = behind_type open what
-next (awaits.Region, open) what = cond (is_name what) (Some (awaits.Close, open)) None
-next (awaits.Close, open) what = cond (same_what what (Sign RightBracket)) (Some (awaits.Behind, open)) None
+next (awaits.Type, inside) what = begun inside what
+next (awaits.Target, inside) what =
+    cond (same_what what (Sign LeftBracket)) (Some (awaits.Type, within.Target ∷ inside)) None
+next (awaits.Arguments, inside) what =
+    cond (same_what what (Sign LeftBracket)) (Some (awaits.Type, within.Arguments ∷ inside))
+    (behind_type inside what)
+next (awaits.Behind, inside) what = behind_type inside what
+next (awaits.Region, inside) what = cond (is_name what) (Some (awaits.Close, inside)) None
+next (awaits.Close, inside) what =
+    cond (same_what what (Sign RightBracket)) (Some (awaits.Behind, inside)) None
 
 -- how many tokens are left where reading stops: with the first one that may not stand at its place, which the
 -- place behind it tells, or where there is none any more
