@@ -27,14 +27,15 @@ use Rattle.au_read_types.specs.declared.stops.Awaits.TheVariants as awaits
 use Rattle.au_read_types.specs.declared.stops.Within.{Within}
 use Rattle.au_read_types.specs.declared.stops.Within.TheVariants as within
 
--- what reading gives where so many tokens are left in the end: it passes no limit, and of the tokens behind
--- what is read this holds
+-- What a reader gives where so many tokens are left when reading stops: it tells no limit, what doesn't read
+-- stops with so many left, and this holds of the tokens behind what is read.
 abbrev pub Goes : {A : Type 0} → ℕ → (A → List Token) → (List Token → Type 0) → Result A Fault → Type 0
 Goes n see Holds (Ok x) = Holds (see x)
 Goes n see Holds (Err (Syntax left)) = n ≡ left
 Goes n see Holds (Err (Passed l left)) = ⊥
 
--- from this place on so many are left, and these tokens are fewer than others
+-- From this place on so many tokens are left when reading stops. These tokens are fewer than the second
+-- number.
 abbrev pub At : ℕ → ℕ → Place → List Token → Type 0
 At n m place ts = (n ≡ stops (Some place) ts) × (length ts < m)
 
@@ -45,6 +46,7 @@ rest_of x = x.1
 abbrev all_of : List Token → List Token
 all_of ts = ts
 
+-- one step, and then another
 goes_on : {A B : Type 0} (n : ℕ) (see : A → List Token) (P : List Token → Type 0) (other : B → List Token)
     (Q : List Token → Type 0) (r : Result A Fault) (f : A → Result B Fault)
     → Goes n see P r → ((x : A) → P (see x) → Goes n other Q (f x)) → Goes n other Q (r >>= f)
@@ -54,7 +56,7 @@ goes_on n see P other Q (Err (Passed l left)) f h on = absurd h
 
 -- ---- one token
 
--- at the place this token alone may stand, where a token stands, and the other place is behind it
+-- at the place this token alone may stand, with the other place behind it
 abbrev Allows : Place → What → Place → List Token → Type 0
 Allows place what other [] = Unit {0}
 Allows place what other (t ∷ ts) = next place t.what ≡ cond (same_what t.what what) (Some other) None
@@ -74,9 +76,10 @@ token_goes n m place what other (t ∷ ts) h may = token_by (same_what t.what wh
         → Goes n all_of (At n m other) (token_at what (t ∷ ts))
     token_by true is =
         subst (Goes n all_of (At n m other))
-        (sym (when_true (same_what t.what what) (given ts) (no (t ∷ ts)) is))
-        (h.0 ∙ ap (λ p. stops p ts) (may ∙ when_true (same_what t.what what) (Some other) None is),
-        omega (arith, h.1))
+        (sym (when_true (same_what t.what what) (given ts) (no (t ∷ ts)) is)) (
+          h.0 ∙ ap (λ p. stops p ts) (may ∙ when_true (same_what t.what what) (Some other) None is),
+          omega (arith, h.1),
+        )
     token_by false is =
         subst (Goes n all_of (At n m other))
         (sym (when_false (same_what t.what what) (given ts) (no (t ∷ ts)) is))
@@ -123,12 +126,13 @@ region_goes n m inside ts h =
     (λ x c. closed_goes n m (awaits.Close, inside) (Sign RightBracket) (awaits.Behind, inside) x c
     (allowed (awaits.Close, inside) (Sign RightBracket) (awaits.Behind, inside) (λ w. refl) x.1)))
 
--- ---- what has parts that are read
+-- ---- what has types as parts
 
--- how a reader of types goes on where no more than so many tokens stand
+-- how a reader of types goes on where there are no more than so many tokens
 abbrev pub Inside : ℕ → (List Token → Read WrittenType) → Type 0
 Inside d inner =
-    (n : ℕ) (inside : List Within) (ts : List Token) → length ts ≤ d → n ≡ stops (Some (awaits.Type, inside)) ts
+    (n : ℕ) (inside : List Within) (ts : List Token) → length ts ≤ d
+    → n ≡ stops (Some (awaits.Type, inside)) ts
     → Goes n rest_of (At n (length ts) (awaits.Behind, inside)) (inner ts)
 
 -- behind the last argument no comma stands
@@ -144,13 +148,14 @@ right_allowed inside (t ∷ ts) last =
     (cond (same_what t.what (Sign RightBracket)) (Some (awaits.Behind, inside)) None) last
 
 module _ (d : ℕ) (inner : List Token → Read WrittenType) (reads : Inside d inner) where
-  -- arguments behind one
+  -- what stands behind an argument
   after_goes : (n m : ℕ) (inside : List Within) (k : ℕ)
       → ((ts : List Token) → length ts ≤ k → At n m (awaits.Type, within.Arguments ∷ inside) ts
       → Goes n rest_of (Ended n m inside) (separated_at (Sign Comma) inner k ts))
       → (x : WrittenType) (ts : List Token) → length ts ≤ k
       → At n m (awaits.Behind, within.Arguments ∷ inside) ts
-      → Goes n rest_of (Ended n m inside) (after_part (Sign Comma) (separated_at (Sign Comma) inner k) (x, ts))
+      → Goes n rest_of (Ended n m inside)
+      (after_part (Sign Comma) (separated_at (Sign Comma) inner k) (x, ts))
   after_goes n m inside k others x [] short h = (h, refl)
   after_goes n m inside k others x (t ∷ ts) short h = after_by (same_what t.what (Sign Comma)) refl
     where
@@ -163,26 +168,28 @@ module _ (d : ℕ) (inner : List Token → Read WrittenType) (reads : Inside d i
       after_by true is =
           subst (Goes n rest_of (Ended n m inside))
           (sym (when_true (same_what t.what (Sign Comma)) more (read_of (x ∷ []) (t ∷ ts)) is))
-          (goes_on n rest_of (Ended n m inside) rest_of (Ended n m inside) (separated_at (Sign Comma) inner k ts)
-          (before_all x)
-          (others ts (omega (arith, short))
-          (h.0 ∙ ap (λ p. stops p ts)
-          (when_true (same_what t.what (Sign Comma)) (Some (awaits.Type, within.Arguments ∷ inside))
-          (cond (same_what t.what (Sign RightBracket)) (Some (awaits.Behind, inside)) None) is),
-          omega (arith, h.1)))
+          (goes_on n rest_of (Ended n m inside) rest_of (Ended n m inside)
+          (separated_at (Sign Comma) inner k ts) (before_all x)
+          (others ts (omega (arith, short)) (
+            h.0 ∙ ap (λ p. stops p ts)
+                (when_true (same_what t.what (Sign Comma)) (Some (awaits.Type, within.Arguments ∷ inside))
+                (cond (same_what t.what (Sign RightBracket)) (Some (awaits.Behind, inside)) None) is),
+            omega (arith, h.1),
+          ))
           (λ y e. e))
       after_by false is =
           subst (Goes n rest_of (Ended n m inside))
           (sym (when_false (same_what t.what (Sign Comma)) more (read_of (x ∷ []) (t ∷ ts)) is)) (h, is)
 
+  -- arguments with commas between
   list_goes : (n m : ℕ) (inside : List Within) → m ≤ suc d → (k : ℕ) (ts : List Token) → length ts ≤ k
       → At n m (awaits.Type, within.Arguments ∷ inside) ts
       → Goes n rest_of (Ended n m inside) (separated_at (Sign Comma) inner k ts)
   list_goes n m inside small zero [] short h = h.0
   list_goes n m inside small zero (t ∷ ts) short h = absurd (let wrong : ⊥ = omega (arith, short) in wrong)
   list_goes n m inside small (suc k) ts short h =
-      goes_on n rest_of (At n (length ts) (awaits.Behind, within.Arguments ∷ inside)) rest_of (Ended n m inside)
-      (inner ts) (after_part (Sign Comma) (separated_at (Sign Comma) inner k))
+      goes_on n rest_of (At n (length ts) (awaits.Behind, within.Arguments ∷ inside))
+      rest_of (Ended n m inside) (inner ts) (after_part (Sign Comma) (separated_at (Sign Comma) inner k))
       (reads n (within.Arguments ∷ inside) ts (omega (arith, small, h.1)) h.0)
       (λ x e. after_goes n m inside k (list_goes n m inside small k) x.0 x.1 (omega (arith, short, e.1))
       (e.0, omega (arith, h.1, e.1)))
@@ -209,20 +216,22 @@ module _ (d : ℕ) (inner : List Token → Read WrittenType) (reads : Inside d i
           (sym (when_true (same_what t.what (Sign LeftBracket)) inner_args (read_of [] (t ∷ ts)) is))
           (goes_on n rest_of (Ended n m inside) rest_of (At n m (awaits.Behind, inside))
           (listed inner ts) (closed_at (Sign RightBracket ∷ []))
-          (list_goes n m inside (omega (arith, short)) (length ts) ts (omega arith)
-          (e ∙ ap (λ p. stops p ts)
-          (when_true (same_what t.what (Sign LeftBracket)) (Some (awaits.Type, within.Arguments ∷ inside))
-          (behind_type inside t.what) is),
-          omega arith))
+          (list_goes n m inside (omega (arith, short)) (length ts) ts (omega arith) (
+            e ∙ ap (λ p. stops p ts)
+                (when_true (same_what t.what (Sign LeftBracket)) (Some (awaits.Type, within.Arguments ∷ inside))
+                (behind_type inside t.what) is),
+            omega arith,
+          ))
           (λ x h. closed_goes n m (awaits.Behind, within.Arguments ∷ inside) (Sign RightBracket)
           (awaits.Behind, inside) x h.0 (right_allowed inside x.1 h.1)))
       args_by false is =
           subst (Goes n rest_of (At n m (awaits.Behind, inside)))
-          (sym (when_false (same_what t.what (Sign LeftBracket)) inner_args (read_of [] (t ∷ ts)) is))
-          (e ∙ ap (λ p. stops p ts)
-          (when_false (same_what t.what (Sign LeftBracket)) (Some (awaits.Type, within.Arguments ∷ inside))
-          (behind_type inside t.what) is),
-          omega arith)
+          (sym (when_false (same_what t.what (Sign LeftBracket)) inner_args (read_of [] (t ∷ ts)) is)) (
+            e ∙ ap (λ p. stops p ts)
+                (when_false (same_what t.what (Sign LeftBracket)) (Some (awaits.Type, within.Arguments ∷ inside))
+                (behind_type inside t.what) is),
+            omega arith,
+          )
 
   -- a name and its arguments
   named_goes : (n : ℕ) (inside : List Within) (bytes : Bytes) (t : Token) (ts : List Token)
@@ -275,11 +284,12 @@ module _ (d : ℕ) (inner : List Token → Read WrittenType) (reads : Inside d i
       (sym (token_again (Sign (access_sign mode)) t ts is))
       (goes_on n rest_of (At n m (awaits.Behind, inside)) rest_of (At n m (awaits.Behind, inside))
       (behind (Sign LeftBracket ∷ []) target_at ts) (built_at (reference_of mode t.at))
-      (goes_on n all_of (At n m (awaits.Type, within.Target ∷ inside)) rest_of (At n m (awaits.Behind, inside))
-      (tokens_at (Sign LeftBracket ∷ []) ts) target_at
+      (goes_on n all_of (At n m (awaits.Type, within.Target ∷ inside))
+      rest_of (At n m (awaits.Behind, inside)) (tokens_at (Sign LeftBracket ∷ []) ts) target_at
       (one_goes n m (awaits.Target, inside) (Sign LeftBracket) (awaits.Type, within.Target ∷ inside) ts
       (e, omega arith)
-      (allowed (awaits.Target, inside) (Sign LeftBracket) (awaits.Type, within.Target ∷ inside) (λ w. refl) ts))
+      (allowed (awaits.Target, inside) (Sign LeftBracket) (awaits.Type, within.Target ∷ inside) (λ w. refl)
+      ts))
       (λ next h. target_goes n m inside (omega (arith, short)) next h))
       (λ y h. h))
     where
@@ -307,7 +317,7 @@ within_goes b (suc d) n inside [] short e = e
 within_goes b (suc d) n inside (t ∷ ts) short e =
     by_goes d (type_within b d) (within_goes b d) n inside t.what t ts refl (omega (arith, short)) e
 
--- behind a type that stands in no other reading stops
+-- behind a type that stands in no other one reading stops
 behind_all : (ts : List Token) → stops (Some (awaits.Behind, [])) ts ≡ length ts
 behind_all [] = refl
 behind_all (t ∷ ts) = refl
