@@ -218,8 +218,8 @@ module _ (d : ℕ) (inner : List Token → Read WrittenType) (reads : Inside d i
           (listed inner ts) (closed_at (Sign RightBracket ∷ []))
           (list_goes n m inside (omega (arith, short)) (length ts) ts (omega arith) (
             e ∙ ap (λ p. stops p ts)
-                (when_true (same_what t.what (Sign LeftBracket)) (Some (awaits.Type, within.Arguments ∷ inside))
-                (behind_type inside t.what) is),
+                (when_true (same_what t.what (Sign LeftBracket))
+                (Some (awaits.Type, within.Arguments ∷ inside)) (behind_type inside t.what) is),
             omega arith,
           ))
           (λ x h. closed_goes n m (awaits.Behind, within.Arguments ∷ inside) (Sign RightBracket)
@@ -228,8 +228,8 @@ module _ (d : ℕ) (inner : List Token → Read WrittenType) (reads : Inside d i
           subst (Goes n rest_of (At n m (awaits.Behind, inside)))
           (sym (when_false (same_what t.what (Sign LeftBracket)) inner_args (read_of [] (t ∷ ts)) is)) (
             e ∙ ap (λ p. stops p ts)
-                (when_false (same_what t.what (Sign LeftBracket)) (Some (awaits.Type, within.Arguments ∷ inside))
-                (behind_type inside t.what) is),
+                (when_false (same_what t.what (Sign LeftBracket))
+                (Some (awaits.Type, within.Arguments ∷ inside)) (behind_type inside t.what) is),
             omega arith,
           )
 
