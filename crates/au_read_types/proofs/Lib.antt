@@ -1,3 +1,4 @@
 pub mod TypeNodes
 pub mod TypeForm
 pub mod TypeSteps
+pub mod TypeStops

@@ -1,5 +1,6 @@
 -- The laws of the reader of types.
-use Rattle.std.proofs.Common.{◌≡◌, ℕ, zero, suc, ◌<◌, ◌≤◌, Bool, true, false, nat_le, List, [], ◌∷◌, ◌++◌, length, map, Option, Some, Ok, Err, refl, sym, ap, subst, arith, inl, inr}
+use Rattle.std.proofs.Common.{◌≡◌, ℕ, zero, suc, ◌<◌, ◌≤◌, Bool, true, false, nat_le, List, [], ◌∷◌, ◌++◌}
+use Rattle.std.proofs.Common.{length, map, Option, Some, Ok, Err, refl, sym, ap, ◌∙◌, subst, arith, inl, inr}
 use Rattle.std.specs.List.{list_all}
 use Rattle.std.proofs.lemmas.Bool.{leb-true, leb-false}
 use Rattle.au_base.specs.declared.limits.Limit.{Limit}
@@ -20,13 +21,15 @@ use Rattle.au_reading.specs.Bounds.{Bounds, TypePasses, depth_limit, nodes_limit
 use Rattle.au_reading.specs.Reading.{Read, front, name_at, read_of, no, behind, closed, pair, bracketed}
 use Rattle.au_reading.specs.Spelling.{Begins}
 use Rattle.au_reading.proofs.Steps.{not_read, chosen, when_true, when_false}
-use Rattle.au_reading.proofs.Begins.{front_of}
+use Rattle.au_reading.proofs.Begins.{front_of, begins_shorter}
 use Rattle.au_reading.proofs.Forms.{Form, Sound, Finds, Reads, anything, behind_form, closed_form, pair_form, closed_reads, behind_reads, pair_after, pair_behind, Shapes, Builds, shaped_sound, shaped_found, built_sound, built_found, sound_of}
 use Rattle.au_reading.proofs.ListForms.{AllFit, OnePasses, bracketed_form, bracketed_reads}
 use Rattle.au_reading.proofs.Limits.{TypeFits}
 use Rattle.au_reading.proofs.Single.{name_form, name_reads}
-use Rattle.au_read_types.specs.TypeReading.{begins_type, ends_type, types_of, named_of, reference_of, named_with, reference_with, type_by, type_with, type_within, nodes_before, nodes_on, too_many, judged, type_at}
-use Rattle.au_read_types.proofs.TypeNodes.{target_words, type_taken, type_alone}
+use Rattle.au_read_types.specs.TypeReading.{begins_type, ends_type, types_of, named_of, reference_of}
+use Rattle.au_read_types.specs.TypeReading.{named_with, reference_with, type_by, type_with, type_within, left_at}
+use Rattle.au_read_types.specs.TypeReading.{nodes_before, too_many, nodes_here, judged, type_at}
+use Rattle.au_read_types.proofs.TypeNodes.{target_words, type_taken, depth_words}
 
 -- a type within the limits
 abbrev pub type_form : Bounds → Form WrittenType
@@ -206,6 +209,17 @@ module _ (b : Bounds) where
 
   -- ---- the count of nodes
 
+  -- where a type stands, so many levels as there are tokens are enough for it
+  here_nodes : (x : WrittenType) (ts rest : List Token) → Begins (type_words x) ts rest
+      → ends_type (front rest) ≡ true → nodes_here b ts ≡ type_nodes x
+  here_nodes x ts rest h ended =
+      elim ((within_reads (length ts)).found x ts rest h refl ended) [
+        | inl on ↦ ap (λ r. nodes_before (left_at r) ts) on ∙ type_taken x ts rest h
+        | inr p ↦
+            absurd (let wrong : ⊥ = omega (arith, p.3.0, depth_words x, begins_shorter (type_words x) ts rest h)
+            in wrong)
+      ]
+
   few_sound : (n : ℕ) (ts rest : List Token) (read : Read WrittenType) (x : WrittenType) → too_many b n ts read ≡ Ok (x, rest) → (n ≤ b.nodes) × (read ≡ Ok (x, rest))
   few_sound n ts rest read x e =
       elim (chosen (nat_le n b.nodes) read (Err (Passed (nodes_limit b n) (length ts))) (read_of x rest) e) [
@@ -221,9 +235,10 @@ module _ (b : Bounds) where
       sound_of (type_form b) y.0 x ts y.1 rest (record { spelled = s.spelled; good = refl; fits = (s.fits, nodes) }) few.1
   judged_sound ts rest x (Err (Syntax left)) is e = absurd (not_read _ (x, rest) (few_sound (nodes_before left ts) ts rest (Err (Syntax left)) x e).1)
   judged_sound ts rest x (Err (Passed l left)) is e =
-      elim (chosen (nat_le (nodes_before left ts) b.nodes) (Err (Passed l left)) (too_many b (nodes_on (Some 0) ts) ts (Err (Passed l left))) (read_of x rest) e) [
+      elim (chosen (nat_le (nodes_before left ts) b.nodes) (Err (Passed l left))
+      (too_many b (nodes_here b ts) ts (Err (Passed l left))) (read_of x rest) e) [
         | inl w ↦ absurd (not_read _ (x, rest) w.1)
-        | inr w ↦ absurd (not_read _ (x, rest) (few_sound (nodes_on (Some 0) ts) ts rest (Err (Passed l left)) x w.1).1)
+        | inr w ↦ absurd (not_read _ (x, rest) (few_sound (nodes_here b ts) ts rest (Err (Passed l left)) x w.1).1)
       ]
 
   -- the nodes are counted, and are too many or not
@@ -244,13 +259,13 @@ module _ (b : Bounds) where
       told = inr (l, left, refl, inl (deep, is))
 
       counted : Read WrittenType
-      counted = too_many b (nodes_on (Some 0) ts) ts (Err (Passed l left))
+      counted = too_many b (nodes_here b ts) ts (Err (Passed l left))
 
       deep_by : (test : Bool) → nat_le (nodes_before left ts) b.nodes ≡ test → Finds (type_form b) x rest (judged b ts (Err (Passed l left)))
       deep_by true e = subst (Finds (type_form b) x rest) (sym (when_true (nat_le (nodes_before left ts) b.nodes) (Err (Passed l left)) counted e)) told
       deep_by false e =
           subst (Finds (type_form b) x rest) (sym (when_false (nat_le (nodes_before left ts) b.nodes) (Err (Passed l left)) counted e))
-          (many_found (nodes_on (Some 0) ts) x ts rest (Err (Passed l left)) (type_alone x ts rest h ended) told)
+          (many_found (nodes_here b ts) x ts rest (Err (Passed l left)) (here_nodes x ts rest h ended) told)
 
   judged_found : (x : WrittenType) (ts rest : List Token) → Begins (type_words x) ts rest → ends_type (front rest) ≡ true → Finds (type_form b) x rest (judged b ts (type_within b b.depth ts))
   judged_found x ts rest h ended =
