@@ -143,7 +143,7 @@ const LISTS: [Long; 19] = [
 ];
 
 /// Types, which may have 4096 nodes.
-const TYPES: [Long; 21] = [
+const TYPES: [Long; 27] = [
     (
         b"module M is\nconstant c: A[\n",
         b"B, ",
@@ -276,6 +276,49 @@ const TYPES: [Long; 21] = [
         4_200,
         b"C[C[C[C[C[C[C[C[C[C[C[C[C[C[C[C[C[C[C[C[C[C[C[D]]]]]]]]]]]]]]]]]]]]]]]\n];\nend module.",
         Due::Passes(LimitKind::TypeNodes, 4225, 4096),
+    ),
+    // too deep behind too many nodes: those before the token that doesn't continue the type are told
+    (
+        b"module M is\nconstant c: A[\n",
+        b"B, ",
+        4_073,
+        b"C[C[C[C[C[C[C[C[C[C[C[C[C[C[C[C[C[C[C[C[C[C[C[D E]]]]]]]]]]]]]]]]]]]]]]], B\n];\nend module.",
+        Due::Passes(LimitKind::TypeNodes, 4098, 4096),
+    ),
+    (
+        b"module M is\nconstant c: A[\n",
+        b"B, ",
+        4_073,
+        b"C[C[C[C[C[C[C[C[C[C[C[C[C[C[C[C[C[C[C[C[C[C[C[D]]]]]]]]]]]]]]]]]]]]]]] B, B\n];\nend module.",
+        Due::Passes(LimitKind::TypeNodes, 4098, 4096),
+    ),
+    (
+        b"module M is\nconstant c: A[\n",
+        b"B, ",
+        4_073,
+        b"C[C[C[C[C[C[C[C[C[C[C[C[C[C[C[C[C[C[C[C[C[C[C[D[]]]]]]]]]]]]]]]]]]]]]]]], B\n];\nend module.",
+        Due::Passes(LimitKind::TypeNodes, 4098, 4096),
+    ),
+    (
+        b"module M is\nconstant c: A[\n",
+        b"B, ",
+        4_073,
+        b"C[C[C[C[C[C[C[C[C[C[C[C[C[C[C[C[C[C[C[C[C[C[C[&[D]]]]]]]]]]]]]]]]]]]]]]]], B\n];\nend module.",
+        Due::Passes(LimitKind::TypeNodes, 4099, 4096),
+    ),
+    (
+        b"module M is\nconstant c: A[\n",
+        b"B, ",
+        4_073,
+        b"C[C[C[C[C[C[C[C[C[C[C[C[C[C[C[C[C[C[C[C[C[C[C[&[D, &[E, R]], B\n];\nend module.",
+        Due::Passes(LimitKind::TypeNodes, 4099, 4096),
+    ),
+    (
+        b"module M is\nconstant c: A[\n",
+        b"B, ",
+        4_073,
+        b"C[C[C[C[C[C[C[C[C[C[C[C[C[C[C[C[C[C[C[C[C[C[C[&![D, R E], B\n];\nend module.",
+        Due::Passes(LimitKind::TypeNodes, 4100, 4096),
     ),
     (
         b"module M is\nconstant c: A[\n",

@@ -86,9 +86,9 @@ fn too_many_or(fault: Fault, count: u64, tokens: &[Token]) -> Fault
     }
 }
 
-/// What is wrong with a type that has a fault: the fault, unless the type passes the limit of nodes before it.
-/// COUNT is then the nodes before the token that doesn't continue the type. A type that is too deep is read on for
-/// it, to the first token that doesn't continue it or to the type's end.
+/// What is wrong with a type that has a fault: the fault, unless the type has too many nodes before it.
+/// The count that is told is that of the nodes before the first token that doesn't continue the type, however
+/// deep the type is.
 pub(crate) fn judge(alloc: Global, fault: Fault, tokens: &[Token]) -> Stop
     ensures { reading.Stops result (judged usual tokens.now (Err fault)) }
 {

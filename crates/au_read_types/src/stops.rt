@@ -2,7 +2,7 @@
 
 ghost use Rattle.std.specs.Prelude.{◌≡◌, IfOk, List, MatchOption, Some, [], ◌∷◌, ◌-◌, length, reverse, take};
 ghost use Rattle.au_base.specs.declared.tokens.What.TheVariants as what;
-ghost use Rattle.au_read_types.specs.TypeStops.{behind_type, begun, is_name, next, place_held, stops};
+ghost use Rattle.au_read_types.specs.TypeStops.{behind_type, begun, next, place_held, stops};
 ghost use Rattle.au_reading.specs.Reading.{same_what};
 
 use au_base::{Memory, Sign, Token, What};

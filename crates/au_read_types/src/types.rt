@@ -21,7 +21,8 @@ use std::alloc::Global;
 /// # Errors
 ///
 /// `Fault::Syntax` at the first token that continues no type, and `Fault::Passed` where the type is
-/// too deep or has too many nodes.
+/// too deep or has too many nodes. The count of nodes is that of the tokens before the first one that
+/// continues no type, however deep the type is, or that of the whole type.
 #[tactic(auto, unfolding(crate::specs::TypeReading::type_at))]
 pub fn written_type(alloc: Global, tokens: &[Token]) -> Result<(TypeText, &[Token]), Stop>
     ensures { Gives (λ x. (written x.0, x.1.now)) result (type_at usual tokens.now) }
