@@ -91,10 +91,12 @@ sign_spelling sign.Greater = codes ">"
 
 -- every keyword
 abbrev pub keywords : List Keyword
-keywords = KwModule ∷ KwBody ∷ KwIs ∷ KwEnd ∷ KwImport ∷ KwAs ∷ KwPragma ∷ KwConstant ∷ KwType ∷ KwRecord
-    ∷ KwUnion ∷ KwCase ∷ KwWhen ∷ KwOf ∷ KwDo ∷ KwFunction ∷ KwGeneric ∷ KwTypeclass ∷ KwInstance ∷ KwMethod
-    ∷ KwLet ∷ KwVar ∷ KwIf ∷ KwThen ∷ KwElse ∷ KwWhile ∷ KwFor ∷ KwFrom ∷ KwTo ∷ KwBorrow ∷ KwIn ∷ KwReturn
-    ∷ KwSkip ∷ KwNil ∷ KwTrue ∷ KwFalse ∷ KwAnd ∷ KwOr ∷ KwNot ∷ KwFree ∷ KwLinear ∷ KwAnyUniverse ∷ KwRegion
+keywords = KwModule ∷ KwBody ∷ KwIs ∷ KwEnd ∷ KwImport ∷ KwAs ∷ KwPragma ∷ KwConstant
+    ∷ KwType ∷ KwRecord ∷ KwUnion ∷ KwCase ∷ KwWhen ∷ KwOf ∷ KwDo ∷ KwFunction ∷ KwGeneric
+    ∷ KwTypeclass ∷ KwInstance ∷ KwMethod ∷ KwLet ∷ KwVar ∷ KwIf ∷ KwThen ∷ KwElse
+    ∷ KwWhile ∷ KwFor ∷ KwFrom ∷ KwTo ∷ KwBorrow ∷ KwIn ∷ KwReturn ∷ KwSkip ∷ KwNil
+    ∷ KwTrue ∷ KwFalse ∷ KwAnd ∷ KwOr ∷ KwNot ∷ KwFree ∷ KwLinear ∷ KwAnyUniverse
+    ∷ KwRegion
     ∷ []
 
 -- every sign, those of two bytes first

@@ -119,8 +119,8 @@ abbrev pub bounded_by : Bytes → Universe → List DeclAt → Bounded
 bounded_by name universe classes = record { parameter = parameter_of name universe; classes = classes }
 
 -- the instance with a number, of a class, with these type parameters, for a type
-abbrev pub row : ℕ → DeclAt → List Bounded → Meaning → Row
-row number class generics head = record {
+abbrev pub instance_row : ℕ → DeclAt → List Bounded → Meaning → Row
+instance_row number class generics head = record {
   instance = place 9 number;
   class = class;
   generics = generics;
@@ -131,15 +131,15 @@ row number class generics head = record {
 -- Option[Nat8], and pairs of what is ordered behind what is shown.
 abbrev pub table : List Row
 table =
-    row 1 shown [] nat8
-    ∷ row 2 shown [] whole.text
-    ∷ row 3 shown (bounded_by (codes "T") universes.Free (shown ∷ []) ∷ []) (of_one option t)
-    ∷ row 4 shown (bounded_by (codes "T") universes.AnyType [] ∷ []) (of_one box t)
-    ∷ row 5 shown
+    instance_row 1 shown [] nat8
+    ∷ instance_row 2 shown [] whole.text
+    ∷ instance_row 3 shown (bounded_by (codes "T") universes.Free (shown ∷ []) ∷ []) (of_one option t)
+    ∷ instance_row 4 shown (bounded_by (codes "T") universes.AnyType [] ∷ []) (of_one box t)
+    ∷ instance_row 5 shown
     (bounded_by (codes "U") universes.Free (shown ∷ []) ∷ bounded_by (codes "S") universes.Region [] ∷ [])
     (lent_for (codes "S") (whole.parameter (codes "U")))
-    ∷ row 6 ordered [] (of_one option nat8)
-    ∷ row 7 ordered
+    ∷ instance_row 6 ordered [] (of_one option nat8)
+    ∷ instance_row 7 ordered
     (bounded_by (codes "B") universes.Free (ordered ∷ [])
     ∷ bounded_by (codes "A") universes.Free (shown ∷ []) ∷ [])
     (of_two pair (whole.parameter (codes "A")) (whole.parameter (codes "B")))
