@@ -57,27 +57,27 @@ fn begin(token: &What) -> Option<Awaits>
 }
 
 /// The innermost that is open.
-fn innermost(open: &Vec<Within>) -> Option<Within>
-    ensures { MatchOption result (open.now.items ≡ [])
-        (λ last. reverse open.now.items ≡ last ∷ reverse (take (length open.now.items - 1) open.now.items)) }
+fn innermost(within: &Vec<Within>) -> Option<Within>
+    ensures { MatchOption result (within.now.items ≡ [])
+        (λ last. reverse within.now.items ≡ last ∷ reverse (take (length within.now.items - 1) within.now.items)) }
 {
-    match open.as_slice().split_last() {
+    match within.as_slice().split_last() {
         None => None,
         Some((last, _)) => Some(*last),
     }
 }
 
 /// What may stand behind a token that stands behind a whole type.
-fn behind(open: &mut Vec<Within>, token: &What) -> Option<Awaits>
-    ensures { place_held result open.new.items ≡ behind_type (reverse open.old.items) token.now }
+fn behind(within: &mut Vec<Within>, token: &What) -> Option<Awaits>
+    ensures { place_held result within.new.items ≡ behind_type (reverse within.old.items) token.now }
 {
-    match innermost(open) {
+    match innermost(within) {
         None => None,
         Some(Within::Arguments) => {
             if is(Sign::Comma, token) {
                 Some(Awaits::Type)
             } else if is(Sign::RightBracket, token) {
-                open.pop();
+                within.pop();
                 Some(Awaits::Behind)
             } else {
                 None
@@ -85,7 +85,7 @@ fn behind(open: &mut Vec<Within>, token: &What) -> Option<Awaits>
         }
         Some(Within::Target) => {
             if is(Sign::Comma, token) {
-                open.pop();
+                within.pop();
                 Some(Awaits::Region)
             } else {
                 None
@@ -96,9 +96,9 @@ fn behind(open: &mut Vec<Within>, token: &What) -> Option<Awaits>
 
 /// What may stand behind a token, or none if the token may not stand here. What is open is then what is open
 /// behind it.
-fn step(awaits: Awaits, open: &mut Vec<Within>, token: &What) -> Result<Option<Awaits>, Memory>
+fn step(awaits: Awaits, within: &mut Vec<Within>, token: &What) -> Result<Option<Awaits>, Memory>
     ensures { IfOk result (λ found.
-        place_held found open.new.items ≡ next (awaits, reverse open.old.items) token.now) }
+        place_held found within.new.items ≡ next (awaits, reverse within.old.items) token.now) }
 {
     match awaits {
         Awaits::Type => Ok(begin(token)),
@@ -106,17 +106,17 @@ fn step(awaits: Awaits, open: &mut Vec<Within>, token: &What) -> Result<Option<A
             if !is(Sign::LeftBracket, token) {
                 return Ok(None);
             }
-            open.push(Within::Target)?;
+            within.push(Within::Target)?;
             Ok(Some(Awaits::Type))
         }
         Awaits::Arguments => {
             if !is(Sign::LeftBracket, token) {
-                return Ok(behind(open, token));
+                return Ok(behind(within, token));
             }
-            open.push(Within::Arguments)?;
+            within.push(Within::Arguments)?;
             Ok(Some(Awaits::Type))
         }
-        Awaits::Behind => Ok(behind(open, token)),
+        Awaits::Behind => Ok(behind(within, token)),
         Awaits::Region => match token {
             What::Name(_) => Ok(Some(Awaits::Close)),
             _ => Ok(None),
@@ -141,13 +141,13 @@ pub(crate) fn tokens_left(alloc: Global, tokens: &[Token]) -> Result<usize, Memo
     ensures { IfOk result (λ left. left ≡ stops (Some (Awaits.Type, [])) tokens.now) }
 {
     let mut awaits = Awaits::Type;
-    let mut open: Vec<Within> = Vec::new(alloc);
+    let mut within: Vec<Within> = Vec::new(alloc);
     let mut rest = tokens;
     for _ in 0..tokens.len() {
         let [token, others @ ..] = rest else {
             return Ok(0);
         };
-        let Some(next) = step(awaits, &mut open, &token.what)? else {
+        let Some(next) = step(awaits, &mut within, &token.what)? else {
             return Ok(rest.len());
         };
         awaits = next;

@@ -6,6 +6,6 @@ use Rattle.au_read_types.proofs.stops.tokens_left.Given as goal
 
 abbrev pub invariant-loop : goal.invariant-loop
 invariant-loop l = record {
-  place : stops (Some (l.awaits, reverse l.open.items)) l.rest ≡ stops (Some (awaits.Type, [])) l.tokens;
+  place : stops (Some (l.awaits, reverse l.within.items)) l.rest ≡ stops (Some (awaits.Type, [])) l.tokens;
   left : length l.rest + l.counter ≡ length l.tokens;
 }
