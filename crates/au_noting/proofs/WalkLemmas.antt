@@ -12,10 +12,6 @@ pub walked : {A Y : Type 0} (F : List A → Y) (xs : List A) (i : ℕ) (x : A) �
 walked F xs i x is =
     ap F (drop_more xs i x (slice_get_within xs i x is) ∙ ap (λ y. y ∷ drop (i + 1) xs) (get_or_from_slice_get xs i x x is))
 
--- types before those that are found, if some are
-abbrev pub before : {A : Type 0} → List A → Option (List A) → Option (List A)
-before made found = option_map (λ rest. made ++ rest) found
-
 -- the constraints of some of the type parameters
 abbrev pub constraints_from : List Bounded → List Bounded → Known
 constraints_from all generics =

@@ -6,7 +6,6 @@
 #![tactic(auto)]
 
 pub mod called;
-pub mod calls;
 pub mod faults;
 pub mod lookups;
 pub mod nodes;

@@ -1,4 +1,5 @@
 pub mod ClauseLemmas
 mod LabelLemmas
 mod MadeLemmas
+mod ParameterLemmas
 mod StopLemmas

@@ -19,7 +19,7 @@ use au_base::IntKind;
 use au_matching::Substitution;
 use au_notes::Noted;
 use au_noting::Fault;
-use au_noting::calls::{taken_as, unlike};
+use crate::argument_types::{taken_as, unlike};
 use au_syntax::Expr;
 use au_types::Ty;
 use std::alloc::Global;

@@ -14,7 +14,7 @@ use au_base::IntKind;
 use au_matching::Substitution;
 use au_notes::Notes;
 use au_noting::Fault;
-use au_noting::calls::taken_as;
+use crate::argument_types::taken_as;
 use au_noting::rules::noted;
 use au_types::Ty;
 use std::alloc::Global;

@@ -7,6 +7,7 @@
 //!   `specs/Made.antt`).
 #![tactic(auto)]
 
+pub mod argument_types;
 pub mod arguments;
 pub mod calls;
 mod fixed;

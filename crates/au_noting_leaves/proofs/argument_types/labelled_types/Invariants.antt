@@ -2,8 +2,8 @@ use Rattle.std.proofs.Common.{◌≡◌, ◌++◌, drop, option_map}
 use Rattle.au_types.specs.Types.{Meaning}
 use Rattle.au_typing.specs.Calls.{labelled_types}
 use Rattle.au_noting.specs.Said.{all_typed, labels_said, meanings}
-use Rattle.au_noting.proofs.WalkLemmas.{before}
-use Rattle.au_noting.proofs.calls.labelled_types.Given as goal
+use Rattle.au_noting_leaves.proofs.ParameterLemmas.{before}
+use Rattle.au_noting_leaves.proofs.argument_types.labelled_types.Given as goal
 
 -- each label so far names a parameter, and the types of the others come next
 abbrev pub invariant-loop-one : goal.invariant-loop-one

@@ -1,6 +1,6 @@
 use Rattle.std.proofs.Common.{◌≡◌, ◌++◌, drop, map}
 use Rattle.au_noting.specs.Said.{all_typed, meanings}
-use Rattle.au_noting.proofs.calls.types_of.Given as goal
+use Rattle.au_noting_leaves.proofs.argument_types.types_of.Given as goal
 
 -- the types of the parameters so far, before those of the others
 abbrev pub invariant-loop-one : goal.invariant-loop-one

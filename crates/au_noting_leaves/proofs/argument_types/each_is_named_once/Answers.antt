@@ -1,7 +1,7 @@
 use Rattle.std.proofs.Common.{arith}
 use Rattle.au_noting.specs.Said.{labels_said}
-use Rattle.au_noting.proofs.StepLemmas.{named_step}
-use Rattle.au_noting.proofs.calls.each_is_named_once.Goals as goal
+use Rattle.au_noting_leaves.proofs.ParameterLemmas.{named_step}
+use Rattle.au_noting_leaves.proofs.argument_types.each_is_named_once.Goals as goal
 
 pub returns-then-not-is_named_once : goal.returns-then-not-is_named_once
 returns-then-not-is_named_once c =

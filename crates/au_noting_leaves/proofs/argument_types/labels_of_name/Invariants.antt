@@ -2,7 +2,7 @@ use Rattle.std.proofs.Common.{◌≡◌, ◌≤◌, ◌+◌, drop}
 use Rattle.std.specs.List.{count_by}
 use Rattle.std.specs.Str.{bytes_eq}
 use Rattle.au_noting.specs.Said.{labels_said}
-use Rattle.au_noting.proofs.calls.labels_of_name.Given as goal
+use Rattle.au_noting_leaves.proofs.argument_types.labels_of_name.Given as goal
 
 -- as many of the labels so far are the name, and the others are counted next
 abbrev pub invariant-loop-one : goal.invariant-loop-one

@@ -1,7 +1,7 @@
 use Rattle.std.proofs.Common.{◌≡◌, drop}
 use Rattle.au_typing.specs.Calls.{each_is_named_once}
 use Rattle.au_noting.specs.Said.{all_typed, labels_said}
-use Rattle.au_noting.proofs.calls.each_is_named_once.Given as goal
+use Rattle.au_noting_leaves.proofs.argument_types.each_is_named_once.Given as goal
 
 -- each parameter so far is named once, so those that are left decide
 abbrev pub invariant-loop-one : goal.invariant-loop-one

@@ -15,11 +15,12 @@ ghost use Rattle.au_typing.specs.Faults as faults;
 ghost use Rattle.au_typing.specs.Search.{another_number, other_labels};
 ghost use Rattle.au_typing.specs.SearchCalls as search;
 
-use crate::faults::{Fault, different, other_form};
-use crate::lookups::type_of_name;
 use au_base::{Memory, Name};
 use au_matching::{Match, Substitution, match_types, substitute};
 use au_notes::Form;
+use au_noting::Fault;
+use au_noting::faults::{different, other_form};
+use au_noting::lookups::type_of_name;
 use au_sights::Typed;
 use au_syntax::{Argument, Parsed};
 use au_types::{Ty, copy_type};
