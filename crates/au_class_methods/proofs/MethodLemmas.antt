@@ -14,9 +14,9 @@ use Rattle.au_syntax.specs.Views.{method_body}
 use Rattle.au_tables.specs.Tables as tables
 use Rattle.au_tables.specs.Tables.{has_name}
 use Rattle.au_promises.proofs.DefinitionLemmas.{seen_left}
-use Rattle.au_instance_texts.specs.Indices.{FindsFirst, first_index, has_key, with_key}
-use Rattle.au_instance_texts.specs.Views.{methods_of}
-use Rattle.au_instance_texts.proofs.IndexLemmas.{first_next, found_none, found_there, seen_more}
+use Rattle.au_class_methods.specs.Indices.{FindsFirst, first_index, has_key, with_key}
+use Rattle.au_class_methods.specs.InstanceViews.{methods_of}
+use Rattle.au_class_methods.proofs.IndexLemmas.{first_next, found_none, found_there, seen_more}
 use Rattle.au_class_methods.specs.Methods.{doubled_from, is_called, is_doubled, is_named}
 use Rattle.au_class_methods.specs.Views.{called_by, method_of, named_by}
 use Rattle.au_class_methods.proofs.ListLemmas.{or_second, some_index}

@@ -5,8 +5,8 @@ ghost use Rattle.std.specs.List.{list_all};
 ghost use Rattle.au_class_methods.specs.Methods as spec;
 ghost use Rattle.au_class_methods.specs.Views.{called_by, headers_of, method_of, method_seen};
 ghost use Rattle.au_class_methods.specs.Views.{named_by, wanted_in};
-ghost use Rattle.au_instance_texts.specs.Indices.{FindsFirst};
-ghost use Rattle.au_instance_texts.specs.Views.{methods_of};
+ghost use Rattle.au_class_methods.specs.Indices.{FindsFirst};
+ghost use Rattle.au_class_methods.specs.InstanceViews.{methods_of};
 ghost use Rattle.au_promises.specs.Written.{header_of};
 ghost use Rattle.au_written_types.specs.Views.{meant_in};
 

@@ -5,7 +5,7 @@ ghost use Rattle.au_class_methods.specs.Methods as spec;
 ghost use Rattle.au_class_methods.specs.Signatures.{given, head_for, wanted};
 ghost use Rattle.au_class_methods.specs.Views.{class_said, headers_of};
 ghost use Rattle.au_generics.specs.Meanings as generics;
-ghost use Rattle.au_instance_texts.specs.Views.{methods_of};
+ghost use Rattle.au_class_methods.specs.InstanceViews.{methods_of};
 ghost use Rattle.au_promises.specs.Written.{parameter_of};
 ghost use Rattle.au_types.specs.Views.{meaning};
 

@@ -7,7 +7,7 @@ use Rattle.au_syntax.specs.Plain.{Bytes}
 use Rattle.au_types.specs.declared.headings.Head.{Head}
 use Rattle.au_types.specs.declared.types.DeclAt.{DeclAt}
 use Rattle.au_modules.specs.Programs.{ModuleParts}
-use Rattle.au_instance_texts.specs.Texts.{InstanceText, instances_of}
+use Rattle.au_class_methods.specs.Texts.{InstanceText, instances_of}
 use Rattle.au_instances.specs.Rows.{Row}
 use Rattle.au_classes.specs.declared.faults.ClassFault.{ClassFault}
 use Rattle.au_classes.specs.declared.faults.ClassFault.TheVariants.{BadHead, Orphan, Overlap, MethodDiffers}

@@ -22,9 +22,9 @@ use Rattle.au_generics.specs.declared.reading.Meant.{Meant}
 use Rattle.au_generics.specs.declared.reading.Meant.TheVariants.{Are, Fails}
 use Rattle.au_generics.specs.Bounds.{Bounded, parameters}
 use Rattle.au_generics.specs.Meanings.{class_meant, generics_meant}
-use Rattle.au_instance_texts.specs.declared.instance_texts.InstanceText as code
-use Rattle.au_instance_texts.specs.Texts.{InstanceText, instances_of}
-use Rattle.au_instance_texts.specs.Views.{text_said, texts_said}
+use Rattle.au_class_methods.specs.declared.instance_texts.InstanceText as code
+use Rattle.au_class_methods.specs.Texts.{InstanceText, instances_of}
+use Rattle.au_class_methods.specs.InstanceViews.{text_said, texts_said}
 use Rattle.au_instances.specs.Rows.{Row}
 use Rattle.au_class_methods.specs.Classes.{visible_in}
 use Rattle.au_classes.specs.declared.faults.ClassFault.{ClassFault}

@@ -22,7 +22,7 @@ use Rattle.au_names.specs.HeadsOf.{heads_of}
 use Rattle.au_names.proofs.AmongLemmas.{Among, among, contains, among-flat_map, among-flat_map_from}
 use Rattle.au_promises.specs.Agreeing.{visible}
 use Rattle.au_generics.specs.Bounds.{parameters}
-use Rattle.au_instance_texts.specs.Texts.{InstanceText, instances_of}
+use Rattle.au_class_methods.specs.Texts.{InstanceText, instances_of}
 use Rattle.au_instances.specs.declared.constructors.Constructor.{Constructor}
 use Rattle.au_instances.specs.Constructors.{constructor_of, is_constructor}
 use Rattle.au_instances.specs.Forms.{HasForm, has_form}

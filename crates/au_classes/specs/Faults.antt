@@ -17,7 +17,7 @@ use Rattle.au_modules.specs.Programs.{ModuleParts}
 use Rattle.au_names.specs.HeadsOf.{heads_of}
 use Rattle.au_generics.specs.Bounds.{parameters}
 use Rattle.au_promises.specs.Agreeing.{visible}
-use Rattle.au_instance_texts.specs.Texts.{InstanceText, instances_of}
+use Rattle.au_class_methods.specs.Texts.{InstanceText, instances_of}
 use Rattle.au_instances.specs.declared.constructors.Constructor.{Constructor}
 use Rattle.au_instances.specs.declared.constructors.Constructor.TheVariants as constructors
 use Rattle.au_instances.specs.Constructors.{constructor_of}

@@ -8,7 +8,7 @@ use Rattle.au_universes.specs.Universes.{universe_of}
 use Rattle.au_modules.specs.Programs.{ModuleParts}
 use Rattle.au_names.specs.HeadsOf.{heads_of}
 use Rattle.au_generics.specs.Bounds.{parameters}
-use Rattle.au_instance_texts.specs.Texts.{InstanceText, instances_of}
+use Rattle.au_class_methods.specs.Texts.{InstanceText, instances_of}
 use Rattle.au_instances.specs.Constructors.{constructor_of}
 use Rattle.au_instances.specs.Forms.{HasForm}
 use Rattle.au_instances.specs.Rows.{Row}

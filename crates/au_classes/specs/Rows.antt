@@ -15,7 +15,7 @@ use Rattle.au_generics.specs.declared.reading.Meant.{Meant}
 use Rattle.au_generics.specs.declared.reading.Meant.TheVariants.{Are, Fails}
 use Rattle.au_generics.specs.Bounds.{Bounded, parameters}
 use Rattle.au_generics.specs.Meanings.{class_meant, generics_meant}
-use Rattle.au_instance_texts.specs.Texts.{InstanceText, instances_of}
+use Rattle.au_class_methods.specs.Texts.{InstanceText, instances_of}
 use Rattle.au_instances.specs.Rows.{Row}
 use Rattle.au_class_methods.specs.Classes.{visible_at}
 

@@ -5,7 +5,7 @@ ghost use Rattle.std.specs.Option.{option_map};
 ghost use Rattle.au_classes.specs.Rows as spec;
 ghost use Rattle.au_generics.specs.Bounds.{parameters};
 ghost use Rattle.au_generics.specs.Meanings as generics;
-ghost use Rattle.au_instance_texts.specs.Views.{text_said};
+ghost use Rattle.au_class_methods.specs.InstanceViews.{text_said};
 ghost use Rattle.au_instances.specs.Rows.{row_said};
 ghost use Rattle.au_judged_types.specs.Agreement.{found};
 ghost use Rattle.au_judged_types.specs.Judging.{judged};
@@ -16,8 +16,8 @@ ghost use Rattle.au_types.specs.Views.{meaning};
 ghost use Rattle.au_written_types.specs.Views.{said};
 
 use au_base::{Memory, Name};
+use au_class_methods::InstanceText;
 use au_generics::{Generics, Meant, generics_of};
-use au_instance_texts::InstanceText;
 use au_instances::{ClassAt, Row};
 use au_judged_types::{Judged, judge_type};
 use au_syntax::TypeText;

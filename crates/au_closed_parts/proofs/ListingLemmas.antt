@@ -2,7 +2,7 @@
 use Rattle.std.proofs.Common.{◌≡◌}
 use Rattle.au_closed_types.specs.Same.{same}
 use Rattle.au_closed_types.proofs.SameLemmas.{same_is, same_self}
-use Rattle.au_closed_keys.specs.Keys.{key_of}
+use Rattle.au_closed_types.specs.Keys.{key_of}
 use Rattle.au_closed_parts.specs.Telling.{type_one}
 use Rattle.au_reach.specs.Finding.{by_key}
 use Rattle.au_reach.proofs.KeyLemmas.{keys_tell}

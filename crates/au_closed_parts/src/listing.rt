@@ -1,7 +1,7 @@
 //! The closed declared types that a program reaches.
 
 ghost use Rattle.std.specs.Prelude.{◌≡◌, IfOk, None, map};
-ghost use Rattle.au_closed_keys.specs.Keys as keys;
+ghost use Rattle.au_closed_types.specs.Keys as keys;
 ghost use Rattle.au_closed_parts.specs.Occurring.{follows};
 ghost use Rattle.au_closed_parts.specs.Telling.{type_one};
 ghost use Rattle.au_closed_types.specs.Same.{same};
@@ -14,8 +14,7 @@ ghost use Rattle.au_reach.specs.Reached.{Lists};
 use crate::cases::cases_of;
 use crate::occurring::add_in_cases;
 use au_base::{Limit, LimitKind, Memory};
-use au_closed_keys::add_key;
-use au_closed_types::Closed;
+use au_closed_types::{Closed, add_key};
 use au_imports::Resolved;
 use au_reach::{Finds, Ground, reach};
 use std::alloc::Global;

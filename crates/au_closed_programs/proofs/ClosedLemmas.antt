@@ -13,8 +13,8 @@ use Rattle.au_derivations.specs.Trees.{NotedParts}
 use Rattle.au_closed_types.specs.Same.{same}
 use Rattle.au_closed_types.specs.Types.{ClosedType}
 use Rattle.au_closed_types.proofs.SameLemmas.{same_is, same_self}
-use Rattle.au_closed_keys.specs.Keys.{key_of}
-use Rattle.au_closed_keys.proofs.TellLemmas.{key_one}
+use Rattle.au_closed_types.specs.Keys.{key_of}
+use Rattle.au_closed_types.proofs.KeyTellLemmas.{key_one}
 use Rattle.au_reach.specs.Reached.{TellsSame}
 use Rattle.au_reach.proofs.FoundLemmas.{one_list}
 use Rattle.au_closed_parts.specs.Occurring.{follows}

@@ -15,7 +15,7 @@ use Rattle.au_universes.specs.Universes.{is_linear}
 use Rattle.au_closed_types.specs.Same.{same}
 use Rattle.au_closed_types.specs.Texts.{text_of}
 use Rattle.au_closed_types.specs.Types.{ClosedType, named}
-use Rattle.au_closed_keys.specs.Keys.{key_of}
+use Rattle.au_closed_types.specs.Keys.{key_of}
 use Rattle.au_instances.specs.ClosedInstances.{closed_universe}
 use Rattle.au_reach.specs.Reached.{Lists}
 use Rattle.au_closed_parts.specs.Occurring.{counts_in, follows, occurring, occurring_in_fields}

@@ -1,7 +1,7 @@
 //! The closed declared types of a program.
 
 ghost use Rattle.std.specs.Prelude.{◌≡◌, IfOk, map};
-ghost use Rattle.au_closed_keys.specs.Keys as keys;
+ghost use Rattle.au_closed_types.specs.Keys as keys;
 ghost use Rattle.au_closed_programs.specs.Programs as spec;
 ghost use Rattle.au_closed_programs.specs.Views.{row_said, rows_said};
 ghost use Rattle.au_closed_types.specs.Texts.{text_of};
@@ -13,9 +13,8 @@ ghost use Rattle.au_names.specs.HeadsOf.{heads_of};
 ghost use Rattle.au_universes.specs.Universes as universes;
 
 use au_base::{Memory, Text};
-use au_closed_keys::add_key;
 use au_closed_parts::{ClosedCase, cases_of};
-use au_closed_types::{Closed, closed_text, copy_closed};
+use au_closed_types::{Closed, add_key, closed_text, copy_closed};
 use au_imports::Resolved;
 use au_instances::universes::closed_universe;
 use au_types::Heads;

@@ -13,8 +13,7 @@ use crate::names::{copy_name, copy_names};
 use crate::notes::Callee;
 use crate::phase::ClosedTrees;
 use au_base::Memory;
-use au_noted_copies::copy_text_of_type;
-use au_notes::Noted;
+use au_notes::{Noted, copy_text_of_type};
 use au_syntax::{Argument, Expr, Ident, Site};
 use std::alloc::Global;
 

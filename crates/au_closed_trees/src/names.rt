@@ -7,8 +7,7 @@ ghost use Rattle.au_closed_trees.specs.contracts.phase.ClosedTreesPhase.TheImpl.
 
 use crate::phase::ClosedTrees;
 use au_base::Memory;
-use au_noted_copies::copy_text_of_type;
-use au_notes::Noted;
+use au_notes::{Noted, copy_text_of_type};
 use au_syntax::{Bind, BorrowNames, Ident, Renamed};
 use std::alloc::Global;
 

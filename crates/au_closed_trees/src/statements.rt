@@ -13,8 +13,7 @@ use crate::expressions::close_boxed;
 use crate::names::{copy_binds, copy_borrow_names, copy_name, copy_names};
 use crate::phase::ClosedTrees;
 use au_base::Memory;
-use au_noted_copies::copy_text_of_type;
-use au_notes::Noted;
+use au_notes::{Noted, copy_text_of_type};
 use au_syntax::{Arm, Bind, Block, Branch, Expr, Ident, Stmt, TypeText};
 use std::alloc::Global;
 

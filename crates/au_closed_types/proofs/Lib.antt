@@ -5,3 +5,4 @@ pub mod SameLemmas
 pub mod TextLemmas
 pub mod TellLemmas
 pub mod SizeLemmas
+pub mod KeyTellLemmas

@@ -7,3 +7,4 @@ pub mod Texts
 pub mod Told
 pub mod Sizes
 pub mod Examples
+pub mod Keys

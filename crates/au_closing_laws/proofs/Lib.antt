@@ -2,3 +2,14 @@ mod CallLemmas
 mod ScopeLemmas
 mod RowLemmas
 mod SoundLemmas
+mod TableLemmas
+mod TypedCallLemmas
+mod BodyLemmas
+mod MeantLemmas
+mod FitLemmas
+mod GenericsLemmas
+mod PutLemmas
+mod SameLemmas
+mod DefinitionLemmas
+mod FunctionLemmas
+mod TypedLemmas

@@ -21,8 +21,8 @@ use Rattle.au_types.specs.Types.{Meaning, Argument, Arguments, unit, truth, inte
 use Rattle.au_types.specs.Universes.{universe_in}
 use Rattle.au_matching.specs.Bindings.{Bindings, value_of}
 use Rattle.au_matching.specs.Substituted.{substituted, type_for, EachNameOfAll, OfRegion}
-use Rattle.au_type_laws.specs.Fitting.{stand_in, BindingsFit}
-use Rattle.au_type_laws.proofs.UniverseLemmas.{universe_kept}
+use Rattle.au_universes.specs.Fitting.{stand_in, BindingsFit}
+use Rattle.au_universes.proofs.SubstitutingUniverseLemmas.{universe_kept}
 use Rattle.au_universes.specs.declared.universes.TypeUniverse.{TypeUniverse}
 use Rattle.au_universes.specs.declared.universes.TypeUniverse.TheVariants.{Free, Linear, AnyUniverse}
 use Rattle.au_universes.specs.Forming.{StandsOver, fits, fits_in_kind, is_formed, all_formed, takes, wants_region}

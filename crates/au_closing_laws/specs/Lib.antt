@@ -1,2 +1,4 @@
 pub mod Targets
 pub mod Sound
+pub mod Calls
+pub mod Premises

@@ -40,9 +40,9 @@ use Rattle.au_meaning.specs.Ticks.{Action, pure, needing, where_true, does, ◌>
 use Rattle.au_meaning.specs.Views.{Act, Field, View, invokes, makes}
 use Rattle.au_meaning.specs.Worlds.{Value}
 use Rattle.au_closed_views.specs.Surroundings.{Surroundings, call_noted, constant_noted, field_names, is_free, view_in, with_parameters as with_their_names}
-use Rattle.au_renoted_meanings.specs.Agreement.{AgreeOnTypes, AgreeOnMention, AgreeOnCall, AgreeInBlock, FieldsCount}
-use Rattle.au_renoted_meanings.proofs.CountLemmas.{parameters_count}
-use Rattle.au_renoted_meanings.proofs.SameStatements.{names_same_block, one_meaning}
+use Rattle.au_closing_meanings.specs.Agreement.{AgreeOnTypes, AgreeOnMention, AgreeOnCall, AgreeInBlock, FieldsCount}
+use Rattle.au_closing_meanings.proofs.CountLemmas.{parameters_count}
+use Rattle.au_closing_meanings.proofs.SameStatements.{names_same_block, one_meaning}
 use Rattle.au_closing_meanings.specs.Closed.{names_at}
 use Rattle.au_closing_meanings.specs.Kept.{SaysWhatIs, TypesCount}
 use Rattle.au_closing_meanings.specs.Generic.{Mention, constant_of, fields_in, free_over, lead_does, mentions_named, names_of_instance, view_under}

@@ -10,7 +10,7 @@ use Rattle.au_meaning.specs.Expressions.{note_of}
 use Rattle.au_tree_types.specs.Notes.{said_in, said_in_all, said_in_arguments, said_in_statement, said_in_block, said_in_branches, said_in_arms}
 use Rattle.au_reach.specs.Reached.{Has}
 use Rattle.au_reach.proofs.HasLemmas.{has_front, has_back}
-use Rattle.au_renoted_meanings.specs.Agreement.{EachIn, EachInAll, EachNamed, EachOf, EachOfBlock, EachOfTests, EachOfArms}
+use Rattle.au_closing_meanings.specs.Agreement.{EachIn, EachInAll, EachNamed, EachOf, EachOfBlock, EachOfTests, EachOfArms}
 use Rattle.au_syntax.specs.Expressions.{Expression, Expressions, Arguments, number, negative, text, truth, nil, path, arrow, call, named_call, parenthesized, dereference, borrow, borrow_part, binary, negation, typed, choice, no_expressions, expressions, no_arguments, arguments}
 use Rattle.au_syntax.specs.Plain.{Bytes}
 use Rattle.au_syntax.specs.Statements.{Statement, Statements, Branches, Arms, skip, declare, destructure, assign, assign_through, conditional, conditional_else, case_of, while_loop, for_loop, borrow_in, borrow_typed, discard, return_of, no_statements, statements, no_branches, branches, no_arms, arms}

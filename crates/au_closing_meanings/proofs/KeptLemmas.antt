@@ -28,7 +28,7 @@ use Rattle.au_meaning.specs.Ticks.{Action}
 use Rattle.au_meaning.specs.Views.{Field, Function}
 use Rattle.au_meaning.specs.Worlds.{Value}
 use Rattle.au_closed_views.specs.Surroundings.{Surroundings, view_in}
-use Rattle.au_renoted_meanings.specs.Agreement.{AgreeOnMention, AgreeOnCall, Counts, FieldsCount, FoundCount}
+use Rattle.au_closing_meanings.specs.Agreement.{AgreeOnMention, AgreeOnCall, Counts, FieldsCount, FoundCount}
 use Rattle.au_closing_meanings.specs.Closed.{closed_functions, function_closed, names_at, parameters_seen}
 use Rattle.au_closing_meanings.specs.Generic.{Mention, fields_in, function_under, generic_functions, mentions_named, names_of_instance, parameters_under, view_under}
 use Rattle.au_closing_meanings.specs.Kept.{KeepsMeaning, NumberAlike, ProgramsSay, SaysWhatIs, TypesCount}

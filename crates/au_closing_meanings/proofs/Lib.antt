@@ -7,3 +7,6 @@ mod InRowLemmas
 pub mod ListedLemmas
 mod CoveredLemmas
 pub mod ListedCountLemmas
+pub mod CountLemmas
+pub mod SameExpressions
+pub mod SameStatements

@@ -11,7 +11,7 @@ use Rattle.au_closed_views.specs.Programs.{fields_at}
 use Rattle.au_modules.specs.Programs.{ModuleParts}
 use Rattle.au_names.specs.HeadsOf.{heads_of}
 use Rattle.au_reach.specs.Reached.{Has}
-use Rattle.au_renoted_meanings.specs.Agreement.{FieldsCount, FoundCount}
+use Rattle.au_closing_meanings.specs.Agreement.{FieldsCount, FoundCount}
 use Rattle.au_tree_types.specs.Types.{types_noted}
 use Rattle.au_types.specs.declared.types.DeclAt.{DeclAt}
 use Rattle.au_closing_meanings.specs.Generic.{case_seen, field_seen, fields_in}

@@ -7,7 +7,7 @@ use Rattle.au_derivations.specs.Trees.{NotedParts}
 use Rattle.au_reach.specs.Reached.{Has}
 use Rattle.au_closed_trees.specs.ClosedNotes.{ClosedNote, ClosedStatements}
 use Rattle.au_tree_types.specs.Notes.{said_in_block}
-use Rattle.au_renoted_meanings.specs.Agreement.{FieldsCount, FoundCount}
+use Rattle.au_closing_meanings.specs.Agreement.{FieldsCount, FoundCount}
 use Rattle.au_closing.specs.Closes.{ClosedFunction, ClosesFunctions}
 use Rattle.au_closing.specs.Instances.{Instance, place_in, same_instance}
 use Rattle.au_meaning.specs.Views.{Field}

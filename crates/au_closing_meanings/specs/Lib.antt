@@ -3,3 +3,4 @@ pub mod Closed
 pub mod Kept
 pub mod InRow
 pub mod Listed
+pub mod Agreement

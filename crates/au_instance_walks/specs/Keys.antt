@@ -2,7 +2,7 @@
 use Rattle.std.specs.Prelude.{ℕ, List, [], ◌∷◌, ◌++◌, length}
 use Rattle.au_syntax.specs.Plain.{Bytes}
 use Rattle.au_closed_types.specs.Types.{ClosedType}
-use Rattle.au_closed_keys.specs.Keys.{key_of}
+use Rattle.au_closed_types.specs.Keys.{key_of}
 use Rattle.au_given_types.specs.Given.{Given}
 use Rattle.au_closing.specs.Instances.{Instance}
 

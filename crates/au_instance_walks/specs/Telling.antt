@@ -2,8 +2,8 @@
 use Rattle.std.proofs.Common.{◌≡◌, ℕ, List, [], ◌∷◌, ◌++◌, length, refl, sym, ◌∙◌, append_assoc}
 use Rattle.std.specs.Coded.{Coded, coded_list, coded_ℕ}
 use Rattle.au_syntax.specs.Plain.{Bytes}
-use Rattle.au_closed_keys.specs.Keys.{key_of}
-use Rattle.au_closed_keys.proofs.TellLemmas.{key_one, place_one}
+use Rattle.au_closed_types.specs.Keys.{key_of}
+use Rattle.au_closed_types.proofs.KeyTellLemmas.{key_one, place_one}
 use Rattle.au_given_types.specs.Given.{Given}
 use Rattle.au_closing.specs.Instances.{Instance}
 use Rattle.au_instance_walks.specs.Keys.{name_key, given_key, instance_key}

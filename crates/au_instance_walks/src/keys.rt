@@ -6,7 +6,7 @@ ghost use Rattle.au_given_types.specs.Views.{given_said, pair_said};
 ghost use Rattle.au_instance_walks.specs.Keys.{given_key, instance_key, name_key, pair_key};
 
 use au_base::Memory;
-use au_closed_keys::{add_key, add_number};
+use au_closed_types::{add_key, add_number};
 use au_closing::Instance;
 use au_given_types::GivenType;
 use au_types::DeclAt;

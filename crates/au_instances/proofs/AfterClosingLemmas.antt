@@ -17,8 +17,8 @@ use Rattle.au_matching.specs.Substituted.{type_for, region_substituted, substitu
 use Rattle.au_matching.proofs.BindingLemmas.{value_of-with}
 use Rattle.au_matching.proofs.ComposedLemmas.{twice}
 use Rattle.au_matching.proofs.SubstitutedLemmas.{each_so, fixes_suits}
-use Rattle.au_type_laws.specs.Fitting.{stand_in, BindingsFit}
-use Rattle.au_type_laws.proofs.UniverseLemmas.{universe_kept}
+use Rattle.au_universes.specs.Fitting.{stand_in, BindingsFit}
+use Rattle.au_universes.proofs.SubstitutingUniverseLemmas.{universe_kept}
 use Rattle.au_universes.specs.declared.universes.TypeUniverse.{TypeUniverse}
 use Rattle.au_universes.specs.declared.universes.TypeUniverse.TheVariants.{Free, Linear, AnyUniverse}
 use Rattle.au_universes.specs.Forming.{ArgumentStandsOver, StandsOver, all_formed, fits, fits_in_kind, takes}

@@ -14,7 +14,7 @@ use Rattle.au_types.specs.Types.{Meaning, Argument, Arguments, parameter, of_typ
 use Rattle.au_types.specs.Universes.{universe_in}
 use Rattle.au_matching.specs.Bindings.{Bindings, value_of, GivesType, GivesRegion}
 use Rattle.au_matching.specs.Substituted.{type_for, region_for, argument_substituted, all_substituted, EachNameOf, EachNameOfAll}
-use Rattle.au_type_laws.specs.Fitting.{stand_in, BindingsFit}
+use Rattle.au_universes.specs.Fitting.{stand_in, BindingsFit}
 use Rattle.au_universes.specs.Forming.{fits, wants_region}
 use Rattle.au_universes.proofs.LawLemmas.{fits_kind}
 use Rattle.au_instances.specs.Becoming.{taken_by, stands_for, all_stand_for}

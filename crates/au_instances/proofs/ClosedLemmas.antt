@@ -27,7 +27,7 @@ use Rattle.au_types.specs.Universes.{universe_in}
 use Rattle.au_matching.specs.Bindings.{Bindings, value_of, GivesType, GivesRegion}
 use Rattle.au_matching.specs.Matched.{Makes}
 use Rattle.au_matching.specs.Substituted.{type_for, substituted, all_substituted, Fixes, EachNameOf, EachNameOfAll}
-use Rattle.au_type_laws.specs.Fitting.{BindingsFit}
+use Rattle.au_universes.specs.Fitting.{BindingsFit}
 use Rattle.au_universes.specs.declared.universes.TypeUniverse.{TypeUniverse}
 use Rattle.au_universes.specs.Forming.{takes}
 use Rattle.au_universes.specs.Universes.{judged, of_row, universe_of, argument_universe, argument_universes}

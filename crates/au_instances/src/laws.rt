@@ -9,7 +9,7 @@ ghost use Rattle.au_types.specs.declared.types.DeclAt.{DeclAt};
 ghost use Rattle.au_types.specs.Types.{Meaning};
 ghost use Rattle.au_matching.specs.Bindings.{Bindings};
 ghost use Rattle.au_matching.specs.Substituted.{substituted};
-ghost use Rattle.au_type_laws.specs.Fitting.{BindingsFit};
+ghost use Rattle.au_universes.specs.Fitting.{BindingsFit};
 ghost use Rattle.au_universes.specs.Forming.{StandsOver};
 ghost use Rattle.au_closed_types.specs.Closing.{closed};
 ghost use Rattle.au_closed_types.specs.Types.{ClosedType};

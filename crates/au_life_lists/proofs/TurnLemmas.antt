@@ -4,7 +4,7 @@ use Rattle.au_derivations.specs.InScope.{after}
 use Rattle.au_explain.specs.declared.lists.VariableLives.{VariableLives}
 use Rattle.au_life_lists.specs.Said.{statement_said, statements_said}
 use Rattle.au_life_lists.specs.Variables.{listed_after, listed_in, listed_inside}
-use Rattle.au_life_mentions.proofs.PutLemmas as puts
+use Rattle.au_life_lists.proofs.PutLemmas as puts
 use Rattle.au_noting_statements.proofs.Depths.{ParsedStmt}
 use Rattle.au_scopes.specs.Scopes.{Scope}
 

@@ -1,3 +1,4 @@
 pub mod Variables
 pub mod Programs
 pub mod Said
+pub mod Mentions

@@ -6,7 +6,7 @@ use Rattle.au_derivations.specs.Bodies.{body_scope}
 use Rattle.au_derivations.specs.InScope.{after, fixed_variable, with_bound, with_reference, with_variable}
 use Rattle.au_derivations.specs.Search.{judge_borrow, note_bounds}
 use Rattle.au_explain.specs.declared.lists.VariableLives.{VariableLives}
-use Rattle.au_life_mentions.specs.Mentions.{mentions_of_block}
+use Rattle.au_life_lists.specs.Mentions.{mentions_of_block}
 use Rattle.au_lives.specs.Paths.{bound_name}
 use Rattle.au_noting_statements.specs.Entering.{lent_reference}
 use Rattle.au_scopes.specs.Scopes.{Outside, Scope}

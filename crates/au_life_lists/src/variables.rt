@@ -7,9 +7,9 @@ ghost use Rattle.au_life_lists.specs.Variables as spec;
 ghost use Rattle.au_noting.specs.Scopes.{scope_said};
 ghost use Rattle.au_types.specs.Views.{meaning};
 
+use crate::blocks::{bound_name, mentions_of_all};
 use au_base::Memory;
 use au_explain::VariableLives;
-use au_life_mentions::{bound_name, mentions_of_all};
 use au_noting::Scope;
 use au_noting::lookups::{is_free_in, variable_type};
 use au_syntax::{Bind, Field, Ident, Parsed, Stmt};

@@ -5,8 +5,8 @@ use Rattle.std.specs.Str.{bytes_eq}
 use Rattle.std.proofs.lemmas.List.{append-nil, map-append}
 use Rattle.std.proofs.lemmas.Slice.Eq.{bytes_eq-Decides}
 use Rattle.std.specs.Cmp.Lexicographic.{nat_list_eq_equiv}
-use Rattle.au_closed_keys.specs.Keys.{key_of}
-use Rattle.au_closed_keys.proofs.TellLemmas.{key_one}
+use Rattle.au_closed_types.specs.Keys.{key_of}
+use Rattle.au_closed_types.proofs.KeyTellLemmas.{key_one}
 use Rattle.au_closed_types.specs.Same.{same}
 use Rattle.au_closed_types.specs.Types.{ClosedType}
 use Rattle.au_closed_types.proofs.SameLemmas.{same_is, same_self}

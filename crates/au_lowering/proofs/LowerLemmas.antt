@@ -4,7 +4,7 @@ use Rattle.std.proofs.Common.{sym, ap, ◌∙◌}
 use Rattle.std.specs.Str.{bytes_eq}
 use Rattle.std.proofs.lemmas.List.{map-append}
 use Rattle.au_base.specs.declared.faults.Memory.{Memory}
-use Rattle.au_closed_keys.specs.Keys.{key_of}
+use Rattle.au_closed_types.specs.Keys.{key_of}
 use Rattle.au_closed_parts.specs.Parts.{ClosedField}
 use Rattle.au_closed_programs.specs.Programs.{ClosedProgram}
 use Rattle.au_closed_types.specs.Same.{same}

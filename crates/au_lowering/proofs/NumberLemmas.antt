@@ -1,7 +1,7 @@
 -- What instructions name, one by one.
 use Rattle.std.proofs.Common.{◌≡◌, ℕ, List, [], ◌∷◌, ◌++◌, map, refl, sym, ap, ◌∙◌}
 use Rattle.std.specs.Str.{bytes_eq}
-use Rattle.au_closed_keys.specs.Keys.{key_of}
+use Rattle.au_closed_types.specs.Keys.{key_of}
 use Rattle.au_lowered.specs.Drafts.{Draft, plain, pushes_text, makes_case, ships_birth}
 use Rattle.au_lowered.specs.Programs.{texts_named, types_named}
 use Rattle.au_reach.specs.Reached.{adds}

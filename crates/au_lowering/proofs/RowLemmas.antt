@@ -10,7 +10,7 @@ use Rattle.std.specs.Str.{bytes_eq}
 use Rattle.au_base.specs.declared.faults.Memory.{Memory}
 use Rattle.au_reach.specs.Finding.{numbers}
 use Rattle.std.specs.Cmp.Lexicographic.{nat_list_eq_equiv}
-use Rattle.au_closed_keys.specs.Keys.{key_of}
+use Rattle.au_closed_types.specs.Keys.{key_of}
 use Rattle.au_closed_programs.specs.Programs.{TypeRow}
 use Rattle.au_closed_programs.specs.Views.{row_said, rows_said}
 use Rattle.au_closed_programs.specs.declared.rows.TypeRow as found

@@ -2,7 +2,7 @@
 use Rattle.std.specs.Prelude.{ℕ, List, Some}
 use Rattle.std.specs.List.{position_or_len}
 use Rattle.std.specs.Str.{bytes_eq}
-use Rattle.au_closed_keys.specs.Keys.{key_of}
+use Rattle.au_closed_types.specs.Keys.{key_of}
 use Rattle.au_closed_types.specs.Types.{ClosedType}
 use Rattle.au_low.specs.declared.instructions.Instr.{Instr}
 use Rattle.au_low.specs.declared.instructions.Instr.TheVariants.{PushText, Make, Shipped}

@@ -1,6 +1,6 @@
 -- What rows tell of their types, by keys.
 use Rattle.std.specs.Prelude.{ℕ, List, map, Some}
-use Rattle.au_closed_keys.specs.Keys.{key_of}
+use Rattle.au_closed_types.specs.Keys.{key_of}
 use Rattle.au_closed_programs.specs.Programs.{TypeRow}
 use Rattle.au_low.specs.declared.code.LowType.{LowType}
 use Rattle.au_lowering.specs.Closed.{told_by}

@@ -3,7 +3,7 @@
 ghost use Rattle.std.specs.Prelude.{◌≡◌, ◌++◌, [], IfOk, OnOk, Some, map, List};
 ghost use Rattle.std.specs.Str.{bytes_eq};
 ghost use Rattle.au_closed_programs.specs.FunctionViews.{functions_said};
-ghost use Rattle.au_closed_keys.specs.Keys.{key_of};
+ghost use Rattle.au_closed_types.specs.Keys.{key_of};
 ghost use Rattle.au_closed_parts.specs.Views.{fields_said};
 ghost use Rattle.au_closed_programs.specs.Views.{program_said};
 ghost use Rattle.au_closed_types.specs.Same.{same};

@@ -24,9 +24,8 @@ use au_closed_programs::ClosedFunction;
 use au_closed_trees::ClosedTrees;
 use au_closed_types::copy_closed;
 use au_closed_views::Lookup;
-use au_lowering_blocks::write_block;
 use au_lowering_expressions::{Draft, Local};
-use au_lowering_statements::{declare, further, room_of_block};
+use au_lowering_statements::{declare, further, room_of_block, write_block};
 use au_syntax::Block;
 use std::alloc::Global;
 

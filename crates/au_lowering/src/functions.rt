@@ -2,7 +2,7 @@
 
 ghost use Rattle.std.specs.Prelude.{◌≡◌, [], IfOk, OnOk, map};
 ghost use Rattle.std.specs.Str.{bytes_eq};
-ghost use Rattle.au_closed_keys.specs.Keys.{key_of};
+ghost use Rattle.au_closed_types.specs.Keys.{key_of};
 ghost use Rattle.au_lowered.specs.Programs.{texts_named, types_named};
 ghost use Rattle.au_lowering.specs.Drafted.{all_drafts, function_by, is_long};
 ghost use Rattle.au_lowering.specs.DraftViews.{all_said, drafted_said};

@@ -2,7 +2,7 @@
 
 ghost use Rattle.std.specs.Prelude.{◌≡◌, [], ◌∷◌, IfOk, OnOk, map};
 ghost use Rattle.std.specs.Str.{bytes_eq};
-ghost use Rattle.au_closed_keys.specs.Keys.{key_of};
+ghost use Rattle.au_closed_types.specs.Keys.{key_of};
 ghost use Rattle.au_closed_types.specs.Views.{closed_meaning};
 ghost use Rattle.au_lowered.specs.Programs.{text_number};
 ghost use Rattle.au_lowering.specs.Keyed.{key_number};
@@ -10,8 +10,7 @@ ghost use Rattle.au_reach.specs.Finding.{numbers};
 ghost use Rattle.au_reach.specs.Reached.{adds};
 
 use au_base::{Memory, Sequence, Text};
-use au_closed_keys::add_key;
-use au_closed_types::Closed;
+use au_closed_types::{Closed, add_key};
 use indexmap::IndexSet;
 use std::alloc::Global;
 use std::marker::Model;

@@ -1,7 +1,7 @@
 //! What is told of types.
 
 ghost use Rattle.std.specs.Prelude.{◌≡◌, [], IfOk, OnOk, Some, map};
-ghost use Rattle.au_closed_keys.specs.Keys.{key_of};
+ghost use Rattle.au_closed_types.specs.Keys.{key_of};
 ghost use Rattle.au_closed_programs.specs.Views.{row_said, rows_said};
 ghost use Rattle.au_lowering.specs.Closed.{told_by};
 ghost use Rattle.au_lowering.specs.Rows.{rows_in, rows_told};

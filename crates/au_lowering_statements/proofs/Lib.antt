@@ -5,3 +5,5 @@ pub mod TestLemmas
 pub mod ArmLemmas
 pub mod BlockLemmas
 pub mod CaseLemmas
+pub mod BorrowLemmas
+pub mod LoopLemmas

@@ -1,15 +1,16 @@
-//! What the code of statements in closed trees is made of: the variables that they declare and their slots,
-//! the jumps to ends that are found later, where the arms of cases begin, and how many slots are in use.
+//! The code of blocks in closed trees, behind other code, with texts and types that stand for themselves, and
+//! what it is made of: the variables that statements declare and their slots, the jumps to ends that are found
+//! later, where the arms of cases begin, and how many slots are in use.
 #![tactic(auto)]
 
 pub mod arms;
+pub mod block_pieces;
 pub mod entering;
 pub mod jumps;
 pub mod pieces;
 pub mod rooms;
+pub mod statements;
 
-pub use arms::{Start, end_case, enter_arm, put_case, put_start};
-pub use entering::{bind_fields, declare, declare_noted, enter, fields_of, further, kept};
-pub use jumps::{either, end_jumps, is_last, put_end, put_unless};
-pub use pieces::{put_bind, put_put, put_set};
+pub use entering::{declare, further};
 pub use rooms::room_of_block;
+pub use statements::write_block;

@@ -13,13 +13,13 @@ ghost use Rattle.au_typing.specs.Notes as notes;
 ghost use Rattle.au_typing.specs.Rules.{int32};
 ghost use Rattle.au_typing.specs.SearchCalls as search;
 
+use crate::argument_types::{taken_as, unlike};
 use crate::fixed::taken_as_int32;
 use crate::operands::type_of;
 use au_base::IntKind;
 use au_matching::Substitution;
 use au_notes::Noted;
 use au_noting::Fault;
-use crate::argument_types::{taken_as, unlike};
 use au_syntax::Expr;
 use au_types::Ty;
 use std::alloc::Global;

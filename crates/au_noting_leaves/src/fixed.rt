@@ -10,11 +10,11 @@ ghost use Rattle.au_types.specs.Views.{meaning};
 ghost use Rattle.au_typing.specs.Faults as faults;
 ghost use Rattle.au_typing.specs.Rules.{int32, noted};
 
+use crate::argument_types::taken_as;
 use au_base::IntKind;
 use au_matching::Substitution;
 use au_notes::Notes;
 use au_noting::Fault;
-use crate::argument_types::taken_as;
 use au_noting::rules::noted;
 use au_types::Ty;
 use std::alloc::Global;

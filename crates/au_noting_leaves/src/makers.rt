@@ -11,11 +11,10 @@ ghost use Rattle.au_types.specs.Views.{meaning};
 
 use crate::fixed::truth_note;
 use crate::operands::{noted_site, type_of};
-use au_noted_copies::copy_text_of_type;
-use au_notes::Noted;
+use au_notes::{Noted, copy_text_of_type};
+use au_noting::{Fault, Scope};
 use au_noting::nodes::{arithmetic_note, comparison_note, dereference_note, of_one_type};
 use au_noting::rules::noted;
-use au_noting::{Fault, Scope};
 use au_syntax::{BinaryOperator, Expr, Parsed, Site, TypeText};
 use au_types::Ty;
 use std::alloc::Global;

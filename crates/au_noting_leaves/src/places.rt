@@ -14,12 +14,11 @@ ghost use Rattle.au_typing.specs.Search.{note_expression};
 
 use crate::operands::noted_site;
 use au_base::Memory;
-use au_noted_copies::{copy_name, copy_names};
-use au_notes::Noted;
+use au_notes::{Noted, copy_name, copy_names};
+use au_noting::{Fault, Scope};
 use au_noting::lookups::{known_value, known_variable};
 use au_noting::nodes::{arrow_note, borrow_part_note, borrowed, path_note};
 use au_noting::rules::noted;
-use au_noting::{Fault, Scope};
 use au_syntax::{BorrowMode, Expr, Ident, Parsed, Site};
 use au_types::Ty;
 use std::alloc::Global;

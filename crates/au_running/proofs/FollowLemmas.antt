@@ -14,8 +14,8 @@ use Rattle.au_lowering.specs.Closed.{body_seen, functions_of, row_seen, told_in}
 use Rattle.au_meaning.specs.Views.{Function}
 use Rattle.au_meaning.specs.Worlds.{Outcome, stuck}
 use Rattle.au_simulation.specs.Laws.{Follows}
-use Rattle.au_good_programs.specs.Asked.{FieldsAreOnce, ParametersAreOnce}
-use Rattle.au_good_programs.proofs.GoodLemmas.{followed_follow}
+use Rattle.au_running.specs.Asked.{FieldsAreOnce, ParametersAreOnce}
+use Rattle.au_running.proofs.GoodLemmas.{followed_follow}
 use Rattle.au_running.specs.Follows.{LoweredProgramsFollow}
 use Rattle.au_running.specs.Meant.{means}
 use Rattle.au_running.specs.Runs.{IsRunnable}

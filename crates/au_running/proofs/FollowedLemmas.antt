@@ -21,14 +21,14 @@ use Rattle.au_noting_programs.specs.Faults.{IsDerived}
 use Rattle.au_effects.specs.Parts.{along}
 use Rattle.au_meaning.specs.Views.{Field, Function}
 use Rattle.au_lowering.specs.Closed.{body_seen, row_seen, told_by, told_in}
-use Rattle.au_good_programs.specs.Asked.{AreSimple, CallsArePlain, FieldsAreOnce, ParametersAreOnce}
-use Rattle.au_good_programs.specs.Followed.{AreFollowed, EntryBegins, functions_in}
-use Rattle.au_good_programs.specs.Formed.{IsFormed}
-use Rattle.au_good_programs.specs.Suits.{EachSuits, are_once}
-use Rattle.au_good_programs.proofs.AskedLemmas.{block_follows}
-use Rattle.au_good_programs.proofs.ClosedLemmas.{closed_formed}
-use Rattle.au_good_programs.proofs.ConstantLemmas.{plain_simple}
-use Rattle.au_good_programs.proofs.JoinedLemmas.{from_closed, in_order}
+use Rattle.au_running.specs.Asked.{AreSimple, CallsArePlain, FieldsAreOnce, ParametersAreOnce}
+use Rattle.au_running.specs.Followed.{AreFollowed, EntryBegins, functions_in}
+use Rattle.au_running.specs.Formed.{IsFormed}
+use Rattle.au_running.specs.Suits.{EachSuits, are_once}
+use Rattle.au_running.proofs.AskedLemmas.{block_follows}
+use Rattle.au_running.proofs.ClosedLemmas.{closed_formed}
+use Rattle.au_running.proofs.ConstantLemmas.{plain_simple}
+use Rattle.au_running.proofs.JoinedLemmas.{from_closed, in_order}
 
 -- ---- parameters
 

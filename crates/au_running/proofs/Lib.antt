@@ -13,3 +13,13 @@ mod ToldLemmas
 pub mod FrontLemmas
 pub mod AnswerLemmas
 pub mod ShownLemmas
+mod RenotedLemmas
+mod GoodOnceLemmas
+mod DerivedLemmas
+pub mod ClosedLemmas
+pub mod CodeLemmas
+pub mod MeaningLemmas
+pub mod GoodLemmas
+pub mod AskedLemmas
+pub mod ConstantLemmas
+pub mod JoinedLemmas

@@ -15,7 +15,7 @@ use Rattle.au_again.specs.declared.marks.Mark.TheVariants.{Opens, Closes, Declar
 use Rattle.au_again.specs.declared.marks.Role.TheVariants.{Local}
 use Rattle.au_again.specs.Marks.{enclosed, labelled_mark}
 use Rattle.au_again.specs.Once.{AreNew, IsInBlock, IsNew, StaysOpen, closed}
-use Rattle.au_good_programs.specs.Suits.{are_once, is_lacking}
+use Rattle.au_running.specs.Suits.{are_once, is_lacking}
 
 -- ---- a part of the text
 

@@ -29,8 +29,8 @@ use Rattle.au_simulation.specs.Programs.{EntryTakes, GoodProgram, HasFunction, H
 use Rattle.au_simulation.proofs.PlacedLemmas.{has_program}
 use Rattle.au_simulation.proofs.RunLemmas.{begins_none, begins_root, runs_follow}
 use Rattle.au_simulation.proofs.TopLemmas.{Claims, Shows, ending_of, enters_if, entry_frame, first_common}
-use Rattle.au_simulation_steps.specs.Runs.{run_at}
-use Rattle.au_simulation_steps.specs.Sides.{Both, Coding, Common, Spot, all_meant, spot}
+use Rattle.au_simulation.specs.Runs.{run_at}
+use Rattle.au_simulation.specs.Sides.{Both, Coding, Common, Spot, all_meant, spot}
 use Rattle.au_syntax.specs.Plain.{Bytes}
 
 -- what is stuck doesn't abort

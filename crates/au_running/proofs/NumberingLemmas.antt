@@ -7,7 +7,7 @@ use Rattle.au_closed_types.specs.Same.{same}
 use Rattle.au_closed_types.specs.Types.{ClosedType}
 use Rattle.au_closed_views.specs.Programs.{Body, Row, function_seen, functions_from, surroundings}
 use Rattle.au_closing.specs.Closes.{ClosedFunction}
-use Rattle.au_good_programs.specs.Followed.{functions_in}
+use Rattle.au_running.specs.Followed.{functions_in}
 use Rattle.au_low.specs.declared.code.LowType.{LowType}
 use Rattle.au_lowered.specs.Programs.{bodies, body_of, entry_types, function_code, lowered, texts_in, texts_named, types_in, types_named}
 use Rattle.au_lowering.specs.Closed.{body_seen}

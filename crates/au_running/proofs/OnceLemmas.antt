@@ -33,7 +33,7 @@ use Rattle.au_closed_views.specs.Programs.{Case}
 use Rattle.au_closed_views.specs.Surroundings.{field_names}
 use Rattle.au_closing_meanings.specs.Closed.{parameters_seen}
 use Rattle.au_closing_meanings.specs.Generic.{case_seen, cases_in, field_seen}
-use Rattle.au_good_programs.specs.Suits.{are_once}
+use Rattle.au_running.specs.Suits.{are_once}
 use Rattle.au_running.specs.Once.{ClosedFieldsAreOnce, ClosedParametersAreOnce}
 use Rattle.au_running.proofs.MarkLemmas.{AreNewThere, declared_once, inside_new, item_new, marks_written, names_written, rest_new}
 use Rattle.au_running.proofs.StandingLemmas.{AllAre, body_new, definition_new, mapped}

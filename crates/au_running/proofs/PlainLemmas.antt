@@ -2,8 +2,8 @@
 use Rattle.std.proofs.Common.{◌≡◌, ℕ, zero, suc, Bool, true, false, ◌&&◌, List, [], ◌∷◌, refl, sym, ◌∙◌, subst}
 use Rattle.au_closed_trees.specs.ClosedNotes.{Callee, ClosedNote, ClosedExpression, ClosedStatement, ClosedStatements, instance, constructor, shipped}
 use Rattle.au_closing.specs.Closes.{ClosedFunction}
-use Rattle.au_good_programs.specs.Asked.{CallsArePlain, IsAny, IsPlainCall}
-use Rattle.au_good_programs.specs.Suits.{SaidIn, SaidOf, SaidOfAll, SaidOfArms, SaidOfBlock, SaidOfNamed, SaidOfTests}
+use Rattle.au_running.specs.Asked.{CallsArePlain, IsAny, IsPlainCall}
+use Rattle.au_running.specs.Suits.{SaidIn, SaidOf, SaidOfAll, SaidOfArms, SaidOfBlock, SaidOfNamed, SaidOfTests}
 use Rattle.au_lowering.specs.PlainCalls.{functions_are_plain, is_plain, plain_arguments, plain_arms, plain_block, plain_branches, plain_callee, plain_expression, plain_expressions, plain_statement}
 use Rattle.au_shipped.specs.declared.prims.ShippedCall.{ShippedCall}
 use Rattle.au_shipped.specs.declared.prims.ShippedCall.TheVariants as prim

@@ -18,13 +18,13 @@ use Rattle.au_meaning.specs.Meanings.{begun, call_at, first_world, mean, paramet
 use Rattle.au_meaning.specs.Views.{Field, Function}
 use Rattle.au_meaning.specs.Worlds.{Outcome, stuck}
 use Rattle.au_simulation.specs.Programs.{EntryTakes}
-use Rattle.au_good_programs.specs.Asked.{FieldsAreOnce, ParametersAreOnce}
-use Rattle.au_good_programs.specs.Followed.{AreFollowed, EntryBegins}
-use Rattle.au_good_programs.specs.Suits.{guarded_functions}
-use Rattle.au_good_programs.proofs.CodeLemmas.{lowered_same}
-use Rattle.au_good_programs.proofs.GoodLemmas.{guarded_good}
-use Rattle.au_good_programs.proofs.JoinedLemmas.{in_order}
-use Rattle.au_good_programs.proofs.MeaningLemmas.{means_same}
+use Rattle.au_running.specs.Asked.{FieldsAreOnce, ParametersAreOnce}
+use Rattle.au_running.specs.Followed.{AreFollowed, EntryBegins}
+use Rattle.au_running.specs.Suits.{guarded_functions}
+use Rattle.au_running.proofs.CodeLemmas.{lowered_same}
+use Rattle.au_running.proofs.GoodLemmas.{guarded_good}
+use Rattle.au_running.proofs.JoinedLemmas.{in_order}
+use Rattle.au_running.proofs.MeaningLemmas.{means_same}
 use Rattle.au_running.specs.Meant.{means}
 use Rattle.au_running.specs.Runs.{IsRunnable, LoweredProgramsRun, RunShows, RunsShow}
 use Rattle.au_running.proofs.EndLemmas.{good_shows}

@@ -4,7 +4,7 @@ use Rattle.au_closed_programs.specs.Programs.{ClosedProgram, Closes, plain_insta
 use Rattle.au_closing_meanings.specs.Generic.{generic_functions}
 use Rattle.au_derivations.specs.Trees.{NotedParts}
 use Rattle.au_effects.specs.Worlds.{Deed}
-use Rattle.au_good_programs.specs.Asked.{CallsArePlain}
+use Rattle.au_running.specs.Asked.{CallsArePlain}
 use Rattle.au_low.specs.declared.code.Code.{Code}
 use Rattle.au_low.specs.declared.endings.Ending.{Ending}
 use Rattle.au_low.specs.declared.endings.Ending.TheVariants as ending

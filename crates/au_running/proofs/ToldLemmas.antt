@@ -2,8 +2,8 @@
 use Rattle.std.proofs.Common.{◌≡◌, ℕ, zero, suc, Bool, true, false, ◌&&◌, List, [], ◌∷◌, refl, ◌∙◌}
 use Rattle.au_closed_trees.specs.ClosedNotes.{Callee, ClosedNote, ClosedExpression, ClosedStatement, ClosedStatements, instance, constructor, shipped}
 use Rattle.au_closing.specs.Closes.{ClosedFunction}
-use Rattle.au_good_programs.specs.Asked.{CallsArePlain, IsAny, IsPlainCall}
-use Rattle.au_good_programs.specs.Suits.{SaidIn, SaidOf, SaidOfAll, SaidOfArms, SaidOfBlock, SaidOfNamed, SaidOfTests}
+use Rattle.au_running.specs.Asked.{CallsArePlain, IsAny, IsPlainCall}
+use Rattle.au_running.specs.Suits.{SaidIn, SaidOf, SaidOfAll, SaidOfArms, SaidOfBlock, SaidOfNamed, SaidOfTests}
 use Rattle.au_lowering.specs.PlainCalls.{functions_are_plain, plain_arguments, plain_arms, plain_block, plain_branches, plain_callee, plain_expression, plain_expressions, plain_statement}
 use Rattle.au_running.proofs.PlainLemmas.{same_plain}
 use Rattle.au_syntax.specs.Expressions.{Expressions, Arguments, number, negative, text, truth, nil, path, arrow, call, named_call, parenthesized, dereference, borrow, borrow_part, binary, negation, typed, choice, no_expressions, expressions, no_arguments, arguments}

@@ -6,3 +6,7 @@ pub mod Runs
 pub mod Follows
 pub mod Coded
 pub mod Ran
+pub mod Formed
+pub mod Suits
+pub mod Followed
+pub mod Asked

@@ -7,7 +7,7 @@ use Rattle.au_derivations.specs.Trees.{NotedParts}
 use Rattle.au_noting_programs.specs.Faults.{IsDerived}
 use Rattle.au_closing.specs.Closes.{ClosedFunction, ClosesFunctions}
 use Rattle.au_closing.specs.Instances.{Instance}
-use Rattle.au_good_programs.specs.Asked.{FieldsAreOnce, ParametersAreOnce}
+use Rattle.au_running.specs.Asked.{FieldsAreOnce, ParametersAreOnce}
 
 -- Where the declarations of a derived program are good, the parameters of each function that it closes to
 -- have names of their own.

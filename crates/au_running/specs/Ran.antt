@@ -8,7 +8,7 @@ use Rattle.au_derivations.specs.Trees.{NotedParts}
 use Rattle.au_entries.specs.Entries.{entry_of, not_of_the_form, nowhere}
 use Rattle.au_closed_programs.specs.Answers.{ClosesWithin, Passes}
 use Rattle.au_closed_programs.specs.Programs.{ClosedProgram, Closes}
-use Rattle.au_good_programs.specs.Asked.{CallsArePlain}
+use Rattle.au_running.specs.Asked.{CallsArePlain}
 use Rattle.au_lowering.specs.Answers.{too_long}
 use Rattle.au_lowering.specs.Closed.{is_too_long}
 use Rattle.au_meaning.specs.Worlds.{Outcome, stuck}

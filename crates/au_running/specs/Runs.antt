@@ -7,7 +7,7 @@ use Rattle.au_derivations.specs.Trees.{NotedParts}
 use Rattle.au_rules.specs.Good.{AllDeclarationsAreGood}
 use Rattle.au_noting_programs.specs.Faults.{IsDerived}
 use Rattle.au_closed_programs.specs.Programs.{ClosedProgram, Closes}
-use Rattle.au_good_programs.specs.Asked.{CallsArePlain}
+use Rattle.au_running.specs.Asked.{CallsArePlain}
 use Rattle.au_low.specs.declared.code.Code.{Code}
 use Rattle.au_low.specs.declared.endings.Ending.{Ending}
 use Rattle.au_low.specs.declared.endings.Ending.TheVariants as ending

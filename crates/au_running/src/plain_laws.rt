@@ -2,7 +2,7 @@
 
 ghost use Rattle.std.specs.Prelude.{◌≡◌, List, true};
 ghost use Rattle.au_closing.specs.Closes.{ClosedFunction};
-ghost use Rattle.au_good_programs.specs.Asked.{CallsArePlain};
+ghost use Rattle.au_running.specs.Asked.{CallsArePlain};
 ghost use Rattle.au_lowering.specs.PlainCalls.{functions_are_plain};
 
 /// Where the answer is that all calls of closed functions are plain, each shipped call in each of them is.

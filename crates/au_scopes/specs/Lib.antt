@@ -1,1 +1,4 @@
 pub mod Scopes
+pub mod Codes
+pub mod Places
+pub mod Variables

@@ -24,14 +24,14 @@ use Rattle.au_meaning.specs.Worlds.{Value}
 use Rattle.au_shipped.specs.declared.prims.ShippedCall.{ShippedCall}
 use Rattle.au_shipped.specs.declared.prims.ShippedCall.TheVariants as prim
 use Rattle.au_syntax.specs.Plain.{Bytes}
-use Rattle.au_simulation_steps.specs.Scopes.{Entry, Agree}
-use Rattle.au_simulation_steps.specs.Sides.{Coding, Word, Both, Names, Slots, Common, Frame, machine, spot, world, meant, ran, all_meant, all_ran}
-use Rattle.au_simulation_steps.specs.Runs.{at, aim_at, Sim}
-use Rattle.au_simulation_steps.proofs.CallLemmas.{popped_all, make_runs}
-use Rattle.au_simulation_steps.proofs.LeadLemmas.{leads_to}
-use Rattle.au_simulation_steps.proofs.MapLemmas.{wrapped_to, converted_to}
-use Rattle.au_simulation_steps.proofs.SimLemmas.{sim_spare, sim_stuck, sim_aim, sim_needing}
-use Rattle.au_simulation_steps.proofs.StepLemmas.{comes_runs}
+use Rattle.au_simulation.specs.Scopes.{Entry, Agree}
+use Rattle.au_simulation.specs.Sides.{Coding, Word, Both, Names, Slots, Common, Frame, machine, spot, world, meant, ran, all_meant, all_ran}
+use Rattle.au_simulation.specs.Runs.{at, aim_at, Sim}
+use Rattle.au_simulation.proofs.CallLemmas.{popped_all, make_runs}
+use Rattle.au_simulation.proofs.LeadLemmas.{leads_to}
+use Rattle.au_simulation.proofs.MapLemmas.{wrapped_to, converted_to}
+use Rattle.au_simulation.proofs.SimLemmas.{sim_spare, sim_stuck, sim_aim, sim_needing}
+use Rattle.au_simulation.proofs.StepLemmas.{comes_runs}
 use Rattle.au_simulation.specs.Premises.{GoodView, Placed, GoodCalls, Once, is_plain}
 use Rattle.au_simulation.specs.Rows.{value_aim, OnAll}
 use Rattle.au_simulation.proofs.OrderLemmas.{numbers_length, positions_ordered, position_found, labels_ordered, declared_or_not}

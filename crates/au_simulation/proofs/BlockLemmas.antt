@@ -34,19 +34,19 @@ use Rattle.au_base.specs.declared.places.Pos.{Pos}
 use Rattle.au_syntax.specs.Names.{Placed as Placed_name}
 use Rattle.au_syntax.specs.Plain.{Bytes}
 use Rattle.au_syntax.specs.Types.{Bound}
-use Rattle.au_simulation_steps.specs.Scopes.{Entry, variable, kept as keeps, numbers_in, slots_in, Held, Scoped, Agree}
-use Rattle.au_simulation_steps.specs.Maps.{fields_to}
-use Rattle.au_simulation_steps.specs.Sides.{Coding, Word, Both, Names, Slots, Common, Frame, Spot, machine, spot, world, meant, all_meant, all_ran}
-use Rattle.au_simulation_steps.specs.Runs as reach
-use Rattle.au_simulation_steps.specs.Runs.{reached, Leads, Aim, Sim}
-use Rattle.au_simulation_steps.proofs.LeadLemmas.{leads_to, leads_tick}
-use Rattle.au_simulation_steps.proofs.MapLemmas.{listed_to}
-use Rattle.au_simulation_steps.proofs.MoveLemmas.{jump_goes}
-use Rattle.au_simulation_steps.proofs.SimLemmas.{sim_on, sim_bind}
-use Rattle.au_simulation_steps.proofs.StepLemmas.{ticks_at}
+use Rattle.au_simulation.specs.Scopes.{Entry, variable, kept as keeps, numbers_in, slots_in, Held, Scoped, Agree}
+use Rattle.au_simulation.specs.Maps.{fields_to}
+use Rattle.au_simulation.specs.Sides.{Coding, Word, Both, Names, Slots, Common, Frame, Spot, machine, spot, world, meant, all_meant, all_ran}
+use Rattle.au_simulation.specs.Runs as reach
+use Rattle.au_simulation.specs.Runs.{reached, Leads, Aim, Sim}
+use Rattle.au_simulation.proofs.LeadLemmas.{leads_to, leads_tick}
+use Rattle.au_simulation.proofs.MapLemmas.{listed_to}
+use Rattle.au_simulation.proofs.MoveLemmas.{jump_goes}
+use Rattle.au_simulation.proofs.SimLemmas.{sim_on, sim_bind}
+use Rattle.au_simulation.proofs.StepLemmas.{ticks_at}
 use Rattle.au_meaning.specs.Acts.{bound_counted}
 use Rattle.au_simulation.specs.Binds.{fields_bound}
-use Rattle.au_simulation_steps.proofs.FrameLemmas.{number_free, slot_free, under_more}
+use Rattle.au_simulation.proofs.FrameLemmas.{number_free, slot_free, under_more}
 use Rattle.au_simulation.proofs.ForLemmas.{loop_scope, for_does}
 use Rattle.au_simulation.proofs.RoomLemmas.{block_least}
 use Rattle.au_simulation.specs.Premises.{GoodView, Placed, GoodCalls, Once}

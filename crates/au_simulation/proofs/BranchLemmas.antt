@@ -9,13 +9,13 @@ use Rattle.au_lowered.proofs.StandLemmas.{parts_stand}
 use Rattle.au_meaning.specs.Expressions.{chosen}
 use Rattle.au_meaning.specs.Ticks.{Action, pure, tick, ◌>>=◌}
 use Rattle.au_meaning.specs.Worlds.{Value}
-use Rattle.au_simulation_steps.specs.Scopes.{Entry, Agree}
-use Rattle.au_simulation_steps.specs.Sides.{Coding, Both, Names, Slots, Common, Frame, Spot, spot, world, meant}
-use Rattle.au_simulation_steps.specs.Runs.{at, Leads, Sim}
-use Rattle.au_simulation_steps.proofs.LeadLemmas.{leads_more, leads_to}
-use Rattle.au_simulation_steps.proofs.SimLemmas.{sim_on, sim_spare, sim_given, sim_bind, sim_bind_more, sim_more}
-use Rattle.au_simulation_steps.proofs.StepLemmas.{ticks_at}
-use Rattle.au_simulation_steps.proofs.MoveLemmas.{jump_reach, choose_by, choose_runs}
+use Rattle.au_simulation.specs.Scopes.{Entry, Agree}
+use Rattle.au_simulation.specs.Sides.{Coding, Both, Names, Slots, Common, Frame, Spot, spot, world, meant}
+use Rattle.au_simulation.specs.Runs.{at, Leads, Sim}
+use Rattle.au_simulation.proofs.LeadLemmas.{leads_more, leads_to}
+use Rattle.au_simulation.proofs.SimLemmas.{sim_on, sim_spare, sim_given, sim_bind, sim_bind_more, sim_more}
+use Rattle.au_simulation.proofs.StepLemmas.{ticks_at}
+use Rattle.au_simulation.proofs.MoveLemmas.{jump_reach, choose_by, choose_runs}
 use Rattle.au_simulation.specs.Premises.{Placed}
 use Rattle.au_simulation.specs.Rows.{value_aim, Gives}
 

@@ -11,11 +11,11 @@ use Rattle.au_meaning.specs.Ticks.{Out}
 use Rattle.au_meaning.specs.Views.{View}
 use Rattle.au_syntax.specs.Plain.{Bytes}
 use Rattle.au_syntax.specs.Statements.{Arms, arms, no_arms}
-use Rattle.au_simulation_steps.specs.Scopes.{Entry}
-use Rattle.au_simulation_steps.specs.Sides.{Coding, Frame, Spot}
-use Rattle.au_simulation_steps.specs.Runs.{Sim}
-use Rattle.au_simulation_steps.proofs.FrameLemmas.{get_at}
-use Rattle.au_simulation_steps.proofs.SimLemmas.{sim_spare}
+use Rattle.au_simulation.specs.Scopes.{Entry}
+use Rattle.au_simulation.specs.Sides.{Coding, Frame, Spot}
+use Rattle.au_simulation.specs.Runs.{Sim}
+use Rattle.au_simulation.proofs.FrameLemmas.{get_at}
+use Rattle.au_simulation.proofs.SimLemmas.{sim_spare}
 use Rattle.au_simulation.specs.Flows.{flow_aim, Behind}
 use Rattle.au_simulation.specs.Premises.{EachIn, Placed}
 use Rattle.au_simulation.proofs.FlowLemmas.{jump_runs}

@@ -22,13 +22,13 @@ use Rattle.au_meaning.specs.Views.{Field}
 use Rattle.au_meaning.specs.Worlds.{Value}
 use Rattle.au_syntax.specs.Plain.{Bytes}
 use Rattle.au_syntax.specs.Types.{Bound}
-use Rattle.au_simulation_steps.specs.Maps.{fields_to}
-use Rattle.au_simulation_steps.specs.Scopes.{Entry, numbers_in, slots_in, Scoped, Agree}
-use Rattle.au_simulation_steps.specs.Sides.{Coding, Word, Both, Names, Slots, Common, Frame, machine, spot, world, meant, all_meant, all_ran}
-use Rattle.au_simulation_steps.specs.Runs.{at, reached, Sim}
-use Rattle.au_simulation_steps.proofs.LeadLemmas.{leads_spare, leads_to, leads_tick}
-use Rattle.au_simulation_steps.proofs.MapLemmas.{listed_to}
-use Rattle.au_simulation_steps.proofs.SimLemmas.{sim_given}
+use Rattle.au_simulation.specs.Maps.{fields_to}
+use Rattle.au_simulation.specs.Scopes.{Entry, numbers_in, slots_in, Scoped, Agree}
+use Rattle.au_simulation.specs.Sides.{Coding, Word, Both, Names, Slots, Common, Frame, machine, spot, world, meant, all_meant, all_ran}
+use Rattle.au_simulation.specs.Runs.{at, reached, Sim}
+use Rattle.au_simulation.proofs.LeadLemmas.{leads_spare, leads_to, leads_tick}
+use Rattle.au_simulation.proofs.MapLemmas.{listed_to}
+use Rattle.au_simulation.proofs.SimLemmas.{sim_given}
 use Rattle.au_meaning.specs.Acts.{bound_counted}
 use Rattle.au_simulation.specs.Binds.{fields_bound}
 use Rattle.au_simulation.specs.Flows.{falls, flow_aim, After, Does, Whole}

@@ -11,13 +11,13 @@ use Rattle.au_meaning.specs.Views.{View}
 use Rattle.au_meaning.specs.Worlds.{Value}
 use Rattle.au_syntax.specs.Expressions.{Expression, Expressions, Arguments, number, negative, text, truth, nil, path, arrow, call, named_call, parenthesized, dereference, borrow, borrow_part, binary, negation, typed, choice, no_expressions, expressions, no_arguments, arguments}
 use Rattle.au_syntax.specs.Plain.{Bytes}
-use Rattle.au_simulation_steps.specs.Scopes.{Entry, numbers_in, slots_in, Agree, Distinct}
-use Rattle.au_simulation_steps.specs.Sides.{Coding, Frame, spot, world, meant, all_meant}
-use Rattle.au_simulation_steps.specs.Runs.{at}
-use Rattle.au_simulation_steps.proofs.CallLemmas.{pushed_more}
-use Rattle.au_simulation_steps.proofs.LeadLemmas.{leads_none, leads_to}
-use Rattle.au_simulation_steps.proofs.SimLemmas.{sim_given, sim_stuck, sim_bind, sim_map}
-use Rattle.au_simulation_steps.proofs.StepLemmas.{ticks_at}
+use Rattle.au_simulation.specs.Scopes.{Entry, numbers_in, slots_in, Agree, Distinct}
+use Rattle.au_simulation.specs.Sides.{Coding, Frame, spot, world, meant, all_meant}
+use Rattle.au_simulation.specs.Runs.{at}
+use Rattle.au_simulation.proofs.CallLemmas.{pushed_more}
+use Rattle.au_simulation.proofs.LeadLemmas.{leads_none, leads_to}
+use Rattle.au_simulation.proofs.SimLemmas.{sim_given, sim_stuck, sim_bind, sim_map}
+use Rattle.au_simulation.proofs.StepLemmas.{ticks_at}
 use Rattle.au_simulation.specs.Premises.{GoodView, Placed, GoodCalls}
 use Rattle.au_simulation.specs.Rows.{values_aim, Gives, GivesAll, OnAll}
 use Rattle.au_simulation.proofs.BranchLemmas.{choice_runs, and_runs, or_runs}

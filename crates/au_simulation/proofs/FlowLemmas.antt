@@ -16,14 +16,14 @@ use Rattle.au_meaning.specs.Statements as meaning
 use Rattle.au_meaning.specs.Statements.{Flow, and_then, leaves}
 use Rattle.au_meaning.specs.Ticks.{Out, Action, gives, follows}
 use Rattle.au_meaning.specs.Worlds.{Value}
-use Rattle.au_simulation_steps.specs.Scopes.{Entry, Agree, Under}
-use Rattle.au_simulation_steps.specs.Sides.{Coding, Both, Names, Slots, Common, Frame, Spot, machine, spot, world, meant, ran}
-use Rattle.au_simulation_steps.specs.Runs.{at, reached, Leads, Sim}
-use Rattle.au_simulation_steps.proofs.FrameLemmas.{held_name, number_free}
-use Rattle.au_simulation_steps.proofs.LeadLemmas.{leads_spare, leads_more, leads_to}
-use Rattle.au_simulation_steps.proofs.SimLemmas.{sim_on, sim_spare, sim_given, sim_map, sim_aim, sim_more}
-use Rattle.au_simulation_steps.proofs.StepLemmas.{meant_set}
-use Rattle.au_simulation_steps.proofs.MoveLemmas.{jump_reach, close_goes}
+use Rattle.au_simulation.specs.Scopes.{Entry, Agree, Under}
+use Rattle.au_simulation.specs.Sides.{Coding, Both, Names, Slots, Common, Frame, Spot, machine, spot, world, meant, ran}
+use Rattle.au_simulation.specs.Runs.{at, reached, Leads, Sim}
+use Rattle.au_simulation.proofs.FrameLemmas.{held_name, number_free}
+use Rattle.au_simulation.proofs.LeadLemmas.{leads_spare, leads_more, leads_to}
+use Rattle.au_simulation.proofs.SimLemmas.{sim_on, sim_spare, sim_given, sim_map, sim_aim, sim_more}
+use Rattle.au_simulation.proofs.StepLemmas.{meant_set}
+use Rattle.au_simulation.proofs.MoveLemmas.{jump_reach, close_goes}
 use Rattle.au_simulation.specs.Premises.{Placed}
 use Rattle.au_simulation.specs.Rows.{Gives}
 use Rattle.au_simulation.specs.Flows.{Way, falls, returns, way_meant, OnFalls, gone, lands, flow_aim, Behind, Whole}

@@ -22,15 +22,15 @@ use Rattle.au_meaning.specs.Ticks as ticks
 use Rattle.au_meaning.specs.Ticks.{Out, Action, gives, pure, tick, ticked, follows, where_true, ◌>>=◌}
 use Rattle.au_meaning.specs.Worlds.{Value}
 use Rattle.au_syntax.specs.Plain.{Bytes}
-use Rattle.au_simulation_steps.specs.Scopes.{Entry, variable, kept, Scoped, Agree, SlotFree}
-use Rattle.au_simulation_steps.specs.Sides.{Coding, Word, Both, Names, Slots, Common, Frame, Spot, machine, spot, world, meant, ran}
-use Rattle.au_simulation_steps.specs.Runs.{at, reached, Leads, aim_at, Sim}
-use Rattle.au_simulation_steps.proofs.FrameLemmas.{set_same, set_other, held_other, held_slot, number_free, slot_free, under_more}
-use Rattle.au_simulation_steps.proofs.LeadLemmas.{leads_spare, leads_more, leads_to, leads_tick}
-use Rattle.au_simulation_steps.proofs.MapLemmas.{number_in_to}
-use Rattle.au_simulation_steps.proofs.SimLemmas.{sim_on, sim_spare, sim_given, sim_stuck, sim_bind, sim_where}
-use Rattle.au_simulation_steps.proofs.StepLemmas.{meant_set, ran_at, ran_set, ticks_at}
-use Rattle.au_simulation_steps.proofs.MoveLemmas.{jump_goes, store_goes}
+use Rattle.au_simulation.specs.Scopes.{Entry, variable, kept, Scoped, Agree, SlotFree}
+use Rattle.au_simulation.specs.Sides.{Coding, Word, Both, Names, Slots, Common, Frame, Spot, machine, spot, world, meant, ran}
+use Rattle.au_simulation.specs.Runs.{at, reached, Leads, aim_at, Sim}
+use Rattle.au_simulation.proofs.FrameLemmas.{set_same, set_other, held_other, held_slot, number_free, slot_free, under_more}
+use Rattle.au_simulation.proofs.LeadLemmas.{leads_spare, leads_more, leads_to, leads_tick}
+use Rattle.au_simulation.proofs.MapLemmas.{number_in_to}
+use Rattle.au_simulation.proofs.SimLemmas.{sim_on, sim_spare, sim_given, sim_stuck, sim_bind, sim_where}
+use Rattle.au_simulation.proofs.StepLemmas.{meant_set, ran_at, ran_set, ticks_at}
+use Rattle.au_simulation.proofs.MoveLemmas.{jump_goes, store_goes}
 use Rattle.au_simulation.specs.Premises.{Placed}
 use Rattle.au_simulation.specs.Flows.{falls, flow_aim, Behind, Does, Whole}
 use Rattle.au_simulation.proofs.FlowLemmas.{flow_holds, then_runs, leaves_run, agree_emptied}

@@ -19,14 +19,14 @@ use Rattle.au_meaning.specs.Statements.{Flow, run_block}
 use Rattle.au_meaning.specs.Ticks.{Out, gives, aborts, cut, no_rule, follows}
 use Rattle.au_meaning.specs.Views.{Field, Function}
 use Rattle.au_meaning.specs.Worlds.{Value}
-use Rattle.au_simulation_steps.specs.Scopes.{Entry, variable, numbers_in, slots_in, Held, Same, Scoped, Agree}
-use Rattle.au_simulation_steps.specs.Sides.{Coding, Both, Names, Slots, Common, Frame, Spot, machine, spot, world, meant, ran, all_meant, all_ran}
-use Rattle.au_simulation_steps.specs.Runs.{at, reached, Leads, Aim, aim_at, Sim}
-use Rattle.au_simulation_steps.proofs.CallLemmas.{popped_all}
-use Rattle.au_simulation_steps.proofs.FrameLemmas.{get_at, number_free, slot_free, under_more}
-use Rattle.au_simulation_steps.proofs.LeadLemmas.{leads_to, leads_tick}
-use Rattle.au_simulation_steps.proofs.SimLemmas.{sim_on, sim_spare, sim_given, sim_where}
-use Rattle.au_simulation_steps.proofs.StepLemmas.{Is}
+use Rattle.au_simulation.specs.Scopes.{Entry, variable, numbers_in, slots_in, Held, Same, Scoped, Agree}
+use Rattle.au_simulation.specs.Sides.{Coding, Both, Names, Slots, Common, Frame, Spot, machine, spot, world, meant, ran, all_meant, all_ran}
+use Rattle.au_simulation.specs.Runs.{at, reached, Leads, Aim, aim_at, Sim}
+use Rattle.au_simulation.proofs.CallLemmas.{popped_all}
+use Rattle.au_simulation.proofs.FrameLemmas.{get_at, number_free, slot_free, under_more}
+use Rattle.au_simulation.proofs.LeadLemmas.{leads_to, leads_tick}
+use Rattle.au_simulation.proofs.SimLemmas.{sim_on, sim_spare, sim_given, sim_where}
+use Rattle.au_simulation.proofs.StepLemmas.{Is}
 use Rattle.au_simulation.specs.Flows.{Way, falls, returns, way_meant, gone, lands, flow_aim, Behind}
 use Rattle.au_simulation.specs.Premises.{GoodCalls}
 use Rattle.au_simulation.specs.Programs.{HasFunction, HasProgram}

@@ -24,3 +24,10 @@ pub mod BetweenLemmas
 pub mod CaseLemmas
 pub mod EndLemmas
 pub mod WitnessLemmas
+pub mod MapLemmas
+pub mod LeadLemmas
+pub mod SimLemmas
+pub mod FrameLemmas
+pub mod StepLemmas
+pub mod MoveLemmas
+pub mod CallLemmas

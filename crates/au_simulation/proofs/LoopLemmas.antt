@@ -9,13 +9,13 @@ use Rattle.au_meaning.specs.Statements as meaning
 use Rattle.au_meaning.specs.Statements.{Flow, and_then, while_turns}
 use Rattle.au_meaning.specs.Ticks.{Action, pure, tick, ◌>>=◌}
 use Rattle.au_meaning.specs.Worlds.{Value}
-use Rattle.au_simulation_steps.specs.Scopes.{Entry, Agree}
-use Rattle.au_simulation_steps.specs.Sides.{Coding, Names, Slots, Common, Frame, spot, world, meant}
-use Rattle.au_simulation_steps.specs.Runs.{Sim}
-use Rattle.au_simulation_steps.proofs.LeadLemmas.{leads_spare}
-use Rattle.au_simulation_steps.proofs.SimLemmas.{sim_on, sim_spare, sim_given, sim_bind}
-use Rattle.au_simulation_steps.proofs.StepLemmas.{ticks_at}
-use Rattle.au_simulation_steps.proofs.MoveLemmas.{choose_by}
+use Rattle.au_simulation.specs.Scopes.{Entry, Agree}
+use Rattle.au_simulation.specs.Sides.{Coding, Names, Slots, Common, Frame, spot, world, meant}
+use Rattle.au_simulation.specs.Runs.{Sim}
+use Rattle.au_simulation.proofs.LeadLemmas.{leads_spare}
+use Rattle.au_simulation.proofs.SimLemmas.{sim_on, sim_spare, sim_given, sim_bind}
+use Rattle.au_simulation.proofs.StepLemmas.{ticks_at}
+use Rattle.au_simulation.proofs.MoveLemmas.{choose_by}
 use Rattle.au_simulation.specs.Premises.{Placed}
 use Rattle.au_simulation.specs.Flows.{falls, flow_aim, Behind, Does, Whole}
 use Rattle.au_simulation.proofs.FlowLemmas.{flow_holds, then_runs, jump_runs}

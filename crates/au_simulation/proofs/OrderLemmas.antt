@@ -16,8 +16,8 @@ use Rattle.au_meaning.specs.Acts.{labelled_value, labelled_values}
 use Rattle.au_meaning.specs.Expressions.{labelled}
 use Rattle.au_meaning.specs.Worlds.{Value}
 use Rattle.au_syntax.specs.Plain.{Bytes}
-use Rattle.au_simulation_steps.specs.Sides.{Coding, Both, meant, ran, all_meant, all_ran}
-use Rattle.au_simulation_steps.proofs.FrameLemmas.{get_at, set_other}
+use Rattle.au_simulation.specs.Sides.{Coding, Both, meant, ran, all_meant, all_ran}
+use Rattle.au_simulation.proofs.FrameLemmas.{get_at, set_other}
 use Rattle.au_simulation.specs.Premises.{Lacks, Once}
 
 -- ---- positions

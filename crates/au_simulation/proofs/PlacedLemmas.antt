@@ -22,7 +22,7 @@ use Rattle.au_lowered.specs.Programs.{body_of, slots_of, bodies, texts_named, ty
 use Rattle.au_lowered.proofs.ReturnLemmas.{bodies_keep_labels}
 use Rattle.au_meaning.specs.Views.{Function}
 use Rattle.au_syntax.specs.Plain.{Bytes}
-use Rattle.au_simulation_steps.specs.Sides.{Coding}
+use Rattle.au_simulation.specs.Sides.{Coding}
 use Rattle.au_simulation.specs.Premises.{Placed, EachIn, numbered}
 use Rattle.au_simulation.specs.Programs.{HasProgram, coding, GoodFunction, GoodProgram}
 

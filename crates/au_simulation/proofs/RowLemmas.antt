@@ -25,13 +25,13 @@ use Rattle.au_meaning.specs.Ticks.{Action, pure, stuck, tick, ticked, needing, c
 use Rattle.au_meaning.specs.Views.{View}
 use Rattle.au_meaning.specs.Worlds.{Value, World}
 use Rattle.au_syntax.specs.Plain.{Bytes}
-use Rattle.au_simulation_steps.specs.Scopes.{Entry, numbers_in, slots_in, Agree, Distinct}
-use Rattle.au_simulation_steps.specs.Sides.{Coding, Word, Both, Names, Slots, Common, Frame, machine, spot, world, meant}
-use Rattle.au_simulation_steps.specs.Runs.{Sim}
-use Rattle.au_simulation_steps.proofs.FrameLemmas.{Found, Means, means}
-use Rattle.au_simulation_steps.proofs.MapLemmas.{computed_to, compared_to, negated_to}
-use Rattle.au_simulation_steps.proofs.SimLemmas.{sim_spare, sim_stuck, sim_bind, sim_bind_more, sim_where}
-use Rattle.au_simulation_steps.proofs.StepLemmas.{ticks_at, push_runs, comes_runs, look_runs, move_runs}
+use Rattle.au_simulation.specs.Scopes.{Entry, numbers_in, slots_in, Agree, Distinct}
+use Rattle.au_simulation.specs.Sides.{Coding, Word, Both, Names, Slots, Common, Frame, machine, spot, world, meant}
+use Rattle.au_simulation.specs.Runs.{Sim}
+use Rattle.au_simulation.proofs.FrameLemmas.{Found, Means, means}
+use Rattle.au_simulation.proofs.MapLemmas.{computed_to, compared_to, negated_to}
+use Rattle.au_simulation.proofs.SimLemmas.{sim_spare, sim_stuck, sim_bind, sim_bind_more, sim_where}
+use Rattle.au_simulation.proofs.StepLemmas.{ticks_at, push_runs, comes_runs, look_runs, move_runs}
 use Rattle.au_simulation.specs.Premises.{HasLiteral, numbered, Placed}
 use Rattle.au_simulation.specs.Rows.{value_aim, Gives, OnOne, OnTwo}
 

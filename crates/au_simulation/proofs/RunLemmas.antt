@@ -23,9 +23,9 @@ use Rattle.au_meaning.specs.Worlds as source
 use Rattle.au_meaning.specs.Worlds.{Value, World, Outcome, exit, abort, running, stuck}
 use Rattle.au_reach.specs.Reached.{adds}
 use Rattle.au_reach.proofs.HasLemmas.{adds_more}
-use Rattle.au_simulation_steps.specs.Maps.{deed_to, fault_to}
-use Rattle.au_simulation_steps.specs.Sides.{Both, Common, spot, all_meant}
-use Rattle.au_simulation_steps.specs.Runs.{run_at}
+use Rattle.au_simulation.specs.Maps.{deed_to, fault_to}
+use Rattle.au_simulation.specs.Sides.{Both, Common, spot, all_meant}
+use Rattle.au_simulation.specs.Runs.{run_at}
 use Rattle.au_simulation.specs.Programs.{coding, EntryTakes, GoodProgram}
 use Rattle.au_simulation.specs.Laws.{Follows}
 use Rattle.au_simulation.proofs.PlacedLemmas.{has_program}

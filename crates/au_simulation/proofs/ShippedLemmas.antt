@@ -19,14 +19,14 @@ use Rattle.au_meaning.specs.Acts as acts
 use Rattle.au_shipped.specs.declared.prims.ShippedCall.{ShippedCall}
 use Rattle.au_shipped.specs.declared.prims.ShippedCall.TheVariants as prim
 use Rattle.au_syntax.specs.Plain.{Bytes}
-use Rattle.au_simulation_steps.specs.Maps.{value_to, world_to, answer_to}
-use Rattle.au_simulation_steps.specs.Sides.{Coding, Word, Both, Names, Slots, Common, Frame, machine, spot, world, meant, all_meant, all_ran}
-use Rattle.au_simulation_steps.specs.Runs.{at, reached}
-use Rattle.au_simulation_steps.proofs.CallLemmas.{popped_all, spends_to}
-use Rattle.au_simulation_steps.proofs.LeadLemmas.{leads_to, leads_tick, leads_spare}
-use Rattle.au_simulation_steps.proofs.MapLemmas.{number_in_to, truth_in_to, text_in_to}
-use Rattle.au_simulation_steps.proofs.SimLemmas.{sim_spare, sim_given}
-use Rattle.au_simulation_steps.proofs.StepLemmas.{Is, Pushes, pushing, push_runs, abort_reach}
+use Rattle.au_simulation.specs.Maps.{value_to, world_to, answer_to}
+use Rattle.au_simulation.specs.Sides.{Coding, Word, Both, Names, Slots, Common, Frame, machine, spot, world, meant, all_meant, all_ran}
+use Rattle.au_simulation.specs.Runs.{at, reached}
+use Rattle.au_simulation.proofs.CallLemmas.{popped_all, spends_to}
+use Rattle.au_simulation.proofs.LeadLemmas.{leads_to, leads_tick, leads_spare}
+use Rattle.au_simulation.proofs.MapLemmas.{number_in_to, truth_in_to, text_in_to}
+use Rattle.au_simulation.proofs.SimLemmas.{sim_spare, sim_given}
+use Rattle.au_simulation.proofs.StepLemmas.{Is, Pushes, pushing, push_runs, abort_reach}
 
 -- whether a call waits for no input
 abbrev pub settles : {T B : Type 0} → Answer T B → Bool

@@ -19,14 +19,14 @@ use Rattle.au_meaning.specs.Ticks.{Out, Action, gives, pure, stuck, over, tick, 
 use Rattle.au_meaning.specs.Views.{View}
 use Rattle.au_meaning.specs.Worlds.{Value}
 use Rattle.au_syntax.specs.Plain.{Bytes}
-use Rattle.au_simulation_steps.specs.Scopes.{Entry, variable, numbers_in, slots_in, Distinct, Scoped, Agree}
-use Rattle.au_simulation_steps.specs.Sides.{Coding, Both, Names, Slots, Common, Frame, spot, world, meant, ran}
-use Rattle.au_simulation_steps.specs.Runs.{at, reached, Sim}
-use Rattle.au_simulation_steps.proofs.FrameLemmas.{Found, Means, means, set_same, held_other, number_free, slot_free, under_more}
-use Rattle.au_simulation_steps.proofs.LeadLemmas.{leads_spare, leads_to, leads_tick, leads_none}
-use Rattle.au_simulation_steps.proofs.SimLemmas.{sim_spare, sim_given, sim_stuck, sim_bind}
-use Rattle.au_simulation_steps.proofs.StepLemmas.{meant_set, ticks_at}
-use Rattle.au_simulation_steps.proofs.MoveLemmas.{store_goes, set_runs}
+use Rattle.au_simulation.specs.Scopes.{Entry, variable, numbers_in, slots_in, Distinct, Scoped, Agree}
+use Rattle.au_simulation.specs.Sides.{Coding, Both, Names, Slots, Common, Frame, spot, world, meant, ran}
+use Rattle.au_simulation.specs.Runs.{at, reached, Sim}
+use Rattle.au_simulation.proofs.FrameLemmas.{Found, Means, means, set_same, held_other, number_free, slot_free, under_more}
+use Rattle.au_simulation.proofs.LeadLemmas.{leads_spare, leads_to, leads_tick, leads_none}
+use Rattle.au_simulation.proofs.SimLemmas.{sim_spare, sim_given, sim_stuck, sim_bind}
+use Rattle.au_simulation.proofs.StepLemmas.{meant_set, ticks_at}
+use Rattle.au_simulation.proofs.MoveLemmas.{store_goes, set_runs}
 use Rattle.au_simulation.specs.Premises.{Placed}
 use Rattle.au_simulation.specs.Rows.{Gives}
 use Rattle.au_simulation.specs.Flows.{falls, returns, flow_aim, Behind, After, Does, Whole}

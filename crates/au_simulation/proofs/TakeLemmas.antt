@@ -16,10 +16,10 @@ use Rattle.au_meaning.specs.Views.{Field}
 use Rattle.au_meaning.specs.Worlds.{Value}
 use Rattle.au_syntax.specs.Plain.{Bytes}
 use Rattle.au_syntax.specs.Types.{Bound}
-use Rattle.au_simulation_steps.specs.Scopes.{Entry, variable, numbers_in, slots_in, Same, Held, SlotFree, Distinct, Under}
-use Rattle.au_simulation_steps.specs.Sides.{Coding, Both, Names, Slots, Common, Frame, machine, world, meant, ran, all_meant}
-use Rattle.au_simulation_steps.proofs.FrameLemmas.{set_same, set_other, held_name, held_slot, number_free, slot_free, under_more}
-use Rattle.au_simulation_steps.proofs.StepLemmas.{meant_set, ran_set, slots_are}
+use Rattle.au_simulation.specs.Scopes.{Entry, variable, numbers_in, slots_in, Same, Held, SlotFree, Distinct, Under}
+use Rattle.au_simulation.specs.Sides.{Coding, Both, Names, Slots, Common, Frame, machine, world, meant, ran, all_meant}
+use Rattle.au_simulation.proofs.FrameLemmas.{set_same, set_other, held_name, held_slot, number_free, slot_free, under_more}
+use Rattle.au_simulation.proofs.StepLemmas.{meant_set, ran_set, slots_are}
 use Rattle.au_simulation.specs.Binds.{fields_bound}
 use Rattle.au_simulation.specs.Premises.{Lacks, Once}
 

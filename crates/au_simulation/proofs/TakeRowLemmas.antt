@@ -17,12 +17,12 @@ use Rattle.au_meaning.specs.Views.{Field}
 use Rattle.au_meaning.specs.Worlds.{Value}
 use Rattle.au_syntax.specs.Plain.{Bytes}
 use Rattle.au_syntax.specs.Types.{Bound}
-use Rattle.au_simulation_steps.specs.Maps.{fields_to}
-use Rattle.au_simulation_steps.specs.Scopes.{Entry, numbers_in, slots_in, Scoped, Agree}
-use Rattle.au_simulation_steps.specs.Sides.{Coding, Word, Both, Names, Slots, Common, Frame, machine, world, ran, all_meant, all_ran}
-use Rattle.au_simulation_steps.proofs.CallLemmas.{spends_to}
-use Rattle.au_simulation_steps.proofs.FrameLemmas.{under_more}
-use Rattle.au_simulation_steps.proofs.MapLemmas.{listed_to}
+use Rattle.au_simulation.specs.Maps.{fields_to}
+use Rattle.au_simulation.specs.Scopes.{Entry, numbers_in, slots_in, Scoped, Agree}
+use Rattle.au_simulation.specs.Sides.{Coding, Word, Both, Names, Slots, Common, Frame, machine, world, ran, all_meant, all_ran}
+use Rattle.au_simulation.proofs.CallLemmas.{spends_to}
+use Rattle.au_simulation.proofs.FrameLemmas.{under_more}
+use Rattle.au_simulation.proofs.MapLemmas.{listed_to}
 use Rattle.au_meaning.specs.Acts.{bound_counted}
 use Rattle.au_simulation.specs.Binds.{fields_bound}
 use Rattle.au_simulation.specs.Premises.{Once}

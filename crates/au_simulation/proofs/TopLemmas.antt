@@ -19,12 +19,12 @@ use Rattle.au_meaning.specs.Ticks.{Out, Action, gives, aborts, cut, no_rule, fol
 use Rattle.au_meaning.specs.Views.{Function}
 use Rattle.au_meaning.specs.Worlds as source
 use Rattle.au_meaning.specs.Worlds.{Value, World, Outcome, exit, abort, running, stuck}
-use Rattle.au_simulation_steps.specs.Maps.{fault_to}
-use Rattle.au_simulation_steps.specs.Sides.{source as source_world}
-use Rattle.au_simulation_steps.specs.Sides.{Coding, Both, Names, Slots, Common, Frame, Spot, spot, machine, world, told, meant, ran, all_meant, all_ran}
-use Rattle.au_simulation_steps.specs.Runs.{ended, reached, run_at, Leads, Sim}
-use Rattle.au_simulation_steps.proofs.LeadLemmas.{leads_to}
-use Rattle.au_simulation_steps.proofs.StepLemmas.{deeds_both}
+use Rattle.au_simulation.specs.Maps.{fault_to}
+use Rattle.au_simulation.specs.Sides.{source as source_world}
+use Rattle.au_simulation.specs.Sides.{Coding, Both, Names, Slots, Common, Frame, Spot, spot, machine, world, told, meant, ran, all_meant, all_ran}
+use Rattle.au_simulation.specs.Runs.{ended, reached, run_at, Leads, Sim}
+use Rattle.au_simulation.proofs.LeadLemmas.{leads_to}
+use Rattle.au_simulation.proofs.StepLemmas.{deeds_both}
 use Rattle.au_simulation.specs.Flows.{Way, falls, returns, way_meant, gone, lands, flow_aim}
 use Rattle.au_simulation.specs.Programs.{HasProgram}
 use Rattle.au_simulation.proofs.FunctionLemmas.{body_runs, good_at}

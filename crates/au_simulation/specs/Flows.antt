@@ -8,10 +8,10 @@ use Rattle.au_meaning.specs.Statements as meaning
 use Rattle.au_meaning.specs.Statements.{Flow}
 use Rattle.au_meaning.specs.Ticks.{Action}
 use Rattle.au_meaning.specs.Worlds.{Value}
-use Rattle.au_simulation_steps.specs.Scopes.{Entry, numbers_in, slots_in, Scoped, Agree}
-use Rattle.au_simulation_steps.specs.Sides.{Coding, Both, Names, Slots, Common, Frame, spot, machine, world}
-use Rattle.au_simulation_steps.specs.Sides.{meant, ran}
-use Rattle.au_simulation_steps.specs.Runs.{Reach, at, reached, Aim, Sim}
+use Rattle.au_simulation.specs.Scopes.{Entry, numbers_in, slots_in, Scoped, Agree}
+use Rattle.au_simulation.specs.Sides.{Coding, Both, Names, Slots, Common, Frame, spot, machine, world}
+use Rattle.au_simulation.specs.Sides.{meant, ran}
+use Rattle.au_simulation.specs.Runs.{Reach, at, reached, Aim, Sim}
 
 -- how a statement ends: the next one follows, or a value is returned
 pub data Way (by : Coding) : Type 0 where

@@ -18,8 +18,8 @@ use Rattle.au_meaning.specs.Worlds.{Value, Outcome, stuck}
 use Rattle.au_simulation.specs.Premises.{GoodView, Placed, GoodCalls}
 use Rattle.au_simulation.specs.Programs.{GoodProgram}
 use Rattle.au_simulation.specs.Rows.{Gives}
-use Rattle.au_simulation_steps.specs.Scopes.{Entry, numbers_in, slots_in, Distinct}
-use Rattle.au_simulation_steps.specs.Sides.{Coding, Frame}
+use Rattle.au_simulation.specs.Scopes.{Entry, numbers_in, slots_in, Distinct}
+use Rattle.au_simulation.specs.Sides.{Coding, Frame}
 use Rattle.au_syntax.specs.Expressions.{Expression}
 use Rattle.au_syntax.specs.Plain.{Bytes}
 

@@ -6,3 +6,8 @@ pub mod Programs
 pub mod Laws
 pub mod Binds
 pub mod Witness
+pub mod Maps
+pub mod Sides
+pub mod Runs
+pub mod Scopes
+pub mod StepLaws

@@ -17,9 +17,9 @@ use Rattle.au_meaning.specs.Views.{View, Callee, ships}
 use Rattle.au_meaning.specs.Worlds.{Value}
 use Rattle.au_shipped.specs.declared.prims.ShippedCall.{ShippedCall}
 use Rattle.au_shipped.specs.declared.prims.ShippedCall.TheVariants as prim
-use Rattle.au_simulation_steps.specs.Sides.{Coding, Both, Names, Slots, Common, Frame, spot, world, meant}
-use Rattle.au_simulation_steps.specs.Sides.{all_meant, all_ran}
-use Rattle.au_simulation_steps.specs.Runs.{aim_at, Sim}
+use Rattle.au_simulation.specs.Sides.{Coding, Both, Names, Slots, Common, Frame, spot, world, meant}
+use Rattle.au_simulation.specs.Sides.{all_meant, all_ran}
+use Rattle.au_simulation.specs.Runs.{aim_at, Sim}
 use Rattle.au_syntax.specs.Plain.{Bytes}
 
 -- ---- views

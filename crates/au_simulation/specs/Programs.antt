@@ -10,7 +10,7 @@ use Rattle.au_low.specs.declared.code.LowType.{LowType}
 use Rattle.au_meaning.specs.Views.{Field, Function}
 use Rattle.au_simulation.specs.Premises.{GoodView, Placed}
 use Rattle.au_simulation.specs.Trees.{BlockBindsOnce}
-use Rattle.au_simulation_steps.specs.Sides.{Coding}
+use Rattle.au_simulation.specs.Sides.{Coding}
 
 module _ {T C : Type 0} (by : Coding) where
   -- a function that the code has under a number

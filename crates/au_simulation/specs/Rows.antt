@@ -5,10 +5,10 @@ use Rattle.au_lowered.specs.Drafts.{Draft, Written}
 use Rattle.au_lowered.specs.Standing.{Stands}
 use Rattle.au_meaning.specs.Ticks.{Action}
 use Rattle.au_meaning.specs.Worlds.{Value}
-use Rattle.au_simulation_steps.specs.Scopes.{Entry, Agree}
-use Rattle.au_simulation_steps.specs.Sides.{Coding, Both, Names, Slots, Common, Frame, spot, world, meant}
-use Rattle.au_simulation_steps.specs.Sides.{all_meant}
-use Rattle.au_simulation_steps.specs.Runs.{Aim, aim_at, Sim}
+use Rattle.au_simulation.specs.Scopes.{Entry, Agree}
+use Rattle.au_simulation.specs.Sides.{Coding, Both, Names, Slots, Common, Frame, spot, world, meant}
+use Rattle.au_simulation.specs.Sides.{all_meant}
+use Rattle.au_simulation.specs.Runs.{Aim, aim_at, Sim}
 
 module _ (by : Coding) (f : Frame) (get : ℕ → Option Draft) (depth wide room : ℕ) (scope : List (Entry by))
   where

@@ -4,3 +4,4 @@ pub mod Forming
 pub mod Fits
 pub mod Erased
 pub mod Replaced
+pub mod Fitting

@@ -1,6 +1,6 @@
 use Rattle.std.proofs.Common.{◌≡◌, drop}
 use Rattle.std.specs.List.{list_all}
-use Rattle.au_instance_texts.specs.Views.{methods_of}
+use Rattle.au_class_methods.specs.InstanceViews.{methods_of}
 use Rattle.au_class_methods.specs.Methods.{is_declared}
 use Rattle.au_class_methods.specs.Views.{headers_of}
 use Rattle.au_class_methods.proofs.methods.all_declared.Given as goal

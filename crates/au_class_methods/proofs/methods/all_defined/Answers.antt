@@ -4,7 +4,7 @@ use Rattle.au_syntax.specs.Plain.{plain_header}
 use Rattle.au_syntax.specs.Views.{header}
 use Rattle.au_written_types.specs.Views.{meant_in}
 use Rattle.au_promises.specs.Written.{header_of}
-use Rattle.au_instance_texts.specs.Views.{methods_of}
+use Rattle.au_class_methods.specs.InstanceViews.{methods_of}
 use Rattle.au_class_methods.specs.Methods.{has_signature, is_defined}
 use Rattle.au_class_methods.specs.Views.{wanted_in}
 use Rattle.au_class_methods.proofs.ListLemmas.{all_end, all_next, all_not}

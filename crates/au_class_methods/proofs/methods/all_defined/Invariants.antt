@@ -1,7 +1,7 @@
 use Rattle.std.proofs.Common.{◌≡◌, drop}
 use Rattle.std.specs.List.{list_all}
 use Rattle.au_written_types.specs.Views.{meant_in}
-use Rattle.au_instance_texts.specs.Views.{methods_of}
+use Rattle.au_class_methods.specs.InstanceViews.{methods_of}
 use Rattle.au_class_methods.specs.Methods.{is_defined}
 use Rattle.au_class_methods.specs.Views.{headers_of, wanted_in}
 use Rattle.au_class_methods.proofs.methods.all_defined.Given as goal

@@ -5,7 +5,7 @@ use Rattle.au_syntax.specs.Plain.{plain_method}
 use Rattle.au_syntax.specs.Views.{method_body}
 use Rattle.au_tables.specs.Tables as tables
 use Rattle.au_promises.proofs.DefinitionLemmas.{seen_got}
-use Rattle.au_instance_texts.specs.Views.{methods_of}
+use Rattle.au_class_methods.specs.InstanceViews.{methods_of}
 use Rattle.au_class_methods.proofs.MethodLemmas.{method_found, method_missing}
 use Rattle.au_class_methods.proofs.methods.method_named.Goals as goal
 

@@ -1,8 +1,8 @@
 use Rattle.std.proofs.Common.{Some, ap, subst, ◌≡◌, true, ◌∙◌}
 use Rattle.std.specs.Prelude.{not}
 use Rattle.au_tables.specs.Tables.{has_name}
-use Rattle.au_instance_texts.specs.Indices.{with_key}
-use Rattle.au_instance_texts.specs.Views.{methods_of}
+use Rattle.au_class_methods.specs.Indices.{with_key}
+use Rattle.au_class_methods.specs.InstanceViews.{methods_of}
 use Rattle.au_class_methods.specs.Methods.{is_doubled}
 use Rattle.au_class_methods.proofs.MethodLemmas.{named_again, named_next}
 use Rattle.au_class_methods.proofs.methods.methods_by_name.Goals as goal

@@ -2,8 +2,8 @@ use Rattle.std.proofs.Common.{Some, ap, ◌∙◌}
 use Rattle.au_syntax.specs.contracts.parsed.ParsedPhase.TheImpl.{ghosts as parsed}
 use Rattle.au_syntax.specs.Plain.{plain_header}
 use Rattle.au_syntax.specs.Views.{header}
-use Rattle.au_instance_texts.specs.Indices.{with_key}
-use Rattle.au_instance_texts.proofs.IndexLemmas.{first_next}
+use Rattle.au_class_methods.specs.Indices.{with_key}
+use Rattle.au_class_methods.proofs.IndexLemmas.{first_next}
 use Rattle.au_class_methods.specs.Views.{called_by}
 use Rattle.au_class_methods.proofs.methods.signatures_by_name.Goals as goal
 

@@ -1,5 +1,5 @@
 use Rattle.std.proofs.Common.{take}
-use Rattle.au_instance_texts.specs.Indices.{FindsFirst}
+use Rattle.au_class_methods.specs.Indices.{FindsFirst}
 use Rattle.au_class_methods.specs.Views.{called_by, headers_of}
 use Rattle.au_class_methods.proofs.methods.signatures_by_name.Given as goal
 

@@ -4,7 +4,7 @@ use Rattle.std.proofs.lemmas.Result.{IfOk-weaker}
 use Rattle.au_types.specs.Views.{meaning}
 use Rattle.au_matching.specs.Substituted.{substituted}
 use Rattle.au_written_types.specs.Meant.{meant}
-use Rattle.au_instance_texts.specs.Views.{methods_of}
+use Rattle.au_class_methods.specs.InstanceViews.{methods_of}
 use Rattle.au_class_methods.specs.Methods as spec
 use Rattle.au_class_methods.specs.Signatures.{given, head_for, wanted}
 use Rattle.au_class_methods.specs.Views.{class_said, headers_of}

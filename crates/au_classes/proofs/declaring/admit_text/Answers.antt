@@ -7,7 +7,7 @@ use Rattle.au_modules.specs.Programs.{ModuleParts}
 use Rattle.au_modules.specs.Slots as slots
 use Rattle.au_names.specs.HeadsOf.{heads_of}
 use Rattle.au_generics.specs.Bounds.{parameters}
-use Rattle.au_instance_texts.specs.Views.{text_said}
+use Rattle.au_class_methods.specs.InstanceViews.{text_said}
 use Rattle.au_instances.specs.Rows.{row_said}
 use Rattle.au_classes.specs.Faults as spec
 use Rattle.au_classes.specs.Views.{known_said}

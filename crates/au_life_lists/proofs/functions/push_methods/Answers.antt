@@ -1,7 +1,7 @@
 use Rattle.std.proofs.Common.{◌++◌, ◌∷◌, [], ap, map, refl, ◌∙◌}
 use Rattle.au_life_lists.specs.Programs.{method_lives}
 use Rattle.au_life_lists.specs.Said.{generics_said, methods_said}
-use Rattle.au_life_mentions.proofs.PutLemmas as puts
+use Rattle.au_life_lists.proofs.PutLemmas as puts
 use Rattle.au_sights.specs.Sights.{outside_seen}
 use Rattle.au_syntax.specs.contracts.parsed.ParsedPhase.TheImpl.{ghosts as parsed}
 use Rattle.au_syntax.specs.Views.{method_body}

@@ -7,7 +7,7 @@ use Rattle.au_judgements.specs.Said.{reference_said}
 use Rattle.au_life_lists.specs.Said.{arms_said, binds_said, block_said, branches_said, name_said, statement_said, statements_said}
 use Rattle.au_life_lists.specs.Variables.{listed, listed_arm, listed_binds, listed_for, listed_in, listed_in_arms, listed_in_branches, listed_inside, listed_lent, listed_typed, listed_with}
 use Rattle.au_life_lists.proofs.TurnLemmas.{block_turn}
-use Rattle.au_life_mentions.proofs.PutLemmas as puts
+use Rattle.au_life_lists.proofs.PutLemmas as puts
 use Rattle.au_noting.specs.Scopes.{closed_in, scope_said, without}
 use Rattle.au_noting_statements.proofs.Depths.{ParsedArm, ParsedBranch, ParsedCode, ParsedStmt}
 use Rattle.au_noting_statements.proofs.Forms.{bound_back, left_again, left_to, variable_back}

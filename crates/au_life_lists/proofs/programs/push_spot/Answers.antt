@@ -3,7 +3,7 @@ use Rattle.std.specs.Prelude.{unwrap_or}
 use Rattle.au_formed.specs.Said.{spot_said}
 use Rattle.au_life_lists.proofs.DeclarationLemmas.{declaration_kept}
 use Rattle.au_life_lists.specs.Programs.{declaration_lives, owner_of}
-use Rattle.au_life_mentions.proofs.PutLemmas as puts
+use Rattle.au_life_lists.proofs.PutLemmas as puts
 use Rattle.au_modules.specs.Seen.{name_of}
 use Rattle.au_modules.specs.Slots as slots
 use Rattle.au_outsides.specs.Outsides.{outside_of}

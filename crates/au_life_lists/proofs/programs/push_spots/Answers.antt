@@ -4,7 +4,7 @@ use Rattle.au_formed.specs.Said.{spot_said, spots_said}
 use Rattle.au_formed.specs.Text.{text}
 use Rattle.au_formed.proofs.TextLemmas.{said_among, spot_within}
 use Rattle.au_life_lists.specs.Programs.{spot_lives}
-use Rattle.au_life_mentions.proofs.PutLemmas as puts
+use Rattle.au_life_lists.proofs.PutLemmas as puts
 use Rattle.au_modules.specs.Slots as slots
 use Rattle.au_life_lists.proofs.programs.push_spots.Goals as goal
 

@@ -1,7 +1,7 @@
 use Rattle.std.proofs.Common.{◌++◌, ap, refl, ◌∙◌}
 use Rattle.au_life_lists.specs.Said.{bind_said, binds_said, statements_said}
 use Rattle.au_life_lists.specs.Variables.{listed, listed_binds}
-use Rattle.au_life_mentions.proofs.PutLemmas as puts
+use Rattle.au_life_lists.proofs.PutLemmas as puts
 use Rattle.au_lives.specs.Paths.{bound_name}
 use Rattle.au_noting.specs.Scopes.{scope_said}
 use Rattle.au_syntax.specs.Names.{Placed}

@@ -1,7 +1,7 @@
 use Rattle.std.proofs.Common.{◌++◌, ap, refl, ◌∙◌}
 use Rattle.au_life_lists.specs.Said.{name_said, parameters_said, statements_said}
 use Rattle.au_life_lists.specs.Variables.{listed, listed_parameters}
-use Rattle.au_life_mentions.proofs.PutLemmas as puts
+use Rattle.au_life_lists.proofs.PutLemmas as puts
 use Rattle.au_noting.specs.Scopes.{scope_said}
 use Rattle.au_life_lists.proofs.variables.push_parameters.Goals as goal
 

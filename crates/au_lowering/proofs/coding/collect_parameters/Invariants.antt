@@ -1,6 +1,6 @@
 use Rattle.std.proofs.Common.{◌≡◌, drop, map}
 use Rattle.std.specs.Str.{bytes_eq}
-use Rattle.au_closed_keys.specs.Keys.{key_of}
+use Rattle.au_closed_types.specs.Keys.{key_of}
 use Rattle.au_closed_parts.specs.Views.{fields_said}
 use Rattle.au_lowering.specs.Closed.{types_of}
 use Rattle.au_reach.specs.Reached.{adds}

@@ -1,7 +1,7 @@
 use Rattle.std.proofs.Common.{ap, ◌∙◌, map}
 use Rattle.std.specs.Str.{bytes_eq}
 use Rattle.au_closed_programs.specs.FunctionViews.{functions_said}
-use Rattle.au_closed_keys.specs.Keys.{key_of}
+use Rattle.au_closed_types.specs.Keys.{key_of}
 use Rattle.au_lowered.specs.Programs.{types_named}
 use Rattle.au_lowering.specs.Closed.{roots_of}
 use Rattle.au_lowering.specs.Drafted.{all_drafts}

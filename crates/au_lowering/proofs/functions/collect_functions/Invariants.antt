@@ -1,6 +1,6 @@
 use Rattle.std.proofs.Common.{◌≡◌, drop, map}
 use Rattle.std.specs.Str.{bytes_eq}
-use Rattle.au_closed_keys.specs.Keys.{key_of}
+use Rattle.au_closed_types.specs.Keys.{key_of}
 use Rattle.au_lowered.specs.Programs.{texts_named, types_named}
 use Rattle.au_lowering.specs.Drafted.{all_drafts}
 use Rattle.au_lowering.specs.DraftViews.{all_said}

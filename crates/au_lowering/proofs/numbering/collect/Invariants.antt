@@ -1,6 +1,6 @@
 use Rattle.std.proofs.Common.{◌≡◌, drop, map}
 use Rattle.std.specs.Str.{bytes_eq}
-use Rattle.au_closed_keys.specs.Keys.{key_of}
+use Rattle.au_closed_types.specs.Keys.{key_of}
 use Rattle.au_lowered.specs.Programs.{texts_named, types_named}
 use Rattle.au_lowering_expressions.specs.Views.{drafts_said}
 use Rattle.au_reach.specs.Reached.{adds}

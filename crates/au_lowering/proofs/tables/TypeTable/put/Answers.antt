@@ -1,6 +1,6 @@
 use Rattle.std.proofs.Common.{[], ◌∷◌, ap, ◌∙◌, map}
 use Rattle.std.specs.Str.{bytes_eq}
-use Rattle.au_closed_keys.specs.Keys.{key_of}
+use Rattle.au_closed_types.specs.Keys.{key_of}
 use Rattle.au_closed_types.specs.Views.{closed_meaning}
 use Rattle.au_reach.specs.Finding.{numbers}
 use Rattle.au_reach.specs.Reached.{adds}

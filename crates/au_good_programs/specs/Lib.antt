@@ -1,4 +1,0 @@
-pub mod Formed
-pub mod Suits
-pub mod Followed
-pub mod Asked

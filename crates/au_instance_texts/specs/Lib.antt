@@ -1,3 +1,0 @@
-pub mod Indices
-pub mod Texts
-pub mod Views

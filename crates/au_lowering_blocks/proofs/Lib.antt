@@ -1,2 +1,0 @@
-pub mod BorrowLemmas
-pub mod LoopLemmas

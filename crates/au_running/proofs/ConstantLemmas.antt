@@ -1,0 +1,214 @@
+-- Constants of a derived program are literals in the range of their kinds.
+use Rattle.std.proofs.Common.{◌≡◌, ℕ, true, List, [], Option, Some, None, refl, sym, ap, subst, ◌∙◌, slice_get, ℤ, neg_ℤ}
+use Rattle.std.specs.Option.{option_map, option_and_then}
+use Rattle.std.proofs.lemmas.Option.{slice_get-map}
+use Rattle.au_ints.specs.Ranges.{is_of_kind}
+use Rattle.au_syntax.specs.Expressions.{Expression, Expressions, Arguments, number, negative, text, truth, nil, path, arrow, call, named_call, parenthesized, dereference, borrow, borrow_part, binary, negation, typed, choice, no_expressions, expressions, no_arguments, arguments}
+use Rattle.au_syntax.specs.Modules.{constant, opaque_type, record_type, union_type, function, class, instance, constant_body, function_body, instance_body}
+use Rattle.au_syntax.specs.Plain.{Bytes}
+use Rattle.au_syntax.specs.Statements.{Statement, Statements, Branches, Arms, skip, declare, destructure, assign, assign_through, conditional, conditional_else, case_of, while_loop, for_loop, borrow_in, borrow_typed, discard, return_of, no_statements, statements, no_branches, branches, no_arms, arms}
+use Rattle.au_types.specs.declared.types.DeclAt.{DeclAt}
+use Rattle.au_types.specs.Types as mean
+use Rattle.au_types.specs.Types.{Meaning}
+use Rattle.au_modules.specs.Programs.{ModuleParts}
+use Rattle.au_names.specs.HeadsOf.{heads_of}
+use Rattle.au_names.specs.Standing.{Standing, standing_at}
+use Rattle.au_generics.specs.Meanings.{written_params}
+use Rattle.au_scopes.specs.Scopes.{Outside, Scope}
+use Rattle.au_typing.specs.Good.{AllGood}
+use Rattle.au_typing.specs.Notes.{Note, NotedExpression}
+use Rattle.au_typing.specs.Rules.{literal_kind}
+use Rattle.au_derivations.specs.Bodies.{outer_scope}
+use Rattle.au_derivations.specs.Derivations.{GoodDeclaration}
+use Rattle.au_derivations.specs.Trees.{NotedDeclaration, NotedParts}
+use Rattle.au_noting_programs.specs.Faults.{IsDerived}
+use Rattle.au_outsides.specs.Outsides.{outside_of}
+use Rattle.au_closed_trees.specs.Changes.{Change}
+use Rattle.au_closed_trees.specs.declared.notes.Literal.{Literal}
+use Rattle.au_closed_trees.specs.declared.notes.Literal.TheVariants as literals
+use Rattle.au_closed_trees.specs.Renoted.{expression_renoted, expressions_renoted, arguments_renoted, statement_renoted, block_renoted, branches_renoted, arms_renoted}
+use Rattle.au_closing.specs.Bodies.{BodyOf, body_at, body_of, constant_seen, defining_index, integer_of, literal_of, noted_at, value_in, value_of, value_standing}
+use Rattle.au_closing.specs.Closes.{ClosedFunction, ClosesFunctions, body_closed, change_of, instance_closed, mention_closed}
+use Rattle.au_closing.specs.Instances.{Instance}
+use Rattle.au_closed_views.specs.Surroundings.{literal_value}
+use Rattle.au_running.specs.Asked.{AreSimple, CallsArePlain, InRange, IsAny, IsPlainCall}
+use Rattle.au_running.specs.Suits.{SaidOf, SaidOfAll, SaidOfNamed, SaidIn, SaidOfBlock, SaidOfTests, SaidOfArms, has_literal}
+use Rattle.au_running.proofs.DerivedLemmas.{good_there, module_good}
+
+-- ---- what is said of a tree with other notes
+
+module _ {T C U D : Type 0} (change : Change Bytes T C U D) (mentioned any : U → Bytes → Type 0)
+    (called : U → D → Bytes → Type 0) (mention : (n : T) (name : Bytes)
+    → mentioned (change.mention n name) name) where
+  mutual
+    noted : (e : Expression Bytes T C) → SaidOf any called (expression_renoted change e)
+        → SaidOf mentioned called (expression_renoted change e)
+    noted (number n l) ok = tt
+    noted (negative n l) ok = tt
+    noted (text n t) ok = tt
+    noted (truth n b) ok = tt
+    noted (nil n) ok = tt
+    noted (path n x fields) ok = mention n.note x.name
+    noted (arrow n r fields) ok = tt
+    noted (call n f args c) ok = (ok.0, noted_all args ok.1)
+    noted (named_call n f args c) ok = (ok.0, noted_named args ok.1)
+    noted (parenthesized n e) ok = noted e ok
+    noted (dereference n e) ok = noted e ok
+    noted (borrow n mode x) ok = tt
+    noted (borrow_part n r fields) ok = tt
+    noted (binary n op a b) ok = (noted a ok.0, noted b ok.1)
+    noted (negation n e) ok = noted e ok
+    noted (typed n e t) ok = noted e ok
+    noted (choice n c a b) ok = (noted c ok.0, noted a ok.1, noted b ok.2)
+
+    noted_all : (es : Expressions Bytes T C) → SaidOfAll any called (expressions_renoted change es)
+        → SaidOfAll mentioned called (expressions_renoted change es)
+    noted_all no_expressions ok = tt
+    noted_all (expressions e rest) ok = (noted e ok.0, noted_all rest ok.1)
+
+    noted_named : (es : Arguments Bytes T C) → SaidOfNamed any called (arguments_renoted change es)
+        → SaidOfNamed mentioned called (arguments_renoted change es)
+    noted_named no_arguments ok = tt
+    noted_named (arguments label e rest) ok = (noted e ok.0, noted_named rest ok.1)
+
+  mutual
+    noted_in : (s : Statement Bytes T C) → SaidIn any called (statement_renoted change s)
+        → SaidIn mentioned called (statement_renoted change s)
+    noted_in (skip at) ok = tt
+    noted_in (declare at b n t e) ok = noted e ok
+    noted_in (destructure at binds e) ok = noted e ok
+    noted_in (assign at n fields e) ok = noted e ok
+    noted_in (assign_through at n fields e) ok = noted e ok
+    noted_in (conditional at tests) ok = noted_tests tests ok
+    noted_in (conditional_else at tests b) ok = (noted_tests tests ok.0, noted_block b ok.1)
+    noted_in (case_of at e all) ok = (noted e ok.0, noted_arms all ok.1)
+    noted_in (while_loop at e b) ok = (noted e ok.0, noted_block b ok.1)
+    noted_in (for_loop at n a z b) ok = (noted a ok.0, noted z ok.1, noted_block b ok.2)
+    noted_in (borrow_in at access x r region b stop) ok = noted_block b ok
+    noted_in (borrow_typed at r t mode x b stop) ok = noted_block b ok
+    noted_in (discard at e) ok = noted e ok
+    noted_in (return_of at e) ok = noted e ok
+
+    noted_block : (b : Statements Bytes T C) → SaidOfBlock any called (block_renoted change b)
+        → SaidOfBlock mentioned called (block_renoted change b)
+    noted_block no_statements ok = tt
+    noted_block (statements s rest) ok = (noted_in s ok.0, noted_block rest ok.1)
+
+    noted_tests : (tests : Branches Bytes T C) → SaidOfTests any called (branches_renoted change tests)
+        → SaidOfTests mentioned called (branches_renoted change tests)
+    noted_tests no_branches ok = tt
+    noted_tests (branches e b rest) ok = (noted e ok.0, noted_block b ok.1, noted_tests rest ok.2)
+
+    noted_arms : (all : Arms Bytes T C) → SaidOfArms any called (arms_renoted change all)
+        → SaidOfArms mentioned called (arms_renoted change all)
+    noted_arms no_arms ok = tt
+    noted_arms (arms at n binds b rest) ok = (noted_block b ok.0, noted_arms rest ok.1)
+
+-- ---- literals
+
+-- a literal that is a value of a declared constant lies in its range
+abbrev Ranges : Option Literal → Type 0
+Ranges o = (literal : Literal) → o ≡ Some literal → has_literal (literal_value literal) ≡ true
+
+integer_ranges : (of : Meaning) (kind : _) (z : ℤ) → of ≡ mean.integer kind → is_of_kind kind z ≡ true
+    → Ranges (integer_of of z)
+integer_ranges of kind z is ok literal e =
+    let same : literals.Int kind z ≡ literal = some_same (sym (ap (λ t. integer_of t z) is) ∙ e) in
+    subst (λ l. has_literal (literal_value l) ≡ true) same ok
+  where
+    some_same : {a b : Literal} → Some a ≡ Some b → a ≡ b
+    some_same e = cc
+
+literal_ranges : (sc : Scope) (e : NotedExpression) → AllGood sc e → Ranges (literal_of e)
+literal_ranges sc (number n l) g literal e =
+    integer_ranges n.note.of (literal_kind n.note.mode) l.value g.1.0 g.1.1 literal e
+literal_ranges sc (negative n l) g literal e =
+    integer_ranges n.note.of (literal_kind n.note.mode) (neg_ℤ l.value) g.1.0 g.1.1 literal e
+literal_ranges sc (text n t) g literal e =
+    let same : literals.Text t ≡ literal = cc in subst (λ l. has_literal (literal_value l) ≡ true) same refl
+literal_ranges sc (truth n b) g literal e =
+    let same : literals.Bool b ≡ literal = cc in subst (λ l. has_literal (literal_value l) ≡ true) same refl
+literal_ranges sc (nil n) g literal e =
+    let same : literals.Unit ≡ literal = cc in subst (λ l. has_literal (literal_value l) ≡ true) same refl
+literal_ranges sc (path n x fields) g literal e = absurd cc
+literal_ranges sc (arrow n x fields) g literal e = absurd cc
+literal_ranges sc (call n f es c) g literal e = absurd cc
+literal_ranges sc (named_call n f es c) g literal e = absurd cc
+literal_ranges sc (parenthesized n a) g literal e = absurd cc
+literal_ranges sc (dereference n a) g literal e = absurd cc
+literal_ranges sc (borrow n m x) g literal e = absurd cc
+literal_ranges sc (borrow_part n x fields) g literal e = absurd cc
+literal_ranges sc (binary n op a b) g literal e = absurd cc
+literal_ranges sc (negation n a) g literal e = absurd cc
+literal_ranges sc (typed n a t) g literal e = absurd cc
+literal_ranges sc (choice n c a b) g literal e = absurd cc
+
+declared_ranges : (outside : Outside) (d : NotedDeclaration) → GoodDeclaration outside d → Ranges (value_in d)
+declared_ranges outside (constant_body at n t value) g literal e =
+    literal_ranges (outer_scope outside []) value g.wants.0 literal e
+declared_ranges outside (function_body at generics h block stop) g literal e = absurd cc
+declared_ranges outside (instance_body at generics named t methods) g literal e = absurd cc
+declared_ranges outside (constant at n t) g literal e = absurd cc
+declared_ranges outside (opaque_type at n ps u) g literal e = absurd cc
+declared_ranges outside (record_type at n ps u fields) g literal e = absurd cc
+declared_ranges outside (union_type at n ps u cases) g literal e = absurd cc
+declared_ranges outside (function at gs h) g literal e = absurd cc
+declared_ranges outside (class at n p hs) g literal e = absurd cc
+declared_ranges outside (instance at gs n t) g literal e = absurd cc
+
+module _ (program : List ModuleParts) (noted : List NotedParts) (derived : IsDerived program noted) where
+  indexed_ranges : (at : ℕ) (index : Option ℕ) → Ranges (option_and_then value_in (noted_at noted at index))
+  indexed_ranges at None literal e = absurd cc
+  indexed_ranges at (Some index) literal e = by_place (slice_get (body_at noted at) index) refl e
+    where
+      by_place : (o : Option NotedDeclaration) → slice_get (body_at noted at) index ≡ o
+          → option_and_then value_in o ≡ Some literal → has_literal (literal_value literal) ≡ true
+      by_place None there is = absurd cc
+      by_place (Some d) there is =
+          let good = module_good (outside_of program) 0 noted derived.good at in
+          declared_ranges good.0 d (good_there good.0 (body_at noted at) good.1 index d there) literal is
+
+  standing_ranges : (o : Option Standing) → Ranges (value_standing program noted o)
+  standing_ranges None literal e = absurd cc
+  standing_ranges (Some d) literal e = indexed_ranges d.place (defining_index program d d.part) literal e
+
+  -- the note of a mention is in range
+  mention_ranges : (place : ℕ) (params : _) (given : _) (n : Note) (name : Bytes)
+      → InRange (mention_closed (heads_of program) (value_of program noted) params given n
+      (constant_seen program place name)) name
+  mention_ranges place params given n name = by_name (constant_seen program place name)
+    where
+      by_name : (o : Option DeclAt)
+          → InRange (mention_closed (heads_of program) (value_of program noted) params given n o) name
+      by_name None literal e = absurd cc
+      by_name (Some at) literal e = standing_ranges (standing_at program at) literal e
+
+  module _ (all : List Instance) where
+    made_simple : (one : Instance) (o : Option BodyOf) (f : ClosedFunction)
+        → Some (Some f) ≡ Some (option_map (body_closed program noted all one.given) o)
+        → SaidOfBlock IsAny IsPlainCall f.body → SaidOfBlock InRange IsPlainCall f.body
+    made_simple one None f e = absurd cc
+    made_simple one (Some body) f e =
+        let same : body_closed program noted all one.given body ≡ f = cc in
+        let params = written_params body.generics in
+        subst (λ (x : ClosedFunction). SaidOfBlock IsAny IsPlainCall x.body
+        → SaidOfBlock InRange IsPlainCall x.body)
+        same
+        (noted_block (change_of program noted all body.place params one.given) InRange IsAny IsPlainCall
+        (mention_ranges body.place params one.given) body.block)
+
+    instance_simple : (o : Option Instance) (f : ClosedFunction)
+        → Some (Some f) ≡ option_map (instance_closed program noted all) o
+        → SaidOfBlock IsAny IsPlainCall f.body → SaidOfBlock InRange IsPlainCall f.body
+    instance_simple None f e = absurd cc
+    instance_simple (Some one) f e = made_simple one (body_of program noted one.of) f e
+
+-- closed functions of a derived program whose shipped calls are plain are simple
+pub plain_simple : (program : List ModuleParts) (noted : List NotedParts) → IsDerived program noted
+    → (entry : Instance) (functions : List ClosedFunction) → ClosesFunctions program noted entry functions
+    → CallsArePlain functions → AreSimple functions
+plain_simple program noted derived entry functions closes plain i f e =
+    instance_simple program noted derived closes.instances (slice_get closes.instances i) f
+    (sym (ap (option_map Some) e) ∙ sym (slice_get-map Some functions i)
+    ∙ ap (λ l. slice_get l i) closes.closed
+    ∙ slice_get-map (instance_closed program noted closes.instances) closes.instances i) (plain i f e)

@@ -1,0 +1,202 @@
+-- What the rules of typing say of the form of a body.
+use Rattle.std.proofs.Common.{◌≡◌, ℕ, zero, suc, ◌+◌, Bool, true, false, List, [], ◌∷◌, Option, Some, None, refl, subst, arith, slice_get, cond}
+use Rattle.std.specs.List.{find}
+use Rattle.std.specs.Option.{option_map, option_and_then}
+use Rattle.au_syntax.specs.declared.modules.Part.{Part}
+use Rattle.au_syntax.specs.declared.modules.Part.TheVariants.{Body}
+use Rattle.au_syntax.specs.Modules.{Constrained, constant, opaque_type, record_type, union_type, function, class, instance, constant_body, function_body, instance_body}
+use Rattle.au_syntax.specs.Plain.{Bytes}
+use Rattle.au_syntax.specs.Statements.{skip, declare, destructure, assign, assign_through, conditional, conditional_else, case_of, while_loop, for_loop, borrow_in, borrow_typed, discard, return_of, no_statements, statements, no_branches, branches, no_arms, arms}
+use Rattle.au_modules.specs.Programs.{ModuleParts}
+use Rattle.au_names.specs.declared.targets.Target.{Target}
+use Rattle.au_names.specs.Standing.{Standing, standing_at}
+use Rattle.au_scopes.specs.Scopes.{Case, Outside, Scope}
+use Rattle.au_typing.specs.Notes.{type_of}
+use Rattle.au_derivations.specs.Bodies.{GoodBody, GoodMethods}
+use Rattle.au_derivations.specs.Derivations.{Derives, GoodDeclaration, GoodDeclarations, GoodModules, GoodPart}
+use Rattle.au_derivations.specs.InScope.{after, fixed_variable, with_bound, with_variable}
+use Rattle.au_derivations.specs.Parts.{heads_of}
+use Rattle.au_derivations.specs.Statements.{GoodStatement, GoodBlock, GoodBranches, GoodArmBlocks, GoodArms}
+use Rattle.au_derivations.specs.Trees.{NotedStatement, NotedStatements, NotedBranches, NotedArms, NotedDeclaration, NotedEntry, NotedMethod, NotedParts}
+use Rattle.au_lowered.specs.Laws.{Tidy, BlockTidy, TestsTidy, ArmsTidy}
+use Rattle.au_simulation.specs.Trees.{BindsOnce, BlockBindsOnce, TestsBindOnce, ArmsBindOnce}
+use Rattle.au_closing.specs.Bodies.{BodyOf, body_at, body_in, body_of, body_of_parts, body_standing, declared_in, defining_index, is_method, method_body, noted_at}
+use Rattle.au_running.specs.Formed.{IsFormed}
+use Rattle.au_running.proofs.GoodOnceLemmas.{binds_once}
+
+-- ---- what follows a return
+
+mutual
+  good_tidy : (s : NotedStatement) (sc : Scope) → GoodStatement s sc → Tidy s
+  good_tidy (skip at) sc g = tt
+  good_tidy (declare at b n t e) sc g = tt
+  good_tidy (destructure at binds e) sc g = tt
+  good_tidy (assign at n fields e) sc g = tt
+  good_tidy (assign_through at n fields e) sc g = tt
+  good_tidy (conditional at tests) sc g = tests_tidy tests sc g
+  good_tidy (conditional_else at tests b) sc g = (tests_tidy tests sc g.0, block_tidy b sc g.1)
+  good_tidy (case_of at e all) sc g = arms_tidy all sc g.1
+  good_tidy (while_loop at e b) sc g = block_tidy b sc g.1
+  good_tidy (for_loop at n a z b) sc g = block_tidy b (with_variable (fixed_variable n.name
+      (type_of a)) sc) g.1
+  good_tidy (borrow_in at access x r region b stop) sc g = block_tidy b _ g.2
+  good_tidy (borrow_typed at r t mode x b stop) sc g = block_tidy b _ g.3
+  good_tidy (discard at e) sc g = tt
+  good_tidy (return_of at e) sc g = tt
+
+  block_tidy : (b : NotedStatements) (sc : Scope) → GoodBlock b sc → BlockTidy b
+  block_tidy no_statements sc g = tt
+  block_tidy (statements s rest) sc g = (good_tidy s sc g.0, g.1, block_tidy rest (after s sc) g.2)
+
+  tests_tidy : (tests : NotedBranches) (sc : Scope) → GoodBranches tests sc → TestsTidy tests
+  tests_tidy no_branches sc g = tt
+  tests_tidy (branches e b rest) sc g = (block_tidy b sc g.1, tests_tidy rest sc g.2)
+
+  arms_tidy : (all : NotedArms) (sc : Scope) → GoodArmBlocks all sc → ArmsTidy all
+  arms_tidy no_arms sc g = tt
+  arms_tidy (arms at n binds b rest) sc g = (block_tidy b (with_bound binds sc) g.0, arms_tidy rest sc g.1)
+
+-- ---- fields that are bound
+
+mutual
+  good_binds : (s : NotedStatement) (sc : Scope) → GoodStatement s sc → BindsOnce s
+  good_binds (skip at) sc g = tt
+  good_binds (declare at b n t e) sc g = tt
+  good_binds (destructure at binds e) sc g = binds_once g.fields binds g.each
+  good_binds (assign at n fields e) sc g = tt
+  good_binds (assign_through at n fields e) sc g = tt
+  good_binds (conditional at tests) sc g = tests_bind tests sc g
+  good_binds (conditional_else at tests b) sc g = (tests_bind tests sc g.0, block_binds b sc g.1)
+  good_binds (case_of at e all) sc g = arms_bind all sc g.0.cases g.0.good g.1
+  good_binds (while_loop at e b) sc g = block_binds b sc g.1
+  good_binds (for_loop at n a z b) sc g = block_binds b (with_variable (fixed_variable n.name
+      (type_of a)) sc) g.1
+  good_binds (borrow_in at access x r region b stop) sc g = tt
+  good_binds (borrow_typed at r t mode x b stop) sc g = tt
+  good_binds (discard at e) sc g = tt
+  good_binds (return_of at e) sc g = tt
+
+  block_binds : (b : NotedStatements) (sc : Scope) → GoodBlock b sc → BlockBindsOnce b
+  block_binds no_statements sc g = tt
+  block_binds (statements s rest) sc g = (good_binds s sc g.0, block_binds rest (after s sc) g.2)
+
+  tests_bind : (tests : NotedBranches) (sc : Scope) → GoodBranches tests sc → TestsBindOnce tests
+  tests_bind no_branches sc g = tt
+  tests_bind (branches e b rest) sc g = (block_binds b sc g.1, tests_bind rest sc g.2)
+
+  arms_bind : (all : NotedArms) (sc : Scope) (cases : List Case) → GoodArms sc cases (heads_of all)
+      → GoodArmBlocks all sc → ArmsBindOnce all
+  arms_bind no_arms sc cases heads g = tt
+  arms_bind (arms at n binds b rest) sc cases heads g = (
+    binds_once heads.0.one.fields binds heads.0.each,
+    block_binds b (with_bound binds sc) g.0,
+    arms_bind rest sc cases heads.1 g.1,
+  )
+
+-- ---- bodies
+
+body_formed : (outside : Outside) (generics : List (Constrained Bytes)) (header : _) (block : NotedStatements)
+    → GoodBody outside generics header block → IsFormed block
+body_formed outside generics header block g = record {
+  returns = g.returned;
+  tidy = block_tidy block g.scope g.good;
+  whole = block_binds block g.scope g.good;
+}
+
+-- a method that is found is good
+method_found : (outside : Outside) (generics : List (Constrained Bytes)) (name : Bytes)
+    (methods : List NotedMethod)
+    → GoodMethods outside generics methods → (m : NotedMethod) → find (is_method name) methods ≡ Some m
+    → IsFormed m.body
+method_found outside generics name [] g m e = absurd cc
+method_found outside generics name (one ∷ rest) g m e =
+    by_test (is_method name one) e (method_found outside generics name rest g.1 m)
+  where
+    by_test : (b : Bool) → cond b (Some one) (find (is_method name) rest) ≡ Some m
+        → (find (is_method name) rest ≡ Some m → IsFormed m.body) → IsFormed m.body
+    by_test true is more =
+        let same : one ≡ m = cc in
+        subst (λ (x : NotedMethod). IsFormed x.body) same
+        (body_formed outside generics one.header one.body g.0)
+    by_test false is more = more is
+
+-- so is the method of an instance
+method_formed : (outside : Outside) (place : ℕ) (generics : List (Constrained Bytes)) (name : Bytes)
+    (methods : List NotedMethod) → GoodMethods outside generics methods → (o : Option NotedMethod)
+    → find (is_method name) methods ≡ o → (body : BodyOf)
+    → option_map (method_body place generics) o ≡ Some body → IsFormed body.block
+method_formed outside place generics name methods g None found body e = absurd cc
+method_formed outside place generics name methods g (Some m) found body e =
+    let same : method_body place generics m ≡ body = cc in
+    subst (λ (x : BodyOf). IsFormed x.block) same (method_found outside generics name methods g m found)
+
+-- the body that a good declaration has under a name is formed
+declared_formed : (outside : Outside) (place : ℕ) (name : Bytes) (d : NotedDeclaration)
+    → GoodDeclaration outside d → (body : BodyOf) → body_in place name d ≡ Some body → IsFormed body.block
+declared_formed outside place name (function_body at generics h block stop) g body e =
+    let same : record { place = place; generics = generics; header = h; block = block } ≡ body = cc in
+    subst (λ (x : BodyOf). IsFormed x.block) same (body_formed outside generics h block g)
+declared_formed outside place name (instance_body at generics named t methods) g body e =
+    method_formed outside place generics name methods g (find (is_method name) methods) refl body e
+declared_formed outside place name (constant_body at n t value) g body e = absurd cc
+declared_formed outside place name (constant at n t) g body e = absurd cc
+declared_formed outside place name (opaque_type at n ps u) g body e = absurd cc
+declared_formed outside place name (record_type at n ps u fields) g body e = absurd cc
+declared_formed outside place name (union_type at n ps u cases) g body e = absurd cc
+declared_formed outside place name (function at gs h) g body e = absurd cc
+declared_formed outside place name (class at n p hs) g body e = absurd cc
+declared_formed outside place name (instance at gs n t) g body e = absurd cc
+
+-- ---- where declarations stand
+
+-- a declaration among good ones is good
+pub good_there : (outside : Outside) (all : List NotedDeclaration) → GoodDeclarations outside all
+    → (index : ℕ)
+    (d : NotedDeclaration) → slice_get all index ≡ Some d → GoodDeclaration outside d
+good_there outside [] g index d e = absurd (grind arith)
+good_there outside (first ∷ rest) g zero d e =
+    let same : first ≡ d = cc in subst (GoodDeclaration outside) same g.0
+good_there outside (first ∷ rest) g (suc index) d e = good_there outside rest g.1 index d e
+
+-- the declarations of the body of a module, by what it sees
+part_good : (outside : Outside) (part : Option NotedEntry) → GoodPart outside part
+    → GoodDeclarations outside (declared_in part)
+part_good outside None g = tt
+part_good outside (Some entry) g = g
+
+-- the declarations of the body of the module at a place are good, by what some part sees
+pub module_good : (outside : ℕ → Part → Outside) (place : ℕ) (noted : List NotedParts)
+    → GoodModules outside place noted
+    → (at : ℕ) → (seen : Outside) × GoodDeclarations seen (body_of_parts (slice_get noted at))
+module_good outside place [] g at = (outside place Body, tt)
+module_good outside place (m ∷ rest) g zero = (outside place Body, part_good (outside place Body) m.body g.1)
+module_good outside place (m ∷ rest) g (suc at) = module_good outside (place + 1) rest g.2 at
+
+module _ (outside : ℕ → Part → Outside) (program : List ModuleParts) (noted : List NotedParts)
+    (derived : Derives outside program noted) where
+  -- what is found of an index in the body of the module at a place is formed
+  indexed_formed : (place at : ℕ) (name : Bytes) (index : Option ℕ) (body : BodyOf)
+      → option_and_then (body_in place name) (noted_at noted at index) ≡ Some body → IsFormed body.block
+  indexed_formed place at name None body e = absurd cc
+  indexed_formed place at name (Some index) body e =
+      by_place (slice_get (body_at noted at) index) refl e
+    where
+      by_place : (o : Option NotedDeclaration) → slice_get (body_at noted at) index ≡ o
+          → option_and_then (body_in place name) o ≡ Some body → IsFormed body.block
+      by_place None there is = absurd cc
+      by_place (Some d) there is =
+          let good = module_good outside 0 noted derived.good at in
+          declared_formed good.0 place name d
+          (good_there good.0 (body_at noted at) good.1 index d there) body is
+
+  -- the body of a declaration that is found is formed
+  standing_formed : (name : Bytes) (o : Option Standing) (body : BodyOf)
+      → body_standing program noted name o ≡ Some body → IsFormed body.block
+  standing_formed name None body e = absurd cc
+  standing_formed name (Some d) body e =
+      indexed_formed d.place d.place name (defining_index program d d.part) body e
+
+  -- so is each body of the program
+  pub bodies_formed : (target : Target) (body : BodyOf) → body_of program noted target ≡ Some body
+      → IsFormed body.block
+  bodies_formed target body e = standing_formed target.name (standing_at program target.at) body e

@@ -1,0 +1,75 @@
+-- The code of a closed program does what the noted program means that it is made of.
+use Rattle.std.proofs.Common.{◌≡◌, ℕ, true, zero, suc, List, [], ◌∷◌, Option, Some, None, refl, sym, ap, subst, ◌∙◌, true≢false}
+use Rattle.std.specs.Prelude.{slice_get}
+use Rattle.std.specs.Option.{option_map}
+use Rattle.au_syntax.specs.Plain.{Bytes}
+use Rattle.au_closed_types.specs.Types as closed_type
+use Rattle.au_closed_types.specs.Types.{ClosedType}
+use Rattle.au_closed_trees.specs.ClosedNotes.{Callee, ClosedNote, shipped}
+use Rattle.au_closing.specs.Closes.{ClosedFunction}
+use Rattle.au_closed_views.specs.Shipped.{shipped_parameters}
+use Rattle.au_closed_views.specs.Surroundings.{Surroundings}
+use Rattle.au_closing_meanings.specs.Closed.{closed_functions, function_closed, surroundings_of}
+use Rattle.au_closing_meanings.specs.Generic.{generic_functions}
+use Rattle.au_closing_meanings.proofs.KeptLemmas.{meaning_kept, what_is}
+use Rattle.au_meaning.specs.Meanings.{mean}
+use Rattle.au_meaning.specs.Views.{Function, ships}
+use Rattle.au_shipped.specs.declared.prims.ShippedCall.TheVariants as prim
+use Rattle.au_simulation.specs.Laws.{Follows}
+use Rattle.au_running.specs.Formed.{IsFormed}
+use Rattle.au_running.specs.Followed.{functions_in, functions_of, AreFollowed, DerivedProgramsFollow, NoClosedViewIsGood}
+use Rattle.au_running.proofs.AskedLemmas.{asked_follow}
+use Rattle.au_running.proofs.ConstantLemmas.{plain_simple}
+use Rattle.au_running.proofs.ClosedLemmas.{closed_formed}
+use Rattle.au_running.proofs.GoodLemmas.{followed_follow}
+
+-- a shipped call that isn't plain, at a note that is in no tree
+pub none_is_good : NoClosedViewIsGood
+none_is_good told functions round good =
+    let note : ClosedNote = record { of = closed_type.unit; free = None; literal = None } in
+    true≢false (sym (good.plain_calls note (shipped prim.Swap) []
+    (record { parameters = shipped_parameters prim.Swap; act = ships prim.Swap None }) refl
+    prim.Swap None refl))
+
+-- each closed function stands under its number
+pub in_order : (round : Bytes → Surroundings) (functions : List ClosedFunction) (numbers : ℕ → ℕ) (i : ℕ)
+    → slice_get (functions_in round numbers functions) i ≡ closed_functions round functions numbers i
+in_order round [] numbers i = refl
+in_order round (f ∷ rest) numbers zero = refl
+in_order round (f ∷ rest) numbers (suc i) = in_order round rest (λ n. numbers (suc n)) i
+
+-- what is said of each closed function is said of each in order
+pub from_closed : (round : Bytes → Surroundings) (number : ℕ) (o : Option ClosedFunction)
+    (g : Function ℕ ClosedNote (Callee ℕ)) → option_map (function_closed round number) o ≡ Some g
+    → (f : ClosedFunction) × (o ≡ Some f) × (function_closed round number f ≡ g)
+from_closed round number None g e = absurd cc
+from_closed round number (Some f) g e = (f, refl, cc)
+
+pub derived_follow : DerivedProgramsFollow
+derived_follow program noted derived entry functions closes first numbers alike told linear once
+    fields_once plain begins input ticks claim =
+    let round = surroundings_of program functions in
+    let says = what_is program functions in
+    let all = functions_of program numbers functions in
+    let which = λ (i : ℕ) (g : Function ℕ ClosedNote (Callee ℕ)) (e : slice_get all i ≡ Some g).
+    from_closed round (numbers i) (slice_get functions i) g (sym (in_order round functions numbers i) ∙ e) in
+    let followed : AreFollowed told all = record {
+      formed = λ i g e.
+          let f = which i g e in
+          subst (λ (x : Function ℕ ClosedNote (Callee ℕ)). IsFormed x.body) f.2
+          (closed_formed program noted derived entry functions closes i f.0 f.1);
+      suits = asked_follow program functions once fields_once
+          (plain_simple program noted derived entry functions closes plain) numbers;
+      linear = λ i g e of.
+          let f = which i g e in
+          linear of ∙ ap (λ (x : Function ℕ ClosedNote (Callee ℕ)). x.view.is_linear of) f.2;
+      entry = begins;
+    } in
+    let same : mean (λ i. slice_get all i) 0 input ticks
+    ≡ mean (generic_functions program noted first) entry input ticks =
+    (λ j. mean (λ i. in_order round functions numbers i j) 0 input ticks)
+    ∙ sym (meaning_kept program noted entry functions closes first numbers alike
+    (surroundings_of program functions) (λ of. true) says.0 says.1 input ticks) in
+    subst (λ m. Follows told all input m) same
+    (followed_follow ClosedNote (Callee ℕ) told all followed input ticks
+    (λ e. claim (sym (ap (λ m. m.ending) same) ∙ e)))

@@ -1,0 +1,90 @@
+-- Closed functions whose code does what they mean, and the noted program that they are made of.
+use Rattle.std.specs.Prelude.{◌≡◌, ℕ, suc, List, [], ◌∷◌, Some, slice_get}
+use Rattle.au_syntax.specs.Plain.{Bytes}
+use Rattle.au_modules.specs.Programs.{ModuleParts}
+use Rattle.au_closed_types.specs.Types.{ClosedType}
+use Rattle.au_low.specs.declared.code.LowType.{LowType}
+use Rattle.au_derivations.specs.Trees.{NotedParts}
+use Rattle.au_noting_programs.specs.Faults.{IsDerived}
+use Rattle.au_closed_trees.specs.ClosedNotes.{Callee, ClosedNote}
+use Rattle.au_closing.specs.Closes.{ClosedFunction, ClosesFunctions}
+use Rattle.au_closing.specs.Instances.{Instance}
+use Rattle.au_meaning.specs.Meanings.{mean}
+use Rattle.au_meaning.specs.Views.{Function}
+use Rattle.au_meaning.specs.Worlds.{stuck}
+use Rattle.au_closed_views.specs.Surroundings.{Surroundings, view_in}
+use Rattle.au_closing_meanings.specs.Closed.{function_closed, surroundings_of}
+use Rattle.au_closing_meanings.specs.Generic.{generic_functions, linear_in}
+use Rattle.au_closing_meanings.specs.Kept.{NumberAlike}
+use Rattle.au_simulation.specs.Laws.{Follows}
+use Rattle.au_simulation.specs.Premises.{GoodView}
+use Rattle.au_simulation.specs.Programs.{coding, EntryTakes, GoodProgram}
+use Rattle.au_running.specs.Asked.{CallsArePlain, FieldsAreOnce, ParametersAreOnce}
+use Rattle.au_running.specs.Formed.{IsFormed}
+use Rattle.au_running.specs.Suits.{EachSuits, guarded_functions}
+
+module _ {T C : Type 0} (told : ClosedType → LowType) (functions : List (Function ℕ T C)) where
+  -- an entry has no parameter, or one, which is the root
+  abbrev pub EntryBegins : Type 0
+  EntryBegins = (f : Function ℕ T C) → slice_get functions 0 ≡ Some f → EntryTakes f.parameters
+
+  -- Functions whose code does what they mean: each is formed as it should be, code can follow each mention
+  -- and each call in it, a type is told as linear where the function knows that it is, and the entry begins.
+  pub record AreFollowed : Type 0 where
+    pub formed : (i : ℕ) (f : Function ℕ T C) → slice_get functions i ≡ Some f → IsFormed f.body
+    pub suits : EachSuits functions
+    pub linear : (i : ℕ) (f : Function ℕ T C) → slice_get functions i ≡ Some f → (of : ClosedType)
+        → (told of).linear ≡ f.view.is_linear of
+    pub entry : EntryBegins
+
+module _ (T C : Type 0) where
+  -- With views that know no more than code can follow they are a good program.
+  abbrev pub GuardedAreGood : Type 0
+  GuardedAreGood = (told : ClosedType → LowType) (functions : List (Function ℕ T C))
+      → AreFollowed told functions → GoodProgram told (guarded_functions functions)
+
+  -- A run of their code does what they mean for any number of ticks, where that isn't stuck.
+  abbrev pub FollowedRunsFollow : Type 0
+  FollowedRunsFollow = (told : ClosedType → LowType) (functions : List (Function ℕ T C))
+      → AreFollowed told functions → (input : List ℕ) (ticks : ℕ)
+      → ((mean (λ i. slice_get functions i) 0 input ticks).ending ≡ stuck → ⊥)
+      → Follows told functions input (mean (λ i. slice_get functions i) 0 input ticks)
+
+-- ---- closed programs
+
+-- No closed view is good as it stands, since it says of notes that are in no tree what their calls would do.
+-- So it is guarded: code that follows a tree needs no more than the tree notes.
+abbrev pub NoClosedViewIsGood : Type 0
+NoClosedViewIsGood =
+    (told : ClosedType → LowType) (functions : List (Function ℕ ClosedNote (Callee ℕ))) (round : Surroundings)
+    → GoodView (coding told functions) (view_in round) → ⊥
+
+-- the closed functions in order as they are run, each with a number for its first name
+abbrev pub functions_in : (Bytes → Surroundings) → (ℕ → ℕ) → List ClosedFunction
+    → List (Function ℕ ClosedNote (Callee ℕ))
+functions_in round numbers [] = []
+functions_in round numbers (f ∷ rest) =
+    function_closed round (numbers 0) f ∷ functions_in round (λ n. numbers (suc n)) rest
+
+-- the closed functions of a program as they are run
+abbrev pub functions_of : List ModuleParts → (ℕ → ℕ) → List ClosedFunction
+    → List (Function ℕ ClosedNote (Callee ℕ))
+functions_of program numbers functions = functions_in (surroundings_of program functions) numbers functions
+
+-- A run of the code that a derived program is lowered to, from the functions that it closes to, does what the
+-- noted program means, where that isn't stuck. This is asked besides: parameters and fields have names of
+-- their own, shipped calls are plain, a type is told as linear where the program says so, and the entry has
+-- no parameter but the root.
+abbrev pub DerivedProgramsFollow : Type 0
+DerivedProgramsFollow =
+    (program : List ModuleParts) (noted : List NotedParts) → IsDerived program noted
+    → (entry : Instance) (functions : List ClosedFunction)
+    → (closes : ClosesFunctions program noted entry functions)
+    → (first : Instance → ℕ) (numbers : ℕ → ℕ) → NumberAlike closes.instances first numbers
+    → (told : ClosedType → LowType) → ((of : ClosedType) → (told of).linear ≡ linear_in program of)
+    → ParametersAreOnce functions → FieldsAreOnce program → CallsArePlain functions
+    → EntryBegins told (functions_of program numbers functions)
+    → (input : List ℕ) (ticks : ℕ)
+    → ((mean (generic_functions program noted first) entry input ticks).ending ≡ stuck → ⊥)
+    → Follows told (functions_of program numbers functions) input
+    (mean (generic_functions program noted first) entry input ticks)

@@ -1,2 +1,0 @@
-pub mod UniverseLemmas
-pub mod FormedLemmas

@@ -1,4 +1,0 @@
-//! Laws that join substitutions and universes.
-#![tactic(auto)]
-
-pub mod laws;

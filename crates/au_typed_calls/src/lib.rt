@@ -1,4 +1,0 @@
-//! Why the calls of a program with notes are typed.
-#![tactic(auto)]
-
-pub mod laws;
