@@ -11,9 +11,9 @@ ghost use Rattle.au_typing.specs.Faults.{known_or};
 
 use au_base::Name;
 use au_matching::Substitution;
-use au_noting_leaves::argument_types::{begun, by_labels, in_order};
 use au_noting::lookups::called;
 use au_noting::{Fault, Scope};
+use au_noting_leaves::argument_types::{begun, by_labels, in_order};
 use au_sights::{Callable, Typed};
 use au_syntax::{Argument, Expr, Parsed};
 use au_types::Ty;

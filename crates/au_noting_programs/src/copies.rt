@@ -11,7 +11,9 @@ ghost use Rattle.au_syntax.specs.Views.{renaming, variant};
 
 use au_base::Memory;
 use au_notes::{Noted, copy_name, copy_names, copy_renamed, copy_text_of_type};
-use au_syntax::{Field, Generic, Ident, Import, Parsed, Renamed, Signature, TypeParameter, UnionCase};
+use au_syntax::{
+    Field, Generic, Ident, Import, Parsed, Renamed, Signature, TypeParameter, UnionCase,
+};
 use std::alloc::Global;
 
 /// What can be copied alone for a tree with notes, so that a vector of it can be copied by one loop.

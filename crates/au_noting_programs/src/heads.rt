@@ -11,7 +11,9 @@ use crate::copies::{Copied, copy_all};
 use au_base::{Memory, Pos};
 use au_judgements::Refused;
 use au_notes::{Noted, copy_name, copy_text_of_type};
-use au_syntax::{Decl, Field, Generic, Ident, Parsed, Signature, TypeParameter, TypeText, UnionCase, Universe};
+use au_syntax::{
+    Decl, Field, Generic, Ident, Parsed, Signature, TypeParameter, TypeText, UnionCase, Universe,
+};
 use std::alloc::Global;
 
 /// The name and the type of a constant.

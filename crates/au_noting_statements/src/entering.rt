@@ -20,16 +20,18 @@ ghost use Rattle.au_typing.specs.Notes as notes;
 
 use crate::parts::{note_bounds, note_case, note_test, note_tests};
 use au_base::{Memory, Pos};
-use au_judgements::{Refused, refused_at};
 use au_judgements::borrowing::{borrow_type, judge_borrow, judge_lent, mode_for};
 use au_judgements::declaring::{declare_after, declare_bound, declare_fixed};
 use au_judgements::leaving::enter_reference;
 use au_judgements::places::judge_next;
 use au_judgements::returning::returns;
+use au_judgements::{Refused, refused_at};
 use au_notes::{Noted, copy_binds, copy_borrow_names, copy_name, copy_text_of_type};
 use au_noting::{Fault, Scope};
 use au_noting_leaves::type_of;
-use au_syntax::{Access, Arm, Bind, BorrowMode, BorrowNames, Branch, Expr, Ident, Parsed, Stmt, TypeText};
+use au_syntax::{
+    Access, Arm, Bind, BorrowMode, BorrowNames, Branch, Expr, Ident, Parsed, Stmt, TypeText,
+};
 use au_types::{Ty, copy_type};
 use std::alloc::Global;
 use std::collections::VecDeque;

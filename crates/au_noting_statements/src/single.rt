@@ -10,7 +10,9 @@ ghost use Rattle.au_syntax.specs.contracts.parsed.ParsedPhase.TheImpl.{ghosts as
 ghost use Rattle.au_syntax.specs.Statements as form;
 ghost use Rattle.au_syntax.specs.Views.{expression, placed, statement, written};
 
-use crate::parts::{note_assigned, note_declared, note_discarded, note_put, note_returned, note_taken};
+use crate::parts::{
+    note_assigned, note_declared, note_discarded, note_put, note_returned, note_taken,
+};
 use au_base::Pos;
 use au_judgements::{Refused, refused_at};
 use au_notes::{Noted, copy_binds, copy_name, copy_names, copy_text_of_type};
