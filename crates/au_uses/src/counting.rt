@@ -11,7 +11,7 @@ ghost use Rattle.au_uses.specs.Tallies.{tally_of};
 
 use crate::tallies::{Few, Tally, tally_and};
 use au_base::Name;
-use au_syntax::{Argument, BinaryOperator, BorrowMode, Expr, Ident, Phase};
+use au_syntax::{Argument, BorrowMode, Expr, Ident, Phase};
 
 const NONE: Tally = Tally {
     consumed: Few::Zero,
@@ -94,7 +94,7 @@ fn counts_of_argument<P: Phase>(x: &Name, free: bool, argument: &Argument<P>) ->
 
 /// Whether an expression is a variable or a constant alone, or that in parentheses.
 #[tactic(auto, using(crate::proofs::CountLemmas::alone, au_syntax::proofs::ExpressionLemmas::expression_steps))]
-pub fn is_variable<P: Phase>(e: &Expr<P>) -> bool
+fn is_variable<P: Phase>(e: &Expr<P>) -> bool
     ensures { result ≡ spec.is_variable (plain_expression P.name_bytes (expression P.Phase e.now)) }
 {
     match e {
@@ -116,13 +116,6 @@ pub fn is_variable<P: Phase>(e: &Expr<P>) -> bool
         Expr::Binary(_, _, _, _) => false,
         Expr::If(_, _, _, _) => false,
     }
-}
-
-/// Whether the operator may leave out its right side.
-pub fn may_skip(operator: BinaryOperator) -> bool
-    ensures { result ≡ spec.may_skip operator }
-{
-    matches!(operator, BinaryOperator::And | BinaryOperator::Or)
 }
 
 /// A mention that counts only where it is one of the variable.

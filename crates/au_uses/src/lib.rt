@@ -8,7 +8,7 @@ pub mod readings;
 pub mod steps;
 pub mod tallies;
 
-pub use counting::{counts, is_variable, may_skip};
+pub use counting::counts;
 pub use readings::choices;
 pub use steps::{State, Verdict, step};
 pub use tallies::{Few, Tally};
