@@ -1,13 +1,8 @@
 //! The program: the words of the command line and the outside of the system, handed to the call.
 #![tactic(auto)]
 
-mod adapters;
-mod block;
-#[cfg(test)]
-mod tests;
-
-use adapters::{DiskShelf, StderrSink, StdinSource, StdoutSink};
 use au_base::Status;
+use au_system::{DiskShelf, StderrSink, StdinSource, StdoutSink};
 use au_top::austral;
 use std::process::ExitCode;
 use std::{env, io};

@@ -1,7 +1,7 @@
 -- The room holds the front of the file that is read.
 use Rattle.std.proofs.Common.{ap}
-use Rattle.austral_cli.proofs.ReadLemmas.{front_read}
-use Rattle.austral_cli.proofs.adapters.read_front.Goals as goal
+use Rattle.au_system.proofs.ReadLemmas.{front_read}
+use Rattle.au_system.proofs.adapters.read_front.Goals as goal
 
 pub returns-clause-bytes : goal.returns-clause-bytes
 returns-clause-bytes g c =

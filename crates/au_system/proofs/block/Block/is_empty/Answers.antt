@@ -1,7 +1,7 @@
 -- No byte is held exactly where the place is behind the last.
 use Rattle.std.proofs.Common.{arith, rules}
-use Rattle.austral_cli.proofs.BlockLemmas.{none_held}
-use Rattle.austral_cli.proofs.block.Block.is_empty.Goals as goal
+use Rattle.au_system.proofs.BlockLemmas.{none_held}
+use Rattle.au_system.proofs.block.Block.is_empty.Goals as goal
 
 pub returns : goal.returns
 returns c =
