@@ -14,7 +14,7 @@ use Rattle.au_syntax.specs.Plain.{PlainStatements, plain_statement}
 use Rattle.au_syntax.proofs.StatementLemmas.{if_else_says}
 use Rattle.au_lives.specs.Paths.{bound_name}
 use Rattle.au_lives.specs.Scopes.{scope, bound_over, scopes, scopes_after, scopes_inside, scopes_of_branches, scopes_of_arms}
-use Rattle.au_linear.specs.Seen.{seen_name, seen_bind, seen_binds, seen_parameters, seen_statement, seen_statements, seen_block, seen_branches, seen_arms}
+use Rattle.au_paths.specs.Seen.{seen_name, seen_bind, seen_binds, seen_parameters, seen_statement, seen_statements, seen_block, seen_branches, seen_arms}
 use Rattle.au_linear.proofs.TellingLemmas.{Declaring}
 
 module _ {X N T C : Type 0} (g : Ghosts X N T C) where

@@ -2,8 +2,8 @@
 use Rattle.std.proofs.Common.{◌≡◌, ℕ, ◌+◌, ◌<◌, ◌≤◌, List, [], ◌∷◌, ◌++◌, length, drop, get_or, refl, sym, ap, ◌∙◌, Option, None, Some}
 use Rattle.std.proofs.lemmas.List.{drop_all}
 use Rattle.au_base.specs.declared.places.Pos.{Pos}
+use Rattle.au_paths.proofs.SeenLemmas.{next_item}
 use Rattle.au_linear.specs.Firsts.{first_of, or_else}
-use Rattle.au_linear.proofs.SeenLemmas.{next_item}
 
 -- the first place of two parts
 pub first_and : (a b : List Pos) → first_of (a ++ b) ≡ or_else (first_of a) (first_of b)

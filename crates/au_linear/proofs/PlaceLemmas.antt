@@ -11,7 +11,7 @@ use Rattle.au_syntax.specs.Plain.{Bytes, PlainExpression}
 use Rattle.au_lives.specs.Lives.{Hold, held_from}
 use Rattle.au_lives.specs.Paths.{declared_by, bound_names}
 use Rattle.au_lives.specs.Places.{consumed_at, consumed_at_all, consumed_at_arguments, parted_at, parted_at_all, parted_at_arguments, gathered, gathered_in_block, gathered_in_branches, gathered_in_arms, looped, looped_in_block, looped_in_branches, looped_in_arms}
-use Rattle.au_linear.specs.Seen.{seen_expression, seen_expressions, seen_arguments, seen_statement, seen_statements, seen_binds, seen_block, seen_branches, seen_arms}
+use Rattle.au_paths.specs.Seen.{seen_expression, seen_expressions, seen_arguments, seen_statement, seen_statements, seen_binds, seen_block, seen_branches, seen_arms}
 use Rattle.au_linear.proofs.FirstLemmas as firsts
 
 abbrev stay : {A : Type 0} → Unit {0} → A → Unit {0}

@@ -15,7 +15,7 @@ use Rattle.au_linear.specs.declared.tasks.Task.TheVariants as tasks
 use Rattle.au_linear.specs.Telling.{asked, sorted, refusal_of, Tells}
 use Rattle.au_linear.specs.Allotting.{Allots, Allotted, asked_task, told_by, first_told, Decides, Sees}
 use Rattle.au_lives.proofs.RefusalLemmas.{good_none}
-use Rattle.au_linear.proofs.SeenLemmas.{next_item}
+use Rattle.au_paths.proofs.SeenLemmas.{next_item}
 
 drop_one_more : {A : Type 0} (n : ℕ) (xs : List A) → drop n (drop 1 xs) ≡ drop (suc n) xs
 drop_one_more n [] = drop_all n [] (omega arith)

@@ -1,5 +1,3 @@
-pub mod Seen
-pub mod Standing
 pub mod Firsts
 pub mod Telling
 pub mod Allotting

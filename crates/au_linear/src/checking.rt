@@ -4,8 +4,8 @@ ghost use Rattle.std.specs.Prelude.{◌≡◌, ◌≤◌, ◌++◌, drop, length
 ghost use Rattle.au_lives.specs.Scopes.{scope, scopes, scopes_after, scopes_inside, scopes_of_branches};
 ghost use Rattle.au_lives.specs.Scopes.{scopes_of_arms, bound_over, scopes_of};
 ghost use Rattle.au_lives.specs.Paths.{bound_name};
-ghost use Rattle.au_linear.specs.Seen.{seen_name, seen_bind, seen_binds, seen_parameters, seen_statement};
-ghost use Rattle.au_linear.specs.Seen.{seen_statements, seen_block, seen_branches, seen_arms};
+ghost use Rattle.au_paths.specs.Seen.{seen_name, seen_bind, seen_binds, seen_parameters, seen_statement};
+ghost use Rattle.au_paths.specs.Seen.{seen_statements, seen_block, seen_branches, seen_arms};
 ghost use Rattle.au_linear.specs.Telling.{sorted, Judges};
 ghost use Rattle.au_linear.specs.declared.tasks.Task.TheVariants as task;
 ghost use Rattle.au_linear.specs.Allotting.{Sees, Decides};

@@ -5,15 +5,14 @@ ghost use Rattle.std.specs.Option.{option_map};
 ghost use Rattle.au_lives.specs.Trimming.{without_zeros};
 ghost use Rattle.au_lives.specs.Walks.{checked};
 ghost use Rattle.au_lives.specs.Refusals.{by_walk, refusal};
-ghost use Rattle.au_linear.specs.Seen.{seen_statements};
+ghost use Rattle.au_paths.specs.Seen.{seen_statements};
 ghost use Rattle.au_linear.specs.Telling.{refusal_of};
 
 use crate::faults::Why;
 use crate::placing::{first_in_loop, first_in_part};
-use crate::reaches::{Broken, Stop};
-use crate::walks::check_paths;
 use au_base::{Memory, Name};
 use au_lives::lives::Sort;
+use au_paths::{Broken, Stop, check_paths};
 use au_syntax::{Block, Phase};
 use std::alloc::Global;
 

@@ -3,17 +3,12 @@
 #![tactic(auto)]
 
 pub mod checking;
-pub mod fates;
 pub mod faults;
-pub mod holds;
 pub mod judging;
 pub mod laws;
-pub mod meeting;
 pub mod placing;
-pub mod reaches;
 pub mod sought;
 pub mod tasks;
-pub mod walks;
 
 pub use checking::check_body;
 pub use faults::{LinearFault, Refused, Why};

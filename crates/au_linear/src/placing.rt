@@ -6,16 +6,16 @@ ghost use Rattle.au_lives.specs.Paths.{bound_names};
 ghost use Rattle.au_lives.specs.Places.{gathered, gathered_in_block, gathered_in_branches, gathered_in_arms};
 ghost use Rattle.au_lives.specs.Places.{looped, looped_in_block, looped_in_branches, looped_in_arms};
 ghost use Rattle.au_lives.specs.Places.{loop_places, part_places};
+ghost use Rattle.au_paths.specs.Seen.{seen_expression, seen_binds, seen_statement, seen_statements};
+ghost use Rattle.au_paths.specs.Seen.{seen_block, seen_branches, seen_arms};
+ghost use Rattle.au_paths.specs.Standing.{hold_of};
 ghost use Rattle.au_linear.specs.declared.sought.Sought.TheVariants as soughts;
 ghost use Rattle.au_linear.specs.Firsts.{first_of, or_else, sought_at};
-ghost use Rattle.au_linear.specs.Seen.{seen_expression, seen_binds, seen_statement, seen_statements};
-ghost use Rattle.au_linear.specs.Seen.{seen_block, seen_branches, seen_arms};
-ghost use Rattle.au_linear.specs.Standing.{hold_of};
 
-use crate::holds::{Hold, access_of, held_after, held_beside, held_beside_binds, held_in_borrow};
 use crate::sought::{Sought, first_sought};
 use au_base::{Name, Pos};
 use au_lives::lives::Sort;
+use au_paths::{Hold, access_of, held_after, held_beside, held_beside_binds, held_in_borrow};
 use au_syntax::{Arm, Block, Branch, Phase, Stmt};
 
 /// The first place that is sought, of a statement.

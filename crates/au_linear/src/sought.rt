@@ -7,14 +7,13 @@ ghost use Rattle.au_syntax.specs.Plain.{plain_name};
 ghost use Rattle.au_lives.specs.Mentions as mentions;
 ghost use Rattle.au_lives.specs.Places.{place_of, consumed_at, consumed_at_all, consumed_at_arguments};
 ghost use Rattle.au_lives.specs.Places.{parted_at, parted_at_all, parted_at_arguments};
+ghost use Rattle.au_paths.specs.Seen.{seen_name, seen_expression, seen_expressions, seen_arguments};
+ghost use Rattle.au_paths.specs.Standing.{hold_of};
 ghost use Rattle.au_linear.specs.Firsts.{first_of, sought_at};
-ghost use Rattle.au_linear.specs.Seen.{seen_name, seen_expression, seen_expressions, seen_arguments};
-ghost use Rattle.au_linear.specs.Standing.{hold_of};
 
-use crate::fates::is_free;
-use crate::holds::{Hold, is_named};
 use au_base::{Name, Pos};
 use au_lives::lives::Sort;
+use au_paths::{Hold, is_free, is_named};
 use au_syntax::{Argument, BinaryOperator, Expr, Ident, Phase};
 
 /// Which consumptions of a variable are sought.

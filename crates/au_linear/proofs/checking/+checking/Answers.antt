@@ -1,7 +1,7 @@
 use Rattle.std.proofs.Common.{subst, sym, ap, ◌∙◌, get_or, length, arith, drop, ◌+◌, ◌∷◌, [], Ok, Err}
 use Rattle.std.proofs.lemmas.Result.{err_from_is_err_and}
 use Rattle.au_lives.specs.Scopes.{scope, bound_over, scopes, scopes_after, scopes_inside, scopes_of_branches, scopes_of_arms}
-use Rattle.au_linear.specs.Seen.{seen_name, seen_binds, seen_statement, seen_statements, seen_block, seen_branches, seen_arms}
+use Rattle.au_paths.specs.Seen.{seen_name, seen_binds, seen_statement, seen_statements, seen_block, seen_branches, seen_arms}
 use Rattle.au_linear.specs.Allotting.{Sees}
 use Rattle.au_linear.proofs.DeclaringLemmas.{statements_declare, branches_declare, arms_declare, else_declares}
 use Rattle.au_linear.proofs.TellingLemmas as telling

@@ -1,6 +1,6 @@
 use Rattle.std.proofs.Common.{drop}
 use Rattle.au_lives.specs.Scopes.{scopes, scopes_of_branches, scopes_of_arms}
-use Rattle.au_linear.specs.Seen.{seen_statements, seen_branches, seen_arms}
+use Rattle.au_paths.specs.Seen.{seen_statements, seen_branches, seen_arms}
 use Rattle.au_linear.proofs.TellingLemmas.{Settles}
 use Rattle.au_linear.proofs.checking.+checking.Given as goal
 

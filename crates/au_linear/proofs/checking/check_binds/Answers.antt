@@ -1,7 +1,7 @@
 use Rattle.std.proofs.Common.{subst, drop, Ok, Err}
 use Rattle.std.proofs.lemmas.Result.{err_from_is_err_and}
 use Rattle.au_lives.specs.Scopes.{bound_over}
-use Rattle.au_linear.specs.Seen.{seen_binds, seen_statements}
+use Rattle.au_paths.specs.Seen.{seen_binds, seen_statements}
 use Rattle.au_linear.specs.Allotting.{Sees}
 use Rattle.au_linear.proofs.DeclaringLemmas.{binds_declare}
 use Rattle.au_linear.proofs.TellingLemmas as telling

@@ -1,6 +1,6 @@
 use Rattle.std.proofs.Common.{drop}
 use Rattle.au_lives.specs.Scopes.{bound_over}
-use Rattle.au_linear.specs.Seen.{seen_binds, seen_statements}
+use Rattle.au_paths.specs.Seen.{seen_binds, seen_statements}
 use Rattle.au_linear.proofs.TellingLemmas.{Settles}
 use Rattle.au_linear.proofs.checking.check_binds.Given as goal
 

@@ -2,7 +2,7 @@ use Rattle.std.proofs.Common.{ap, sym, subst, ◌∙◌}
 use Rattle.std.proofs.lemmas.Result.{err_from_is_err_and}
 use Rattle.au_lives.proofs.RefusalLemmas.{none_refused}
 use Rattle.au_lives.specs.Scopes.{scopes_of}
-use Rattle.au_linear.specs.Seen.{seen_parameters, seen_block}
+use Rattle.au_paths.specs.Seen.{seen_parameters, seen_block}
 use Rattle.au_linear.specs.Telling.{Tells}
 use Rattle.au_linear.specs.Allotting.{Allotted, first_told}
 use Rattle.au_linear.proofs.TellingLemmas.{told_all}

@@ -1,6 +1,6 @@
 use Rattle.std.proofs.Common.{drop, map}
 use Rattle.au_lives.specs.Scopes.{scope}
-use Rattle.au_linear.specs.Seen.{seen_parameters, seen_block}
+use Rattle.au_paths.specs.Seen.{seen_parameters, seen_block}
 use Rattle.au_linear.proofs.TellingLemmas.{Settles}
 use Rattle.au_linear.proofs.checking.check_parameters.Given as goal
 

@@ -1,6 +1,6 @@
 use Rattle.std.proofs.Common.{subst, sym, ap, drop, None}
 use Rattle.au_lives.specs.Scopes.{scope}
-use Rattle.au_linear.specs.Seen.{seen_name, seen_statements}
+use Rattle.au_paths.specs.Seen.{seen_name, seen_statements}
 use Rattle.au_linear.specs.Allotting.{told_by, Decides}
 use Rattle.au_linear.proofs.checking.check_task.Goals as goal
 

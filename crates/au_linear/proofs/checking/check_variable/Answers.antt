@@ -1,7 +1,7 @@
 use Rattle.std.proofs.Common.{drop}
 use Rattle.std.proofs.lemmas.Result.{err_from_is_err_and}
 use Rattle.au_lives.specs.Scopes.{scope}
-use Rattle.au_linear.specs.Seen.{seen_name, seen_statements}
+use Rattle.au_paths.specs.Seen.{seen_name, seen_statements}
 use Rattle.au_linear.proofs.TellingLemmas as telling
 use Rattle.au_linear.proofs.checking.check_variable.Goals as goal
 

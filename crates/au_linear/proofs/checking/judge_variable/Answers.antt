@@ -1,7 +1,7 @@
 use Rattle.std.proofs.Common.{ap, sym, refl, ◌∙◌, drop}
 use Rattle.std.specs.Option.{option_map}
 use Rattle.au_lives.specs.Scopes.{scope}
-use Rattle.au_linear.specs.Seen.{seen_name, seen_statements}
+use Rattle.au_paths.specs.Seen.{seen_name, seen_statements}
 use Rattle.au_linear.specs.Telling.{refusal_of}
 use Rattle.au_linear.proofs.TellingLemmas as telling
 use Rattle.au_linear.proofs.checking.judge_variable.Goals as goal

@@ -1,9 +1,9 @@
 use Rattle.std.proofs.Common.{ap, sym, ◌∙◌, refl}
 use Rattle.au_lives.specs.Places.{looped_in_block, looped_in_branches, looped_in_arms}
+use Rattle.au_paths.specs.Seen.{seen_statements, seen_branches, seen_arms}
+use Rattle.au_paths.specs.Standing.{hold_of}
 use Rattle.au_linear.specs.declared.sought.Sought.TheVariants as soughts
 use Rattle.au_linear.specs.Firsts.{first_of, sought_at}
-use Rattle.au_linear.specs.Seen.{seen_statements, seen_branches, seen_arms}
-use Rattle.au_linear.specs.Standing.{hold_of}
 use Rattle.au_linear.proofs.FirstLemmas as firsts
 use Rattle.au_linear.proofs.PlaceLemmas.{looped_list, looped_branches, looped_arms}
 use Rattle.au_linear.proofs.placing.+looped.Goals as goal

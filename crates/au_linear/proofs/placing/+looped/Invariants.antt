@@ -1,9 +1,9 @@
 use Rattle.std.proofs.Common.{◌≡◌, drop}
 use Rattle.au_lives.specs.Places.{looped_in_block, looped_in_branches, looped_in_arms}
+use Rattle.au_paths.specs.Seen.{seen_statements, seen_branches, seen_arms}
+use Rattle.au_paths.specs.Standing.{hold_of}
 use Rattle.au_linear.specs.Firsts.{first_of, sought_at}
 use Rattle.au_linear.specs.declared.sought.Sought.TheVariants as soughts
-use Rattle.au_linear.specs.Seen.{seen_statements, seen_branches, seen_arms}
-use Rattle.au_linear.specs.Standing.{hold_of}
 use Rattle.au_linear.proofs.placing.+looped.Given as goal
 
 -- what is left has the first place of all

@@ -1,6 +1,6 @@
 use Rattle.std.proofs.Common.{sym, ◌∙◌, arith}
 use Rattle.au_lives.specs.Places.{consumptions_at}
-use Rattle.au_linear.specs.Standing.{hold_of}
+use Rattle.au_paths.specs.Standing.{hold_of}
 use Rattle.au_linear.proofs.FirstLemmas as firsts
 use Rattle.au_linear.proofs.PlaceLemmas.{looped_list}
 use Rattle.au_linear.proofs.placing.first_in_loop.Goals as goal

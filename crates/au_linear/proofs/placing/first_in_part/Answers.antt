@@ -1,6 +1,6 @@
 use Rattle.std.proofs.Common.{sym, ◌∙◌, arith}
 use Rattle.au_lives.specs.Places.{partings_at}
-use Rattle.au_linear.specs.Standing.{hold_of}
+use Rattle.au_paths.specs.Standing.{hold_of}
 use Rattle.au_linear.proofs.FirstLemmas as firsts
 use Rattle.au_linear.proofs.PlaceLemmas.{gathered_list}
 use Rattle.au_linear.proofs.placing.first_in_part.Goals as goal

@@ -1,8 +1,8 @@
 use Rattle.std.proofs.Common.{◌≡◌, drop}
 use Rattle.au_lives.specs.Places.{part_places, gathered_in_block, partings_at}
+use Rattle.au_paths.specs.Seen.{seen_statements}
+use Rattle.au_paths.specs.Standing.{hold_of}
 use Rattle.au_linear.specs.Firsts.{first_of}
-use Rattle.au_linear.specs.Seen.{seen_statements}
-use Rattle.au_linear.specs.Standing.{hold_of}
 use Rattle.au_linear.proofs.placing.first_in_part.Given as goal
 
 abbrev pub invariant-loop-index : goal.invariant-loop-index

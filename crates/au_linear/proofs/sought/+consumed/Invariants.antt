@@ -1,7 +1,7 @@
 use Rattle.std.proofs.Common.{◌≡◌, drop}
 use Rattle.au_lives.specs.Places.{consumed_at_all, consumed_at_arguments}
+use Rattle.au_paths.specs.Seen.{seen_expressions, seen_arguments}
 use Rattle.au_linear.specs.Firsts.{first_of}
-use Rattle.au_linear.specs.Seen.{seen_expressions, seen_arguments}
 use Rattle.au_linear.proofs.sought.+consumed.Given as goal
 
 -- what is left has the first place of all

@@ -1,7 +1,7 @@
 use Rattle.std.proofs.Common.{ap, sym, ◌∙◌, refl}
 use Rattle.au_lives.specs.Places.{parted_at_all, parted_at_arguments}
+use Rattle.au_paths.specs.Seen.{seen_expressions, seen_arguments}
 use Rattle.au_linear.specs.Firsts.{first_of}
-use Rattle.au_linear.specs.Seen.{seen_expressions, seen_arguments}
 use Rattle.au_linear.proofs.FirstLemmas as firsts
 use Rattle.au_linear.proofs.PlaceLemmas.{parted_list, parted_arguments}
 use Rattle.au_linear.proofs.sought.+parted.Goals as goal

@@ -8,8 +8,8 @@ ghost use Rattle.au_lives.specs.Mentions.{Counts, where_named};
 ghost use Rattle.au_lives.specs.Paths.{whole, opening, assignment, assignment_behind};
 ghost use Rattle.au_lives.specs.Walks.{walk_step, does, noted, returned};
 ghost use Rattle.au_uses.specs.Tallies.{tally_of};
-ghost use Rattle.au_linear.specs.Seen.{seen_name, seen_expression};
-ghost use Rattle.au_linear.specs.Standing.{hold_of, reach_of, Gives, then_on};
+ghost use Rattle.au_paths.specs.Seen.{seen_name, seen_expression};
+ghost use Rattle.au_paths.specs.Standing.{hold_of, reach_of, Gives, then_on};
 
 use crate::fates::{effect_of, is_free};
 use crate::holds::{Hold, is_named};

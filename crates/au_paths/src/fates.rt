@@ -6,7 +6,7 @@ ghost use Rattle.au_lives.specs.Lives.{going, broken, if_spent, if_live, verdict
 ghost use Rattle.au_lives.specs.declared.lives.LifeKind.TheVariants as kinds;
 ghost use Rattle.au_lives.specs.Mentions.{Counts};
 ghost use Rattle.au_uses.specs.Tallies.{tally_of};
-ghost use Rattle.au_linear.specs.Standing.{hold_of, fate_of, stays, Does};
+ghost use Rattle.au_paths.specs.Standing.{hold_of, fate_of, stays, Does};
 
 use crate::holds::Hold;
 use au_lives::lives::{LifeKind, Sort};
@@ -31,7 +31,7 @@ pub struct Effect {
 }
 
 /// Whether the type is Free.
-pub(crate) fn is_free(sort: Sort) -> bool
+pub fn is_free(sort: Sort) -> bool
     ensures { result ≡ lives.is_free sort }
 {
     match sort {

@@ -1,8 +1,8 @@
 use Rattle.std.proofs.Common.{◌≡◌, drop}
 use Rattle.au_lives.specs.Walks.{Reach, Walk, walk_block, walk_branches, nowhere}
-use Rattle.au_linear.specs.Seen.{seen_statements, seen_branches, seen_arms}
-use Rattle.au_linear.specs.Standing.{hold_of, reach_of, walk_each}
-use Rattle.au_linear.proofs.walks.+walk.Given as goal
+use Rattle.au_paths.specs.Seen.{seen_statements, seen_branches, seen_arms}
+use Rattle.au_paths.specs.Standing.{hold_of, reach_of, walk_each}
+use Rattle.au_paths.proofs.walks.+walk.Given as goal
 
 -- what is left, from the states here, gives what the whole gives
 abbrev pub invariant-walk_block-loop-one : goal.invariant-walk_block-loop-one

@@ -10,16 +10,16 @@ use Rattle.au_lives.specs.Walks.{Reach, reach, nowhere, Breach, Walk, choose, me
 use Rattle.au_lives.specs.Walks.{walk_branches, walk_arms, ◌>>=◌}
 use Rattle.au_uses.specs.declared.steps.Verdict.{Verdict}
 use Rattle.au_uses.specs.declared.steps.Verdict.TheVariants as verdicts
-use Rattle.au_linear.specs.declared.holds.Hold.{Hold as CodeHold}
-use Rattle.au_linear.specs.declared.holds.Hold.TheVariants as holds
-use Rattle.au_linear.specs.declared.fates.Fate.{Fate as CodeFate}
-use Rattle.au_linear.specs.declared.fates.Fate.TheVariants as fates
-use Rattle.au_linear.specs.declared.fates.Effect.{Effect}
-use Rattle.au_linear.specs.declared.reaches.Reached.{Reached}
-use Rattle.au_linear.specs.declared.reaches.Fork.{Fork}
-use Rattle.au_linear.specs.declared.reaches.Broken.{Broken}
-use Rattle.au_linear.specs.declared.reaches.Stop.{Stop}
-use Rattle.au_linear.specs.declared.reaches.Stop.TheVariants as stops
+use Rattle.au_paths.specs.declared.holds.Hold.{Hold as CodeHold}
+use Rattle.au_paths.specs.declared.holds.Hold.TheVariants as holds
+use Rattle.au_paths.specs.declared.fates.Fate.{Fate as CodeFate}
+use Rattle.au_paths.specs.declared.fates.Fate.TheVariants as fates
+use Rattle.au_paths.specs.declared.fates.Effect.{Effect}
+use Rattle.au_paths.specs.declared.reaches.Reached.{Reached}
+use Rattle.au_paths.specs.declared.reaches.Fork.{Fork}
+use Rattle.au_paths.specs.declared.reaches.Broken.{Broken}
+use Rattle.au_paths.specs.declared.reaches.Stop.{Stop}
+use Rattle.au_paths.specs.declared.reaches.Stop.TheVariants as stops
 
 abbrev pub hold_of : CodeHold → Hold
 hold_of holds.Unlent = unlent

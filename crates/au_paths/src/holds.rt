@@ -5,8 +5,8 @@ ghost use Rattle.std.specs.Str.{bytes_eq};
 ghost use Rattle.au_lives.specs.Lives as lives;
 ghost use Rattle.au_lives.specs.Lives.{held_from};
 ghost use Rattle.au_lives.specs.Paths.{declared, lent, declared_by, bound_name, bound_names, access_of};
-ghost use Rattle.au_linear.specs.Seen.{seen_name, seen_bind, seen_binds, seen_statement};
-ghost use Rattle.au_linear.specs.Standing.{hold_of};
+ghost use Rattle.au_paths.specs.Seen.{seen_name, seen_bind, seen_binds, seen_statement};
+ghost use Rattle.au_paths.specs.Standing.{hold_of};
 
 use au_base::Name;
 use au_syntax::{Access, Bind, BorrowMode, Ident, Phase, Stmt};
@@ -25,14 +25,14 @@ pub enum Hold {
 }
 
 /// Whether a name is that of the variable.
-pub(crate) fn is_named<P: Phase>(x: &Name, name: &Ident<P>) -> bool
+pub fn is_named<P: Phase>(x: &Name, name: &Ident<P>) -> bool
     ensures { result ≡ bytes_eq (seen_name P.Phase name.now).name x.now }
 {
     P::bytes_of(&name.name) == x.as_bytes()
 }
 
 /// How `&`, `&!` and `&~` lend.
-pub(crate) fn access_of(mode: BorrowMode) -> Access
+pub fn access_of(mode: BorrowMode) -> Access
     ensures { result ≡ access_of mode }
 {
     match mode {
@@ -57,7 +57,7 @@ fn tighter(access: Access, hold: Hold) -> Hold
 }
 
 /// How the variable is held where this name is declared.
-pub(crate) fn held_beside<P: Phase>(x: &Name, name: &Ident<P>, hold: Hold) -> Hold
+pub fn held_beside<P: Phase>(x: &Name, name: &Ident<P>, hold: Hold) -> Hold
     ensures { hold_of result
         ≡ held_from x.now (declared (seen_name P.Phase name.now).name ∷ []) (hold_of hold) }
 {
@@ -81,7 +81,7 @@ fn held_lent<P: Phase>(x: &Name, access: Access, variable: &Ident<P>, hold: Hold
 }
 
 /// How the variable is held in a borrow statement.
-pub(crate) fn held_in_borrow<P: Phase>(
+pub fn held_in_borrow<P: Phase>(
     x: &Name,
     access: Access,
     variable: &Ident<P>,
@@ -97,7 +97,7 @@ pub(crate) fn held_in_borrow<P: Phase>(
 }
 
 /// How the variable is held where these are bound.
-pub(crate) fn held_beside_binds<P: Phase>(x: &Name, binds: &Vec<Bind<P>>, hold: Hold) -> Hold
+pub fn held_beside_binds<P: Phase>(x: &Name, binds: &Vec<Bind<P>>, hold: Hold) -> Hold
     ensures { hold_of result
         ≡ held_from x.now (bound_names (seen_binds P.Phase binds.now.items)) (hold_of hold) }
 {
@@ -121,7 +121,7 @@ fn is_bound<P: Phase>(x: &Name, one: &Bind<P>) -> bool
 
 /// How the variable is held behind a statement of its block.
 #[tactic(auto, using(au_syntax::proofs::StatementLemmas::statement_steps))]
-pub(crate) fn held_after<P: Phase>(x: &Name, stmt: &Stmt<P>, hold: Hold) -> Hold
+pub fn held_after<P: Phase>(x: &Name, stmt: &Stmt<P>, hold: Hold) -> Hold
     ensures { hold_of result
         ≡ held_from x.now (declared_by (seen_statement P.Phase stmt.now)) (hold_of hold) }
 {

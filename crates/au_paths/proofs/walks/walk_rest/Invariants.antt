@@ -1,9 +1,9 @@
 use Rattle.std.proofs.Common.{◌≡◌, drop, None, Some, []}
 use Rattle.au_lives.specs.Lives.{unlent}
 use Rattle.au_lives.specs.Walks.{walk_block, reach}
-use Rattle.au_linear.specs.Seen.{seen_statements}
-use Rattle.au_linear.specs.Standing.{hold_of, reach_of}
-use Rattle.au_linear.proofs.walks.walk_rest.Given as goal
+use Rattle.au_paths.specs.Seen.{seen_statements}
+use Rattle.au_paths.specs.Standing.{hold_of, reach_of}
+use Rattle.au_paths.proofs.walks.walk_rest.Given as goal
 
 abbrev pub invariant-loop-index : goal.invariant-loop-index
 invariant-loop-index g l =

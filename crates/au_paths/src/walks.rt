@@ -5,9 +5,9 @@ ghost use Rattle.au_lives.specs.Walks as walks;
 ghost use Rattle.au_lives.specs.Walks.{walk, walk_block, walk_branches, turned, joined, checked};
 ghost use Rattle.au_lives.specs.Lives.{held_from, unlent};
 ghost use Rattle.au_lives.specs.Paths.{bound_names};
-ghost use Rattle.au_linear.specs.Seen.{seen_expression, seen_statement, seen_statements, seen_block};
-ghost use Rattle.au_linear.specs.Seen.{seen_branches, seen_arms, seen_binds};
-ghost use Rattle.au_linear.specs.Standing.{hold_of, reach_of, Gives, Forks, Branches, walk_case, then_on};
+ghost use Rattle.au_paths.specs.Seen.{seen_expression, seen_statement, seen_statements, seen_block};
+ghost use Rattle.au_paths.specs.Seen.{seen_branches, seen_arms, seen_binds};
+ghost use Rattle.au_paths.specs.Standing.{hold_of, reach_of, Gives, Forks, Branches, walk_case, then_on};
 
 use crate::holds::{Hold, access_of, held_after, held_beside, held_beside_binds, held_in_borrow};
 use crate::meeting::{
@@ -300,7 +300,7 @@ fn walk_rest<P: Phase>(
 }
 
 /// The walk over the whole block of a variable, from the statement of this number on.
-pub(crate) fn check_paths<P: Phase>(
+pub fn check_paths<P: Phase>(
     alloc: Global,
     x: &Name,
     sort: Sort,

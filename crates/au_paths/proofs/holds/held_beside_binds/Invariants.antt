@@ -1,9 +1,9 @@
 use Rattle.std.proofs.Common.{◌≡◌, drop}
 use Rattle.au_lives.specs.Lives.{held_from}
 use Rattle.au_lives.specs.Paths.{bound_names}
-use Rattle.au_linear.specs.Seen.{seen_binds}
-use Rattle.au_linear.specs.Standing.{hold_of}
-use Rattle.au_linear.proofs.holds.held_beside_binds.Given as goal
+use Rattle.au_paths.specs.Seen.{seen_binds}
+use Rattle.au_paths.specs.Standing.{hold_of}
+use Rattle.au_paths.proofs.holds.held_beside_binds.Given as goal
 
 -- what is left says how it is held
 abbrev pub invariant-loop-one : goal.invariant-loop-one

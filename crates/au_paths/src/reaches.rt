@@ -3,8 +3,8 @@
 ghost use Rattle.std.specs.Prelude.{◌≡◌, IfOk, None, Some, ◌++◌, ◌∷◌, [], Ok};
 ghost use Rattle.au_lives.specs.Walks as walks;
 ghost use Rattle.au_lives.specs.Walks.{Walk, either, land, walk_by, push, noted, finish};
-ghost use Rattle.au_linear.specs.declared.reaches.Stop.TheVariants as stop;
-ghost use Rattle.au_linear.specs.Standing.{fate_of, path_of, reach_of, Gives};
+ghost use Rattle.au_paths.specs.declared.reaches.Stop.TheVariants as stop;
+ghost use Rattle.au_paths.specs.Standing.{fate_of, path_of, reach_of, Gives};
 
 use crate::fates::{Effect, Fate, ending};
 use au_base::Memory;

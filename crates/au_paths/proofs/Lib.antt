@@ -1,0 +1,3 @@
+pub mod SeenLemmas
+pub mod BranchLemmas
+pub mod SizeLemmas
