@@ -30,7 +30,11 @@ use au_syntax::FileTree;
 use au_unbuilt::first_unbuilt;
 use std::alloc::Global;
 
-/// Judges the files of a program, and then their modules.
+/// Judges the files of a program, and then their modules. An accepted program comes with its notes.
+///
+/// # Errors
+///
+/// What the program comes to where it is refused or passes a limit, and else that memory ran out.
 pub fn judge(alloc: Global, own: Vec<FileTree>) -> Result<NotedProgram, Halt>
     requires few { length own.items ≤ most_files }
     requires declared { IsTrue (list_all has_few (map entry own.items)) }

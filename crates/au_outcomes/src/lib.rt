@@ -2,7 +2,7 @@
 //! refusals.
 //!
 //! `specs/Outcomes.antt` says what a program comes to, and `check` finds it. `specs/Accepted.antt` says which
-//! files are accepted.
+//! files are accepted. Files whose bytes are there already are read by `read_all` and judged by `judge`.
 #![tactic(auto)]
 
 mod checking;
@@ -14,5 +14,7 @@ mod outcomes;
 mod reading;
 
 pub use checking::{MOST_FILES, check};
-pub use halts::CheckFault;
+pub use halts::{CheckFault, Halt};
+pub use judging::judge;
 pub use outcomes::{Aim, Outcome};
+pub use reading::read_all;

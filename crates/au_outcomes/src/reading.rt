@@ -19,6 +19,10 @@ use au_syntax::{FileTree, Parsed, Phase, Whole};
 use std::alloc::Global;
 
 /// Reads files in order, up to the first that can't be read. The number of the first is 0.
+///
+/// # Errors
+///
+/// What the program comes to where a file can't be read, and else that memory ran out.
 pub fn read_all(alloc: Global, all: &[Vec<u8>]) -> Result<Vec<FileTree>, Halt>
     requires few { length all.now ≤ most_files }
     requires small { All (λ bytes. length bytes.items ≤ most_file_bytes) all.now }

@@ -3,7 +3,6 @@
 use au_base::{IntKind, Memory, Name};
 use au_shipped::{ShippedCall, prim_of};
 use std::alloc::Global;
-use std::test::Fail;
 
 /// The names of a module and a call, the kind of integers that the call is for, and the shipped call that it
 /// is.
@@ -57,9 +56,8 @@ fn is_due(alloc: Global, row: &Row) -> Result<bool, Memory> {
 
 /// A shipped call is found by the name of its module, its own and its kind, and no other is.
 #[test]
-fn shipped_calls_are_found_by_their_names(rt: HostRuntime) -> Result<(), Fail> {
+fn shipped_calls_are_found_by_their_names(rt: HostRuntime) {
     for row in &CALLS {
-        assert!(rt; is_due(rt.alloc(), row)?);
+        assert!(rt; matches!(is_due(rt.alloc(), row), Ok(true)));
     }
-    Ok(())
 }

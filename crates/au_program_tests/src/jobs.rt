@@ -4,7 +4,6 @@ use crate::interfaces::behind;
 use au_base::{Entry, Memory};
 use au_words::{Command, Job, laws, read_words};
 use std::alloc::Global;
-use std::test::Fail;
 
 /// The steps of a run whose words give none.
 const USUAL: u64 = 1_000_000_000;
@@ -124,11 +123,10 @@ fn is_asked(alloc: Global, row: &Row) -> Result<bool, Memory> {
 /// Lists of words, and the job that each of them asks for. Words ask for one job at most, and their names are
 /// those of the language.
 #[test]
-fn words_ask_for_their_job(rt: HostRuntime) -> Result<(), Fail> {
+fn words_ask_for_their_job(rt: HostRuntime) {
     laws::one_job();
     laws::names_of_the_language();
     for row in &JOBS {
-        assert!(rt; is_asked(rt.alloc(), row)?);
+        assert!(rt; matches!(is_asked(rt.alloc(), row), Ok(true)));
     }
-    Ok(())
 }

@@ -6,36 +6,42 @@ use au_modules::{are_few, gather};
 use au_parser::parse;
 use au_syntax::{FileTree, Parsed, Whole};
 use std::alloc::Global;
-use std::test::Fail;
 
-/// The tree of the file of a number that holds this text.
-fn tree_of(alloc: Global, file: u16, source: &[u8]) -> Result<Whole<Parsed>, Fail> {
+/// The tree of the file of a number that holds this text, if it has one and memory is there.
+fn tree_of(alloc: Global, file: u16, source: &[u8]) -> Option<Whole<Parsed>> {
     if source.len() > 10_000_000 {
-        return Err(Fail::new("a long file"));
+        return None;
     }
-    let tokens = lex(alloc, file, source)?;
+    let Ok(tokens) = lex(alloc, file, source) else {
+        return None;
+    };
     if tokens.len() > 1_000_000 {
-        return Err(Fail::new("many tokens"));
+        return None;
     }
-    Ok(parse(alloc, tokens.as_slice())?)
+    match parse(alloc, tokens.as_slice()) {
+        Ok(tree) => Some(tree),
+        Err(_) => None,
+    }
 }
 
-/// Puts the file of a number that holds this text behind others.
-pub(crate) fn put_file(
-    alloc: Global,
-    files: &mut Vec<FileTree>,
-    file: u16,
-    source: &[u8],
-) -> Result<(), Fail> {
-    let tree = tree_of(alloc, file, source)?;
-    Ok(files.push(FileTree { file, tree })?)
+/// Puts the file of a number that holds this text behind others, and says whether it stands there.
+pub(crate) fn put_file(alloc: Global, files: &mut Vec<FileTree>, file: u16, source: &[u8]) -> bool {
+    match tree_of(alloc, file, source) {
+        Some(tree) => files.push(FileTree { file, tree }).is_ok(),
+        None => false,
+    }
 }
 
-/// The program of these files.
-pub(crate) fn program_of(alloc: Global, files: Vec<FileTree>) -> Result<Resolved, Fail> {
+/// The program of these files, if they are those of one and memory is there.
+pub(crate) fn program_of(alloc: Global, files: Vec<FileTree>) -> Option<Resolved> {
     if !are_few(&files) {
-        return Err(Fail::new("too many files or declarations"));
+        return None;
     }
-    let modules = gather(alloc, files)?;
-    Ok(resolve(alloc, modules)?)
+    let Ok(modules) = gather(alloc, files) else {
+        return None;
+    };
+    match resolve(alloc, modules) {
+        Ok(program) => Some(program),
+        Err(_) => None,
+    }
 }

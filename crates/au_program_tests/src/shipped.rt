@@ -4,7 +4,7 @@ use crate::interfaces::is_interface;
 use crate::texts::{BOXES, BUFFERS, PERVASIVE, TERMINAL};
 use au_shipped::shipped;
 use au_syntax::FileTree;
-use std::test::Fail;
+use std::alloc::Global;
 
 /// Whether a file has this number and is this interface.
 fn is_written(file: &FileTree, number: u16, text: &[u8]) -> bool {
@@ -24,10 +24,16 @@ fn are_written(files: &[FileTree]) -> bool {
     }
 }
 
+/// Whether the shipped files are written so.
+fn shipped_are_written(alloc: Global) -> bool {
+    match shipped(alloc) {
+        Ok(files) => are_written(files.as_slice()),
+        Err(_) => false,
+    }
+}
+
 /// The shipped files are these interfaces.
 #[test]
-fn shipped_files_are_as_the_document_has_them(rt: HostRuntime) -> Result<(), Fail> {
-    let files = shipped(rt.alloc())?;
-    assert!(rt; are_written(files.as_slice()));
-    Ok(())
+fn shipped_files_are_as_the_document_has_them(rt: HostRuntime) {
+    assert!(rt; shipped_are_written(rt.alloc()));
 }

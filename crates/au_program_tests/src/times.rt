@@ -5,8 +5,6 @@ use au_base::{Memory, Text};
 use au_shipped::shipped;
 use au_syntax::FileTree;
 use std::alloc::Global;
-use std::process::Abort;
-use std::test::Fail;
 use std::time::{CpuClock, Duration};
 
 /// How often times are taken at most: the shortest count.
@@ -98,78 +96,75 @@ fn pieces_of(file: u16) -> &'static [Piece] {
     }
 }
 
-/// Puts the file of a number behind others, with so many functions.
-fn put_part(
-    alloc: Global,
-    files: &mut Vec<FileTree>,
-    file: u16,
-    functions: u32,
-) -> Result<(), Fail> {
+/// Puts the file of a number behind others, with so many functions, and says whether it stands there.
+fn put_part(alloc: Global, files: &mut Vec<FileTree>, file: u16, functions: u32) -> bool {
     let mut text = Text::new(alloc);
-    put_pieces(&mut text, pieces_of(file), file as u32 / 2, functions)?;
-    put_file(alloc, files, file, text.as_bytes())
+    match put_pieces(&mut text, pieces_of(file), file as u32 / 2, functions) {
+        Ok(()) => put_file(alloc, files, file, text.as_bytes()),
+        Err(_) => false,
+    }
 }
 
-/// Puts so many files behind others, each with so many functions.
-fn put_parts(
-    alloc: Global,
-    all: &mut Vec<FileTree>,
-    files: u16,
-    functions: u32,
-) -> Result<(), Fail> {
+/// Puts so many files behind others, each with so many functions, and says whether they stand there.
+fn put_parts(alloc: Global, all: &mut Vec<FileTree>, files: u16, functions: u32) -> bool {
     for file in 0..files {
-        put_part(alloc, all, file, functions)?;
+        if !put_part(alloc, all, file, functions) {
+            return false;
+        }
     }
-    Ok(())
+    true
 }
 
-/// Reads and resolves a program of so many files behind the shipped ones, each of so many functions.
-fn resolve_program(alloc: Global, files: u16, functions: u32) -> Result<(), Fail> {
-    let mut all = shipped(alloc)?;
-    match put_parts(alloc, &mut all, files, functions) {
-        Ok(()) => Ok(drop(program_of(alloc, all)?)),
-        Err(fault) => Err(fault),
+/// Reads and resolves a program of so many files behind the shipped ones, each of so many functions, and says
+/// whether it is resolved.
+fn is_resolved(alloc: Global, files: u16, functions: u32) -> bool {
+    let Ok(mut all) = shipped(alloc) else {
+        return false;
+    };
+    if put_parts(alloc, &mut all, files, functions) {
+        program_of(alloc, all).is_some()
+    } else {
+        false
     }
 }
 
-/// The time that it takes to read and to resolve such a program.
-fn time_of(
-    rt: &impl CpuClock,
-    alloc: Global,
-    files: u16,
-    functions: u32,
-) -> Result<Duration, Fail> {
-    let start = rt.process_cpu_time()?;
-    resolve_program(alloc, files, functions)?;
-    let end = rt.process_cpu_time()?;
-    Ok(end.saturating_sub(start))
+/// The time so far, if it is told.
+fn time_now(rt: &impl CpuClock) -> Option<Duration> {
+    match rt.process_cpu_time() {
+        Ok(time) => Some(time),
+        Err(_) => None,
+    }
+}
+
+/// The time that it takes to read and to resolve such a program, if that is told and the program is resolved.
+fn time_of(rt: &impl CpuClock, alloc: Global, files: u16, functions: u32) -> Option<Duration> {
+    let start = time_now(rt)?;
+    if !is_resolved(alloc, files, functions) {
+        return None;
+    }
+    let end = time_now(rt)?;
+    Some(end.saturating_sub(start))
 }
 
 /// Whether the second program takes less than three times the time of the first one, the shortest times of
-/// some tries. Programs are told by their files and by the functions of each.
-fn grows(
-    rt: &impl CpuClock,
-    alloc: Global,
-    small: (u16, u32),
-    large: (u16, u32),
-) -> Result<bool, Fail> {
+/// some tries, if these are told. Programs are told by their files and by the functions of each.
+fn grows(rt: &impl CpuClock, alloc: Global, small: (u16, u32), large: (u16, u32)) -> Option<bool> {
     let mut least = Duration::MAX;
     let mut most = Duration::MAX;
     for _ in 0..TRIES {
         least = least.min(time_of(rt, alloc, small.0, small.1)?);
         most = most.min(time_of(rt, alloc, large.0, large.1)?);
         if most < least.saturating_mul(3) {
-            return Ok(true);
+            return Some(true);
         }
     }
-    Ok(false)
+    Some(false)
 }
 
 /// Twice a program takes less than three times the time: 10,200 declarations and 20,400, and 30 modules and
 /// 60.
 #[test]
-fn time_grows_as_programs_do(rt: HostRuntime) -> Result<(), Fail> {
-    assert!(rt; grows(&rt, rt.alloc(), (4, 2_549), (4, 5_099))?);
-    assert!(rt; grows(&rt, rt.alloc(), (60, 99), (120, 99))?);
-    Ok(())
+fn time_grows_as_programs_do(rt: HostRuntime) {
+    assert!(rt; matches!(grows(&rt, rt.alloc(), (4, 2_549), (4, 5_099)), Some(true)));
+    assert!(rt; matches!(grows(&rt, rt.alloc(), (60, 99), (120, 99)), Some(true)));
 }

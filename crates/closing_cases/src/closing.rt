@@ -1,116 +1,53 @@
 //! From the files of a program to what it closes to.
 
+ghost use Rattle.std.specs.Prelude.{◌≤◌, All, IsTrue, length};
+ghost use Rattle.au_base.specs.Limits.{most_file_bytes};
+ghost use Rattle.au_outcomes.specs.Outcomes.{most_files};
+
 use crate::programs::Program;
-use au_base::{Memory, Name, Text};
-use au_classes::declare;
+use au_base::{MOST_FILE_BYTES, MOST_NAME_BYTES, Memory, Name, Text};
 use au_closed_programs::{CloseFault, ClosedProgram, close};
-use au_imports::resolve;
-use au_lexer::lex;
-use au_modules::{are_few, gather};
-use au_noting_programs::{NotedProgram, note_program};
-use au_parser::parse;
-use au_program_lives::check_linear;
-use au_rules::declarations_hold;
-use au_shipped::shipped;
-use au_syntax::FileTree;
+use au_noting_programs::NotedProgram;
+use au_outcomes::{Halt, MOST_FILES, judge, read_all};
 use std::alloc::Global;
 
-/// The most tokens of a file that is read.
-const MOST_TOKENS: usize = 1_048_576;
-
-/// What closing a program comes to.
-#[derive(Drop)]
-pub enum Closing {
-    /// Its files aren't those of an accepted program, or memory ran out.
-    NoProgram,
-    /// It closes to this.
-    Closes(NotedProgram, ClosedProgram),
-    /// It isn't closed.
-    Fails(CloseFault),
-}
-
-/// What closing a program comes to.
-pub fn closing_of(alloc: Global, program: &Program) -> Closing {
-    let Some(files) = trees_of(alloc, &program.files) else {
-        return Closing::NoProgram;
-    };
-    match noted_of(alloc, files) {
-        None => Closing::NoProgram,
-        Some(noted) => closed_from(alloc, program, noted),
-    }
-}
-
-/// The trees of files behind those of the shipped modules, if each has one and memory is there.
-fn trees_of(alloc: Global, files: &Vec<Vec<u8>>) -> Option<Vec<FileTree>> {
-    let Ok(mut trees) = shipped(alloc) else {
-        return None;
-    };
-    for (index, bytes) in files.iter().enumerate() {
-        let Ok(number) = u16::try_from(index) else {
-            return None;
-        };
-        let tree = tree_of(alloc, number, bytes.as_slice())?;
-        if trees.push(tree).is_err() {
-            return None;
-        }
-    }
-    Some(trees)
-}
-
-/// The tree of a file, if it has one and memory is there.
-fn tree_of(alloc: Global, file: u16, bytes: &[u8]) -> Option<FileTree> {
-    if bytes.len() > au_base::MOST_FILE_BYTES {
+/// The program of files with its notes, if it is accepted and memory is there.
+pub fn noted_of(alloc: Global, files: &[Vec<u8>]) -> Option<NotedProgram> {
+    if files.len() > MOST_FILES {
         return None;
     }
-    let Ok(tokens) = lex(alloc, file, bytes) else {
-        return None;
-    };
-    if tokens.len() > MOST_TOKENS {
+    if !are_small(files) {
         return None;
     }
-    match parse(alloc, tokens.as_slice()) {
-        Ok(tree) => Some(FileTree { file, tree }),
+    match judged(alloc, files) {
+        Ok(noted) => Some(noted),
         Err(_) => None,
     }
 }
 
-/// The program of files with its notes, if it is accepted and memory is there.
-fn noted_of(alloc: Global, files: Vec<FileTree>) -> Option<NotedProgram> {
-    if !are_few(&files) {
-        return None;
+/// Whether no file is too large.
+fn are_small(files: &[Vec<u8>]) -> bool
+    ensures { IsTrue result → All (λ bytes. length bytes.items ≤ most_file_bytes) files.now }
+{
+    for bytes in files {
+        if bytes.len() > MOST_FILE_BYTES {
+            return false;
+        }
     }
-    let Ok(modules) = gather(alloc, files) else {
-        return None;
-    };
-    let Ok(program) = resolve(alloc, modules) else {
-        return None;
-    };
-    if declarations_hold(alloc, &program).is_err() {
-        return None;
-    }
-    let Ok(classes) = declare(alloc, &program) else {
-        return None;
-    };
-    let Ok(noted) = note_program(alloc, program, classes) else {
-        return None;
-    };
-    if check_linear(alloc, noted.program()).is_err() {
-        return None;
-    }
-    Some(noted)
+    true
 }
 
-/// What closing a program with notes comes to.
-fn closed_from(alloc: Global, program: &Program, noted: NotedProgram) -> Closing {
-    let closed = closed_of(alloc, program, &noted);
-    match closed {
-        Ok(closed) => Closing::Closes(noted, closed),
-        Err(fault) => Closing::Fails(fault),
-    }
+/// The program of files with its notes, or why there is none.
+fn judged(alloc: Global, files: &[Vec<u8>]) -> Result<NotedProgram, Halt>
+    requires few { length files.now ≤ most_files }
+    requires small { All (λ bytes. length bytes.items ≤ most_file_bytes) files.now }
+{
+    let trees = read_all(alloc, files)?;
+    judge(alloc, trees)
 }
 
 /// What a program with notes closes to.
-fn closed_of(
+pub fn closed_of(
     alloc: Global,
     program: &Program,
     noted: &NotedProgram,
@@ -130,7 +67,7 @@ fn closed_of(
 /// A name of these bytes. None has none of them, or more than a name may have.
 fn named(alloc: Global, text: &Text) -> Result<Name, CloseFault> {
     let bytes = text.as_bytes();
-    if bytes.is_empty() || bytes.len() > au_base::MOST_NAME_BYTES {
+    if bytes.is_empty() || bytes.len() > MOST_NAME_BYTES {
         return Err(CloseFault::NoEntry);
     }
     match Name::copy_of(alloc, bytes) {

@@ -1,11 +1,12 @@
 //! The lines that tell what a program closes to.
 
-use crate::closing::{Closing, closing_of};
+use crate::closing::{closed_of, noted_of};
 use crate::programs::Program;
 use au_base::{Limit, LimitKind, Memory, Pos};
 use au_closed_parts::{ClosedCase, ClosedField};
 use au_closed_programs::{CloseFault, ClosedFunction, ClosedProgram, TypeRow};
 use au_closed_types::{Closed, closed_text};
+use au_noting_programs::NotedProgram;
 use au_types::Heads;
 use itoa::Buffer;
 use std::alloc::Global;
@@ -14,13 +15,25 @@ use std::alloc::Global;
 pub fn add_lines(alloc: Global, program: &Program, out: &mut Vec<u8>) -> Result<(), Memory> {
     put(out, program.title.as_bytes())?;
     put(out, b"\n")?;
-    match closing_of(alloc, program) {
-        Closing::NoProgram => put(out, b"  no program\n"),
-        Closing::Fails(fault) => add_fault(fault, out),
-        Closing::Closes(noted, closed) => {
+    match noted_of(alloc, program.files.as_slice()) {
+        Some(noted) => add_closing(alloc, program, &noted, out),
+        None => put(out, b"  no program\n"),
+    }
+}
+
+/// Adds what a program with notes closes to, or why it isn't closed.
+fn add_closing(
+    alloc: Global,
+    program: &Program,
+    noted: &NotedProgram,
+    out: &mut Vec<u8>,
+) -> Result<(), Memory> {
+    match closed_of(alloc, program, noted) {
+        Ok(closed) => {
             let heads = noted.program().heads_ref();
             add_closed(alloc, heads, program.counts, &closed, out)
         }
+        Err(fault) => add_fault(fault, out),
     }
 }
 
