@@ -1,2 +1,3 @@
-pub mod CopyLemmas
+pub mod WalkLemmas
 pub mod BlockLemmas
+pub mod DeclarationLemmas

@@ -1,48 +1,63 @@
-//! Copies of declarations.
+//! Declarations of the old phase as those of the new one.
 
 ghost use Rattle.std.specs.Prelude.{◌≡◌, IfOk};
 ghost use Rattle.au_syntax.specs.Modules.{InUniverse, Constrained, Header, Variant, MethodBody, Declaration};
 ghost use Rattle.au_syntax.specs.Views.{in_universe, constrained, header, variant, method_body, declaration};
+ghost use Rattle.au_copying.specs.Seen.{before, after};
 
-use crate::copied::{Copied, copy_four, copy_three, copy_two};
+use crate::parts::{Part, walked_four, walked_three, walked_two};
+use crate::walks::Walk;
 use au_base::Memory;
 use au_syntax::{Decl, Generic, Method, Phase, Signature, TypeParameter, UnionCase};
 use std::alloc::Global;
 
-impl<P: Phase> Copied for TypeParameter<P> {
-    ghost Seen = { InUniverse P.SeenName };
+impl<P: Phase, Q: Phase, W: Walk<P, Q>> Part<Q, W> for TypeParameter<P> {
+    type New = TypeParameter<Q>;
 
-    ghost see = { in_universe P.Phase };
+    ghost Kept = { InUniverse W.KeptName };
 
-    fn copy(&self, alloc: Global) -> Result<TypeParameter<P>, Memory> {
-        let name = self.name.copy(alloc)?;
+    ghost old = { in_universe (before W.Walk) };
+
+    ghost new = { in_universe (after W.Walk) };
+
+    fn walked(&self, alloc: Global, walk: &mut W) -> Result<TypeParameter<Q>, Memory> {
+        let name = self.name.walked(alloc, walk)?;
         let universe = self.universe;
         Ok(TypeParameter { name, universe })
     }
 }
 
-impl<P: Phase> Copied for Generic<P> {
-    ghost Seen = { Constrained P.SeenName };
+impl<P: Phase, Q: Phase, W: Walk<P, Q>> Part<Q, W> for Generic<P> {
+    type New = Generic<Q>;
 
-    ghost see = { constrained P.Phase };
+    ghost Kept = { Constrained W.KeptName };
 
-    fn copy(&self, alloc: Global) -> Result<Generic<P>, Memory> {
-        let (parameter, classes) = copy_two(alloc, &self.parameter, &self.classes)?;
+    ghost old = { constrained (before W.Walk) };
+
+    ghost new = { constrained (after W.Walk) };
+
+    fn walked(&self, alloc: Global, walk: &mut W) -> Result<Generic<Q>, Memory> {
+        let (parameter, classes) = walked_two(alloc, &self.parameter, &self.classes, walk)?;
         Ok(Generic { parameter, classes })
     }
 }
 
-impl<P: Phase> Copied for Signature<P> {
-    ghost Seen = { Header P.SeenName };
+impl<P: Phase, Q: Phase, W: Walk<P, Q>> Part<Q, W> for Signature<P> {
+    type New = Signature<Q>;
 
-    ghost see = { header P.Phase };
+    ghost Kept = { Header W.KeptName };
 
-    fn copy(&self, alloc: Global) -> Result<Signature<P>, Memory> {
-        let (name, parameters, result) = copy_three(
+    ghost old = { header (before W.Walk) };
+
+    ghost new = { header (after W.Walk) };
+
+    fn walked(&self, alloc: Global, walk: &mut W) -> Result<Signature<Q>, Memory> {
+        let (name, parameters, result) = walked_three(
             alloc,
             &self.name,
             &self.parameters,
             &self.result,
+            walk,
         )?;
         Ok(Signature {
             name,
@@ -52,24 +67,32 @@ impl<P: Phase> Copied for Signature<P> {
     }
 }
 
-impl<P: Phase> Copied for UnionCase<P> {
-    ghost Seen = { Variant P.SeenName };
+impl<P: Phase, Q: Phase, W: Walk<P, Q>> Part<Q, W> for UnionCase<P> {
+    type New = UnionCase<Q>;
 
-    ghost see = { variant P.Phase };
+    ghost Kept = { Variant W.KeptName };
 
-    fn copy(&self, alloc: Global) -> Result<UnionCase<P>, Memory> {
-        let (name, fields) = copy_two(alloc, &self.name, &self.fields)?;
+    ghost old = { variant (before W.Walk) };
+
+    ghost new = { variant (after W.Walk) };
+
+    fn walked(&self, alloc: Global, walk: &mut W) -> Result<UnionCase<Q>, Memory> {
+        let (name, fields) = walked_two(alloc, &self.name, &self.fields, walk)?;
         Ok(UnionCase { name, fields })
     }
 }
 
-impl<P: Phase> Copied for Method<P> {
-    ghost Seen = { MethodBody P.SeenName P.SeenType P.SeenCall };
+impl<P: Phase, Q: Phase, W: Walk<P, Q>> Part<Q, W> for Method<P> {
+    type New = Method<Q>;
 
-    ghost see = { method_body P.Phase };
+    ghost Kept = { MethodBody W.KeptName W.KeptType W.KeptCall };
 
-    fn copy(&self, alloc: Global) -> Result<Method<P>, Memory> {
-        let (signature, body) = copy_two(alloc, &self.signature, &self.body)?;
+    ghost old = { method_body (before W.Walk) };
+
+    ghost new = { method_body (after W.Walk) };
+
+    fn walked(&self, alloc: Global, walk: &mut W) -> Result<Method<Q>, Memory> {
+        let (signature, body) = walked_two(alloc, &self.signature, &self.body, walk)?;
         let end = self.end;
         Ok(Method {
             signature,
@@ -79,53 +102,81 @@ impl<P: Phase> Copied for Method<P> {
     }
 }
 
-impl<P: Phase> Copied for Decl<P> {
-    ghost Seen = { Declaration P.SeenName P.SeenType P.SeenCall };
+impl<P: Phase, Q: Phase, W: Walk<P, Q>> Part<Q, W> for Decl<P> {
+    type New = Decl<Q>;
 
-    ghost see = { declaration P.Phase };
+    ghost Kept = { Declaration W.KeptName W.KeptType W.KeptCall };
 
-    fn copy(&self, alloc: Global) -> Result<Decl<P>, Memory> {
+    ghost old = { declaration (before W.Walk) };
+
+    ghost new = { declaration (after W.Walk) };
+
+    fn walked(&self, alloc: Global, walk: &mut W) -> Result<Decl<Q>, Memory> {
         match self {
             Decl::Constant(at, name, of) => {
-                let (name, of) = copy_two(alloc, name, of)?;
+                let (name, of) = walked_two(alloc, name, of, walk)?;
                 Ok(Decl::Constant(*at, name, of))
             }
             Decl::Opaque(at, name, parameters, universe) => {
-                let (name, parameters) = copy_two(alloc, name, parameters)?;
+                let (name, parameters) = walked_two(alloc, name, parameters, walk)?;
                 Ok(Decl::Opaque(*at, name, parameters, *universe))
             }
             Decl::Record(at, name, parameters, universe, fields) => {
-                let (name, parameters, fields) = copy_three(alloc, name, parameters, fields)?;
+                let (name, parameters, fields) = walked_three(
+                    alloc, name, parameters, fields, walk,
+                )?;
                 Ok(Decl::Record(*at, name, parameters, *universe, fields))
             }
             Decl::Union(at, name, parameters, universe, cases) => {
-                let (name, parameters, cases) = copy_three(alloc, name, parameters, cases)?;
+                let (name, parameters, cases) = walked_three(alloc, name, parameters, cases, walk)?;
                 Ok(Decl::Union(*at, name, parameters, *universe, cases))
             }
             Decl::Function(at, generics, signature) => {
-                let (generics, signature) = copy_two(alloc, generics, signature)?;
+                let (generics, signature) = walked_two(alloc, generics, signature, walk)?;
                 Ok(Decl::Function(*at, generics, signature))
             }
             Decl::Class(at, name, parameter, methods) => {
-                let (name, parameter, methods) = copy_three(alloc, name, parameter, methods)?;
+                let (name, parameter, methods) = walked_three(
+                    alloc, name, parameter, methods, walk,
+                )?;
                 Ok(Decl::Class(*at, name, parameter, methods))
             }
             Decl::Instance(at, generics, name, of) => {
-                let (generics, name, of) = copy_three(alloc, generics, name, of)?;
+                let (generics, name, of) = walked_three(alloc, generics, name, of, walk)?;
                 Ok(Decl::Instance(*at, generics, name, of))
             }
             Decl::ConstantBody(at, name, of, value) => {
-                let (name, of, value) = copy_three(alloc, name, of, value)?;
+                let (name, of, value) = walked_three(alloc, name, of, value, walk)?;
                 Ok(Decl::ConstantBody(*at, name, of, value))
             }
             Decl::FunctionBody(at, generics, signature, body, end) => {
-                let (generics, signature, body) = copy_three(alloc, generics, signature, body)?;
+                let (generics, signature, body) = walked_three(
+                    alloc, generics, signature, body, walk,
+                )?;
                 Ok(Decl::FunctionBody(*at, generics, signature, body, *end))
             }
             Decl::InstanceBody(at, generics, name, of, methods) => {
-                let (generics, name, of, methods) = copy_four(alloc, generics, name, of, methods)?;
+                let (generics, name, of, methods) = walked_four(
+                    alloc, generics, name, of, methods, walk,
+                )?;
                 Ok(Decl::InstanceBody(*at, generics, name, of, methods))
             }
         }
     }
+}
+
+/// The declaration in the new phase.
+///
+/// # Errors
+///
+/// Only for want of memory.
+pub fn walked_declaration<P: Phase, Q: Phase, W: Walk<P, Q>>(
+    alloc: Global,
+    of: &Decl<P>,
+    walk: &mut W,
+) -> Result<Decl<Q>, Memory>
+    ensures { IfOk result (λ new.
+        declaration (after W.Walk) new ≡ declaration (before W.Walk) of.now) }
+{
+    of.walked(alloc, walk)
 }

@@ -1,15 +1,18 @@
-//! Copies of trees, which say the same, and how deep trees are nested.
+//! Walks that make trees of one phase trees of another; copies, which are walks that change nothing; and how deep
+//! trees are nested.
 #![tactic(auto)]
 
-mod copied;
-mod declarations;
+pub mod declarations;
 mod depths;
-mod expressions;
-mod modules;
+pub mod expressions;
+pub mod modules;
 mod names;
-mod statements;
+mod parts;
+pub mod statements;
 mod types;
+pub mod walks;
 mod wholes;
 
 pub use types::copy_type;
+pub use walks::Walk;
 pub use wholes::{copy_whole, depth_of};

@@ -1,47 +1,61 @@
-//! Copies of names, and of what is declared by a name and a type.
+//! Names, and what is declared by a name and a type.
 
 ghost use Rattle.std.specs.Prelude.{◌≡◌, IfOk};
 ghost use Rattle.au_syntax.specs.Names.{Placed, Renaming};
-ghost use Rattle.au_syntax.specs.Types.{WrittenType, Labelled, Bound};
+ghost use Rattle.au_syntax.specs.Types.{Bound, Labelled, WrittenType};
 ghost use Rattle.au_syntax.specs.Views.{placed, renaming, labelled, bound, written};
+ghost use Rattle.au_copying.specs.Seen.{before, after};
 
-use crate::copied::{Copied, copy_two};
+use crate::parts::{Part, walked_two};
 use crate::types::copy_type;
+use crate::walks::Walk;
 use au_base::Memory;
 use au_syntax::{Bind, Field, Ident, Phase, Renamed, TypeText};
 use std::alloc::Global;
 
-impl Copied for TypeText {
-    ghost Seen = { WrittenType };
+impl<Q: Phase, W> Part<Q, W> for TypeText {
+    type New = TypeText;
 
-    ghost see = { written };
+    ghost Kept = { WrittenType };
 
-    fn copy(&self, alloc: Global) -> Result<TypeText, Memory> {
+    ghost old = { written };
+
+    ghost new = { written };
+
+    fn walked(&self, alloc: Global, _walk: &mut W) -> Result<TypeText, Memory> {
         copy_type(alloc, self)
     }
 }
 
-impl<P: Phase> Copied for Ident<P> {
-    ghost Seen = { Placed P.SeenName };
+impl<P: Phase, Q: Phase, W: Walk<P, Q>> Part<Q, W> for Ident<P> {
+    type New = Ident<Q>;
 
-    ghost see = { placed P.Phase };
+    ghost Kept = { Placed W.KeptName };
 
-    fn copy(&self, alloc: Global) -> Result<Ident<P>, Memory> {
-        let name = P::copy_name(alloc, &self.name)?;
+    ghost old = { placed (before W.Walk) };
+
+    ghost new = { placed (after W.Walk) };
+
+    fn walked(&self, alloc: Global, walk: &mut W) -> Result<Ident<Q>, Memory> {
+        let name = walk.name(alloc, &self.name)?;
         Ok(Ident { name, at: self.at })
     }
 }
 
-impl<P: Phase> Copied for Renamed<P> {
-    ghost Seen = { Renaming P.SeenName };
+impl<P: Phase, Q: Phase, W: Walk<P, Q>> Part<Q, W> for Renamed<P> {
+    type New = Renamed<Q>;
 
-    ghost see = { renaming P.Phase };
+    ghost Kept = { Renaming W.KeptName };
 
-    fn copy(&self, alloc: Global) -> Result<Renamed<P>, Memory> {
-        let name = self.name.copy(alloc)?;
+    ghost old = { renaming (before W.Walk) };
+
+    ghost new = { renaming (after W.Walk) };
+
+    fn walked(&self, alloc: Global, walk: &mut W) -> Result<Renamed<Q>, Memory> {
+        let name = self.name.walked(alloc, walk)?;
         match &self.alias {
             Some(alias) => {
-                let alias = Some(alias.copy(alloc)?);
+                let alias = Some(alias.walked(alloc, walk)?);
                 Ok(Renamed { name, alias })
             }
             None => Ok(Renamed { name, alias: None }),
@@ -49,24 +63,32 @@ impl<P: Phase> Copied for Renamed<P> {
     }
 }
 
-impl<P: Phase> Copied for Field<P> {
-    ghost Seen = { Labelled P.SeenName };
+impl<P: Phase, Q: Phase, W: Walk<P, Q>> Part<Q, W> for Field<P> {
+    type New = Field<Q>;
 
-    ghost see = { labelled P.Phase };
+    ghost Kept = { Labelled W.KeptName };
 
-    fn copy(&self, alloc: Global) -> Result<Field<P>, Memory> {
-        let (name, of) = copy_two(alloc, &self.name, &self.of)?;
+    ghost old = { labelled (before W.Walk) };
+
+    ghost new = { labelled (after W.Walk) };
+
+    fn walked(&self, alloc: Global, walk: &mut W) -> Result<Field<Q>, Memory> {
+        let (name, of) = walked_two(alloc, &self.name, &self.of, walk)?;
         Ok(Field { name, of })
     }
 }
 
-impl<P: Phase> Copied for Bind<P> {
-    ghost Seen = { Bound P.SeenName };
+impl<P: Phase, Q: Phase, W: Walk<P, Q>> Part<Q, W> for Bind<P> {
+    type New = Bind<Q>;
 
-    ghost see = { bound P.Phase };
+    ghost Kept = { Bound W.KeptName };
 
-    fn copy(&self, alloc: Global) -> Result<Bind<P>, Memory> {
-        let (name, of) = copy_two(alloc, &self.name, &self.of)?;
+    ghost old = { bound (before W.Walk) };
+
+    ghost new = { bound (after W.Walk) };
+
+    fn walked(&self, alloc: Global, walk: &mut W) -> Result<Bind<Q>, Memory> {
+        let (name, of) = walked_two(alloc, &self.name, &self.of, walk)?;
         Ok(Bind { name, of })
     }
 }

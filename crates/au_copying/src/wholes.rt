@@ -7,7 +7,8 @@ ghost use Rattle.au_syntax.specs.Files.{says};
 ghost use Rattle.au_syntax.specs.Views.{module_tree};
 
 use crate::depths::module_depth;
-use crate::modules::copy_module;
+use crate::modules::walked_module;
+use crate::walks::Copying;
 use au_base::Memory;
 use au_syntax::{Phase, Whole};
 use std::alloc::Global;
@@ -20,7 +21,7 @@ use std::alloc::Global;
 pub fn copy_whole<P: Phase>(alloc: Global, whole: &Whole<P>) -> Result<Whole<P>, Memory>
     ensures { IfOk result (λ copy. module_tree P.Phase copy.tree ≡ module_tree P.Phase whole.now.tree) }
 {
-    let tree = copy_module(alloc, whole.tree())?;
+    let tree = walked_module(alloc, whole.tree(), &mut Copying)?;
     Ok(Whole::new(tree))
 }
 

@@ -11,7 +11,7 @@ use Rattle.au_syntax.specs.Plain.{plain_expression, plain_statement, plain_state
 use Rattle.au_syntax.specs.Plain.{plain_module}
 use Rattle.au_syntax.specs.Notes.{notes_of_expression, notes_of_statement, notes_of_statements}
 use Rattle.au_syntax.specs.Notes.{notes_of_declaration, notes_of_module}
-use Rattle.au_mapping.specs.Words.{marked, wanted}
+use Rattle.au_mapping.proofs.Words.{marked, wanted}
 use Rattle.au_mapping.proofs.WordLemmas.{kept, expression_words, statement_words, block_words}
 use Rattle.au_mapping.proofs.WordLemmas.{declaration_words, module_words}
 use Rattle.au_mapping.proofs.NoteLemmas.{held, expression_marks, statement_marks, block_marks}

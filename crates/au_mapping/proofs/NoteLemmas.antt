@@ -32,7 +32,7 @@ use Rattle.au_syntax.specs.Views.{module_tree}
 use Rattle.au_syntax.specs.Notes.{notes_of_expression, notes_of_expressions, notes_of_arguments}
 use Rattle.au_syntax.specs.Notes.{notes_of_statement, notes_of_statements, notes_of_branches, notes_of_arms}
 use Rattle.au_syntax.specs.Notes.{notes_of_method, notes_of_declaration, notes_of_module}
-use Rattle.au_mapping.specs.Words.{by_marks}
+use Rattle.au_mapping.proofs.Words.{by_marks}
 
 -- a mark that is true
 abbrev pub held : Bool → Bool

@@ -40,7 +40,7 @@ use Rattle.au_syntax.specs.Plain.{plain_in_universe, plain_constrained, plain_he
 use Rattle.au_syntax.specs.Plain.{plain_expression, plain_expressions, plain_arguments, plain_statement}
 use Rattle.au_syntax.specs.Plain.{plain_statements, plain_branches, plain_arms, plain_method}
 use Rattle.au_syntax.specs.Plain.{plain_declaration, plain_importing, plain_module}
-use Rattle.au_mapping.specs.Words.{by_marks}
+use Rattle.au_mapping.proofs.Words.{by_marks}
 
 -- lists that are mapped twice to the same items
 pub twice : {A B C D : Type 0} (f : A → B) (p : B → D) (h : A → C) (q : C → D) →

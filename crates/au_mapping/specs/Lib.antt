@@ -1,3 +1,2 @@
-pub mod Words
 pub use Rattle.au_syntax.specs.Views
 pub use Rattle.au_syntax.specs.Files

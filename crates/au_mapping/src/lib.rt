@@ -4,8 +4,6 @@
 pub mod declarations;
 pub mod expressions;
 pub mod modules;
-mod names;
-mod parts;
 pub mod statements;
 pub mod turns;
 pub mod wholes;

@@ -1,58 +1,15 @@
 //! Modules of one phase as modules of another.
 
-ghost use Rattle.std.specs.Prelude.{◌≡◌, ℕ, List, IfOk, IsTrue};
-ghost use Rattle.au_syntax.specs.Modules.{Importing};
+ghost use Rattle.std.specs.Prelude.{◌≡◌, IfOk, IsTrue};
 ghost use Rattle.au_syntax.specs.Notes.{notes_of_module};
 ghost use Rattle.au_syntax.specs.Plain.{plain_module};
-ghost use Rattle.au_syntax.specs.Views.{importing, module_tree};
-ghost use Rattle.au_mapping.specs.Words.{marked, wanted};
+ghost use Rattle.au_syntax.specs.Views.{module_tree};
 
-use crate::parts::{Part, turned_three, turned_two};
-use crate::turns::Turn;
+use crate::turns::{Turn, Turning};
 use au_base::Memory;
-use au_syntax::{Import, Module, Phase};
+use au_copying::modules::walked_module;
+use au_syntax::{Module, Phase};
 use std::alloc::Global;
-
-impl<P: Phase, Q: Phase, F: Turn<P, Q>> Part<Q, F> for Import<P> {
-    type New = Import<Q>;
-
-    ghost Kept = { Importing (List ℕ) };
-
-    ghost old = { importing (wanted P.Phase) };
-
-    ghost new = { importing (marked Q.Phase) };
-
-    fn turned(&self, alloc: Global, turn: &mut F) -> Result<Import<Q>, Memory> {
-        let (module, items) = turned_two(alloc, &self.module, &self.items, turn)?;
-        let at = self.at;
-        Ok(Import { at, module, items })
-    }
-}
-
-/// The module in the new phase.
-fn turned_module<P: Phase, Q: Phase, F: Turn<P, Q>>(
-    alloc: Global,
-    of: &Module<P>,
-    turn: &mut F,
-) -> Result<Module<Q>, Memory>
-    ensures { IfOk result (λ new. module_tree (marked Q.Phase) new ≡ module_tree (wanted P.Phase) of.now) }
-{
-    let (imports, name, declarations) = turned_three(
-        alloc,
-        &of.imports,
-        &of.name,
-        &of.declarations,
-        turn,
-    )?;
-    Ok(Module {
-        imports,
-        at: of.at,
-        part: of.part,
-        name,
-        pragma: of.pragma,
-        declarations,
-    })
-}
 
 /// The same module in another phase.
 ///
@@ -70,6 +27,6 @@ pub fn map_module<P: Phase, Q: Phase, F: Turn<P, Q>>(
     ensures notes { IfOk result (λ new.
         IsTrue (notes_of_module Q.allows_type Q.allows_call (module_tree Q.Phase new))) }
 {
-    let new = turned_module(alloc, &module, turn)?;
+    let new = walked_module(alloc, &module, &mut Turning { turn })?;
     Ok(new)
 }

@@ -1,16 +1,16 @@
 use Rattle.std.proofs.Common.{arith}
 use Rattle.au_syntax.proofs.DeclarationLemmas.{constant_says, constant_body_says}
-use Rattle.au_mapping.proofs.BlockLemmas.{function_body_turned}
-use Rattle.au_mapping.proofs.DeclarationLemmas.{opaque_turned, record_turned, union_turned, function_turned}
-use Rattle.au_mapping.proofs.DeclarationLemmas.{class_turned, instance_turned, instance_body_turned}
-use Rattle.au_mapping.proofs.declarations.DeclPart.turned.Goals as goal
+use Rattle.au_copying.proofs.BlockLemmas.{function_body_walked}
+use Rattle.au_copying.proofs.DeclarationLemmas.{opaque_walked, record_walked, union_walked, function_walked}
+use Rattle.au_copying.proofs.DeclarationLemmas.{class_walked, instance_walked, instance_body_walked}
+use Rattle.au_copying.proofs.declarations.DeclPart.walked.Goals as goal
 
 pub returns-in_ok-name-in-Constant : goal.returns-in_ok-name-in-Constant
 returns-in_ok-name-in-Constant g c = grind (arith, constant_says)
 
 pub returns-in_ok-name-in-Opaque : goal.returns-in_ok-name-in-Opaque
 returns-in_ok-name-in-Opaque g c =
-    opaque_turned g.Q.Phase g.P.Phase c.args.self.now c.in-Opaque.at
+    opaque_walked g.W.Walk c.args.self.now c.in-Opaque.at
     c.in-Opaque.name c.in_ok-name-in-Opaque.name
     c.in-Opaque.parameters c.in_ok-name-in-Opaque.parameters
     c.in-Opaque.universe
@@ -20,7 +20,7 @@ returns-in_ok-name-in-Opaque g c =
 
 pub returns-in_ok-name-in-Record : goal.returns-in_ok-name-in-Record
 returns-in_ok-name-in-Record g c =
-    record_turned g.Q.Phase g.P.Phase c.args.self.now c.in-Record.at
+    record_walked g.W.Walk c.args.self.now c.in-Record.at
     c.in-Record.name c.in_ok-name-in-Record.name
     c.in-Record.parameters c.in_ok-name-in-Record.parameters
     c.in-Record.universe
@@ -32,7 +32,7 @@ returns-in_ok-name-in-Record g c =
 
 pub returns-in_ok-name-in-Union : goal.returns-in_ok-name-in-Union
 returns-in_ok-name-in-Union g c =
-    union_turned g.Q.Phase g.P.Phase c.args.self.now c.in-Union.at
+    union_walked g.W.Walk c.args.self.now c.in-Union.at
     c.in-Union.name c.in_ok-name-in-Union.name
     c.in-Union.parameters c.in_ok-name-in-Union.parameters
     c.in-Union.universe
@@ -44,7 +44,7 @@ returns-in_ok-name-in-Union g c =
 
 pub returns-in_ok-generics-in-Function : goal.returns-in_ok-generics-in-Function
 returns-in_ok-generics-in-Function g c =
-    function_turned g.Q.Phase g.P.Phase c.args.self.now c.in-Function.at
+    function_walked g.W.Walk c.args.self.now c.in-Function.at
     c.in-Function.generics c.in_ok-generics-in-Function.generics
     c.in-Function.signature c.in_ok-generics-in-Function.signature
     c.in-Function.is
@@ -53,7 +53,7 @@ returns-in_ok-generics-in-Function g c =
 
 pub returns-in_ok-name-in-Class : goal.returns-in_ok-name-in-Class
 returns-in_ok-name-in-Class g c =
-    class_turned g.Q.Phase g.P.Phase c.args.self.now c.in-Class.at
+    class_walked g.W.Walk c.args.self.now c.in-Class.at
     c.in-Class.name c.in_ok-name-in-Class.name
     c.in-Class.parameter c.in_ok-name-in-Class.parameter
     c.in-Class.methods c.in_ok-name-in-Class.methods
@@ -64,7 +64,7 @@ returns-in_ok-name-in-Class g c =
 
 pub returns-in_ok-generics-in-Instance : goal.returns-in_ok-generics-in-Instance
 returns-in_ok-generics-in-Instance g c =
-    instance_turned g.Q.Phase g.P.Phase c.args.self.now c.in-Instance.at
+    instance_walked g.W.Walk c.args.self.now c.in-Instance.at
     c.in-Instance.generics c.in_ok-generics-in-Instance.generics
     c.in-Instance.name c.in_ok-generics-in-Instance.name
     c.in-Instance.of c.in_ok-generics-in-Instance.of
@@ -78,7 +78,7 @@ returns-in_ok-name-in-ConstantBody g c = grind (arith, constant_body_says)
 
 pub returns-in_ok-generics-in-InstanceBody : goal.returns-in_ok-generics-in-InstanceBody
 returns-in_ok-generics-in-InstanceBody g c =
-    instance_body_turned g.Q.Phase g.P.Phase c.args.self.now c.in-InstanceBody.at
+    instance_body_walked g.W.Walk c.args.self.now c.in-InstanceBody.at
     c.in-InstanceBody.generics c.in_ok-generics-in-InstanceBody.generics
     c.in-InstanceBody.name c.in_ok-generics-in-InstanceBody.name
     c.in-InstanceBody.of c.in_ok-generics-in-InstanceBody.of
@@ -91,7 +91,7 @@ returns-in_ok-generics-in-InstanceBody g c =
 
 pub returns-in_ok-generics-in-FunctionBody : goal.returns-in_ok-generics-in-FunctionBody
 returns-in_ok-generics-in-FunctionBody g c =
-    function_body_turned g.Q.Phase g.P.Phase c.args.self.now c.in-FunctionBody.at
+    function_body_walked g.W.Walk c.args.self.now c.in-FunctionBody.at
     c.in-FunctionBody.generics c.in_ok-generics-in-FunctionBody.generics
     c.in-FunctionBody.signature c.in_ok-generics-in-FunctionBody.signature
     c.in-FunctionBody.body c.in_ok-generics-in-FunctionBody.body c.in-FunctionBody.end

@@ -1,4 +1,4 @@
-//! What can be turned alone: lists and parts that stand beside each other, by turning their items.
+//! What can be walked alone: lists and parts that stand beside each other, by walks of their items.
 
 ghost use Rattle.std.specs.Prelude.{◌≡◌, List, IfOk, map};
 
@@ -6,8 +6,8 @@ use au_base::Memory;
 use au_syntax::Phase;
 use std::alloc::Global;
 
-/// A part of a tree that becomes one of another phase.
-pub(crate) trait Part<Q: Phase, F> {
+/// A part of a tree, which a walk makes one of another phase.
+pub(crate) trait Part<Q: Phase, W> {
     type New: Drop;
 
     // what is kept of a part: its words, and that each note is allowed
@@ -18,11 +18,11 @@ pub(crate) trait Part<Q: Phase, F> {
     ghost new: { Self.New → Kept };
 
     /// The part in the new phase.
-    fn turned(&self, alloc: Global, turn: &mut F) -> Result<Self::New, Memory>
+    fn walked(&self, alloc: Global, walk: &mut W) -> Result<Self::New, Memory>
         ensures { IfOk result (λ made. new made ≡ old self.now) };
 }
 
-impl<Q: Phase, F, T: Part<Q, F>> Part<Q, F> for Vec<T> {
+impl<Q: Phase, W, T: Part<Q, W>> Part<Q, W> for Vec<T> {
     type New = Vec<T::New>;
 
     ghost Kept = { List T.Kept };
@@ -31,75 +31,75 @@ impl<Q: Phase, F, T: Part<Q, F>> Part<Q, F> for Vec<T> {
 
     ghost new = { λ items. map T.new items.items };
 
-    fn turned(&self, alloc: Global, turn: &mut F) -> Result<Vec<T::New>, Memory> {
-        turned_all(alloc, self, turn)
+    fn walked(&self, alloc: Global, walk: &mut W) -> Result<Vec<T::New>, Memory> {
+        walked_all(alloc, self, walk)
     }
 }
 
 /// The items of a vector, each in its place.
-fn turned_all<Q: Phase, F, T: Part<Q, F>>(
+fn walked_all<Q: Phase, W, T: Part<Q, W>>(
     alloc: Global,
     items: &Vec<T>,
-    turn: &mut F,
+    walk: &mut W,
 ) -> Result<Vec<T::New>, Memory>
     ensures { IfOk result (λ made. map T.new made.items ≡ map T.old items.now.items) }
 {
     let mut made = Vec::new(alloc);
     for one in items {
-        let new = one.turned(alloc, turn)?;
+        let new = one.walked(alloc, walk)?;
         made.push(new)?;
     }
     Ok(made)
 }
 
 /// Two parts.
-pub(crate) fn turned_two<Q: Phase, F, A: Part<Q, F>, B: Part<Q, F>>(
+pub(crate) fn walked_two<Q: Phase, W, A: Part<Q, W>, B: Part<Q, W>>(
     alloc: Global,
     first: &A,
     second: &B,
-    turn: &mut F,
+    walk: &mut W,
 ) -> Result<(A::New, B::New), Memory>
     ensures first { IfOk result (λ made. A.new made.0 ≡ A.old first.now) }
     ensures second { IfOk result (λ made. B.new made.1 ≡ B.old second.now) }
 {
-    let first = first.turned(alloc, turn)?;
-    let second = second.turned(alloc, turn)?;
+    let first = first.walked(alloc, walk)?;
+    let second = second.walked(alloc, walk)?;
     Ok((first, second))
 }
 
 /// Three parts.
-pub(crate) fn turned_three<Q: Phase, F, A: Part<Q, F>, B: Part<Q, F>, C: Part<Q, F>>(
+pub(crate) fn walked_three<Q: Phase, W, A: Part<Q, W>, B: Part<Q, W>, C: Part<Q, W>>(
     alloc: Global,
     first: &A,
     second: &B,
     third: &C,
-    turn: &mut F,
+    walk: &mut W,
 ) -> Result<(A::New, B::New, C::New), Memory>
     ensures first { IfOk result (λ made. A.new made.0 ≡ A.old first.now) }
     ensures second { IfOk result (λ made. B.new made.1 ≡ B.old second.now) }
     ensures third { IfOk result (λ made. C.new made.2 ≡ C.old third.now) }
 {
-    let first = first.turned(alloc, turn)?;
-    let second = second.turned(alloc, turn)?;
-    let third = third.turned(alloc, turn)?;
+    let first = first.walked(alloc, walk)?;
+    let second = second.walked(alloc, walk)?;
+    let third = third.walked(alloc, walk)?;
     Ok((first, second, third))
 }
 
 /// Four parts.
-pub(crate) fn turned_four<Q: Phase, F, A: Part<Q, F>, B: Part<Q, F>, C: Part<Q, F>, D: Part<Q, F>>(
+pub(crate) fn walked_four<Q: Phase, W, A: Part<Q, W>, B: Part<Q, W>, C: Part<Q, W>, D: Part<Q, W>>(
     alloc: Global,
     first: &A,
     second: &B,
     third: &C,
     fourth: &D,
-    turn: &mut F,
+    walk: &mut W,
 ) -> Result<(A::New, B::New, C::New, D::New), Memory>
     ensures first { IfOk result (λ made. A.new made.0 ≡ A.old first.now) }
     ensures second { IfOk result (λ made. B.new made.1 ≡ B.old second.now) }
     ensures third { IfOk result (λ made. C.new made.2 ≡ C.old third.now) }
     ensures fourth { IfOk result (λ made. D.new made.3 ≡ D.old fourth.now) }
 {
-    let (first, second) = turned_two(alloc, first, second, turn)?;
-    let (third, fourth) = turned_two(alloc, third, fourth, turn)?;
+    let (first, second) = walked_two(alloc, first, second, walk)?;
+    let (third, fourth) = walked_two(alloc, third, fourth, walk)?;
     Ok((first, second, third, fourth))
 }

@@ -2,7 +2,7 @@
 use Rattle.std.proofs.Common.{◌≡◌, map, Vec, ap, ◌∙◌, sym}
 use Rattle.std.specs.Global.{Global}
 use Rattle.au_base.specs.declared.places.Pos.{Pos}
-use Rattle.au_syntax.specs.declared.phases.Phase.{Ghosts}
+use Rattle.au_syntax.specs.declared.phases.Phase as phase
 use Rattle.au_syntax.specs.declared.types.TypeText.{TypeText}
 use Rattle.au_syntax.specs.declared.names.Ident.{Ident}
 use Rattle.au_syntax.specs.declared.names.Field.{Field}
@@ -21,16 +21,17 @@ use Rattle.au_syntax.specs.Views.{method_body, declaration}
 use Rattle.au_syntax.proofs.DeclarationLemmas.{opaque_says, record_says, union_says, function_says}
 use Rattle.au_syntax.proofs.DeclarationLemmas.{class_says}
 use Rattle.au_syntax.proofs.DeclarationLemmas.{instance_says, instance_body_says}
-use Rattle.au_mapping.specs.Words.{marked, wanted}
+use Rattle.au_copying.specs.declared.walks.Walk.{Ghosts}
+use Rattle.au_copying.specs.Seen.{before, after}
 
-module _ {X N T C Y M U D : Type 0} (q : Ghosts Y M U D) (p : Ghosts X N T C) where
-  abbrev n : Ghosts Y M U D
-  n = marked q
+module _ {W X N T C Y M U D : Type 0} (w : Ghosts W X Y N T C M U D) where
+  abbrev n : phase.Ghosts Y M U D
+  n = after w
 
-  abbrev o : Ghosts X N T C
-  o = wanted p
+  abbrev o : phase.Ghosts X N T C
+  o = before w
 
-  pub opaque_turned : (old : Decl X N T C) (at : Pos)
+  pub opaque_walked : (old : Decl X N T C) (at : Pos)
       (x : Ident X N T C) (x' : Ident Y M U D)
       (ps : Vec (TypeParameter X N T C) Global) (ps' : Vec (TypeParameter Y M U D) Global)
       (u : Universe) →
@@ -38,13 +39,13 @@ module _ {X N T C Y M U D : Type 0} (q : Ghosts Y M U D) (p : Ghosts X N T C) wh
       placed n x' ≡ placed o x →
       map (in_universe n) ps'.items ≡ map (in_universe o) ps.items →
       declaration n (decl.Opaque at x' ps' u) ≡ declaration o old
-  opaque_turned old at x x' ps ps' u is first second =
+  opaque_walked old at x x' ps ps' u is first second =
       opaque_says n at x' ps' u
       ∙ ap (λ y. opaque_type at y (map (in_universe n) ps'.items) u) first
       ∙ ap (λ y. opaque_type at (placed o x) y u) second
       ∙ sym (ap (declaration o) is ∙ opaque_says o at x ps u)
 
-  pub record_turned : (old : Decl X N T C) (at : Pos)
+  pub record_walked : (old : Decl X N T C) (at : Pos)
       (x : Ident X N T C) (x' : Ident Y M U D)
       (ps : Vec (TypeParameter X N T C) Global) (ps' : Vec (TypeParameter Y M U D) Global)
       (u : Universe)
@@ -54,14 +55,14 @@ module _ {X N T C Y M U D : Type 0} (q : Ghosts Y M U D) (p : Ghosts X N T C) wh
       map (in_universe n) ps'.items ≡ map (in_universe o) ps.items →
       map (labelled n) fs'.items ≡ map (labelled o) fs.items →
       declaration n (decl.Record at x' ps' u fs') ≡ declaration o old
-  record_turned old at x x' ps ps' u fs fs' is first second third =
+  record_walked old at x x' ps ps' u fs fs' is first second third =
       record_says n at x' ps' u fs'
       ∙ ap (λ y. record_type at y (map (in_universe n) ps'.items) u (map (labelled n) fs'.items)) first
       ∙ ap (λ y. record_type at (placed o x) y u (map (labelled n) fs'.items)) second
       ∙ ap (λ y. record_type at (placed o x) (map (in_universe o) ps.items) u y) third
       ∙ sym (ap (declaration o) is ∙ record_says o at x ps u fs)
 
-  pub union_turned : (old : Decl X N T C) (at : Pos)
+  pub union_walked : (old : Decl X N T C) (at : Pos)
       (x : Ident X N T C) (x' : Ident Y M U D)
       (ps : Vec (TypeParameter X N T C) Global) (ps' : Vec (TypeParameter Y M U D) Global)
       (u : Universe)
@@ -71,27 +72,27 @@ module _ {X N T C Y M U D : Type 0} (q : Ghosts Y M U D) (p : Ghosts X N T C) wh
       map (in_universe n) ps'.items ≡ map (in_universe o) ps.items →
       map (variant n) cs'.items ≡ map (variant o) cs.items →
       declaration n (decl.Union at x' ps' u cs') ≡ declaration o old
-  union_turned old at x x' ps ps' u cs cs' is first second third =
+  union_walked old at x x' ps ps' u cs cs' is first second third =
       union_says n at x' ps' u cs'
       ∙ ap (λ y. union_type at y (map (in_universe n) ps'.items) u (map (variant n) cs'.items)) first
       ∙ ap (λ y. union_type at (placed o x) y u (map (variant n) cs'.items)) second
       ∙ ap (λ y. union_type at (placed o x) (map (in_universe o) ps.items) u y) third
       ∙ sym (ap (declaration o) is ∙ union_says o at x ps u cs)
 
-  pub function_turned : (old : Decl X N T C) (at : Pos)
+  pub function_walked : (old : Decl X N T C) (at : Pos)
       (gs : Vec (Generic X N T C) Global) (gs' : Vec (Generic Y M U D) Global)
       (s : Signature X N T C) (s' : Signature Y M U D) →
       old ≡ decl.Function at gs s →
       map (constrained n) gs'.items ≡ map (constrained o) gs.items →
       header n s' ≡ header o s →
       declaration n (decl.Function at gs' s') ≡ declaration o old
-  function_turned old at gs gs' s s' is first second =
+  function_walked old at gs gs' s s' is first second =
       function_says n at gs' s'
       ∙ ap (λ y. function at y (header n s')) first
       ∙ ap (λ y. function at (map (constrained o) gs.items) y) second
       ∙ sym (ap (declaration o) is ∙ function_says o at gs s)
 
-  pub class_turned : (old : Decl X N T C) (at : Pos)
+  pub class_walked : (old : Decl X N T C) (at : Pos)
       (x : Ident X N T C) (x' : Ident Y M U D)
       (r : TypeParameter X N T C) (r' : TypeParameter Y M U D)
       (ms : Vec (Signature X N T C) Global) (ms' : Vec (Signature Y M U D) Global) →
@@ -100,14 +101,14 @@ module _ {X N T C Y M U D : Type 0} (q : Ghosts Y M U D) (p : Ghosts X N T C) wh
       in_universe n r' ≡ in_universe o r →
       map (header n) ms'.items ≡ map (header o) ms.items →
       declaration n (decl.Class at x' r' ms') ≡ declaration o old
-  class_turned old at x x' r r' ms ms' is first second third =
+  class_walked old at x x' r r' ms ms' is first second third =
       class_says n at x' r' ms'
       ∙ ap (λ y. class at y (in_universe n r') (map (header n) ms'.items)) first
       ∙ ap (λ y. class at (placed o x) y (map (header n) ms'.items)) second
       ∙ ap (λ y. class at (placed o x) (in_universe o r) y) third
       ∙ sym (ap (declaration o) is ∙ class_says o at x r ms)
 
-  pub instance_turned : (old : Decl X N T C) (at : Pos)
+  pub instance_walked : (old : Decl X N T C) (at : Pos)
       (gs : Vec (Generic X N T C) Global) (gs' : Vec (Generic Y M U D) Global)
       (x : Ident X N T C) (x' : Ident Y M U D)
       (t t' : TypeText) →
@@ -116,14 +117,14 @@ module _ {X N T C Y M U D : Type 0} (q : Ghosts Y M U D) (p : Ghosts X N T C) wh
       placed n x' ≡ placed o x →
       written t' ≡ written t →
       declaration n (decl.Instance at gs' x' t') ≡ declaration o old
-  instance_turned old at gs gs' x x' t t' is first second third =
+  instance_walked old at gs gs' x x' t t' is first second third =
       instance_says n at gs' x' t'
       ∙ ap (λ y. instance at y (placed n x') (written t')) first
       ∙ ap (λ y. instance at (map (constrained o) gs.items) y (written t')) second
       ∙ ap (λ y. instance at (map (constrained o) gs.items) (placed o x) y) third
       ∙ sym (ap (declaration o) is ∙ instance_says o at gs x t)
 
-  pub instance_body_turned : (old : Decl X N T C) (at : Pos)
+  pub instance_body_walked : (old : Decl X N T C) (at : Pos)
       (gs : Vec (Generic X N T C) Global) (gs' : Vec (Generic Y M U D) Global)
       (x : Ident X N T C) (x' : Ident Y M U D)
       (t t' : TypeText)
@@ -134,7 +135,7 @@ module _ {X N T C Y M U D : Type 0} (q : Ghosts Y M U D) (p : Ghosts X N T C) wh
       written t' ≡ written t →
       map (method_body n) ms'.items ≡ map (method_body o) ms.items →
       declaration n (decl.InstanceBody at gs' x' t' ms') ≡ declaration o old
-  instance_body_turned old at gs gs' x x' t t' ms ms' is first second third fourth =
+  instance_body_walked old at gs gs' x x' t t' ms ms' is first second third fourth =
       instance_body_says n at gs' x' t' ms'
       ∙ ap (λ y. instance_body at y (placed n x') (written t') (map (method_body n) ms'.items)) first
       ∙ ap (λ y. instance_body at (map (constrained o) gs.items) y (written t')

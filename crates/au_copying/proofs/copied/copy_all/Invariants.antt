@@ -1,6 +1,0 @@
-use Rattle.std.proofs.Common.{◌≡◌, take, map}
-use Rattle.au_copying.proofs.copied.copy_all.Given as goal
-
--- the items copied so far
-abbrev pub invariant-loop-one : goal.invariant-loop-one
-invariant-loop-one g l = map g.T.Copied.see l.copies.items ≡ map g.T.Copied.see (take l.one-index l.one-items)
