@@ -12,12 +12,15 @@ use Rattle.au_copying.specs.declared.walks.Walk.{Ghosts}
 use Rattle.au_copying.specs.Seen.{before, after}
 
 -- an item is smaller than the list that holds it; functions are ranked where they take one value
-pub item_falls : (ranks low high : ℕ) → low < high → {A : Type 0} (size : A → ℕ) (xs ys : List A) (i : ℕ) (x : A) (t : ℕ) → ranks * most size ys + high ≡ t → xs ≡ ys → i < length xs → x ≡ get_or xs i x → ranks * size x + low < t
+pub item_falls : (ranks low high : ℕ) → low < high → {A : Type 0} (size : A → ℕ) (xs ys : List A) (i : ℕ)
+    (x : A) (t : ℕ) → ranks * most size ys + high ≡ t → xs ≡ ys → i < length xs → x ≡ get_or xs i x →
+    ranks * size x + low < t
 item_falls ranks low high lower size xs ys i x t total same inside is =
     let small : size (get_or xs i x) ≤ most size xs = at_most size xs i x inside in
     let here : size x ≡ size (get_or xs i x) = ap size is in
     let all : most size xs ≡ most size ys = ap (most size) same in
-    let under : ranks * size x + low < ranks * most size ys + high = ranked_below ranks low high (size x) (most size ys) lower (omega (arith, small, here, all)) in
+    let under : ranks * size x + low < ranks * most size ys + high =
+        ranked_below ranks low high (size x) (most size ys) lower (omega (arith, small, here, all)) in
     omega (arith, under, total)
 
 -- an item of a block is smaller than the block

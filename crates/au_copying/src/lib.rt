@@ -1,5 +1,5 @@
-//! Walks that make trees of one phase trees of another; copies, which are walks that change nothing; and how deep
-//! trees are nested.
+//! Walks that make trees of one phase trees of another; copies, which are walks that change nothing; and how
+//! deep trees are nested.
 #![tactic(auto)]
 
 pub mod declarations;

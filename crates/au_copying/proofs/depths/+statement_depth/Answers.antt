@@ -5,13 +5,18 @@ use Rattle.au_syntax.specs.declared.statements.Branch.{size-Branch}
 use Rattle.au_syntax.specs.Views as view
 use Rattle.au_syntax.specs.Plain as plain
 use Rattle.au_syntax.specs.Depths as spec
-use Rattle.au_syntax.proofs.StatementLemmas.{let_says, destructure_says, assign_says, assign_through_says, if_says, if_else_says, case_says, while_says, for_says, borrow_says, borrow_typed_says, call_says, return_says, skip_says}
+use Rattle.au_syntax.proofs.StatementLemmas.{let_says, destructure_says, assign_says, assign_through_says}
+use Rattle.au_syntax.proofs.StatementLemmas.{if_says, if_else_says, case_says, while_says, for_says}
+use Rattle.au_syntax.proofs.StatementLemmas.{borrow_says, borrow_typed_says, call_says, return_says}
+use Rattle.au_syntax.proofs.StatementLemmas.{skip_says}
 use Rattle.au_syntax.proofs.DepthLemmas as lemmas
 use Rattle.au_copying.proofs.depths.+statement_depth.Goals as goal
 
 pub block_depth-returns : goal.block_depth-returns
 block_depth-returns g t c =
-    c.loop-one.invariant ∙ ap (λ r. spec.counted (spec.block_depth (plain.plain_statements g.P.Phase.name_bytes (view.statement_all g.P.Phase r)))) (take_all c.loop-one.one-index c.deref-one-items.result.now c.loop-one-test.false ∙ c.deref-one-items.ensures.value)
+    c.loop-one.invariant ∙ ap (λ r. spec.counted (spec.block_depth (plain.plain_statements
+    g.P.Phase.name_bytes (view.statement_all g.P.Phase r)))) (take_all c.loop-one.one-index
+    c.deref-one-items.result.now c.loop-one-test.false ∙ c.deref-one-items.ensures.value)
 
 pub block_depth-loop-one-preserved : goal.block_depth-loop-one-preserved
 block_depth-loop-one-preserved g t c =
@@ -21,7 +26,9 @@ block_depth-loop-one-preserved g t c =
 
 pub branches_depth-returns : goal.branches_depth-returns
 branches_depth-returns g t c =
-    c.loop-one.invariant ∙ ap (λ r. spec.counted (spec.branches_depth (plain.plain_branches g.P.Phase.name_bytes (view.branch_all g.P.Phase r)))) (take_all c.loop-one.one-index c.deref-one-items.result.now c.loop-one-test.false ∙ c.deref-one-items.ensures.value)
+    c.loop-one.invariant ∙ ap (λ r. spec.counted (spec.branches_depth (plain.plain_branches
+    g.P.Phase.name_bytes (view.branch_all g.P.Phase r)))) (take_all c.loop-one.one-index
+    c.deref-one-items.result.now c.loop-one-test.false ∙ c.deref-one-items.ensures.value)
 
 pub branches_depth-loop-one-preserved : goal.branches_depth-loop-one-preserved
 branches_depth-loop-one-preserved g t c =
@@ -31,7 +38,9 @@ branches_depth-loop-one-preserved g t c =
 
 pub arms_depth-returns : goal.arms_depth-returns
 arms_depth-returns g t c =
-    c.loop-one.invariant ∙ ap (λ r. spec.counted (spec.arms_depth (plain.plain_arms g.P.Phase.name_bytes (view.arm_all g.P.Phase r)))) (take_all c.loop-one.one-index c.deref-one-items.result.now c.loop-one-test.false ∙ c.deref-one-items.ensures.value)
+    c.loop-one.invariant ∙ ap (λ r. spec.counted (spec.arms_depth (plain.plain_arms g.P.Phase.name_bytes
+    (view.arm_all g.P.Phase r)))) (take_all c.loop-one.one-index c.deref-one-items.result.now
+    c.loop-one-test.false ∙ c.deref-one-items.ensures.value)
 
 pub arms_depth-loop-one-preserved : goal.arms_depth-loop-one-preserved
 arms_depth-loop-one-preserved g t c =

@@ -8,7 +8,9 @@ use Rattle.au_copying.proofs.depths.methods_depth.Goals as goal
 
 pub returns : goal.returns
 returns g c =
-    c.loop-one.invariant ∙ ap (λ r. spec.counted (spec.greatest spec.method_depth (map (plain.plain_method g.P.Phase.name_bytes) (map (view.method_body g.P.Phase) r)))) (take_all c.loop-one.one-index c.deref-one-items.result.now c.loop-one-test.false ∙ c.deref-one-items.ensures.value)
+    c.loop-one.invariant ∙ ap (λ r. spec.counted (spec.greatest spec.method_depth (map (plain.plain_method
+    g.P.Phase.name_bytes) (map (view.method_body g.P.Phase) r)))) (take_all c.loop-one.one-index
+    c.deref-one-items.result.now c.loop-one-test.false ∙ c.deref-one-items.ensures.value)
 
 pub loop-one-preserved : goal.loop-one-preserved
 loop-one-preserved g c =

@@ -12,10 +12,13 @@ copy_type-returns-in_ok-region-in-Reference t c = grind (arith, reference_writte
 
 pub copy_types-loop-one-preserved : goal.copy_types-loop-one-preserved
 copy_types-loop-one-preserved t c =
-    walked_more written_all written_all snoc_types written written written_push written_push c.loop-one.copies.items c.push.new.self.items c.deref-one-items.result.now c.loop-one.one-index c.one-item.result c.in_ok-copy.copy
+    walked_more written_all written_all snoc_types written written written_push written_push
+    c.loop-one.copies.items c.push.new.self.items c.deref-one-items.result.now c.loop-one.one-index
+    c.one-item.result c.in_ok-copy.copy
     c.loop-one.invariant c.loop-one-test.true c.one-item.is c.in_ok-push.ensures.items c.in_ok-copy.ensures
 
 pub copy_types-returns : goal.copy_types-returns
 copy_types-returns t c =
-    all_walked written_all written_all c.loop-one.copies.items c.deref-one-items.result.now c.args.types.now.items c.loop-one.one-index
+    all_walked written_all written_all c.loop-one.copies.items c.deref-one-items.result.now
+    c.args.types.now.items c.loop-one.one-index
     c.loop-one.invariant c.deref-one-items.ensures.value c.loop-one-test.false
