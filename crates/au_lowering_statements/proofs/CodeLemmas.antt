@@ -1,5 +1,5 @@
 -- The code of what the code's statements say, variant by variant.
-use Rattle.std.proofs.Common.{◌≡◌, ℕ, ◌+◌, List, [], ◌∷◌, Bool, Vec, Option, Some, None, map, unwrap_or, refl, sym, ap, ◌∙◌}
+use Rattle.std.proofs.Common.{◌≡◌, ℕ, ◌+◌, List, Bool, Vec, Option, Some, None, unwrap_or, ap, ◌∙◌}
 use Rattle.std.specs.Global.{Global}
 use Rattle.au_base.specs.declared.places.Pos.{Pos}
 use Rattle.au_closed_trees.specs.contracts.phase.ClosedTreesPhase.TheImpl.{ghosts as closed}
@@ -10,22 +10,22 @@ use Rattle.au_closed_trees.specs.declared.phase.ClosedTrees.{ClosedTrees}
 use Rattle.au_closed_views.specs.Surroundings.{Surroundings, view_in}
 use Rattle.au_derivations.specs.Returns.{block_returns}
 use Rattle.au_low.specs.declared.instructions.Instr.TheVariants as instr
-use Rattle.au_lowered.specs.Drafts.{Draft, Written, ◌>>◌, does, loop, nothing}
-use Rattle.au_lowered.specs.Expressions.{code, part_behind, part_of, whole}
+use Rattle.au_lowered.specs.Drafts.{Draft, Written, does, nothing}
+use Rattle.au_lowered.specs.Expressions.{whole}
 use Rattle.au_lowered.specs.Slots.{mode_of, with_reference}
 use Rattle.au_lowered.specs.Statements as spec
 use Rattle.au_lowered.specs.Statements.{turns}
 use Rattle.au_lowering_expressions.specs.Wrote.{wrote}
-use Rattle.au_lowering_expressions.proofs.CodeLemmas.{ClosedBox, ClosedExpr, ClosedIdent, said_code}
+use Rattle.au_lowering_expressions.proofs.CodeLemmas.{ClosedBox, ClosedExpr, ClosedIdent}
 use Rattle.au_lowering_expressions.proofs.WroteLemmas.{wrote_row}
-use Rattle.au_lowering_statements.specs.Ends.{binds, lent, puts, sets}
-use Rattle.au_meaning.specs.Expressions.{names_of, note_of}
+use Rattle.au_lowering_statements.specs.Ends.{binds, lent}
+use Rattle.au_lowering_statements.specs.Pieces.{looped, with_bounds}
+use Rattle.au_meaning.specs.Expressions.{note_of}
 use Rattle.au_meaning.specs.Names.{Scope, Variable, variable_of, with_name}
 use Rattle.au_syntax.specs.declared.expressions.BorrowMode.{BorrowMode}
 use Rattle.au_syntax.specs.declared.names.Bind.{Bind}
 use Rattle.au_syntax.specs.declared.names.BorrowNames.{BorrowNames}
 use Rattle.au_syntax.specs.declared.statements.Arm.{Arm}
-use Rattle.au_syntax.specs.declared.statements.Binding.{Binding}
 use Rattle.au_syntax.specs.declared.statements.Block.{Block}
 use Rattle.au_syntax.specs.declared.statements.Branch.{Branch}
 use Rattle.au_syntax.specs.declared.statements.Stmt.{Stmt}
@@ -71,46 +71,10 @@ module _ (round : Surroundings) (around slot : ℕ) (scope : Scope) where
   says d s form is = ap (λ x. wrote (spec.statement (view_in round) around slot scope x) d) is
 
   module _ (d : List Draft) where
-    pub skip_code : (at : Pos) → wrote (said_statement (stmt.Skip at)) d ≡ wrote nothing d
-    skip_code at = says d _ _ (stmts.skip_says closed at)
-
-    pub let_code : (at : Pos) (b : Binding) (n : ClosedIdent) (t : TypeText) (e : ClosedBox)
-        → wrote (said_statement (stmt.Let at b n t e)) d
-        ≡ wrote (does (instr.Store slot)) (wrote (said_whole e.value) d)
-    let_code at b n t e = says d _ _ (stmts.let_says closed at b n t e) ∙ wrote_row _ _ d
-
-    pub destructure_code : (at : Pos) (bs : Vec ClosedBind Global) (e : ClosedBox)
-        → wrote (said_statement (stmt.Destructure at bs e)) d
-        ≡ wrote (does (instr.Take slot)) (wrote (said_whole e.value) d)
-    destructure_code at bs e = says d _ _ (stmts.destructure_says closed at bs e) ∙ wrote_row _ _ d
-
-    pub assign_code : (at : Pos) (n : ClosedIdent) (fields : Vec ClosedIdent Global) (e : ClosedBox)
-        → wrote (said_statement (stmt.Assign at n fields e)) d
-        ≡ wrote (part_of (view_in round) (variable_of scope (placed closed n).name)
-        (names_of (map (placed closed) fields.items)) sets) (wrote (said_whole e.value) d)
-    assign_code at n fields e = says d _ _ (stmts.assign_says closed at n fields e) ∙ wrote_row _ _ d
-
-    pub assign_through_code : (at : Pos) (n : ClosedIdent) (fields : Vec ClosedIdent Global) (e : ClosedBox)
-        → wrote (said_statement (stmt.AssignThrough at n fields e)) d
-        ≡ wrote (part_behind (view_in round) (variable_of scope (placed closed n).name)
-        (names_of (map (placed closed) fields.items)) puts) (wrote (said_whole e.value) d)
-    assign_through_code at n fields e =
-        says d _ _ (stmts.assign_through_says closed at n fields e) ∙ wrote_row _ _ d
-
     pub while_code : (at : Pos) (e : ClosedBox) (b : ClosedBlock)
         → wrote (said_statement (stmt.While at e b)) d
-        ≡ wrote (loop (block_returns (block closed b)) (said_whole e.value) (said_block b)) d
+        ≡ wrote (looped (block_returns (block closed b)) (said_whole e.value) (said_block b)) d
     while_code at e b = says d _ _ (stmts.while_says closed at e b)
-
-    pub call_code : (at : Pos) (e : ClosedBox)
-        → wrote (said_statement (stmt.Call at e)) d ≡ wrote (does instr.Discard)
-        (wrote (said_whole e.value) d)
-    call_code at e = says d _ _ (stmts.call_says closed at e) ∙ wrote_row _ _ d
-
-    pub return_code : (at : Pos) (e : ClosedBox)
-        → wrote (said_statement (stmt.Return at e)) d
-        ≡ wrote (does instr.Return) (wrote (said_code round scope e.value) d)
-    return_code at e = says d _ _ (stmts.return_says closed at e) ∙ wrote_row _ _ d
 
     pub if_code : (at : Pos) (bs : Vec ClosedBranch Global)
         → wrote (said_statement (stmt.If at bs)) d
@@ -136,8 +100,8 @@ module _ (round : Surroundings) (around slot : ℕ) (scope : Scope) where
         (spec.block (view_in round) around (slot + 3)
         (with_name (placed closed n).name (slot + 2) (Some (note_of (expression closed a.value)).of) scope)
         (block closed b)))
-        (wrote (does (instr.Store (slot + 1))) (wrote (said_whole z.value)
-        (wrote (does (instr.Store slot)) (wrote (said_whole a.value) d))))
+        (with_bounds (view_in round) around slot scope (expression closed a.value)
+        (expression closed z.value) d)
     for_code at n a z b =
         says d _ _ (stmts.for_says closed at n a z b)
         ∙ wrote_row _ _ d ∙ wrote_row _ _ (wrote (said_whole a.value) d)

@@ -1,5 +1,6 @@
 pub mod HoleLemmas
 pub mod CodeLemmas
+pub mod SimpleLemmas
 pub mod JumpLemmas
 pub mod TestLemmas
 pub mod ArmLemmas

@@ -1,6 +1,6 @@
 //! The code of blocks in closed trees, behind other code, with texts and types that stand for themselves, and
-//! what it is made of: the variables that statements declare and their slots, the jumps to ends that are found
-//! later, where the arms of cases begin, and how many slots are in use.
+//! what it is made of: the variables that statements declare and their slots, statements that hold no block,
+//! the jumps to ends that are found later, where the arms of cases begin, and how many slots are in use.
 #![tactic(auto)]
 
 pub mod arms;
@@ -9,6 +9,7 @@ pub mod entering;
 pub mod jumps;
 pub mod pieces;
 pub mod rooms;
+pub mod simple;
 pub mod statements;
 
 pub use entering::{declare, further};

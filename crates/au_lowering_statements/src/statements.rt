@@ -6,7 +6,7 @@ ghost use Rattle.au_closed_trees.specs.contracts.phase.ClosedTreesPhase.TheImpl.
 ghost use Rattle.au_closed_trees.specs.Views.{closed_note};
 ghost use Rattle.au_closed_views.specs.Surroundings.{view_in};
 ghost use Rattle.au_derivations.specs.Returns as returning;
-ghost use Rattle.au_lowered.specs.Drafts.{nothing, when};
+ghost use Rattle.au_lowered.specs.Drafts.{nothing};
 ghost use Rattle.au_lowered.specs.Expressions.{whole};
 ghost use Rattle.au_lowered.specs.Slots as slots;
 ghost use Rattle.au_lowered.specs.Statements as spec;
@@ -15,51 +15,54 @@ ghost use Rattle.au_lowering_expressions.specs.Wrote.{wrote};
 ghost use Rattle.au_lowering_statements.specs.Pieces as pieces;
 ghost use Rattle.au_lowering_statements.specs.Ends as ends;
 ghost use Rattle.au_lowering_statements.specs.Views.{starts_said};
+ghost use Rattle.au_meaning.specs.Expressions as meant;
 ghost use Rattle.au_meaning.specs.Names.{variable_of, with_name};
 ghost use Rattle.au_syntax.specs.Views.{arm_all, block, bound, branch_all, expression, placed, statement};
 
 use crate::arms::{Start, end_case, enter_arm, put_case, put_start};
 use crate::block_pieces::{
     begin_loop, declare_counter, declare_reference, end_range, mode_of, put_counter, put_range,
-    put_step, write_bounds, write_stored,
+    put_step, write_bounds,
 };
 use crate::entering::{enter, further, kept};
 use crate::jumps::{either, end_jumps, is_last, put_end, put_unless};
-use crate::pieces::{put_bind, put_put, put_set};
+use crate::pieces::put_bind;
+use crate::simple::write_simple;
 use au_base::{Memory, Name};
 use au_closed_trees::{ClosedNote, ClosedTrees};
 use au_closed_views::Lookup;
 use au_judgements::returning::block_returns;
 use au_low::Instr;
-use au_lowering_expressions::{
-    Draft, Local, end_test, here, note_of, put, write_expression, write_whole,
-};
-use au_syntax::{Access, Arm, Block, BorrowMode, Branch, Stmt};
+use au_lowering_expressions::{Draft, Local, end_test, here, note_of, put, write_whole};
+use au_syntax::{Access, Arm, Block, BorrowMode, BorrowNames, Branch, Expr, Stmt};
 use std::alloc::Global;
 
-/// Writes what a test that is true does, and lets the test go behind it.
+/// Writes a `while`.
 #[cycle(write)]
-fn write_turns<R: Lookup>(
+fn write_while<R: Lookup>(
     alloc: Global,
     lookup: &R,
     around: u32,
     slot: u32,
-    start: u32,
     scope: &mut Vec<Local>,
     body: &Block<ClosedTrees>,
+    test: &Expr<ClosedTrees>,
     out: &mut Vec<Draft>,
 ) -> Result<(), Memory>
     ensures code { OnOk result (drafts_said out.new.items
-        ≡ wrote (when (pieces.turn_from (returning.block_returns (block closed body.now)) start
+        ≡ wrote (pieces.looped (returning.block_returns (block closed body.now))
+        (whole (view_in (R.round lookup.now)) around (scope_said scope.old.items)
+        (expression closed test.now))
         (spec.block (view_in (R.round lookup.now)) around slot (scope_said scope.old.items)
-        (block closed body.now)))) (drafts_said out.old.items)) }
+        (block closed body.now))) (drafts_said out.old.items)) }
     ensures same { OnOk result (scope.new.items ≡ scope.old.items) }
 {
-    let test = out.len();
+    let start = begin_loop(alloc, lookup, scope, around, test, out)?;
+    let at = out.len();
     put(out, Instr::JumpNot(0))?;
     write_block(alloc, lookup, around, slot, scope, body, out)?;
     put_unless(out, block_returns(body), Instr::Jump(start))?;
-    end_test(out, test)?;
+    end_test(out, at)?;
     Ok(())
 }
 
@@ -133,7 +136,7 @@ fn write_range<R: Lookup>(
     Ok(())
 }
 
-/// Writes the turns of `for`, by the variable and the note of its first bound.
+/// Writes a `for`, by the name of its variable.
 #[cycle(write)]
 fn write_for<R: Lookup>(
     alloc: Global,
@@ -141,20 +144,25 @@ fn write_for<R: Lookup>(
     around: u32,
     slot: u32,
     scope: &mut Vec<Local>,
-    name: &Name,
-    note: &ClosedNote,
     body: &Block<ClosedTrees>,
+    name: &Name,
+    from: &Expr<ClosedTrees>,
+    to: &Expr<ClosedTrees>,
     out: &mut Vec<Draft>,
 ) -> Result<(), Memory>
     ensures code { OnOk result (drafts_said out.new.items
         ≡ wrote (spec.turns (returning.block_returns (block closed body.now)) slot
         (spec.block (view_in (R.round lookup.now)) around (slot + 3)
-        (with_name name.now (slot + 2) (Some (closed_note note.now).of) (scope_said scope.old.items))
-        (block closed body.now))) (drafts_said out.old.items)) }
+        (with_name name.now (slot + 2) (Some (meant.note_of (expression closed from.now)).of)
+        (scope_said scope.old.items))
+        (block closed body.now)))
+        (pieces.with_bounds (view_in (R.round lookup.now)) around slot (scope_said scope.old.items)
+        (expression closed from.now) (expression closed to.now) (drafts_said out.old.items))) }
     ensures same { OnOk result (scope.new.items ≡ scope.old.items) }
 {
+    write_bounds(alloc, lookup, scope, around, slot, from, to, out)?;
     let depth = scope.len();
-    declare_counter(alloc, scope, name, slot, note)?;
+    declare_counter(alloc, scope, name, slot, note_of(from))?;
     write_range(alloc, lookup, around, slot, scope, body, out)?;
     scope.truncate(depth);
     Ok(())
@@ -223,22 +231,24 @@ fn write_borrow_as<R: Lookup>(
     slot: u32,
     scope: &mut Vec<Local>,
     access: Access,
-    variable: &Name,
-    name: &Name,
+    names: &BorrowNames<ClosedTrees>,
     body: &Block<ClosedTrees>,
     out: &mut Vec<Draft>,
 ) -> Result<(), Memory>
     ensures code { OnOk result (drafts_said out.new.items
         ≡ wrote (spec.lends (returning.block_returns (block closed body.now)) around slot
         (slots.mode_of access)
-        (variable_of (scope_said scope.old.items) variable.now)
+        (variable_of (scope_said scope.old.items) (placed closed names.now.variable).name)
         (spec.block (view_in (R.round lookup.now)) (around + 1) (slot + 1)
         (slots.with_reference (slots.mode_of access)
-        (variable_of (scope_said scope.old.items) variable.now) slot name.now
+        (variable_of (scope_said scope.old.items) (placed closed names.now.variable).name) slot
+        (placed closed names.now.reference).name
         (scope_said scope.old.items)) (block closed body.now))) (drafts_said out.old.items)) }
     ensures same { OnOk result (scope.new.items ≡ scope.old.items) }
 {
     let mode = mode_of(access);
+    let variable = &names.variable.name;
+    let name = &names.reference.name;
     write_borrow(
         alloc, lookup, around, slot, scope, mode, variable, name, body, out,
     )?;
@@ -499,24 +509,27 @@ fn write_arms<R: Lookup>(
     Ok(())
 }
 
-/// Writes a case, of a value that has this note.
+/// Writes a `case`.
 #[cycle(write)]
-fn write_cases<R: Lookup>(
+fn write_case<R: Lookup>(
     alloc: Global,
     lookup: &R,
     around: u32,
     slot: u32,
     scope: &mut Vec<Local>,
-    note: &ClosedNote,
     arms: &Vec<Arm<ClosedTrees>>,
+    value: &Expr<ClosedTrees>,
     out: &mut Vec<Draft>,
 ) -> Result<(), Memory>
     ensures code { OnOk result (drafts_said out.new.items
         ≡ wrote (spec.cases slot (spec.arms_of (view_in (R.round lookup.now)) around slot
-        (scope_said scope.old.items) (closed_note note.now) (arm_all closed arms.now.items)))
-        (drafts_said out.old.items)) }
+        (scope_said scope.old.items) (meant.note_of (expression closed value.now))
+        (arm_all closed arms.now.items)))
+        (wrote (whole (view_in (R.round lookup.now)) around (scope_said scope.old.items)
+        (expression closed value.now)) (drafts_said out.old.items))) }
     ensures same { OnOk result (scope.new.items ≡ scope.old.items) }
 {
+    write_whole(alloc, lookup, scope, around, value, out)?;
     let mut starts = Vec::new(alloc);
     let mut jumps = Vec::new(alloc);
     let at = put_case(alloc, out, slot)?;
@@ -526,7 +539,7 @@ fn write_cases<R: Lookup>(
         around,
         slot,
         scope,
-        note,
+        note_of(value),
         arms,
         &mut starts,
         &mut jumps,
@@ -553,83 +566,28 @@ fn write_statement<R: Lookup>(
     ensures same { OnOk result (scope.new.items ≡ scope.old.items) }
 {
     match of {
-        Stmt::Skip(_) => Ok(()),
-        Stmt::Let(_, _, _, _, value) => {
-            write_stored(alloc, lookup, scope, around, slot, value, out)
-        }
-        Stmt::Destructure(_, _, value) => {
-            write_whole(alloc, lookup, scope, around, value, out)?;
-            put(out, Instr::Take(slot))
-        }
-        Stmt::Assign(_, name, fields, value) => {
-            write_whole(alloc, lookup, scope, around, value, out)?;
-            put_set(alloc, lookup, scope, &name.name, fields, out)
-        }
-        Stmt::AssignThrough(_, name, fields, value) => {
-            write_whole(alloc, lookup, scope, around, value, out)?;
-            put_put(alloc, lookup, scope, &name.name, fields, out)
-        }
-        Stmt::If(_, branches) => {
-            write_conditional(alloc, lookup, around, slot, scope, branches, out)
-        }
+        Stmt::If(_, tests) => write_conditional(alloc, lookup, around, slot, scope, tests, out),
         Stmt::IfElse(_, branches, last) => {
             let jumps = write_jumps(alloc, lookup, around, slot, scope, branches, out)?;
             write_last(alloc, lookup, around, slot, scope, last, &jumps, out)?;
             Ok(())
         }
         Stmt::Case(_, value, arms) => {
-            write_whole(alloc, lookup, scope, around, value, out)?;
-            write_cases(
-                alloc,
-                lookup,
-                around,
-                slot,
-                scope,
-                note_of(value),
-                arms,
-                out,
-            )
+            write_case(alloc, lookup, around, slot, scope, arms, value, out)
         }
         Stmt::While(_, test, body) => {
-            let start = begin_loop(alloc, lookup, scope, around, test, out)?;
-            write_turns(alloc, lookup, around, slot, start, scope, body, out)?;
-            Ok(())
+            write_while(alloc, lookup, around, slot, scope, body, test, out)
         }
-        Stmt::For(_, name, from, to, body) => {
-            write_bounds(alloc, lookup, scope, around, slot, from, to, out)?;
-            write_for(
-                alloc,
-                lookup,
-                around,
-                slot,
-                scope,
-                &name.name,
-                note_of(from),
-                body,
-                out,
-            )
-        }
-        Stmt::Borrow(_, access, names, body, _) => {
-            let variable = &names.variable.name;
-            let name = &names.reference.name;
-            write_borrow_as(
-                alloc, lookup, around, slot, scope, *access, variable, name, body, out,
-            )
-        }
-        Stmt::BorrowTyped(_, name, _, mode, variable, body, _) => {
-            let variable = &variable.name;
-            write_borrow(
-                alloc, lookup, around, slot, scope, *mode, variable, &name.name, body, out,
-            )
-        }
-        Stmt::Call(_, call) => {
-            write_whole(alloc, lookup, scope, around, call, out)?;
-            put(out, Instr::Discard)
-        }
-        Stmt::Return(_, value) => {
-            write_expression(alloc, lookup, scope, value, out)?;
-            put(out, Instr::Return)
-        }
+        Stmt::For(_, name, from, to, body) => write_for(
+            alloc, lookup, around, slot, scope, body, &name.name, from, to, out,
+        ),
+        Stmt::Borrow(_, access, names, body, _) => write_borrow_as(
+            alloc, lookup, around, slot, scope, *access, names, body, out,
+        ),
+        Stmt::BorrowTyped(_, name, _, mode, lent, body, _) => write_borrow(
+            alloc, lookup, around, slot, scope, *mode, &lent.name, &name.name, body, out,
+        ),
+        _ => write_simple(alloc, lookup, scope, around, slot, of, out),
     }
 }
 

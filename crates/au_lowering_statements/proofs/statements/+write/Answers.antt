@@ -1,6 +1,7 @@
-use Rattle.std.proofs.Common.{◌≡◌, ℕ, ◌+◌, ◌-◌, ◌||◌, true, false, not, [], ◌++◌, length, map, refl, ap, sym, subst, ◌∙◌, arith}
+use Rattle.std.proofs.Common.{◌≡◌, ℕ, ◌+◌, ◌-◌, ◌||◌, true, false, not, [], ◌++◌, length, map, OnOk, Some, refl, ap, sym, subst, ◌∙◌, arith}
 use Rattle.std.proofs.lemmas.List.{length-map}
 use Rattle.au_closed_trees.specs.contracts.phase.ClosedTreesPhase.TheImpl.{ghosts as closed}
+use Rattle.au_closed_trees.specs.ClosedNotes.{ClosedNote}
 use Rattle.au_closed_trees.specs.Views.{closed_note}
 use Rattle.au_closed_views.specs.Surroundings.{view_in}
 use Rattle.au_derivations.specs.Returns.{block_returns}
@@ -11,7 +12,7 @@ use Rattle.au_lowered.specs.Slots.{after, fields_of_case, with_fields, with_refe
 use Rattle.au_lowered.specs.Statements as spec
 use Rattle.au_lowering_expressions.specs.Views.{draft_said, drafts_said, scope_said}
 use Rattle.au_lowering_expressions.specs.Wrote.{wrote}
-use Rattle.au_lowering_expressions.proofs.WroteLemmas.{wrote_nothing, wrote_row}
+use Rattle.au_lowering_expressions.proofs.WroteLemmas.{wrote_row}
 use Rattle.au_lowering_statements.specs.Ends.{AllBelow, Holed, binds, branch_upto, lent}
 use Rattle.au_lowering_statements.specs.Views.{Begins, starts_said}
 use Rattle.au_lowering_statements.proofs.BlockLemmas.{arms_left, arms_step, begins_more, begins_same, block_end, block_step, one_arm, one_test, tests_left, tests_step}
@@ -19,48 +20,32 @@ use Rattle.au_lowering_statements.proofs.CodeLemmas.{said_block, said_statement,
 use Rattle.au_lowering_statements.proofs.CodeLemmas as lemmas
 use Rattle.au_lowering_statements.proofs.HoleLemmas.{loop_written, turn_written, turns_written, when_written}
 use Rattle.au_lowering_statements.proofs.JumpLemmas.{holed_branch, holed_plain, holed_row}
-use Rattle.au_lowering_statements.specs.Pieces.{arm_to, counted, ended, turn_from}
+use Rattle.au_lowering_statements.specs.Pieces.{arm_to, counted, ended, turn_from, with_bounds}
+use Rattle.au_lowering_statements.proofs.SimpleLemmas.{said_simple, simple_all}
 use Rattle.au_lowering_statements.proofs.LoopLemmas as loops
 use Rattle.au_lowering_statements.proofs.LoopLemmas.{arm_is_last, tests_follow}
-use Rattle.au_meaning.specs.Names.{Scope, variable_of}
-use Rattle.au_syntax.specs.Views.{block, bound, expression, placed, statement, statement_all}
+use Rattle.au_meaning.specs.Expressions.{note_of}
+use Rattle.au_meaning.specs.Names.{Scope, variable_of, with_name}
+use Rattle.au_syntax.specs.Views.{arm_all, block, bound, expression, placed, statement, statement_all}
 use Rattle.au_lowering_statements.proofs.statements.+write.Goals as goal
 
 -- ---- statements
-
-pub write_statement-returns-in-Skip-clause-code :
-    goal.write_statement-returns-in-Skip-clause-code
-write_statement-returns-in-Skip-clause-code g t c = grind (arith, lemmas.skip_code, wrote_nothing)
-
-pub write_statement-returns-in-Let-clause-code :
-    goal.write_statement-returns-in-Let-clause-code
-write_statement-returns-in-Let-clause-code g t c = grind (arith, lemmas.let_code)
-
-pub write_statement-returns-in_ok-write_whole-in-Destructure-clause-code :
-    goal.write_statement-returns-in_ok-write_whole-in-Destructure-clause-code
-write_statement-returns-in_ok-write_whole-in-Destructure-clause-code g t c = grind
-    (arith, lemmas.destructure_code)
-
-pub write_statement-returns-in_ok-write_whole-in-Assign-clause-code :
-    goal.write_statement-returns-in_ok-write_whole-in-Assign-clause-code
-write_statement-returns-in_ok-write_whole-in-Assign-clause-code g t c = grind (arith, lemmas.assign_code)
-
-pub write_statement-returns-in_ok-write_whole-in-AssignThrough-clause-code :
-    goal.write_statement-returns-in_ok-write_whole-in-AssignThrough-clause-code
-write_statement-returns-in_ok-write_whole-in-AssignThrough-clause-code g t c = grind
-    (arith, lemmas.assign_through_code)
 
 pub write_statement-returns-in-If-clause-code :
     goal.write_statement-returns-in-If-clause-code
 write_statement-returns-in-If-clause-code g t c = grind (arith, lemmas.if_code)
 
-pub write_statement-returns-in_ok-write_whole-in-Case-clause-code :
-    goal.write_statement-returns-in_ok-write_whole-in-Case-clause-code
-write_statement-returns-in_ok-write_whole-in-Case-clause-code g t c = grind (arith, lemmas.case_code)
+pub write_statement-returns-in-Case-clause-code :
+    goal.write_statement-returns-in-Case-clause-code
+write_statement-returns-in-Case-clause-code g t c = grind (arith, lemmas.case_code)
 
-pub write_statement-returns-in_ok-write_bounds-in-For-clause-code :
-    goal.write_statement-returns-in_ok-write_bounds-in-For-clause-code
-write_statement-returns-in_ok-write_bounds-in-For-clause-code g t c = grind (arith, lemmas.for_code)
+pub write_statement-returns-in-While-clause-code :
+    goal.write_statement-returns-in-While-clause-code
+write_statement-returns-in-While-clause-code g t c = grind (arith, lemmas.while_code)
+
+pub write_statement-returns-in-For-clause-code :
+    goal.write_statement-returns-in-For-clause-code
+write_statement-returns-in-For-clause-code g t c = grind (arith, lemmas.for_code)
 
 pub write_statement-returns-in-Borrow-clause-code :
     goal.write_statement-returns-in-Borrow-clause-code
@@ -70,13 +55,18 @@ pub write_statement-returns-in-BorrowTyped-clause-code :
     goal.write_statement-returns-in-BorrowTyped-clause-code
 write_statement-returns-in-BorrowTyped-clause-code g t c = grind (arith, lemmas.borrow_typed_code)
 
-pub write_statement-returns-in_ok-write_whole-in-Call-clause-code :
-    goal.write_statement-returns-in_ok-write_whole-in-Call-clause-code
-write_statement-returns-in_ok-write_whole-in-Call-clause-code g t c = grind (arith, lemmas.call_code)
-
-pub write_statement-returns-in_ok-write_expression-in-Return-clause-code :
-    goal.write_statement-returns-in_ok-write_expression-in-Return-clause-code
-write_statement-returns-in_ok-write_expression-in-Return-clause-code g t c = grind (arith, lemmas.return_code)
+pub write_statement-returns-in_default-clause-code :
+    goal.write_statement-returns-in_default-clause-code
+write_statement-returns-in_default-clause-code g t c =
+    let round = g.R.Lookup.round c.args.lookup.now in
+    let k = c.in_default in
+    subst (λ w. OnOk c.write_simple.result (drafts_said c.write_simple.new.out.items
+    ≡ wrote w (drafts_said c.args.out.now.items)))
+    (ap (λ s. said_simple round c.args.around c.args.slot (scope_said s) c.args.of.now)
+    c.deref-in_default.ensures.value
+    ∙ simple_all round c.args.around c.args.slot (scope_said c.args.scope.now.items) c.args.of.now
+    k.not-If k.not-IfElse k.not-Case k.not-While k.not-For k.not-Borrow k.not-BorrowTyped)
+    c.write_simple.ensures
 
 pub write_statement-returns-in_ok-write_last-in-IfElse-clause-code :
     goal.write_statement-returns-in_ok-write_last-in-IfElse-clause-code
@@ -96,44 +86,32 @@ write_statement-returns-in_ok-write_last-in-IfElse-clause-code g t c =
     ∙ sym (lemmas.if_else_code round c.args.around c.args.slot scope d p.field-0 p.branches p.last)
     ∙ sym (ap (λ s. wrote (said_statement round c.args.around c.args.slot scope s) d) p.is)
 
-pub write_statement-returns-in_ok-write_turns-in-While-clause-code :
-    goal.write_statement-returns-in_ok-write_turns-in-While-clause-code
-write_statement-returns-in_ok-write_turns-in-While-clause-code g t c =
-    let round = g.R.Lookup.round c.args.lookup.now in
-    let scope = scope_said c.args.scope.now.items in
-    let d = drafts_said c.args.out.now.items in
-    let p = c.in-While in
-    loop_written (block_returns (block closed p.body))
-    (said_whole round c.args.around c.args.slot scope p.test.value)
-    (said_block round c.args.around c.args.slot scope p.body)
-    d (drafts_said c.begin_loop.new.out.items) (drafts_said c.write_turns.new.out.items)
-    c.in_ok-start-in-While.start c.in_ok-start-in-While.ensures.at
-    (c.in_ok-start-in-While.ensures.code
-    ∙ ap (λ s. wrote (whole (view_in round) c.args.around (scope_said s)
-    (expression closed c.deref-in-While-2.result.now)) d) c.deref-in-While.ensures.value
-    ∙ ap (λ e. wrote (said_whole round c.args.around c.args.slot scope e) d) c.deref-in-While-2.ensures)
-    c.in_ok-write_turns-in-While.ensures.code
-    ∙ sym (lemmas.while_code round c.args.around c.args.slot scope d p.field-0 p.test p.body)
-    ∙ sym (ap (λ s. wrote (said_statement round c.args.around c.args.slot scope s) d) p.is)
-
 -- ---- loops
 
-pub write_turns-returns-clause-code : goal.write_turns-returns-clause-code
-write_turns-returns-clause-code g t c =
+pub write_while-returns-clause-code : goal.write_while-returns-clause-code
+write_while-returns-clause-code g t c =
     let round = g.R.Lookup.round c.args.lookup.now in
     let scope = scope_said c.args.scope.now.items in
     let returns = block_returns (block closed c.args.body.now) in
     let body = said_block round c.args.around c.args.slot scope c.args.body.now in
-    when_written (turn_from returns c.args.start body) (drafts_said c.args.out.now.items)
-    (drafts_said c.put.new.out.items) (drafts_said c.put_unless.new.out.items)
-    (drafts_said c.end_test.new.out.items) c.len-test.result (cc (length-map c.args.out.now.items draft_said))
+    let start = c.in_ok-start.start in
+    let d = drafts_said c.args.out.now.items in
+    let d1 = drafts_said c.begin_loop.new.out.items in
+    loop_written returns (said_whole round c.args.around c.args.slot scope c.args.test.now) body
+    d d1 (drafts_said c.end_test.new.out.items) start c.in_ok-start.ensures.at
+    (c.in_ok-start.ensures.code
+    ∙ ap (λ s. wrote (whole (view_in round) c.args.around (scope_said s)
+    (expression closed c.args.test.now)) d) c.deref.ensures.value)
+    (when_written (turn_from returns start body) d1 (drafts_said c.put.new.out.items)
+    (drafts_said c.put_unless.new.out.items) (drafts_said c.end_test.new.out.items) c.len-at.result
+    (omega (arith, c.len-at.ensures, length-map c.begin_loop.new.out.items draft_said))
     c.in_ok-put.ensures
     (c.in_ok-put_unless.ensures
-    ∙ ap (λ r. wrote (unless r (Jump c.args.start)) (drafts_said c.write_block.new.out.items))
+    ∙ ap (λ r. wrote (unless r (Jump start)) (drafts_said c.write_block.new.out.items))
     c.block_returns.ensures
-    ∙ ap (wrote (unless returns (Jump c.args.start))) c.in_ok-write_block.ensures.code
-    ∙ sym (wrote_row body (unless returns (Jump c.args.start)) (drafts_said c.put.new.out.items)))
-    c.in_ok-end_test.ensures
+    ∙ ap (wrote (unless returns (Jump start))) c.in_ok-write_block.ensures.code
+    ∙ sym (wrote_row body (unless returns (Jump start)) (drafts_said c.put.new.out.items)))
+    c.in_ok-end_test.ensures)
 
 pub write_counted-returns-clause-code : goal.write_counted-returns-clause-code
 write_counted-returns-clause-code g t c =
@@ -177,6 +155,24 @@ write_range-returns-clause-code g t c =
     (drafts_said c.args.out.now.items) (drafts_said c.put_range.new.out.items)
     (drafts_said c.write_turn.new.out.items) (drafts_said c.end_range.new.out.items) c.in_ok-at.at
     c.in_ok-at.ensures.at c.in_ok-at.ensures.code c.in_ok-write_turn.ensures.code c.in_ok-end_range.ensures
+
+pub write_for-returns-clause-code : goal.write_for-returns-clause-code
+write_for-returns-clause-code g t c =
+    let see = view_in (g.R.Lookup.round c.args.lookup.now) in
+    let scope = scope_said c.args.scope.now.items in
+    let first = expression closed c.args.from.now in
+    let last = expression closed c.args.to.now in
+    let counting = λ (inner : Scope). spec.turns (block_returns (block closed c.args.body.now)) c.args.slot
+    (spec.block see c.args.around (c.args.slot + 3) inner (block closed c.args.body.now)) in
+    c.in_ok-write_range.ensures.code
+    ∙ ap (λ s. wrote (counting s) (drafts_said c.write_bounds.new.out.items))
+    (c.in_ok-declare_counter.ensures.said
+    ∙ ap (λ (note : ClosedNote). with_name c.args.name.now (c.args.slot + 2) (Some note.of) scope)
+    c.note_of.ensures)
+    ∙ ap (wrote (counting (with_name c.args.name.now (c.args.slot + 2) (Some (note_of first).of) scope)))
+    (c.in_ok-write_bounds.ensures
+    ∙ ap (λ s. with_bounds see c.args.around c.args.slot (scope_said s) first last
+    (drafts_said c.args.out.now.items)) c.deref.ensures.value)
 
 -- ---- borrow statements
 
@@ -425,18 +421,20 @@ write_arms-returns-clause-starts g t c = λ b.
     (length (drafts_said c.args.out.now.items)))
     c.deref-one-items.ensures.value
 
-pub write_cases-returns-clause-code : goal.write_cases-returns-clause-code
-write_cases-returns-clause-code g t c =
+pub write_case-returns-clause-code : goal.write_case-returns-clause-code
+write_case-returns-clause-code g t c =
     let round = g.R.Lookup.round c.args.lookup.now in
     let scope = scope_said c.args.scope.now.items in
-    let note = closed_note c.args.note.now in
+    let note = closed_note c.note_of.result.now in
+    let d = drafts_said c.write_whole.new.out.items in
     let d1 = drafts_said c.put_case.new.out.items in
     let d2 = drafts_said c.write_arms.new.out.items in
     let all = c.write_arms.new.jumps.items in
     let starts = starts_said c.write_arms.new.starts.items in
+    let cases = λ (n : ClosedNote). spec.cases c.args.slot
+    (spec.arms_of (view_in round) c.args.around c.args.slot scope n (arm_all closed c.args.arms.now.items)) in
     loops.case_is round c.args.around c.args.slot scope note c.args.arms.now.items all starts
-    (drafts_said c.args.out.now.items) d1 d2
-    (drafts_said c.end_case.new.out.items) c.in_ok-at.at c.in_ok-at.ensures.at c.in_ok-at.ensures.code
+    d d1 d2 (drafts_said c.end_case.new.out.items) c.in_ok-at.at c.in_ok-at.ensures.at c.in_ok-at.ensures.code
     (subst (λ j. Holed (arms_left round c.args.around c.args.slot scope note c.args.arms.now.items) j d1 all
     d2) c.new-jumps.ensures.items c.in_ok-write_arms.ensures.code)
     (subst (λ s. starts ≡ starts_said s
@@ -445,6 +443,11 @@ write_cases-returns-clause-code g t c =
     (c.in_ok-write_arms.ensures.starts
     (subst (λ j. AllBelow j (length d1)) (sym c.new-jumps.ensures.items) tt)))
     c.in_ok-end_case.ensures
+    ∙ ap (λ n. wrote (cases n) d) c.note_of.ensures
+    ∙ ap (wrote (cases (note_of (expression closed c.args.value.now))))
+    (c.in_ok-write_whole.ensures
+    ∙ ap (λ s. wrote (whole (view_in round) c.args.around (scope_said s)
+    (expression closed c.args.value.now)) (drafts_said c.args.out.now.items)) c.deref.ensures.value)
 
 -- ---- blocks
 
