@@ -20,7 +20,7 @@ item_falls ranks low high lower size xs ys i x t total same inside is =
     let here : size x ≡ size (get_or xs i x) = ap size is in
     let all : most size xs ≡ most size ys = ap (most size) same in
     let under : ranks * size x + low < ranks * most size ys + high =
-        ranked_below ranks low high (size x) (most size ys) lower (omega (arith, small, here, all)) in
+    ranked_below ranks low high (size x) (most size ys) lower (omega (arith, small, here, all)) in
     omega (arith, under, total)
 
 -- an item of a block is smaller than the block
