@@ -18,7 +18,7 @@ use Rattle.au_closing.specs.declared.leading.Sight.{Sight}
 use Rattle.au_closing.specs.Bodies.{constant_seen}
 use Rattle.au_closing.specs.Closes.{change_by}
 use Rattle.au_closing.specs.Instances.{Instance, instance_of}
-use Rattle.au_closing.specs.Leading.{call_leads, target_leads}
+use Rattle.au_closing.specs.Leading.{call_leads, case_name, declared_name, target_leads}
 use Rattle.au_closing.specs.Views.{change_seen, leads_of}
 
 module _ (sight : Sight) (program : List ModuleParts) (place : ℕ) (given : Given)
@@ -35,7 +35,8 @@ module _ (sight : Sight) (program : List ModuleParts) (place : ℕ) (given : Giv
       → (all : List Instance) (literal_of : DeclAt → Option Literal) (params : List Parameter)
       → change_seen sight all literal_of params given
       ≡ change_by (heads_of program) literal_of all (constant_seen program place)
-      (λ note x name. call_leads program place given note name) params given
+      (λ note x name. call_leads program place given note name) (case_name program place) params given
   change_same values all literal_of params =
       λ i. change_by (heads_of (modules i)) literal_of all (λ name. tables.find name (values i))
-      (λ note x name. target_leads (modules i) (rows i) given note (tables.find name (callables i))) params given
+      (λ note x name. target_leads (modules i) (rows i) given note (tables.find name (callables i)))
+      (λ name. declared_name name (tables.find name (callables i))) params given

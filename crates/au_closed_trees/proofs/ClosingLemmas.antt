@@ -39,7 +39,7 @@ use Rattle.au_closed_trees.specs.declared.phase.ClosedTrees.{ClosedTrees}
 use Rattle.au_closed_trees.specs.Changes.{Change}
 use Rattle.au_closed_trees.specs.ClosedNotes.{Callee, ClosedNote}
 use Rattle.au_closed_trees.proofs.SnocLemmas.{one_argument, one_arm, one_branch, snoc_arguments, snoc_arms, snoc_branches, snoc_expressions, snoc_statements}
-use Rattle.au_closed_trees.specs.Renoted.{arguments_renoted, arms_renoted, block_renoted, branches_renoted, called, expression_renoted, expressions_renoted, mentioned, renoted, statement_renoted}
+use Rattle.au_closed_trees.specs.Renoted.{arguments_renoted, arm_named, arms_renoted, block_renoted, branches_renoted, called, expression_renoted, expressions_renoted, mentioned, renoted, statement_renoted}
 
 -- ---- one more behind others
 
@@ -77,7 +77,7 @@ module _ {N T C U D : Type 0} (change : Change N T C U D) where
       ≡ snoc_arms (arms_renoted change all) (arms_renoted change last)
   arms_turn no_arms last = refl
   arms_turn (arms at name binds b rest) last =
-      ap (arms at name binds (block_renoted change b)) (arms_turn rest last)
+      ap (arms at (arm_named change name) binds (block_renoted change b)) (arms_turn rest last)
 
 -- ---- items of a tree
 
@@ -146,7 +146,7 @@ module _ (change : Change Bytes Note (Unit {0}) ClosedNote (Callee ℕ)) where
   pub arm_closed : (new : Arm ClosedTrees Bytes found.ClosedNote found_callee.Callee)
       (old : Arm Noted Bytes Notes (Unit {0}))
       → new.at ≡ old.at
-      → placed closed new.case ≡ placed noted old.case
+      → placed closed new.case ≡ arm_named change (placed noted old.case)
       → map (bound closed) new.binds.items ≡ map (bound noted) old.binds.items
       → block closed new.block ≡ block_renoted change (block noted old.block)
       → one_arm closed new ≡ arms_renoted change (one_arm noted old)
@@ -156,8 +156,11 @@ module _ (change : Change Bytes Note (Unit {0}) ClosedNote (Callee ℕ)) where
       no_arms)
       at
       ∙ ap (λ n. arms old.at n (map (bound closed) new.binds.items) (block closed new.block) no_arms) name
-      ∙ ap (λ bs. arms old.at (placed noted old.case) bs (block closed new.block) no_arms) binds
-      ∙ ap (λ b. arms old.at (placed noted old.case) (map (bound noted) old.binds.items) b no_arms) same
+      ∙ ap (λ bs. arms old.at (arm_named change (placed noted old.case)) bs (block closed new.block) no_arms)
+      binds
+      ∙ ap
+      (λ b. arms old.at (arm_named change (placed noted old.case)) (map (bound noted) old.binds.items) b no_arms)
+      same
 
   -- what becomes of what an expression or a statement says, variant by variant
   pub number_becomes : (s : OldSite) (l : Literal)

@@ -1,4 +1,4 @@
--- Trees with other notes: the same is written at the same places.
+-- Trees with other notes: the same is written at the same places, but for the names of arms.
 use Rattle.au_syntax.specs.Names.{Placed}
 use Rattle.au_syntax.specs.Expressions.{Node, Expression, Expressions, Arguments, number, negative, text}
 use Rattle.au_syntax.specs.Expressions.{truth, nil, path, arrow, call, named_call, parenthesized, dereference}
@@ -22,6 +22,10 @@ module _ {N T C U D : Type 0} (change : Change N T C U D) where
   -- the note of a call
   abbrev pub called : Node T → Placed N → C → D
   called node name note = change.callee node.note note name.name
+
+  -- the name of an arm
+  abbrev pub arm_named : Placed N → Placed N
+  arm_named name = record { at = name.at; name = change.arm name.name }
 
   abbrev mutual
     -- an expression
@@ -98,4 +102,4 @@ module _ {N T C U D : Type 0} (change : Change N T C U D) where
     pub arms_renoted : Arms N T C → Arms N U D
     arms_renoted no_arms = no_arms
     arms_renoted (arms at n binds b rest) =
-        arms at n binds (block_renoted b) (arms_renoted rest)
+        arms at (arm_named n) binds (block_renoted b) (arms_renoted rest)

@@ -30,6 +30,10 @@ pub trait Closer {
     fn callee(&self, alloc: Global, of: &Notes, name: &Name) -> Result<Callee, Memory>
         ensures { IfOk result (λ made.
             callee_said made ≡ (change self.now).callee (note_said of.now) tt name.now) };
+
+    /// What the name of an arm becomes.
+    fn arm(&self, alloc: Global, name: &Name) -> Result<Name, Memory>
+        ensures { IfOk result (λ made. made ≡ (change self.now).arm name.now) };
 }
 
 /// What is found at the calls of a tree. It errs only for want of memory.

@@ -5,7 +5,7 @@ ghost use Rattle.au_notes.specs.contracts.noted.NotedPhase.TheImpl.{ghosts as no
 ghost use Rattle.au_syntax.specs.Views.{arm_all, block, bound, branch_all, expression, placed, statement};
 ghost use Rattle.au_syntax.specs.Views.{written};
 ghost use Rattle.au_closed_trees.specs.contracts.phase.ClosedTreesPhase.TheImpl.{ghosts as closed};
-ghost use Rattle.au_closed_trees.specs.Renoted.{arms_renoted, block_renoted, branches_renoted};
+ghost use Rattle.au_closed_trees.specs.Renoted.{arm_named, arms_renoted, block_renoted, branches_renoted};
 ghost use Rattle.au_closed_trees.specs.Renoted.{expression_renoted, statement_renoted};
 
 use crate::changes::Closer;
@@ -171,7 +171,8 @@ fn close_statement<R: Closer>(
     }
 }
 
-/// The closed tree of a block: each note is closed, and the same is written at the same places.
+/// The closed tree of a block: each note is closed, the names of arms become others, and the same is written at
+/// the same places.
 ///
 /// # Errors
 ///
@@ -211,16 +212,31 @@ fn close_branch<R: Closer>(
     Ok(Branch { test, block })
 }
 
-/// The name and the bound fields of an arm.
-fn copy_heading(
+/// The name of an arm.
+fn close_case<R: Closer>(
     alloc: Global,
+    closer: &R,
+    of: &Ident<Noted>,
+) -> Result<Ident<ClosedTrees>, Memory>
+    ensures { IfOk result (λ made.
+        placed closed made ≡ arm_named (R.change closer.now) (placed noted of.now)) }
+{
+    let name = closer.arm(alloc, &of.name)?;
+    Ok(Ident { name, at: of.at })
+}
+
+/// The name and the bound fields of an arm.
+fn close_heading<R: Closer>(
+    alloc: Global,
+    closer: &R,
     of: &Arm<Noted>,
 ) -> Result<(Ident<ClosedTrees>, Vec<Bind<ClosedTrees>>), Memory>
-    ensures case { IfOk result (λ copy. placed closed copy.0 ≡ placed noted of.now.case) }
-    ensures binds { IfOk result (λ copy.
-        map (bound closed) copy.1.items ≡ map (bound noted) of.now.binds.items) }
+    ensures case { IfOk result (λ made.
+        placed closed made.0 ≡ arm_named (R.change closer.now) (placed noted of.now.case)) }
+    ensures binds { IfOk result (λ made.
+        map (bound closed) made.1.items ≡ map (bound noted) of.now.binds.items) }
 {
-    let case = copy_name(alloc, &of.case)?;
+    let case = close_case(alloc, closer, &of.case)?;
     let binds = copy_binds(alloc, &of.binds)?;
     Ok((case, binds))
 }
@@ -233,13 +249,14 @@ fn close_arm<R: Closer>(
     of: &Arm<Noted>,
 ) -> Result<Arm<ClosedTrees>, Memory>
     ensures at { IfOk result (λ made. made.at ≡ of.now.at) }
-    ensures case { IfOk result (λ made. placed closed made.case ≡ placed noted of.now.case) }
+    ensures case { IfOk result (λ made.
+        placed closed made.case ≡ arm_named (R.change closer.now) (placed noted of.now.case)) }
     ensures binds { IfOk result (λ made.
         map (bound closed) made.binds.items ≡ map (bound noted) of.now.binds.items) }
     ensures block { IfOk result (λ made.
         block closed made.block ≡ block_renoted (R.change closer.now) (block noted of.now.block)) }
 {
-    let (case, binds) = copy_heading(alloc, of)?;
+    let (case, binds) = close_heading(alloc, closer, of)?;
     let block = close_block(alloc, closer, &of.block)?;
     let at = of.at;
     Ok(Arm {

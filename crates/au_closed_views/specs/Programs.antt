@@ -1,5 +1,5 @@
 -- What is round a tree of a closed program, by its functions and the rows of its types.
-use Rattle.std.specs.Prelude.{ℕ, ◌+◌, Bool, false, List, [], ◌∷◌, length, map, Option, Some, None, slice_get}
+use Rattle.std.specs.Prelude.{ℕ, suc, ◌+◌, Bool, false, List, [], ◌∷◌, map, Option, Some, None, slice_get}
 use Rattle.std.specs.Prelude.{if◌then◌else◌}
 use Rattle.std.specs.List.{find}
 use Rattle.std.specs.Option.{option_map}
@@ -8,7 +8,6 @@ use Rattle.au_closed_trees.specs.ClosedNotes.{Callee, ClosedNote, ClosedStatemen
 use Rattle.au_closed_types.specs.Same.{same}
 use Rattle.au_closed_types.specs.Types.{ClosedType}
 use Rattle.au_effects.specs.Parts.{along}
-use Rattle.au_meaning.specs.Names.{names_in_block}
 use Rattle.au_meaning.specs.Views.{Field, Function, View}
 use Rattle.au_syntax.specs.Plain.{Bytes}
 use Rattle.au_closed_views.specs.Surroundings.{Surroundings, field_names, view_in}
@@ -77,12 +76,12 @@ module _ (functions : List Body) (rows : List Row) where
     body = f.block;
   }
 
-  -- functions, of which the first begins with this number, so that each number is one declaration
-  abbrev pub functions_from : ℕ → List Body → List (Function ℕ ClosedNote (Callee ℕ))
-  functions_from first [] = []
-  functions_from first (f ∷ rest) =
-      function_seen first f ∷ functions_from (first + length f.parameters + names_in_block f.block) rest
+  -- functions in order, each with the number of its first name, by its own number
+  abbrev pub functions_by : (ℕ → ℕ) → List Body → List (Function ℕ ClosedNote (Callee ℕ))
+  functions_by numbers [] = []
+  functions_by numbers (f ∷ rest) =
+      function_seen (numbers 0) f ∷ functions_by (λ n. numbers (suc n)) rest
 
-  -- the functions as they are run, by their numbers
-  abbrev pub functions_seen : List (Function ℕ ClosedNote (Callee ℕ))
-  functions_seen = functions_from 0 functions
+  -- the functions as they are run
+  abbrev pub functions_seen : (ℕ → ℕ) → List (Function ℕ ClosedNote (Callee ℕ))
+  functions_seen numbers = functions_by numbers functions

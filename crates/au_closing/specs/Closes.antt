@@ -1,6 +1,6 @@
 -- A program as the list of its instances that are reached from its entry, each with its closed tree.
 use Rattle.std.specs.Prelude.{◌≡◌, ℕ, List, [], ◌∷◌, Option, None, Some, map}
-use Rattle.std.specs.Option.{option_map}
+use Rattle.std.specs.Option.{option_and_then, option_map}
 use Rattle.au_syntax.specs.declared.modules.Part.TheVariants.{Body}
 use Rattle.au_syntax.specs.Plain.{Bytes}
 use Rattle.au_types.specs.declared.headings.Head.{Head}
@@ -24,7 +24,7 @@ use Rattle.au_closing.specs.Bodies.{BodyOf, body_of, constant_seen, value_of}
 use Rattle.au_given_types.specs.Given.{Given, closed_under}
 use Rattle.au_closed_parts.specs.Parts.{ClosedField, field_under, written_under}
 use Rattle.au_closing.specs.Instances.{Instance, instance_of, numbered, same_instance}
-use Rattle.au_closing.specs.Leading.{call_leads, module_name}
+use Rattle.au_closing.specs.Leading.{call_leads, case_name, module_name}
 
 -- ---- what is in a closed program
 
@@ -43,29 +43,25 @@ note_closed given note = record { of = closed_under given note.of; free = None; 
 
 -- by the rows of declared types and the literals of constants
 module _ (heads : List (DeclAt × Head)) (literal_of : DeclAt → Option Literal) where
-  -- The note of an expression that mentions a variable, or of one that mentions a constant. Whether the
-  -- variable is Free is judged over the type parameters in scope.
+  -- The note of an expression that mentions a name, which may mean a constant. Whether what is mentioned is
+  -- Free is judged over the type parameters in scope.
   abbrev pub mention_closed : List Parameter → Given → Note → Option DeclAt → ClosedNote
-  mention_closed params given note None = record {
+  mention_closed params given note constant = record {
     of = closed_under given note.of;
     free = Some (is_free (universe_of heads params note.of));
-    literal = None;
-  }
-  mention_closed params given note (Some at) = record {
-    of = closed_under given note.of;
-    free = None;
-    literal = literal_of at;
+    literal = option_and_then literal_of constant;
   }
 
-  -- what becomes of the notes of a body, over these type parameters and under what is given for them, by
-  -- these instances, the constants that names mean there, and what calls lead to
+  -- what becomes of a body, over these type parameters and under what is given for them, by these instances,
+  -- the constants that names mean there, what calls lead to, and the cases that the names of arms mean
   abbrev pub change_by : List Instance → (Bytes → Option DeclAt) →
-      (Note → Unit {0} → Bytes → Callee (Option Instance)) → List Parameter → Given →
+      (Note → Unit {0} → Bytes → Callee (Option Instance)) → (Bytes → Bytes) → List Parameter → Given →
       Change Bytes Note (Unit {0}) ClosedNote (Callee ℕ)
-  change_by all constant leads params given = record {
+  change_by all constant leads cases params given = record {
     note = note_closed given;
     mention = λ note name. mention_closed params given note (constant name);
     callee = λ note c name. numbered all (leads note c name);
+    arm = cases;
   }
 
 module _ (program : List ModuleParts) (noted : List NotedParts) where
@@ -74,7 +70,8 @@ module _ (program : List ModuleParts) (noted : List NotedParts) where
       Change Bytes Note (Unit {0}) ClosedNote (Callee ℕ)
   change_of all place params given =
       change_by (heads_of program) (value_of program noted) all
-      (constant_seen program place) (λ note c name. call_leads program place given note name) params given
+      (constant_seen program place) (λ note c name. call_leads program place given note name)
+      (case_name program place) params given
 
   -- ---- instances
 

@@ -139,6 +139,20 @@ module _ (program : List ModuleParts) (rows : List Row) where
   target_leads given note (Some target) =
       called_leads given note target (called_standing target.name (standing_at program target.at))
 
+-- ---- arms
+
+-- the name under which what a name means is declared: it stays as it is where it means nothing
+abbrev pub declared_name : Bytes → Option Target → Bytes
+declared_name name None = name
+declared_name name (Some target) = target.name
+
+-- The name of an arm means a case as the name of a call does: the name, as its union declares it, of the case
+-- that an arm is for in the body of the module at a place.
+abbrev pub case_name : List ModuleParts → ℕ → Bytes → Bytes
+case_name program place name = declared_name name (tables.find name (seen_at Callables program place Body))
+
+-- ---- calls
+
 -- What a call of a name leads to in the body of the module at a place, under what is given for the type
 -- parameters there, by the note of the call's expression. In a derived program it leads to something.
 abbrev pub call_leads : List ModuleParts → ℕ → Given → Note → Bytes → Callee (Option Instance)

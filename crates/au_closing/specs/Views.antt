@@ -19,7 +19,7 @@ use Rattle.au_closing.specs.declared.instances.Lead.TheVariants as lead
 use Rattle.au_closing.specs.declared.leading.Sight.{Sight}
 use Rattle.au_closing.specs.Closes.{change_by}
 use Rattle.au_closing.specs.Instances.{Instance, instance_of}
-use Rattle.au_closing.specs.Leading.{target_leads}
+use Rattle.au_closing.specs.Leading.{declared_name, target_leads}
 
 -- an instance
 abbrev pub instance_said : found.Instance → Instance
@@ -46,9 +46,13 @@ call_seen sight given note c name =
 abbrev pub leads_of : Sight → Given → Note → Unit {0} → Bytes → List Instance
 leads_of sight given note c name = instance_of (call_seen sight given note c name)
 
--- what becomes of the notes of a body where this is seen, by these instances and the literals of constants
+-- the name of the case that the name of an arm means where this is seen, as its union declares it
+abbrev pub case_seen : Sight → Bytes → Bytes
+case_seen sight name = declared_name name (tables.find name sight.names.now.callables)
+
+-- what becomes of a body where this is seen, by these instances and the literals of constants
 abbrev pub change_seen : Sight → List Instance → (DeclAt → Option Literal) → List Parameter → Given →
     Change Bytes Note (Unit {0}) ClosedNote (Callee ℕ)
 change_seen sight all literal_of params given =
     change_by (heads_of (slots.modules sight.program.now)) literal_of all
-    (λ name. tables.find name sight.names.now.values) (call_seen sight given) params given
+    (λ name. tables.find name sight.names.now.values) (call_seen sight given) (case_seen sight) params given

@@ -1,6 +1,7 @@
 //! Closed trees of bodies.
 
-ghost use Rattle.std.specs.Prelude.{◌≡◌, IfOk, List, None, Option, Some, length};
+ghost use Rattle.std.specs.Prelude.{◌≡◌, IfOk, List, Option, length};
+ghost use Rattle.std.specs.Option.{option_and_then};
 ghost use Rattle.au_closed_trees.specs.contracts.phase.ClosedTreesPhase.TheImpl.{ghosts as closed};
 ghost use Rattle.au_closed_trees.specs.declared.notes.Literal.{Literal as LiteralSeen};
 ghost use Rattle.au_closed_trees.specs.Renoted.{block_renoted};
@@ -14,14 +15,13 @@ ghost use Rattle.au_names.specs.HeadsOf.{heads_of};
 ghost use Rattle.au_notes.specs.contracts.noted.NotedPhase.TheImpl.{ghosts as noted};
 ghost use Rattle.au_notes.specs.Views.{note as note_said};
 ghost use Rattle.au_syntax.specs.Views.{block};
-ghost use Rattle.au_types.specs.declared.headings.Head.{Head};
-ghost use Rattle.au_types.specs.declared.parameters.Parameter.{Parameter};
 ghost use Rattle.au_types.specs.declared.types.DeclAt.{DeclAt as DeclAtSeen};
 ghost use Rattle.au_types.specs.Views.{meaning};
 ghost use Rattle.au_universes.specs.Universes as universes;
 
 use crate::instances::{Instance, Lead};
 use crate::leading::{Sight, call_leads};
+use crate::names::case_name;
 use au_base::{Memory, Name};
 use au_closed_trees::{Callee, ClosedNote, ClosedTrees, Closer, Literal, close_block};
 use au_given_types::{GivenType, closed_under};
@@ -85,48 +85,37 @@ fn plain_note(alloc: Global, given: &[GivenType], of: &Notes) -> Result<ClosedNo
     })
 }
 
-/// The closed note of an expression that mentions a variable.
-fn variable_note(
+/// The literal of the constant of a declaration, if there is the declaration and it is one.
+fn literal_at<K: Listed>(
     alloc: Global,
-    program: &Resolved,
-    params: &Params,
-    given: &[GivenType],
-    of: &Notes,
-) -> Result<ClosedNote, Memory>
-    ensures { (literal_of : DeclAtSeen → Option LiteralSeen) → IfOk result (λ made.
-        closed_note made
-        ≡ spec.mention_closed (heads_of (slots.modules program.now)) literal_of params.now
-        (given_said given.now) (note_said of.now) None) }
+    known: &K,
+    constant: Option<DeclAt>,
+) -> Result<Option<Literal>, Memory>
+    ensures { IfOk result (λ found. found ≡ option_and_then (K.literal_of known.now) constant) }
 {
-    let free = Some(is_free(program, params, &of.of));
-    let of = closed_under(alloc, given, &of.of)?;
-    Ok(ClosedNote {
-        of,
-        free,
-        literal: None,
-    })
+    match constant {
+        None => Ok(None),
+        Some(at) => known.literal(alloc, at),
+    }
 }
 
-/// The closed note of an expression that mentions the constant of a declaration.
-fn constant_note<K: Listed>(
+/// The closed note of an expression that mentions a name, which means this constant, if it means one.
+fn mention_note<K: Listed>(
     alloc: Global,
-    given: &[GivenType],
-    known: &K,
+    closer: &BodyCloser<K>,
     of: &Notes,
-    at: DeclAt,
+    constant: Option<DeclAt>,
 ) -> Result<ClosedNote, Memory>
-    ensures { (heads : List (DeclAtSeen × Head)) (params : List Parameter) → IfOk result (λ made.
+    ensures { IfOk result (λ made.
         closed_note made
-        ≡ spec.mention_closed heads (K.literal_of known.now) params (given_said given.now)
-        (note_said of.now) (Some at)) }
+        ≡ spec.mention_closed (heads_of (slots.modules closer.now.sight.program.now))
+        (K.literal_of closer.now.known.now) closer.now.params.now (given_said closer.now.given.now)
+        (note_said of.now) constant) }
 {
-    let literal = known.literal(alloc, at)?;
-    let of = closed_under(alloc, given, &of.of)?;
-    Ok(ClosedNote {
-        of,
-        free: None,
-        literal,
-    })
+    let free = Some(is_free(closer.sight.program, closer.params, &of.of));
+    let literal = literal_at(alloc, closer.known, constant)?;
+    let of = closed_under(alloc, closer.given, &of.of)?;
+    Ok(ClosedNote { of, free, literal })
 }
 
 /// The number of the instance that a call leads to, or what else it leads to.
@@ -152,21 +141,23 @@ impl<'a, K: Listed> Closer for BodyCloser<'a, K> {
     }
 
     fn mention(&self, alloc: Global, of: &Notes, name: &Name) -> Result<ClosedNote, Memory> {
-        match self.sight.names.values.get(name.as_bytes()) {
-            None => variable_note(alloc, self.sight.program, self.params, self.given, of),
-            Some(at) => constant_note(alloc, self.given, self.known, of, *at),
-        }
+        let constant = self.sight.names.values.get(name.as_bytes()).copied();
+        mention_note(alloc, self, of, constant)
     }
 
     fn callee(&self, alloc: Global, of: &Notes, name: &Name) -> Result<Callee, Memory> {
         let lead = call_leads(alloc, &self.sight, self.given, of, name)?;
         numbered_lead(alloc, self.known, lead)
     }
+
+    fn arm(&self, alloc: Global, name: &Name) -> Result<Name, Memory> {
+        case_name(alloc, &self.sight, name)
+    }
 }
 
 /// The closed tree of a block over these type parameters, where this is seen, this is given for them, and
 /// this is known: each note is closed, each call leads to the number of its instance or to what else it leads
-/// to, and the same is written at the same places.
+/// to, each arm has the name under which its case is declared, and the same is written at the same places.
 ///
 /// # Errors
 ///

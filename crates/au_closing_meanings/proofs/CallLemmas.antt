@@ -26,9 +26,9 @@ use Rattle.au_closed_trees.specs.Changes.{Change}
 use Rattle.au_closed_trees.specs.ClosedNotes.{Callee, ClosedNote, constructor, instance, shipped}
 use Rattle.au_closed_trees.specs.Renoted.{block_renoted}
 use Rattle.au_closing.specs.Bodies.{constant_seen, value_of}
-use Rattle.au_closing.specs.Closes.{ClosedFunction, mention_closed, note_closed}
+use Rattle.au_closing.specs.Closes.{ClosedFunction, change_of, mention_closed, note_closed}
 use Rattle.au_closing.specs.Instances.{Instance, instance_of, numbered, place_in, same_instance}
-use Rattle.au_closing.specs.Leading.{Called, a_function, a_maker, a_method, call_leads, called_leads, method_leads, module_name, shipped_or, target_leads}
+use Rattle.au_closing.specs.Leading.{Called, a_function, a_maker, a_method, call_leads, called_leads, case_name, method_leads, module_name, shipped_or, target_leads}
 use Rattle.au_closing.proofs.ClosesLemmas.{instances_told}
 use Rattle.au_reach.specs.Reached.{Has}
 use Rattle.au_reach.proofs.HasLemmas.{has_it}
@@ -45,7 +45,7 @@ use Rattle.au_closing_meanings.proofs.CountLemmas.{parameters_count}
 use Rattle.au_closing_meanings.proofs.SameStatements.{names_same_block, one_meaning}
 use Rattle.au_closing_meanings.specs.Closed.{names_at}
 use Rattle.au_closing_meanings.specs.Kept.{SaysWhatIs, TypesCount}
-use Rattle.au_closing_meanings.specs.Generic.{Mention, constant_of, fields_in, free_over, lead_does, mentions_named, names_of_instance, view_under}
+use Rattle.au_closing_meanings.specs.Generic.{constant_of, fields_in, lead_does, names_of_instance, view_under}
 use Rattle.au_closing_meanings.proofs.EachLemmas.{Within}
 
 -- ---- bodies
@@ -135,33 +135,15 @@ target_makes program rows given note (Some target) = called_makes program rows g
 
 module _ (program : List ModuleParts) (noted : List NotedParts) (all : List Instance) (place : ℕ)
     (params : List Parameter) (given : Given) where
-  abbrev one : View Instance Mention (Unit {0})
+  abbrev one : View Instance Note (Unit {0})
   one = view_under program noted place params given
 
   abbrev home : Bytes
   home = module_name program place
 
-  -- what becomes of notes of mentions
-  abbrev pub closer : Change Bytes Mention (Unit {0}) ClosedNote (Callee ℕ)
-  closer = record {
-    note = λ m. note_closed given m.note;
-    mention = λ m name.
-        mention_closed (heads_of program) (value_of program noted) params given m.note
-        (constant_seen program place name);
-    callee = λ m c name. numbered all (call_leads program place given m.note name);
-  }
-
-  pub type_mentioned : (note : Note) (constant : Option DeclAt)
-      → closed_under given note.of
-      ≡ (mention_closed (heads_of program) (value_of program noted) params given note constant).of
-  type_mentioned note None = refl
-  type_mentioned note (Some at) = refl
-
-  free_same : (note : Note) (constant : Option DeclAt)
-      → free_over program noted params note constant
-      ≡ is_free (mention_closed (heads_of program) (value_of program noted) params given note constant)
-  free_same note None = refl
-  free_same note (Some at) = refl
+  -- what becomes of the body
+  abbrev pub closer : Change Bytes Note (Unit {0}) ClosedNote (Callee ℕ)
+  closer = change_of program noted all place params given
 
   value_same : (note : Note) (constant : Option DeclAt)
       → constant_of program noted constant
@@ -176,20 +158,19 @@ module _ (program : List ModuleParts) (noted : List NotedParts) (all : List Inst
 
     pub types_agree : AgreeOnTypes known closer one two
     types_agree = record {
-      notes = λ m. refl;
-      mentions = λ m name. ap (λ t. Some t) (type_mentioned m.note (constant_seen program place name));
+      notes = λ note. refl;
+      mentions = λ note name. refl;
       fields = λ of c tag. sym (says.fields home of c tag);
       inside = counts.inside;
-      tags = λ of c name. sym (says.tags home of c name);
+      tags = λ of c name. sym (says.tags home of c (case_name program place name));
     }
 
     -- a name that is mentioned does the same
     pub mention_agrees : (note : Note) (name : Bytes)
-        → AgreeOnMention known closer one two (mentions_named.mention note name) name
+        → AgreeOnMention known closer one two note name
     mention_agrees note name None =
         λ i. needing (value_same note (constant_seen program place name) i) pure
-    mention_agrees note name (Some x) =
-        λ i. copies (free_same note (constant_seen program place name) i) x.number
+    mention_agrees note name (Some x) = refl
 
     -- ---- calls
 
@@ -231,8 +212,7 @@ module _ (program : List ModuleParts) (noted : List NotedParts) (all : List Inst
       pub call_agrees : (note : Note) (c : Unit {0}) (name : Bytes)
           → known (closed_under given note.of) ≡ true
           → Within same_instance all (instance_of (call_leads program place given note name))
-          → AgreeOnCall known closer one two invoke other (mentions_named.note note)
-          (mentions_named.callee note c name) name
+          → AgreeOnCall known closer one two invoke other note c name
       call_agrees note c name k w =
           lead_same note k (call_leads program place given note name)
           (target_makes program (rows_of program) given note

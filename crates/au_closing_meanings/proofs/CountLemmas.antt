@@ -90,7 +90,7 @@ module _ {I J T C U D : Type 0} (known : ClosedType → Bool) (change : Change B
   found_by (Some of) c tag = agree.inside of c tag
 
   pub tags_by : (o : Option ClosedType) → Counts known o → (name : Bytes)
-      → along o (λ of. one.tag of name) ≡ along o (λ of. two.tag of name)
+      → along o (λ of. one.tag of name) ≡ along o (λ of. two.tag of (change.arm name))
   tags_by None c name = refl
   tags_by (Some of) c name = agree.tags of c name
 

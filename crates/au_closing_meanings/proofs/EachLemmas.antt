@@ -4,8 +4,6 @@ use Rattle.std.specs.Prelude.{Contains}
 use Rattle.std.proofs.lemmas.List.Elements.{Contains-append_left, Contains-append_right, Contains-push}
 use Rattle.au_closed_types.specs.Types.{ClosedType}
 use Rattle.au_closed_trees.specs.Calls.{calls_in, calls_in_all, calls_in_arguments, calls_in_statement, calls_in_block, calls_in_branches, calls_in_arms}
-use Rattle.au_closed_trees.specs.Changes.{Change}
-use Rattle.au_closed_trees.specs.Renoted.{expression_renoted, expressions_renoted, arguments_renoted, statement_renoted, block_renoted, branches_renoted, arms_renoted}
 use Rattle.au_meaning.specs.Expressions.{note_of}
 use Rattle.au_tree_types.specs.Notes.{said_in, said_in_all, said_in_arguments, said_in_statement, said_in_block, said_in_branches, said_in_arms}
 use Rattle.au_reach.specs.Reached.{Has}
@@ -43,27 +41,24 @@ module _ (known : ClosedType → Bool) where
   known_later : (of : ClosedType) (rest : List ClosedType) → AllKnown (of ∷ rest) → AllKnown rest
   known_later of rest there = λ one h. there one (Contains-append_right (of ∷ []) rest one h)
 
-module _ {T C U D A : Type 0} (same : A → A → Bool) (all : List A) (leads : T → C → Bytes → List A)
+module _ {T C A : Type 0} (same : A → A → Bool) (all : List A) (leads : T → C → Bytes → List A)
     (known : ClosedType → Bool) (type_of : T → ClosedType)
-    (change : Change Bytes T C U D) (noted : U → Type 0) (mention : U → Bytes → Type 0)
-    (claim : U → D → Bytes → Type 0)
-    (notes : (n : T) → known (type_of n) ≡ true → noted (change.note n))
-    (mentions_noted : (n : T) (name : Bytes) → known (type_of n) ≡ true → noted (change.mention n name))
-    (mentions : (n : T) (name : Bytes) → mention (change.mention n name) name)
+    (noted : T → Type 0) (mention : T → Bytes → Type 0) (claim : T → C → Bytes → Type 0)
+    (notes : (n : T) → known (type_of n) ≡ true → noted n)
+    (mentions : (n : T) (name : Bytes) → mention n name)
     (calls : (n : T) (c : C) (name : Bytes) → known (type_of n) ≡ true → Within same all (leads n c name)
-    → claim (change.note n) (change.callee n c name) name) where
+    → claim n c name) where
   abbrev types : T → List ClosedType
   types n = type_of n ∷ []
 
   -- the type of an expression counts
-  here : (e : Expression Bytes T C) → AllKnown known (said_in types e)
-      → noted (note_of (expression_renoted change e))
+  here : (e : Expression Bytes T C) → AllKnown known (said_in types e) → noted (note_of e)
   here (number n l) k = notes n.note (known_first known _ [] k)
   here (negative n l) k = notes n.note (known_first known _ [] k)
   here (text n t) k = notes n.note (known_first known _ [] k)
   here (truth n b) k = notes n.note (known_first known _ [] k)
   here (nil n) k = notes n.note (known_first known _ [] k)
-  here (path n x fields) k = mentions_noted n.note x.name (known_first known _ [] k)
+  here (path n x fields) k = notes n.note (known_first known _ [] k)
   here (arrow n x fields) k = notes n.note (known_first known _ [] k)
   here (call n f es c) k = notes n.note (known_first known _ _ k)
   here (named_call n f es c) k = notes n.note (known_first known _ _ k)
@@ -78,7 +73,7 @@ module _ {T C U D A : Type 0} (same : A → A → Bool) (all : List A) (leads : 
 
   mutual
     each : (e : Expression Bytes T C) → Within same all (calls_in leads e) → AllKnown known (said_in types e)
-        → EachIn mention claim (expression_renoted change e)
+        → EachIn mention claim e
     each (number n l) w k = tt
     each (negative n l) w k = tt
     each (text n t) w k = tt
@@ -125,7 +120,7 @@ module _ {T C U D A : Type 0} (same : A → A → Bool) (all : List A) (leads : 
         )
 
     each_all : (es : Expressions Bytes T C) → Within same all (calls_in_all leads es)
-        → AllKnown known (said_in_all types es) → EachInAll mention claim (expressions_renoted change es)
+        → AllKnown known (said_in_all types es) → EachInAll mention claim es
     each_all no_expressions w k = tt
     each_all (expressions e rest) w k = (
       each e (front same all (calls_in leads e) (calls_in_all leads rest) w)
@@ -135,7 +130,7 @@ module _ {T C U D A : Type 0} (same : A → A → Bool) (all : List A) (leads : 
     )
 
     each_named : (es : Arguments Bytes T C) → Within same all (calls_in_arguments leads es)
-        → AllKnown known (said_in_arguments types es) → EachNamed mention claim (arguments_renoted change es)
+        → AllKnown known (said_in_arguments types es) → EachNamed mention claim es
     each_named no_arguments w k = tt
     each_named (arguments label e rest) w k = (
       each e (front same all (calls_in leads e) (calls_in_arguments leads rest) w)
@@ -146,7 +141,7 @@ module _ {T C U D A : Type 0} (same : A → A → Bool) (all : List A) (leads : 
 
   mutual
     each_of : (s : Statement Bytes T C) → Within same all (calls_in_statement leads s)
-        → AllKnown known (said_in_statement types s) → EachOf noted mention claim (statement_renoted change s)
+        → AllKnown known (said_in_statement types s) → EachOf noted mention claim s
     each_of (skip at) w k = tt
     each_of (declare at b n t e) w k = (here e k, each e w k)
     each_of (destructure at binds e) w k = (here e k, each e w k)
@@ -191,7 +186,7 @@ module _ {T C U D A : Type 0} (same : A → A → Bool) (all : List A) (leads : 
     each_of (return_of at e) w k = each e w k
 
     pub each_block : (b : Statements Bytes T C) → Within same all (calls_in_block leads b)
-        → AllKnown known (said_in_block types b) → EachOfBlock noted mention claim (block_renoted change b)
+        → AllKnown known (said_in_block types b) → EachOfBlock noted mention claim b
     each_block no_statements w k = tt
     each_block (statements s rest) w k = (
       each_of s (front same all (calls_in_statement leads s) (calls_in_block leads rest) w)
@@ -202,7 +197,7 @@ module _ {T C U D A : Type 0} (same : A → A → Bool) (all : List A) (leads : 
 
     each_tests : (tests : Branches Bytes T C) → Within same all (calls_in_branches leads tests)
         → AllKnown known (said_in_branches types tests)
-        → EachOfTests noted mention claim (branches_renoted change tests)
+        → EachOfTests noted mention claim tests
     each_tests no_branches w k = tt
     each_tests (branches e b rest) w k =
         let some = calls_in leads e ++ calls_in_block leads b in
@@ -219,7 +214,7 @@ module _ {T C U D A : Type 0} (same : A → A → Bool) (all : List A) (leads : 
 
     each_arms : (cases : Arms Bytes T C) → Within same all (calls_in_arms leads cases)
         → AllKnown known (said_in_arms types cases)
-        → EachOfArms noted mention claim (arms_renoted change cases)
+        → EachOfArms noted mention claim cases
     each_arms no_arms w k = tt
     each_arms (arms at n binds b rest) w k = (
       each_block b (front same all (calls_in_block leads b) (calls_in_arms leads rest) w)

@@ -30,12 +30,11 @@ use Rattle.au_meaning.specs.Worlds.{Value}
 use Rattle.au_closed_views.specs.Surroundings.{Surroundings, view_in}
 use Rattle.au_closing_meanings.specs.Agreement.{AgreeOnMention, AgreeOnCall, Counts, FieldsCount, FoundCount}
 use Rattle.au_closing_meanings.specs.Closed.{closed_functions, function_closed, names_at, parameters_seen}
-use Rattle.au_closing_meanings.specs.Generic.{Mention, fields_in, function_under, generic_functions, mentions_named, names_of_instance, parameters_under, view_under}
+use Rattle.au_closing_meanings.specs.Generic.{fields_in, function_under, generic_functions, names_of_instance, parameters_under, view_under}
 use Rattle.au_closing_meanings.specs.Kept.{KeepsMeaning, NumberAlike, ProgramsSay, SaysWhatIs, TypesCount}
-use Rattle.au_closing_meanings.proofs.CallLemmas.{call_agrees, closer, enters_same, mention_agrees, type_mentioned, types_agree}
+use Rattle.au_closing_meanings.proofs.CallLemmas.{call_agrees, closer, enters_same, mention_agrees, types_agree}
 use Rattle.au_closing_meanings.proofs.EachLemmas.{AllKnown, Within, each_block}
 use Rattle.au_closing_meanings.proofs.SaidLemmas.{block_same}
-use Rattle.au_closing_meanings.proofs.TwiceLemmas.{block_twice}
 
 -- ---- what is listed is there
 
@@ -98,7 +97,7 @@ module _ (program : List ModuleParts) (noted : List NotedParts) (entry : Instanc
       (round : Bytes → Surroundings) (known : ClosedType → Bool)
       (says : SaysWhatIs known program functions round) (counts : TypesCount known program functions) where
     -- the functions as they are run, generic and closed
-    abbrev whole : Instance → Option (Function Instance Mention (Unit {0}))
+    abbrev whole : Instance → Option (Function Instance Note (Unit {0}))
     whole = generic_functions program noted first
 
     abbrev made : ℕ → Option (Function ℕ ClosedNote (Callee ℕ))
@@ -123,9 +122,7 @@ module _ (program : List ModuleParts) (noted : List NotedParts) (entry : Instanc
         subst (AllKnown known)
         (block_same (change_of program noted all body.place params one.given)
         (λ (note : Note). closed_under one.given note.of ∷ []) (λ (n : ClosedNote). n.of ∷ []) (λ note. refl)
-        (λ note name. ap (λ t. t ∷ [])
-        (sym (type_mentioned program noted all body.place params one.given note
-        (constant_seen program body.place name))))
+        (λ note name. refl)
         body.block)
         (counts.notes (place_in one all) (body_closed program noted all one.given body) at)
 
@@ -151,17 +148,14 @@ module _ (program : List ModuleParts) (noted : List NotedParts) (entry : Instanc
         other same names_there none_behind in
         enters_same known change view closed
         (types_agree program noted all body.place params one.given functions round known says counts)
-        invoke other depth number parameters (block_renoted mentions_named body.block)
+        invoke other depth number parameters body.block
         (counts.parameters (place_in one all) (body_closed program noted all one.given body) at)
         (each_block same_instance all
         (λ note c name. instance_of (call_leads program body.place one.given note name)) known
-        (λ note. closed_under one.given note.of) mentions_named (λ m. Counts known (view.type_of m))
+        (λ note. closed_under one.given note.of) (λ note. Counts known (view.type_of note))
         (AgreeOnMention known change view closed) (AgreeOnCall known change view closed invoke other)
-        (λ note k. k) (λ note name k. k) mention_says call_says
+        (λ note k. k) mention_says call_says
         body.block (calls_within one here body is) (notes_known one body at))
-        ∙ ap (λ (tree : ClosedStatements). enters other depth
-        (Some (record { view = closed; parameters = parameters; first = number; body = tree })))
-        (block_twice mentions_named change body.block)
 
     closing_at : (depth : ℕ) (one : Instance) → Has same_instance all one
         → call_at whole depth one ≡ call_at made depth (place_in one all)

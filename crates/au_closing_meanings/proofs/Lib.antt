@@ -1,9 +1,8 @@
-mod TwiceLemmas
 mod EachLemmas
 mod SaidLemmas
 mod CallLemmas
 pub mod KeptLemmas
-mod InRowLemmas
+pub mod InRowLemmas
 pub mod ListedLemmas
 mod CoveredLemmas
 pub mod ListedCountLemmas

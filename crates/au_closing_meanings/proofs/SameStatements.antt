@@ -70,11 +70,12 @@ module _ {I J T C U D : Type 0} (known : ClosedType → Bool) (change : Change B
       ∙ ap (λ o. along o (λ of. two.fields of tag)) (type_same known change one two agree e)
 
   means_same : (e : Expression Bytes T C) → NoteCounts (note_of e) → (name : Bytes) (tag : ℕ)
-      → means_case one (note_of e) name tag ≡ means_case two (note_of (expression_renoted change e)) name tag
+      → means_case one (note_of e) name tag
+      ≡ means_case two (note_of (expression_renoted change e)) (change.arm name) tag
   means_same e c name tag =
       ap (is_tag tag)
       (tags_by known change one two agree (one.type_of (note_of e)) c name
-      ∙ ap (λ o. along o (λ of. two.tag of name)) (type_same known change one two agree e))
+      ∙ ap (λ o. along o (λ of. two.tag of (change.arm name))) (type_same known change one two agree e))
 
   assigns_same : (x : Option Variable) → VariableCounts known x → (names : List Bytes) (value : Value)
       → assigns one x names value ≡ assigns two x names value

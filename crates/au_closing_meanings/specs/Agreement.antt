@@ -122,13 +122,14 @@ module _ (known : ClosedType → Bool) where
 module _ {I J T C U D : Type 0} (known : ClosedType → Bool) (change : Change Bytes T C U D) (one : View I T C)
     (two : View J U D) where
   -- Two views agree on types: on those of notes and of what these become, and of a type that counts on the
-  -- fields, whose types count too, and on the cases.
+  -- fields, whose types count too, and on the cases that names of arms mean, and what these become.
   pub record AgreeOnTypes : Type 0 where
     pub notes : (n : T) → one.type_of n ≡ two.type_of (change.note n)
     pub mentions : (n : T) (name : Bytes) → one.type_of n ≡ two.type_of (change.mention n name)
     pub fields : (of : ClosedType) → known of ≡ true → (tag : ℕ) → one.fields of tag ≡ two.fields of tag
     pub inside : (of : ClosedType) → known of ≡ true → (tag : ℕ) → FoundCount known (one.fields of tag)
-    pub tags : (of : ClosedType) → known of ≡ true → (name : Bytes) → one.tag of name ≡ two.tag of name
+    pub tags : (of : ClosedType) → known of ≡ true → (name : Bytes)
+        → one.tag of name ≡ two.tag of (change.arm name)
 
   -- they agree on a name that is mentioned, whatever variable it means or if it means none
   abbrev pub AgreeOnMention : T → Bytes → Type 0

@@ -1,6 +1,6 @@
 -- The meaning of a program with notes: each function and method is run from its own tree, under the closed
 -- types that are given for its type parameters.
-use Rattle.std.specs.Prelude.{ℕ, Bool, false, List, Option, None, Some, map}
+use Rattle.std.specs.Prelude.{ℕ, Bool, List, Option, None, Some, map}
 use Rattle.std.specs.Option.{option_map}
 use Rattle.au_syntax.specs.declared.modules.Part.TheVariants.{Body}
 use Rattle.au_syntax.specs.Plain.{Bytes}
@@ -17,33 +17,16 @@ use Rattle.au_typing.specs.Notes.{Note}
 use Rattle.au_derivations.specs.Trees.{NotedParts}
 use Rattle.au_given_types.specs.Given.{Given, closed_under}
 use Rattle.au_closed_parts.specs.Parts.{ClosedCase, ClosedField, cases_of, field_under}
-use Rattle.au_closed_trees.specs.Changes.{Change}
 use Rattle.au_closed_trees.specs.ClosedNotes.{Callee, constructor, instance, shipped}
-use Rattle.au_closed_trees.specs.Renoted.{block_renoted}
 use Rattle.au_closing.specs.Bodies.{BodyOf, body_of, constant_seen, value_of}
 use Rattle.au_closing.specs.Instances.{Instance}
-use Rattle.au_closing.specs.Leading.{call_leads, module_name}
+use Rattle.au_closing.specs.Leading.{call_leads, case_name, module_name}
 use Rattle.au_meaning.specs.Views as views
 use Rattle.au_meaning.specs.Views.{Act, Field, Function, View, invokes, makes, ships}
 use Rattle.au_meaning.specs.Worlds.{Value}
 use Rattle.au_closed_views.specs.Programs.{Case, case_from, fields_at}
 use Rattle.au_closed_views.specs.Shipped.{born, shipped_parameters}
 use Rattle.au_closed_views.specs.Surroundings.{field_names, literal_value}
-
--- ---- mentions
-
--- the note of an expression and, where the expression mentions a variable or a constant, its name
-pub record Mention : Type 0 where
-  pub note : Note
-  pub name : Option Bytes
-
--- the notes of a tree become those: the same is written at the same places
-abbrev pub mentions_named : Change Bytes Note (Unit {0}) Mention (Unit {0})
-mentions_named = record {
-  note = λ note. record { note = note; name = None };
-  mention = λ note name. record { note = note; name = Some name };
-  callee = λ note c name. c;
-}
 
 -- ---- closed types
 
@@ -60,7 +43,7 @@ module _ (program : List ModuleParts) where
   abbrev pub cases_in : ClosedType → List Case
   cases_in of = map case_seen (cases_of program of)
 
-  -- the number of the case of a type that a name means
+  -- the number of the case of a type that is declared under a name
   abbrev pub tag_in : ClosedType → Bytes → Option ℕ
   tag_in of name = case_from 0 name (cases_in of)
 
@@ -110,43 +93,32 @@ module _ (program : List ModuleParts) (noted : List NotedParts) where
   constant_of None = None
   constant_of (Some at) = option_map literal_value (value_of program noted at)
 
-  -- whether the variable of a name is of a type that is Free over these type parameters; a name that means a
-  -- constant is not that of a variable
-  abbrev pub free_over : List Parameter → Note → Option DeclAt → Bool
-  free_over params note None = is_free (universe_of (heads_of program) params note.of)
-  free_over params note (Some at) = false
-
-  -- the same of an expression in the module at a place, which may mention nothing
-  abbrev pub mentions_free : ℕ → List Parameter → Note → Option Bytes → Bool
-  mentions_free place params note None = false
-  mentions_free place params note (Some name) = free_over params note (constant_seen program place name)
-
   -- ---- functions
 
-  -- what is known at a tree in the text of the module at a place, over these type parameters and under what
-  -- is given for them
-  abbrev pub view_under : ℕ → List Parameter → Given → View Instance Mention (Unit {0})
+  -- What is known at a tree in the text of the module at a place, over these type parameters and under what
+  -- is given for them. What each written name means is told by what it means in the body of that module.
+  abbrev pub view_under : ℕ → List Parameter → Given → View Instance Note (Unit {0})
   view_under place params given = record {
-    type_of = λ m. Some (closed_under given m.note.of);
-    is_free = λ m. mentions_free place params m.note m.name;
-    callee = λ m c name. lead_does place (closed_under given m.note.of)
-        (call_leads program place given m.note name);
-    constant = λ m name. constant_of (constant_seen program place name);
-    tag = tag_in program;
+    type_of = λ note. Some (closed_under given note.of);
+    is_free = λ note. is_free (universe_of (heads_of program) params note.of);
+    callee = λ note c name. lead_does place (closed_under given note.of)
+        (call_leads program place given note name);
+    constant = λ note name. constant_of (constant_seen program place name);
+    tag = λ of name. tag_in program of (case_name program place name);
     fields = fields_in program;
     is_linear = linear_in program;
   }
 
   -- a body as it is run under what is given for its type parameters, whose first name has this number
-  abbrev pub function_under : ℕ → Given → BodyOf → Function Instance Mention (Unit {0})
+  abbrev pub function_under : ℕ → Given → BodyOf → Function Instance Note (Unit {0})
   function_under first given body = record {
     view = view_under body.place (written_params body.generics) given;
     parameters = parameters_under given body;
     first = first;
-    body = block_renoted mentions_named body.block;
+    body = body.block;
   }
 
   -- the functions of the program as they are run, each with a number for its first name
-  abbrev pub generic_functions : (Instance → ℕ) → Instance → Option (Function Instance Mention (Unit {0}))
+  abbrev pub generic_functions : (Instance → ℕ) → Instance → Option (Function Instance Note (Unit {0}))
   generic_functions first one = option_map (function_under (first one) one.given)
       (body_of program noted one.of)

@@ -1,40 +1,32 @@
--- Closed programs with the rows of their types, whose functions number their names one after another.
-use Rattle.std.specs.Prelude.{◌≡◌, ℕ, zero, suc, ◌+◌, Bool, true, List, [], ◌∷◌, length, map, Option}
+-- Closed programs with the rows of their types, whose functions number their names as the program does.
+use Rattle.std.specs.Prelude.{◌≡◌, ℕ, Bool, true, List, map, Option}
 use Rattle.std.specs.Prelude.{slice_get}
 use Rattle.au_closed_trees.specs.ClosedNotes.{Callee, ClosedNote}
 use Rattle.au_closed_types.specs.Types.{ClosedType}
 use Rattle.au_closed_views.specs.Programs.{Body, Row, case_from, fields_at, functions_seen, linear_by, row_in}
 use Rattle.au_closing.specs.Closes.{ClosedFunction, ClosesFunctions}
-use Rattle.au_closing.specs.Instances.{Instance, place_in}
+use Rattle.au_closing.specs.Instances.{Instance}
 use Rattle.au_derivations.specs.Trees.{NotedParts}
 use Rattle.au_effects.specs.Parts.{along}
 use Rattle.au_meaning.specs.Meanings.{mean}
-use Rattle.au_meaning.specs.Names.{names_in_block}
 use Rattle.au_meaning.specs.Views.{Function}
 use Rattle.au_modules.specs.Programs.{ModuleParts}
 use Rattle.au_syntax.specs.Plain.{Bytes}
 use Rattle.au_closing_meanings.specs.Closed.{parameters_seen}
 use Rattle.au_closing_meanings.specs.Generic.{fields_in, generic_functions, linear_in, tag_in}
 use Rattle.au_closing_meanings.specs.Kept.{HasCase, TypesCount}
+use Rattle.au_closing_meanings.specs.Numbers.{first_name, numbers_of}
 
 -- a closed function: the name of its module, its parameters, and its tree
 abbrev pub body_seen : ClosedFunction → Body
 body_seen f = record { home = f.home; parameters = parameters_seen f; block = f.body }
 
--- the closed functions as they are run, by their numbers, with these rows of types
-abbrev pub functions_in_row : List ClosedFunction → List Row → ℕ → Option (Function ℕ ClosedNote (Callee ℕ))
-functions_in_row functions rows number = slice_get (functions_seen (map body_seen functions) rows) number
-
--- the number of the first name of the function of a number, where that of the first function is this one
-abbrev pub first_from : ℕ → List ClosedFunction → ℕ → ℕ
-first_from first [] number = first
-first_from first (f ∷ rest) zero = first
-first_from first (f ∷ rest) (suc number) =
-    first_from (first + length (parameters_seen f) + names_in_block f.body) rest number
-
--- an instance numbers its names as the function in its place does
-abbrev pub first_of : List Instance → List ClosedFunction → Instance → ℕ
-first_of all functions one = first_from 0 functions (place_in one all)
+-- the closed functions as they are run, by their numbers, with these rows of types and these numbers of their
+-- first names
+abbrev pub functions_in_row : List ClosedFunction → List Row → (ℕ → ℕ) → ℕ
+    → Option (Function ℕ ClosedNote (Callee ℕ))
+functions_in_row functions rows numbers number =
+    slice_get (functions_seen (map body_seen functions) rows numbers) number
 
 -- rows of types say what the program itself says, of each type that counts
 pub record RowsSay (known : ClosedType → Bool) (program : List ModuleParts) (rows : List Row) : Type 0 where
@@ -56,5 +48,5 @@ KeepsMeaningInRow =
     → RowsSay known program rows
     → TypesCount known program functions
     → (input : List ℕ) (ticks : ℕ)
-    → mean (generic_functions program noted (first_of closes.instances functions)) entry input ticks
-    ≡ mean (functions_in_row functions rows) 0 input ticks
+    → mean (generic_functions program noted (first_name program noted)) entry input ticks
+    ≡ mean (functions_in_row functions rows (numbers_of program noted closes.instances)) 0 input ticks

@@ -1,4 +1,5 @@
 pub mod Generic
+pub mod Numbers
 pub mod Closed
 pub mod Kept
 pub mod InRow

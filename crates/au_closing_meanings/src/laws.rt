@@ -11,8 +11,8 @@ pub fn closing_keeps_meaning()
     ensures says { ProgramsSay }
 {}
 
-/// The same of closed programs with the rows of their types, whose functions number their names one after
-/// another.
+/// The same of closed programs with the rows of their types, where each name has the number of its declaration
+/// in the text of the program.
 pub fn closing_keeps_meaning_in_row()
     ensures { KeepsMeaningInRow }
 {}

@@ -1,28 +1,26 @@
 -- The drafts of functions are those of the functions as they are run.
-use Rattle.std.proofs.Common.{◌≡◌, ℕ, ◌+◌, List, [], ◌∷◌, length, map, refl, ap, ◌∙◌}
+use Rattle.std.proofs.Common.{◌≡◌, ℕ, suc, List, [], ◌∷◌, map, refl, ap, ◌∙◌}
 use Rattle.std.proofs.Common.{Option, None, Some, slice_get}
 use Rattle.std.specs.Option.{option_map}
 use Rattle.std.proofs.lemmas.Option.{slice_get-map}
 use Rattle.au_closed_programs.specs.declared.functions.ClosedFunction as found
 use Rattle.au_closed_programs.specs.FunctionViews.{function_said, functions_said}
-use Rattle.au_closed_views.specs.Programs.{Body, Row, functions_from, functions_seen}
+use Rattle.au_closed_views.specs.Programs.{Body, Row, functions_by, functions_seen}
 use Rattle.au_lowering.specs.Drafts.{drafted_from}
 use Rattle.au_lowering.specs.Closed.{body_seen}
 use Rattle.au_lowering.specs.Drafted.{drafted}
 use Rattle.au_lowered.specs.Drafts.{Written}
 use Rattle.au_lowering_expressions.specs.Wrote.{wrote}
-use Rattle.au_meaning.specs.Names.{names_in_block}
 
-from : (functions : List Body) (rows : List Row) (n : ℕ) (all : List Body)
-    → map (drafted_from functions rows) all ≡ map drafted (functions_from functions rows n all)
-from functions rows n [] = refl
-from functions rows n (f ∷ rest) =
-    ap (λ l. drafted_from functions rows f ∷ l)
-    (from functions rows (n + length f.parameters + names_in_block f.block) rest)
+drafted_by : (functions : List Body) (rows : List Row) (numbers : ℕ → ℕ) (all : List Body)
+    → map (drafted_from functions rows) all ≡ map drafted (functions_by functions rows numbers all)
+drafted_by functions rows numbers [] = refl
+drafted_by functions rows numbers (f ∷ rest) =
+    ap (λ l. drafted_from functions rows f ∷ l) (drafted_by functions rows (λ n. numbers (suc n)) rest)
 
 pub all_drafted : (functions : List Body) (rows : List Row)
-    → map (drafted_from functions rows) functions ≡ map drafted (functions_seen functions rows)
-all_drafted functions rows = from functions rows 0 functions
+    → map (drafted_from functions rows) functions ≡ map drafted (functions_seen functions rows (λ n. 0))
+all_drafted functions rows = drafted_by functions rows (λ n. 0) functions
 
 -- code behind nothing
 pub first_wrote : (write : Written) → wrote write [] ≡ write 0

@@ -31,9 +31,13 @@ row_seen row = record { of = row.of; linear = row.linear; cases = map case_seen 
 abbrev pub body_seen : ClosedFunction → Body
 body_seen f = record { home = f.home; parameters = fields_seen f.parameters; block = f.body }
 
--- its functions as they are run
+-- its functions as they are run, each with a number for its first name
+abbrev pub functions_numbered : (ℕ → ℕ) → ClosedProgram → List (Function ℕ ClosedNote (Callee ℕ))
+functions_numbered numbers c = functions_seen (map body_seen c.functions) (map row_seen c.types) numbers
+
+-- the same where nothing rests on these numbers, as their code doesn't
 abbrev pub functions_of : ClosedProgram → List (Function ℕ ClosedNote (Callee ℕ))
-functions_of c = functions_seen (map body_seen c.functions) (map row_seen c.types)
+functions_of c = functions_numbered (λ n. 0) c
 
 -- the types of parameters
 abbrev pub types_of : List ClosedField → List ClosedType

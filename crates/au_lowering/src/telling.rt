@@ -8,8 +8,9 @@ ghost use Rattle.au_lowering.specs.Rows.{rows_in, rows_told};
 ghost use Rattle.au_tables.specs.Tables.{find, with_all, with_pair};
 
 use crate::tables::{TypeTable, key_of_type};
-use au_base::{MOST_NAME_BYTES, Memory, Name, Sequence, Text};
+use au_base::{Memory, Sequence};
 use au_closed_programs::TypeRow;
+use au_closing::name_of;
 use au_low::LowType;
 use indexmap::IndexMap;
 use std::alloc::Global;
@@ -18,21 +19,6 @@ use std::alloc::Global;
 #[derive(Drop)]
 pub struct TypeRows {
     entries: IndexMap<Vec<u32>, LowType>,
-}
-
-/// The name with the bytes of a text.
-///
-/// # Errors
-///
-/// `Memory` for want of memory, or where a text has no such length as a name has.
-fn name_of(alloc: Global, text: &Text) -> Result<Name, Memory>
-    ensures { IfOk result (λ name. name ≡ text.now) }
-{
-    let bytes = text.as_bytes();
-    if bytes.len() == 0 || bytes.len() > MOST_NAME_BYTES {
-        return Err(Memory);
-    }
-    Name::copy_of(alloc, bytes)
 }
 
 /// What the code has of a type with this row.

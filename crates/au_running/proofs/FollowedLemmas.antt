@@ -109,24 +109,24 @@ all_follow round once fields (f ∷ rest) simple numbers = (
 abbrev pub round_in : ClosedProgram → Bytes → Surroundings
 round_in c = surroundings (map body_seen c.functions) (map row_seen c.types)
 
--- the functions of a closed program, each of which numbers its names from 0 on
-abbrev pub all_of : ClosedProgram → List (Function ℕ ClosedNote (Callee ℕ))
-all_of c = functions_in (round_in c) (λ n. 0) c.functions
+-- the functions of a closed program, each with a number for its first name
+abbrev pub all_of : (ℕ → ℕ) → ClosedProgram → List (Function ℕ ClosedNote (Callee ℕ))
+all_of numbers c = functions_in (round_in c) numbers c.functions
 
 module _ (program : List ModuleParts) (noted : List NotedParts) (derived : IsDerived program noted)
     (entry : Instance) (c : ClosedProgram) (closes : ClosesFunctions program noted entry c.functions)
     (types : List ClosedType) (rows : map row_seen c.types ≡ rows_for program types)
     (plain : CallsArePlain c.functions) (once : ParametersAreOnce c.functions)
-    (fields : FieldsAreOnce program) where
+    (fields : FieldsAreOnce program) (numbers : ℕ → ℕ) where
   -- a function is a closed one
-  which : (i : ℕ) (g : Function ℕ ClosedNote (Callee ℕ)) → slice_get (all_of c) i ≡ Some g
-      → (f : ClosedFunction) × (slice_get c.functions i ≡ Some f) × (function_closed (round_in c) 0 f ≡ g)
+  which : (i : ℕ) (g : Function ℕ ClosedNote (Callee ℕ)) → slice_get (all_of numbers c) i ≡ Some g
+      → (f : ClosedFunction) × (slice_get c.functions i ≡ Some f) × (function_closed (round_in c) (numbers i) f ≡ g)
   which i g e =
-      from_closed (round_in c) 0 (slice_get c.functions i) g
-      (sym (in_order (round_in c) c.functions (λ n. 0) i) ∙ e)
+      from_closed (round_in c) (numbers i) (slice_get c.functions i) g
+      (sym (in_order (round_in c) c.functions numbers i) ∙ e)
 
   -- code can follow them
-  pub rows_follow : EntryBegins (told_in c.types) (all_of c) → AreFollowed (told_in c.types) (all_of c)
+  pub rows_follow : EntryBegins (told_in c.types) (all_of numbers c) → AreFollowed (told_in c.types) (all_of numbers c)
   rows_follow begins = record {
     formed = λ i g e.
         let f = which i g e in
@@ -136,7 +136,7 @@ module _ (program : List ModuleParts) (noted : List NotedParts) (derived : IsDer
         (λ home number names e. once number names (sym (names_same c.functions number) ∙ e))
         (λ home of tag all e. fields_once program fields types of tag all
         (sym (ap (λ l. along (row_in l of) (λ (row : Row). fields_at tag row.cases)) rows) ∙ e))
-        c.functions (plain_simple program noted derived entry c.functions closes plain) (λ n. 0);
+        c.functions (plain_simple program noted derived entry c.functions closes plain) numbers;
     linear = λ i g e of.
         let f = which i g e in
         linear_same c.types of

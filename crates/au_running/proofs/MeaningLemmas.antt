@@ -24,7 +24,7 @@ use Rattle.au_running.proofs.CodeLemmas.{passing_same}
 
 -- notes that stay
 abbrev staying : (T C : Type 0) → Change Bytes T C T C
-staying T C = record { note = λ n. n; mention = λ n name. n; callee = λ n c name. c }
+staying T C = record { note = λ n. n; mention = λ n name. n; callee = λ n c name. c; arm = λ name. name }
 
 -- ---- a tree with its own notes is itself
 

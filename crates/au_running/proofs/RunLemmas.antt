@@ -9,6 +9,8 @@ use Rattle.au_running.proofs.OnceLemmas.{closed_fields_are_once, closed_paramete
 use Rattle.au_closed_programs.specs.Programs.{ClosedProgram, Closes, plain_instance}
 use Rattle.au_closing_meanings.specs.Kept.{SaysWhatIs}
 use Rattle.au_closing_meanings.specs.Listed.{counts_by}
+use Rattle.au_closing_meanings.specs.Numbers.{first_name, numbers_of}
+use Rattle.au_closing_meanings.proofs.InRowLemmas.{numbered_alike}
 use Rattle.au_closing_meanings.proofs.KeptLemmas.{meaning_kept}
 use Rattle.au_closing_meanings.proofs.ListedCountLemmas.{listed_count}
 use Rattle.au_low.specs.declared.code.Code.{Code}
@@ -60,40 +62,45 @@ module _ (program : List ModuleParts) (noted : List NotedParts) (owner name : By
         linear = λ home of k has. says.linear of k has;
       }
 
+  -- the numbers of the first names of its functions
+  abbrev pub numbers : ℕ → ℕ
+  numbers = numbers_of program noted closes.functions.instances
+
   -- the program means what its closed functions mean
   pub means_so : (input : List ℕ) (ticks : ℕ)
-      → means program noted closes.entry input ticks ≡ mean (λ i. slice_get (all_of c) i) 0 input ticks
+      → means program noted closes.entry input ticks ≡ mean (λ i. slice_get (all_of numbers c) i) 0 input ticks
   means_so input ticks =
-      meaning_kept program noted (plain_instance closes.entry) c.functions closes.functions (λ one. 0)
-      (λ n. 0) (λ one h. refl) (round_in c) (counts_by (types_of c.types)) says_what_is
+      meaning_kept program noted (plain_instance closes.entry) c.functions closes.functions
+      (first_name program noted) numbers (numbered_alike program noted closes.functions.instances)
+      (round_in c) (counts_by (types_of c.types)) says_what_is
       (listed_count program c.functions (types_of c.types)
       (lists_types program c.functions c.types closes.types)) input ticks
-      ∙ sym (λ j. mean (λ i. in_order (round_in c) c.functions (λ n. 0) i j) 0 input ticks)
+      ∙ sym (λ j. mean (λ i. in_order (round_in c) c.functions numbers i j) 0 input ticks)
 
   -- where that isn't stuck, code can follow them
   pub are_followed : (input : List ℕ) (ticks : ℕ)
       → ((means program noted closes.entry input ticks).ending ≡ stuck → ⊥)
-      → AreFollowed (told_in c.types) (all_of c)
+      → AreFollowed (told_in c.types) (all_of numbers c)
   are_followed input ticks claim =
-      let begins : EntryBegins (told_in c.types) (all_of c) =
-      entry_begins (all_of c) input ticks
+      let begins : EntryBegins (told_in c.types) (all_of numbers c) =
+      entry_begins (all_of numbers c) input ticks
       (λ e. claim (ap (λ (o : Outcome). o.ending) (means_so input ticks) ∙ e)) in
       rows_follow program noted runnable.derived (plain_instance closes.entry) c
       closes.functions (types_of c.types) (made_rows program c.functions c.types closes.types)
-      runnable.plain once fields begins
+      runnable.plain once fields numbers begins
 
   run_shown : RunsShow (code_of c) (means program noted closes.entry)
   run_shown input limit claim =
       let told = told_in c.types in
       let followed = are_followed input limit claim in
-      let guards = guarded_functions (all_of c) in
-      let good = guarded_good ClosedNote (Callee ℕ) told (all_of c) followed in
+      let guards = guarded_functions (all_of numbers c) in
+      let good = guarded_good ClosedNote (Callee ℕ) told (all_of numbers c) followed in
       let meant : (ticks : ℕ) → means program noted closes.entry input ticks
       ≡ mean (λ i. slice_get guards i) 0 input ticks =
-      λ ticks. means_so input ticks ∙ sym (means_same (all_of c) followed.suits input ticks) in
+      λ ticks. means_so input ticks ∙ sym (means_same (all_of numbers c) followed.suits input ticks) in
       let same : lowered told guards ≡ code_of c =
-      lowered_same told (all_of c) followed.suits
-      ∙ sym (code_same (map body_seen c.functions) (map row_seen c.types) told c.functions 0 (λ n. 0)) in
+      lowered_same told (all_of numbers c) followed.suits
+      ∙ sym (code_same (map body_seen c.functions) (map row_seen c.types) told c.functions (λ n. 0) numbers) in
       let shown = good_shows told guards good input limit
       (λ e. claim (ap (λ (o : Outcome). o.ending) (meant limit) ∙ e)) in
       subst (λ (m : ℕ → Outcome). RunShows (code_of c) m input limit) (λ i ticks. sym (meant ticks) i)

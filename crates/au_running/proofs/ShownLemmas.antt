@@ -2,6 +2,7 @@
 use Rattle.std.proofs.Common.{◌≡◌, ◌⊎◌, inl, inr, ℕ, ◌+◌, ◌-◌, ◌<◌, true, false, List, [], ◌++◌, Option, Some, None, Ok, refl, sym, ap, subst, ◌∙◌, arith}
 use Rattle.au_closed_programs.specs.Programs.{ClosedProgram, Closes, plain_instance}
 use Rattle.au_closing_meanings.specs.Generic.{generic_functions}
+use Rattle.au_closing_meanings.specs.Numbers.{first_name}
 use Rattle.au_derivations.specs.Trees.{NotedParts}
 use Rattle.au_effects.specs.Worlds.{Deed}
 use Rattle.au_running.specs.Asked.{CallsArePlain}
@@ -188,12 +189,12 @@ module _ (program : List ModuleParts) (noted : List NotedParts) (owner name : By
             ap (λ (o : LowOutcome). o.output) (waited.so_far (rest_in left)) in
             front_of_whole out out' so_far.world.output
             (means program noted closes.entry input limit).world.output
-            (writes_more (generic_functions program noted (λ one. 0)) (plain_instance closes.entry) input
+            (writes_more (generic_functions program noted (first_name program noted)) (plain_instance closes.entry) input
             waited.made limit waited.within)
             (front_of_whole out out' waited.output so_far.world.output
             (subst (λ (all : List ℕ). Begins all so_far.world.output) wrote
             (wrote_begins (code_of c) (means program noted closes.entry) (runs_of good) input waited.made
-            (λ h. unstuck (stays_stuck (generic_functions program noted (λ one. 0))
+            (λ h. unstuck (stays_stuck (generic_functions program noted (first_name program noted))
             (plain_instance closes.entry) input waited.made limit waited.within h))))
             (front_all out out' waited.output waited.written));
       }

@@ -3,7 +3,8 @@ use Rattle.std.specs.Prelude.{◌≡◌, ℕ, List}
 use Rattle.au_modules.specs.Programs.{ModuleParts}
 use Rattle.au_derivations.specs.Trees.{NotedParts}
 use Rattle.au_closed_programs.specs.Programs.{ClosedProgram, Closes}
-use Rattle.au_lowering.specs.Closed.{functions_of, told_in}
+use Rattle.au_closing_meanings.specs.Numbers.{numbers_of}
+use Rattle.au_lowering.specs.Closed.{functions_numbered, told_in}
 use Rattle.au_meaning.specs.Worlds.{stuck}
 use Rattle.au_simulation.specs.Laws.{Follows}
 use Rattle.au_running.specs.Meant.{means}
@@ -19,4 +20,5 @@ LoweredProgramsFollow =
     → (closes : Closes program noted owner name c) → IsRunnable program noted c
     → (input : List ℕ) (ticks : ℕ)
     → ((means program noted closes.entry input ticks).ending ≡ stuck → ⊥)
-    → Follows (told_in c.types) (functions_of c) input (means program noted closes.entry input ticks)
+    → Follows (told_in c.types) (functions_numbered (numbers_of program noted closes.functions.instances) c) input
+    (means program noted closes.entry input ticks)
