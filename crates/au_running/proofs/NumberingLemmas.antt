@@ -64,8 +64,7 @@ module _ (all : List Body) (rows : List Row) where
       ∷ functions_same texts types rest (λ n. firsts (suc n)) (λ n. numbers (suc n)) i
 
   -- the code is the same
-  pub code_same : (told : ClosedType → LowType) (functions : List ClosedFunction) (first : ℕ)
-      (numbers : ℕ → ℕ)
+  pub code_same : (told : ClosedType → LowType) (functions : List ClosedFunction) (firsts numbers : ℕ → ℕ)
       → lowered told (in_one firsts functions) ≡ lowered told (in_any numbers functions)
   code_same told functions firsts numbers =
       (λ i. record {
