@@ -1,4 +1,5 @@
 mod EachLemmas
+mod NumberLemmas
 mod SaidLemmas
 mod CallLemmas
 pub mod KeptLemmas

@@ -3,6 +3,7 @@
 ghost use Rattle.au_closing_meanings.specs.InRow.{KeepsMeaningInRow};
 ghost use Rattle.au_closing_meanings.specs.Listed.{ListedCount, RowsMadeSay};
 ghost use Rattle.au_closing_meanings.specs.Kept.{KeepsMeaning, ProgramsSay};
+ghost use Rattle.au_closing_meanings.specs.Numbers.{BodiesStand, NumbersAreApart};
 
 /// From its entry a program with notes does exactly what the closed program does that it closes to, where
 /// what is known round closed trees is what the program itself says of all types that count.
@@ -27,4 +28,11 @@ pub fn rows_made_say_what_is()
 /// types count that have to.
 pub fn listed_types_count()
     ensures { ListedCount }
+{}
+
+/// The names of a program are numbered body after body in the order of the text: each body stands at its place
+/// among them, and no number is that of two declarations.
+pub fn numbers_are_of_declarations()
+    ensures stand { BodiesStand }
+    ensures apart { NumbersAreApart }
 {}
