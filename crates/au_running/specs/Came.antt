@@ -29,8 +29,8 @@ IsAbort end.Stuck = ⊥
 IsAbort end.ReadFault = ⊥
 IsAbort end.WriteFault = ⊥
 
--- The whole run of code was made, for at most so many steps, and this is answered of how it ended: all that it
--- writes stands on the sink, and what it leaves of the input is what is left.
+-- The whole run of code was made, for at most so many steps, and this is answered of how it ended: all that
+-- it writes stands on the sink, and what it leaves of the input is what is left.
 pub record RanWhole (code : Code) (ran : Ran) (steps : ℕ) (told left out out' : Option (List ℕ))
     : Type 0 where
   pub ending : Ending

@@ -1,5 +1,5 @@
--- What a call that runs a program has done, by the code that the program is lowered to, and what that shows of
--- what the program means.
+-- What a call that runs a program has done, by the code that the program is lowered to, and what that shows
+-- of what the program means.
 use Rattle.std.specs.Prelude.{◌≡◌, ◌⊎◌, ℕ, Bool, true, false, List, Option}
 use Rattle.au_base.specs.declared.limits.Limit.{Limit}
 use Rattle.au_base.specs.declared.places.Pos.{Pos}
@@ -40,16 +40,16 @@ module _ (program : List ModuleParts) (noted : List NotedParts) (owner name : By
       ⊎ ((c : ClosedProgram) × ClosesWithin program noted owner name c
       × (functions_are_plain c.functions ≡ true) × (is_too_long c ≡ true) × (limit ≡ too_long))
 
-  -- What the program closes to within the limits calls a shipped function of references, boxes, buffers or the
-  -- terminal, whose code isn't built yet.
+  -- What the program closes to within the limits calls a shipped function of references, boxes, buffers or
+  -- the terminal, whose code isn't built yet.
   pub record IsUnbuilt : Type 0 where
     pub c : ClosedProgram
     pub closes : ClosesWithin program noted owner name c
     pub unplain : functions_are_plain c.functions ≡ false
 
-  -- The program is lowered to the code of this: it closes to it from its entry within the limits, each shipped
-  -- call in it is plain, and its code isn't too long. Where its runs are spoken of, every run of that code shows
-  -- what the program means from its entry.
+  -- The program is lowered to the code of this: it closes to it from its entry within the limits, each
+  -- shipped call in it is plain, and its code isn't too long. Where its runs are spoken of, every run of that
+  -- code shows what the program means from its entry.
   pub record IsLowered : Type 0 where
     pub c : ClosedProgram
     pub closes : ClosesWithin program noted owner name c
@@ -69,8 +69,8 @@ module _ (program : List ModuleParts) (noted : List NotedParts) (owner name : By
   IsBroken steps told out out' =
       (it : IsLowered) × IsCut (low_run false (code_of it.c)) steps told out out'
 
-  -- The whole run of the program's code was made, and this is answered of it. And where what the program means
-  -- isn't stuck within as many ticks as the run had steps, it shows that, as every run of the code does.
+  -- The whole run of the program's code was made, and this is answered of it. And where what the program
+  -- means isn't stuck within as many ticks as the run had steps, it shows that, as every run of the code does.
   pub record RanAsMeant (ran : Ran) (steps : ℕ) (told left out out' : Option (List ℕ)) : Type 0 where
     pub it : IsLowered
     pub run : RanWhole (code_of it.c) ran steps told left out out'
