@@ -24,8 +24,8 @@ use Rattle.au_simulation.proofs.BetweenLemmas.{between, ends_so, seen_within}
 use Rattle.au_simulation.proofs.EndLemmas.{has_ended}
 use Rattle.au_simulation.proofs.RunLemmas.{runs_follow}
 use Rattle.au_simulation.specs.Programs.{GoodProgram}
-use Rattle.au_running.specs.Runs.{RunShows, ended_by, kind_words}
-use Rattle.au_running.specs.Shown.{IsSeen, aborts, exits, fault_words, spent}
+use Rattle.au_running.specs.Runs.{RunShows, kind_words, ran_by}
+use Rattle.au_running.specs.Shown.{IsSeen, Shows, fault_words}
 use Rattle.au_running.proofs.NamedLemmas.{abort_named}
 use Rattle.au_syntax.specs.Plain.{Bytes}
 
@@ -105,17 +105,20 @@ module _ {T C : Type 0} (told : ClosedType → LowType) (functions : List (Funct
     input = sym (ap (λ (o : low.Outcome). o.left) muted ∙ agrees.left);
   }
 
+  -- by how it ended
+  shown_by : (end : Ending) → full.ending ≡ end → Shows (ran_by code end) meant limit plain.output plain.left
+      → RunShows code meant input limit
+  shown_by end e shows =
+      subst (λ (end : Ending). Shows (ran_by code end) meant limit plain.output plain.left)
+      (sym (ends_alike ∙ e)) shows
+
   exit_shown : (success : Bool) → full.ending ≡ low_ending.Exit success → RunShows code meant input limit
   exit_shown success e =
       let over = has_ended told functions good input limit unstuck (λ cut. not_steps (sym e ∙ cut)) in
-      record {
-        ends = exits success;
-        ended = ap (ended_by code) (ends_alike ∙ e);
-        shows = (
-          exit_back (texts_in functions) (meant limit).ending success (sym over.agrees.ending ∙ e),
-          seen_same over.agrees,
-        );
-      }
+      shown_by (low_ending.Exit success) e (
+        exit_back (texts_in functions) (meant limit).ending success (sym over.agrees.ending ∙ e),
+        seen_same over.agrees,
+      )
     where
       not_steps : low_ending.Exit success ≡ low_ending.Steps → ⊥
       not_steps e = grind arith
@@ -124,20 +127,16 @@ module _ {T C : Type 0} (told : ClosedType → LowType) (functions : List (Funct
   abort_shown why e =
       let over = has_ended told functions good input limit unstuck (λ cut. not_steps (sym e ∙ cut)) in
       let back = abort_back (texts_in functions) (meant limit).ending why (sym over.agrees.ending ∙ e) in
-      record {
-        ends = aborts (kind_words code why);
-        ended = ap (ended_by code) (ends_alike ∙ e);
-        shows = (
-          (
-            back.0,
-            back.1,
-            words_same code (texts_in functions) back.0
-                (λ text is. abort_named told functions good input limit text (back.1 ∙ ap (λ f. abort f) is))
-                ∙ ap (kind_words code) back.2,
-          ),
-          seen_same over.agrees,
-        );
-      }
+      shown_by (low_ending.Abort why) e (
+        (
+          back.0,
+          back.1,
+          words_same code (texts_in functions) back.0
+              (λ text is. abort_named told functions good input limit text (back.1 ∙ ap (λ f. abort f) is))
+              ∙ ap (kind_words code) back.2,
+        ),
+        seen_same over.agrees,
+      )
     where
       not_steps : low_ending.Abort why ≡ low_ending.Steps → ⊥
       not_steps e = grind arith
@@ -173,15 +172,11 @@ module _ {T C : Type 0} (told : ClosedType → LowType) (functions : List (Funct
   cut_shown e =
       let lies = between told functions good input limit fewer unstuck e in
       let same : full.output ≡ plain.output = sym (ap (λ (o : low.Outcome). o.output) muted) in
-      record {
-        ends = spent;
-        ended = ap (ended_by code) (ends_alike ∙ e);
-        shows = record {
-          still = still e;
-          from = subst (λ xs. Begins (meant (limit / 8)).world.output xs) same lies.output_from;
-          to = subst (λ xs. Begins xs (meant limit).world.output) same lies.output_to;
-        };
-      }
+      shown_by low_ending.Steps e (record {
+        still = still e;
+        from = subst (λ xs. Begins (meant (limit / 8)).world.output xs) same lies.output_from;
+        to = subst (λ xs. Begins xs (meant limit).world.output) same lies.output_to;
+      })
 
   any_shown : (end : Ending) → full.ending ≡ end → RunShows code meant input limit
   any_shown (low_ending.Exit success) e = exit_shown success e

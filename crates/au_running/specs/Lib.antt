@@ -4,8 +4,9 @@ pub mod Meant
 pub mod Shown
 pub mod Runs
 pub mod Follows
-pub mod Coded
+pub mod Came
 pub mod Ran
+pub mod Coded
 pub mod Formed
 pub mod Suits
 pub mod Followed

@@ -1,22 +1,22 @@
--- What a call that runs a program has done, by what the program means.
-use Rattle.std.specs.Prelude.{◌≡◌, ◌⊎◌, ℕ, Bool, true, false, List, ◌++◌, Option, IfSome}
-use Rattle.au_base.specs.Outside.{Adds, AddsFront}
+-- What a call that runs a program has done, by the code that the program is lowered to, and what that shows
+-- of what the program means.
+use Rattle.std.specs.Prelude.{◌≡◌, ◌⊎◌, ℕ, Bool, true, false, List, Option}
 use Rattle.au_base.specs.declared.limits.Limit.{Limit}
 use Rattle.au_base.specs.declared.places.Pos.{Pos}
 use Rattle.au_modules.specs.Programs.{ModuleParts}
 use Rattle.au_derivations.specs.Trees.{NotedParts}
 use Rattle.au_entries.specs.Entries.{entry_of, not_of_the_form, nowhere}
 use Rattle.au_closed_programs.specs.Answers.{ClosesWithin, Passes}
-use Rattle.au_closed_programs.specs.Programs.{ClosedProgram, Closes}
-use Rattle.au_running.specs.Asked.{CallsArePlain}
+use Rattle.au_closed_programs.specs.Programs.{ClosedProgram}
+use Rattle.au_low.specs.Runs.{low_run}
 use Rattle.au_lowering.specs.Answers.{too_long}
-use Rattle.au_lowering.specs.Closed.{is_too_long}
-use Rattle.au_meaning.specs.Worlds.{Outcome, stuck}
-use Rattle.au_running.specs.Meant.{means}
-use Rattle.au_running.specs.Runs.{IsRunnable}
-use Rattle.au_running.specs.Shown.{Ended, Shows, aborts, exits, spent}
+use Rattle.au_lowering.specs.Closed.{code_of, is_too_long}
 use Rattle.au_lowering.specs.PlainCalls.{functions_are_plain}
-use Rattle.au_runs.specs.Calls.{Takes}
+use Rattle.au_running.specs.Asked.{CallsArePlain}
+use Rattle.au_running.specs.Came.{CameSo, RanWhole}
+use Rattle.au_running.specs.Meant.{means}
+use Rattle.au_running.specs.Runs.{IsRunnable, RunsShow}
+use Rattle.au_runs.specs.Calls.{IsCut}
 use Rattle.au_running.specs.declared.ran.Ran.{Ran}
 use Rattle.au_running.specs.declared.ran.Ran.TheVariants as ran
 use Rattle.au_syntax.specs.Plain.{Bytes}
@@ -25,15 +25,6 @@ use Rattle.au_syntax.specs.Plain.{Bytes}
 abbrev pub IsIdle : (told left out out' : Option (List ℕ)) → Type 0
 IsIdle told left out out' = (left ≡ told) × (out' ≡ out)
 
--- A run with so many steps ended so: it shows what is meant, where that isn't stuck within as many ticks.
-abbrev pub EndsSo : Ended → ℕ → (ℕ → Outcome) → List ℕ → List ℕ → Type 0
-EndsSo ends steps meant written rest =
-    ((meant steps).ending ≡ stuck → ⊥) → Shows ends meant steps written rest
-
--- A run with so many steps is stuck: its meaning is stuck within as many ticks.
-abbrev pub IsStuckSo : ℕ → (ℕ → Outcome) → List ℕ → List ℕ → Type 0
-IsStuckSo steps meant written rest = (meant steps).ending ≡ stuck
-
 module _ (program : List ModuleParts) (noted : List NotedParts) (owner name : Bytes) where
   -- There is no entry of this name, or it hasn't the form of one.
   abbrev pub HasNoEntry : Type 0
@@ -41,61 +32,57 @@ module _ (program : List ModuleParts) (noted : List NotedParts) (owner name : By
       (entry_of program owner name ≡ nowhere)
       ⊎ ((at : Pos) × (entry_of program owner name ≡ not_of_the_form at))
 
-  -- An instance that is reached from the entry passes a limit, or there are too many; or the code that the
-  -- program is lowered to is too long.
+  -- An instance that is reached from the entry passes a limit, or there are too many; or each shipped call in
+  -- what the program closes to is plain, and the code of that is too long.
   abbrev pub PassesSo : Limit → Type 0
   PassesSo limit =
       Passes program noted owner name limit
-      ⊎ ((c : ClosedProgram) × ClosesWithin program noted owner name c × (is_too_long c ≡ true)
-      × (limit ≡ too_long))
+      ⊎ ((c : ClosedProgram) × ClosesWithin program noted owner name c
+      × (functions_are_plain c.functions ≡ true) × (is_too_long c ≡ true) × (limit ≡ too_long))
 
-  -- What the program closes to calls a shipped function of references, boxes, buffers or the terminal, whose
-  -- code isn't built yet.
+  -- What the program closes to within the limits calls a shipped function of references, boxes, buffers or
+  -- the terminal, whose code isn't built yet.
   pub record IsUnbuilt : Type 0 where
     pub c : ClosedProgram
-    pub closes : Closes program noted owner name c
+    pub closes : ClosesWithin program noted owner name c
     pub unplain : functions_are_plain c.functions ≡ false
 
-  -- The program ran from its entry, and each shipped call in it is plain: the call took bytes of its input
-  -- and wrote bytes, of which P holds by what the program means on that input, where its runs are spoken of.
-  pub record HasRun (P : (ℕ → Outcome) → List ℕ → List ℕ → Type 0) (told left out out' : Option (List ℕ))
-      : Type 0 where
+  -- The program is lowered to the code of this: it closes to it from its entry within the limits, each
+  -- shipped call in it is plain, and its code isn't too long. Where its runs are spoken of, every run of that
+  -- code shows what the program means from its entry.
+  pub record IsLowered : Type 0 where
     pub c : ClosedProgram
-    pub closes : Closes program noted owner name c
+    pub closes : ClosesWithin program noted owner name c
     pub plain : CallsArePlain c.functions
-    pub taken : List ℕ
-    pub rest : List ℕ
-    pub input : Takes told left taken rest
-    pub written : List ℕ
-    pub output : Adds out out' written
+    pub short : is_too_long c ≡ false
     pub meant : IsRunnable program noted c
-        → P (means program noted closes.entry (taken ++ rest)) written rest
+        → RunsShow (code_of c) (means program noted closes.closes.entry)
 
-  -- The program ran, each shipped call in it is plain, and its run was broken off: a front of what it writes
-  -- within so many steps was written, where its runs are spoken of and its meaning isn't stuck.
-  pub record IsBroken (steps : ℕ) (told out out' : Option (List ℕ)) : Type 0 where
-    pub c : ClosedProgram
-    pub closes : Closes program noted owner name c
-    pub plain : CallsArePlain c.functions
-    pub input : List ℕ
-    pub given : IfSome told (λ bytes. bytes ≡ input)
-    pub front : IsRunnable program noted c
-        → ((means program noted closes.entry input steps).ending ≡ stuck → ⊥)
-        → AddsFront out out' (means program noted closes.entry input steps).world.output
+  -- The program ran as code, for at most so many steps, and this is answered of the run.
+  abbrev pub HasRun : Ran → ℕ → (told left out out' : Option (List ℕ)) → Type 0
+  HasRun ran steps told left out out' =
+      (it : IsLowered) × CameSo (code_of it.c) ran steps told left out out'
+
+  -- The program ran as code, and its run was broken off: a front of what the code writes within so many steps
+  -- was written.
+  abbrev pub IsBroken : ℕ → (told out out' : Option (List ℕ)) → Type 0
+  IsBroken steps told out out' =
+      (it : IsLowered) × IsCut (low_run false (code_of it.c)) steps told out out'
+
+  -- The whole run of the program's code was made, and this is answered of it. And where what the program
+  -- means isn't stuck within as many ticks as the run had steps, it shows that, as every run of the code does.
+  pub record RanAsMeant (ran : Ran) (steps : ℕ) (told left out out' : Option (List ℕ)) : Type 0 where
+    pub it : IsLowered
+    pub run : RanWhole (code_of it.c) ran steps told left out out'
+    pub shows : RunsShow (code_of it.c) (means program noted it.closes.closes.entry)
 
   -- what a call with so many steps has done, by what it answered
   abbrev pub HasRunSo : Ran → ℕ → (told left out out' : Option (List ℕ)) → Type 0
   HasRunSo ran.NoEntry steps told left out out' = HasNoEntry × IsIdle told left out out'
   HasRunSo (ran.Limit limit) steps told left out out' = PassesSo limit × IsIdle told left out out'
-  HasRunSo (ran.Exit success) steps told left out out' =
-      HasRun (EndsSo (exits success) steps) told left out out'
-  HasRunSo (ran.Abort words) steps told left out out' =
-      HasRun (EndsSo (aborts words) steps) told left out out'
-  HasRunSo ran.Steps steps told left out out' = HasRun (EndsSo spent steps) told left out out'
   HasRunSo ran.Stuck steps told left out out' =
-      HasRun (IsStuckSo steps) told left out out' ⊎ (IsUnbuilt × IsIdle told left out out')
-  HasRunSo ran.ReadFault steps told left out out' = IsBroken steps told out out'
-  HasRunSo ran.WriteFault steps told left out out' = IsBroken steps told out out'
+      HasRun ran.Stuck steps told left out out' ⊎ (IsUnbuilt × IsIdle told left out out')
+  HasRunSo other steps told left out out' = HasRun other steps told left out out'
 
 -- whether a call of the source failed, and whether one of the sink did
 abbrev pub is_read_fault : Ran → Bool

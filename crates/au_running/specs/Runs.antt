@@ -1,5 +1,5 @@
 -- That runs of the code of a program show what the program means.
-use Rattle.std.specs.Prelude.{◌≡◌, ℕ, false, List, codes, Option, None, Some}
+use Rattle.std.specs.Prelude.{◌≡◌, ℕ, false, List, codes}
 use Rattle.au_shipped.specs.declared.prims.AbortKind.{AbortKind}
 use Rattle.au_shipped.specs.declared.prims.AbortKind.TheVariants as kind
 use Rattle.au_modules.specs.Programs.{ModuleParts}
@@ -16,7 +16,9 @@ use Rattle.au_low.specs.Runs.{low_run}
 use Rattle.au_lowering.specs.Closed.{code_of}
 use Rattle.au_meaning.specs.Worlds.{Outcome, stuck}
 use Rattle.au_running.specs.Meant.{means}
-use Rattle.au_running.specs.Shown.{Ended, Shows, aborts, exits, spent}
+use Rattle.au_running.specs.Shown.{Shows}
+use Rattle.au_running.specs.declared.ran.Ran.{Ran}
+use Rattle.au_running.specs.declared.ran.Ran.TheVariants as ran
 use Rattle.au_syntax.specs.Plain.{Bytes}
 
 -- the words in which an abort of code is told: a called one has the number of its text
@@ -27,19 +29,18 @@ kind_words code kind.NotEmpty = codes "buffer not empty"
 kind_words code kind.Empty = codes "buffer empty"
 kind_words code kind.OutOfRange = codes "out of range"
 
--- how a run of code ended, if it wasn't stuck
-abbrev pub ended_by : Code → Ending → Option Ended
-ended_by code (ending.Exit success) = Some (exits success)
-ended_by code (ending.Abort why) = Some (aborts (kind_words code why))
-ended_by code ending.Steps = Some spent
-ended_by code ending.Stuck = None
+-- what is answered of a run of code that ended so
+abbrev pub ran_by : Code → Ending → Ran
+ran_by code (ending.Exit success) = ran.Exit success
+ran_by code (ending.Abort why) = ran.Abort (kind_words code why)
+ran_by code ending.Steps = ran.Steps
+ran_by code ending.Stuck = ran.Stuck
 
 -- A run of code with so many steps shows what is meant, on an input.
-pub record RunShows (code : Code) (meant : ℕ → Outcome) (input : List ℕ) (limit : ℕ) : Type 0 where
-  pub ends : Ended
-  pub ended : ended_by code (low_run false code input limit).ending ≡ Some ends
-  pub shows : Shows ends meant limit (low_run false code input limit).output
-      (low_run false code input limit).left
+abbrev pub RunShows : Code → (ℕ → Outcome) → List ℕ → ℕ → Type 0
+RunShows code meant input limit =
+    Shows (ran_by code (low_run false code input limit).ending) meant limit
+    (low_run false code input limit).output (low_run false code input limit).left
 
 -- Every run of code shows what is meant, where that isn't stuck within as many ticks as the run has steps.
 abbrev pub RunsShow : Code → (List ℕ → ℕ → Outcome) → Type 0

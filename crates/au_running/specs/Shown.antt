@@ -1,8 +1,10 @@
 -- What a run shows, by what the program means.
-use Rattle.std.specs.Prelude.{◌≡◌, ℕ, ◌/◌, Bool, false, List, codes}
+use Rattle.std.specs.Prelude.{◌≡◌, ℕ, ◌/◌, false, List, codes}
 use Rattle.au_effects.specs.Answers as answer
 use Rattle.au_meaning.specs.Laws.{Begins, is_over}
 use Rattle.au_meaning.specs.Worlds.{Fault, Outcome, exit, abort}
+use Rattle.au_running.specs.declared.ran.Ran.{Ran}
+use Rattle.au_running.specs.declared.ran.Ran.TheVariants as ran
 use Rattle.au_syntax.specs.Plain.{Bytes}
 
 -- the words in which an abort is told
@@ -12,13 +14,6 @@ fault_words (answer.called text) = text
 fault_words answer.not_empty = codes "buffer not empty"
 fault_words answer.empty = codes "buffer empty"
 fault_words answer.out_of_range = codes "out of range"
-
--- how a run ended: by an exit, with success or without, by an abort that is told in these words, or since its
--- steps were spent
-pub data Ended : Type 0 where
-  exits : Bool → Ended
-  aborts : Bytes → Ended
-  spent : Ended
 
 -- A run of the meaning wrote these bytes and left these of its input.
 pub record IsSeen (meant : Outcome) (written left : List ℕ) : Type 0 where
@@ -33,11 +28,14 @@ pub record IsCutOff (meant : ℕ → Outcome) (limit : ℕ) (written : List ℕ)
   pub from : Begins (meant (limit / 8)).world.output written
   pub to : Begins written (meant limit).world.output
 
--- A run with so many steps ended so, had written this, and left that of its input: this is what is meant.
-abbrev pub Shows : Ended → (ℕ → Outcome) → ℕ → List ℕ → List ℕ → Type 0
-Shows (exits success) meant limit written left =
+-- This is answered of a run with so many steps, which had written these bytes and left those of its input: it
+-- returned success or failure, or aborted for a cause that is told in these words, and so does what is meant
+-- in as many ticks; or its steps were spent. It isn't stuck.
+abbrev pub Shows : Ran → (ℕ → Outcome) → ℕ → List ℕ → List ℕ → Type 0
+Shows (ran.Exit success) meant limit written left =
     ((meant limit).ending ≡ exit success) × IsSeen (meant limit) written left
-Shows (aborts words) meant limit written left =
+Shows (ran.Abort words) meant limit written left =
     ((fault : Fault) × ((meant limit).ending ≡ abort fault) × (fault_words fault ≡ words))
     × IsSeen (meant limit) written left
-Shows spent meant limit written left = IsCutOff meant limit written
+Shows ran.Steps meant limit written left = IsCutOff meant limit written
+Shows other meant limit written left = ⊥

@@ -5,7 +5,7 @@ ghost use Rattle.au_low.specs.Instructions.{text_bytes};
 ghost use Rattle.au_low.specs.Runs.{low_run};
 ghost use Rattle.au_running.specs.Runs.{kind_words};
 ghost use Rattle.au_runs.specs.Calls.{IsCut, Rose};
-ghost use Rattle.au_running.specs.Coded.{CameSo, IsAbort, ran_of};
+ghost use Rattle.au_running.specs.Came.{CameSo, IsAbort, ran_of};
 ghost use Rattle.au_running.specs.Ran.{is_read_fault, is_write_fault};
 
 use crate::ran::Ran;

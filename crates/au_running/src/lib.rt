@@ -1,9 +1,10 @@
 //! Running an accepted program from its entry: it is closed and lowered, and the machine runs its code.
 //!
-//! `specs/Ran.antt` says what a call has done, by what the program means. The laws say that runs of lowered
-//! code show what the program means from its entry (`laws`), that the functions that a derived program closes
-//! to are such as lowered code can follow (`good_programs`), and that calls which are answered to be plain are
-//! as the law on runs asks (`plain_laws`).
+//! `specs/Ran.antt` says what a call has done, by the code that the program is lowered to, and what that
+//! shows of what the program means. The laws say that runs of lowered code show what the program means from
+//! its entry (`laws`), that the functions that a derived program closes to are such as lowered code can follow
+//! (`good_programs`), and that calls which are answered to be plain are as the law on runs asks
+//! (`plain_laws`).
 #![tactic(auto)]
 
 mod coding;

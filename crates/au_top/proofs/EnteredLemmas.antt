@@ -49,9 +49,9 @@ module _ (program : List ModuleParts) (noted : List NotedParts) (owner name : By
       → HasNoEntry program noted owner name → ⊥
   end_entry how.NoEntry told left out out' end h none = cc
   end_entry (how.Limit limit) told left out out' end h none = cc
-  end_entry (how.Exit success) told left out out' end h none = closes_entry h.c h.closes none
-  end_entry (how.Abort words) told left out out' end h none = closes_entry h.c h.closes none
-  end_entry how.Steps told left out out' end h none = closes_entry h.c h.closes none
+  end_entry (how.Exit success) told left out out' end h none = closes_entry h.0.c h.0.closes.closes none
+  end_entry (how.Abort words) told left out out' end h none = closes_entry h.0.c h.0.closes.closes none
+  end_entry how.Steps told left out out' end h none = closes_entry h.0.c h.0.closes.closes none
   end_entry how.Stuck told left out out' end h none = cc
   end_entry how.ReadFault told left out out' end h none = cc
   end_entry how.WriteFault told left out out' end h none = cc
@@ -61,8 +61,8 @@ module _ (program : List ModuleParts) (noted : List NotedParts) (owner name : By
       → HasRunSo program noted owner name how.Stuck steps told left out out'
       → HasNoEntry program noted owner name → ⊥
   stuck_entry told left out out' h none = elim h [
-    | inl r ↦ closes_entry r.c r.closes none
-    | inr u ↦ closes_entry u.0.c u.0.closes none
+    | inl r ↦ closes_entry r.0.c r.0.closes.closes none
+    | inr u ↦ closes_entry u.0.c u.0.closes.closes none
   ]
 
   -- what has its entry, and ran without a limit that is passed, and without a failure, ended so or is stuck

@@ -1,10 +1,7 @@
 -- What a call has done that ran a program.
-use Rattle.std.proofs.Common.{◌≡◌, ◌+◌, ℕ, Bool, true, false, cond, List, [], ◌++◌, length, take, Option}
-use Rattle.std.proofs.Common.{None, Some, IfSome}
-use Rattle.std.proofs.Common.{Result, Ok, Err, IfOk, OnOk, ap, ◌∙◌, sym, refl, subst, ◌⊎◌}
-use Rattle.std.proofs.Common.{inl, inr}
-use Rattle.std.proofs.lemmas.List.{append-nil}
-use Rattle.std.proofs.Math.Seq.{take-append-add}
+use Rattle.std.proofs.Common.{◌≡◌, ℕ, Bool, true, false, cond, List, Option}
+use Rattle.std.proofs.Common.{Result, Ok, Err, IfOk, OnOk, refl, subst, ◌⊎◌}
+use Rattle.std.proofs.Common.{inl, inr, sym}
 use Rattle.au_base.specs.declared.names.Entry.{Entry}
 use Rattle.au_base.specs.declared.limits.Limit.{Limit}
 use Rattle.au_base.specs.declared.statuses.Status.{Status}
@@ -15,18 +12,15 @@ use Rattle.au_modules.specs.Programs.{ModuleParts}
 use Rattle.au_derivations.specs.Trees.{NotedParts}
 use Rattle.au_noting_programs.specs.Faults.{IsDerived}
 use Rattle.au_rules.specs.Good.{AllDeclarationsAreGood}
-use Rattle.au_meaning.specs.Laws.{Begins}
-use Rattle.au_meaning.specs.Worlds.{Outcome}
-use Rattle.au_runs.specs.Calls.{Rose, Takes}
-use Rattle.au_running.specs.Meant.{means}
-use Rattle.au_running.specs.Shown.{Ended, Shows, aborts, exits, spent}
-use Rattle.au_running.specs.Ran.{EndsSo, HasRun, HasRunSo, IsBroken, is_read_fault, is_write_fault}
+use Rattle.au_runs.specs.Calls.{Rose}
+use Rattle.au_running.specs.Ran.{HasRunSo, IsBroken, RanAsMeant, is_read_fault, is_write_fault}
 use Rattle.au_running.specs.declared.ran.Ran.{Ran}
 use Rattle.au_running.specs.declared.ran.Ran.TheVariants as how
 use Rattle.au_top.specs.Calls.{is_decided}
 use Rattle.au_top.specs.Ends.{AreQuiet, IsRunStopped, RunAnswers, Streams}
 use Rattle.au_top.specs.Runs.{HasRan, HasRunAs, IsBrokenOff, RanSo, entry_for, run_line, run_status}
 use Rattle.au_top.specs.Shown.{HasShown, IsShown}
+use Rattle.au_running.proofs.ShownLemmas.{as_meant, ran_broken}
 use Rattle.au_top.specs.declared.saying.AnswerFault.{AnswerFault}
 use Rattle.au_top.specs.declared.saying.AnswerFault.TheVariants as answer
 
@@ -167,75 +161,19 @@ decided_read how.WriteFault h = refl
 
 -- ---- runs that were broken off
 
--- what a source tells that was taken from, and what was left
-takes_whole : (told left : Option (List ℕ)) (taken rest : List ℕ) → Takes told left taken rest
-    → IfSome told (λ bytes. bytes ≡ taken ++ rest)
-takes_whole told None taken rest h = subst (λ t. IfSome t (λ bytes. bytes ≡ taken ++ rest)) (sym h.before) tt
-takes_whole told (Some bytes) taken rest h =
-    subst (λ t. IfSome t (λ one. one ≡ taken ++ rest)) (sym h.before) (ap (λ r. taken ++ r) h.after)
-
--- all that was written is a front of what goes on from it
-begun_front : (out out' : Option (List ℕ)) (written whole : List ℕ) → Adds out out' written
-    → Begins written whole
-    → AddsFront out out' whole
-begun_front out out' written whole adds begins =
-    let same : take (length written + 0) (written ++ begins.0) ≡ written =
-    take-append-add written begins.0 0 ∙ append-nil written in (
-      length written + 0,
-      subst (λ w. Adds out out' (take (length written + 0) w)) (sym begins.1)
-          (subst (Adds out out') (sym same) adds),
-    )
-
--- what is shown was written, or is a front of what is meant
-shown_begins : (ends : Ended) (meant : ℕ → Outcome) (steps : ℕ) (written rest : List ℕ)
-    → Shows ends meant steps written rest → Begins written (meant steps).world.output
-shown_begins (exits success) meant steps written rest h =
-    ([], h.1.output ∙ sym (append-nil written))
-shown_begins (aborts words) meant steps written rest h =
-    ([], h.1.output ∙ sym (append-nil written))
-shown_begins spent meant steps written rest h = h.to
-
 -- for a program with notes, and the entry and the most steps of its run
 module _ (program : List ModuleParts) (noted : List NotedParts) (owner name : Bytes) (steps : ℕ) where
-  -- a run that was made is one of which a front was written
-  made_broken : (ends : Ended) (told left out out' : Option (List ℕ))
-      → HasRun program noted owner name (EndsSo ends steps) told left out out'
-      → IsBroken program noted owner name steps told out out'
-  made_broken ends told left out out' h =
-      record {
-        c = h.c;
-        closes = h.closes;
-        plain = h.plain;
-        input = h.taken ++ h.rest;
-        given = takes_whole told left h.taken h.rest h.input;
-        front =
-            λ runnable sound.
-            begun_front out out' h.written _ h.output
-            (shown_begins ends (means program noted h.closes.entry
-            (h.taken ++ h.rest)) steps h.written h.rest
-            (h.meant runnable sound));
-      }
-
-  ran_broken : (ran : Ran) (told left out out' : Option (List ℕ))
+  -- a run that was made is one of which a front was written, or nothing was
+  front_ran : (ran : Ran) (told left out out' : Option (List ℕ))
       → HasRunSo program noted owner name ran steps told left out out'
       → (out' ≡ out) ⊎ IsBroken program noted owner name steps told out out'
-  ran_broken how.NoEntry told left out out' h = inl h.1.1
-  ran_broken (how.Limit limit) told left out out' h = inl h.1.1
-  ran_broken (how.Exit success) told left out out' h = inr (made_broken (exits success) told left out out' h)
-  ran_broken (how.Abort words) told left out out' h = inr (made_broken (aborts words) told left out out' h)
-  ran_broken how.Steps told left out out' h = inr (made_broken spent told left out out' h)
-  ran_broken how.Stuck told left out out' (inr h) = inl h.1.1
-  ran_broken how.Stuck told left out out' (inl h) =
-      inr (record {
-        c = h.c;
-        closes = h.closes;
-        plain = h.plain;
-        input = h.taken ++ h.rest;
-        given = takes_whole told left h.taken h.rest h.input;
-        front = λ runnable sound. absurd (sound (h.meant runnable));
-      })
-  ran_broken how.ReadFault told left out out' h = inr h
-  ran_broken how.WriteFault told left out out' h = inr h
+  front_ran how.NoEntry told left out out' h = inl h.1.1
+  front_ran (how.Limit limit) told left out out' h = inl h.1.1
+  front_ran how.Stuck told left out out' (inr h) = inl h.1.1
+  front_ran how.Stuck told left out out' (inl h) =
+      inr (ran_broken program noted owner name how.Stuck steps told left out out' h)
+  front_ran other told left out out' h =
+      inr (ran_broken program noted owner name other steps told left out out' h)
 
 -- for a program, the entry that is named if one is, and the most steps
 module _ (named : Option Entry) (steps : ℕ) (program : List ModuleParts) where
@@ -297,7 +235,7 @@ module _ (named : Option Entry) (steps : ℕ) (program : List ModuleParts) where
     ran_stopped : (ran : Ran) → HasRan named steps program ran s.left s.left' s.out s.out' → s.err' ≡ s.err
         → AreQuiet s → IsRunStopped s named steps program
     ran_stopped ran h err quiet =
-        elim (ran_broken program h.noted _ _ steps ran s.left s.left' s.out s.out' h.done) [
+        elim (front_ran program h.noted _ _ steps ran s.left s.left' s.out s.out' h.done) [
           | inl p ↦ idle_stopped p err quiet
           | inr p ↦ stopped (record { noted = h.noted; derived = h.derived; broken = p }) err quiet
         ]
@@ -311,7 +249,13 @@ module _ (named : Option Entry) (steps : ℕ) (program : List ModuleParts) where
         let there : HasRan named steps program how.WriteFault s.left s.left' s.out s.out' =
         subst (λ r. HasRan named steps program r s.left s.left' s.out s.out') (written_is ran is) h in (
         inl (
-          record { noted = there.noted; derived = there.derived; broken = there.done },
+          record {
+            noted = there.noted;
+            derived = there.derived;
+            broken =
+                ran_broken program there.noted _ _ how.WriteFault steps s.left s.left' s.out s.out'
+                there.done;
+          },
           subst (λ b. Rose b s.faults s.faults') is rose,
           err,
           errors,
@@ -356,24 +300,13 @@ module _ (named : Option Entry) (steps : ℕ) (program : List ModuleParts) where
   -- ---- what is shown
 
   module _ (declared : AllDeclarationsAreGood program) where
-    made_shown : (ends : Ended) (told left out out' : Option (List ℕ)) (noted : List NotedParts)
-        → IsDerived program noted
-        → HasRun program noted (entry_for named program).«module» (entry_for named program).function
-        (EndsSo ends steps) told left out out'
-        → HasShown named steps program ends told left out out'
-    made_shown ends told left out out' noted derived h =
-        record {
-          noted = noted;
-          derived = derived;
-          c = h.c;
-          closes = h.closes;
-          taken = h.taken;
-          rest = h.rest;
-          input = h.input;
-          written = h.written;
-          output = h.output;
-          shows = h.meant (record { derived = derived; declared = declared; plain = h.plain });
-        }
+    shown_by : (noted : List NotedParts) → IsDerived program noted → (ran : Ran)
+        (told left out out' : Option (List ℕ))
+        → RanAsMeant program noted (entry_for named program).«module» (entry_for named program).function ran
+        steps told left out out'
+        → HasShown named steps program ran told left out out'
+    shown_by noted derived ran told left out out' done =
+        record { noted = noted; derived = derived; done = done }
 
     ran_shown : (ran : Ran) (told left out out' err err' : Option (List ℕ))
         → RanSo named steps program ran told left out out' err err'
@@ -381,13 +314,34 @@ module _ (named : Option Entry) (steps : ℕ) (program : List ModuleParts) where
     ran_shown how.NoEntry told left out out' err err' h = tt
     ran_shown (how.Limit limit) told left out out' err err' h = tt
     ran_shown (how.Exit true) told left out out' err err' h =
-        (made_shown (exits true) told left out out' h.run.noted h.run.derived h.run.done, h.line)
+        let run = h.run.done in (
+          shown_by h.run.noted h.run.derived (how.Exit true) told left out out'
+              (as_meant program h.run.noted _ _ h.run.derived declared (how.Exit true) steps told left out out' run.0
+              run.1),
+          h.line,
+        )
     ran_shown (how.Exit false) told left out out' err err' h =
-        (made_shown (exits false) told left out out' h.run.noted h.run.derived h.run.done, h.line)
+        let run = h.run.done in (
+          shown_by h.run.noted h.run.derived (how.Exit false) told left out out'
+              (as_meant program h.run.noted _ _ h.run.derived declared (how.Exit false) steps told left out out' run.0
+              run.1),
+          h.line,
+        )
     ran_shown (how.Abort words) told left out out' err err' h =
-        (words, made_shown (aborts words) told left out out' h.run.noted h.run.derived h.run.done, h.line)
+        let run = h.run.done in (
+          words,
+          shown_by h.run.noted h.run.derived (how.Abort words) told left out out'
+              (as_meant program h.run.noted _ _ h.run.derived declared (how.Abort words) steps told left out out'
+              run.0 run.1),
+          h.line,
+        )
     ran_shown how.Steps told left out out' err err' h =
-        (made_shown spent told left out out' h.run.noted h.run.derived h.run.done, h.line)
+        let run = h.run.done in (
+          shown_by h.run.noted h.run.derived how.Steps told left out out'
+              (as_meant program h.run.noted _ _ h.run.derived declared how.Steps steps told left out out' run.0
+              run.1),
+          h.line,
+        )
     ran_shown how.Stuck told left out out' err err' h = tt
     ran_shown how.ReadFault told left out out' err err' h = tt
     ran_shown how.WriteFault told left out out' err err' h = tt

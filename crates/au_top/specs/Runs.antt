@@ -62,8 +62,9 @@ run_line entry steps how.WriteFault = []
 
 -- for a program, the entry that is named if one is, and the most steps
 module _ (named : Option Entry) (steps : ℕ) (program : List ModuleParts) where
-  -- The program ran so from its entry, with notes with which the rules of typing derive it: from the bytes
-  -- that the input told to those that are left, and from those that stood on `out` to those that stand there.
+  -- The program ran so from its entry as code, with notes with which the rules of typing derive it: from the
+  -- bytes that the input told to those that are left, and from those that stood on `out` to those that stand
+  -- there.
   pub record HasRan (ran : Ran) (told left out out' : Option (List ℕ)) : Type 0 where
     pub noted : List NotedParts
     pub derived : IsDerived program noted
@@ -82,7 +83,7 @@ module _ (named : Option Entry) (steps : ℕ) (program : List ModuleParts) where
     pub status : ends ≡ run_status ran
     pub done : RanSo ran told left out out' err err'
 
-  -- A run from its entry was broken off: a front of what it writes stands on `out`.
+  -- A run from its entry was broken off: a front of what its code writes stands on `out`.
   pub record IsBrokenOff (told out out' : Option (List ℕ)) : Type 0 where
     pub noted : List NotedParts
     pub derived : IsDerived program noted

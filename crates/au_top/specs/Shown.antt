@@ -1,5 +1,5 @@
 -- What is seen of a run, by what its program means.
-use Rattle.std.specs.Prelude.{◌≡◌, ℕ, ◌++◌, true, false, List, [], IsTrue, Option, None}
+use Rattle.std.specs.Prelude.{◌≡◌, ℕ, true, false, List, [], IsTrue, Option, None}
 use Rattle.au_base.specs.declared.names.Entry.{Entry}
 use Rattle.au_base.specs.declared.statuses.Status.{Status}
 use Rattle.au_base.specs.declared.statuses.Status.TheVariants as status
@@ -9,12 +9,10 @@ use Rattle.au_words.specs.Jobs.{Task}
 use Rattle.au_modules.specs.Programs.{ModuleParts}
 use Rattle.au_derivations.specs.Trees.{NotedParts}
 use Rattle.au_noting_programs.specs.Faults.{IsDerived}
-use Rattle.au_meaning.specs.Worlds.{stuck}
-use Rattle.au_running.specs.Programs.{ClosedProgram, Closes}
 use Rattle.au_refusals.specs.Lines.{abort_line, steps_line}
-use Rattle.au_runs.specs.Calls.{Takes}
-use Rattle.au_running.specs.Meant.{means}
-use Rattle.au_running.specs.Shown.{Ended, Shows, aborts, exits, spent}
+use Rattle.au_running.specs.Ran.{RanAsMeant}
+use Rattle.au_running.specs.declared.ran.Ran.{Ran}
+use Rattle.au_running.specs.declared.ran.Ran.TheVariants as how
 use Rattle.au_unbuilt.specs.Unbuilt.{unbuilt_of}
 use Rattle.au_outcomes.specs.Accepted.{AreAcceptedAs}
 use Rattle.au_outcomes.specs.Programs.{program_modules}
@@ -26,36 +24,26 @@ use Rattle.au_top.specs.Runs.{HasRunAs, entry_for}
 
 -- for a program, the entry that is named if one is, and the most steps
 module _ (named : Option Entry) (steps : ℕ) (program : List ModuleParts) where
-  -- The rules of typing derive the program with some notes, and it closes to functions from its entry. A run
-  -- of it took bytes of its input, left the rest, and wrote bytes, all of which stand on `out`. Where what
-  -- the program means on that input isn't stuck within as many ticks as the run had steps, this is what it
-  -- means.
-  pub record HasShown (ends : Ended) (told left out out' : Option (List ℕ)) : Type 0 where
+  -- The program, which the rules of typing derive with some notes, ran whole as code from its entry, this is
+  -- answered of the run, and it shows what the program means.
+  pub record HasShown (ran : Ran) (told left out out' : Option (List ℕ)) : Type 0 where
     pub noted : List NotedParts
     pub derived : IsDerived program noted
-    pub c : ClosedProgram
-    pub closes :
-        Closes program noted (entry_for named program).«module» (entry_for named program).function c
-    pub taken : List ℕ
-    pub rest : List ℕ
-    pub input : Takes told left taken rest
-    pub written : List ℕ
-    pub output : Adds out out' written
-    pub shows :
-        ((means program noted closes.entry (taken ++ rest) steps).ending ≡ stuck → ⊥)
-        → Shows ends (means program noted closes.entry (taken ++ rest)) steps written rest
+    pub done :
+        RanAsMeant program noted (entry_for named program).«module» (entry_for named program).function ran
+        steps told left out out'
 
   -- What a status of a call says of the run: it returned success or failure, aborted for the cause that its
   -- line tells, or spent its steps, of which its line tells the number.
   abbrev pub IsShown : Status → (told left out out' err err' : Option (List ℕ)) → Type 0
   IsShown status.Success told left out out' err err' =
-      HasShown (exits true) told left out out' × Adds err err' []
+      HasShown (how.Exit true) told left out out' × Adds err err' []
   IsShown status.Failure told left out out' err err' =
-      HasShown (exits false) told left out out' × Adds err err' []
+      HasShown (how.Exit false) told left out out' × Adds err err' []
   IsShown status.Abort told left out out' err err' =
-      (words : Bytes) × HasShown (aborts words) told left out out' × Adds err err' (abort_line words)
+      (words : Bytes) × HasShown (how.Abort words) told left out out' × Adds err err' (abort_line words)
   IsShown status.Steps told left out out' err err' =
-      HasShown spent told left out out' × Adds err err' (steps_line steps)
+      HasShown how.Steps told left out out' × Adds err err' (steps_line steps)
   IsShown other told left out out' err err' = Unit {0}
 
 -- What a call with words over files shows of a run, if it's one. Where the words are a job `run`, its files

@@ -78,9 +78,9 @@ pub fn austral<S: Shelf, I: Source, O: Sink, E: Sink>(
         (O.written out.old) (O.written out.new) (E.written err.old) (E.written err.new) }
     ensures explained_only { (files : Files) (task : Task) → S.files shelf.old ≡ Some files
         → IsExplain (map string_bytes words.now) task → result ≡ Status.Success → Accepted files task.files }
-    // Where files are told, a job `run` runs the program of its files where they are accepted and no form in
-    // them isn't built yet: it ends as the run does, its output is what the run writes, and its line tells
-    // how the run ended.
+    // Where files are told, a job `run` runs the code of its files' program where they are accepted and no form
+    // in them isn't built yet: it ends as the run of that code does, its output is what that writes, the input
+    // is left as that leaves it, and its line tells how the run ended.
     ensures runs { (files : Files) (task : Task) (all : List (List ℕ)) (reads : List ReadFile)
         → S.files shelf.old ≡ Some files → IsRun (map string_bytes words.now) task
         → IsTrue (is_decided result) → AreAcceptedAs files task.files all reads
@@ -88,9 +88,8 @@ pub fn austral<S: Shelf, I: Source, O: Sink, E: Sink>(
         → HasRunAs task.entry task.steps (program_modules reads) result
         (I.left input.old) (I.left input.new) (O.written out.old) (O.written out.new) (E.written err.old)
         (E.written err.new) }
-    // Then what is seen of the run is what the program means on its input, where its runs are spoken of: it
-    // ends with 0 or 1, with 3 or with 4 by how its meaning ends within the steps, and has written what that
-    // writes.
+    // Then what is seen of the run is what the program means on its input, where that isn't stuck: it ends with
+    // 0 or 1, with 3 or with 4 by how its meaning ends within the steps, and has written what that writes.
     ensures shown { (files : Files) (task : Task) (all : List (List ℕ)) (reads : List ReadFile)
         → S.files shelf.old ≡ Some files → IsRun (map string_bytes words.now) task
         → IsTrue (is_decided result) → AreAcceptedAs files task.files all reads

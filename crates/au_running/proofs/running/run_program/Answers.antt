@@ -6,7 +6,7 @@ use Rattle.au_low.specs.Runs.{low_run}
 use Rattle.au_modules.specs.Slots as slots
 use Rattle.au_noting_programs.specs.Faults.{IsDerived}
 use Rattle.au_runs.specs.Calls.{IsCut}
-use Rattle.au_running.specs.Coded.{CameSo}
+use Rattle.au_running.specs.Came.{CameSo}
 use Rattle.au_running.specs.Ran.{HasRunSo, IsBroken, IsIdle}
 use Rattle.au_running.proofs.ShownLemmas.{came_so, cut_so}
 use Rattle.au_running.proofs.running.run_program.Goals as goal
