@@ -144,7 +144,7 @@ module _ (program : List ModuleParts) (is : IsGathered program) where
       subst (λ p. formed_declaration p says ≡ true) of
       (all_among (formed_declaration e.tree.part) says e.tree.declarations (formed e m) (among_get e.tree.declarations index says at))
 
-  interface_formed : (m : ModuleParts) (place : ℕ) → slice_get program place ≡ Some m → (index : ℕ) (says : PlainDeclaration) → slice_get (declarations_in m.interface) index ≡ Some says → formed_declaration Interface says ≡ true
+  pub interface_formed : (m : ModuleParts) (place : ℕ) → slice_get program place ≡ Some m → (index : ℕ) (says : PlainDeclaration) → slice_get (declarations_in m.interface) index ≡ Some says → formed_declaration Interface says ≡ true
   interface_formed m place e index says at = by (module_is m place e)
     where
       within : (name : Bytes) (o : Option Entry) → find (is_interface_of name) files ≡ o → slice_get (declarations_in o) index ≡ Some says → formed_declaration Interface says ≡ true
@@ -163,7 +163,7 @@ module _ (program : List ModuleParts) (is : IsGathered program) where
           within (joined x.tree.name) (find (is_interface_of (joined x.tree.name)) files) refl
           (sym (ap (λ (n : ModuleParts). slice_get (declarations_in n.interface) index) same) ∙ at)
 
-  body_formed : (m : ModuleParts) (place : ℕ) → slice_get program place ≡ Some m → (index : ℕ) (says : PlainDeclaration) → slice_get (declarations_in m.body) index ≡ Some says → formed_declaration Body says ≡ true
+  pub body_formed : (m : ModuleParts) (place : ℕ) → slice_get program place ≡ Some m → (index : ℕ) (says : PlainDeclaration) → slice_get (declarations_in m.body) index ≡ Some says → formed_declaration Body says ≡ true
   body_formed m place e index says at = by (module_is m place e)
     where
       by : ((x : Entry) × Among x shipped × (m ≡ shipped_module x)) ⊎ ((x : Entry) × Among x is.own × (is_interface x.tree.part ≡ false) × (m ≡ module_of files x)) → formed_declaration Body says ≡ true

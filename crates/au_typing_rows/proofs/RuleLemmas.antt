@@ -187,7 +187,7 @@ module _ (opened : List Bytes) (params : List Parameter) (visible : List (Bytes 
 
 -- ---- written types in a scope
 
-kept : {A : Type 0} → Noting A → Option A
+abbrev kept : {A : Type 0} → Noting A → Option A
 kept (Ok x) = Some x
 kept (Err why) = None
 
