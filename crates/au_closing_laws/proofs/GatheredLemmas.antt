@@ -37,7 +37,7 @@ among_filter t y (x ∷ xs) m = by (t x) refl (among_filter t y xs) m
     by true e later (inr m) = let its = later m in (inr its.0, its.1)
     by false e later m = let its = later m in (inr its.0, its.1)
 
-among_get : {A : Type 0} (xs : List A) (i : ℕ) (x : A) → slice_get xs i ≡ Some x → Among x xs
+pub among_get : {A : Type 0} (xs : List A) (i : ℕ) (x : A) → slice_get xs i ≡ Some x → Among x xs
 among_get [] i x e = absurd (none-some x e)
 among_get (y ∷ xs) zero x e = inl (same_Some y x e)
 among_get (y ∷ xs) (suc i) x e = inr (among_get xs i x e)
@@ -50,7 +50,7 @@ among_find t (y ∷ xs) x e = by (t y) refl (among_find t xs x) e
     by true is later e = let same = same_Some y x e in (inl same, ap t (sym same) ∙ is)
     by false is later e = let its = later e in (inr its.0, its.1)
 
-all_among : {A : Type 0} (t : A → Bool) (x : A) (xs : List A) → list_all t xs ≡ true → Among x xs → t x ≡ true
+pub all_among : {A : Type 0} (t : A → Bool) (x : A) (xs : List A) → list_all t xs ≡ true → Among x xs → t x ≡ true
 all_among t x [] h m = absurd m
 all_among t x (y ∷ xs) h (inl here) = ap t (sym here) ∙ (and_parts (t y) (list_all t xs) h).0
 all_among t x (y ∷ xs) h (inr later) = all_among t x xs (and_parts (t y) (list_all t xs) h).1 later

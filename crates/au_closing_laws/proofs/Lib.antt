@@ -13,3 +13,8 @@ mod SameLemmas
 mod DefinitionLemmas
 mod FunctionLemmas
 mod TypedLemmas
+mod GatheredLemmas
+mod FactLemmas
+mod TextLemmas
+mod ShippedMethodLemmas
+mod MethodLemmas
