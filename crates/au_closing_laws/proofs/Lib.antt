@@ -18,3 +18,5 @@ mod FactLemmas
 mod TextLemmas
 mod ShippedMethodLemmas
 mod MethodLemmas
+mod ResolvedLemmas
+mod StandLemmas
