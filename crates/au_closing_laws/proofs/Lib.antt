@@ -20,3 +20,4 @@ mod ShippedMethodLemmas
 mod MethodLemmas
 mod ResolvedLemmas
 mod StandLemmas
+mod NotedStandLemmas
