@@ -21,3 +21,4 @@ mod MethodLemmas
 mod ResolvedLemmas
 mod StandLemmas
 mod NotedStandLemmas
+mod PutStandLemmas
