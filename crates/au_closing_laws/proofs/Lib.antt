@@ -22,3 +22,4 @@ mod ResolvedLemmas
 mod StandLemmas
 mod NotedStandLemmas
 mod PutStandLemmas
+mod MeantStandLemmas
