@@ -23,3 +23,4 @@ mod StandLemmas
 mod NotedStandLemmas
 mod PutStandLemmas
 mod MeantStandLemmas
+mod OutsideStandLemmas
