@@ -24,3 +24,5 @@ mod NotedStandLemmas
 mod PutStandLemmas
 mod MeantStandLemmas
 mod OutsideStandLemmas
+mod AcceptedLemmas
+mod LeadLemmas
