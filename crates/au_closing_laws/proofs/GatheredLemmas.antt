@@ -23,12 +23,12 @@ use Rattle.au_closing_laws.specs.Gathered.{IsGathered, IsParsed, entry_of}
 
 -- ---- lists
 
-among_map : {A B : Type 0} (f : A → B) (y : B) (xs : List A) → Among y (map f xs) → (x : A) × Among x xs × (y ≡ f x)
+pub among_map : {A B : Type 0} (f : A → B) (y : B) (xs : List A) → Among y (map f xs) → (x : A) × Among x xs × (y ≡ f x)
 among_map f y [] m = absurd m
 among_map f y (x ∷ xs) (inl here) = (x, inl refl, sym here)
 among_map f y (x ∷ xs) (inr later) = let its = among_map f y xs later in (its.0, inr its.1, its.2)
 
-among_filter : {A : Type 0} (t : A → Bool) (y : A) (xs : List A) → Among y (filter t xs) → Among y xs × (t y ≡ true)
+pub among_filter : {A : Type 0} (t : A → Bool) (y : A) (xs : List A) → Among y (filter t xs) → Among y xs × (t y ≡ true)
 among_filter t y [] m = absurd m
 among_filter t y (x ∷ xs) m = by (t x) refl (among_filter t y xs) m
   where

@@ -18,6 +18,7 @@ mod FactLemmas
 mod TextLemmas
 mod ShippedMethodLemmas
 mod MethodLemmas
+mod HeadLemmas
 mod ResolvedLemmas
 mod StandLemmas
 mod NotedStandLemmas
