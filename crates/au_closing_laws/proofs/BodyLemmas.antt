@@ -141,7 +141,7 @@ module _ (outside : ℕ → Part → Outside) (noted : List NotedParts) (good : 
       by None e = absurd (none-some body e)
       by (Some index) e = found (slice_get (body_at noted d.place) index) (good_noted d.place index) e
 
-  good_standing : (program : List ModuleParts) (name : Bytes) (o : Option Standing) (body : BodyOf) → body_standing program noted name o ≡ Some body → IsGoodBody seen_there body
+  pub good_standing : (program : List ModuleParts) (name : Bytes) (o : Option Standing) (body : BodyOf) → body_standing program noted name o ≡ Some body → IsGoodBody seen_there body
   good_standing program name None body e = absurd (none-some body e)
   good_standing program name (Some d) body e = good_defining program name d body e
 

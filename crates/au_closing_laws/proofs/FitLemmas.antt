@@ -45,7 +45,7 @@ given_type s name universes.Linear is e = type_there s name (value_of name s) re
 given_type s name universes.AnyType is e = type_there s name (value_of name s) refl e
 given_type s name universes.Region is e = cc
 
-value_there : (s : Bindings) (params : List Parameter) (name : Bytes) (universe : Universe) → first_left s params ≡ None → universe_in params name ≡ Some universe → is_region universe ≡ false → GivesType s name
+pub value_there : (s : Bindings) (params : List Parameter) (name : Bytes) (universe : Universe) → first_left s params ≡ None → universe_in params name ≡ Some universe → is_region universe ≡ false → GivesType s name
 value_there s [] name universe none e is = absurd (none-some universe e)
 value_there s (one ∷ rest) name universe none e is =
     by (is_given s one) refl (bytes_eq one.name name) refl none e (λ others its. value_there s rest name universe others its is)

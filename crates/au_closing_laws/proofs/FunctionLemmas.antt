@@ -74,13 +74,13 @@ module _ (program : List ModuleParts) (callee : BodyOf) (place : ℕ) (at_place 
   meant_there part generics = generics_meant (names_there part) (heads_of program) generics
 
   -- of a function that stands in the body
-  bounds_here : (generics : List (Constrained Bytes)) (all : List Bounded) → callee.generics ≡ generics → meant_there Body generics ≡ Are all → bounds_of program callee ≡ all
+  pub bounds_here : (generics : List (Constrained Bytes)) (all : List Bounded) → callee.generics ≡ generics → meant_there Body generics ≡ Are all → bounds_of program callee ≡ all
   bounds_here generics all same means =
       ap (λ n. bounds_in (generics_meant (types_at program n Body) (heads_of program) callee.generics)) at_place
       ∙ ap (λ gs. bounds_in (meant_there Body gs)) same ∙ ap bounds_in means
 
   -- of one that is promised
-  bounds_promised : (m : ModuleParts) (generics others : List (Constrained Bytes)) (all : List Bounded) → slice_get program place ≡ Some m → callee.generics ≡ others
+  pub bounds_promised : (m : ModuleParts) (generics others : List (Constrained Bytes)) (all : List Bounded) → slice_get program place ≡ Some m → callee.generics ≡ others
       → Each (SameGeneric (sight_of program place m)) generics others → meant_there Interface generics ≡ Are all
       → first_misfit (class_meant (written_params callee.generics) (types_at program callee.place Body) (heads_of program)) callee.generics ≡ None
       → bounds_of program callee ≡ all

@@ -13,3 +13,17 @@ mod SameLemmas
 mod DefinitionLemmas
 mod FunctionLemmas
 mod TypedLemmas
+mod GatheredLemmas
+mod FactLemmas
+mod TextLemmas
+mod ShippedMethodLemmas
+mod MethodLemmas
+mod HeadLemmas
+mod ResolvedLemmas
+mod StandLemmas
+mod NotedStandLemmas
+mod PutStandLemmas
+mod MeantStandLemmas
+mod OutsideStandLemmas
+mod AcceptedLemmas
+mod LeadLemmas

@@ -40,7 +40,7 @@ found_classless (one ∷ rest) none name sense e = by (bytes_eq name one.0) e (f
 
 module _ (heads : List (DeclAt × Head)) where
   -- the class of a declaration that is found, if it is one
-  abbrev declared_class : Option DeclAt → Option DeclAt
+  abbrev pub declared_class : Option DeclAt → Option DeclAt
   declared_class o = class_in (option_map (declared_sense heads) o)
 
   of_parameter : (name : Bytes) (universe : Universe) → class_in (Some (parameter_sense name universe)) ≡ None
@@ -49,7 +49,7 @@ module _ (heads : List (DeclAt × Head)) where
   of_parameter name universes.AnyType = refl
   of_parameter name universes.Region = refl
 
-  class_found : (params : List Parameter) (visible : List (Bytes × DeclAt)) (name : Bytes) (at : DeclAt) → class_meant params visible heads name ≡ Some at → declared_class (find name visible) ≡ Some at
+  pub class_found : (params : List Parameter) (visible : List (Bytes × DeclAt)) (name : Bytes) (at : DeclAt) → class_meant params visible heads name ≡ Some at → declared_class (find name visible) ≡ Some at
   class_found params visible name at e = by (universe_in params name) e
     where
       built : (o : Option Sense) → find name built_in ≡ o → class_in (option_or o (option_map (declared_sense heads) (find name visible))) ≡ Some at → declared_class (find name visible) ≡ Some at

@@ -52,7 +52,7 @@ module _ (program : List ModuleParts) where
       ∙ ap (λ o. rows_read program before ++ (option_to_list o ++ [])) reads
 
   -- a row that is read is that of an instance
-  read_of : (texts : List InstanceText) (row : Row) → Contains (rows_read program texts) row → (text : InstanceText) × Contains texts text × (row_of program text ≡ Some row)
+  pub read_of : (texts : List InstanceText) (row : Row) → Contains (rows_read program texts) row → (text : InstanceText) × Contains texts text × (row_of program text ≡ Some row)
   read_of [] row listed = absurd (nothing_there row listed)
   read_of (text ∷ rest) row listed =
       by (row_of program text) refl (Contains-append_cases (option_to_list (row_of program text)) (rows_read program rest) row listed)

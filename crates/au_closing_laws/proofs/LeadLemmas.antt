@@ -1,0 +1,61 @@
+-- The calls of gathered programs, and so of accepted ones, are typed, and each call of a reached instance
+-- leads somewhere.
+use Rattle.std.proofs.Common.{◌≡◌, ℕ, List, [], ◌∷◌, Option, Some, refl, sym, ap, ◌∙◌, subst}
+use Rattle.std.specs.Prelude.{Contains}
+use Rattle.std.proofs.lemmas.Option.{same_Some}
+use Rattle.au_base.specs.Outside.{Files}
+use Rattle.au_syntax.specs.declared.modules.Part.TheVariants.{Body}
+use Rattle.au_modules.specs.Programs.{ModuleParts}
+use Rattle.au_classes.specs.Good.{InstancesAreGood}
+use Rattle.au_promises.specs.Fulfilled.{AllFulfil}
+use Rattle.au_rules.specs.Good.{AllDeclarationsAreGood}
+use Rattle.au_derivations.specs.Trees.{NotedParts}
+use Rattle.au_noting_programs.specs.Faults.{IsDerived}
+use Rattle.au_outcomes.specs.Accepted.{AreAcceptedAs}
+use Rattle.au_outcomes.specs.Programs.{program_modules}
+use Rattle.au_outcomes.specs.Trees.{ReadFile}
+use Rattle.au_reach.specs.Reached.{Reached}
+use Rattle.au_closing.specs.Bodies.{BodyOf, body_of}
+use Rattle.au_closing.specs.Closes.{calls_of}
+use Rattle.au_closing.specs.Instances.{Instance, same_instance}
+use Rattle.au_closing.specs.Leading.{call_leads}
+use Rattle.au_closing_laws.specs.Gathered.{IsGathered}
+use Rattle.au_closing_laws.specs.Sound.{IsSomewhere}
+use Rattle.au_closing_laws.specs.Standing.{FieldsStand, OwnTypesStand, SeenStands}
+use Rattle.au_closing_laws.specs.Targets.{Call, IsEntry, IsTyped, calls_listed}
+use Rattle.au_closing_laws.proofs.AcceptedLemmas.{accepted_gathered}
+use Rattle.au_closing_laws.proofs.FactLemmas.{functions_hold, parts_hold}
+use Rattle.au_closing_laws.proofs.MethodLemmas.{methods_hold}
+use Rattle.au_closing_laws.proofs.OutsideStandLemmas.{outside_stands}
+use Rattle.au_closing_laws.proofs.PutStandLemmas.{put_types_stand}
+use Rattle.au_closing_laws.proofs.SoundLemmas.{call_somewhere, reached_sound}
+use Rattle.au_closing_laws.proofs.TypedLemmas.{program_typed}
+
+pub seen_stands : (program : List ModuleParts) → OwnTypesStand program → FieldsStand program → SeenStands program
+seen_stands program own fields place = outside_stands program own fields place Body
+
+pub gathered_typed : (program : List ModuleParts) (noted : List NotedParts) → IsGathered program → IsDerived program noted → AllDeclarationsAreGood program → InstancesAreGood program → AllFulfil program
+    → SeenStands program → IsTyped program noted
+gathered_typed program noted gathered derived declared instances promises seen =
+    program_typed program noted derived declared instances promises (record {
+      parts = parts_hold program gathered;
+      functions = functions_hold program gathered;
+      methods = methods_hold program noted derived declared instances promises gathered;
+      standing = put_types_stand program noted derived declared seen;
+    })
+
+module _ (files : Files) (names all : List (List ℕ)) (reads : List ReadFile) (accepted : AreAcceptedAs files names all reads) where
+  pub accepted_typed : SeenStands (program_modules reads) → IsTyped (program_modules reads) accepted.noted
+  accepted_typed seen =
+      gathered_typed (program_modules reads) accepted.noted (accepted_gathered files names all reads accepted) accepted.derives accepted.declared accepted.instances accepted.kept seen
+
+  pub accepted_leads : SeenStands (program_modules reads) → (entry : Instance) → IsEntry (program_modules reads) accepted.noted entry
+      → (one : Instance) → Reached same_instance (calls_of (program_modules reads) accepted.noted) (entry ∷ []) one
+      → (body : BodyOf) → body_of (program_modules reads) accepted.noted one.of ≡ Some body → (call : Call) → Contains (calls_listed body.block) call
+      → IsSomewhere (program_modules reads) accepted.noted (call_leads (program_modules reads) body.place one.given call.0 call.1)
+  accepted_leads seen entry is one reached body there call listed =
+      let typed = accepted_typed seen in
+      let sound = reached_sound (program_modules reads) accepted.noted typed entry is one reached in
+      let same = same_Some sound.body body (sym sound.there ∙ there) in
+      subst (λ (b : BodyOf). IsSomewhere (program_modules reads) accepted.noted (call_leads (program_modules reads) b.place one.given call.0 call.1)) same
+      (call_somewhere (program_modules reads) accepted.noted typed one sound call (subst (λ (b : BodyOf). Contains (calls_listed b.block) call) (sym same) listed))
