@@ -17,6 +17,7 @@ ghost use Rattle.au_closing_laws.specs.Sound.{IsSomewhere};
 ghost use Rattle.au_closing_laws.specs.Standing.{FieldsStand, OwnTypesStand, SeenStands};
 ghost use Rattle.au_closing_laws.specs.Targets.{Call, IsEntry, IsTyped, calls_listed};
 ghost use Rattle.au_derivations.specs.Trees.{NotedParts};
+ghost use Rattle.au_imports.specs.Good.{AllNamesAreGood};
 ghost use Rattle.au_instances.specs.Tables.{IsTable};
 ghost use Rattle.au_modules.specs.Programs.{ModuleParts};
 ghost use Rattle.au_noting_programs.specs.Faults.{IsDerived};
@@ -29,7 +30,8 @@ ghost use Rattle.au_rules.specs.Good.{AllDeclarationsAreGood};
 ghost use Rattle.au_syntax.specs.Plain.{Bytes};
 ghost use Rattle.au_types.specs.declared.types.DeclAt.{DeclAt};
 
-/// The modules of accepted files are gathered of the shipped files and of files of the user's that were parsed.
+/// The modules of accepted files are gathered of the shipped files and of files of the user's that were
+/// parsed.
 pub fn accepted_programs_are_gathered()
     ensures { (files : Files) (names all : List (List ℕ)) (reads : List ReadFile)
         → AreAcceptedAs files names all reads
@@ -71,6 +73,16 @@ pub fn types_that_calls_put_stand()
         → SeenStands program }
 {}
 
+/// In a gathered program, of which the names are good and each body fulfils its interface, the fields of a
+/// type that stands over type parameters stand over them.
+pub fn fields_of_types_stand()
+    ensures { (program : List ModuleParts)
+        → IsGathered program
+        → AllNamesAreGood program
+        → AllFulfil program
+        → FieldsStand program }
+{}
+
 /// A method of a class at a closed type leads to that of the one instance of the class there, by the rule of
 /// instances, and to nothing where the class has none.
 pub fn methods_lead_by_the_rule_of_instances()
@@ -80,16 +92,16 @@ pub fn methods_lead_by_the_rule_of_instances()
         → Resolves program class name t }
 {}
 
-/// Each call of each instance that is reached from an entry of an accepted program leads somewhere, where what
-/// the bodies of its modules see outside of functions stands: its calls are typed.
+/// Each call of each instance that is reached from an entry of an accepted program leads somewhere, where the
+/// types of records and unions stand over their own type parameters: its calls are typed.
 pub fn calls_of_accepted_programs_lead_somewhere()
     ensures typed { (files : Files) (names all : List (List ℕ)) (reads : List ReadFile)
         (accepted : AreAcceptedAs files names all reads)
-        → SeenStands (program_modules reads)
+        → OwnTypesStand (program_modules reads)
         → IsTyped (program_modules reads) accepted.noted }
     ensures calls { (files : Files) (names all : List (List ℕ)) (reads : List ReadFile)
         (accepted : AreAcceptedAs files names all reads)
-        → SeenStands (program_modules reads)
+        → OwnTypesStand (program_modules reads)
         → (entry : InstanceSeen)
         → IsEntry (program_modules reads) accepted.noted entry
         → (one : InstanceSeen)
