@@ -7,6 +7,7 @@ use Rattle.au_base.specs.Outside.{Files}
 use Rattle.au_syntax.specs.declared.modules.Part.TheVariants.{Body}
 use Rattle.au_modules.specs.Programs.{ModuleParts}
 use Rattle.au_classes.specs.Good.{InstancesAreGood}
+use Rattle.au_imports.specs.Good.{AllNamesAreGood}
 use Rattle.au_promises.specs.Fulfilled.{AllFulfil}
 use Rattle.au_rules.specs.Good.{AllDeclarationsAreGood}
 use Rattle.au_derivations.specs.Trees.{NotedParts}
@@ -25,6 +26,7 @@ use Rattle.au_closing_laws.specs.Standing.{FieldsStand, OwnTypesStand, SeenStand
 use Rattle.au_closing_laws.specs.Targets.{Call, IsEntry, IsTyped, calls_listed}
 use Rattle.au_closing_laws.proofs.AcceptedLemmas.{accepted_gathered}
 use Rattle.au_closing_laws.proofs.FactLemmas.{functions_hold, parts_hold}
+use Rattle.au_closing_laws.proofs.FieldLemmas.{fields_hold}
 use Rattle.au_closing_laws.proofs.MethodLemmas.{methods_hold}
 use Rattle.au_closing_laws.proofs.OutsideStandLemmas.{outside_stands}
 use Rattle.au_closing_laws.proofs.PutStandLemmas.{put_types_stand}
@@ -44,17 +46,28 @@ gathered_typed program noted gathered derived declared instances promises seen =
       standing = put_types_stand program noted derived declared seen;
     })
 
-module _ (files : Files) (names all : List (List ℕ)) (reads : List ReadFile) (accepted : AreAcceptedAs files names all reads) where
-  pub accepted_typed : SeenStands (program_modules reads) → IsTyped (program_modules reads) accepted.noted
-  accepted_typed seen =
-      gathered_typed (program_modules reads) accepted.noted (accepted_gathered files names all reads accepted) accepted.derives accepted.declared accepted.instances accepted.kept seen
+pub gathered_fields : (program : List ModuleParts) → IsGathered program → AllNamesAreGood program → AllFulfil program → FieldsStand program
+gathered_fields program gathered named promises =
+    fields_hold program (parts_hold program gathered) (record { names = named; promises = promises })
 
-  pub accepted_leads : SeenStands (program_modules reads) → (entry : Instance) → IsEntry (program_modules reads) accepted.noted entry
+module _ (files : Files) (names all : List (List ℕ)) (reads : List ReadFile) (accepted : AreAcceptedAs files names all reads) where
+  abbrev gathered : IsGathered (program_modules reads)
+  gathered = accepted_gathered files names all reads accepted
+
+  accepted_seen : OwnTypesStand (program_modules reads) → SeenStands (program_modules reads)
+  accepted_seen own =
+      seen_stands (program_modules reads) own (gathered_fields (program_modules reads) gathered accepted.named accepted.kept)
+
+  pub accepted_typed : OwnTypesStand (program_modules reads) → IsTyped (program_modules reads) accepted.noted
+  accepted_typed own =
+      gathered_typed (program_modules reads) accepted.noted gathered accepted.derives accepted.declared accepted.instances accepted.kept (accepted_seen own)
+
+  pub accepted_leads : OwnTypesStand (program_modules reads) → (entry : Instance) → IsEntry (program_modules reads) accepted.noted entry
       → (one : Instance) → Reached same_instance (calls_of (program_modules reads) accepted.noted) (entry ∷ []) one
       → (body : BodyOf) → body_of (program_modules reads) accepted.noted one.of ≡ Some body → (call : Call) → Contains (calls_listed body.block) call
       → IsSomewhere (program_modules reads) accepted.noted (call_leads (program_modules reads) body.place one.given call.0 call.1)
-  accepted_leads seen entry is one reached body there call listed =
-      let typed = accepted_typed seen in
+  accepted_leads own entry is one reached body there call listed =
+      let typed = accepted_typed own in
       let sound = reached_sound (program_modules reads) accepted.noted typed entry is one reached in
       let same = same_Some sound.body body (sym sound.there ∙ there) in
       subst (λ (b : BodyOf). IsSomewhere (program_modules reads) accepted.noted (call_leads (program_modules reads) b.place one.given call.0 call.1)) same

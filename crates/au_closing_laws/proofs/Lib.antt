@@ -25,5 +25,6 @@ mod NotedStandLemmas
 mod PutStandLemmas
 mod MeantStandLemmas
 mod OutsideStandLemmas
+mod FieldLemmas
 mod AcceptedLemmas
 mod LeadLemmas

@@ -8,28 +8,40 @@ ghost use Rattle.au_closed_types.specs.Types.{ClosedType};
 ghost use Rattle.au_closing.specs.Bodies.{BodyOf, body_of};
 ghost use Rattle.au_closing.specs.Closes.{calls_of};
 ghost use Rattle.au_closing.specs.Instances.{Instance as InstanceSeen, same_instance};
-ghost use Rattle.au_closing.specs.Leading.{call_leads};
+ghost use Rattle.au_closing.specs.Leading.{a_method, call_leads, called_standing, method_by_row};
+ghost use Rattle.au_closing_laws.specs.Calls.{put_for};
 ghost use Rattle.au_closing_laws.specs.Gathered.{IsGathered};
 ghost use Rattle.au_closing_laws.specs.Premises.{AreOfParts, FunctionsAreShipped, MethodsAreThere};
 ghost use Rattle.au_closing_laws.specs.Premises.{PutTypesStand};
-ghost use Rattle.au_closing_laws.specs.Resolved.{Resolves};
+ghost use Rattle.au_closing_laws.specs.Resolved.{IsTheInstance, Resolves};
 ghost use Rattle.au_closing_laws.specs.Sound.{IsSomewhere};
 ghost use Rattle.au_closing_laws.specs.Standing.{FieldsStand, OwnTypesStand, SeenStands};
 ghost use Rattle.au_closing_laws.specs.Targets.{Call, IsEntry, IsTyped, calls_listed};
 ghost use Rattle.au_derivations.specs.Trees.{NotedParts};
+ghost use Rattle.au_given_types.specs.Given.{Given, closed_under};
+ghost use Rattle.au_imports.specs.Good.{AllNamesAreGood};
+ghost use Rattle.au_instances.specs.Rows.{Row as RowSeen};
 ghost use Rattle.au_instances.specs.Tables.{IsTable};
 ghost use Rattle.au_modules.specs.Programs.{ModuleParts};
+ghost use Rattle.au_names.specs.Standing.{standing_at};
+ghost use Rattle.au_names.specs.declared.targets.Target.{Target as TargetSeen};
 ghost use Rattle.au_noting_programs.specs.Faults.{IsDerived};
 ghost use Rattle.au_outcomes.specs.Accepted.{AreAcceptedAs};
 ghost use Rattle.au_outcomes.specs.Programs.{program_modules};
 ghost use Rattle.au_outcomes.specs.Trees.{ReadFile};
+ghost use Rattle.au_outsides.specs.Written.{seen_at};
 ghost use Rattle.au_promises.specs.Fulfilled.{AllFulfil};
 ghost use Rattle.au_reach.specs.Reached.{Reached};
 ghost use Rattle.au_rules.specs.Good.{AllDeclarationsAreGood};
 ghost use Rattle.au_syntax.specs.Plain.{Bytes};
+ghost use Rattle.au_syntax.specs.declared.modules.Part.TheVariants.{Body};
+ghost use Rattle.au_tables.specs.Tables as tables;
+ghost use Rattle.au_tables.specs.declared.spaces.Space.TheVariants.{Callables};
 ghost use Rattle.au_types.specs.declared.types.DeclAt.{DeclAt};
+ghost use Rattle.au_typing.specs.Notes.{Note};
 
-/// The modules of accepted files are gathered of the shipped files and of files of the user's that were parsed.
+/// The modules of accepted files are gathered of the shipped files and of files of the user's that were
+/// parsed.
 pub fn accepted_programs_are_gathered()
     ensures { (files : Files) (names all : List (List ℕ)) (reads : List ReadFile)
         → AreAcceptedAs files names all reads
@@ -71,25 +83,45 @@ pub fn types_that_calls_put_stand()
         → SeenStands program }
 {}
 
-/// A method of a class at a closed type leads to that of the one instance of the class there, by the rule of
-/// instances, and to nothing where the class has none.
-pub fn methods_lead_by_the_rule_of_instances()
+/// In a gathered program, of which the names are good and each body fulfils its interface, the fields of a
+/// type that stands over type parameters stand over them.
+pub fn fields_of_types_stand()
     ensures { (program : List ModuleParts)
+        → IsGathered program
+        → AllNamesAreGood program
+        → AllFulfil program
+        → FieldsStand program }
+{}
+
+/// A method of a class at a closed type leads to that of the one instance of the class there, by the rule of
+/// instances, and to nothing where the class has none. So a call of a name that means a method leads to that
+/// of the one instance at what stands for the class's parameter.
+pub fn methods_lead_by_the_rule_of_instances()
+    ensures classes { (program : List ModuleParts)
         → IsTable (rows_of program)
         → (class : DeclAt) (name : Bytes) (t : ClosedType)
         → Resolves program class name t }
+    ensures calls { (program : List ModuleParts)
+        → IsTable (rows_of program)
+        → (place : ℕ) (given : Given) (note : Note) (name method param : Bytes) (target : TargetSeen)
+        → tables.find name (seen_at Callables program place Body) ≡ Some target
+        → called_standing target.name (standing_at program target.at) ≡ Some (a_method method param)
+        → (row : RowSeen)
+        → IsTheInstance program target.at (closed_under given (put_for note param)) row
+        → call_leads program place given note name
+        ≡ method_by_row program method (closed_under given (put_for note param)) row }
 {}
 
-/// Each call of each instance that is reached from an entry of an accepted program leads somewhere, where what
-/// the bodies of its modules see outside of functions stands: its calls are typed.
+/// Each call of each instance that is reached from an entry of an accepted program leads somewhere, where the
+/// types of records and unions stand over their own type parameters: its calls are typed.
 pub fn calls_of_accepted_programs_lead_somewhere()
     ensures typed { (files : Files) (names all : List (List ℕ)) (reads : List ReadFile)
         (accepted : AreAcceptedAs files names all reads)
-        → SeenStands (program_modules reads)
+        → OwnTypesStand (program_modules reads)
         → IsTyped (program_modules reads) accepted.noted }
     ensures calls { (files : Files) (names all : List (List ℕ)) (reads : List ReadFile)
         (accepted : AreAcceptedAs files names all reads)
-        → SeenStands (program_modules reads)
+        → OwnTypesStand (program_modules reads)
         → (entry : InstanceSeen)
         → IsEntry (program_modules reads) accepted.noted entry
         → (one : InstanceSeen)
