@@ -1,3 +1,4 @@
 pub mod SeenLemmas
 pub mod BranchLemmas
 pub mod SizeLemmas
+pub mod LendingLemmas

@@ -1,2 +1,3 @@
 pub mod Seen
 pub mod Standing
+pub mod Lendings

@@ -1,6 +1,6 @@
 //! How a variable is held at a place.
 
-ghost use Rattle.std.specs.Prelude.{◌≡◌, ◌∷◌, []};
+ghost use Rattle.std.specs.Prelude.{◌≡◌, ◌∷◌, [], if◌then◌else◌};
 ghost use Rattle.std.specs.Str.{bytes_eq};
 ghost use Rattle.au_lives.specs.Lives as lives;
 ghost use Rattle.au_lives.specs.Lives.{held_from};
@@ -43,7 +43,7 @@ pub fn access_of(mode: BorrowMode) -> Access
 }
 
 /// One more borrow statement on the variable.
-fn tighter(access: Access, hold: Hold) -> Hold
+pub(crate) fn tighter(access: Access, hold: Hold) -> Hold
     ensures { hold_of result ≡ lives.tighter access (hold_of hold) }
 {
     match (hold, access) {
@@ -96,19 +96,6 @@ pub fn held_in_borrow<P: Phase>(
     held_beside(x, reference, inside)
 }
 
-/// How the variable is held where these are bound.
-pub fn held_beside_binds<P: Phase>(x: &Name, binds: &Vec<Bind<P>>, hold: Hold) -> Hold
-    ensures { hold_of result
-        ≡ held_from x.now (bound_names (seen_binds P.Phase binds.now.items)) (hold_of hold) }
-{
-    for one in binds {
-        if is_bound(x, one) {
-            return Hold::Hidden;
-        }
-    }
-    hold
-}
-
 /// Whether a field is bound to a variable of this name.
 fn is_bound<P: Phase>(x: &Name, one: &Bind<P>) -> bool
     ensures { result ≡ bytes_eq (bound_name (seen_bind P.Phase one.now)).name x.now }
@@ -119,26 +106,59 @@ fn is_bound<P: Phase>(x: &Name, one: &Bind<P>) -> bool
     }
 }
 
-/// How the variable is held behind a statement of its block.
+/// Whether one of these is bound to a variable of this name.
+pub(crate) fn binds<P: Phase>(x: &Name, all: &Vec<Bind<P>>) -> bool
+    ensures { (h : lives.Hold) → held_from x.now (bound_names (seen_binds P.Phase all.now.items)) h
+        ≡ (if result then lives.hidden else h) }
+{
+    for one in all {
+        if is_bound(x, one) {
+            return true;
+        }
+    }
+    false
+}
+
+/// How the variable is held where these are bound.
+pub fn held_beside_binds<P: Phase>(x: &Name, all: &Vec<Bind<P>>, hold: Hold) -> Hold
+    ensures { hold_of result
+        ≡ held_from x.now (bound_names (seen_binds P.Phase all.now.items)) (hold_of hold) }
+{
+    if binds(x, all) { Hold::Hidden } else { hold }
+}
+
+/// Whether a statement declares a variable of this name for the rest of its block.
 #[tactic(auto, using(au_syntax::proofs::StatementLemmas::statement_steps))]
+pub(crate) fn declares<P: Phase>(x: &Name, stmt: &Stmt<P>) -> bool
+    ensures { (h : lives.Hold) → held_from x.now (declared_by (seen_statement P.Phase stmt.now)) h
+        ≡ (if result then lives.hidden else h) }
+{
+    match stmt {
+        Stmt::Let(_, _, name, _, _) => is_named(x, name),
+        Stmt::Destructure(_, all, _) => binds(x, all),
+        Stmt::Skip(_) => false,
+        Stmt::Assign(_, _, _, _) => false,
+        Stmt::AssignThrough(_, _, _, _) => false,
+        Stmt::If(_, _) => false,
+        Stmt::IfElse(_, _, _) => false,
+        Stmt::Case(_, _, _) => false,
+        Stmt::While(_, _, _) => false,
+        Stmt::For(_, _, _, _, _) => false,
+        Stmt::Borrow(_, _, _, _, _) => false,
+        Stmt::BorrowTyped(_, _, _, _, _, _, _) => false,
+        Stmt::Call(_, _) => false,
+        Stmt::Return(_, _) => false,
+    }
+}
+
+/// How the variable is held behind a statement of its block.
 pub fn held_after<P: Phase>(x: &Name, stmt: &Stmt<P>, hold: Hold) -> Hold
     ensures { hold_of result
         ≡ held_from x.now (declared_by (seen_statement P.Phase stmt.now)) (hold_of hold) }
 {
-    match stmt {
-        Stmt::Let(_, _, name, _, _) => held_beside(x, name, hold),
-        Stmt::Destructure(_, binds, _) => held_beside_binds(x, binds, hold),
-        Stmt::Skip(_) => hold,
-        Stmt::Assign(_, _, _, _) => hold,
-        Stmt::AssignThrough(_, _, _, _) => hold,
-        Stmt::If(_, _) => hold,
-        Stmt::IfElse(_, _, _) => hold,
-        Stmt::Case(_, _, _) => hold,
-        Stmt::While(_, _, _) => hold,
-        Stmt::For(_, _, _, _, _) => hold,
-        Stmt::Borrow(_, _, _, _, _) => hold,
-        Stmt::BorrowTyped(_, _, _, _, _, _, _) => hold,
-        Stmt::Call(_, _) => hold,
-        Stmt::Return(_, _) => hold,
+    if declares(x, stmt) {
+        Hold::Hidden
+    } else {
+        hold
     }
 }

@@ -2,7 +2,9 @@
 //! it, and the first path that breaks its life.
 #![tactic(auto)]
 
+mod borrows;
 pub mod fates;
+mod hiding;
 pub mod holds;
 pub mod meeting;
 pub mod reaches;

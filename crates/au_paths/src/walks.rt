@@ -1,15 +1,19 @@
 //! The walk over the block where a variable lives.
 
-ghost use Rattle.std.specs.Prelude.{◌≡◌, ◌≢◌, ◌≤◌, drop, length, Ok, Some, None, []};
+ghost use Rattle.std.specs.Prelude.{◌≡◌, ◌≢◌, ◌≤◌, ◌∷◌, drop, length, Ok, OnOk, Some, None, []};
 ghost use Rattle.au_lives.specs.Walks as walks;
-ghost use Rattle.au_lives.specs.Walks.{walk, walk_block, walk_branches, turned, joined, checked};
+ghost use Rattle.au_lives.specs.Walks.{walk, walk_block, walk_branches, walk_step, does, turned, joined};
+ghost use Rattle.au_lives.specs.Walks.{checked};
 ghost use Rattle.au_lives.specs.Lives.{held_from, unlent};
-ghost use Rattle.au_lives.specs.Paths.{bound_names};
-ghost use Rattle.au_paths.specs.Seen.{seen_expression, seen_statement, seen_statements, seen_block};
-ghost use Rattle.au_paths.specs.Seen.{seen_branches, seen_arms, seen_binds};
-ghost use Rattle.au_paths.specs.Standing.{hold_of, reach_of, Gives, Forks, Branches, walk_case, then_on};
+ghost use Rattle.au_lives.specs.Paths.{bound_names, declared, lent, opening};
+ghost use Rattle.au_paths.specs.Lendings.{held_within};
+ghost use Rattle.au_paths.specs.Seen.{seen_name, seen_expression, seen_statement, seen_statements};
+ghost use Rattle.au_paths.specs.Seen.{seen_block, seen_branches, seen_arms, seen_binds};
+ghost use Rattle.au_paths.specs.Standing.{reach_of, Gives, Forks, Branches, walk_case, then_on};
 
-use crate::holds::{Hold, access_of, held_after, held_beside, held_beside_binds, held_in_borrow};
+use crate::borrows::OpenBorrows;
+use crate::hiding::{hidden_after, hidden_beside, hidden_beside_binds};
+use crate::holds::access_of;
 use crate::meeting::{
     meet, meet_assignment, meet_assignment_through, meet_both, meet_boxed, meet_opening,
     meet_return, meet_test,
@@ -17,23 +21,27 @@ use crate::meeting::{
 use crate::reaches::{Fork, Reached, Stop, choose, finish, merge, nowhere};
 use au_base::Name;
 use au_lives::lives::Sort;
-use au_syntax::{Arm, Block, Branch, Phase, Stmt};
+use au_syntax::{Access, Arm, Block, Branch, Ident, Phase, Stmt};
 use std::alloc::Global;
 
 /// The walk over a statement.
 #[tactic(auto, using(au_syntax::proofs::StatementLemmas::statement_steps))]
 #[cycle(walk)]
-fn walk<P: Phase>(
+fn walk<'a, P: Phase>(
     alloc: Global,
     x: &Name,
     sort: Sort,
-    hold: Hold,
-    stmt: &Stmt<P>,
+    hidden: bool,
+    borrows: &mut OpenBorrows<'a>,
+    stmt: &'a Stmt<P>,
     reach: Reached,
 ) -> Result<Reached, Stop>
-    ensures { Gives result
-        (walk x.now sort (seen_statement P.Phase stmt.now) (hold_of hold) (reach_of reach)) }
+    ensures gives { Gives result
+        (walk x.now sort (seen_statement P.Phase stmt.now) (held_within x.now hidden borrows.old)
+        (reach_of reach)) }
+    ensures closed { OnOk result (borrows.new ≡ borrows.old) }
 {
+    let hold = borrows.hold(x, hidden);
     match stmt {
         Stmt::Skip(_) => Ok(reach),
         Stmt::Let(_, _, _, _, e) => meet(x, sort, hold, e, reach),
@@ -43,78 +51,129 @@ fn walk<P: Phase>(
             x, sort, hold, e, name, reach,
         ),
         Stmt::If(_, branches) => {
-            let fork = walk_branches(alloc, x, sort, hold, branches, reach)?;
+            let fork = walk_branches(alloc, x, sort, hidden, borrows, branches, reach)?;
             walk_past(alloc, branches, fork)
         }
         Stmt::IfElse(_, branches, block) => {
-            let fork = walk_branches(alloc, x, sort, hold, branches, reach)?;
-            walk_else(alloc, x, sort, hold, block, branches, fork)
+            let fork = walk_branches(alloc, x, sort, hidden, borrows, branches, reach)?;
+            walk_else(alloc, x, sort, hidden, borrows, block, branches, fork)
         }
         Stmt::Case(_, e, arms) => {
             let behind = meet_boxed(x, sort, hold, e, reach)?;
-            walk_case(alloc, x, sort, hold, arms, behind)
+            walk_case(alloc, x, sort, hidden, borrows, arms, behind)
         }
         Stmt::While(_, e, block) => {
             let behind = meet(x, sort, hold, e, reach)?;
-            walk_turn(alloc, x, sort, hold, block, behind)
+            walk_turn(alloc, x, sort, hidden, borrows, block, behind)
         }
         Stmt::For(_, name, start, end, block) => {
             let behind = meet_both(x, sort, hold, start, end, reach)?;
-            walk_turn(alloc, x, sort, held_beside(x, name, hold), block, behind)
+            let inside = hidden_beside(x, name, hidden);
+            walk_turn(alloc, x, sort, inside, borrows, block, behind)
         }
         Stmt::Borrow(_, access, names, block, _) => {
             let behind = meet_opening(x, sort, hold, *access, &names.variable, reach)?;
-            let inside = held_in_borrow(x, *access, &names.variable, &names.reference, hold);
-            walk_block(alloc, x, sort, inside, block, behind)
+            let lent = &names.variable;
+            walk_lent(
+                alloc,
+                x,
+                sort,
+                hidden,
+                borrows,
+                *access,
+                lent,
+                &names.reference,
+                block,
+                behind,
+            )
         }
-        Stmt::BorrowTyped(_, reference, _, mode, variable, block, _) => {
+        Stmt::BorrowTyped(_, reference, _, mode, lent, block, _) => {
             let access = access_of(*mode);
-            let behind = meet_opening(x, sort, hold, access, variable, reach)?;
-            let inside = held_in_borrow(x, access, variable, reference, hold);
-            walk_block(alloc, x, sort, inside, block, behind)
+            let behind = meet_opening(x, sort, hold, access, lent, reach)?;
+            walk_lent(
+                alloc, x, sort, hidden, borrows, access, lent, reference, block, behind,
+            )
         }
         Stmt::Call(_, e) => meet(x, sort, hold, e, reach),
         Stmt::Return(_, e) => meet_return(x, sort, hold, e, reach),
     }
 }
 
-/// The walk over the statements of a block.
+/// The walk over the block of a borrow statement, which is open there.
 #[cycle(walk)]
-fn walk_block<P: Phase>(
+fn walk_lent<'a, P: Phase>(
     alloc: Global,
     x: &Name,
     sort: Sort,
-    hold: Hold,
-    block: &Block<P>,
+    hidden: bool,
+    borrows: &mut OpenBorrows<'a>,
+    access: Access,
+    variable: &'a Ident<P>,
+    reference: &'a Ident<P>,
+    block: &'a Block<P>,
     reach: Reached,
 ) -> Result<Reached, Stop>
-    ensures { Gives result
-        (walk_block x.now sort (seen_block P.Phase block.now) (hold_of hold) (reach_of reach)) }
+    ensures gives { Gives result
+        (walk_block x.now sort (seen_block P.Phase block.now)
+        (held_from x.now (declared (seen_name P.Phase reference.now).name
+        ∷ lent access (seen_name P.Phase variable.now).name ∷ []) (held_within x.now hidden borrows.old))
+        (reach_of reach)) }
+    ensures closed { OnOk result (borrows.new ≡ borrows.old) }
+{
+    borrows.push(
+        P::bytes_of(&variable.name),
+        access,
+        P::bytes_of(&reference.name),
+    )?;
+    let behind = walk_block(alloc, x, sort, hidden, borrows, block, reach)?;
+    borrows.pop();
+    Ok(behind)
+}
+
+/// The walk over the statements of a block.
+#[cycle(walk)]
+fn walk_block<'a, P: Phase>(
+    alloc: Global,
+    x: &Name,
+    sort: Sort,
+    hidden: bool,
+    borrows: &mut OpenBorrows<'a>,
+    block: &'a Block<P>,
+    reach: Reached,
+) -> Result<Reached, Stop>
+    ensures gives { Gives result
+        (walk_block x.now sort (seen_block P.Phase block.now) (held_within x.now hidden borrows.old)
+        (reach_of reach)) }
+    ensures closed { OnOk result (borrows.new ≡ borrows.old) }
 {
     let mut at = reach;
-    let mut held = hold;
+    let mut hides = hidden;
     for one in &block.statements {
-        at = walk(alloc, x, sort, held, one, at)?;
-        held = held_after(x, one, held);
+        at = walk(alloc, x, sort, hides, borrows, one, at)?;
+        hides = hidden_after(x, one, hides);
     }
     Ok(at)
 }
 
 /// One turn of a loop, and the way out of it.
 #[cycle(walk)]
-fn walk_turn<P: Phase>(
+fn walk_turn<'a, P: Phase>(
     alloc: Global,
     x: &Name,
     sort: Sort,
-    hold: Hold,
-    block: &Block<P>,
+    hidden: bool,
+    borrows: &mut OpenBorrows<'a>,
+    block: &'a Block<P>,
     reach: Reached,
 ) -> Result<Reached, Stop>
-    ensures { Gives result
-        (turned (walk_block x.now sort (seen_block P.Phase block.now) (hold_of hold)) (reach_of reach)) }
+    ensures gives { Gives result
+        (turned
+        (walk_block x.now sort (seen_block P.Phase block.now) (held_within x.now hidden borrows.old))
+        (reach_of reach)) }
+    ensures closed { OnOk result (borrows.new ≡ borrows.old) }
 {
     let entry = choose(alloc, 1, &reach)?;
-    let _inside = walk_block(alloc, x, sort, hold, block, entry)?;
+    let _inside = walk_block(alloc, x, sort, hidden, borrows, block, entry)?;
     leave(alloc, &reach)
 }
 
@@ -128,46 +187,51 @@ fn leave(alloc: Global, reach: &Reached) -> Result<Reached, Stop>
 
 /// The branches of a conditional.
 #[cycle(walk)]
-fn walk_branches<P: Phase>(
+fn walk_branches<'a, P: Phase>(
     alloc: Global,
     x: &Name,
     sort: Sort,
-    hold: Hold,
-    branches: &Vec<Branch<P>>,
+    hidden: bool,
+    borrows: &mut OpenBorrows<'a>,
+    branches: &'a Vec<Branch<P>>,
     reach: Reached,
 ) -> Result<Fork, Stop>
-    ensures { Forks result (length branches.now.items)
-        (λ other. walk_branches x.now sort (seen_branches P.Phase branches.now.items) (hold_of hold) other 0
-        (reach_of reach) walks.nowhere) }
+    ensures forks { Forks result (length branches.now.items)
+        (λ other. walk_branches x.now sort (seen_branches P.Phase branches.now.items)
+        (held_within x.now hidden borrows.old) other 0 (reach_of reach) walks.nowhere) }
+    ensures closed { OnOk result (borrows.new ≡ borrows.old) }
 {
     let mut fork = Fork {
         at: reach,
         out: nowhere(),
     };
     for (number, one) in branches.iter().enumerate() {
-        fork = walk_branch(alloc, x, sort, hold, number, one, fork)?;
+        fork = walk_branch(alloc, x, sort, hidden, borrows, number, one, fork)?;
     }
     Ok(fork)
 }
 
 /// One branch of a conditional.
 #[cycle(walk)]
-fn walk_branch<P: Phase>(
+fn walk_branch<'a, P: Phase>(
     alloc: Global,
     x: &Name,
     sort: Sort,
-    hold: Hold,
+    hidden: bool,
+    borrows: &mut OpenBorrows<'a>,
     number: usize,
-    branch: &Branch<P>,
+    branch: &'a Branch<P>,
     fork: Fork,
 ) -> Result<Fork, Stop>
-    ensures { Branches x.now sort (hold_of hold) result (seen_expression P.Phase branch.now.test.value)
-        (seen_block P.Phase branch.now.block) number fork }
+    ensures next { Branches x.now sort (held_within x.now hidden borrows.old) result
+        (seen_expression P.Phase branch.now.test.value) (seen_block P.Phase branch.now.block) number fork }
+    ensures closed { OnOk result (borrows.new ≡ borrows.old) }
 {
     let Fork { at, out } = fork;
+    let hold = borrows.hold(x, hidden);
     let tested = meet_test(number, x, sort, hold, &branch.test, at)?;
     let entry = choose(alloc, number, &tested)?;
-    let one = walk_block(alloc, x, sort, hold, &branch.block, entry)?;
+    let one = walk_block(alloc, x, sort, hidden, borrows, &branch.block, entry)?;
     Ok(Fork {
         at: tested,
         out: merge(out, one),
@@ -189,43 +253,48 @@ fn walk_past<P: Phase>(
 
 /// What is done where no test of these branches holds.
 #[cycle(walk)]
-fn walk_else<P: Phase>(
+fn walk_else<'a, P: Phase>(
     alloc: Global,
     x: &Name,
     sort: Sort,
-    hold: Hold,
-    block: &Block<P>,
+    hidden: bool,
+    borrows: &mut OpenBorrows<'a>,
+    block: &'a Block<P>,
     branches: &Vec<Branch<P>>,
     fork: Fork,
 ) -> Result<Reached, Stop>
-    ensures { Gives result
+    ensures gives { Gives result
         (then_on
-        (walk_block x.now sort (seen_block P.Phase block.now) (hold_of hold)
+        (walk_block x.now sort (seen_block P.Phase block.now) (held_within x.now hidden borrows.old)
         (walks.choose (length branches.now.items) (reach_of fork.at)))
         (joined (reach_of fork.out))) }
+    ensures closed { OnOk result (borrows.new ≡ borrows.old) }
 {
     let Fork { at, out } = fork;
     let entry = choose(alloc, branches.len(), &at)?;
-    let one = walk_block(alloc, x, sort, hold, block, entry)?;
+    let one = walk_block(alloc, x, sort, hidden, borrows, block, entry)?;
     Ok(merge(out, one))
 }
 
 /// The arms of a case.
 #[cycle(walk)]
-fn walk_case<P: Phase>(
+fn walk_case<'a, P: Phase>(
     alloc: Global,
     x: &Name,
     sort: Sort,
-    hold: Hold,
-    arms: &Vec<Arm<P>>,
+    hidden: bool,
+    borrows: &mut OpenBorrows<'a>,
+    arms: &'a Vec<Arm<P>>,
     reach: Reached,
 ) -> Result<Reached, Stop>
-    ensures { Gives result
-        (walk_case x.now sort (seen_arms P.Phase arms.now.items) (hold_of hold) (reach_of reach)) }
+    ensures gives { Gives result
+        (walk_case x.now sort (seen_arms P.Phase arms.now.items) (held_within x.now hidden borrows.old)
+        (reach_of reach)) }
+    ensures closed { OnOk result (borrows.new ≡ borrows.old) }
 {
     let mut out = nowhere();
     for (number, one) in arms.iter().enumerate() {
-        out = walk_arm(alloc, x, sort, hold, number, one, &reach, out)?;
+        out = walk_arm(alloc, x, sort, hidden, borrows, number, one, &reach, out)?;
     }
     behind_arms(alloc, arms, &reach, out)
 }
@@ -249,26 +318,29 @@ fn behind_arms<P: Phase>(
 
 /// One arm of a case.
 #[cycle(walk)]
-fn walk_arm<P: Phase>(
+fn walk_arm<'a, P: Phase>(
     alloc: Global,
     x: &Name,
     sort: Sort,
-    hold: Hold,
+    hidden: bool,
+    borrows: &mut OpenBorrows<'a>,
     number: usize,
-    arm: &Arm<P>,
+    arm: &'a Arm<P>,
     reach: &Reached,
     out: Reached,
 ) -> Result<Reached, Stop>
-    ensures { Gives result
+    ensures gives { Gives result
         (then_on
         (walk_block x.now sort (seen_block P.Phase arm.now.block)
-        (held_from x.now (bound_names (seen_binds P.Phase arm.now.binds.items)) (hold_of hold))
+        (held_from x.now (bound_names (seen_binds P.Phase arm.now.binds.items))
+        (held_within x.now hidden borrows.old))
         (walks.choose number (reach_of reach.now)))
         (joined (reach_of out))) }
+    ensures closed { OnOk result (borrows.new ≡ borrows.old) }
 {
-    let inside = held_beside_binds(x, &arm.binds, hold);
+    let inside = hidden_beside_binds(x, &arm.binds, hidden);
     let entry = choose(alloc, number, reach)?;
-    let one = walk_block(alloc, x, sort, inside, &arm.block, entry)?;
+    let one = walk_block(alloc, x, sort, inside, borrows, &arm.block, entry)?;
     Ok(merge(out, one))
 }
 
@@ -290,11 +362,12 @@ fn walk_rest<P: Phase>(
         live: Some(Vec::new(alloc)),
         spent: None,
     };
-    let mut held = Hold::Unlent;
+    let mut borrows = OpenBorrows::new(alloc);
+    let mut hides = false;
     for index in from..block.statements.len() {
         let one = &block.statements[index];
-        at = walk(alloc, x, sort, held, one, at)?;
-        held = held_after(x, one, held);
+        at = walk(alloc, x, sort, hides, &mut borrows, one, at)?;
+        hides = hidden_after(x, one, hides);
     }
     Ok(at)
 }
