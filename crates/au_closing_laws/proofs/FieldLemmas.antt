@@ -109,7 +109,7 @@ not_in_body (opaque_type at n ps u) name opaque formed = true≢false (sym forme
 not_in_body other name opaque formed = none-some name opaque
 
 module _ (program : List ModuleParts) (parts : AreOfParts program) (good : IsGood program) where
-  params_agree : (at : DeclAt) (d : Standing) → definition_of program at ≡ Some d → (head : Head) → head_of (heads_of program) at ≡ Some head → (one : DeclaredType) → type_declared d.says ≡ Some one
+  pub params_agree : (at : DeclAt) (d : Standing) → definition_of program at ≡ Some d → (head : Head) → head_of (heads_of program) at ≡ Some head → (one : DeclaredType) → type_declared d.says ≡ Some one
       → head.params ≡ map parameter one.parameters
   unfolding standing_from
   params_agree at d defined head e one f = by_row (row_stands program at head e)

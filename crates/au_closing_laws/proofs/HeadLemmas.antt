@@ -31,7 +31,7 @@ firsts_among x [] m = m
 firsts_among x (p ∷ ps) (inl here) = inl here
 firsts_among x (p ∷ ps) (inr later) = inr (firsts_among x ps (among_filter (λ q. not (bytes_eq p.0 q.0)) x (firsts ps) later).0)
 
-numbered_among : (first : ℕ) (ds : List PlainDeclaration) (d : ℕ × PlainDeclaration) → Among d (numbered first ds) → (k : ℕ) × (d.0 ≡ first + k) × (slice_get ds k ≡ Some d.1)
+pub numbered_among : (first : ℕ) (ds : List PlainDeclaration) (d : ℕ × PlainDeclaration) → Among d (numbered first ds) → (k : ℕ) × (d.0 ≡ first + k) × (slice_get ds k ≡ Some d.1)
 unfolding numbered
 numbered_among first [] d m = absurd m
 numbered_among first (x ∷ ds) d (inl here) =
@@ -50,7 +50,7 @@ lookup_among (row ∷ rows) at head e = by (same_place at row.0) refl e (lookup_
     by true is e later = inl (ap (λ a. (a, row.1)) (sym (place_is at row.0 is)) ∙ ap (λ h. (at, h)) (same_Some row.1 head e))
     by false is e later = inr (later e)
 
-in_either : {A : Type 0} (xs ys : List A) (k : ℕ) (x : A) → slice_get (xs ++ ys) k ≡ Some x → (slice_get xs k ≡ Some x) ⊎ ((j : ℕ) × (k ≡ length xs + j) × (slice_get ys j ≡ Some x))
+pub in_either : {A : Type 0} (xs ys : List A) (k : ℕ) (x : A) → slice_get (xs ++ ys) k ≡ Some x → (slice_get xs k ≡ Some x) ⊎ ((j : ℕ) × (k ≡ length xs + j) × (slice_get ys j ≡ Some x))
 in_either [] ys k x e = let same : k ≡ 0 + k = omega arith in inr (k, same, e)
 in_either (y ∷ xs) ys zero x e = inl e
 in_either (y ∷ xs) ys (suc k) x e = on (in_either xs ys k x e)
@@ -76,7 +76,7 @@ row_declares place owner d at head m = by (type_declared d.1) refl m
     by (Some one) is (inr later) = absurd later
 
 -- the declaration of a number in a module
-standing_numbered : (program : List ModuleParts) (place : ℕ) (m : ModuleParts) (k : ℕ) (says : PlainDeclaration) → slice_get program place ≡ Some m
+pub standing_numbered : (program : List ModuleParts) (place : ℕ) (m : ModuleParts) (k : ℕ) (says : PlainDeclaration) → slice_get program place ≡ Some m
     → slice_get (declarations_in m.interface ++ declarations_in m.body) k ≡ Some says
     → (d : Standing) × (standing_at program (record { «module» = place; decl = k }) ≡ Some d) × (d.says ≡ says)
 standing_numbered program place m k says is there = by (in_either (declarations_in m.interface) (declarations_in m.body) k says there)

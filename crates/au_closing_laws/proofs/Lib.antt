@@ -26,5 +26,7 @@ mod PutStandLemmas
 mod MeantStandLemmas
 mod OutsideStandLemmas
 mod FieldLemmas
+mod OnceLemmas
+mod OwnTypeLemmas
 mod AcceptedLemmas
 mod LeadLemmas

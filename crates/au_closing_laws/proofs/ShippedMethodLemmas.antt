@@ -64,7 +64,7 @@ get_left [] ys k x e = absurd (none-some x e)
 get_left (y ∷ xs) ys zero x e = e
 get_left (y ∷ xs) ys (suc k) x e = get_left xs ys k x e
 
-get_right : {A : Type 0} (xs ys : List A) (j : ℕ) → slice_get (xs ++ ys) (length xs + j) ≡ slice_get ys j
+pub get_right : {A : Type 0} (xs ys : List A) (j : ℕ) → slice_get (xs ++ ys) (length xs + j) ≡ slice_get ys j
 get_right [] ys j = let same : 0 + j ≡ j = omega arith in ap (slice_get ys) same
 get_right (x ∷ xs) ys j =
     let next : suc (length xs) + j ≡ suc (length xs + j) = omega arith in

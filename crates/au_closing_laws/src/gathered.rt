@@ -69,8 +69,8 @@ pub fn rows_have_the_methods_of_their_classes()
 {}
 
 /// What each call in a derived program puts for a type parameter stands over those in scope, where what the
-/// bodies of modules see outside of functions stands: so it does where the types of records and unions stand
-/// over their own type parameters, and the fields of a type over those that it stands over.
+/// bodies of modules see outside of functions stands: so it does in a gathered program of which the names and
+/// declarations are good and each body fulfils its interface.
 pub fn types_that_calls_put_stand()
     ensures put { (program : List ModuleParts) (noted : List NotedParts)
         → IsDerived program noted
@@ -78,8 +78,10 @@ pub fn types_that_calls_put_stand()
         → SeenStands program
         → PutTypesStand program noted }
     ensures seen { (program : List ModuleParts)
-        → OwnTypesStand program
-        → FieldsStand program
+        → IsGathered program
+        → AllNamesAreGood program
+        → AllDeclarationsAreGood program
+        → AllFulfil program
         → SeenStands program }
 {}
 
@@ -91,6 +93,19 @@ pub fn fields_of_types_stand()
         → AllNamesAreGood program
         → AllFulfil program
         → FieldsStand program }
+{}
+
+/// In a gathered program, of which the names and declarations are good and each body fulfils its interface,
+/// the type of each record and union stands over its own type parameters: no two of these have one name, and
+/// its name leads to the declaration itself or to the opaque type that it defines, of which the row has the
+/// same type parameters.
+pub fn own_types_stand()
+    ensures { (program : List ModuleParts)
+        → IsGathered program
+        → AllNamesAreGood program
+        → AllDeclarationsAreGood program
+        → AllFulfil program
+        → OwnTypesStand program }
 {}
 
 /// A method of a class at a closed type leads to that of the one instance of the class there, by the rule of
@@ -112,16 +127,14 @@ pub fn methods_lead_by_the_rule_of_instances()
         ≡ method_by_row program method (closed_under given (put_for note param)) row }
 {}
 
-/// Each call of each instance that is reached from an entry of an accepted program leads somewhere, where the
-/// types of records and unions stand over their own type parameters: its calls are typed.
+/// Each call of each instance that is reached from an entry of an accepted program leads somewhere: its calls
+/// are typed.
 pub fn calls_of_accepted_programs_lead_somewhere()
     ensures typed { (files : Files) (names all : List (List ℕ)) (reads : List ReadFile)
         (accepted : AreAcceptedAs files names all reads)
-        → OwnTypesStand (program_modules reads)
         → IsTyped (program_modules reads) accepted.noted }
     ensures calls { (files : Files) (names all : List (List ℕ)) (reads : List ReadFile)
         (accepted : AreAcceptedAs files names all reads)
-        → OwnTypesStand (program_modules reads)
         → (entry : InstanceSeen)
         → IsEntry (program_modules reads) accepted.noted entry
         → (one : InstanceSeen)
