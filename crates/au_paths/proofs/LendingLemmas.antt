@@ -6,7 +6,7 @@ use Rattle.std.proofs.lemmas.Grind.{reverse_onto}
 use Rattle.std.specs.Str.{bytes_eq}
 use Rattle.au_syntax.specs.declared.types.Access.{Access}
 use Rattle.au_syntax.specs.Plain.{Bytes}
-use Rattle.au_lives.specs.Lives.{Hold, hidden, tighter, held_from}
+use Rattle.au_lives.specs.Lives.{Hold, hidden, held_from}
 use Rattle.au_lives.specs.Paths.{Around, lent, declared}
 use Rattle.au_paths.specs.declared.borrows.OpenBorrow.{OpenBorrow}
 use Rattle.au_paths.specs.Lendings.{Lending, lending, around, held_within, lending_said, innermost_first}

@@ -2,13 +2,16 @@
 
 use au_base::{Limit, Memory};
 use std::alloc::{AllocError, AllocFailed};
+use thiserror::Error;
 
 /// Why a walk gives no list.
-#[derive(Clone, Copy, Debug, PartialEq, Eq)]
+#[derive(Clone, Copy, Debug, PartialEq, Eq, Error)]
 pub enum WalkFault {
     /// The first element, breadth first, that passes a limit.
+    #[error("a limit is passed")]
     Limit(Limit),
     /// No memory was found.
+    #[error("out of memory")]
     Memory,
 }
 

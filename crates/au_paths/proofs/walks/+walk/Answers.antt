@@ -1,11 +1,11 @@
 use Rattle.std.proofs.Common.{◌≡◌, List, ap, sym, subst, ◌∙◌, length, refl, arith, get_or, Ok, Err}
 use Rattle.std.proofs.lemmas.Result.{err_from_is_err_and}
 use Rattle.au_lives.specs.Lives.{Hold, held_from}
-use Rattle.au_lives.specs.Paths.{whole, declared_by, bound_names}
+use Rattle.au_lives.specs.Paths.{whole, bound_names}
 use Rattle.au_lives.specs.Walks.{walk, walk_block, walk_step, does, noted, choose, joined}
 use Rattle.au_paths.specs.Lendings.{Lending, held_within}
 use Rattle.au_paths.specs.Seen.{seen_expression, seen_statement, seen_statements, seen_block, seen_binds}
-use Rattle.au_paths.specs.Standing.{hold_of, reach_of, Stops, Branches, then_on}
+use Rattle.au_paths.specs.Standing.{reach_of, Stops, Branches, then_on}
 use Rattle.au_syntax.specs.declared.statements.Stmt.{size-Stmt}
 use Rattle.au_syntax.specs.declared.statements.Block.{size-Block, size_is-Block}
 use Rattle.au_paths.proofs.BranchLemmas as lemmas
