@@ -63,8 +63,8 @@ CallsArePlain functions =
 
 -- ---- the program
 
--- Each shipped call that a call in a body of a program with notes leads to is plain, whatever is given for the
--- body's type parameters.
+-- Each shipped call that a call in a body of a program with notes leads to is plain, whatever is given for
+-- the body's type parameters.
 abbrev pub LeadsPlainly : List ModuleParts → List NotedParts → Type 0
 LeadsPlainly program noted =
     (target : Target) (body : BodyOf) → body_of program noted target ≡ Some body

@@ -11,8 +11,8 @@ use Rattle.au_running.specs.declared.coding.Uncoded.{Uncoded}
 use Rattle.au_running.specs.declared.coding.Uncoded.TheVariants as uncoded
 use Rattle.au_syntax.specs.Plain.{Bytes}
 
--- The code that a program is lowered to from its entry, where it passes no limit, or why there is none; nothing
--- is said where memory ran out.
+-- The code that a program is lowered to from its entry, where it passes no limit, or why there is none;
+-- nothing is said where memory ran out.
 abbrev pub HasCode : (program : List ModuleParts) (noted : List NotedParts) (owner name : Bytes)
     → Result Code Uncoded → Type 0
 HasCode program noted owner name (Ok code) =

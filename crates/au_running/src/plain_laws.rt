@@ -21,8 +21,8 @@ pub fn functions_that_are_plain_are_told()
         → functions_are_plain functions ≡ true }
 {}
 
-/// Where each shipped call that a call of a derived program leads to is plain, what the program closes to calls
-/// plain shipped functions alone, from whichever entry.
+/// Where each shipped call that a call of a derived program leads to is plain, what the program closes to
+/// calls plain shipped functions alone, from whichever entry.
 pub fn plain_leads_close_plainly()
     ensures { (program : List ModuleParts)
         → ((noted : List NotedParts) → IsDerived program noted → LeadsPlainly program noted)

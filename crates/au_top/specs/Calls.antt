@@ -43,7 +43,7 @@ is_decided status.Limit = true
 is_decided status.Missing = true
 is_decided status.Words = true
 
--- a status with which a run ends that has begun, and met nothing that failed and nothing that isn't built yet
+-- a status with which a run ends that has begun, and neither met a failure nor got stuck
 abbrev pub is_run_end : Status → Bool
 is_run_end status.Success = true
 is_run_end status.Failure = true
