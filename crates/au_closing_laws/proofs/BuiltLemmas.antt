@@ -29,6 +29,7 @@ use Rattle.au_closed_trees.specs.Calls.{calls_in, calls_in_all, calls_in_argumen
 use Rattle.au_closing.specs.Bodies.{BodyOf, body_in, body_of, is_method, method_body}
 use Rattle.au_closing_laws.specs.Gathered.{IsGathered, entry_of}
 use Rattle.au_closing_laws.specs.Targets.{Call, calls_listed}
+use Rattle.au_closing_laws.proofs.CallLemmas.{one_call}
 use Rattle.au_closing_laws.proofs.GatheredLemmas.{among_find, among_get, module_is, own_isnt}
 use Rattle.au_closing_laws.proofs.GenericsLemmas.{body_stands, erased_there}
 
@@ -53,10 +54,6 @@ among_mapped f (y ∷ xs) x (inl here) = inl (ap f here)
 among_mapped f (y ∷ xs) x (inr later) = inr (among_mapped f xs x later)
 
 -- ---- calls in trees
-
--- a call as a list
-abbrev one_call : Note → Unit {0} → Bytes → List Call
-one_call note c name = (note, name) ∷ []
 
 module _ (unbuilt_type unbuilt_call : Bytes → Bool) where
   -- each of these calls is of a name that means what is built
@@ -84,6 +81,7 @@ module _ (unbuilt_type unbuilt_call : Bytes → Bool) where
 
   mutual
     unfolding in_expression in_expressions in_arguments
+
     built : (e : NotedExpression) → in_expression unbuilt_type unbuilt_call (erase e) ≡ [] → AreBuilt (calls_in one_call e)
     built (number n l) e = none
     built (negative n l) e = none
@@ -135,6 +133,7 @@ module _ (unbuilt_type unbuilt_call : Bytes → Bool) where
 
   mutual
     unfolding in_statement in_block in_branches in_arms
+
     built_in : (s : NotedStatement) → in_statement unbuilt_type unbuilt_call (erase_statement s) ≡ [] → AreBuilt (calls_in_statement one_call s)
     built_in (skip at) e = none
     built_in (declare at b n t a) e = built a (nothing_right (in_type unbuilt_type t) (in_expression unbuilt_type unbuilt_call (erase a)) e)

@@ -14,7 +14,7 @@ use Rattle.au_closed_trees.specs.Calls.{calls_in, calls_in_all, calls_in_argumen
 use Rattle.au_closing_laws.specs.Targets.{Call}
 
 -- a call as a list
-abbrev one_call : Note → Unit {0} → Bytes → List Call
+abbrev pub one_call : Note → Unit {0} → Bytes → List Call
 one_call note c name = (note, name) ∷ []
 
 module _ {A : Type 0} (leads : Note → Unit {0} → Bytes → List A) where

@@ -167,9 +167,12 @@ module _ (program : List ModuleParts) where
         by (Some d) e q listed =
             targets_named (declarations_in m.interface) of_interface (given d.0 (members d.1))
             (λ p among.
-            let its = among_map (λ (n : Bytes). (n, d.0)) p (members d.1) among in
-            (d, (among_find (is_type name) (interface_of m) d e).0, ap (λ (x : Bytes × ℕ). x.1) its.2,
-            subst (λ n. Among n (callable_names d.1)) (sym (ap (λ (x : Bytes × ℕ). x.0) its.2)) (members_called d.1 its.0 its.1)))
+            let its = among_map (λ (n : Bytes). (n, d.0)) p (members d.1) among in (
+              d,
+              (among_find (is_type name) (interface_of m) d e).0,
+              ap (λ (x : Bytes × ℕ). x.1) its.2,
+              subst (λ n. Among n (callable_names d.1)) (sym (ap (λ (x : Bytes × ℕ). x.0) its.2)) (members_called d.1 its.0 its.1),
+            ))
             q listed
 
     brought_named : (item : Renaming Bytes) → AreNamed (brought Callables place m item)

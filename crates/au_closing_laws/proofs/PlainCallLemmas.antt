@@ -5,7 +5,7 @@ use Rattle.std.specs.List.{list_all, list_any}
 use Rattle.std.specs.Option.{option_map}
 use Rattle.std.specs.Str.{bytes_eq}
 use Rattle.std.proofs.lemmas.Bool.{and_parts, lt-leb}
-use Rattle.std.proofs.lemmas.Option.{none-some, same_Some, slice_get_within}
+use Rattle.std.proofs.lemmas.Option.{none-some, slice_get_within}
 use Rattle.std.proofs.lemmas.Slice.Eq.{bytes_eq-Decides}
 use Rattle.au_base.specs.declared.kinds.IntKind.{IntKind}
 use Rattle.au_base.specs.Outside.{Files}
@@ -60,7 +60,7 @@ use Rattle.au_closing_laws.proofs.BuiltLemmas.{calls_built}
 use Rattle.au_closing_laws.proofs.CallableLemmas.{IsNamed, called_named, name_in, seen_named}
 use Rattle.au_closing_laws.proofs.FactLemmas.{name_there}
 use Rattle.au_closing_laws.proofs.GatheredLemmas.{all_among, among_map, module_is, ships}
-use Rattle.au_closing_laws.proofs.ShippedMethodLemmas.{class_is_here, get_left, get_right}
+use Rattle.au_closing_laws.proofs.ShippedMethodLemmas.{class_is_here, get_left, get_right, mapped}
 use Rattle.au_closing_laws.proofs.TableLemmas.{good_table, read_of}
 use Rattle.au_closing_laws.proofs.TextLemmas.{IsDefined, IsPromised, Says, row_read, text_stands}
 
@@ -118,10 +118,6 @@ type_plain other call e = e
 leads_shipped : (o : Option ShippedCall) (one : Instance) (call : ShippedCall) → shipped_or o one ≡ shipped call → o ≡ Some call
 leads_shipped None one call e = absurd cc
 leads_shipped (Some other) one call e = let same : other ≡ call = cc in ap Some same
-
-mapped : {A B : Type 0} (f : A → B) (o : Option A) (y : B) → option_map f o ≡ Some y → (x : A) × (o ≡ Some x) × (f x ≡ y)
-mapped f None y e = absurd (none-some y e)
-mapped f (Some x) y e = (x, refl, same_Some (f x) y e)
 
 -- ---- shipped modules
 
