@@ -31,7 +31,7 @@ pub fn run_program<I: Source, O: Sink>(
     input: &mut I,
     out: &mut O,
 ) -> Result<Ran, Memory>
-    requires plain { ClosesPlainly (slots.modules program.now) entry.now.module entry.now.function }
+    requires { ClosesPlainly (slots.modules program.now) entry.now.module entry.now.function }
     ensures ran { IfOk result (λ ran. (noted : List NotedParts) × IsDerived (slots.modules program.now) noted
         × HasRunSo (slots.modules program.now) noted entry.now.module entry.now.function ran steps
         (I.left input.old) (I.left input.new) (O.written out.old) (O.written out.new)) }

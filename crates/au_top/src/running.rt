@@ -35,7 +35,7 @@ pub fn run<I: Source, O: Sink, E: Sink>(
     out: &mut O,
     err: &mut E,
 ) -> Result<Status, AnswerFault>
-    requires plain { (owner name : Bytes) → ClosesPlainly (slots.modules program.now) owner name }
+    requires { (owner name : Bytes) → ClosesPlainly (slots.modules program.now) owner name }
     ensures { RunAnswers result (record {
       left = I.left input.old;
       left' = I.left input.new;
