@@ -6,4 +6,3 @@ pub mod DraftViews
 pub mod Closed
 pub mod Rows
 pub mod Answers
-pub mod PlainCalls

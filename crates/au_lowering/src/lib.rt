@@ -1,5 +1,5 @@
 //! The code that a closed program is lowered to: the drafts of its functions, then texts and types by their
-//! numbers, and what is told of the types; and whether such a program calls only plain shipped functions.
+//! numbers, and what is told of the types.
 #![tactic(auto)]
 
 pub mod coding;
@@ -9,7 +9,6 @@ pub mod functions;
 pub mod lookups;
 pub mod lowering;
 pub mod numbering;
-pub mod plain_calls;
 pub mod rows;
 pub mod seen;
 pub mod tables;
@@ -20,6 +19,5 @@ pub use faults::LowerFault;
 pub use functions::{Drafted, collect_functions, number_functions, passes_limit};
 pub use lowering::lower;
 pub use numbering::{collect, number_all};
-pub use plain_calls::calls_are_plain;
 pub use tables::{Tables, TextTable, TypeTable};
 pub use telling::{TypeRows, tell_rows, tell_types};

@@ -8,8 +8,6 @@ mod RowLemmas
 mod FollowedLemmas
 mod RunLemmas
 mod FollowLemmas
-mod PlainLemmas
-mod ToldLemmas
 mod LeadLemmas
 pub mod FrontLemmas
 pub mod AnswerLemmas

@@ -3,7 +3,7 @@
 //! `specs/Ran.antt` says what a call has done, by the code that the program is lowered to, and what that
 //! shows of what the program means. The laws say that runs of lowered code show what the program means from
 //! its entry (`laws`), that the functions that a derived program closes to are such as lowered code can follow
-//! (`good_programs`), and that calls which are answered to be plain are as the law on runs asks
+//! (`good_programs`), and that a program whose calls lead to plain shipped functions alone closes to such
 //! (`plain_laws`).
 #![tactic(auto)]
 
