@@ -1,6 +1,5 @@
 -- What runs show of what is meant that were broken off, that wait for a byte, or that are stuck.
-use Rattle.std.proofs.Common.{◌≡◌, ◌⊎◌, inl, inr, ℕ, false, List, ◌++◌, Option, refl, sym, ap, subst}
-use Rattle.au_derivations.specs.Trees.{NotedParts}
+use Rattle.std.proofs.Common.{◌≡◌, ◌⊎◌, inl, inr, ℕ, false, List, ◌++◌, Option, refl, subst}
 use Rattle.au_low.specs.Runs as low
 use Rattle.au_low.specs.Runs.{low_run}
 use Rattle.au_low.specs.declared.code.Code.{Code}
@@ -9,23 +8,19 @@ use Rattle.au_low.specs.declared.endings.Ending.TheVariants as low_ending
 use Rattle.au_lowering.specs.Closed.{code_of}
 use Rattle.au_meaning.specs.Laws.{Begins}
 use Rattle.au_meaning.specs.Worlds.{Ending, Outcome, exit, abort, running, stuck}
-use Rattle.au_modules.specs.Programs.{ModuleParts}
-use Rattle.au_noting_programs.specs.Faults.{IsDerived}
-use Rattle.au_rules.specs.Good.{AllDeclarationsAreGood}
 use Rattle.au_runs.specs.Calls.{IsCut}
 use Rattle.au_running.specs.Came.{CameSo}
 use Rattle.au_running.specs.Fronts.{CutRunsWriteFronts, IsStuckAsMeant, RunsWriteFronts, StuckAnswersAreMeant}
 use Rattle.au_running.specs.Fronts.{StuckRunsAreMeant, WaitingRunsShow, WaitsAsMeant, WritesFront}
 use Rattle.au_running.specs.Meant.{means}
-use Rattle.au_running.specs.Ran.{IsLowered}
 use Rattle.au_running.specs.Runs.{RunsShow, ran_by}
 use Rattle.au_running.specs.Shown.{Shows}
 use Rattle.au_running.specs.declared.ran.Ran.{Ran}
 use Rattle.au_running.specs.declared.ran.Ran.TheVariants as how
 use Rattle.au_running.proofs.AnswerLemmas.{came_cut}
 use Rattle.au_running.proofs.FrontLemmas.{front_of_whole}
+use Rattle.au_running.proofs.RunLemmas.{runs_shown}
 use Rattle.au_simulation.proofs.AnswerLemmas.{begins_refl}
-use Rattle.au_syntax.specs.Plain.{Bytes}
 
 -- ---- endings
 
@@ -119,34 +114,27 @@ module _ (code : Code) (meant : List ℕ → ℕ → Outcome) (runs : RunsShow c
 
 -- ---- of programs that are lowered
 
-module _ (program : List ModuleParts) (noted : List NotedParts) (derived : IsDerived program noted)
-    (declared : AllDeclarationsAreGood program) (owner name : Bytes)
-    (it : IsLowered program noted owner name) where
-  -- each run of its code shows what it means
-  runs_show : RunsShow (code_of it.c) (means program noted it.closes.closes.entry)
-  runs_show = it.meant (record { derived = derived; declared = declared; plain = it.plain })
-
 pub cut_runs_write_fronts : CutRunsWriteFronts
-cut_runs_write_fronts program noted derived declared owner name it =
-    cut_front (code_of it.c) (means program noted it.closes.closes.entry)
-    (runs_show program noted derived declared owner name it)
+cut_runs_write_fronts program noted owner name c closes runnable =
+    cut_front (code_of c) (means program noted closes.entry)
+    (runs_shown program noted owner name c closes runnable)
 
 pub runs_write_fronts : RunsWriteFronts
-runs_write_fronts program noted derived declared owner name it ran steps told left out out' came =
-    cut_runs_write_fronts program noted derived declared owner name it steps told out out'
-    (came_cut (code_of it.c) ran steps told left out out' came)
+runs_write_fronts program noted owner name c closes runnable ran steps told left out out' came =
+    cut_runs_write_fronts program noted owner name c closes runnable steps told out out'
+    (came_cut (code_of c) ran steps told left out out' came)
 
 pub waiting_runs_show : WaitingRunsShow
-waiting_runs_show program noted derived declared owner name it =
-    waiting_shows (code_of it.c) (means program noted it.closes.closes.entry)
-    (runs_show program noted derived declared owner name it)
+waiting_runs_show program noted owner name c closes runnable =
+    waiting_shows (code_of c) (means program noted closes.entry)
+    (runs_shown program noted owner name c closes runnable)
 
 pub stuck_runs_are_meant : StuckRunsAreMeant
-stuck_runs_are_meant program noted derived declared owner name it =
-    stuck_meant (code_of it.c) (means program noted it.closes.closes.entry)
-    (runs_show program noted derived declared owner name it)
+stuck_runs_are_meant program noted owner name c closes runnable =
+    stuck_meant (code_of c) (means program noted closes.entry)
+    (runs_shown program noted owner name c closes runnable)
 
 pub stuck_answers_are_meant : StuckAnswersAreMeant
-stuck_answers_are_meant program noted derived declared owner name it =
-    stuck_as_meant (code_of it.c) (means program noted it.closes.closes.entry)
-    (runs_show program noted derived declared owner name it)
+stuck_answers_are_meant program noted owner name c closes runnable =
+    stuck_as_meant (code_of c) (means program noted closes.entry)
+    (runs_shown program noted owner name c closes runnable)

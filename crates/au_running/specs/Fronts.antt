@@ -3,6 +3,7 @@
 use Rattle.std.specs.Prelude.{◌≡◌, ℕ, ◌<◌, false, List, ◌++◌, Option, IfSome}
 use Rattle.std.specs.Option.{option_map}
 use Rattle.au_base.specs.Outside.{Adds, AddsFront}
+use Rattle.au_closed_programs.specs.Programs.{ClosedProgram, Closes}
 use Rattle.au_derivations.specs.Trees.{NotedParts}
 use Rattle.au_low.specs.Runs.{low_run}
 use Rattle.au_low.specs.declared.code.Code.{Code}
@@ -10,11 +11,9 @@ use Rattle.au_low.specs.declared.endings.Ending.TheVariants as ending
 use Rattle.au_lowering.specs.Closed.{code_of}
 use Rattle.au_meaning.specs.Worlds.{Outcome, stuck}
 use Rattle.au_modules.specs.Programs.{ModuleParts}
-use Rattle.au_noting_programs.specs.Faults.{IsDerived}
-use Rattle.au_rules.specs.Good.{AllDeclarationsAreGood}
 use Rattle.au_running.specs.Came.{CameSo}
 use Rattle.au_running.specs.Meant.{means}
-use Rattle.au_running.specs.Ran.{IsLowered}
+use Rattle.au_running.specs.Runs.{IsRunnable}
 use Rattle.au_running.specs.Shown.{IsCutOff}
 use Rattle.au_running.specs.declared.ran.Ran.{Ran}
 use Rattle.au_running.specs.declared.ran.Ran.TheVariants as ran
@@ -23,7 +22,7 @@ use Rattle.au_syntax.specs.Plain.{Bytes}
 
 -- ---- what is shown
 
--- A front of what is meant on the input within so many ticks was written, where that isn't stuck.
+-- A front of what is meant on the input within so many ticks was written, unless that is stuck.
 pub record WritesFront (meant : List ℕ → ℕ → Outcome) (ticks : ℕ) (told out out' : Option (List ℕ))
     : Type 0 where
   pub input : List ℕ
@@ -31,8 +30,8 @@ pub record WritesFront (meant : List ℕ → ℕ → Outcome) (ticks : ℕ) (tol
   pub front :
       ((meant input ticks).ending ≡ stuck → ⊥) → AddsFront out out' (meant input ticks).world.output
 
--- Bytes were taken in fewer steps than the most, and all that was written shows, whatever bytes follow, what
--- is meant where just these steps were spent, where that isn't stuck within as many ticks.
+-- Bytes were taken in fewer steps than the most, and all that was written is, whatever bytes follow, what is
+-- seen of what is meant when just these steps are spent, unless that is stuck within as many ticks.
 pub record WaitsAsMeant (meant : List ℕ → ℕ → Outcome) (most : ℕ) (told left out out' : Option (List ℕ))
     : Type 0 where
   pub taken : List ℕ
@@ -54,13 +53,13 @@ pub record IsStuckAsMeant (meant : List ℕ → ℕ → Outcome) (ticks : ℕ) (
 
 -- ---- of which programs
 
--- P holds of the code that a program is lowered to and of what the program means from its entry, where it is
--- derived and its declarations are good.
+-- P holds of the code that a program is lowered to and of what the program means from its entry, where its
+-- runs are spoken of: of an `IsLowered`, where the program is derived and its declarations are good.
 abbrev pub OfLoweredPrograms : (Code → (List ℕ → ℕ → Outcome) → Type 0) → Type 0
 OfLoweredPrograms P =
-    (program : List ModuleParts) (noted : List NotedParts) → IsDerived program noted
-    → AllDeclarationsAreGood program → (owner name : Bytes) (it : IsLowered program noted owner name)
-    → P (code_of it.c) (means program noted it.closes.closes.entry)
+    (program : List ModuleParts) (noted : List NotedParts) (owner name : Bytes) (c : ClosedProgram)
+    → (closes : Closes program noted owner name c) → IsRunnable program noted c
+    → P (code_of c) (means program noted closes.entry)
 
 -- ---- the laws
 

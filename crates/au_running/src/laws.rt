@@ -30,14 +30,14 @@ pub fn lowered_programs_follow()
 {}
 
 /// Whatever is answered of a run, and where memory ran out, a front of what the program means within as many
-/// ticks as the run may make steps was written, where that isn't stuck.
+/// ticks as the run may make steps was written, unless that is stuck.
 pub fn runs_write_fronts()
     ensures came { RunsWriteFronts }
     ensures cut { CutRunsWriteFronts }
 {}
 
 /// Where a byte couldn't be read, all that a run had written is what the program means so far, whatever bytes
-/// follow.
+/// follow, unless that is stuck.
 pub fn waiting_runs_show()
     ensures { WaitingRunsShow }
 {}
