@@ -13,6 +13,7 @@ mod ToldLemmas
 pub mod FrontLemmas
 pub mod AnswerLemmas
 pub mod ShownLemmas
+pub mod BrokenLemmas
 mod RenotedLemmas
 mod GoodOnceLemmas
 mod DerivedLemmas
