@@ -1,15 +1,17 @@
 -- Accepted programs are gathered of the shipped files and of parsed ones.
-use Rattle.std.proofs.Common.{◌≡◌, ◌⊎◌, inl, inr, ℕ, ◌+◌, suc, List, [], ◌∷◌, length, refl, sym, ap, ◌∙◌, subst, arith}
+use Rattle.std.proofs.Common.{◌≡◌, ◌⊎◌, inl, inr, ℕ, ◌+◌, suc, List, [], ◌∷◌, ◌++◌, length, map, refl, sym, ap, ◌∙◌, subst, arith}
 use Rattle.std.specs.Prelude.{◌<◌, ◌≤◌, Contains, IsTrue}
 use Rattle.au_base.specs.Outside.{Files}
+use Rattle.au_shipped.specs.Shipped.{shipped_files}
 use Rattle.au_syntax.specs.Forms.{formed_module}
+use Rattle.au_modules.specs.Accepted.{IsProgram}
 use Rattle.au_modules.specs.Programs.{Entry}
 use Rattle.au_instances.proofs.TableLemmas.{Contains-cases}
 use Rattle.au_outcomes.specs.Accepted.{AreAcceptedAs}
 use Rattle.au_outcomes.specs.Outcomes.{AreFiles}
 use Rattle.au_outcomes.specs.Programs.{entries, program_modules, shipped_entries}
 use Rattle.au_outcomes.specs.Trees.{AreRead, ReadFile}
-use Rattle.au_closing_laws.specs.Gathered.{IsGathered, IsParsed}
+use Rattle.au_closing_laws.specs.Gathered.{IsGathered, IsParsed, entry_of}
 
 nothing_there : {A : Type 0} (x : A) → Contains [] x → ⊥
 nothing_there x c = omega arith
@@ -47,10 +49,11 @@ file_count files (name ∷ names) (bytes ∷ others) had = ap suc (file_count fi
 file_count files [] (bytes ∷ others) had = absurd had
 file_count files (name ∷ names) [] had = absurd had
 
--- an accepted program is gathered
-pub accepted_gathered : (files : Files) (names all : List (List ℕ)) (reads : List ReadFile) → AreAcceptedAs files names all reads → IsGathered (program_modules reads)
+-- an accepted program is gathered, and with the shipped files those of the user's are the files of a program
+pub accepted_whole : (files : Files) (names all : List (List ℕ)) (reads : List ReadFile) → AreAcceptedAs files names all reads
+    → (is : IsGathered (program_modules reads)) × IsProgram (map entry_of shipped_files ++ is.own)
 unfolding shipped_entries
-accepted_gathered files names all reads accepted = record { own = entries 0 reads; parsed = parsed; gathered = refl }
+accepted_whole files names all reads accepted = (record { own = entries 0 reads; parsed = parsed; gathered = refl }, accepted.program)
   where
     below : (n reads all names : ℕ) → n < 0 + reads → reads ≡ all → all ≡ names → names ≤ 128 → n < 65532
     below n reads all names h same also few = omega (arith, h, same, also, few)
@@ -59,3 +62,6 @@ accepted_gathered files names all reads accepted = record { own = entries 0 read
     parsed e c =
         let its = read_there 0 all reads accepted.read e c in
         record { own = below e.file (length reads) (length all) (length names) its.0 (read_count 0 all reads accepted.read) (file_count files names all accepted.had) accepted.few; formed = its.1 }
+
+pub accepted_gathered : (files : Files) (names all : List (List ℕ)) (reads : List ReadFile) → AreAcceptedAs files names all reads → IsGathered (program_modules reads)
+accepted_gathered files names all reads accepted = (accepted_whole files names all reads accepted).0

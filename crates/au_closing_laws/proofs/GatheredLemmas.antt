@@ -42,7 +42,7 @@ among_get [] i x e = absurd (none-some x e)
 among_get (y ∷ xs) zero x e = inl (same_Some y x e)
 among_get (y ∷ xs) (suc i) x e = inr (among_get xs i x e)
 
-among_find : {A : Type 0} (t : A → Bool) (xs : List A) (x : A) → find t xs ≡ Some x → Among x xs × (t x ≡ true)
+pub among_find : {A : Type 0} (t : A → Bool) (xs : List A) (x : A) → find t xs ≡ Some x → Among x xs × (t x ≡ true)
 among_find t [] x e = absurd (none-some x e)
 among_find t (y ∷ xs) x e = by (t y) refl (among_find t xs x) e
   where
@@ -69,6 +69,11 @@ is_good e = is_shipped e && (is_interface e.tree.part && (formed_module e.tree &
 shipped_are_good : list_all is_good (map entry_of shipped_files) ≡ true
 shipped_are_good = refl
 
+-- each of them is one that is shipped
+pub ships : (e : Entry) → Among e (map entry_of shipped_files) → is_shipped e ≡ true
+ships e a =
+    (and_parts (is_shipped e) (is_interface e.tree.part && (formed_module e.tree && list_all (is_known (joined e.tree.name)) e.tree.declarations)) (all_among is_good e (map entry_of shipped_files) shipped_are_good a)).0
+
 part_is : (p : Part) → is_interface p ≡ true → p ≡ Interface
 part_is Interface e = refl
 part_is Body e = cc
@@ -94,7 +99,7 @@ module _ (program : List ModuleParts) (is : IsGathered program) where
   abbrev files : List Entry
   files = shipped ++ is.own
 
-  own_isnt : (e : Entry) → Among e is.own → is_shipped e ≡ false
+  pub own_isnt : (e : Entry) → Among e is.own → is_shipped e ≡ false
   own_isnt e m = lt-leb first_shipped e.file (is.parsed e (contains is.own e m)).own
 
   formed : (e : Entry) → Among e files → list_all (formed_declaration e.tree.part) e.tree.declarations ≡ true
@@ -121,8 +126,7 @@ module _ (program : List ModuleParts) (is : IsGathered program) where
       either x ships (inr b) = absurd (true≢false (sym ships ∙ own_isnt x b))
 
       other : (x : Entry) → is_shipped x ≡ false → Among x shipped ⊎ Among x is.own → Among x is.own
-      other x isnt (inl a) =
-          absurd (true≢false (sym (and_parts (is_shipped x) (is_interface x.tree.part && (formed_module x.tree && list_all (is_known (joined x.tree.name)) x.tree.declarations)) (all_among is_good x shipped shipped_are_good a)).0 ∙ isnt))
+      other x isnt (inl a) = absurd (true≢false (sym (ships x a) ∙ isnt))
       other x isnt (inr b) = b
 
       by : Among m (map shipped_module (filter is_shipped files)) ⊎ Among m (map (module_of files) (filter is_user_body files))

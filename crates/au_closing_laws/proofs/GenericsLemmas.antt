@@ -175,10 +175,10 @@ of_declared place name (constant_body at n t v) body e = absurd (none-some body 
 
 module _ (program : List ModuleParts) (noted : List NotedParts) where
   -- where the declaration of a body stands
-  abbrev StandsAt : Bytes → BodyOf → Type 0
+  abbrev pub StandsAt : Bytes → BodyOf → Type 0
   StandsAt name body = (place : ℕ) × (index : ℕ) × (d : NotedDeclaration) × (slice_get (body_at noted place) index ≡ Some d) × (body_in place name d ≡ Some body)
 
-  body_stands : (name : Bytes) (o : Option Standing) (body : BodyOf) → body_standing program noted name o ≡ Some body → StandsAt name body
+  pub body_stands : (name : Bytes) (o : Option Standing) (body : BodyOf) → body_standing program noted name o ≡ Some body → StandsAt name body
   body_stands name None body e = absurd (none-some body e)
   body_stands name (Some d) body e = by (defining_index program d d.part) e
     where
@@ -191,7 +191,7 @@ module _ (program : List ModuleParts) (noted : List NotedParts) where
       by (Some index) e = found index (slice_get (body_at noted d.place) index) refl e
 
   -- without its notes it stands in the body of its module
-  erased_there : erase_program noted ≡ program → (place index : ℕ) (d : NotedDeclaration) → slice_get (body_at noted place) index ≡ Some d
+  pub erased_there : erase_program noted ≡ program → (place index : ℕ) (d : NotedDeclaration) → slice_get (body_at noted place) index ≡ Some d
       → (m : ModuleParts) × (slice_get program place ≡ Some m) × (slice_get (declarations_in m.body) index ≡ Some (erase_declaration d))
   erased_there erased place index d e = by (slice_get noted place) refl e
     where

@@ -30,3 +30,6 @@ mod OnceLemmas
 mod OwnTypeLemmas
 mod AcceptedLemmas
 mod LeadLemmas
+mod CallableLemmas
+mod BuiltLemmas
+mod PlainCallLemmas

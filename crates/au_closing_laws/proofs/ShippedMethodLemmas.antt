@@ -59,7 +59,7 @@ standing_get place part first (d ∷ ds) (suc k) says e =
     shifted : (n k : ℕ) → (n + 1) + k ≡ n + suc k
     shifted n k = omega arith
 
-get_left : {A : Type 0} (xs ys : List A) (k : ℕ) (x : A) → slice_get xs k ≡ Some x → slice_get (xs ++ ys) k ≡ Some x
+pub get_left : {A : Type 0} (xs ys : List A) (k : ℕ) (x : A) → slice_get xs k ≡ Some x → slice_get (xs ++ ys) k ≡ Some x
 get_left [] ys k x e = absurd (none-some x e)
 get_left (y ∷ xs) ys zero x e = e
 get_left (y ∷ xs) ys (suc k) x e = get_left xs ys k x e
@@ -192,15 +192,17 @@ methods_known home says known place n p methods is h listed =
     all_among (λ (x : Header Bytes). has_shipped home x.name.name) h methods (sym (ap (λ x. class_known home (Some x)) is) ∙ known) (among methods h listed)
 
 module _ (program : List ModuleParts) (is : IsGathered program) (place : ℕ) (m : ModuleParts) (there : slice_get program place ≡ Some m) (none : m.body ≡ None) where
-  -- the class of an instance in a module without a body has shipped methods alone
-  pub shipped_methods : (k : ℕ) (at : Pos) (generics : List (Constrained Bytes)) (name : Placed Bytes) (t : WrittenType) → slice_get (declarations_in m.interface) k ≡ Some (instance at generics name t)
-      → (names : List (Bytes × DeclAt)) → visible_at program place Interface ≡ Some names → (heads : List (DeclAt × Head)) (its_class : DeclAt) → class_meant [] names heads name.name ≡ Some its_class
-      → (d : Standing) → standing_at program its_class ≡ Some d → (p : Pos) (n : Placed Bytes) (param : InUniverse Bytes) (methods : List (Header Bytes)) → d.says ≡ class p n param methods
-      → (h : Header Bytes) → Contains methods h → (of : Option IntKind) → (call : ShippedCall) × (prim_of m.name h.name.name of ≡ Some call)
-  shipped_methods k at generics name t stands names sees heads its_class means d found p n param methods says h listed of = by (module_is program is m place there)
+  -- a class is declared by the module itself, which is that of a shipped file, and its methods are shipped
+  abbrev IsOwnClass : DeclAt → Type 0
+  IsOwnClass its_class =
+      (x : Entry) × (m ≡ shipped_module x) × (number : ℕ) × (record { «module» = place; decl = number } ≡ its_class) × (class_known (joined x.tree.name) (slice_get x.tree.declarations number) ≡ true)
+
+  -- so is the class of an instance in a module without a body
+  own_class : (k : ℕ) (at : Pos) (generics : List (Constrained Bytes)) (name : Placed Bytes) (t : WrittenType) → slice_get (declarations_in m.interface) k ≡ Some (instance at generics name t)
+      → (names : List (Bytes × DeclAt)) → visible_at program place Interface ≡ Some names → (heads : List (DeclAt × Head)) (its_class : DeclAt) → class_meant [] names heads name.name ≡ Some its_class → IsOwnClass its_class
+  own_class k at generics name t stands names sees heads its_class means = by (module_is program is m place there)
     where
-      by : ((x : Entry) × Among x (map entry_of shipped_files) × (m ≡ shipped_module x)) ⊎ ((x : Entry) × Among x is.own × (is_interface x.tree.part ≡ false) × (m ≡ module_of (map entry_of shipped_files ++ is.own) x))
-          → (call : ShippedCall) × (prim_of m.name h.name.name of ≡ Some call)
+      by : ((x : Entry) × Among x (map entry_of shipped_files) × (m ≡ shipped_module x)) ⊎ ((x : Entry) × Among x is.own × (is_interface x.tree.part ≡ false) × (m ≡ module_of (map entry_of shipped_files ++ is.own) x)) → IsOwnClass its_class
       by (inr (x, b, isnt, same)) = absurd (none-some x (sym none ∙ ap (λ (y : ModuleParts). y.body) same))
       by (inl (x, a, same)) =
           let covered = all_among (is_covered x) (instance at generics name t) x.tree.declarations
@@ -215,9 +217,9 @@ module _ (program : List ModuleParts) (is : IsGathered program) (place : ℕ) (m
           names_are : names ≡ declared_by (seen Types program place m Interface)
           names_are = sym (same_Some (visible program place m Interface) names (sym (ap (visible_in program place Interface) there) ∙ sees))
 
-          numbered_so : (o : Option ℕ) → tables.find name.name (names_in Types (numbered 0 x.tree.declarations)) ≡ o → covers (joined x.tree.name) x.tree.declarations o ≡ true → (call : ShippedCall) × (prim_of m.name h.name.name of ≡ Some call)
+          numbered_so : (o : Option ℕ) → tables.find name.name (names_in Types (numbered 0 x.tree.declarations)) ≡ o → covers (joined x.tree.name) x.tree.declarations o ≡ true → IsOwnClass its_class
           numbered_so None e known = cc
-          numbered_so (Some number) e known = declared_so (slice_get x.tree.declarations number) refl known
+          numbered_so (Some number) e known = (x, same, number, class_is, known)
             where
               own_is : own Types place m ≡ targets place (names_in Types (numbered 0 x.tree.declarations))
               own_is = ap (own Types place) same ∙ ap (λ ds. targets place (names_in Types (numbered 0 ds))) (empty_end x.tree.declarations)
@@ -235,10 +237,27 @@ module _ (program : List ModuleParts) (is : IsGathered program) (place : ℕ) (m
                   ∙ ap Some own_found.2)
                   ∙ seen_so)
 
-              declared_so : (o : Option PlainDeclaration) → slice_get x.tree.declarations number ≡ o → class_known (joined x.tree.name) o ≡ true → (call : ShippedCall) × (prim_of m.name h.name.name of ≡ Some call)
-              declared_so None e known = cc
-              declared_so (Some its) e known =
-                  let stands = stands_promised program (record { «module» = place; decl = number }) m its there (ap (λ (y : ModuleParts). slice_get (declarations_in y.interface) number) same ∙ e) in
-                  let one = same_Some (record { place = place; part = Interface; index = number; says = its }) d (sym stands ∙ ap (standing_at program) class_is ∙ found) in
-                  let call = call_there (joined x.tree.name) h.name.name of (methods_known (joined x.tree.name) its known p n param methods (ap (λ (s : Standing). s.says) one ∙ says) h listed) in
-                  (call.0, ap (λ (y : ModuleParts). prim_of y.name h.name.name of) same ∙ call.1)
+  -- so it is of that module
+  pub class_is_here : (k : ℕ) (at : Pos) (generics : List (Constrained Bytes)) (name : Placed Bytes) (t : WrittenType) → slice_get (declarations_in m.interface) k ≡ Some (instance at generics name t)
+      → (names : List (Bytes × DeclAt)) → visible_at program place Interface ≡ Some names → (heads : List (DeclAt × Head)) (its_class : DeclAt) → class_meant [] names heads name.name ≡ Some its_class → its_class.«module» ≡ place
+  class_is_here k at generics name t stands names sees heads its_class means =
+      let its = own_class k at generics name t stands names sees heads its_class means in
+      sym (ap (λ (c : DeclAt). c.«module») its.3)
+
+  -- and each of its methods is a shipped call
+  pub shipped_methods : (k : ℕ) (at : Pos) (generics : List (Constrained Bytes)) (name : Placed Bytes) (t : WrittenType) → slice_get (declarations_in m.interface) k ≡ Some (instance at generics name t)
+      → (names : List (Bytes × DeclAt)) → visible_at program place Interface ≡ Some names → (heads : List (DeclAt × Head)) (its_class : DeclAt) → class_meant [] names heads name.name ≡ Some its_class
+      → (d : Standing) → standing_at program its_class ≡ Some d → (p : Pos) (n : Placed Bytes) (param : InUniverse Bytes) (methods : List (Header Bytes)) → d.says ≡ class p n param methods
+      → (h : Header Bytes) → Contains methods h → (of : Option IntKind) → (call : ShippedCall) × (prim_of m.name h.name.name of ≡ Some call)
+  shipped_methods k at generics name t stands names sees heads its_class means d found p n param methods says h listed of =
+      let its = own_class k at generics name t stands names sees heads its_class means in
+      declared_so its.0 its.1 its.2 its.3 (slice_get its.0.tree.declarations its.2) refl its.4
+    where
+      declared_so : (x : Entry) → m ≡ shipped_module x → (number : ℕ) → record { «module» = place; decl = number } ≡ its_class → (o : Option PlainDeclaration) → slice_get x.tree.declarations number ≡ o → class_known (joined x.tree.name) o ≡ true
+          → (call : ShippedCall) × (prim_of m.name h.name.name of ≡ Some call)
+      declared_so x same number class_is None e known = cc
+      declared_so x same number class_is (Some its) e known =
+          let stands = stands_promised program (record { «module» = place; decl = number }) m its there (ap (λ (y : ModuleParts). slice_get (declarations_in y.interface) number) same ∙ e) in
+          let one = same_Some (record { place = place; part = Interface; index = number; says = its }) d (sym stands ∙ ap (standing_at program) class_is ∙ found) in
+          let call = call_there (joined x.tree.name) h.name.name of (methods_known (joined x.tree.name) its known p n param methods (ap (λ (s : Standing). s.says) one ∙ says) h listed) in
+          (call.0, ap (λ (y : ModuleParts). prim_of y.name h.name.name of) same ∙ call.1)

@@ -10,6 +10,7 @@ mod RunLemmas
 mod FollowLemmas
 mod PlainLemmas
 mod ToldLemmas
+mod LeadLemmas
 pub mod FrontLemmas
 pub mod AnswerLemmas
 pub mod ShownLemmas

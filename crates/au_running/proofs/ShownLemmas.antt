@@ -1,14 +1,13 @@
 -- What is answered of a run of a program's code is so of the program.
-use Rattle.std.proofs.Common.{◌≡◌, inl, ℕ, true, false, List, Option, Ok, subst}
+use Rattle.std.proofs.Common.{◌≡◌, ℕ, false, List, Option, Ok, subst}
 use Rattle.au_base.specs.declared.limits.Limit.{Limit}
-use Rattle.au_closed_programs.specs.Programs.{ClosedProgram}
+use Rattle.au_closed_programs.specs.Programs.{ClosedProgram, Closes}
 use Rattle.au_derivations.specs.Trees.{NotedParts}
 use Rattle.au_low.specs.declared.code.Code.{Code}
 use Rattle.au_low.specs.declared.endings.Ending.{Ending}
 use Rattle.au_low.specs.declared.endings.Ending.TheVariants as ending
 use Rattle.au_low.specs.Runs.{low_run}
 use Rattle.au_lowering.specs.Closed.{code_of}
-use Rattle.au_lowering.specs.PlainCalls.{functions_are_plain}
 use Rattle.au_modules.specs.Programs.{ModuleParts}
 use Rattle.au_noting_programs.specs.Faults.{IsDerived}
 use Rattle.au_rules.specs.Good.{AllDeclarationsAreGood}
@@ -44,7 +43,6 @@ module _ (program : List ModuleParts) (noted : List NotedParts) (owner name : By
   ran_so it how.NoEntry steps told left out out' came = begun (code_of it.c) came.ending came.answer
   ran_so it (how.Limit limit) steps told left out out' came =
       unlimited (code_of it.c) limit came.ending came.answer
-  ran_so it how.Stuck steps told left out out' came = inl (it, came)
   ran_so it other steps told left out out' came = (it, came)
 
   -- a run of which no more is told than that a front of what it writes was written
@@ -66,15 +64,15 @@ module _ (program : List ModuleParts) (noted : List NotedParts) (owner name : By
   }
 
   module _ (law : LoweredProgramsRun)
-      (are_plain : (c : ClosedProgram) → functions_are_plain c.functions ≡ true → CallsArePlain c.functions)
+      (are_plain : (c : ClosedProgram) → Closes program noted owner name c → CallsArePlain c.functions)
       (code : Code) (has : HasCode program noted owner name (Ok code)) where
     -- the program is lowered to its code
     abbrev lowered : IsLowered program noted owner name
     lowered = record {
       c = has.0;
       closes = has.1;
-      plain = are_plain has.0 has.2;
-      short = has.3;
+      plain = are_plain has.0 has.1.closes;
+      short = has.2;
       meant = law program noted owner name has.0 has.1.closes;
     }
 
@@ -84,11 +82,11 @@ module _ (program : List ModuleParts) (noted : List NotedParts) (owner name : By
         → HasRunSo program noted owner name ran steps told left out out'
     came_so ran steps told left out out' came =
         ran_so lowered ran steps told left out out'
-        (subst (λ (code : Code). CameSo code ran steps told left out out') has.4 came)
+        (subst (λ (code : Code). CameSo code ran steps told left out out') has.3 came)
 
     -- a run of its code that was cut off
     pub cut_so : (steps : ℕ) (told out out' : Option (List ℕ))
         → IsCut (low_run false code) steps told out out'
         → IsBroken program noted owner name steps told out out'
     cut_so steps told out out' cut =
-        (lowered, subst (λ (code : Code). IsCut (low_run false code) steps told out out') has.4 cut)
+        (lowered, subst (λ (code : Code). IsCut (low_run false code) steps told out out') has.3 cut)

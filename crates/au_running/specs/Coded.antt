@@ -1,25 +1,23 @@
 -- What is answered where a program's code is made.
-use Rattle.std.specs.Prelude.{◌≡◌, true, false, List, Result, Ok, Err}
+use Rattle.std.specs.Prelude.{◌≡◌, false, List, Result, Ok, Err}
 use Rattle.au_closed_programs.specs.Answers.{ClosesWithin}
 use Rattle.au_closed_programs.specs.Programs.{ClosedProgram}
 use Rattle.au_derivations.specs.Trees.{NotedParts}
 use Rattle.au_low.specs.declared.code.Code.{Code}
 use Rattle.au_lowering.specs.Closed.{code_of, is_too_long}
-use Rattle.au_lowering.specs.PlainCalls.{functions_are_plain}
 use Rattle.au_modules.specs.Programs.{ModuleParts}
-use Rattle.au_running.specs.Ran.{HasNoEntry, IsUnbuilt, PassesSo}
+use Rattle.au_running.specs.Ran.{HasNoEntry, PassesSo}
 use Rattle.au_running.specs.declared.coding.Uncoded.{Uncoded}
 use Rattle.au_running.specs.declared.coding.Uncoded.TheVariants as uncoded
 use Rattle.au_syntax.specs.Plain.{Bytes}
 
--- The code that a program is lowered to from its entry, where it passes no limit and each shipped call in it
--- is plain, or why there is none; nothing is said where memory ran out.
+-- The code that a program is lowered to from its entry, where it passes no limit, or why there is none; nothing
+-- is said where memory ran out.
 abbrev pub HasCode : (program : List ModuleParts) (noted : List NotedParts) (owner name : Bytes)
     → Result Code Uncoded → Type 0
 HasCode program noted owner name (Ok code) =
-    (c : ClosedProgram) × ClosesWithin program noted owner name c × (functions_are_plain c.functions ≡ true)
-    × (is_too_long c ≡ false) × (code ≡ code_of c)
+    (c : ClosedProgram) × ClosesWithin program noted owner name c × (is_too_long c ≡ false)
+    × (code ≡ code_of c)
 HasCode program noted owner name (Err uncoded.NoEntry) = HasNoEntry program noted owner name
 HasCode program noted owner name (Err (uncoded.Limit limit)) = PassesSo program noted owner name limit
-HasCode program noted owner name (Err uncoded.Unplain) = IsUnbuilt program noted owner name
 HasCode program noted owner name (Err uncoded.Memory) = Unit {0}

@@ -11,7 +11,6 @@ use Rattle.au_closed_programs.specs.Programs.{ClosedProgram}
 use Rattle.au_low.specs.Runs.{low_run}
 use Rattle.au_lowering.specs.Answers.{too_long}
 use Rattle.au_lowering.specs.Closed.{code_of, is_too_long}
-use Rattle.au_lowering.specs.PlainCalls.{functions_are_plain}
 use Rattle.au_running.specs.Asked.{CallsArePlain}
 use Rattle.au_running.specs.Came.{CameSo, RanWhole}
 use Rattle.au_running.specs.Meant.{means}
@@ -32,20 +31,13 @@ module _ (program : List ModuleParts) (noted : List NotedParts) (owner name : By
       (entry_of program owner name ≡ nowhere)
       ⊎ ((at : Pos) × (entry_of program owner name ≡ not_of_the_form at))
 
-  -- An instance that is reached from the entry passes a limit, or there are too many; or each shipped call in
-  -- what the program closes to is plain, and the code of that is too long.
+  -- An instance that is reached from the entry passes a limit, or there are too many; or the code of what the
+  -- program closes to is too long.
   abbrev pub PassesSo : Limit → Type 0
   PassesSo limit =
       Passes program noted owner name limit
-      ⊎ ((c : ClosedProgram) × ClosesWithin program noted owner name c
-      × (functions_are_plain c.functions ≡ true) × (is_too_long c ≡ true) × (limit ≡ too_long))
-
-  -- What the program closes to within the limits calls a shipped function of references, boxes, buffers or
-  -- the terminal, whose code isn't built yet.
-  pub record IsUnbuilt : Type 0 where
-    pub c : ClosedProgram
-    pub closes : ClosesWithin program noted owner name c
-    pub unplain : functions_are_plain c.functions ≡ false
+      ⊎ ((c : ClosedProgram) × ClosesWithin program noted owner name c × (is_too_long c ≡ true)
+      × (limit ≡ too_long))
 
   -- The program is lowered to the code of this: it closes to it from its entry within the limits, each
   -- shipped call in it is plain, and its code isn't too long. Where its runs are spoken of, every run of that
@@ -80,8 +72,6 @@ module _ (program : List ModuleParts) (noted : List NotedParts) (owner name : By
   abbrev pub HasRunSo : Ran → ℕ → (told left out out' : Option (List ℕ)) → Type 0
   HasRunSo ran.NoEntry steps told left out out' = HasNoEntry × IsIdle told left out out'
   HasRunSo (ran.Limit limit) steps told left out out' = PassesSo limit × IsIdle told left out out'
-  HasRunSo ran.Stuck steps told left out out' =
-      HasRun ran.Stuck steps told left out out' ⊎ (IsUnbuilt × IsIdle told left out out')
   HasRunSo other steps told left out out' = HasRun other steps told left out out'
 
 -- whether a call of the source failed, and whether one of the sink did

@@ -9,7 +9,7 @@ ghost use Rattle.au_running.specs.Coded.{HasCode};
 use au_base::{Entry, Limit};
 use au_closed_programs::{CloseFault, close};
 use au_low::Code;
-use au_lowering::{LowerFault, calls_are_plain, lower};
+use au_lowering::{LowerFault, lower};
 use au_noting_programs::NotedProgram;
 use std::alloc::Global;
 
@@ -20,8 +20,6 @@ pub enum Uncoded {
     NoEntry,
     /// An instance, the instances or the code of the program pass a limit.
     Limit(Limit),
-    /// A shipped function of references, boxes, buffers or the terminal is called.
-    Unplain,
     /// Memory ran out.
     Memory,
 }
@@ -31,9 +29,7 @@ pub enum Uncoded {
 /// # Errors
 ///
 /// `NoEntry` exactly where there is no such entry, or it hasn't the form of one; `Limit` where an instance
-/// passes a limit, there are too many, or the code is too long; `Unplain` where a function that is reached
-/// from the entry calls a shipped function of references, boxes, buffers or the terminal; `Memory` when
-/// memory runs out.
+/// passes a limit, there are too many, or the code is too long; `Memory` when memory runs out.
 pub fn closed_code(alloc: Global, program: &NotedProgram, entry: &Entry) -> Result<Code, Uncoded>
     ensures { (noted : List NotedParts) × IsDerived (slots.modules program.now) noted
         × HasCode (slots.modules program.now) noted entry.now.module entry.now.function result }
@@ -48,15 +44,10 @@ pub fn closed_code(alloc: Global, program: &NotedProgram, entry: &Entry) -> Resu
         Err(CloseFault::BadEntry(_)) => Err(Uncoded::NoEntry),
         Err(CloseFault::Limit(limit)) => Err(Uncoded::Limit(limit)),
         Err(CloseFault::Memory) => Err(Uncoded::Memory),
-        Ok(closed) => {
-            if !calls_are_plain(&closed.functions) {
-                return Err(Uncoded::Unplain);
-            }
-            match lower(alloc, &closed) {
-                Err(LowerFault::Limit(limit)) => Err(Uncoded::Limit(limit)),
-                Err(LowerFault::Memory) => Err(Uncoded::Memory),
-                Ok(code) => Ok(code),
-            }
-        }
+        Ok(closed) => match lower(alloc, &closed) {
+            Err(LowerFault::Limit(limit)) => Err(Uncoded::Limit(limit)),
+            Err(LowerFault::Memory) => Err(Uncoded::Memory),
+            Ok(code) => Ok(code),
+        },
     }
 }

@@ -15,8 +15,7 @@ pub enum Ran {
     Abort(Text),
     /// The steps were spent, and the program hasn't ended.
     Steps,
-    /// The program came to what isn't built yet, or a function that is reached from its entry calls that, and
-    /// it didn't begin.
+    /// The program came to where no rule applies.
     Stuck,
     /// The input couldn't be read.
     ReadFault,

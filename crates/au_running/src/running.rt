@@ -4,20 +4,21 @@ ghost use Rattle.std.specs.Prelude.{◌≡◌, ◌⊎◌, List, IfOk, OnErr};
 ghost use Rattle.au_derivations.specs.Trees.{NotedParts};
 ghost use Rattle.au_modules.specs.Slots as slots;
 ghost use Rattle.au_noting_programs.specs.Faults.{IsDerived};
+ghost use Rattle.au_running.specs.Asked.{ClosesPlainly};
 ghost use Rattle.au_running.specs.Ran.{HasRunSo, IsBroken, IsIdle, is_read_fault, is_write_fault};
 ghost use Rattle.au_runs.specs.Calls.{Rose};
 
 use crate::coding::{Uncoded, closed_code};
 use crate::ends::run_code;
 use crate::laws::lowered_programs_run;
-use crate::plain_laws::plain_functions_are_plain;
 use crate::ran::Ran;
 use au_base::{Entry, Memory, Sink, Source};
 use au_noting_programs::NotedProgram;
 use std::alloc::Global;
 
 /// Runs an accepted program from the entry that is named by its module and its own name, for at most so many
-/// steps, on an input and a sink.
+/// steps, on an input and a sink. What it closes to from there must call no shipped function of references,
+/// boxes, buffers or the terminal.
 ///
 /// # Errors
 ///
@@ -30,6 +31,7 @@ pub fn run_program<I: Source, O: Sink>(
     input: &mut I,
     out: &mut O,
 ) -> Result<Ran, Memory>
+    requires plain { ClosesPlainly (slots.modules program.now) entry.now.module entry.now.function }
     ensures ran { IfOk result (λ ran. (noted : List NotedParts) × IsDerived (slots.modules program.now) noted
         × HasRunSo (slots.modules program.now) noted entry.now.module entry.now.function ran steps
         (I.left input.old) (I.left input.new) (O.written out.old) (O.written out.new)) }
@@ -44,11 +46,9 @@ pub fn run_program<I: Source, O: Sink>(
         ((I.faults input.new ≡ I.faults input.old) × (O.faults out.new ≡ O.faults out.old)) }
 {
     lowered_programs_run();
-    plain_functions_are_plain();
     match closed_code(alloc, program, entry) {
         Err(Uncoded::NoEntry) => Ok(Ran::NoEntry),
         Err(Uncoded::Limit(limit)) => Ok(Ran::Limit(limit)),
-        Err(Uncoded::Unplain) => Ok(Ran::Stuck),
         Err(Uncoded::Memory) => Err(Memory),
         Ok(code) => run_code(alloc, &code, steps, input, out),
     }

@@ -60,10 +60,7 @@ module _ (program : List ModuleParts) (noted : List NotedParts) (owner name : By
   stuck_entry : (told left out out' : Option (List ℕ))
       → HasRunSo program noted owner name how.Stuck steps told left out out'
       → HasNoEntry program noted owner name → ⊥
-  stuck_entry told left out out' h none = elim h [
-    | inl r ↦ closes_entry r.0.c r.0.closes.closes none
-    | inr u ↦ closes_entry u.0.c u.0.closes.closes none
-  ]
+  stuck_entry told left out out' h none = closes_entry h.0.c h.0.closes.closes none
 
   -- what has its entry, and ran without a limit that is passed, and without a failure, ended so or is stuck
   entry_ends : (ran : Ran) (told left out out' : Option (List ℕ)) → is_decided (run_status ran) ≡ true

@@ -5,3 +5,4 @@ pub mod RunLemmas
 pub mod EndLemmas
 pub mod EnteredLemmas
 pub mod AnsweredLemmas
+pub mod PlainLemmas

@@ -169,9 +169,6 @@ module _ (program : List ModuleParts) (noted : List NotedParts) (owner name : By
       → (out' ≡ out) ⊎ IsBroken program noted owner name steps told out out'
   front_ran how.NoEntry told left out out' h = inl h.1.1
   front_ran (how.Limit limit) told left out out' h = inl h.1.1
-  front_ran how.Stuck told left out out' (inr h) = inl h.1.1
-  front_ran how.Stuck told left out out' (inl h) =
-      inr (ran_broken program noted owner name how.Stuck steps told left out out' h)
   front_ran other told left out out' h =
       inr (ran_broken program noted owner name other steps told left out out' h)
 

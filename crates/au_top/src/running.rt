@@ -5,7 +5,9 @@ ghost use Rattle.au_base.specs.Outside.{Adds, AddsFront, HasRisen};
 ghost use Rattle.au_modules.specs.Slots as slots;
 ghost use Rattle.au_refusals.specs.Lines.{refusal_line};
 ghost use Rattle.au_refusals.specs.Refusals.{is_refusal};
+ghost use Rattle.au_running.specs.Asked.{ClosesPlainly};
 ghost use Rattle.au_running.specs.Ran.{is_write_fault};
+ghost use Rattle.au_syntax.specs.Plain.{Bytes};
 ghost use Rattle.au_top.specs.Ends.{RunAnswers};
 ghost use Rattle.au_top.specs.Runs as runs;
 
@@ -18,7 +20,8 @@ use au_refusals::{Refusal, abort_line, limit_line, refusal_text, steps_line};
 use au_running::{Ran, run_program};
 use std::alloc::Global;
 
-/// Runs a program from its entry, and writes the line that is due behind the run, if one is, on `err`.
+/// Runs a program from its entry, and writes the line that is due behind the run, if one is, on `err`. What it
+/// closes to must call no shipped function of references, boxes, buffers or the terminal.
 ///
 /// # Errors
 ///
@@ -32,6 +35,7 @@ pub fn run<I: Source, O: Sink, E: Sink>(
     out: &mut O,
     err: &mut E,
 ) -> Result<Status, AnswerFault>
+    requires plain { (owner name : Bytes) → ClosesPlainly (slots.modules program.now) owner name }
     ensures { RunAnswers result (record {
       left = I.left input.old;
       left' = I.left input.new;

@@ -25,8 +25,10 @@ use crate::answering::{Asked, answer};
 use crate::asking::asked_of;
 use crate::saying::{AnswerFault, READ_FAULT_LINE};
 use au_base::{Shelf, Sink, Source, Status, WriteFault, put_all};
+use au_closing_laws::gathered::calls_of_built_programs_are_plain;
 use au_outcomes::{CheckFault, Outcome, check};
 use au_refusals::Refusal;
+use au_running::plain_laws::plain_leads_close_plainly;
 use au_words::{Job, WordsFault, read_words};
 use std::alloc::Global;
 
@@ -122,7 +124,7 @@ pub fn austral<S: Shelf, I: Source, O: Sink, E: Sink>(
     ensures no_job { IsNoJob (map string_bytes words.now) → IsTrue (is_decided result)
         → result ≡ Status.Words }
     // 2 comes with the line of a refusal that the words or the files have, or of a program without such an
-    // entry, or of one whose run came to what isn't built yet.
+    // entry, or of one whose run is stuck.
     ensures refused { result ≡ Status.Refused
         → IsRefused (map string_bytes words.now) (S.files shelf.old) (I.left input.old) (I.left input.new)
         (O.written out.old) (O.written out.new) (E.written err.old) (E.written err.new) }
@@ -229,6 +231,8 @@ fn ended<S: Shelf, I: Source, O: Sink, E: Sink>(
         → (S.faults shelf.new ≡ S.faults shelf.old) × (S.misses shelf.new ≡ S.misses shelf.old) }
     ensures files { S.files shelf.new ≡ S.files shelf.old }
 {
+    calls_of_built_programs_are_plain();
+    plain_leads_close_plainly();
     match outcome_of(alloc, words, shelf) {
         Ok((asked, outcome)) => { status_of(answer(alloc, &asked, &outcome, input, out, err)) }
         Err(fault) => fault_status(fault, err),

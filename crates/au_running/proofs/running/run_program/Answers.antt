@@ -28,7 +28,7 @@ returns-in-Ok-clause-ran g c =
       has.0,
       has.1,
       came_so program has.0 owner name c.lowered_programs_run.ensures
-          (λ c' is. c.plain_functions_are_plain.ensures c'.functions is) c.in-Ok.code has.2 ran
+          (c.requires.plain has.0 has.1) c.in-Ok.code has.2 ran
           c.args.steps told left out out' came,
     ))
     c.run_code.ensures.came
@@ -50,7 +50,7 @@ returns-in-Ok-clause-broken g c =
       has.0,
       has.1,
       cut_so program has.0 owner name c.lowered_programs_run.ensures
-          (λ c' is. c.plain_functions_are_plain.ensures c'.functions is) c.in-Ok.code has.2
+          (c.requires.plain has.0 has.1) c.in-Ok.code has.2
           c.args.steps told out out' cut,
     ))
     c.run_code.ensures.cut
