@@ -1,3 +1,4 @@
 pub mod ToldLemmas
+pub mod VariableLemmas
 pub mod GoodLemmas
 pub mod AcceptedLemmas

@@ -1,3 +1,4 @@
+pub mod Variables
 pub mod LinearFaults
 pub mod Good
 pub mod Lines

@@ -5,17 +5,15 @@ use Rattle.std.specs.Prelude.{List, [], Option, None}
 use Rattle.std.specs.Option.{option_map}
 use Rattle.au_base.specs.declared.places.Pos.{Pos}
 use Rattle.au_formed.specs.Text.{Spot, text, visible_at}
-use Rattle.au_linear.specs.Telling.{sorted}
 use Rattle.au_lives.specs.Refusals.{Refusal, in_loop, in_part, on_path, Refused, Variable, first_refused}
-use Rattle.au_lives.specs.Scopes.{scopes_of}
 use Rattle.au_mentions.specs.Mentions.{type_parameters}
 use Rattle.au_modules.specs.Programs.{ModuleParts}
 use Rattle.au_imports.specs.Choices.{first_of}
 use Rattle.au_names.specs.HeadsOf.{heads_of}
 use Rattle.au_program_lives.specs.declared.faults.LinearFault.{LinearFault}
 use Rattle.au_program_lives.specs.declared.faults.LinearFault.TheVariants as fault
+use Rattle.au_program_lives.specs.Variables.{variables_of}
 use Rattle.au_sorts.specs.Scopes.{TypeScope}
-use Rattle.au_sorts.specs.Sorts.{sorts_of}
 use Rattle.au_syntax.specs.Modules.{Header, function_body, instance_body}
 use Rattle.au_syntax.specs.Plain.{Bytes, PlainDeclaration, PlainMethod, PlainStatements}
 use Rattle.au_types.specs.declared.headings.Head.{Head}
@@ -34,8 +32,7 @@ spot_types program s = types_in (type_parameters s.says) (visible_at program s) 
 
 -- the variables of a function in text order, each with what its type asks of its life
 abbrev pub function_variables : Header Bytes → PlainStatements → TypeScope → List Variable
-function_variables header body sc =
-    sorted (scopes_of header.parameters body) (sorts_of header.parameters body sc)
+function_variables header body sc = variables_of header.parameters body sc
 
 -- ---- faults
 

@@ -23,7 +23,7 @@ front_first old new x y front =
     (n, subst (Adds old new) (sym same) front.1)
 
 -- a front of the beginning is a front of the whole
-front_of_whole : (old new : Option (List ℕ)) (xs ys : List ℕ) → Begins xs ys → AddsFront old new xs
+pub front_of_whole : (old new : Option (List ℕ)) (xs ys : List ℕ) → Begins xs ys → AddsFront old new xs
     → AddsFront old new ys
 front_of_whole old new xs ys begins front =
     subst (AddsFront old new) (sym begins.1) (front_first old new xs begins.0 front)

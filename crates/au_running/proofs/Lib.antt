@@ -12,6 +12,7 @@ mod LeadLemmas
 pub mod FrontLemmas
 pub mod AnswerLemmas
 pub mod ShownLemmas
+pub mod BrokenLemmas
 mod RenotedLemmas
 mod GoodOnceLemmas
 mod DerivedLemmas

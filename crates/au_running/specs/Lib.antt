@@ -6,6 +6,7 @@ pub mod Runs
 pub mod Follows
 pub mod Came
 pub mod Ran
+pub mod Fronts
 pub mod Coded
 pub mod Formed
 pub mod Suits

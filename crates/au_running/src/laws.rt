@@ -2,6 +2,8 @@
 //! nothing.
 
 ghost use Rattle.au_running.specs.Follows.{LoweredProgramsFollow};
+ghost use Rattle.au_running.specs.Fronts.{CutRunsWriteFronts, RunsWriteFronts, StuckAnswersAreMeant};
+ghost use Rattle.au_running.specs.Fronts.{StuckRunsAreMeant, WaitingRunsShow};
 ghost use Rattle.au_running.specs.Once.{ClosedFieldsAreOnce, ClosedParametersAreOnce};
 ghost use Rattle.au_running.specs.Runs.{LoweredProgramsRun};
 
@@ -25,4 +27,23 @@ pub fn lowered_programs_run()
 /// stuck, with its events, after as many steps as ticks or more and at most eight times as many.
 pub fn lowered_programs_follow()
     ensures { LoweredProgramsFollow }
+{}
+
+/// Whatever is answered of a run, and where memory ran out, a front of what the program means within as many
+/// ticks as the run may make steps was written, unless that is stuck.
+pub fn runs_write_fronts()
+    ensures came { RunsWriteFronts }
+    ensures cut { CutRunsWriteFronts }
+{}
+
+/// Where a byte couldn't be read, all that a run had written is what the program means so far, whatever bytes
+/// follow, unless that is stuck.
+pub fn waiting_runs_show()
+    ensures { WaitingRunsShow }
+{}
+
+/// A run is stuck only where what the program means is stuck within as many ticks as the run may make steps.
+pub fn stuck_runs_are_meant()
+    ensures runs { StuckRunsAreMeant }
+    ensures answers { StuckAnswersAreMeant }
 {}
