@@ -48,7 +48,7 @@ use Rattle.au_noting_programs.specs.Faults.{IsDerived}
 use Rattle.au_outcomes.specs.Accepted.{AreAcceptedAs}
 use Rattle.au_outcomes.specs.Programs.{program_modules}
 use Rattle.au_outcomes.specs.Trees.{ReadFile}
-use Rattle.au_closed_trees.specs.ClosedNotes.{instance, shipped}
+use Rattle.au_closed_trees.specs.ClosedNotes.{shipped}
 use Rattle.au_given_types.specs.Given.{Given, closed_under, given_by}
 use Rattle.au_closing.specs.Bodies.{BodyOf, body_of}
 use Rattle.au_closing.specs.Instances.{Instance}
