@@ -127,7 +127,10 @@ module _ (words : List (List ℕ)) (shelf : Shelf) (s : Streams) where
             answered_run r found.0 names p.0 entry steps found.1
             (subst (λ o. Arises words found.0 names o) p.1 found.2) asked read.1
             (subst (λ o. Counts (is_missing o) shelf.old_misses shelf.new_misses) p.1 missed).1
-            (subst (λ o. IfRuns o (λ program. RunAnswers r s (record { named = entry; steps = steps; program = program
+            (subst (λ o. IfRuns o (λ program. RunAnswers r s (record {
+              named = entry;
+              steps = steps;
+              program = program;
             }))) p.1 runs)
       ])
 

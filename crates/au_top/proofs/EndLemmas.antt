@@ -22,9 +22,10 @@ use Rattle.au_outcomes.specs.declared.outcomes.Aim.TheVariants as aims
 use Rattle.au_outcomes.specs.declared.outcomes.Outcome.{Outcome}
 use Rattle.au_outcomes.specs.declared.outcomes.Outcome.TheVariants as outcome
 use Rattle.au_outcomes.proofs.AcceptedLemmas.{not_both}
-use Rattle.au_top.specs.Calls.{Aborts, Call, CameTo, ComesToRun, GoesBehind, HasEndedAsRun, HasPaid, HasProgram}
-use Rattle.au_top.specs.Calls.{HasRun, IsDecided, IsDone, IsPaid, IsRefused, LacksMemory, LosesSink, LosesSource}
-use Rattle.au_top.specs.Calls.{MissesFile, PassesLimit, ShelfMissedNone, ShelfNeverFailed, Succeeds, is_decided}
+use Rattle.au_top.specs.Calls.{Aborts, Call, CameTo, ComesToRun, GoesBehind, HasEndedAsRun, HasPaid}
+use Rattle.au_top.specs.Calls.{HasProgram, HasRun, IsDecided, IsDone, IsPaid, IsRefused, LacksMemory}
+use Rattle.au_top.specs.Calls.{LosesSink, LosesSource, MissesFile, PassesLimit, ShelfMissedNone}
+use Rattle.au_top.specs.Calls.{ShelfNeverFailed, Succeeds, Tells, is_decided}
 use Rattle.au_top.specs.Dues.{Arises, Due, IsAcceptedJob, IsCheck, IsExplain, IsRun, IsUnread, Owes}
 use Rattle.au_top.specs.Dues.{accepted_due, due_line, due_of, explained_due}
 use Rattle.au_top.specs.Ends.{HasEnded, HasPaidAll, IsRunWhole}
@@ -57,8 +58,9 @@ run_with call r q = record {
 }
 
 -- the files of a run that are told came to the program that ran
-pub run_comes : {P : Run → Type 0} (call : Call) (files : Files) (task : Task) → call.shelf.files ≡ Some files
-    → IsRun call.words task → (r : ComesToRun call P) → Comes aims.Run files task.files (outcome.Runs r.program)
+pub run_comes : {P : Run → Type 0} (call : Call) (files : Files) (task : Task) → Tells call files
+    → IsRun call.words task → (r : ComesToRun call P)
+    → Comes aims.Run files task.files (outcome.Runs r.program)
 run_comes call files task is job r =
     let one : r.task ≡ task = one_job call.words r.task task r.job.0 job.0 in
     subst (λ f. Comes aims.Run f task.files (outcome.Runs r.program))
@@ -117,9 +119,10 @@ module _ (call : Call) where
   paid_came P p holds = (p.files, p.are_told, p.names, p.arisen, p.arises, holds)
 
   -- the same of the files that are told
-  pub paid_arises : (files : Files) → call.shelf.files ≡ Some files → (p : Paid) → Arises call.words files p.names p.arisen
+  pub paid_arises : (files : Files) → Tells call files → (p : Paid) → Arises call.words files p.names p.arisen
   paid_arises files is p =
-      subst (λ f. Arises call.words f p.names p.arisen) (told_same call.shelf.files p.files files is p.are_told) p.arises
+      subst (λ f. Arises call.words f p.names p.arisen)
+      (told_same call.shelf.files p.files files is p.are_told) p.arises
 
   -- no other status is paid
   paid_not : {T : Type 0} (other : Status) → Paid → due.is_owed other ≡ false → call.status ≡ other → T
@@ -129,7 +132,7 @@ module _ (call : Call) where
   -- ---- of a program that ran
 
   -- the files that are told came to it
-  whole_arises : (files : Files) → call.shelf.files ≡ Some files → (r : Whole)
+  whole_arises : (files : Files) → Tells call files → (r : Whole)
       → Arises call.words files r.task.files (outcome.Runs r.program)
   whole_arises files is r =
       subst (λ f. Arises call.words f r.task.files (outcome.Runs r.program))
@@ -157,7 +160,8 @@ module _ (call : Call) where
 
   -- ---- what is due
 
-  pub ended_done : Ending → (call.status ≡ status.WriteFault → ⊥) → (call.status ≡ status.Memory → ⊥) → IsDone call
+  pub ended_done : Ending → (call.status ≡ status.WriteFault → ⊥) → (call.status ≡ status.Memory → ⊥)
+      → IsDone call
   ended_done h no_write no_memory = elim h [
     | inl p ↦ inl (paid_done p)
     | inr others ↦ elim others [
@@ -178,7 +182,7 @@ module _ (call : Call) where
     ]
   ]
 
-  pub ended_only : Ending → (files : Files) (one : Due) → call.shelf.files ≡ Some files → Owes call.words files one
+  pub ended_only : Ending → (files : Files) (one : Due) → Tells call files → Owes call.words files one
       → IsDecided call → PaidFor one
   ended_only h files one is owes good = elim (decided h good) [
     | inl p ↦ due.paid_owed call.words files p.names p.arisen one PaidFor (paid_arises files is p) p.pays owes
@@ -186,7 +190,7 @@ module _ (call : Call) where
         (whole_arises files is r.0) owes)
   ]
 
-  pub ended_unread : Ending → (files : Files) → call.shelf.files ≡ Some files → IsUnread call.words files
+  pub ended_unread : Ending → (files : Files) → Tells call files → IsUnread call.words files
       → IsDecided call
       → (call.status ≡ status.Refused) ⊎ (call.status ≡ status.Limit)
   ended_unread h files is unread good = elim (decided h good) [
@@ -202,7 +206,7 @@ module _ (call : Call) where
   -- ---- accepted files
 
   -- Nothing is refused by the steps that judge whether files are accepted exactly where they are.
-  pub ended_accepted : Ending → (files : Files) → call.shelf.files ≡ Some files → IsDecided call
+  pub ended_accepted : Ending → (files : Files) → Tells call files → IsDecided call
       → IsAcceptedJob call.words files ↔ GoesBehind call
   ended_accepted h files is good = (
     λ accepted. elim (decided h good) [
@@ -223,7 +227,7 @@ module _ (call : Call) where
   )
 
   -- Files that are checked are told to be accepted exactly where they are.
-  pub ended_checked : Ending → (files : Files) (task : Task) → call.shelf.files ≡ Some files → IsCheck call.words task
+  pub ended_checked : Ending → (files : Files) (task : Task) → Tells call files → IsCheck call.words task
       → IsDecided call → Accepted files task.files ↔ PaidFor accepted_due
   ended_checked h files task is check good = (
     λ accepted.
@@ -236,7 +240,8 @@ module _ (call : Call) where
               subst (λ o. IsSomeAnd (due_of p.names o) PaidFor)
               (due.check_accepted call.words files p.names p.arisen task check arises past) p.pays
           | inr r ↦
-              let said = due.check_accepted call.words files r.0.task.files (outcome.Runs r.0.program) task check
+              let said = due.check_accepted call.words files r.0.task.files (outcome.Runs r.0.program) task
+              check
               (whole_arises files is r.0) refl in
               absurd (let e : outcome.Runs r.0.program ≡ outcome.Accepted = said in cc)
         ],
@@ -255,7 +260,7 @@ module _ (call : Call) where
 
   -- The lives of the variables of files that are explained and accepted are told.
   pub ended_explained : Ending → (files : Files) (task : Task) (all : List (List ℕ)) (reads : List ReadFile)
-      → call.shelf.files ≡ Some files → IsExplain call.words task → IsDecided call
+      → Tells call files → IsExplain call.words task → IsDecided call
       → AreAcceptedAs files task.files all reads → PaidFor (explained_due (read_lives reads))
   ended_explained h files task all reads is job good accepted = elim (decided h good) [
     | inl p ↦
@@ -269,13 +274,14 @@ module _ (call : Call) where
   ]
 
   -- what ended with success, or ran, is accepted
-  ran_accepted : (files : Files) (task : Task) → call.shelf.files ≡ Some files → IsJob call.words task → Whole
+  ran_accepted : (files : Files) (task : Task) → Tells call files → IsJob call.words task → Whole
       → Accepted files task.files
   ran_accepted files task is job r =
       due.task_accepted call.words files task job
-      (due.arises_accepted call.words files r.task.files (outcome.Runs r.program) (whole_arises files is r) refl)
+      (due.arises_accepted call.words files r.task.files (outcome.Runs r.program) (whole_arises files is r)
+      refl)
 
-  succeeded_accepted : (files : Files) (task : Task) → call.shelf.files ≡ Some files → IsJob call.words task → Paid
+  succeeded_accepted : (files : Files) (task : Task) → Tells call files → IsJob call.words task → Paid
       → call.status ≡ status.Success → Accepted files task.files
   succeeded_accepted files task is job p succeeds =
       let past = due.success_behind p.names call.status call.streams p.arisen p.pays succeeds in
@@ -283,7 +289,8 @@ module _ (call : Call) where
       (due.arises_accepted call.words files p.names p.arisen (paid_arises files is p) past)
 
   -- Only files that are accepted are explained with success.
-  pub ended_explained_only : Ending → (files : Files) (task : Task) → call.shelf.files ≡ Some files → IsExplain call.words task
+  pub ended_explained_only : Ending → (files : Files) (task : Task) → Tells call files
+      → IsExplain call.words task
       → call.status ≡ status.Success → Accepted files task.files
   ended_explained_only h files task is job succeeds = elim (decided h (ap is_decided succeeds)) [
     | inl p ↦ succeeded_accepted files task is job.0 p succeeds
@@ -293,7 +300,7 @@ module _ (call : Call) where
   -- ---- runs
 
   -- The program of accepted files in which all is built ran.
-  pub ended_runs : Ending → (files : Files) (task : Task) → call.shelf.files ≡ Some files → IsRun call.words task
+  pub ended_runs : Ending → (files : Files) (task : Task) → Tells call files → IsRun call.words task
       → IsDecided call → (run : Run) → IsToRun files task run → EndsAsRun run call.streams call.status
   unfolding whole_as run_with
   ended_runs h files task is job good run to = elim (decided h good) [
@@ -314,11 +321,12 @@ module _ (call : Call) where
   ]
 
   -- What is seen of it is what it means.
-  pub ended_shown : Ending → (files : Files) (task : Task) → call.shelf.files ≡ Some files → IsRun call.words task
+  pub ended_shown : Ending → (files : Files) (task : Task) → Tells call files → IsRun call.words task
       → IsDecided call → (one : Run) → IsToRun files task one → IsAsMeant one call.streams call.status
   ended_shown h files task is job good one to =
       run.run_shown one call.streams
-      (subst (λ (it : Run). AllDeclarationsAreGood it.program) (sym to.is_run) to.accepted.declared) call.status
+      (subst (λ (it : Run). AllDeclarationsAreGood it.program) (sym to.is_run) to.accepted.declared)
+      call.status
       (ended_runs h files task is job good one to)
 
   -- ---- by the status
@@ -440,11 +448,13 @@ module _ (call : Call) where
   ]
 
   -- the input failed while a program ran
-  whole_read : (r : Whole) → call.status ≡ status.ReadFault → HasRun call how.ReadFault × HasFailed call.streams.input
+  whole_read : (r : Whole) → call.status ≡ status.ReadFault
+      → HasRun call how.ReadFault × HasFailed call.streams.input
   whole_read r is =
       let failed = run.read_ran r.run.ran (whole_status r status.ReadFault is) in (
         whole_to r how.ReadFault failed,
-        subst (λ one. Rose (is_read_fault one) call.streams.input.old_faults call.streams.input.new_faults) failed r.run.rose,
+        subst (λ one. Rose (is_read_fault one) call.streams.input.old_faults call.streams.input.new_faults)
+            failed r.run.rose,
       )
 
   pub ended_read : Ending → call.status ≡ status.ReadFault
@@ -471,7 +481,8 @@ module _ (call : Call) where
 
   -- ---- counts, and the input
 
-  pub ended_missing : Ending → call.status ≡ status.Missing → HasRisen call.shelf.old_misses call.shelf.new_misses
+  pub ended_missing : Ending → call.status ≡ status.Missing → HasRisen call.shelf.old_misses
+      call.shelf.new_misses
   ended_missing h is = elim (decided h (ap is_decided is)) [
     | inl p ↦
         let missed = due.missing_is p.names call.status call.streams p.arisen p.pays is in

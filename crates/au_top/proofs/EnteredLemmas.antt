@@ -22,8 +22,8 @@ use Rattle.au_outcomes.specs.declared.outcomes.Aim.TheVariants as aims
 use Rattle.au_outcomes.specs.declared.outcomes.Outcome.{Outcome}
 use Rattle.au_outcomes.specs.declared.outcomes.Outcome.TheVariants as outcome
 use Rattle.au_outcomes.proofs.AcceptedLemmas.{behind_accepted, comes_asked}
-use Rattle.au_top.specs.Calls.{Call, ComesToRun, HasRun, HasSucceeded, IsDecided, IsRunEnd, is_decided, is_run_end}
-use Rattle.au_top.specs.Calls.{ShelfMissedNone, ShelfNeverFailed}
+use Rattle.au_top.specs.Calls.{Call, ComesToRun, HasRun, HasSucceeded, IsDecided, IsRunEnd, ShelfMissedNone}
+use Rattle.au_top.specs.Calls.{ShelfNeverFailed, Tells, is_decided, is_run_end}
 use Rattle.au_top.specs.Dues.{Arises, AsksForNoFile, AsksForTooMany, IsRun}
 use Rattle.au_top.specs.Ends.{HasEnded, HasPaidAll, IsRunWhole}
 use Rattle.au_top.specs.Entered.{CanRun, HasEntry}
@@ -151,7 +151,7 @@ run_succeeds words files names arisen task s job arises succeeded =
     ]
 
 -- for a call whose words are a run, and its files, which are told
-module _ (call : Call) (files : Files) (task : Task) (is : call.shelf.files ≡ Some files)
+module _ (call : Call) (files : Files) (task : Task) (is : Tells call files)
     (job : IsRun call.words task) where
   -- a program that ran can run, where it has its entry
   ran_can : {P : Run → Type 0} (r : ComesToRun call P)
@@ -211,7 +211,7 @@ module _ (call : Call) where
   IsStuck = HasRun call how.Stuck
 
   -- no line is paid for it that it succeeded
-  paid_run : {T : Type 0} (files : Files) (task : Task) → call.shelf.files ≡ Some files → IsRun call.words task
+  paid_run : {T : Type 0} (files : Files) (task : Task) → Tells call files → IsRun call.words task
       → (p : HasPaidAll call) → IsRunEnd call → T
   paid_run files task is job p end =
       let success = run_end_success call.status end
@@ -221,7 +221,7 @@ module _ (call : Call) where
       (due.succeeded_so p.names call.status call.streams p.arisen p.pays success))
 
   -- A run ends so only where its program can run.
-  pub ended_runs_only : Ending → (files : Files) (task : Task) → call.shelf.files ≡ Some files
+  pub ended_runs_only : Ending → (files : Files) (task : Task) → Tells call files
       → IsRun call.words task → IsRunEnd call → CanRun files task
   ended_runs_only h files task is job end =
       elim (of.decided call h (run_end_decided call.status end)) [
@@ -230,7 +230,7 @@ module _ (call : Call) where
       ]
 
   -- a program that can run, and ran, ended so or is stuck
-  whole_enters : (files : Files) (task : Task) → call.shelf.files ≡ Some files → IsRun call.words task
+  whole_enters : (files : Files) (task : Task) → Tells call files → IsRun call.words task
       → IsDecided call → (call.status ≡ status.Limit → ⊥) → CanRun files task
       → ComesToRun call (IsRunWhole call.status call.streams) → IsRunEnd call ⊎ IsStuck
   whole_enters files task is job good no_limit can r =
@@ -244,13 +244,14 @@ module _ (call : Call) where
       ]
 
   -- A run ends so, or is stuck, exactly where its program can run, unless a limit is passed.
-  pub ended_entered : Ending → (files : Files) (task : Task) → call.shelf.files ≡ Some files
+  pub ended_entered : Ending → (files : Files) (task : Task) → Tells call files
       → IsRun call.words task → IsDecided call → (call.status ≡ status.Limit → ⊥)
       → CanRun files task ↔ (IsRunEnd call ⊎ IsStuck)
   ended_entered h files task is job good no_limit = (
     λ can. elim (of.decided call h good) [
       | inl p ↦
-          absurd (due.run_unpaid call.words files p.names can.all p.arisen task can.reads (of.PaidFor call) job
+          absurd (due.run_unpaid call.words files p.names can.all p.arisen task can.reads (of.PaidFor call)
+          job
           can.accepted can.built (of.paid_arises call files is p) p.pays)
       | inr r ↦ whole_enters files task is job good no_limit can r.0
     ],
@@ -261,7 +262,7 @@ module _ (call : Call) where
   )
 
   -- It is refused, and isn't stuck, exactly where its program can't, unless a file is missing besides.
-  pub ended_not_entered : Ending → (files : Files) (task : Task) → call.shelf.files ≡ Some files
+  pub ended_not_entered : Ending → (files : Files) (task : Task) → Tells call files
       → IsRun call.words task → IsDecided call → (call.status ≡ status.Limit → ⊥)
       → (call.status ≡ status.Missing → ⊥)
       → (CanRun files task → ⊥) ↔ ((call.status ≡ status.Refused) × (IsStuck → ⊥))
@@ -279,7 +280,7 @@ module _ (call : Call) where
 
   -- ---- what is promised of the call
 
-  run_promises : Ending → (files : Files) → call.shelf.files ≡ Some files → (task : Task) → IsRun call.words task
+  run_promises : Ending → (files : Files) → Tells call files → (task : Task) → IsRun call.words task
       → RunPromises call files task
   run_promises h files is task job = record {
     runs = λ good run to. of.ended_runs call h files task is job good run to;
@@ -289,20 +290,21 @@ module _ (call : Call) where
     not_entered = λ good no_limit no_missing. ended_not_entered h files task is job good no_limit no_missing;
   }
 
-  file_promises : Ending → (files : Files) → call.shelf.files ≡ Some files → FilePromises call files
+  file_promises : Ending → (files : Files) → Tells call files → FilePromises call files
   file_promises h files is = record {
     only = λ due owes good. of.ended_only call h files due is owes good;
     unread = λ unread good. of.ended_unread call h files is unread good;
     accepted = λ good. of.ended_accepted call h files is good;
     checked = λ task check good. of.ended_checked call h files task is check good;
     explained =
-        λ task all reads job good accepted. of.ended_explained call h files task all reads is job good accepted;
+        λ task all reads job good accepted. of.ended_explained call h files task all reads is job good
+        accepted;
     explained_only = λ task job succeeds. of.ended_explained_only call h files task is job succeeds;
     run = run_promises h files is;
   }
 
-  -- A call that ended in one of these ways is as it is promised, where its shelf rests when it is to, and tells
-  -- the same files.
+  -- A call that ended in one of these ways is as it is promised, where its shelf rests when it is to, and
+  -- tells the same files.
   pub promised : Ending → (AsksForNoFile call.words → ShelfNeverFailed call × ShelfMissedNone call)
       → (AsksForTooMany call.words → ShelfNeverFailed call × ShelfMissedNone call)
       → call.shelf.new_files ≡ call.shelf.files → Promises call

@@ -17,7 +17,8 @@ use Rattle.au_running.specs.declared.ran.Ran.{Ran}
 use Rattle.au_running.specs.declared.ran.Ran.TheVariants as how
 use Rattle.au_top.specs.Calls.{is_decided}
 use Rattle.au_top.specs.Ends.{IsRunStopped, RunAnswers}
-use Rattle.au_top.specs.Runs.{BreaksOff, EndsAsRun, FromEntry, IsTold, Run, Runs, entry_of, run_line, run_status}
+use Rattle.au_top.specs.Runs.{BreaksOff, EndsAsRun, FromEntry, IsTold, Run, Runs, entry_of, run_line}
+use Rattle.au_top.specs.Runs.{run_status}
 use Rattle.au_top.specs.Shown.{IsAsMeant, ShowsMeaning}
 use Rattle.au_top.specs.Streams.{AreQuiet, Gains, GainsFront, HasFailed, HasStayed, Streams}
 use Rattle.au_running.proofs.ShownLemmas.{as_meant, ran_broken}
@@ -196,7 +197,8 @@ module _ (run : Run) where
     -- a run from this entry was made
     pub has_ran : (entry : Entry) (ran : Ran) → entry ≡ entry_of run
         → ((noted : List NotedParts) × IsDerived run.program noted
-        × HasRunSo run.program noted entry.«module» entry.function ran run.steps s.input.old s.input.new s.out.old
+        × HasRunSo run.program noted entry.«module» entry.function ran run.steps s.input.old s.input.new
+        s.out.old
         s.out.new)
         → Runs run s ran
     has_ran entry ran is h =
@@ -219,7 +221,8 @@ module _ (run : Run) where
       | inr p ↦
           inr (record {
             front =
-                from_entry (λ program noted owner name. IsBroken program noted owner name run.steps s.input.old
+                from_entry (λ program noted owner name. IsBroken program noted owner name run.steps
+                s.input.old
                 s.out.old s.out.new) entry is p;
             err = err;
           }, quiet)
@@ -229,10 +232,12 @@ module _ (run : Run) where
     ran_stopped : (ran : Ran) → Runs run s ran → HasStayed s.err → s.out.new_faults ≡ s.out.old_faults
         → IsRunStopped s run
     ran_stopped ran h err quiet =
-        elim (front_ran run.program h.noted _ _ run.steps ran s.input.old s.input.new s.out.old s.out.new h.done) [
+        elim (front_ran run.program h.noted _ _ run.steps ran s.input.old s.input.new s.out.old s.out.new
+        h.done) [
           | inl p ↦ idle_stopped p err quiet
           | inr p ↦
-              inr (record { front = record { noted = h.noted; derived = h.derived; done = p }; err = err }, quiet)
+              inr (record { front = record { noted = h.noted; derived = h.derived; done = p }; err = err },
+              quiet)
         ]
 
     -- a run that a failure of its sink broke off
@@ -248,7 +253,8 @@ module _ (run : Run) where
                     noted = there.noted;
                     derived = there.derived;
                     done =
-                        ran_broken run.program there.noted _ _ how.WriteFault run.steps s.input.old s.input.new
+                        ran_broken run.program there.noted _ _ how.WriteFault run.steps s.input.old
+                        s.input.new
                         s.out.old s.out.new there.done;
                   };
               err = err;

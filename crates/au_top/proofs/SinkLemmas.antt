@@ -26,7 +26,8 @@ said_pays (Ok e) ends text s stayed same adds =
 said_pays (Err e) ends text s stayed same adds = tt
 
 pub said_fails : (r : Result Status AnswerFault) (ends : Status) (text : List ℕ) (s : Streams)
-    → HasStayed s.out → IsOkUnless r answer.Write → OnErr r (GainsFront s.err text) → OnErr r (HasFailed s.err)
+    → HasStayed s.out → IsOkUnless r answer.Write → OnErr r (GainsFront s.err text)
+    → OnErr r (HasFailed s.err)
     → IfErr r (λ e. Fails e (due_line ends text) s)
 said_fails (Ok e) ends text s stayed unless front failed = tt
 said_fails (Err answer.Write) ends text s stayed unless front failed =

@@ -1,5 +1,5 @@
 -- A call, how it ends, and what it leaves on its streams.
-use Rattle.std.specs.Prelude.{◌≡◌, ◌⊎◌, ℕ, Bool, true, false, IsTrue, IsSomeAnd, List, Option, Ok}
+use Rattle.std.specs.Prelude.{◌≡◌, ◌⊎◌, ℕ, Bool, true, false, IsTrue, IsSomeAnd, List, Option, Some, Ok}
 use Rattle.au_base.specs.declared.limits.Limit.{Limit}
 use Rattle.au_base.specs.declared.outside.Shelf as shelf
 use Rattle.au_base.specs.declared.statuses.Status.{Status}
@@ -80,6 +80,10 @@ is_run_end status.Failure = true
 is_run_end status.Abort = true
 is_run_end status.Steps = true
 is_run_end other = false
+
+-- The shelf of the call tells these files.
+abbrev pub Tells : Call → Files → Type 0
+Tells call files = call.shelf.files ≡ Some files
 
 -- Words and files decided how the call ended.
 abbrev pub IsDecided : Call → Type 0
@@ -167,7 +171,8 @@ HasPassed s names arisen = (limit : Limit) × (arisen ≡ outcome.Passes limit) 
 
 -- A file is missing, and the line that says so stands on `err`.
 abbrev pub IsMissingSo : Streams → List (List ℕ) → Outcome → Type 0
-IsMissingSo s names arisen = (name : List ℕ) × (arisen ≡ outcome.Missing name) × Gains s.err (missing_line name)
+IsMissingSo s names arisen =
+    (name : List ℕ) × (arisen ≡ outcome.Missing name) × Gains s.err (missing_line name)
 
 -- Files are checked and accepted, and the line that says so stands on `out`.
 abbrev pub IsSaidAccepted : Streams → List (List ℕ) → Outcome → Type 0
@@ -175,7 +180,8 @@ IsSaidAccepted s names arisen = (arisen ≡ outcome.Accepted) × Gains s.out acc
 
 -- Files are accepted, and the text of the lives of their variables stands on `out`.
 abbrev pub IsExplained : Streams → List (List ℕ) → Outcome → Type 0
-IsExplained s names arisen = (lives : Lives) × (arisen ≡ outcome.Explained lives) × Gains s.out (life_text lives)
+IsExplained s names arisen =
+    (lives : Lives) × (arisen ≡ outcome.Explained lives) × Gains s.out (life_text lives)
 
 -- Files are checked and accepted, or explained.
 abbrev pub HasSucceeded : Streams → List (List ℕ) → Outcome → Type 0
@@ -220,7 +226,8 @@ HasEndedAsRun call = ComesToRun call (λ run. EndsAsRun run call.streams call.st
 abbrev pub IsRunCut : Run → Streams → Type 0
 IsRunCut run s =
     (BreaksOff run s × HasFailed s.out)
-    ⊎ ((ran : Ran) × Runs run s ran × GainsFront s.err (line_of run ran) × NeverFailed s.out × HasFailed s.err)
+    ⊎ ((ran : Ran) × Runs run s ran × GainsFront s.err (line_of run ran) × NeverFailed s.out
+    × HasFailed s.err)
 
 -- A run was broken off, and no sink failed.
 abbrev pub IsRunBroken : Run → Streams → Type 0
@@ -257,7 +264,8 @@ Aborts call = (text : List ℕ) × HasRun call (how.Abort text)
 -- A sink failed: a front of what is due stands there, or of what the program writes, or of its line.
 abbrev pub LosesSink : Call → Type 0
 LosesSink call =
-    ((due : Due) × MayOwe call due × IsCut due call.streams) ⊎ ComesToRun call (λ run. IsRunCut run call.streams)
+    ((due : Due) × MayOwe call due × IsCut due call.streams)
+    ⊎ ComesToRun call (λ run. IsRunCut run call.streams)
 
 -- Memory ran out: nothing was written, or a run was broken off.
 abbrev pub LacksMemory : Call → Type 0

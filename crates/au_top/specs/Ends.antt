@@ -18,7 +18,8 @@ use Rattle.au_top.specs.Calls.{Call, ComesToRun, FailsBehind, HasPaid, IsCut, Is
 use Rattle.au_top.specs.Calls.{IsUntouched, MayOwe, ShelfFailed, ShelfMissedNone, ShelfNeverFailed}
 use Rattle.au_top.specs.Dues.{Arises, Due, due_line, due_of}
 use Rattle.au_top.specs.Runs.{IsTold, Run, run_status}
-use Rattle.au_top.specs.Streams.{AreQuiet, Gains, GainsFront, HasFailed, HasStayed, NeverFailed, Stream, Streams}
+use Rattle.au_top.specs.Streams.{AreQuiet, Gains, GainsFront, HasFailed, HasStayed, NeverFailed}
+use Rattle.au_top.specs.Streams.{Stream, Streams}
 use Rattle.au_top.specs.declared.saying.AnswerFault.{AnswerFault}
 use Rattle.au_top.specs.declared.saying.AnswerFault.TheVariants as answer
 

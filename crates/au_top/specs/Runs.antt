@@ -79,8 +79,8 @@ line_of run ran = run_line (entry_of run) run.steps ran
 
 -- ---- what it has done
 
--- The rules of typing derive the program of a run with some notes, and of it with these P holds, from the entry
--- with this module and this name on.
+-- The rules of typing derive the program of a run with some notes, and of it with these P holds, from the
+-- entry with this module and this name on.
 pub record FromEntry (run : Run) (P : List ModuleParts → List NotedParts → (owner name : Bytes) → Type 0)
     : Type 0 where
   pub noted : List NotedParts

@@ -4,8 +4,8 @@ use Rattle.au_base.specs.Outside.{Adds, AddsFront, HasRisen}
 use Rattle.au_base.specs.declared.outside.Sink as sink
 use Rattle.au_base.specs.declared.outside.Source as source
 
--- what is told of a stream before a call and behind it: the bytes that are left of an input, or that stand on a
--- sink, where they are told, and how often it has failed
+-- what is told of a stream before a call and behind it: the bytes that are left of an input, or that stand on
+-- a sink, where they are told, and how often it has failed
 pub record Stream : Type 0 where
   pub old : Option (List ℕ)
   pub new : Option (List ℕ)

@@ -24,7 +24,8 @@ use std::alloc::Global;
 
 /// Does what the words ask for, with files from `shelf`, and writes to `out` and `err`. A program that is run
 /// reads `input` and writes to `out`.
-/// `words` are those of the command line behind the program's own name.
+/// `words` are those of the command line behind the program's own name. What is promised of the call stands
+/// in `specs/Promises.antt`, clause by clause.
 pub fn austral<S: Shelf, I: Source, O: Sink, E: Sink>(
     alloc: Global,
     words: &[String],

@@ -13,7 +13,8 @@ pub returns-in-NoJob-clause-pays : goal.returns-in-NoJob-clause-pays
 returns-in-NoJob-clause-pays g c =
     let s : Streams = streams g.I.Source g.O.Sink g.E.Sink c.args.input.now c.args.input.now c.args.out.now
     c.args.out.now c.args.err.now c.say.new.err in
-    let said = said_pays c.say.result Words words_line s (refl, refl) c.say.ensures.ok c.say.ensures.written in
+    let said = said_pays c.say.result Words words_line s (refl, refl) c.say.ensures.ok
+    c.say.ensures.written in
     subst (λ (o : Option Due). IfSome o (λ due. IfOk c.say.result (λ e. Pays due e s)))
     (sym (ap (due_of (map string_bytes c.args.asked.now.files.items)) c.in-NoJob.is)) said
 
