@@ -35,6 +35,7 @@ use Rattle.au_top.specs.Calls.{HasPassed, HasSucceeded, IsMissingSo, IsRefusedSo
 use Rattle.au_top.specs.Dues.{Arises, Asks, Due, IsAcceptedJob, IsCheck, IsExplain, IsRun, IsUnread, Owes}
 use Rattle.au_top.specs.Dues.{due_of}
 use Rattle.au_top.specs.Jobs.{asked_by, asked_of}
+use Rattle.au_top.specs.Streams.{Streams}
 
 -- ---- jobs
 
@@ -171,10 +172,10 @@ is_owed status.Words = true
 is_owed other = false
 
 -- for an outcome that was paid, and the status of the call
-module _ (names : List (List ℕ)) (ends : Status) (out out' err err' : Option (List ℕ)) where
+module _ (names : List (List ℕ)) (ends : Status) (s : Streams) where
   -- What is due for an outcome was paid.
   abbrev pub IsPaidFor : Outcome → Type 0
-  IsPaidFor arisen = IsSomeAnd (due_of names arisen) (λ due. Pays due ends out out' err err')
+  IsPaidFor arisen = IsSomeAnd (due_of names arisen) (λ due. Pays due ends s)
 
   pub paid_ends : (arisen : Outcome) → IsPaidFor arisen → is_owed ends ≡ true
   paid_ends outcome.NoJob h = ap is_owed h.status
@@ -193,7 +194,7 @@ module _ (names : List (List ℕ)) (ends : Status) (out out' err err' : Option (
 
   -- the line of a refusal was paid for a program that is refused
   pub refused_so : (arisen : Outcome) → is_outcome arisen ≡ true → IsPaidFor arisen → ends ≡ status.Refused
-      → IsRefusedSo err err' names arisen
+      → IsRefusedSo s names arisen
   refused_so outcome.NoJob good h is = absurd
       (let e : status.Words ≡ status.Refused = sym h.status ∙ is in cc)
   refused_so (outcome.Missing name) good h is = absurd
@@ -209,7 +210,7 @@ module _ (names : List (List ℕ)) (ends : Status) (out out' err err' : Option (
 
   -- the line of a limit was paid for a limit that is passed
   pub passed_so : (arisen : Outcome) → IsPaidFor arisen → ends ≡ status.Limit
-      → HasPassed err err' names arisen
+      → HasPassed s names arisen
   passed_so outcome.NoJob h is = absurd (let e : status.Words ≡ status.Limit = sym h.status ∙ is in cc)
   passed_so (outcome.Missing name) h is = absurd
       (let e : status.Missing ≡ status.Limit = sym h.status ∙ is in cc)
@@ -223,7 +224,7 @@ module _ (names : List (List ℕ)) (ends : Status) (out out' err err' : Option (
 
   -- the line of a missing file was paid for a file that is missing
   pub missing_so : (arisen : Outcome) → IsPaidFor arisen → ends ≡ status.Missing
-      → IsMissingSo err err' names arisen
+      → IsMissingSo s names arisen
   missing_so outcome.NoJob h is = absurd (let e : status.Words ≡ status.Missing = sym h.status ∙ is in cc)
   missing_so (outcome.Missing name) h is = (name, refl, h.err_bytes)
   missing_so (outcome.Passes limit) h is = absurd
@@ -238,7 +239,7 @@ module _ (names : List (List ℕ)) (ends : Status) (out out' err err' : Option (
 
   -- success was paid for files that are accepted or explained
   pub succeeded_so : (arisen : Outcome) → IsPaidFor arisen → ends ≡ status.Success
-      → HasSucceeded out out' names arisen
+      → HasSucceeded s names arisen
   succeeded_so outcome.NoJob h is = absurd (let e : status.Words ≡ status.Success = sym h.status ∙ is in cc)
   succeeded_so (outcome.Missing name) h is = absurd
       (let e : status.Missing ≡ status.Success = sym h.status ∙ is in cc)
@@ -272,8 +273,8 @@ module _ (names : List (List ℕ)) (ends : Status) (out out' err err' : Option (
   unfolding JobComes
   no_job_so words files arisen arises h none = elim (is_arisen words files names arisen arises) [
     | inl p ↦
-        let paid : Pays _ ends out out' err err' =
-        subst (λ o. IsSomeAnd (due_of names o) (λ due. Pays due ends out out' err err')) p.1 h in
+        let paid : Pays _ ends s =
+        subst (λ o. IsSomeAnd (due_of names o) (λ due. Pays due ends s)) p.1 h in
         paid.status
     | inr p ↦ absurd (none p.0 p.1)
   ]
@@ -304,12 +305,12 @@ module _ (names : List (List ℕ)) (ends : Status) (out out' err err' : Option (
       → (ends ≡ status.Refused) ⊎ (ends ≡ status.Limit)
   halt_so arisen paid h = elim h [
     | inl p ↦
-        let one : Pays _ ends out out' err err' =
-        subst (λ o. IsSomeAnd (due_of names o) (λ due. Pays due ends out out' err err')) p.1 paid in
+        let one : Pays _ ends s =
+        subst (λ o. IsSomeAnd (due_of names o) (λ due. Pays due ends s)) p.1 paid in
         inl one.status
     | inr p ↦
-        let one : Pays _ ends out out' err err' =
-        subst (λ o. IsSomeAnd (due_of names o) (λ due. Pays due ends out out' err err')) p.1 paid in
+        let one : Pays _ ends s =
+        subst (λ o. IsSomeAnd (due_of names o) (λ due. Pays due ends s)) p.1 paid in
         inr one.status
   ]
 

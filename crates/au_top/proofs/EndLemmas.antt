@@ -1,40 +1,39 @@
 -- What the ways in which a call ends say.
-use Rattle.std.proofs.Common.{◌≡◌, ◌↔◌, ℕ, true, false, List, Option, None, Some}
+use Rattle.std.proofs.Common.{◌≡◌, ◌↔◌, ℕ, true, false, List, Option, Some}
 use Rattle.std.proofs.Common.{ap, ◌∙◌, sym, refl, subst, ◌⊎◌, inl, inr}
 use Rattle.std.specs.Prelude.{IsSomeAnd}
-use Rattle.au_base.specs.declared.names.Entry.{Entry}
 use Rattle.au_base.specs.declared.statuses.Status.{Status}
 use Rattle.au_base.specs.declared.statuses.Status.TheVariants as status
 use Rattle.au_base.specs.Outside.{Counts, Files, HasRisen}
 use Rattle.au_words.specs.Jobs.{Task, IsJob, IsNoJob}
-use Rattle.au_modules.specs.Programs.{ModuleParts}
 use Rattle.au_modules.specs.Slots as slots
 use Rattle.au_refusals.specs.Lines.{read_fault_line}
+use Rattle.au_rules.specs.Good.{AllDeclarationsAreGood}
 use Rattle.au_runs.specs.Calls.{Rose}
 use Rattle.au_running.specs.Ran.{is_read_fault}
 use Rattle.au_running.specs.declared.ran.Ran.{Ran}
 use Rattle.au_running.specs.declared.ran.Ran.TheVariants as how
-use Rattle.au_unbuilt.specs.Unbuilt.{unbuilt_of}
 use Rattle.au_outcomes.specs.Accepted.{Accepted, AreAcceptedAs}
 use Rattle.au_outcomes.specs.Halts.{AreTold}
 use Rattle.au_outcomes.specs.Outcomes.{Comes}
-use Rattle.au_outcomes.specs.Programs.{program_modules, read_lives}
+use Rattle.au_outcomes.specs.Programs.{read_lives}
 use Rattle.au_outcomes.specs.Trees.{ReadFile}
 use Rattle.au_outcomes.specs.declared.outcomes.Aim.TheVariants as aims
 use Rattle.au_outcomes.specs.declared.outcomes.Outcome.{Outcome}
 use Rattle.au_outcomes.specs.declared.outcomes.Outcome.TheVariants as outcome
 use Rattle.au_outcomes.proofs.AcceptedLemmas.{not_both}
-use Rattle.au_top.specs.Calls.{CameTo, FailsBehind, GoesBehind, HasProgram, IsCut, IsDone, IsMissingSo}
-use Rattle.au_top.specs.Calls.{IsPaid}
-use Rattle.au_top.specs.Calls.{IsRefused, IsRunBroken, IsRunCut, IsUntouched, MayOwe, PassesLimit, Pays}
-use Rattle.au_top.specs.Calls.{RunsAs}
-use Rattle.au_top.specs.Calls.{RunsSo, RunsTo, Succeeds, is_decided}
+use Rattle.au_top.specs.Calls.{Aborts, Call, CameTo, ComesToRun, GoesBehind, HasEndedAsRun, HasPaid}
+use Rattle.au_top.specs.Calls.{HasProgram, HasRun, IsDecided, IsDone, IsPaid, IsRefused, LacksMemory}
+use Rattle.au_top.specs.Calls.{LosesSink, LosesSource, MissesFile, PassesLimit, ShelfMissedNone}
+use Rattle.au_top.specs.Calls.{ShelfNeverFailed, Succeeds, Tells, is_decided}
 use Rattle.au_top.specs.Dues.{Arises, Due, IsAcceptedJob, IsCheck, IsExplain, IsRun, IsUnread, Owes}
 use Rattle.au_top.specs.Dues.{accepted_due, due_line, due_of, explained_due}
-use Rattle.au_top.specs.Ends.{HasEnded, HasPaid, IsRunWhole, Streams}
+use Rattle.au_top.specs.Ends.{HasEnded, HasPaidAll, IsRunWhole}
+use Rattle.au_top.specs.Entered.{IsToRun}
 use Rattle.au_top.specs.Jobs.{asked_by}
-use Rattle.au_top.specs.Runs.{HasRunAs, RanSo, run_status}
-use Rattle.au_top.specs.Shown.{IsShown}
+use Rattle.au_top.specs.Runs.{EndsAsRun, IsTold, Run, run_of, run_status}
+use Rattle.au_top.specs.Shown.{IsAsMeant}
+use Rattle.au_top.specs.Streams.{AreQuiet, HasFailed, HasStayed, NeverFailed}
 use Rattle.au_top.proofs.ArisesLemmas.{arises_outcome}
 use Rattle.au_top.proofs.DueLemmas as due
 use Rattle.au_top.proofs.RunLemmas as run
@@ -46,9 +45,9 @@ pub told_same : (told : Option Files) (known files : Files) → told ≡ Some fi
 told_same told known files is are = subst (λ t. AreTold t known) is are
 
 -- something else of the same run
-run_with : {P Q : Option Entry → ℕ → List ModuleParts → Type 0} (words : List (List ℕ)) (told : Option Files)
-    (r : RunsSo words told P) → Q r.task.entry r.task.steps (slots.modules r.program) → RunsSo words told Q
-run_with words told r q = record {
+run_with : {P Q : Run → Type 0} (call : Call) (r : ComesToRun call P)
+    → Q (run_of r.task (slots.modules r.program)) → ComesToRun call Q
+run_with call r q = record {
   files = r.files;
   are_told = r.are_told;
   task = r.task;
@@ -59,49 +58,48 @@ run_with words told r q = record {
 }
 
 -- the files of a run that are told came to the program that ran
-pub run_comes : {P : Option Entry → ℕ → List ModuleParts → Type 0} (words : List (List ℕ))
-    (told : Option Files) (files : Files) (task : Task) → told ≡ Some files → IsRun words task
-    → (r : RunsSo words told P) → Comes aims.Run files task.files (outcome.Runs r.program)
-run_comes words told files task is job r =
-    let one : r.task ≡ task = one_job words r.task task r.job.0 job.0 in
+pub run_comes : {P : Run → Type 0} (call : Call) (files : Files) (task : Task) → Tells call files
+    → IsRun call.words task → (r : ComesToRun call P)
+    → Comes aims.Run files task.files (outcome.Runs r.program)
+run_comes call files task is job r =
+    let one : r.task ≡ task = one_job call.words r.task task r.job.0 job.0 in
     subst (λ f. Comes aims.Run f task.files (outcome.Runs r.program))
-    (told_same told r.files files is r.are_told)
+    (told_same call.shelf.files r.files files is r.are_told)
     (subst (λ (t : Task). Comes aims.Run r.files t.files (outcome.Runs r.program)) one r.comes)
 
--- for words, the files that are told, the counts of the shelf's faults and misses, the status and the streams
-module _ (words : List (List ℕ)) (told : Option Files) (faults faults' misses misses' : ℕ) (ends : Status)
-    (s : Streams) where
+-- for a call
+module _ (call : Call) where
   -- what they owe was paid
   abbrev pub Paid : Type 0
-  Paid = HasPaid words told faults faults' misses misses' ends s
+  Paid = HasPaidAll call
 
   -- a program ran, and no sink failed
   abbrev pub Whole : Type 0
-  Whole = RunsSo words told (IsRunWhole ends s)
+  Whole = ComesToRun call (IsRunWhole call.status call.streams)
 
   -- how the call ended
   abbrev pub Ending : Type 0
-  Ending = HasEnded words told faults faults' misses misses' ends s
+  Ending = HasEnded call
 
   -- what was due for an outcome was paid
   abbrev pub PaidFor : Due → Type 0
-  PaidFor one = Pays one ends s.out s.out' s.err s.err'
+  PaidFor one = HasPaid call one
 
   -- words and files decided how it ended
-  pub decided : Ending → is_decided ends ≡ true → Paid ⊎ (Whole × (faults' ≡ faults) × (misses' ≡ misses))
+  pub decided : Ending → IsDecided call → Paid ⊎ (Whole × ShelfNeverFailed call × ShelfMissedNone call)
   decided h good = elim h [
     | inl p ↦ inl p
     | inr others ↦ elim others [
-      | inl p ↦ not_both (is_decided ends) good (ap is_decided p.ended)
+      | inl p ↦ not_both (is_decided call.status) good (ap is_decided p.ended)
       | inr others ↦ elim others [
-        | inl p ↦ not_both (is_decided ends) good (ap is_decided p.ended)
+        | inl p ↦ not_both (is_decided call.status) good (ap is_decided p.ended)
         | inr others ↦ elim others [
-          | inl p ↦ not_both (is_decided ends) good (ap is_decided p.pays.status)
+          | inl p ↦ not_both (is_decided call.status) good (ap is_decided p.pays.status)
           | inr p ↦ elim p.runs.run [
-            | inl w ↦ inr (run_with words told p.runs w, p.read, p.missed)
+            | inl w ↦ inr (run_with call p.runs w, p.read, p.missed)
             | inr broken ↦ elim broken [
-              | inl c ↦ not_both (is_decided ends) good (ap is_decided c.0)
-              | inr c ↦ not_both (is_decided ends) good (ap is_decided c.0)
+              | inl c ↦ not_both (is_decided call.status) good (ap is_decided c.0)
+              | inr c ↦ not_both (is_decided call.status) good (ap is_decided c.0)
             ]
           ]
         ]
@@ -111,61 +109,59 @@ module _ (words : List (List ℕ)) (told : Option Files) (faults faults' misses 
 
   -- ---- of what was paid
 
-  paid_done : Paid → IsPaid words told faults faults' ends s.out s.out' s.err s.err'
+  paid_done : Paid → IsPaid call
   paid_done p =
       let one = due.some_due (due_of p.names p.arisen) PaidFor p.pays in
       (one.0, inl (p.files, p.are_told, (p.names, p.arisen, p.arises, one.1)), one.2)
 
   -- words and files came to an outcome, of which this holds
-  paid_came : (P : List (List ℕ) → Outcome → Type 0) (p : Paid) → P p.names p.arisen → CameTo words told P
+  paid_came : (P : List (List ℕ) → Outcome → Type 0) (p : Paid) → P p.names p.arisen → CameTo call P
   paid_came P p holds = (p.files, p.are_told, p.names, p.arisen, p.arises, holds)
 
   -- the same of the files that are told
-  pub paid_arises : (files : Files) → told ≡ Some files → (p : Paid) → Arises words files p.names p.arisen
+  pub paid_arises : (files : Files) → Tells call files → (p : Paid) → Arises call.words files p.names p.arisen
   paid_arises files is p =
-      subst (λ f. Arises words f p.names p.arisen) (told_same told p.files files is p.are_told) p.arises
+      subst (λ f. Arises call.words f p.names p.arisen)
+      (told_same call.shelf.files p.files files is p.are_told) p.arises
 
   -- no other status is paid
-  paid_not : {T : Type 0} (other : Status) → Paid → due.is_owed other ≡ false → ends ≡ other → T
+  paid_not : {T : Type 0} (other : Status) → Paid → due.is_owed other ≡ false → call.status ≡ other → T
   paid_not other p none is =
-      due.not_paid p.names ends s.out s.out' s.err s.err' p.arisen other p.pays none is
+      due.not_paid p.names call.status call.streams p.arisen other p.pays none is
 
   -- ---- of a program that ran
 
   -- the files that are told came to it
-  whole_arises : (files : Files) → told ≡ Some files → (r : Whole)
-      → Arises words files r.task.files (outcome.Runs r.program)
+  whole_arises : (files : Files) → Tells call files → (r : Whole)
+      → Arises call.words files r.task.files (outcome.Runs r.program)
   whole_arises files is r =
-      subst (λ f. Arises words f r.task.files (outcome.Runs r.program))
-      (told_same told r.files files is r.are_told)
-      (due.run_arises words r.files r.task r.program r.job r.comes)
+      subst (λ f. Arises call.words f r.task.files (outcome.Runs r.program))
+      (told_same call.shelf.files r.files files is r.are_told)
+      (due.run_arises call.words r.files r.task r.program r.job r.comes)
 
-  whole_as : Whole → RunsAs words told ends s.left s.left' s.out s.out' s.err s.err'
+  whole_as : Whole → HasEndedAsRun call
   whole_as r =
-      run_with words told r (record { ran = r.run.ran; status = r.run.status; done = r.run.done })
+      run_with call r (record { ran = r.run.ran; status = r.run.status; done = r.run.done })
 
-  pub whole_to : (r : Whole) (ran : Ran) → r.run.ran ≡ ran
-      → RunsTo words told ran s.left s.left' s.out s.out' s.err s.err'
+  pub whole_to : (r : Whole) (ran : Ran) → r.run.ran ≡ ran → HasRun call ran
   whole_to r ran is =
-      run_with words told r
-      (subst (λ one. RanSo r.task.entry r.task.steps
-      (slots.modules r.program) one s.left s.left' s.out s.out' s.err
-      s.err') is r.run.done)
+      run_with call r
+      (subst (λ one. IsTold (run_of r.task (slots.modules r.program)) call.streams one) is r.run.done)
 
   -- its status is one of a run
-  whole_not : {T : Type 0} (other : Status) → Whole → run.is_run other ≡ false → ends ≡ other → T
+  whole_not : {T : Type 0} (other : Status) → Whole → run.is_run other ≡ false → call.status ≡ other → T
   whole_not other r none is =
-      not_both (run.is_run ends) (ap run.is_run r.run.status ∙ run.ran_ends r.run.ran)
+      not_both (run.is_run call.status) (ap run.is_run r.run.status ∙ run.ran_ends r.run.ran)
       (ap run.is_run is ∙ none)
 
   -- how it ran, by the status
-  whole_status : (r : Whole) (other : Status) → ends ≡ other → run_status r.run.ran ≡ other
+  whole_status : (r : Whole) (other : Status) → call.status ≡ other → run_status r.run.ran ≡ other
   whole_status r other is = sym r.run.status ∙ is
 
   -- ---- what is due
 
-  pub ended_done : Ending → (ends ≡ status.WriteFault → ⊥) → (ends ≡ status.Memory → ⊥)
-      → IsDone words told faults faults' ends s.left s.left' s.out s.out' s.err s.err'
+  pub ended_done : Ending → (call.status ≡ status.WriteFault → ⊥) → (call.status ≡ status.Memory → ⊥)
+      → IsDone call
   ended_done h no_write no_memory = elim h [
     | inl p ↦ inl (paid_done p)
     | inr others ↦ elim others [
@@ -175,7 +171,7 @@ module _ (words : List (List ℕ)) (told : Option Files) (faults faults' misses 
         | inr others ↦ elim others [
           | inl p ↦ inl (due_line status.ReadFault read_fault_line, inr (p.risen, refl), p.pays)
           | inr p ↦ elim p.runs.run [
-            | inl w ↦ inr (whole_as (run_with words told p.runs w))
+            | inl w ↦ inr (whole_as (run_with call p.runs w))
             | inr broken ↦ elim broken [
               | inl c ↦ absurd (no_write c.0)
               | inr c ↦ absurd (no_memory c.0)
@@ -186,76 +182,77 @@ module _ (words : List (List ℕ)) (told : Option Files) (faults faults' misses 
     ]
   ]
 
-  pub ended_only : Ending → (files : Files) (one : Due) → told ≡ Some files → Owes words files one
-      → is_decided ends ≡ true → PaidFor one
+  pub ended_only : Ending → (files : Files) (one : Due) → Tells call files → Owes call.words files one
+      → IsDecided call → PaidFor one
   ended_only h files one is owes good = elim (decided h good) [
-    | inl p ↦ due.paid_owed words files p.names p.arisen one PaidFor (paid_arises files is p) p.pays owes
-    | inr r ↦ absurd (due.run_owes words files one r.0.task.files r.0.program
+    | inl p ↦ due.paid_owed call.words files p.names p.arisen one PaidFor (paid_arises files is p) p.pays owes
+    | inr r ↦ absurd (due.run_owes call.words files one r.0.task.files r.0.program
         (whole_arises files is r.0) owes)
   ]
 
-  pub ended_unread : Ending → (files : Files) → told ≡ Some files → IsUnread words files
-      → is_decided ends ≡ true
-      → (ends ≡ status.Refused) ⊎ (ends ≡ status.Limit)
+  pub ended_unread : Ending → (files : Files) → Tells call files → IsUnread call.words files
+      → IsDecided call
+      → (call.status ≡ status.Refused) ⊎ (call.status ≡ status.Limit)
   ended_unread h files is unread good = elim (decided h good) [
     | inl p ↦
-        due.halt_so p.names ends s.out s.out' s.err s.err' p.arisen p.pays
-        (due.unread_halts words files p.names p.arisen unread (paid_arises files is p))
+        due.halt_so p.names call.status call.streams p.arisen p.pays
+        (due.unread_halts call.words files p.names p.arisen unread (paid_arises files is p))
     | inr r ↦
         absurd (due.run_halts r.0.program
-        (due.unread_halts words files r.0.task.files (outcome.Runs r.0.program) unread
+        (due.unread_halts call.words files r.0.task.files (outcome.Runs r.0.program) unread
         (whole_arises files is r.0)))
   ]
 
   -- ---- accepted files
 
   -- Nothing is refused by the steps that judge whether files are accepted exactly where they are.
-  pub ended_accepted : Ending → (files : Files) → told ≡ Some files → is_decided ends ≡ true
-      → IsAcceptedJob words files ↔ GoesBehind words told ends s.left s.left' s.out s.out' s.err s.err'
+  pub ended_accepted : Ending → (files : Files) → Tells call files → IsDecided call
+      → IsAcceptedJob call.words files ↔ GoesBehind call
   ended_accepted h files is good = (
     λ accepted. elim (decided h good) [
       | inl p ↦
           inl (paid_came _ p
-          (due.arises_behind words files p.names p.arisen accepted (paid_arises files is p), p.pays))
+          (due.arises_behind call.words files p.names p.arisen accepted (paid_arises files is p), p.pays))
       | inr r ↦ inr (whole_as r.0)
     ],
     λ behind. elim behind [
       | inl c ↦
-          subst (IsAcceptedJob words) (told_same told c.0 files is c.1)
-          (due.arises_accepted words c.0 c.2 c.3 c.4 c.5.0)
+          subst (IsAcceptedJob call.words) (told_same call.shelf.files c.0 files is c.1)
+          (due.arises_accepted call.words c.0 c.2 c.3 c.4 c.5.0)
       | inr r ↦
-          subst (IsAcceptedJob words) (told_same told r.files files is r.are_told)
-          (due.arises_accepted words r.files r.task.files (outcome.Runs r.program)
-          (due.run_arises words r.files r.task r.program r.job r.comes) refl)
+          subst (IsAcceptedJob call.words) (told_same call.shelf.files r.files files is r.are_told)
+          (due.arises_accepted call.words r.files r.task.files (outcome.Runs r.program)
+          (due.run_arises call.words r.files r.task r.program r.job r.comes) refl)
     ],
   )
 
   -- Files that are checked are told to be accepted exactly where they are.
-  pub ended_checked : Ending → (files : Files) (task : Task) → told ≡ Some files → IsCheck words task
-      → is_decided ends ≡ true → Accepted files task.files ↔ PaidFor accepted_due
+  pub ended_checked : Ending → (files : Files) (task : Task) → Tells call files → IsCheck call.words task
+      → IsDecided call → Accepted files task.files ↔ PaidFor accepted_due
   ended_checked h files task is check good = (
     λ accepted.
-        let asked : IsAcceptedJob words files =
+        let asked : IsAcceptedJob call.words files =
         (task, aims.Check, check.0, ap (asked_by task) check.1, accepted) in
         elim (decided h good) [
           | inl p ↦
               let arises = paid_arises files is p in
-              let past = due.arises_behind words files p.names p.arisen asked arises in
+              let past = due.arises_behind call.words files p.names p.arisen asked arises in
               subst (λ o. IsSomeAnd (due_of p.names o) PaidFor)
-              (due.check_accepted words files p.names p.arisen task check arises past) p.pays
+              (due.check_accepted call.words files p.names p.arisen task check arises past) p.pays
           | inr r ↦
-              let said = due.check_accepted words files r.0.task.files (outcome.Runs r.0.program) task check
+              let said = due.check_accepted call.words files r.0.task.files (outcome.Runs r.0.program) task
+              check
               (whole_arises files is r.0) refl in
               absurd (let e : outcome.Runs r.0.program ≡ outcome.Accepted = said in cc)
         ],
     λ pays. elim (decided h good) [
       | inl p ↦
-          let past = due.success_behind p.names ends s.out s.out' s.err s.err' p.arisen p.pays pays.status in
-          due.task_accepted words files task check.0
-          (due.arises_accepted words files p.names p.arisen (paid_arises files is p) past)
+          let past = due.success_behind p.names call.status call.streams p.arisen p.pays pays.status in
+          due.task_accepted call.words files task check.0
+          (due.arises_accepted call.words files p.names p.arisen (paid_arises files is p) past)
       | inr r ↦
-          due.task_accepted words files task check.0
-          (due.arises_accepted words files r.0.task.files (outcome.Runs r.0.program)
+          due.task_accepted call.words files task check.0
+          (due.arises_accepted call.words files r.0.task.files (outcome.Runs r.0.program)
           (whole_arises files is r.0)
           refl)
     ],
@@ -263,36 +260,38 @@ module _ (words : List (List ℕ)) (told : Option Files) (faults faults' misses 
 
   -- The lives of the variables of files that are explained and accepted are told.
   pub ended_explained : Ending → (files : Files) (task : Task) (all : List (List ℕ)) (reads : List ReadFile)
-      → told ≡ Some files → IsExplain words task → is_decided ends ≡ true
+      → Tells call files → IsExplain call.words task → IsDecided call
       → AreAcceptedAs files task.files all reads → PaidFor (explained_due (read_lives reads))
   ended_explained h files task all reads is job good accepted = elim (decided h good) [
     | inl p ↦
         subst (λ o. IsSomeAnd (due_of p.names o) PaidFor)
-        (due.explain_tells words files p.names all p.arisen task reads job
+        (due.explain_tells call.words files p.names all p.arisen task reads job
         (paid_arises files is p) accepted) p.pays
     | inr r ↦
-        let told_so = due.explain_tells words files r.0.task.files all
+        let told_so = due.explain_tells call.words files r.0.task.files all
         (outcome.Runs r.0.program) task reads job (whole_arises files is r.0) accepted in
         absurd (let e : outcome.Runs r.0.program ≡ outcome.Explained (read_lives reads) = told_so in cc)
   ]
 
   -- what ended with success, or ran, is accepted
-  ran_accepted : (files : Files) (task : Task) → told ≡ Some files → IsJob words task → Whole
+  ran_accepted : (files : Files) (task : Task) → Tells call files → IsJob call.words task → Whole
       → Accepted files task.files
   ran_accepted files task is job r =
-      due.task_accepted words files task job
-      (due.arises_accepted words files r.task.files (outcome.Runs r.program) (whole_arises files is r) refl)
+      due.task_accepted call.words files task job
+      (due.arises_accepted call.words files r.task.files (outcome.Runs r.program) (whole_arises files is r)
+      refl)
 
-  succeeded_accepted : (files : Files) (task : Task) → told ≡ Some files → IsJob words task → Paid
-      → ends ≡ status.Success → Accepted files task.files
+  succeeded_accepted : (files : Files) (task : Task) → Tells call files → IsJob call.words task → Paid
+      → call.status ≡ status.Success → Accepted files task.files
   succeeded_accepted files task is job p succeeds =
-      let past = due.success_behind p.names ends s.out s.out' s.err s.err' p.arisen p.pays succeeds in
-      due.task_accepted words files task job
-      (due.arises_accepted words files p.names p.arisen (paid_arises files is p) past)
+      let past = due.success_behind p.names call.status call.streams p.arisen p.pays succeeds in
+      due.task_accepted call.words files task job
+      (due.arises_accepted call.words files p.names p.arisen (paid_arises files is p) past)
 
   -- Only files that are accepted are explained with success.
-  pub ended_explained_only : Ending → (files : Files) (task : Task) → told ≡ Some files → IsExplain words task
-      → ends ≡ status.Success → Accepted files task.files
+  pub ended_explained_only : Ending → (files : Files) (task : Task) → Tells call files
+      → IsExplain call.words task
+      → call.status ≡ status.Success → Accepted files task.files
   ended_explained_only h files task is job succeeds = elim (decided h (ap is_decided succeeds)) [
     | inl p ↦ succeeded_accepted files task is job.0 p succeeds
     | inr r ↦ ran_accepted files task is job.0 r.0
@@ -301,102 +300,94 @@ module _ (words : List (List ℕ)) (told : Option Files) (faults faults' misses 
   -- ---- runs
 
   -- The program of accepted files in which all is built ran.
-  pub ended_runs : Ending → (files : Files) (task : Task) (all : List (List ℕ)) (reads : List ReadFile)
-      → told ≡ Some files → IsRun words task → is_decided ends ≡ true
-      → AreAcceptedAs files task.files all reads → unbuilt_of (program_modules reads) ≡ None
-      → HasRunAs task.entry task.steps (program_modules reads) ends s.left s.left' s.out s.out' s.err s.err'
+  pub ended_runs : Ending → (files : Files) (task : Task) → Tells call files → IsRun call.words task
+      → IsDecided call → (run : Run) → IsToRun files task run → EndsAsRun run call.streams call.status
   unfolding whole_as run_with
-  ended_runs h files task all reads is job good accepted none = elim (decided h good) [
+  ended_runs h files task is job good run to = elim (decided h good) [
     | inl p ↦
-        absurd (due.run_unpaid words files p.names all p.arisen task reads PaidFor job accepted none
-        (paid_arises files is p) p.pays)
+        absurd (due.run_unpaid call.words files p.names to.all p.arisen task to.reads PaidFor job to.accepted
+        to.built (paid_arises files is p) p.pays)
     | inr r ↦
-        let one : r.0.task ≡ task = one_job words r.0.task task r.0.job.0 job.0 in
+        let one : r.0.task ≡ task = one_job call.words r.0.task task r.0.job.0 job.0 in
         let whole = whole_as r.0 in
         let of_task =
-        subst (λ (t : Task). HasRunAs t.entry t.steps
-        (slots.modules r.0.program) ends s.left s.left' s.out s.out'
-        s.err s.err') one whole.run in
-        let comes = run_comes words told files task is job r.0 in
-        subst (λ program. HasRunAs task.entry task.steps program ends s.left s.left' s.out s.out' s.err
-        s.err')
-        (due.run_modules files task.files all reads r.0.program accepted comes) of_task
+        subst (λ (t : Task). EndsAsRun (run_of t (slots.modules r.0.program)) call.streams call.status) one
+        whole.run in
+        let comes = run_comes call files task is job r.0 in
+        let of_files =
+        subst (λ program. EndsAsRun (run_of task program) call.streams call.status)
+        (due.run_modules files task.files to.all to.reads r.0.program to.accepted comes) of_task in
+        subst (λ (one : Run). EndsAsRun one call.streams call.status) (sym to.is_run) of_files
   ]
 
   -- What is seen of it is what it means.
-  pub ended_shown : Ending → (files : Files) (task : Task) (all : List (List ℕ)) (reads : List ReadFile)
-      → told ≡ Some files → IsRun words task → is_decided ends ≡ true
-      → AreAcceptedAs files task.files all reads → unbuilt_of (program_modules reads) ≡ None
-      → IsShown task.entry task.steps (program_modules reads) ends s.left s.left' s.out s.out' s.err s.err'
-  ended_shown h files task all reads is job good accepted none =
-      run.run_shown task.entry task.steps (program_modules reads) accepted.declared ends s.left s.left' s.out
-      s.out'
-      s.err s.err' (ended_runs h files task all reads is job good accepted none)
+  pub ended_shown : Ending → (files : Files) (task : Task) → Tells call files → IsRun call.words task
+      → IsDecided call → (one : Run) → IsToRun files task one → IsAsMeant one call.streams call.status
+  ended_shown h files task is job good one to =
+      run.run_shown one call.streams
+      (subst (λ (it : Run). AllDeclarationsAreGood it.program) (sym to.is_run) to.accepted.declared)
+      call.status
+      (ended_runs h files task is job good one to)
 
   -- ---- by the status
 
-  pub ended_words : Ending → ends ≡ status.Words → IsNoJob words
+  pub ended_words : Ending → call.status ≡ status.Words → IsNoJob call.words
   ended_words h is = elim (decided h (ap is_decided is)) [
     | inl p ↦
-        due.words_so p.names ends s.out s.out' s.err s.err' words p.files p.arisen p.arises p.pays is
+        due.words_so p.names call.status call.streams call.words p.files p.arisen p.arises p.pays is
     | inr r ↦ whole_not status.Words r.0 refl is
   ]
 
-  pub ended_no_job : Ending → IsNoJob words → is_decided ends ≡ true → ends ≡ status.Words
+  pub ended_no_job : Ending → IsNoJob call.words → IsDecided call → call.status ≡ status.Words
   ended_no_job h none good = elim (decided h good) [
     | inl p ↦
-        due.no_job_so p.names ends s.out s.out' s.err s.err' words p.files p.arisen p.arises p.pays none
+        due.no_job_so p.names call.status call.streams call.words p.files p.arisen p.arises p.pays none
     | inr r ↦ absurd (none r.0.task r.0.job.0)
   ]
 
-  pub ended_refused : Ending → ends ≡ status.Refused
-      → IsRefused words told s.left s.left' s.out s.out' s.err s.err'
+  pub ended_refused : Ending → call.status ≡ status.Refused → IsRefused call
   ended_refused h is = elim (decided h (ap is_decided is)) [
     | inl p ↦
-        inl (paid_came _ p (due.refused_so p.names ends s.out s.out' s.err s.err' p.arisen
-        (arises_outcome words p.files p.names p.arisen p.arises) p.pays is))
+        inl (paid_came _ p (due.refused_so p.names call.status call.streams p.arisen
+        (arises_outcome call.words p.files p.names p.arisen p.arises) p.pays is))
     | inr r ↦ elim (run.refused_ran r.0.run.ran (whole_status r.0 status.Refused is)) [
       | inl e ↦ inr (inl (whole_to r.0 how.NoEntry e))
       | inr e ↦ inr (inr (whole_to r.0 how.Stuck e))
     ]
   ]
 
-  pub ended_limit : Ending → ends ≡ status.Limit
-      → PassesLimit words told s.left s.left' s.out s.out' s.err s.err'
+  pub ended_limit : Ending → call.status ≡ status.Limit → PassesLimit call
   ended_limit h is = elim (decided h (ap is_decided is)) [
     | inl p ↦
-        inl (paid_came _ p (due.passed_so p.names ends s.out s.out' s.err s.err' p.arisen p.pays is))
+        inl (paid_came _ p (due.passed_so p.names call.status call.streams p.arisen p.pays is))
     | inr r ↦
         let passed = run.limit_ran r.0.run.ran (whole_status r.0 status.Limit is) in
         inr (passed.0, whole_to r.0 (how.Limit passed.0) passed.1)
   ]
 
-  pub ended_missing_file : Ending → ends ≡ status.Missing → CameTo words told (IsMissingSo s.err s.err')
+  pub ended_missing_file : Ending → call.status ≡ status.Missing → MissesFile call
   ended_missing_file h is = elim (decided h (ap is_decided is)) [
-    | inl p ↦ paid_came _ p (due.missing_so p.names ends s.out s.out' s.err s.err' p.arisen p.pays is)
+    | inl p ↦ paid_came _ p (due.missing_so p.names call.status call.streams p.arisen p.pays is)
     | inr r ↦ whole_not status.Missing r.0 refl is
   ]
 
-  pub ended_success : Ending → ends ≡ status.Success
-      → Succeeds words told s.left s.left' s.out s.out' s.err s.err'
+  pub ended_success : Ending → call.status ≡ status.Success → Succeeds call
   ended_success h is = elim (decided h (ap is_decided is)) [
     | inl p ↦
-        inl (paid_came _ p (due.succeeded_so p.names ends s.out s.out' s.err s.err' p.arisen p.pays is))
+        inl (paid_came _ p (due.succeeded_so p.names call.status call.streams p.arisen p.pays is))
     | inr r ↦
         inr (whole_to r.0 (how.Exit true) (run.exit_ran true r.0.run.ran
         (whole_status r.0 status.Success is)))
   ]
 
-  pub ended_failure : Ending → ends ≡ status.Failure
-      → RunsTo words told (how.Exit false) s.left s.left' s.out s.out' s.err s.err'
+  pub ended_failure : Ending → call.status ≡ status.Failure → HasRun call (how.Exit false)
   ended_failure h is = elim (decided h (ap is_decided is)) [
     | inl p ↦ paid_not status.Failure p refl is
     | inr r ↦
         whole_to r.0 (how.Exit false) (run.exit_ran false r.0.run.ran (whole_status r.0 status.Failure is))
   ]
 
-  pub ended_abort : Ending → ends ≡ status.Abort
-      → (text : List ℕ) × RunsTo words told (how.Abort text) s.left s.left' s.out s.out' s.err s.err'
+  pub ended_abort : Ending → call.status ≡ status.Abort → Aborts call
   ended_abort h is = elim (decided h (ap is_decided is)) [
     | inl p ↦ paid_not status.Abort p refl is
     | inr r ↦
@@ -404,19 +395,13 @@ module _ (words : List (List ℕ)) (told : Option Files) (faults faults' misses 
         (why.0, whole_to r.0 (how.Abort why.0) why.1)
   ]
 
-  pub ended_steps : Ending → ends ≡ status.Steps
-      → RunsTo words told how.Steps s.left s.left' s.out s.out' s.err s.err'
+  pub ended_steps : Ending → call.status ≡ status.Steps → HasRun call how.Steps
   ended_steps h is = elim (decided h (ap is_decided is)) [
     | inl p ↦ paid_not status.Steps p refl is
     | inr r ↦ whole_to r.0 how.Steps (run.steps_ran r.0.run.ran (whole_status r.0 status.Steps is))
   ]
 
-  pub ended_write : Ending → ends ≡ status.WriteFault
-      → ((one : Due) × MayOwe words told faults faults' one
-      × IsCut one s.out s.out' s.err s.err' s.faults s.faults' s.errors s.errors')
-      ⊎ RunsSo words told (λ named steps program. IsRunCut named steps program s.left s.left' s.out s.out'
-      s.err
-      s.err' s.faults s.faults' s.errors s.errors')
+  pub ended_write : Ending → call.status ≡ status.WriteFault → LosesSink call
   ended_write h is = elim h [
     | inl p ↦ paid_not status.WriteFault p refl is
     | inr others ↦ elim others [
@@ -428,7 +413,7 @@ module _ (words : List (List ℕ)) (told : Option Files) (faults faults' misses 
           | inr p ↦ elim p.runs.run [
             | inl w ↦ absurd (run.unwritten_ran w.ran w.written (sym w.status ∙ is))
             | inr broken ↦ elim broken [
-              | inl c ↦ inr (run_with words told p.runs c.1)
+              | inl c ↦ inr (run_with call p.runs c.1)
               | inr c ↦ absurd (let e = sym c.0 ∙ is in cc)
             ]
           ]
@@ -437,11 +422,8 @@ module _ (words : List (List ℕ)) (told : Option Files) (faults faults' misses 
     ]
   ]
 
-  pub ended_memory : Ending → ends ≡ status.Memory
-      → IsUntouched s.out s.out' s.err s.err' s.faults s.faults' s.errors s.errors'
-      ⊎ RunsSo words told (λ named steps program. IsRunBroken named steps program s.left s.out s.out' s.err
-      s.err'
-      s.faults s.faults' s.errors s.errors')
+  pub ended_memory : Ending → call.status ≡ status.Memory
+      → LacksMemory call
   ended_memory h is = elim h [
     | inl p ↦ paid_not status.Memory p refl is
     | inr others ↦ elim others [
@@ -451,12 +433,12 @@ module _ (words : List (List ℕ)) (told : Option Files) (faults faults' misses 
         | inr others ↦ elim others [
           | inl p ↦ absurd (let e : status.ReadFault ≡ status.Memory = sym p.pays.status ∙ is in cc)
           | inr p ↦ elim p.runs.run [
-            | inl w ↦ whole_not status.Memory (run_with words told p.runs w) refl is
+            | inl w ↦ whole_not status.Memory (run_with call p.runs w) refl is
             | inr broken ↦ elim broken [
               | inl c ↦ absurd (let e = sym c.0 ∙ is in cc)
               | inr c ↦ elim c.1 [
                 | inl none ↦ inl none
-                | inr stopped ↦ inr (run_with words told p.runs stopped)
+                | inr stopped ↦ inr (run_with call p.runs stopped)
               ]
             ]
           ]
@@ -466,19 +448,17 @@ module _ (words : List (List ℕ)) (told : Option Files) (faults faults' misses 
   ]
 
   -- the input failed while a program ran
-  whole_read : (r : Whole) → ends ≡ status.ReadFault
-      → RunsTo words told how.ReadFault s.left s.left' s.out s.out' s.err s.err' × HasRisen s.lapses s.lapses'
+  whole_read : (r : Whole) → call.status ≡ status.ReadFault
+      → HasRun call how.ReadFault × HasFailed call.streams.input
   whole_read r is =
       let failed = run.read_ran r.run.ran (whole_status r status.ReadFault is) in (
         whole_to r how.ReadFault failed,
-        subst (λ one. Rose (is_read_fault one) s.lapses s.lapses') failed r.run.rose,
+        subst (λ one. Rose (is_read_fault one) call.streams.input.old_faults call.streams.input.new_faults)
+            failed r.run.rose,
       )
 
-  pub ended_read : Ending → ends ≡ status.ReadFault
-      → ((FailsBehind words told × HasRisen faults faults')
-      ⊎ (RunsTo words told how.ReadFault s.left s.left' s.out s.out' s.err s.err'
-      × HasRisen s.lapses s.lapses'))
-      × (s.faults' ≡ s.faults) × (s.errors' ≡ s.errors)
+  pub ended_read : Ending → call.status ≡ status.ReadFault
+      → LosesSource call × AreQuiet call.streams
   ended_read h is = elim h [
     | inl p ↦ paid_not status.ReadFault p refl is
     | inr others ↦ elim others [
@@ -486,9 +466,9 @@ module _ (words : List (List ℕ)) (told : Option Files) (faults faults' misses 
       | inr others ↦ elim others [
         | inl p ↦ absurd (let e = sym p.ended ∙ is in cc)
         | inr others ↦ elim others [
-          | inl p ↦ (inl (p.behind, p.risen), p.quiet.0, p.quiet.1)
+          | inl p ↦ (inl (p.behind, p.risen), p.quiet)
           | inr p ↦ elim p.runs.run [
-            | inl w ↦ (inr (whole_read (run_with words told p.runs w) is), w.quiet.0, w.quiet.1)
+            | inl w ↦ (inr (whole_read (run_with call p.runs w) is), w.quiet)
             | inr broken ↦ elim broken [
               | inl c ↦ absurd (let e = sym c.0 ∙ is in cc)
               | inr c ↦ absurd (let e = sym c.0 ∙ is in cc)
@@ -501,48 +481,47 @@ module _ (words : List (List ℕ)) (told : Option Files) (faults faults' misses 
 
   -- ---- counts, and the input
 
-  pub ended_missing : Ending → ends ≡ status.Missing → HasRisen misses misses'
+  pub ended_missing : Ending → call.status ≡ status.Missing → HasRisen call.shelf.old_misses
+      call.shelf.new_misses
   ended_missing h is = elim (decided h (ap is_decided is)) [
     | inl p ↦
-        let missed = due.missing_is p.names ends s.out s.out' s.err s.err' p.arisen p.pays is in
-        (subst (λ b. Counts b misses misses') missed p.missed).1
+        let missed = due.missing_is p.names call.status call.streams p.arisen p.pays is in
+        (subst (λ b. Counts b call.shelf.old_misses call.shelf.new_misses) missed p.missed).1
     | inr r ↦ whole_not status.Missing r.0 refl is
   ]
 
-  pub ended_no_miss : Ending → is_decided ends ≡ true → (ends ≡ status.Missing → ⊥) → misses' ≡ misses
+  pub ended_no_miss : Ending → IsDecided call → (call.status ≡ status.Missing → ⊥) → ShelfMissedNone call
   ended_no_miss h good other = elim (decided h good) [
     | inl p ↦
-        let had = due.missing_no p.names ends s.out s.out' s.err s.err' p.arisen p.pays other in
-        (subst (λ b. Counts b misses misses') had p.missed).1
+        let had = due.missing_no p.names call.status call.streams p.arisen p.pays other in
+        (subst (λ b. Counts b call.shelf.old_misses call.shelf.new_misses) had p.missed).1
     | inr r ↦ r.2
   ]
 
-  pub ended_quiet : Ending → is_decided ends ≡ true
-      → (faults' ≡ faults) × (s.lapses' ≡ s.lapses) × (s.faults' ≡ s.faults) × (s.errors' ≡ s.errors)
+  pub ended_quiet : Ending → IsDecided call
+      → ShelfNeverFailed call × NeverFailed call.streams.input × AreQuiet call.streams
   ended_quiet h good = elim (decided h good) [
-    | inl p ↦ (p.read, p.kept.1, p.quiet.0, p.quiet.1)
+    | inl p ↦ (p.read, p.kept.1, p.quiet)
     | inr r ↦
         let read = run.decided_read r.0.run.ran (sym (ap is_decided r.0.run.status) ∙ good) in (
           r.1,
-          subst (λ b. Rose b s.lapses s.lapses') read r.0.run.rose,
-          r.0.run.quiet.0,
-          r.0.run.quiet.1,
+          subst (λ b. Rose b call.streams.input.old_faults call.streams.input.new_faults) read r.0.run.rose,
+          r.0.run.quiet,
         )
   ]
 
   -- what a program ran that is to run
-  runs_program : {P : Option Entry → ℕ → List ModuleParts → Type 0} → RunsSo words told P
-      → HasProgram words told
+  runs_program : {P : Run → Type 0} → ComesToRun call P → HasProgram call
   runs_program r = (
     r.files,
     r.are_told,
     r.task.files,
     outcome.Runs r.program,
-    due.run_arises words r.files r.task r.program r.job r.comes,
+    due.run_arises call.words r.files r.task r.program r.job r.comes,
     (r.program, refl),
   )
 
-  pub ended_input : Ending → ((s.left' ≡ s.left) × (s.lapses' ≡ s.lapses)) ⊎ HasProgram words told
+  pub ended_input : Ending → HasStayed call.streams.input ⊎ HasProgram call
   ended_input h = elim h [
     | inl p ↦ inl p.kept
     | inr others ↦ elim others [

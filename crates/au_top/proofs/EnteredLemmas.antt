@@ -1,7 +1,6 @@
 -- Which runs are entered, by the ways in which a call ends.
 use Rattle.std.proofs.Common.{◌≡◌, ◌↔◌, ℕ, true, false, List, Option, Some}
 use Rattle.std.proofs.Common.{ap, ◌∙◌, sym, refl, subst, ◌⊎◌, inl, inr}
-use Rattle.au_base.specs.declared.names.Entry.{Entry}
 use Rattle.au_base.specs.declared.statuses.Status.{Status}
 use Rattle.au_base.specs.declared.statuses.Status.TheVariants as status
 use Rattle.au_base.specs.Outside.{Files}
@@ -23,11 +22,14 @@ use Rattle.au_outcomes.specs.declared.outcomes.Aim.TheVariants as aims
 use Rattle.au_outcomes.specs.declared.outcomes.Outcome.{Outcome}
 use Rattle.au_outcomes.specs.declared.outcomes.Outcome.TheVariants as outcome
 use Rattle.au_outcomes.proofs.AcceptedLemmas.{behind_accepted, comes_asked}
-use Rattle.au_top.specs.Calls.{HasSucceeded, RunsSo, RunsTo, is_decided, is_run_end}
-use Rattle.au_top.specs.Dues.{Arises, IsRun}
-use Rattle.au_top.specs.Ends.{HasEnded, HasPaid, IsRunWhole, Streams}
+use Rattle.au_top.specs.Calls.{Call, ComesToRun, HasRun, HasSucceeded, IsDecided, IsRunEnd, ShelfMissedNone}
+use Rattle.au_top.specs.Calls.{ShelfNeverFailed, Tells, is_decided, is_run_end}
+use Rattle.au_top.specs.Dues.{Arises, AsksForNoFile, AsksForTooMany, IsRun}
+use Rattle.au_top.specs.Ends.{HasEnded, HasPaidAll, IsRunWhole}
 use Rattle.au_top.specs.Entered.{CanRun, HasEntry}
-use Rattle.au_top.specs.Runs.{run_status}
+use Rattle.au_top.specs.Promises.{FilePromises, Promises, RunPromises}
+use Rattle.au_top.specs.Runs.{Run, run_status}
+use Rattle.au_top.specs.Streams.{Streams}
 use Rattle.au_top.proofs.DueLemmas as due
 use Rattle.au_top.proofs.EndLemmas as of
 
@@ -138,9 +140,9 @@ none_behind files names arisen other same behind none comes =
 
 -- The files of a run come neither to that they are accepted nor to the lives of their variables.
 run_succeeds : (words : List (List ℕ)) (files : Files) (names : List (List ℕ)) (arisen : Outcome)
-    (task : Task) (out out' : Option (List ℕ)) → IsRun words task → Arises words files names arisen
-    → HasSucceeded out out' names arisen → ⊥
-run_succeeds words files names arisen task out out' job arises succeeded =
+    (task : Task) (s : Streams) → IsRun words task → Arises words files names arisen
+    → HasSucceeded s names arisen → ⊥
+run_succeeds words files names arisen task s job arises succeeded =
     let comes =
     due.task_comes words files names arisen task aims.Run job.0 (due.run_asks words task job) arises in
     elim succeeded [
@@ -148,16 +150,16 @@ run_succeeds words files names arisen task out out' job arises succeeded =
       | inr p ↦ none_behind files task.files arisen (outcome.Explained p.0) p.1 refl (λ reads h. h) comes
     ]
 
--- for words of a run and its files, which are told
-module _ (words : List (List ℕ)) (told : Option Files) (files : Files) (task : Task)
-    (is : told ≡ Some files) (job : IsRun words task) where
+-- for a call whose words are a run, and its files, which are told
+module _ (call : Call) (files : Files) (task : Task) (is : Tells call files)
+    (job : IsRun call.words task) where
   -- a program that ran can run, where it has its entry
-  ran_can : {P : Option Entry → ℕ → List ModuleParts → Type 0} (r : RunsSo words told P)
+  ran_can : {P : Run → Type 0} (r : ComesToRun call P)
       → ((noted : List NotedParts) → HasEntry r.task.entry (slots.modules r.program) noted)
       → CanRun files task
   ran_can r has =
-      let one : r.task ≡ task = one_job words r.task task r.job.0 job.0 in
-      let comes = of.run_comes words told files task is job r in
+      let one : r.task ≡ task = one_job call.words r.task task r.job.0 job.0 in
+      let comes = of.run_comes call files task is job r in
       let good : Accepted files task.files =
       behind_accepted aims.Run files task.files (outcome.Runs r.program) comes refl in
       let run : RunComes good.1 (outcome.Runs r.program) =
@@ -174,104 +176,99 @@ module _ (words : List (List ℕ)) (told : Option Files) (files : Files) (task :
       }
 
   -- the entry of a program that can run is that of what ran
-  can_ran : {P : Option Entry → ℕ → List ModuleParts → Type 0} (r : RunsSo words told P)
-      → (can : CanRun files task)
+  can_ran : {P : Run → Type 0} (r : ComesToRun call P) → (can : CanRun files task)
       → HasEntry r.task.entry (slots.modules r.program) can.accepted.noted
   can_ran r can =
-      let one : r.task ≡ task = one_job words r.task task r.job.0 job.0 in
+      let one : r.task ≡ task = one_job call.words r.task task r.job.0 job.0 in
       let same = due.run_modules files task.files can.all can.reads r.program can.accepted
-      (of.run_comes words told files task is job r) in
+      (of.run_comes call files task is job r) in
       subst (λ program. HasEntry r.task.entry program can.accepted.noted) (sym same)
       (subst (λ (t : Task). HasEntry t.entry (program_modules can.reads) can.accepted.noted) (sym one)
       can.entry)
 
   -- a program can run that ran to an end of its own, or is stuck
-  whole_can : (ends : Status) (s : Streams) → RunsSo words told (IsRunWhole ends s)
-      → is_run_end ends ≡ true → CanRun files task
-  whole_can ends s r end =
-      let done = r.run.done.run in
-      ran_can r (λ noted. end_entry (slots.modules r.program) done.noted _ _ r.task.steps r.run.ran s.left
-      s.left' s.out s.out' (sym (ap is_run_end r.run.status) ∙ end) done.done)
+  whole_can : ComesToRun call (IsRunWhole call.status call.streams) → IsRunEnd call → CanRun files task
+  whole_can r end =
+      let runs = r.run.done.runs in
+      ran_can r (λ noted. end_entry (slots.modules r.program) runs.noted _ _ r.task.steps r.run.ran
+      call.streams.input.old call.streams.input.new call.streams.out.old call.streams.out.new
+      (sym (ap is_run_end r.run.status) ∙ end) runs.done)
 
-  stuck_can : (left left' out out' err err' : Option (List ℕ))
-      → RunsTo words told how.Stuck left left' out out' err err' → CanRun files task
-  stuck_can left left' out out' err err' r =
-      ran_can r (λ noted. stuck_entry (slots.modules r.program) r.run.run.noted _ _ r.task.steps left left'
-      out out' r.run.run.done)
+  stuck_can : HasRun call how.Stuck → CanRun files task
+  stuck_can r =
+      ran_can r (λ noted. stuck_entry (slots.modules r.program) r.run.runs.noted _ _ r.task.steps
+      call.streams.input.old call.streams.input.new call.streams.out.old call.streams.out.new r.run.runs.done)
 
 -- ---- by the ways in which a call ends
 
--- for words, the files that are told, the counts of the shelf's faults and misses, the status and the streams
-module _ (words : List (List ℕ)) (told : Option Files) (faults faults' misses misses' : ℕ) (ends : Status)
-    (s : Streams) where
+module _ (call : Call) where
   -- how the call ended
   abbrev pub Ending : Type 0
-  Ending = HasEnded words told faults faults' misses misses' ends s
+  Ending = HasEnded call
 
   -- a run is stuck
   abbrev pub IsStuck : Type 0
-  IsStuck = RunsTo words told how.Stuck s.left s.left' s.out s.out' s.err s.err'
+  IsStuck = HasRun call how.Stuck
 
   -- no line is paid for it that it succeeded
-  paid_run : {T : Type 0} (files : Files) (task : Task) → told ≡ Some files → IsRun words task
-      → (p : HasPaid words told faults faults' misses misses' ends s) → is_run_end ends ≡ true → T
+  paid_run : {T : Type 0} (files : Files) (task : Task) → Tells call files → IsRun call.words task
+      → (p : HasPaidAll call) → IsRunEnd call → T
   paid_run files task is job p end =
-      let success = run_end_success ends end
-      (due.paid_ends p.names ends s.out s.out' s.err s.err' p.arisen p.pays) in
-      absurd (run_succeeds words files p.names p.arisen task s.out s.out' job
-      (of.paid_arises words told faults faults' misses misses' ends s files is p)
-      (due.succeeded_so p.names ends s.out s.out' s.err s.err' p.arisen p.pays success))
+      let success = run_end_success call.status end
+      (due.paid_ends p.names call.status call.streams p.arisen p.pays) in
+      absurd (run_succeeds call.words files p.names p.arisen task call.streams job
+      (of.paid_arises call files is p)
+      (due.succeeded_so p.names call.status call.streams p.arisen p.pays success))
 
   -- A run ends so only where its program can run.
-  pub ended_runs_only : Ending → (files : Files) (task : Task) → told ≡ Some files → IsRun words task
-      → is_run_end ends ≡ true → CanRun files task
+  pub ended_runs_only : Ending → (files : Files) (task : Task) → Tells call files
+      → IsRun call.words task → IsRunEnd call → CanRun files task
   ended_runs_only h files task is job end =
-      elim (of.decided words told faults faults' misses misses' ends s h (run_end_decided ends end)) [
+      elim (of.decided call h (run_end_decided call.status end)) [
         | inl p ↦ paid_run files task is job p end
-        | inr r ↦ whole_can words told files task is job ends s r.0 end
+        | inr r ↦ whole_can call files task is job r.0 end
       ]
 
   -- a program that can run, and ran, ended so or is stuck
-  whole_enters : (files : Files) (task : Task) → told ≡ Some files → IsRun words task
-      → is_decided ends ≡ true → (ends ≡ status.Limit → ⊥) → CanRun files task
-      → RunsSo words told (IsRunWhole ends s)
-      → (is_run_end ends ≡ true) ⊎ IsStuck
+  whole_enters : (files : Files) (task : Task) → Tells call files → IsRun call.words task
+      → IsDecided call → (call.status ≡ status.Limit → ⊥) → CanRun files task
+      → ComesToRun call (IsRunWhole call.status call.streams) → IsRunEnd call ⊎ IsStuck
   whole_enters files task is job good no_limit can r =
-      let done = r.run.done.run in
-      let entry = can_ran words told files task is job r can in
-      elim (entry_ends (slots.modules r.program) done.noted _ _ r.task.steps r.run.ran s.left s.left'
-      s.out s.out' (sym (ap is_decided r.run.status) ∙ good) (λ limit. no_limit (r.run.status ∙ limit))
-      done.done entry) [
+      let runs = r.run.done.runs in
+      let entry = can_ran call files task is job r can in
+      elim (entry_ends (slots.modules r.program) runs.noted _ _ r.task.steps r.run.ran call.streams.input.old
+      call.streams.input.new call.streams.out.old call.streams.out.new
+      (sym (ap is_decided r.run.status) ∙ good) (λ limit. no_limit (r.run.status ∙ limit)) runs.done entry) [
         | inl end ↦ inl (ap is_run_end r.run.status ∙ end)
-        | inr stuck ↦ inr (of.whole_to words told faults faults' misses misses' ends s r how.Stuck stuck)
+        | inr stuck ↦ inr (of.whole_to call r how.Stuck stuck)
       ]
 
   -- A run ends so, or is stuck, exactly where its program can run, unless a limit is passed.
-  pub ended_entered : Ending → (files : Files) (task : Task) → told ≡ Some files → IsRun words task
-      → is_decided ends ≡ true → (ends ≡ status.Limit → ⊥)
-      → CanRun files task ↔ ((is_run_end ends ≡ true) ⊎ IsStuck)
+  pub ended_entered : Ending → (files : Files) (task : Task) → Tells call files
+      → IsRun call.words task → IsDecided call → (call.status ≡ status.Limit → ⊥)
+      → CanRun files task ↔ (IsRunEnd call ⊎ IsStuck)
   ended_entered h files task is job good no_limit = (
-    λ can. elim (of.decided words told faults faults' misses misses' ends s h good) [
+    λ can. elim (of.decided call h good) [
       | inl p ↦
-          absurd (due.run_unpaid words files p.names can.all p.arisen task can.reads
-          (of.PaidFor words told faults faults' misses misses' ends s) job can.accepted can.built
-          (of.paid_arises words told faults faults' misses misses' ends s files is p) p.pays)
+          absurd (due.run_unpaid call.words files p.names can.all p.arisen task can.reads (of.PaidFor call)
+          job
+          can.accepted can.built (of.paid_arises call files is p) p.pays)
       | inr r ↦ whole_enters files task is job good no_limit can r.0
     ],
     λ entered. elim entered [
       | inl end ↦ ended_runs_only h files task is job end
-      | inr stuck ↦ stuck_can words told files task is job s.left s.left' s.out s.out' s.err s.err' stuck
+      | inr stuck ↦ stuck_can call files task is job stuck
     ],
   )
 
   -- It is refused, and isn't stuck, exactly where its program can't, unless a file is missing besides.
-  pub ended_not_entered : Ending → (files : Files) (task : Task) → told ≡ Some files → IsRun words task
-      → is_decided ends ≡ true → (ends ≡ status.Limit → ⊥) → (ends ≡ status.Missing → ⊥)
-      → (CanRun files task → ⊥) ↔ ((ends ≡ status.Refused) × (IsStuck → ⊥))
+  pub ended_not_entered : Ending → (files : Files) (task : Task) → Tells call files
+      → IsRun call.words task → IsDecided call → (call.status ≡ status.Limit → ⊥)
+      → (call.status ≡ status.Missing → ⊥)
+      → (CanRun files task → ⊥) ↔ ((call.status ≡ status.Refused) × (IsStuck → ⊥))
   ended_not_entered h files task is job good no_limit no_missing = (
     λ cannot. (
-      refused_else ends good no_limit no_missing
-          (λ none. of.ended_words words told faults faults' misses misses' ends s h none task job.0)
+      refused_else call.status good no_limit no_missing (λ none. of.ended_words call h none task job.0)
           (λ end. cannot (ended_runs_only h files task is job end)),
       λ stuck. cannot ((ended_entered h files task is job good no_limit).1 (inr stuck)),
     ),
@@ -280,3 +277,57 @@ module _ (words : List (List ℕ)) (told : Option Files) (faults faults' misses 
       | inr stuck ↦ refused.1 stuck
     ],
   )
+
+  -- ---- what is promised of the call
+
+  run_promises : Ending → (files : Files) → Tells call files → (task : Task) → IsRun call.words task
+      → RunPromises call files task
+  run_promises h files is task job = record {
+    runs = λ good run to. of.ended_runs call h files task is job good run to;
+    shown = λ good run to. of.ended_shown call h files task is job good run to;
+    runs_only = λ end. ended_runs_only h files task is job end;
+    entered = λ good no_limit. ended_entered h files task is job good no_limit;
+    not_entered = λ good no_limit no_missing. ended_not_entered h files task is job good no_limit no_missing;
+  }
+
+  file_promises : Ending → (files : Files) → Tells call files → FilePromises call files
+  file_promises h files is = record {
+    only = λ due owes good. of.ended_only call h files due is owes good;
+    unread = λ unread good. of.ended_unread call h files is unread good;
+    accepted = λ good. of.ended_accepted call h files is good;
+    checked = λ task check good. of.ended_checked call h files task is check good;
+    explained =
+        λ task all reads job good accepted. of.ended_explained call h files task all reads is job good
+        accepted;
+    explained_only = λ task job succeeds. of.ended_explained_only call h files task is job succeeds;
+    run = run_promises h files is;
+  }
+
+  -- A call that ended in one of these ways is as it is promised, where its shelf rests when it is to, and
+  -- tells the same files.
+  pub promised : Ending → (AsksForNoFile call.words → ShelfNeverFailed call × ShelfMissedNone call)
+      → (AsksForTooMany call.words → ShelfNeverFailed call × ShelfMissedNone call)
+      → call.shelf.new_files ≡ call.shelf.files → Promises call
+  promised h idle crowded files = record {
+    due = of.ended_done call h;
+    told = file_promises h;
+    words = of.ended_words call h;
+    no_job = of.ended_no_job call h;
+    refused = of.ended_refused call h;
+    limit = of.ended_limit call h;
+    missing_file = of.ended_missing_file call h;
+    success = of.ended_success call h;
+    failure = of.ended_failure call h;
+    abort = of.ended_abort call h;
+    steps = of.ended_steps call h;
+    write_fault = of.ended_write call h;
+    memory = of.ended_memory call h;
+    read_fault = of.ended_read call h;
+    missing = of.ended_missing call h;
+    quiet = of.ended_quiet call h;
+    no_miss = of.ended_no_miss call h;
+    idle = idle;
+    crowded = crowded;
+    input = of.ended_input call h;
+    files = files;
+  }

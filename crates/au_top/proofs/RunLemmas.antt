@@ -6,7 +6,6 @@ use Rattle.au_base.specs.declared.names.Entry.{Entry}
 use Rattle.au_base.specs.declared.limits.Limit.{Limit}
 use Rattle.au_base.specs.declared.statuses.Status.{Status}
 use Rattle.au_base.specs.declared.statuses.Status.TheVariants as status
-use Rattle.au_base.specs.Outside.{Adds, AddsFront, HasRisen}
 use Rattle.au_syntax.specs.Plain.{Bytes}
 use Rattle.au_modules.specs.Programs.{ModuleParts}
 use Rattle.au_derivations.specs.Trees.{NotedParts}
@@ -17,9 +16,11 @@ use Rattle.au_running.specs.Ran.{HasRunSo, IsBroken, RanAsMeant, is_read_fault, 
 use Rattle.au_running.specs.declared.ran.Ran.{Ran}
 use Rattle.au_running.specs.declared.ran.Ran.TheVariants as how
 use Rattle.au_top.specs.Calls.{is_decided}
-use Rattle.au_top.specs.Ends.{AreQuiet, IsRunStopped, RunAnswers, Streams}
-use Rattle.au_top.specs.Runs.{HasRan, HasRunAs, IsBrokenOff, RanSo, entry_for, run_line, run_status}
-use Rattle.au_top.specs.Shown.{HasShown, IsShown}
+use Rattle.au_top.specs.Ends.{IsRunStopped, RunAnswers}
+use Rattle.au_top.specs.Runs.{BreaksOff, EndsAsRun, FromEntry, IsTold, Run, Runs, entry_of, run_line}
+use Rattle.au_top.specs.Runs.{run_status}
+use Rattle.au_top.specs.Shown.{IsAsMeant, ShowsMeaning}
+use Rattle.au_top.specs.Streams.{AreQuiet, Gains, GainsFront, HasFailed, HasStayed, Streams}
 use Rattle.au_running.proofs.ShownLemmas.{as_meant, ran_broken}
 use Rattle.au_top.specs.declared.saying.AnswerFault.{AnswerFault}
 use Rattle.au_top.specs.declared.saying.AnswerFault.TheVariants as answer
@@ -172,181 +173,174 @@ module _ (program : List ModuleParts) (noted : List NotedParts) (owner name : By
   front_ran other told left out out' h =
       inr (ran_broken program noted owner name other steps told left out out' h)
 
--- for a program, the entry that is named if one is, and the most steps
-module _ (named : Option Entry) (steps : ℕ) (program : List ModuleParts) where
-  -- what a call did that ran the program from this entry
-  RanFrom : Entry → Ran → (told left out out' : Option (List ℕ)) → Type 0
-  RanFrom entry ran told left out out' =
-      (noted : List NotedParts) × IsDerived program noted
-      × HasRunSo program noted entry.«module» entry.function ran steps told left out out'
+-- for a run
+module _ (run : Run) where
+  -- this holds of its program with some notes from an entry on
+  From : (P : List ModuleParts → List NotedParts → (owner name : Bytes) → Type 0) → Entry → Type 0
+  From P entry =
+      (noted : List NotedParts) × IsDerived run.program noted
+      × P run.program noted entry.«module» entry.function
 
-  pub has_ran : (entry : Entry) (ran : Ran) (told left out out' : Option (List ℕ))
-      → entry ≡ entry_for named program
-      → ((noted : List NotedParts) × IsDerived program noted
-      × HasRunSo program noted entry.«module» entry.function ran steps told left out out')
-      → HasRan named steps program ran told left out out'
-  unfolding RanFrom
-  has_ran entry ran told left out out' is h =
-      let there = subst (λ e. RanFrom e ran told left out out') is h in
-      record { noted = there.0; derived = there.1; done = there.2 }
-
-  BrokenFrom : Entry → (told out out' : Option (List ℕ)) → Type 0
-  BrokenFrom entry told out out' =
-      (noted : List NotedParts) × IsDerived program noted
-      × IsBroken program noted entry.«module» entry.function steps told out out'
-
-  broken_off : (entry : Entry) (told out out' : Option (List ℕ)) → entry ≡ entry_for named program
-      → ((noted : List NotedParts) × IsDerived program noted
-      × IsBroken program noted entry.«module» entry.function steps told out out')
-      → IsBrokenOff named steps program told out out'
-  unfolding BrokenFrom
-  broken_off entry told out out' is h =
-      let there = subst (λ e. BrokenFrom e told out out') is h in
-      record { noted = there.0; derived = there.1; broken = there.2 }
+  -- so it does where that is its entry
+  pub from_entry : (P : List ModuleParts → List NotedParts → (owner name : Bytes) → Type 0) (entry : Entry)
+      → entry ≡ entry_of run
+      → ((noted : List NotedParts) × IsDerived run.program noted
+      × P run.program noted entry.«module» entry.function)
+      → FromEntry run P
+  unfolding From
+  from_entry P entry is h =
+      let there = subst (From P) is h in record { noted = there.0; derived = there.1; done = there.2 }
 
   -- ---- what a call answers
 
   module _ (s : Streams) where
-    -- nothing was done
-    pub idle_stopped : s.out' ≡ s.out → s.err' ≡ s.err → AreQuiet s → IsRunStopped s named steps program
-    idle_stopped out err quiet =
-        inl (record { out_bytes = out; err_bytes = err; out_quiet = quiet.0; err_quiet = quiet.1 })
+    -- a run from this entry was made
+    pub has_ran : (entry : Entry) (ran : Ran) → entry ≡ entry_of run
+        → ((noted : List NotedParts) × IsDerived run.program noted
+        × HasRunSo run.program noted entry.«module» entry.function ran run.steps s.input.old s.input.new
+        s.out.old
+        s.out.new)
+        → Runs run s ran
+    has_ran entry ran is h =
+        from_entry (λ program noted owner name. HasRunSo program noted owner name ran run.steps s.input.old
+        s.input.new s.out.old s.out.new) entry is h
 
-    stopped : IsBrokenOff named steps program s.left s.out s.out' → s.err' ≡ s.err → AreQuiet s
-        → IsRunStopped s named steps program
-    stopped broken err quiet =
-        inr (record { broken = broken; err_bytes = err; out_quiet = quiet.0; err_quiet = quiet.1 })
+    -- nothing was done
+    pub idle_stopped : s.out.new ≡ s.out.old → HasStayed s.err → s.out.new_faults ≡ s.out.old_faults
+        → IsRunStopped s run
+    idle_stopped same err quiet = inl (record { out = (same, quiet); err = err })
 
     -- memory ran out while the program ran
-    pub run_stopped : (entry : Entry) → entry ≡ entry_for named program
-        → ((s.left' ≡ s.left) × (s.out' ≡ s.out))
-        ⊎ ((noted : List NotedParts) × IsDerived program noted
-        × IsBroken program noted entry.«module» entry.function steps s.left s.out s.out')
-        → s.err' ≡ s.err → AreQuiet s → IsRunStopped s named steps program
+    pub run_stopped : (entry : Entry) → entry ≡ entry_of run
+        → ((s.input.new ≡ s.input.old) × (s.out.new ≡ s.out.old))
+        ⊎ ((noted : List NotedParts) × IsDerived run.program noted
+        × IsBroken run.program noted entry.«module» entry.function run.steps s.input.old s.out.old s.out.new)
+        → HasStayed s.err → s.out.new_faults ≡ s.out.old_faults → IsRunStopped s run
     run_stopped entry is h err quiet = elim h [
       | inl p ↦ idle_stopped p.1 err quiet
-      | inr p ↦ stopped (broken_off entry s.left s.out s.out' is p) err quiet
+      | inr p ↦
+          inr (record {
+            front =
+                from_entry (λ program noted owner name. IsBroken program noted owner name run.steps
+                s.input.old
+                s.out.old s.out.new) entry is p;
+            err = err;
+          }, quiet)
     ]
 
     -- memory ran out behind a run
-    ran_stopped : (ran : Ran) → HasRan named steps program ran s.left s.left' s.out s.out' → s.err' ≡ s.err
-        → AreQuiet s → IsRunStopped s named steps program
+    ran_stopped : (ran : Ran) → Runs run s ran → HasStayed s.err → s.out.new_faults ≡ s.out.old_faults
+        → IsRunStopped s run
     ran_stopped ran h err quiet =
-        elim (front_ran program h.noted _ _ steps ran s.left s.left' s.out s.out' h.done) [
+        elim (front_ran run.program h.noted _ _ run.steps ran s.input.old s.input.new s.out.old s.out.new
+        h.done) [
           | inl p ↦ idle_stopped p err quiet
-          | inr p ↦ stopped (record { noted = h.noted; derived = h.derived; broken = p }) err quiet
+          | inr p ↦
+              inr (record { front = record { noted = h.noted; derived = h.derived; done = p }; err = err },
+              quiet)
         ]
 
     -- a run that a failure of its sink broke off
-    pub run_cut : (ran : Ran) → is_write_fault ran ≡ true
-        → HasRan named steps program ran s.left s.left' s.out s.out'
-        → Rose (is_write_fault ran) s.faults s.faults' → s.err' ≡ s.err → s.errors' ≡ s.errors
-        → RunAnswers (Err answer.Write) s named steps program
-    run_cut ran is h rose err errors =
-        let there : HasRan named steps program how.WriteFault s.left s.left' s.out s.out' =
-        subst (λ r. HasRan named steps program r s.left s.left' s.out s.out') (written_is ran is) h in (
-        inl (
-          record {
-            noted = there.noted;
-            derived = there.derived;
-            broken =
-                ran_broken program there.noted _ _ how.WriteFault steps s.left s.left' s.out s.out'
-                there.done;
-          },
-          subst (λ b. Rose b s.faults s.faults') is rose,
-          err,
-          errors,
-        )
+    pub run_cut : (ran : Ran) → is_write_fault ran ≡ true → Runs run s ran
+        → Rose (is_write_fault ran) s.out.old_faults s.out.new_faults → HasStayed s.err
+        → RunAnswers (Err answer.Write) s run
+    run_cut ran is h rose err =
+        let there : Runs run s how.WriteFault = subst (Runs run s) (written_is ran is) h in (
+          inl (
+            record {
+              front =
+                  record {
+                    noted = there.noted;
+                    derived = there.derived;
+                    done =
+                        ran_broken run.program there.noted _ _ how.WriteFault run.steps s.input.old
+                        s.input.new
+                        s.out.old s.out.new there.done;
+                  };
+              err = err;
+            },
+            subst (λ b. Rose b s.out.old_faults s.out.new_faults) is rose,
+          )
         )
 
     -- a run that was made, and what was said of it
-    pub run_said : (r : Result Status AnswerFault) (entry : Entry) (ran : Ran)
-        → entry ≡ entry_for named program
-        → is_write_fault ran ≡ false
-        → HasRan named steps program ran s.left s.left' s.out s.out'
-        → Rose (is_read_fault ran) s.lapses s.lapses' → Rose (is_write_fault ran) s.faults s.faults'
+    pub run_said : (r : Result Status AnswerFault) (entry : Entry) (ran : Ran) → entry ≡ entry_of run
+        → is_write_fault ran ≡ false → Runs run s ran
+        → Rose (is_read_fault ran) s.input.old_faults s.input.new_faults
+        → Rose (is_write_fault ran) s.out.old_faults s.out.new_faults
         → IfOk r (λ ends. ends ≡ run_status ran)
-        → OnOk r (Adds s.err s.err' (run_line entry steps ran))
-        → OnOk r (s.errors' ≡ s.errors)
-        → (r ≡ Err answer.Write → AddsFront s.err s.err' (run_line entry steps ran))
-        → (r ≡ Err answer.Write → HasRisen s.errors s.errors')
-        → (r ≡ Err answer.Memory → (s.err' ≡ s.err) × (s.errors' ≡ s.errors))
-        → RunAnswers r s named steps program
+        → OnOk r (Gains s.err (run_line entry run.steps ran))
+        → OnOk r (s.err.new_faults ≡ s.err.old_faults)
+        → (r ≡ Err answer.Write → GainsFront s.err (run_line entry run.steps ran))
+        → (r ≡ Err answer.Write → HasFailed s.err)
+        → (r ≡ Err answer.Memory → HasStayed s.err)
+        → RunAnswers r s run
     run_said (Ok ends) entry ran is none h rose stays same adds errors front risen memory =
         record {
           ran = ran;
           status = same;
           written = none;
-          done = record { run = h; line = subst (λ e. Adds s.err s.err' (run_line e steps ran)) is adds };
+          done = record { runs = h; line = subst (λ e. Gains s.err (run_line e run.steps ran)) is adds };
           rose = rose;
-          quiet = (subst (λ b. Rose b s.faults s.faults') none stays, errors);
+          quiet = (subst (λ b. Rose b s.out.old_faults s.out.new_faults) none stays, errors);
         }
     run_said (Err answer.Write) entry ran is none h rose stays same adds errors front risen memory =
         inr (
           ran,
           h,
-          subst (λ e. AddsFront s.err s.err' (run_line e steps ran)) is (front refl),
-          subst
-              (λ b. Rose b s.faults s.faults') none stays,
+          subst (λ e. GainsFront s.err (run_line e run.steps ran)) is (front refl),
+          subst (λ b. Rose b s.out.old_faults s.out.new_faults) none stays,
           risen refl,
         )
     run_said (Err answer.Memory) entry ran is none h rose stays same adds errors front risen memory =
-        let kept = memory refl in
-        ran_stopped ran h kept.0 (subst (λ b. Rose b s.faults s.faults') none stays, kept.1)
+        ran_stopped ran h (memory refl) (subst (λ b. Rose b s.out.old_faults s.out.new_faults) none stays)
 
-  -- ---- what is shown
+    -- ---- what is shown
 
-  module _ (declared : AllDeclarationsAreGood program) where
-    shown_by : (noted : List NotedParts) → IsDerived program noted → (ran : Ran)
-        (told left out out' : Option (List ℕ))
-        → RanAsMeant program noted (entry_for named program).«module» (entry_for named program).function ran
-        steps told left out out'
-        → HasShown named steps program ran told left out out'
-    shown_by noted derived ran told left out out' done =
-        record { noted = noted; derived = derived; done = done }
+    module _ (declared : AllDeclarationsAreGood run.program) where
+      -- what ran whole shows what is meant
+      shown_by : (ran : Ran) (h : Runs run s ran)
+          → RanAsMeant run.program h.noted (entry_of run).«module» (entry_of run).function ran run.steps
+          s.input.old s.input.new s.out.old s.out.new
+          → ShowsMeaning run s ran
+      shown_by ran h done = record { noted = h.noted; derived = h.derived; done = done }
 
-    ran_shown : (ran : Ran) (told left out out' err err' : Option (List ℕ))
-        → RanSo named steps program ran told left out out' err err'
-        → IsShown named steps program (run_status ran) told left out out' err err'
-    ran_shown how.NoEntry told left out out' err err' h = tt
-    ran_shown (how.Limit limit) told left out out' err err' h = tt
-    ran_shown (how.Exit true) told left out out' err err' h =
-        let run = h.run.done in (
-          shown_by h.run.noted h.run.derived (how.Exit true) told left out out'
-              (as_meant program h.run.noted _ _ h.run.derived declared (how.Exit true) steps told left out out' run.0
-              run.1),
-          h.line,
-        )
-    ran_shown (how.Exit false) told left out out' err err' h =
-        let run = h.run.done in (
-          shown_by h.run.noted h.run.derived (how.Exit false) told left out out'
-              (as_meant program h.run.noted _ _ h.run.derived declared (how.Exit false) steps told left out out' run.0
-              run.1),
-          h.line,
-        )
-    ran_shown (how.Abort words) told left out out' err err' h =
-        let run = h.run.done in (
-          words,
-          shown_by h.run.noted h.run.derived (how.Abort words) told left out out'
-              (as_meant program h.run.noted _ _ h.run.derived declared (how.Abort words) steps told left out out'
-              run.0 run.1),
-          h.line,
-        )
-    ran_shown how.Steps told left out out' err err' h =
-        let run = h.run.done in (
-          shown_by h.run.noted h.run.derived how.Steps told left out out'
-              (as_meant program h.run.noted _ _ h.run.derived declared how.Steps steps told left out out' run.0
-              run.1),
-          h.line,
-        )
-    ran_shown how.Stuck told left out out' err err' h = tt
-    ran_shown how.ReadFault told left out out' err err' h = tt
-    ran_shown how.WriteFault told left out out' err err' h = tt
+      ran_shown : (ran : Ran) → IsTold run s ran → IsAsMeant run s (run_status ran)
+      ran_shown how.NoEntry h = tt
+      ran_shown (how.Limit limit) h = tt
+      ran_shown (how.Exit true) h =
+          let done = h.runs.done in (
+            shown_by (how.Exit true) h.runs
+                (as_meant run.program h.runs.noted _ _ h.runs.derived declared (how.Exit true) run.steps
+                s.input.old s.input.new s.out.old s.out.new done.0 done.1),
+            h.line,
+          )
+      ran_shown (how.Exit false) h =
+          let done = h.runs.done in (
+            shown_by (how.Exit false) h.runs
+                (as_meant run.program h.runs.noted _ _ h.runs.derived declared (how.Exit false) run.steps
+                s.input.old s.input.new s.out.old s.out.new done.0 done.1),
+            h.line,
+          )
+      ran_shown (how.Abort words) h =
+          let done = h.runs.done in (
+            words,
+            shown_by (how.Abort words) h.runs
+                (as_meant run.program h.runs.noted _ _ h.runs.derived declared (how.Abort words) run.steps
+                s.input.old s.input.new s.out.old s.out.new done.0 done.1),
+            h.line,
+          )
+      ran_shown how.Steps h =
+          let done = h.runs.done in (
+            shown_by how.Steps h.runs
+                (as_meant run.program h.runs.noted _ _ h.runs.derived declared how.Steps run.steps
+                s.input.old s.input.new s.out.old s.out.new done.0 done.1),
+            h.line,
+          )
+      ran_shown how.Stuck h = tt
+      ran_shown how.ReadFault h = tt
+      ran_shown how.WriteFault h = tt
 
-    -- What is seen of a run is what its program means.
-    pub run_shown : (ends : Status) (told left out out' err err' : Option (List ℕ))
-        → HasRunAs named steps program ends told left out out' err err'
-        → IsShown named steps program ends told left out out' err err'
-    run_shown ends told left out out' err err' h =
-        subst (λ e. IsShown named steps program e told left out out' err err') (sym h.status)
-        (ran_shown h.ran told left out out' err err' h.done)
+      -- What is seen of a run is what its program means.
+      pub run_shown : (ends : Status) → EndsAsRun run s ends → IsAsMeant run s ends
+      run_shown ends h = subst (IsAsMeant run s) (sym h.status) (ran_shown h.ran h.done)

@@ -1,54 +1,61 @@
 -- Lines that were said, and lives that were told, or were cut.
-use Rattle.std.proofs.Common.{◌≡◌, ℕ, List, Option, Result, Ok, Err, OnOk, OnErr, IfOk, IfErr, IsOkUnless}
-use Rattle.std.proofs.Common.{refl, inl, inr}
+use Rattle.std.proofs.Common.{◌≡◌, ℕ, List, [], Result, Ok, Err, OnOk, OnErr, IfOk, IfErr, IsOkUnless}
+use Rattle.std.proofs.Common.{refl, inl, inr, sym, subst}
 use Rattle.au_base.specs.declared.statuses.Status.{Status}
 use Rattle.au_base.specs.declared.statuses.Status.TheVariants as status
-use Rattle.au_base.specs.Outside.{Adds, AddsFront, HasRisen}
+use Rattle.au_base.specs.Outside.{Adds}
 use Rattle.au_explain.specs.Lines.{life_text}
 use Rattle.au_explain.specs.declared.lists.Lives.{Lives}
 use Rattle.au_top.specs.Calls.{Pays, Fails}
 use Rattle.au_top.specs.Dues.{due_line, explained_due}
+use Rattle.au_top.specs.Streams.{Gains, GainsFront, HasFailed, HasStayed, Stream, Streams}
 use Rattle.au_top.specs.declared.saying.AnswerFault.{AnswerFault}
 use Rattle.au_top.specs.declared.saying.AnswerFault.TheVariants as answer
 use Rattle.au_base.proofs.OutsideLemmas.{adds_none}
 
--- a line that was said, or was cut
-pub said_pays : (r : Result Status AnswerFault) (ends : Status) (text : List ℕ)
-    (out err err' : Option (List ℕ)) → IfOk r (λ s. s ≡ ends) → OnOk r (Adds err err' text) →
-    IfOk r (λ s. Pays (due_line ends text) s out out err err')
-said_pays (Ok s) ends text out err err' same adds = record {
-  status = same;
-  out_bytes = adds_none out;
-  err_bytes = adds;
-}
-said_pays (Err e) ends text out err err' same adds = tt
+-- nothing was written to a stream that is as it was
+pub gains_none : (s : Stream) → HasStayed s → Gains s []
+gains_none s stayed = subst (λ new. Adds s.old new []) (sym stayed.0) (adds_none s.old)
 
-pub said_fails : (r : Result Status AnswerFault) (ends : Status) (text : List ℕ)
-    (out err err' : Option (List ℕ)) (faults errors errors' : ℕ) →
-    IsOkUnless r answer.Write → OnErr r (AddsFront err err' text) → OnErr r (HasRisen errors errors') →
-    IfErr r (λ e. Fails e (due_line ends text) out out err err' faults faults errors errors')
-said_fails (Ok s) ends text out err err' faults errors errors' unless front risen = tt
-said_fails (Err answer.Write) ends text out err err' faults errors errors' unless front risen =
-    record { out_bytes = (0, adds_none out); err_bytes = front; risen = inr (refl, risen) }
-said_fails (Err answer.Memory) ends text out err err' faults errors errors' unless front risen = let e :
-    answer.Memory ≡ answer.Write = unless in cc
+-- a line that was said, or was cut
+pub said_pays : (r : Result Status AnswerFault) (ends : Status) (text : List ℕ) (s : Streams)
+    → HasStayed s.out → IfOk r (λ e. e ≡ ends) → OnOk r (Gains s.err text)
+    → IfOk r (λ e. Pays (due_line ends text) e s)
+said_pays (Ok e) ends text s stayed same adds =
+    record { status = same; out_bytes = gains_none s.out stayed; err_bytes = adds }
+said_pays (Err e) ends text s stayed same adds = tt
+
+pub said_fails : (r : Result Status AnswerFault) (ends : Status) (text : List ℕ) (s : Streams)
+    → HasStayed s.out → IsOkUnless r answer.Write → OnErr r (GainsFront s.err text)
+    → OnErr r (HasFailed s.err)
+    → IfErr r (λ e. Fails e (due_line ends text) s)
+said_fails (Ok e) ends text s stayed unless front failed = tt
+said_fails (Err answer.Write) ends text s stayed unless front failed =
+    record {
+      out_bytes = (0, gains_none s.out stayed);
+      err_bytes = front;
+      risen = inr (stayed.1, failed);
+    }
+said_fails (Err answer.Memory) ends text s stayed unless front failed =
+    let e : answer.Memory ≡ answer.Write = unless in cc
 
 -- lives that were told, or were cut
-pub lives_pay : (r : Result Status AnswerFault) (lives : Lives) (out out' err : Option (List ℕ))
-    → IfOk r (λ s. s ≡ status.Success) → OnOk r (Adds out out' (life_text lives))
-    → IfOk r (λ s. Pays (explained_due lives) s out out' err err)
-lives_pay (Ok s) lives out out' err same adds =
-    record { status = same; out_bytes = adds; err_bytes = adds_none err }
-lives_pay (Err e) lives out out' err same adds = tt
+pub lives_pay : (r : Result Status AnswerFault) (lives : Lives) (s : Streams) → HasStayed s.err
+    → IfOk r (λ e. e ≡ status.Success) → OnOk r (Gains s.out (life_text lives))
+    → IfOk r (λ e. Pays (explained_due lives) e s)
+lives_pay (Ok e) lives s stayed same adds =
+    record { status = same; out_bytes = adds; err_bytes = gains_none s.err stayed }
+lives_pay (Err e) lives s stayed same adds = tt
 
-pub lives_fail : (r : Result Status AnswerFault) (lives : Lives) (out out' err : Option (List ℕ))
-    (faults faults' errors : ℕ) → (r ≡ Err answer.Write → AddsFront out out' (life_text lives))
-    → (r ≡ Err answer.Write → HasRisen faults faults')
-    → (r ≡ Err answer.Memory → (out' ≡ out) × (faults' ≡ faults))
-    → IfErr r (λ e. Fails e (explained_due lives) out out' err err faults faults' errors errors)
-lives_fail (Ok s) lives out out' err faults faults' errors front risen memory = tt
-lives_fail (Err answer.Write) lives out out' err faults faults' errors front risen memory =
-    record { out_bytes = front refl; err_bytes = (0, adds_none err); risen = inl (risen refl, refl, refl) }
-lives_fail (Err answer.Memory) lives out out' err faults faults' errors front risen memory =
-    let same = memory refl in
-    record { out_bytes = same.0; err_bytes = refl; out_quiet = same.1; err_quiet = refl }
+pub lives_fail : (r : Result Status AnswerFault) (lives : Lives) (s : Streams) → HasStayed s.err
+    → (r ≡ Err answer.Write → GainsFront s.out (life_text lives))
+    → (r ≡ Err answer.Write → HasFailed s.out) → (r ≡ Err answer.Memory → HasStayed s.out)
+    → IfErr r (λ e. Fails e (explained_due lives) s)
+lives_fail (Ok e) lives s stayed front failed memory = tt
+lives_fail (Err answer.Write) lives s stayed front failed memory =
+    record {
+      out_bytes = front refl;
+      err_bytes = (0, gains_none s.err stayed);
+      risen = inl (failed refl, stayed);
+    }
+lives_fail (Err answer.Memory) lives s stayed front failed memory = record { out = memory refl; err = stayed }

@@ -1,14 +1,13 @@
--- How a call ends, and what it leaves on the sinks.
-use Rattle.std.specs.Prelude.{◌≡◌, ◌⊎◌, ℕ, Bool, true, false, IsTrue, IsSomeAnd, List, Option, Ok}
+-- A call, how it ends, and what it leaves on its streams.
+use Rattle.std.specs.Prelude.{◌≡◌, ◌⊎◌, ℕ, Bool, true, false, IsTrue, IsSomeAnd, List, Option, Some, Ok}
 use Rattle.au_base.specs.declared.limits.Limit.{Limit}
-use Rattle.au_base.specs.declared.names.Entry.{Entry}
+use Rattle.au_base.specs.declared.outside.Shelf as shelf
 use Rattle.au_base.specs.declared.statuses.Status.{Status}
 use Rattle.au_base.specs.declared.statuses.Status.TheVariants as status
-use Rattle.au_base.specs.Outside.{Files, Adds, AddsFront, HasRisen}
+use Rattle.au_base.specs.Outside.{Files, HasRisen}
 use Rattle.au_explain.specs.Lines.{life_text}
 use Rattle.au_explain.specs.declared.lists.Lives.{Lives}
 use Rattle.au_modules.specs.declared.modules.Modules.{Modules}
-use Rattle.au_modules.specs.Programs.{ModuleParts}
 use Rattle.au_modules.specs.Slots as slots
 use Rattle.au_words.specs.Jobs.{Task, IsJob}
 use Rattle.au_outcomes.specs.Accepted.{is_behind}
@@ -16,7 +15,8 @@ use Rattle.au_outcomes.specs.Halts.{AreTold, StopsIn}
 use Rattle.au_outcomes.specs.Outcomes.{Comes}
 use Rattle.au_top.specs.Jobs.{asked_of}
 use Rattle.au_top.specs.Dues.{Due, IsRun, Owes, Arises, due_line, due_of}
-use Rattle.au_top.specs.Runs.{HasRan, HasRunAs, IsBrokenOff, RanSo, entry_for, run_line}
+use Rattle.au_top.specs.Runs.{BreaksOff, EndsAsRun, IsTold, Run, Runs, line_of, run_of}
+use Rattle.au_top.specs.Streams.{Gains, GainsFront, HasFailed, HasStayed, NeverFailed, Streams}
 use Rattle.au_refusals.specs.Refusals.{is_refusal}
 use Rattle.au_refusals.specs.Lines.{accepted_line, refusal_line, limit_line, missing_line, read_fault_line}
 use Rattle.au_refusals.specs.declared.refusals.Refusal.{Refusal}
@@ -28,6 +28,36 @@ use Rattle.au_outcomes.specs.declared.outcomes.Aim.{Aim}
 use Rattle.au_outcomes.specs.declared.outcomes.Aim.TheVariants as aims
 use Rattle.au_outcomes.specs.declared.outcomes.Outcome.{Outcome}
 use Rattle.au_outcomes.specs.declared.outcomes.Outcome.TheVariants as outcome
+
+-- ---- a call
+
+-- what is told of the shelf of a call, before it and behind it: the files, where they are told, how often the
+-- shelf has failed, and how often no file had the name
+pub record Shelf : Type 0 where
+  pub files : Option Files
+  pub new_files : Option Files
+  pub old_faults : ℕ
+  pub new_faults : ℕ
+  pub old_misses : ℕ
+  pub new_misses : ℕ
+
+-- what a shelf tells
+abbrev pub shelf_of : {S : Type 0} → shelf.Ghosts S → (old new : S) → Shelf
+shelf_of s old new = record {
+  files = s.files old;
+  new_files = s.files new;
+  old_faults = s.faults old;
+  new_faults = s.faults new;
+  old_misses = s.misses old;
+  new_misses = s.misses new;
+}
+
+-- a call: the words of its command line, its shelf and its streams, and the status with which it ended
+pub record Call : Type 0 where
+  pub words : List (List ℕ)
+  pub shelf : Shelf
+  pub streams : Streams
+  pub status : Status
 
 -- a status that the words and the files decide: nothing failed, and memory was there
 abbrev pub is_decided : Status → Bool
@@ -51,55 +81,77 @@ is_run_end status.Abort = true
 is_run_end status.Steps = true
 is_run_end other = false
 
+-- The shelf of the call tells these files.
+abbrev pub Tells : Call → Files → Type 0
+Tells call files = call.shelf.files ≡ Some files
+
+-- Words and files decided how the call ended.
+abbrev pub IsDecided : Call → Type 0
+IsDecided call = IsTrue (is_decided call.status)
+
+-- The call ended as a run does.
+abbrev pub IsRunEnd : Call → Type 0
+IsRunEnd call = IsTrue (is_run_end call.status)
+
+-- The shelf failed.
+abbrev pub ShelfFailed : Call → Type 0
+ShelfFailed call = HasRisen call.shelf.old_faults call.shelf.new_faults
+
+-- The shelf didn't fail.
+abbrev pub ShelfNeverFailed : Call → Type 0
+ShelfNeverFailed call = call.shelf.new_faults ≡ call.shelf.old_faults
+
+-- No file was missing.
+abbrev pub ShelfMissedNone : Call → Type 0
+ShelfMissedNone call = call.shelf.new_misses ≡ call.shelf.old_misses
+
+-- ---- what is paid
+
 -- The call ended so, with all that is due on both sinks.
-pub record Pays (due : Due) (ends : Status) (out out' err err' : Option (List ℕ)) : Type 0 where
+pub record Pays (due : Due) (ends : Status) (s : Streams) : Type 0 where
   pub status : ends ≡ due.status
-  pub out_bytes : Adds out out' due.out
-  pub err_bytes : Adds err err' due.err
+  pub out_bytes : Gains s.out due.out
+  pub err_bytes : Gains s.err due.err
 
 -- One sink failed: a front of what is due stands on each, and where `out` failed `err` is as it was.
-pub record IsCut (due : Due) (out out' err err' : Option (List ℕ))
-    (faults faults' errors errors' : ℕ) : Type 0 where
-  pub out_bytes : AddsFront out out' due.out
-  pub err_bytes : AddsFront err err' due.err
-  pub risen : (HasRisen faults faults' × (err' ≡ err) × (errors' ≡ errors)) ⊎ ((faults' ≡ faults)
-      × HasRisen errors errors')
+pub record IsCut (due : Due) (s : Streams) : Type 0 where
+  pub out_bytes : GainsFront s.out due.out
+  pub err_bytes : GainsFront s.err due.err
+  pub risen : (HasFailed s.out × HasStayed s.err) ⊎ (NeverFailed s.out × HasFailed s.err)
 
 -- Nothing was written, and no sink failed.
-pub record IsUntouched (out out' err err' : Option (List ℕ))
-    (faults faults' errors errors' : ℕ) : Type 0 where
-  pub out_bytes : out' ≡ out
-  pub err_bytes : err' ≡ err
-  pub out_quiet : faults' ≡ faults
-  pub err_quiet : errors' ≡ errors
+pub record IsUntouched (s : Streams) : Type 0 where
+  pub out : HasStayed s.out
+  pub err : HasStayed s.err
 
 -- what a fault of an answer says of both sinks
-abbrev pub Fails : AnswerFault → Due → (out out' err err' : Option (List ℕ))
-    → (faults faults' errors errors' : ℕ) → Type 0
-Fails answer.Write due out out' err err' faults faults' errors errors' = IsCut due out out' err err' faults
-    faults' errors errors'
-Fails answer.Memory due out out' err err' faults faults' errors errors' = IsUntouched out out' err err'
-    faults faults' errors errors'
+abbrev pub Fails : AnswerFault → Due → Streams → Type 0
+Fails answer.Write due s = IsCut due s
+Fails answer.Memory due s = IsUntouched s
 
--- What a call with these words may owe: what the words and the files that are told owe, or, where the
--- count of the shelf's faults rose, the line that says so.
-abbrev pub MayOwe : List (List ℕ) → Option Files → ℕ → ℕ → Due → Type 0
-MayOwe words told faults faults' due =
-    ((files : Files) × AreTold told files × Owes words files due)
-    ⊎ (HasRisen faults faults' × (due ≡ due_line status.ReadFault read_fault_line))
+-- What a call may owe: what its words and the files that are told owe, or, where its shelf failed, the line
+-- that says so.
+abbrev pub MayOwe : Call → Due → Type 0
+MayOwe call due =
+    ((files : Files) × AreTold call.shelf.files files × Owes call.words files due)
+    ⊎ (ShelfFailed call × (due ≡ due_line status.ReadFault read_fault_line))
+
+-- The call has paid this.
+abbrev pub HasPaid : Call → Due → Type 0
+HasPaid call due = Pays due call.status call.streams
 
 -- The call has paid all that it owed.
-abbrev pub IsPaid : List (List ℕ) → Option Files → ℕ → ℕ → Status → (out out' err err' : Option (List ℕ))
-    → Type 0
-IsPaid words told faults faults' ends out out' err err' =
-    (due : Due) × MayOwe words told faults faults' due × Pays due ends out out' err err'
+abbrev pub IsPaid : Call → Type 0
+IsPaid call = (due : Due) × MayOwe call due × HasPaid call due
 
--- Words and files, of those that are told, have come to an outcome of which P holds, by the names of the
--- files.
-abbrev pub CameTo : List (List ℕ) → Option Files → (List (List ℕ) → Outcome → Type 0) → Type 0
-CameTo words told P =
-    (files : Files) × AreTold told files × (names : List (List ℕ)) × (arisen : Outcome)
-    × Arises words files names arisen × P names arisen
+-- ---- what words and files come to
+
+-- The words of the call and files, of those that are told, have come to an outcome of which P holds, by the
+-- names of the files.
+abbrev pub CameTo : Call → (List (List ℕ) → Outcome → Type 0) → Type 0
+CameTo call P =
+    (files : Files) × AreTold call.shelf.files files × (names : List (List ℕ)) × (arisen : Outcome)
+    × Arises call.words files names arisen × P names arisen
 
 -- The words are a job that asks for nothing that isn't built, its files are as few as they may be, and those
 -- before one of them can be had, of those that are told.
@@ -108,123 +160,119 @@ FailsBehind words told =
     (task : Task) × (aim : Aim) × IsJob words task × (asked_of task ≡ Ok aim) × StopsIn told task.files
 
 -- What the words ask for is refused, and its line stands on `err`.
-abbrev pub IsRefusedSo : Option (List ℕ) → Option (List ℕ) → List (List ℕ) → Outcome → Type 0
-IsRefusedSo err err' names arisen =
+abbrev pub IsRefusedSo : Streams → List (List ℕ) → Outcome → Type 0
+IsRefusedSo s names arisen =
     (refusal : Refusal) × IsTrue (is_refusal refusal) × (arisen ≡ outcome.Refused refusal)
-    × Adds err err' (refusal_line names refusal)
+    × Gains s.err (refusal_line names refusal)
 
 -- A limit is passed, and its line stands on `err`.
-abbrev pub HasPassed : Option (List ℕ) → Option (List ℕ) → List (List ℕ) → Outcome → Type 0
-HasPassed err err' names arisen =
-    (limit : Limit) × (arisen ≡ outcome.Passes limit) × Adds err err' (limit_line limit)
+abbrev pub HasPassed : Streams → List (List ℕ) → Outcome → Type 0
+HasPassed s names arisen = (limit : Limit) × (arisen ≡ outcome.Passes limit) × Gains s.err (limit_line limit)
 
 -- A file is missing, and the line that says so stands on `err`.
-abbrev pub IsMissingSo : Option (List ℕ) → Option (List ℕ) → List (List ℕ) → Outcome → Type 0
-IsMissingSo err err' names arisen =
-    (name : List ℕ) × (arisen ≡ outcome.Missing name) × Adds err err' (missing_line name)
+abbrev pub IsMissingSo : Streams → List (List ℕ) → Outcome → Type 0
+IsMissingSo s names arisen =
+    (name : List ℕ) × (arisen ≡ outcome.Missing name) × Gains s.err (missing_line name)
 
 -- Files are checked and accepted, and the line that says so stands on `out`.
-abbrev pub IsSaidAccepted : Option (List ℕ) → Option (List ℕ) → List (List ℕ) → Outcome → Type 0
-IsSaidAccepted out out' names arisen = (arisen ≡ outcome.Accepted) × Adds out out' accepted_line
+abbrev pub IsSaidAccepted : Streams → List (List ℕ) → Outcome → Type 0
+IsSaidAccepted s names arisen = (arisen ≡ outcome.Accepted) × Gains s.out accepted_line
 
 -- Files are accepted, and the text of the lives of their variables stands on `out`.
-abbrev pub IsExplained : Option (List ℕ) → Option (List ℕ) → List (List ℕ) → Outcome → Type 0
-IsExplained out out' names arisen =
-    (lives : Lives) × (arisen ≡ outcome.Explained lives) × Adds out out' (life_text lives)
+abbrev pub IsExplained : Streams → List (List ℕ) → Outcome → Type 0
+IsExplained s names arisen =
+    (lives : Lives) × (arisen ≡ outcome.Explained lives) × Gains s.out (life_text lives)
 
 -- Files are checked and accepted, or explained.
-abbrev pub HasSucceeded : Option (List ℕ) → Option (List ℕ) → List (List ℕ) → Outcome → Type 0
-HasSucceeded out out' names arisen = IsSaidAccepted out out' names arisen ⊎ IsExplained out out' names arisen
+abbrev pub HasSucceeded : Streams → List (List ℕ) → Outcome → Type 0
+HasSucceeded s names arisen = IsSaidAccepted s names arisen ⊎ IsExplained s names arisen
 
 -- The steps that judge whether files are accepted have refused nothing, and what came behind them was paid:
 -- that they are accepted, or the lives of their variables, or that a form isn't built yet.
-abbrev pub HasComeBehind : Status → (out out' err err' : Option (List ℕ)) → List (List ℕ) → Outcome → Type 0
-HasComeBehind ends out out' err err' names arisen =
-    IsTrue (is_behind arisen) × IsSomeAnd (due_of names arisen) (λ due. Pays due ends out out' err err')
+abbrev pub HasComeBehind : Call → List (List ℕ) → Outcome → Type 0
+HasComeBehind call names arisen = IsTrue (is_behind arisen) × IsSomeAnd (due_of names arisen) (HasPaid call)
+
+-- A file is missing.
+abbrev pub MissesFile : Call → Type 0
+MissesFile call = CameTo call (IsMissingSo call.streams)
+
+-- Files have come to a program that is to run.
+abbrev pub HasProgram : Call → Type 0
+HasProgram call = CameTo call (λ names arisen. (program : Modules) × (arisen ≡ outcome.Runs program))
 
 -- ---- runs
 
--- Files, of those that are told, have come to a program that is to run.
-abbrev pub HasProgram : List (List ℕ) → Option Files → Type 0
-HasProgram words told =
-    CameTo words told (λ names arisen. (program : Modules) × (arisen ≡ outcome.Runs program))
-
 -- The words are a `run` for which nothing isn't built, and its files, of those that are told, have come to a
--- program that is to run. P holds of the entry that is named if one is, of the most steps and of the program.
-pub record RunsSo (words : List (List ℕ)) (told : Option Files)
-    (P : Option Entry → ℕ → List ModuleParts → Type 0) : Type 0 where
+-- program that is to run. P holds of that run.
+pub record ComesToRun (call : Call) (P : Run → Type 0) : Type 0 where
   pub files : Files
-  pub are_told : AreTold told files
+  pub are_told : AreTold call.shelf.files files
   pub task : Task
-  pub job : IsRun words task
+  pub job : IsRun call.words task
   pub program : Modules
   pub comes : Comes aims.Run files task.files (outcome.Runs program)
-  pub run : P task.entry task.steps (slots.modules program)
+  pub run : P (run_of task (slots.modules program))
 
--- It ran so, and the line that is due stands on `err`.
-abbrev pub RunsTo : List (List ℕ) → Option Files → Ran → (left left' out out' err err' : Option (List ℕ))
-    → Type 0
-RunsTo words told ran left left' out out' err err' =
-    RunsSo words told (λ named steps program. RanSo named steps program ran left left' out out' err err')
+-- The call came to a run, which ran so, and the line that is due stands on `err`.
+abbrev pub HasRun : Call → Ran → Type 0
+HasRun call ran = ComesToRun call (λ run. IsTold run call.streams ran)
 
--- It ran somehow, and the call ended by how it did.
-abbrev pub RunsAs : List (List ℕ) → Option Files → Status → (left left' out out' err err' : Option (List ℕ))
-    → Type 0
-RunsAs words told ends left left' out out' err err' =
-    RunsSo words told (λ named steps program. HasRunAs named steps program ends left left' out out' err err')
+-- The call came to a run, which ran somehow, and the call ended by how it did.
+abbrev pub HasEndedAsRun : Call → Type 0
+HasEndedAsRun call = ComesToRun call (λ run. EndsAsRun run call.streams call.status)
+
+-- A sink failed while a program ran or behind it: `out` did, and the run was broken off; or the program ran,
+-- and a front of its line stands on `err`.
+abbrev pub IsRunCut : Run → Streams → Type 0
+IsRunCut run s =
+    (BreaksOff run s × HasFailed s.out)
+    ⊎ ((ran : Ran) × Runs run s ran × GainsFront s.err (line_of run ran) × NeverFailed s.out
+    × HasFailed s.err)
+
+-- A run was broken off, and no sink failed.
+abbrev pub IsRunBroken : Run → Streams → Type 0
+IsRunBroken run s = BreaksOff run s × NeverFailed s.out
+
+-- ---- what a status says
 
 -- The call has paid all that it owed, or its program has run and its line stands on `err`.
-abbrev pub IsDone : List (List ℕ) → Option Files → ℕ → ℕ → Status
-    → (left left' out out' err err' : Option (List ℕ)) → Type 0
-IsDone words told faults faults' ends left left' out out' err err' =
-    IsPaid words told faults faults' ends out out' err err'
-    ⊎ RunsAs words told ends left left' out out' err err'
-
--- What the words ask for is refused and the line of it stands on `err`, or their program ran, and has no such
--- entry, or is stuck.
-abbrev pub IsRefused : List (List ℕ) → Option Files → (left left' out out' err err' : Option (List ℕ))
-    → Type 0
-IsRefused words told left left' out out' err err' =
-    CameTo words told (IsRefusedSo err err')
-    ⊎ (RunsTo words told how.NoEntry left left' out out' err err'
-    ⊎ RunsTo words told how.Stuck left left' out out' err err')
-
--- The line of a limit stands on `err` that words or files pass, or that their program passes which is to run.
-abbrev pub PassesLimit : List (List ℕ) → Option Files → (left left' out out' err err' : Option (List ℕ))
-    → Type 0
-PassesLimit words told left left' out out' err err' =
-    CameTo words told (HasPassed err err')
-    ⊎ ((limit : Limit) × RunsTo words told (how.Limit limit) left left' out out' err err')
-
--- Files are accepted or explained, or their program ran and returned success.
-abbrev pub Succeeds : List (List ℕ) → Option Files → (left left' out out' err err' : Option (List ℕ)) → Type 0
-Succeeds words told left left' out out' err err' =
-    CameTo words told (HasSucceeded out out') ⊎ RunsTo words told (how.Exit true) left left' out out' err err'
+abbrev pub IsDone : Call → Type 0
+IsDone call = IsPaid call ⊎ HasEndedAsRun call
 
 -- Nothing was refused by the steps that judge whether files are accepted: what came behind them was paid, or
 -- the program has run, whatever the run came to.
-abbrev pub GoesBehind : List (List ℕ) → Option Files → Status
-    → (left left' out out' err err' : Option (List ℕ))
-    → Type 0
-GoesBehind words told ends left left' out out' err err' =
-    CameTo words told (HasComeBehind ends out out' err err')
-    ⊎ RunsAs words told ends left left' out out' err err'
+abbrev pub GoesBehind : Call → Type 0
+GoesBehind call = CameTo call (HasComeBehind call) ⊎ HasEndedAsRun call
 
--- A sink failed while a program ran or behind it: `out` did, and a front of what the program writes stands
--- there, and `err` is as it was; or the program ran, and a front of its line stands on `err`.
-abbrev pub IsRunCut : Option Entry → ℕ → List ModuleParts → (left left' out out' err err' : Option (List ℕ))
-    → (faults faults' errors errors' : ℕ) → Type 0
-IsRunCut named steps program left left' out out' err err' faults faults' errors errors' =
-    (IsBrokenOff named steps program left out out' × HasRisen faults faults' × (err' ≡ err)
-    × (errors' ≡ errors))
-    ⊎ ((ran : Ran) × HasRan named steps program ran left left' out out'
-    × AddsFront err err' (run_line (entry_for named program) steps ran)
-    × (faults' ≡ faults) × HasRisen errors errors')
+-- What the words ask for is refused and the line of it stands on `err`, or their program ran, and has no such
+-- entry, or is stuck.
+abbrev pub IsRefused : Call → Type 0
+IsRefused call = CameTo call (IsRefusedSo call.streams) ⊎ (HasRun call how.NoEntry ⊎ HasRun call how.Stuck)
 
--- A run was broken off, and no sink failed: a front of what the program writes stands on `out`.
-pub record IsRunBroken (named : Option Entry) (steps : ℕ) (program : List ModuleParts)
-    (left out out' err err' : Option (List ℕ)) (faults faults' errors errors' : ℕ) : Type 0 where
-  pub broken : IsBrokenOff named steps program left out out'
-  pub err_bytes : err' ≡ err
-  pub out_quiet : faults' ≡ faults
-  pub err_quiet : errors' ≡ errors
+-- The line of a limit stands on `err` that words or files pass, or that their program passes which is to run.
+abbrev pub PassesLimit : Call → Type 0
+PassesLimit call = CameTo call (HasPassed call.streams) ⊎ ((limit : Limit) × HasRun call (how.Limit limit))
+
+-- Files are accepted or explained, or their program ran and returned success.
+abbrev pub Succeeds : Call → Type 0
+Succeeds call = CameTo call (HasSucceeded call.streams) ⊎ HasRun call (how.Exit true)
+
+-- The program ran and aborted.
+abbrev pub Aborts : Call → Type 0
+Aborts call = (text : List ℕ) × HasRun call (how.Abort text)
+
+-- A sink failed: a front of what is due stands there, or of what the program writes, or of its line.
+abbrev pub LosesSink : Call → Type 0
+LosesSink call =
+    ((due : Due) × MayOwe call due × IsCut due call.streams)
+    ⊎ ComesToRun call (λ run. IsRunCut run call.streams)
+
+-- Memory ran out: nothing was written, or a run was broken off.
+abbrev pub LacksMemory : Call → Type 0
+LacksMemory call = IsUntouched call.streams ⊎ ComesToRun call (λ run. IsRunBroken run call.streams)
+
+-- The shelf failed, behind files that can be had, or the input did, while a program ran.
+abbrev pub LosesSource : Call → Type 0
+LosesSource call =
+    (FailsBehind call.words call.shelf.files × ShelfFailed call)
+    ⊎ (HasRun call how.ReadFault × HasFailed call.streams.input)

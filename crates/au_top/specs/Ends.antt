@@ -1,9 +1,8 @@
 -- The ways in which a call ends.
-use Rattle.std.specs.Prelude.{◌≡◌, ◌⊎◌, ℕ, false, List, Option, IsSomeAnd, Result, Ok, Err}
-use Rattle.au_base.specs.declared.names.Entry.{Entry}
+use Rattle.std.specs.Prelude.{◌≡◌, ◌⊎◌, ℕ, false, List, IsSomeAnd, Result, Ok, Err}
 use Rattle.au_base.specs.declared.statuses.Status.{Status}
 use Rattle.au_base.specs.declared.statuses.Status.TheVariants as status
-use Rattle.au_base.specs.Outside.{Adds, AddsFront, Counts, Files, HasRisen}
+use Rattle.au_base.specs.Outside.{Counts, Files}
 use Rattle.au_modules.specs.Programs.{ModuleParts}
 use Rattle.au_modules.specs.Slots as slots
 use Rattle.au_refusals.specs.Lines.{read_fault_line}
@@ -15,59 +14,48 @@ use Rattle.au_outcomes.specs.declared.halts.CheckFault.{CheckFault}
 use Rattle.au_outcomes.specs.declared.halts.CheckFault.TheVariants as fault
 use Rattle.au_outcomes.specs.declared.outcomes.Outcome.{Outcome}
 use Rattle.au_outcomes.specs.declared.outcomes.Outcome.TheVariants as outcome
-use Rattle.au_top.specs.Calls.{FailsBehind, IsCut, IsRunBroken, IsRunCut, IsUntouched, MayOwe, Pays, RunsSo}
+use Rattle.au_top.specs.Calls.{Call, ComesToRun, FailsBehind, HasPaid, IsCut, IsRunBroken, IsRunCut}
+use Rattle.au_top.specs.Calls.{IsUntouched, MayOwe, ShelfFailed, ShelfMissedNone, ShelfNeverFailed}
 use Rattle.au_top.specs.Dues.{Arises, Due, due_line, due_of}
-use Rattle.au_top.specs.Runs.{RanSo, run_status}
+use Rattle.au_top.specs.Runs.{IsTold, Run, run_status}
+use Rattle.au_top.specs.Streams.{AreQuiet, Gains, GainsFront, HasFailed, HasStayed, NeverFailed}
+use Rattle.au_top.specs.Streams.{Stream, Streams}
 use Rattle.au_top.specs.declared.saying.AnswerFault.{AnswerFault}
 use Rattle.au_top.specs.declared.saying.AnswerFault.TheVariants as answer
 
--- the streams of a call, before it and behind it: what is left of the input, what stands on `out` and on
--- `err`, and how often each failed
-pub record Streams : Type 0 where
-  pub left : Option (List ℕ)
-  pub left' : Option (List ℕ)
-  pub lapses : ℕ
-  pub lapses' : ℕ
-  pub out : Option (List ℕ)
-  pub out' : Option (List ℕ)
-  pub faults : ℕ
-  pub faults' : ℕ
-  pub err : Option (List ℕ)
-  pub err' : Option (List ℕ)
-  pub errors : ℕ
-  pub errors' : ℕ
-
--- The input is as it was.
-abbrev pub IsKept : Streams → Type 0
-IsKept s = (s.left' ≡ s.left) × (s.lapses' ≡ s.lapses)
-
--- No sink failed.
-abbrev pub AreQuiet : Streams → Type 0
-AreQuiet s = (s.faults' ≡ s.faults) × (s.errors' ≡ s.errors)
+-- ---- a run
 
 -- A program ran, and the call ended by how it did: its line stands on `err`, and no sink failed.
-pub record IsRunWhole (ends : Status) (s : Streams) (named : Option Entry) (steps : ℕ)
-    (program : List ModuleParts) : Type 0 where
+pub record IsRunWhole (ends : Status) (s : Streams) (run : Run) : Type 0 where
   pub ran : Ran
   pub status : ends ≡ run_status ran
   pub written : is_write_fault ran ≡ false
-  pub done : RanSo named steps program ran s.left s.left' s.out s.out' s.err s.err'
-  pub rose : Rose (is_read_fault ran) s.lapses s.lapses'
+  pub done : IsTold run s ran
+  pub rose : Rose (is_read_fault ran) s.input.old_faults s.input.new_faults
   pub quiet : AreQuiet s
 
 -- Nothing was written, and no sink failed; or a run was broken off, and none did.
-abbrev pub IsRunStopped : Streams → Option Entry → ℕ → List ModuleParts → Type 0
-IsRunStopped s named steps program =
-    IsUntouched s.out s.out' s.err s.err' s.faults s.faults' s.errors s.errors'
-    ⊎ IsRunBroken named steps program s.left s.out s.out' s.err s.err' s.faults s.faults' s.errors s.errors'
+abbrev pub IsRunStopped : Streams → Run → Type 0
+IsRunStopped s run = IsUntouched s ⊎ IsRunBroken run s
 
 -- what a call that ran a program has done, by what it answered
-abbrev pub RunAnswers : Result Status AnswerFault → Streams → Option Entry → ℕ → List ModuleParts → Type 0
-RunAnswers (Ok ends) s named steps program = IsRunWhole ends s named steps program
-RunAnswers (Err answer.Write) s named steps program =
-    IsRunCut named steps program s.left s.left' s.out s.out' s.err s.err' s.faults s.faults' s.errors
-    s.errors'
-RunAnswers (Err answer.Memory) s named steps program = IsRunStopped s named steps program
+abbrev pub RunAnswers : Result Status AnswerFault → Streams → Run → Type 0
+RunAnswers (Ok ends) s run = IsRunWhole ends s run
+RunAnswers (Err answer.Write) s run = IsRunCut run s
+RunAnswers (Err answer.Memory) s run = IsRunStopped s run
+
+-- what a status says of a run
+abbrev pub RunEnds : Status → Streams → Run → Type 0
+RunEnds ends s run =
+    IsRunWhole ends s run
+    ⊎ (((ends ≡ status.WriteFault) × IsRunCut run s) ⊎ ((ends ≡ status.Memory) × IsRunStopped s run))
+
+-- P holds of the modules of an outcome that is a program to run.
+abbrev pub IfRuns : Outcome → (List ModuleParts → Type 0) → Type 0
+IfRuns (outcome.Runs program) P = P (slots.modules program)
+IfRuns other P = Unit {0}
+
+-- ---- a call
 
 -- the status with which a call ends that has got this answer
 abbrev pub answer_ends : Result Status AnswerFault → Status
@@ -77,71 +65,54 @@ answer_ends (Err answer.Memory) = status.Memory
 
 -- How a call ended, and what it did to `err`, where it isn't known what the files come to: the shelf failed,
 -- and the line that says so stands there, or `err` failed too; or memory ran out.
-abbrev pub FaultEnds : CheckFault → Status → (err err' : Option (List ℕ)) → (errors errors' : ℕ) → Type 0
-FaultEnds fault.Read ends err err' errors errors' =
-    ((ends ≡ status.ReadFault) × Adds err err' read_fault_line × (errors' ≡ errors))
-    ⊎ ((ends ≡ status.WriteFault) × AddsFront err err' read_fault_line × HasRisen errors errors')
-FaultEnds fault.Memory ends err err' errors errors' =
-    (ends ≡ status.Memory) × (err' ≡ err) × (errors' ≡ errors)
+abbrev pub FaultEnds : CheckFault → Status → Stream → Type 0
+FaultEnds fault.Read ends err =
+    ((ends ≡ status.ReadFault) × Gains err read_fault_line × NeverFailed err)
+    ⊎ ((ends ≡ status.WriteFault) × GainsFront err read_fault_line × HasFailed err)
+FaultEnds fault.Memory ends err = (ends ≡ status.Memory) × HasStayed err
 
--- P holds of the modules of an outcome that is a program to run.
-abbrev pub IfRuns : Outcome → (List ModuleParts → Type 0) → Type 0
-IfRuns (outcome.Runs program) P = P (slots.modules program)
-IfRuns other P = Unit {0}
-
--- what a status says of a run
-abbrev pub RunEnds : Status → Streams → Option Entry → ℕ → List ModuleParts → Type 0
-RunEnds ends s named steps program =
-    IsRunWhole ends s named steps program
-    ⊎ (((ends ≡ status.WriteFault)
-    × IsRunCut named steps program s.left s.left' s.out s.out' s.err s.err' s.faults s.faults' s.errors
-    s.errors')
-    ⊎ ((ends ≡ status.Memory) × IsRunStopped s named steps program))
-
--- for words, the files that are told, the counts of the shelf's faults and misses, the status and the streams
-module _ (words : List (List ℕ)) (told : Option Files) (faults faults' misses misses' : ℕ) (ends : Status)
-    (s : Streams) where
+module _ (call : Call) where
   -- What words and files owe was paid.
-  pub record HasPaid : Type 0 where
+  pub record HasPaidAll : Type 0 where
     pub files : Files
-    pub are_told : AreTold told files
+    pub are_told : AreTold call.shelf.files files
     pub names : List (List ℕ)
     pub arisen : Outcome
-    pub arises : Arises words files names arisen
-    pub pays : IsSomeAnd (due_of names arisen) (λ due. Pays due ends s.out s.out' s.err s.err')
-    pub quiet : AreQuiet s
-    pub kept : IsKept s
-    pub read : faults' ≡ faults
-    pub missed : Counts (is_missing arisen) misses misses'
+    pub arises : Arises call.words files names arisen
+    pub pays : IsSomeAnd (due_of names arisen) (HasPaid call)
+    pub quiet : AreQuiet call.streams
+    pub kept : HasStayed call.streams.input
+    pub read : ShelfNeverFailed call
+    pub missed : Counts (is_missing arisen) call.shelf.old_misses call.shelf.new_misses
 
   -- What is owed was cut by a sink that failed.
   pub record HasCut : Type 0 where
-    pub ended : ends ≡ status.WriteFault
+    pub ended : call.status ≡ status.WriteFault
     pub due : Due
-    pub owed : MayOwe words told faults faults' due
-    pub cut : IsCut due s.out s.out' s.err s.err' s.faults s.faults' s.errors s.errors'
-    pub kept : IsKept s
+    pub owed : MayOwe call due
+    pub cut : IsCut due call.streams
+    pub kept : HasStayed call.streams.input
 
   -- Memory ran out before anything was written.
   pub record HasNoMemory : Type 0 where
-    pub ended : ends ≡ status.Memory
-    pub untouched : IsUntouched s.out s.out' s.err s.err' s.faults s.faults' s.errors s.errors'
-    pub kept : IsKept s
+    pub ended : call.status ≡ status.Memory
+    pub untouched : IsUntouched call.streams
+    pub kept : HasStayed call.streams.input
 
   -- The shelf failed, behind files that can be had, and the line that says so was paid.
-  pub record HasFailed : Type 0 where
-    pub behind : FailsBehind words told
-    pub risen : HasRisen faults faults'
-    pub pays : Pays (due_line status.ReadFault read_fault_line) ends s.out s.out' s.err s.err'
-    pub quiet : AreQuiet s
-    pub kept : IsKept s
+  pub record HasNoFile : Type 0 where
+    pub behind : FailsBehind call.words call.shelf.files
+    pub risen : ShelfFailed call
+    pub pays : HasPaid call (due_line status.ReadFault read_fault_line)
+    pub quiet : AreQuiet call.streams
+    pub kept : HasStayed call.streams.input
 
   -- The files came to a program that is to run, and what was done of it ended so.
   pub record HasRunOne : Type 0 where
-    pub runs : RunsSo words told (RunEnds ends s)
-    pub read : faults' ≡ faults
-    pub missed : misses' ≡ misses
+    pub runs : ComesToRun call (RunEnds call.status call.streams)
+    pub read : ShelfNeverFailed call
+    pub missed : ShelfMissedNone call
 
   -- how a call ended
   abbrev pub HasEnded : Type 0
-  HasEnded = HasPaid ⊎ (HasCut ⊎ (HasNoMemory ⊎ (HasFailed ⊎ HasRunOne)))
+  HasEnded = HasPaidAll ⊎ (HasCut ⊎ (HasNoMemory ⊎ (HasNoFile ⊎ HasRunOne)))

@@ -10,13 +10,26 @@ use Rattle.au_outcomes.specs.Accepted.{AreAcceptedAs}
 use Rattle.au_outcomes.specs.Programs.{program_modules}
 use Rattle.au_outcomes.specs.Trees.{ReadFile}
 use Rattle.au_running.specs.Ran.{HasNoEntry}
-use Rattle.au_top.specs.Runs.{entry_for}
+use Rattle.au_top.specs.Runs.{Run, entry_for, run_of}
 
 -- A program with notes has the entry of a run, the one that is named or else `main` of the last module, and
 -- that has the form of one.
 abbrev pub HasEntry : Option Entry → List ModuleParts → List NotedParts → Type 0
 HasEntry named program noted =
     HasNoEntry program noted (entry_for named program).«module» (entry_for named program).function → ⊥
+
+-- The files of a task are accepted, no form in their program isn't built yet, and this is the run of it.
+pub record IsToRun (files : Files) (task : Task) (run : Run) : Type 0 where
+  -- the bytes of the files
+  pub all : List (List ℕ)
+  -- the trees of the files
+  pub reads : List ReadFile
+  -- By these the files are accepted.
+  pub accepted : AreAcceptedAs files task.files all reads
+  -- No form in the program isn't built yet.
+  pub built : unbuilt_of (program_modules reads) ≡ None
+  -- It is the run of this program that the task asks for.
+  pub is_run : run ≡ run_of task (program_modules reads)
 
 -- The program of a task's files can run: that is said by rules alone.
 pub record CanRun (files : Files) (task : Task) : Type 0 where

@@ -1,7 +1,9 @@
 pub mod Jobs
 pub mod Dues
+pub mod Streams
 pub mod Runs
 pub mod Entered
 pub mod Calls
 pub mod Shown
 pub mod Ends
+pub mod Promises

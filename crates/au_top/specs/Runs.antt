@@ -5,8 +5,8 @@ use Rattle.std.specs.Prelude.{Option, None, Some, unwrap_or}
 use Rattle.au_base.specs.declared.names.Entry.{Entry}
 use Rattle.au_base.specs.declared.statuses.Status.{Status}
 use Rattle.au_base.specs.declared.statuses.Status.TheVariants as status
-use Rattle.au_base.specs.Outside.{Adds}
 use Rattle.au_syntax.specs.Plain.{Bytes}
+use Rattle.au_words.specs.Jobs.{Task}
 use Rattle.au_modules.specs.Programs.{ModuleParts}
 use Rattle.au_modules.specs.Seen.{name_of}
 use Rattle.au_derivations.specs.Trees.{NotedParts}
@@ -16,6 +16,7 @@ use Rattle.au_refusals.specs.declared.refusals.Refusal.TheVariants as refusal
 use Rattle.au_running.specs.Ran.{HasRunSo, IsBroken}
 use Rattle.au_running.specs.declared.ran.Ran.{Ran}
 use Rattle.au_running.specs.declared.ran.Ran.TheVariants as how
+use Rattle.au_top.specs.Streams.{Gains, HasStayed, Streams}
 
 -- ---- where it begins
 
@@ -32,6 +33,20 @@ main_of program = record { «module» = last_name program; function = codes "mai
 abbrev pub entry_for : Option Entry → List ModuleParts → Entry
 entry_for (Some named) program = named
 entry_for None program = main_of program
+
+-- what a run is of: the entry that is named if one is, the most steps, and the program
+pub record Run : Type 0 where
+  pub named : Option Entry
+  pub steps : ℕ
+  pub program : List ModuleParts
+
+-- the run that a job asks for, of the program of its files
+abbrev pub run_of : Task → List ModuleParts → Run
+run_of task program = record { named = task.entry; steps = task.steps; program = program }
+
+-- the entry at which it begins
+abbrev pub entry_of : Run → Entry
+entry_of run = entry_for run.named run.program
 
 -- ---- how it ends
 
@@ -58,36 +73,42 @@ run_line entry steps how.Stuck = refusal_line [] refusal.Stuck
 run_line entry steps how.ReadFault = read_fault_line
 run_line entry steps how.WriteFault = []
 
+-- the line of a run
+abbrev pub line_of : Run → Ran → List ℕ
+line_of run ran = run_line (entry_of run) run.steps ran
+
 -- ---- what it has done
 
--- for a program, the entry that is named if one is, and the most steps
-module _ (named : Option Entry) (steps : ℕ) (program : List ModuleParts) where
-  -- The program ran so from its entry as code, with notes with which the rules of typing derive it: from the
-  -- bytes that the input told to those that are left, and from those that stood on `out` to those that stand
-  -- there.
-  pub record HasRan (ran : Ran) (told left out out' : Option (List ℕ)) : Type 0 where
-    pub noted : List NotedParts
-    pub derived : IsDerived program noted
-    pub done :
-        HasRunSo program noted (entry_for named program).«module» (entry_for named program).function ran steps
-        told left out out'
+-- The rules of typing derive the program of a run with some notes, and of it with these P holds, from the
+-- entry with this module and this name on.
+pub record FromEntry (run : Run) (P : List ModuleParts → List NotedParts → (owner name : Bytes) → Type 0)
+    : Type 0 where
+  pub noted : List NotedParts
+  pub derived : IsDerived run.program noted
+  pub done : P run.program noted (entry_of run).«module» (entry_of run).function
+
+-- for a run, and the streams of the call
+module _ (run : Run) (s : Streams) where
+  -- The program ran so as code: it took from the input, and wrote to `out`.
+  abbrev pub Runs : Ran → Type 0
+  Runs ran =
+      FromEntry run (λ program noted owner name. HasRunSo program noted owner name ran run.steps
+      s.input.old s.input.new s.out.old s.out.new)
 
   -- It ran so, and the line that is due stands on `err`.
-  pub record RanSo (ran : Ran) (told left out out' err err' : Option (List ℕ)) : Type 0 where
-    pub run : HasRan ran told left out out'
-    pub line : Adds err err' (run_line (entry_for named program) steps ran)
+  pub record IsTold (ran : Ran) : Type 0 where
+    pub runs : Runs ran
+    pub line : Gains s.err (line_of run ran)
 
-  -- It ran somehow, and the call ended by how it did.
-  pub record HasRunAs (ends : Status) (told left out out' err err' : Option (List ℕ)) : Type 0 where
+  -- It ran somehow, that is told, and the call ended by how it did.
+  pub record EndsAsRun (ends : Status) : Type 0 where
     pub ran : Ran
     pub status : ends ≡ run_status ran
-    pub done : RanSo ran told left out out' err err'
+    pub done : IsTold ran
 
-  -- A run from its entry was broken off: a front of what its code writes stands on `out`.
-  pub record IsBrokenOff (told out out' : Option (List ℕ)) : Type 0 where
-    pub noted : List NotedParts
-    pub derived : IsDerived program noted
-    pub broken :
-        IsBroken program noted (entry_for named program).«module»
-        (entry_for named program).function steps told
-        out out'
+  -- It was broken off: a front of what its code writes stands on `out`, and `err` is as it was.
+  pub record BreaksOff : Type 0 where
+    pub front :
+        FromEntry run (λ program noted owner name. IsBroken program noted owner name run.steps s.input.old
+        s.out.old s.out.new)
+    pub err : HasStayed s.err

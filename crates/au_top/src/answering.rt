@@ -10,6 +10,7 @@ ghost use Rattle.au_running.specs.Asked.{ClosesPlainly};
 ghost use Rattle.au_syntax.specs.Plain.{Bytes};
 ghost use Rattle.au_top.specs.Dues.{due_of};
 ghost use Rattle.au_top.specs.Ends.{IfRuns, RunAnswers};
+ghost use Rattle.au_top.specs.Streams.{AreQuiet, HasStayed, source_of, streams};
 
 use crate::running::run;
 use crate::saying::{AnswerFault, say};
@@ -70,30 +71,18 @@ pub fn answer<I: Source, O: Sink, E: Sink>(
     requires plain { IfRuns outcome.now (λ program. (owner name : Bytes) → ClosesPlainly program owner name) }
     ensures pays { IfSome (due_of (map string_bytes asked.now.files.items) outcome.now)
         (λ due. IfOk result (λ status. Pays due status
-        (O.written out.old) (O.written out.new) (E.written err.old) (E.written err.new))) }
+        (streams I.Source O.Sink E.Sink input.old input.new out.old out.new err.old err.new))) }
     ensures quiet { IfSome (due_of (map string_bytes asked.now.files.items) outcome.now)
-        (λ due. OnOk result ((O.faults out.new ≡ O.faults out.old) × (E.faults err.new ≡ E.faults err.old))) }
+        (λ due. OnOk result (AreQuiet
+        (streams I.Source O.Sink E.Sink input.old input.new out.old out.new err.old err.new))) }
     ensures fails { IfSome (due_of (map string_bytes asked.now.files.items) outcome.now)
         (λ due. IfErr result (λ fault. Fails fault due
-        (O.written out.old) (O.written out.new) (E.written err.old) (E.written err.new)
-        (O.faults out.old) (O.faults out.new) (E.faults err.old) (E.faults err.new))) }
+        (streams I.Source O.Sink E.Sink input.old input.new out.old out.new err.old err.new))) }
     ensures kept { IfSome (due_of (map string_bytes asked.now.files.items) outcome.now)
-        (λ due. (I.left input.new ≡ I.left input.old) × (I.faults input.new ≡ I.faults input.old)) }
-    ensures runs { IfRuns outcome.now (RunAnswers result (record {
-      left = I.left input.old;
-      left' = I.left input.new;
-      lapses = I.faults input.old;
-      lapses' = I.faults input.new;
-      out = O.written out.old;
-      out' = O.written out.new;
-      faults = O.faults out.old;
-      faults' = O.faults out.new;
-      err = E.written err.old;
-      err' = E.written err.new;
-      errors = E.faults err.old;
-      errors' = E.faults err.new;
-    })
-        asked.now.entry asked.now.steps) }
+        (λ due. HasStayed (source_of I.Source input.old input.new)) }
+    ensures runs { IfRuns outcome.now (λ program. RunAnswers result
+        (streams I.Source O.Sink E.Sink input.old input.new out.old out.new err.old err.new)
+        (record { named = asked.now.entry; steps = asked.now.steps; program = program })) }
 {
     match outcome {
         Outcome::NoJob => say(err, WORDS_LINE, Status::Words),

@@ -1,7 +1,7 @@
 //! The call that the program is: words and files in, output and a status out.
 //!
-//! `specs/Calls.antt` says how a call ends and what it leaves, `specs/Dues.antt` what is due, and
-//! `specs/Runs.antt` what a run comes to.
+//! `specs/Promises.antt` says what is promised of a call, `specs/Calls.antt` how it ends and what it leaves,
+//! `specs/Dues.antt` what is due, and `specs/Runs.antt` what a run comes to.
 #![tactic(auto)]
 
 mod answering;

@@ -10,6 +10,7 @@ ghost use Rattle.au_running.specs.Ran.{is_write_fault};
 ghost use Rattle.au_syntax.specs.Plain.{Bytes};
 ghost use Rattle.au_top.specs.Ends.{RunAnswers};
 ghost use Rattle.au_top.specs.Runs as runs;
+ghost use Rattle.au_top.specs.Streams.{streams};
 
 use crate::answering::Asked;
 use crate::entries::entry_for;
@@ -36,21 +37,13 @@ pub fn run<I: Source, O: Sink, E: Sink>(
     err: &mut E,
 ) -> Result<Status, AnswerFault>
     requires { (owner name : Bytes) → ClosesPlainly (slots.modules program.now) owner name }
-    ensures { RunAnswers result (record {
-      left = I.left input.old;
-      left' = I.left input.new;
-      lapses = I.faults input.old;
-      lapses' = I.faults input.new;
-      out = O.written out.old;
-      out' = O.written out.new;
-      faults = O.faults out.old;
-      faults' = O.faults out.new;
-      err = E.written err.old;
-      err' = E.written err.new;
-      errors = E.faults err.old;
-      errors' = E.faults err.new;
-    })
-        asked.now.entry asked.now.steps (slots.modules program.now) }
+    ensures { RunAnswers result
+        (streams I.Source O.Sink E.Sink input.old input.new out.old out.new err.old err.new)
+        (record {
+            named = asked.now.entry;
+            steps = asked.now.steps;
+            program = slots.modules program.now;
+        }) }
 {
     let entry = entry_for(alloc, &asked.entry, program)?;
     let ran = run_program(alloc, program, &entry, asked.steps, input, out)?;

@@ -4,26 +4,28 @@ use Rattle.std.specs.String.{string_bytes}
 use Rattle.au_base.specs.declared.statuses.Status.{Status}
 use Rattle.au_base.specs.Statuses.{status_number}
 use Rattle.au_base.specs.Stored.{NamedFile, file_in, file_of}
-use Rattle.au_top.specs.Calls.{Pays, is_decided}
-use Rattle.au_top.specs.Dues.{Due, Owes}
-use Rattle.au_top.specs.Shown.{ShowsRun}
+use Rattle.au_top.specs.Calls.{Call}
+use Rattle.au_top.specs.Promises.{Promises}
 use Rattle.austral_cases.specs.Patterns.{is_told}
 use Rattle.austral_cases.specs.declared.cases.Case.{Case}
 use Rattle.austral_cases.specs.declared.cases.Wanted.{Wanted}
 
--- A call with these words, over these files and this input, can end so. All this is said unless the status is
--- one of something that failed.
+-- A call with these words, over these files and this input, can end so, with these bytes on sinks that were
+-- empty: there is one, and it is as `austral` promises.
 pub record CanEnd (words : List (List ℕ)) (files : List NamedFile) (input out err : List ℕ) (ends : Status)
     : Type 0 where
-  -- Whatever it owes stands on `out` and `err`, and nothing else does.
-  pub pays : (due : Due) → Owes words (file_in files) due → IsTrue (is_decided ends)
-      → Pays due ends (Some []) (Some out) (Some []) (Some err)
-  -- what is left of the input
+  pub call : Call
+  pub asked : call.words ≡ words
+  pub told : call.shelf.files ≡ Some (file_in files)
+  pub given : call.streams.input.old ≡ Some input
   pub left : List ℕ
-  -- If it is to run a program, that ran from the input to what is left of it, and what is seen of the run, on
-  -- `out` and `err` and by the status, is what the program means.
-  pub shows : IsTrue (is_decided ends)
-      → ShowsRun words (file_in files) ends (Some input) (Some left) (Some []) (Some out) (Some []) (Some err)
+  pub leaves : call.streams.input.new ≡ Some left
+  pub out_empty : call.streams.out.old ≡ Some []
+  pub out_bytes : call.streams.out.new ≡ Some out
+  pub err_empty : call.streams.err.old ≡ Some []
+  pub err_bytes : call.streams.err.new ≡ Some err
+  pub ended : call.status ≡ ends
+  pub promised : Promises call
 
 -- What a call left is what is wanted: the same bytes on `out`, bytes on `err` that the wanted ones tell,
 -- and a status of the same number.

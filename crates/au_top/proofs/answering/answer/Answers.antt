@@ -1,58 +1,47 @@
 -- The line for words that are no job.
-use Rattle.std.proofs.Common.{Option, IfErr, IfOk, IfSome, sym, ap, subst, map}
+use Rattle.std.proofs.Common.{Option, IfErr, IfOk, IfSome, sym, ap, refl, subst, map}
 use Rattle.std.specs.String.{string_bytes}
 use Rattle.au_base.specs.declared.statuses.Status.TheVariants.{Words}
 use Rattle.au_top.specs.Calls.{Pays, Fails}
 use Rattle.au_refusals.specs.Lines.{words_line}
 use Rattle.au_top.specs.Dues.{due_of, Due}
+use Rattle.au_top.specs.Streams.{Streams, streams}
 use Rattle.au_top.proofs.SinkLemmas.{lives_fail, lives_pay, said_pays, said_fails}
 use Rattle.au_top.proofs.answering.answer.Goals as goal
 
 pub returns-in-NoJob-clause-pays : goal.returns-in-NoJob-clause-pays
 returns-in-NoJob-clause-pays g c =
-    let out = g.O.Sink.written c.args.out.now in
-    let err = g.E.Sink.written c.args.err.now in
-    let err' = g.E.Sink.written c.say.new.err in
-    let said = said_pays c.say.result Words words_line out err err' c.say.ensures.ok c.say.ensures.written in
-    subst (λ (o : Option Due). IfSome o (λ due. IfOk c.say.result (λ s. Pays due s out out err err')))
+    let s : Streams = streams g.I.Source g.O.Sink g.E.Sink c.args.input.now c.args.input.now c.args.out.now
+    c.args.out.now c.args.err.now c.say.new.err in
+    let said = said_pays c.say.result Words words_line s (refl, refl) c.say.ensures.ok
+    c.say.ensures.written in
+    subst (λ (o : Option Due). IfSome o (λ due. IfOk c.say.result (λ e. Pays due e s)))
     (sym (ap (due_of (map string_bytes c.args.asked.now.files.items)) c.in-NoJob.is)) said
 
 pub returns-in-NoJob-clause-fails : goal.returns-in-NoJob-clause-fails
 returns-in-NoJob-clause-fails g c =
-    let out = g.O.Sink.written c.args.out.now in
-    let err = g.E.Sink.written c.args.err.now in
-    let err' = g.E.Sink.written c.say.new.err in
-    let faults = g.O.Sink.faults c.args.out.now in
-    let errors = g.E.Sink.faults c.args.err.now in
-    let errors' = g.E.Sink.faults c.say.new.err in
-    let failed = said_fails c.say.result Words words_line out err err' faults errors errors'
-    c.say.ensures.write
+    let s : Streams = streams g.I.Source g.O.Sink g.E.Sink c.args.input.now c.args.input.now c.args.out.now
+    c.args.out.now c.args.err.now c.say.new.err in
+    let failed = said_fails c.say.result Words words_line s (refl, refl) c.say.ensures.write
     c.say.ensures.front c.say.ensures.risen in
-    subst (λ (o : Option Due). IfSome o
-    (λ due. IfErr c.say.result (λ e. Fails e due out out err err' faults faults errors errors')))
+    subst (λ (o : Option Due). IfSome o (λ due. IfErr c.say.result (λ e. Fails e due s)))
     (sym (ap (due_of (map string_bytes c.args.asked.now.files.items)) c.in-NoJob.is)) failed
 
 -- The lives of variables.
 pub returns-in-Explained-clause-pays : goal.returns-in-Explained-clause-pays
 returns-in-Explained-clause-pays g c =
-    let out = g.O.Sink.written c.args.out.now in
-    let out' = g.O.Sink.written c.put_lives.new.out in
-    let err = g.E.Sink.written c.args.err.now in
-    let told = lives_pay c.put_lives.result c.in-Explained.lives out out' err c.put_lives.ensures.ok
+    let s : Streams = streams g.I.Source g.O.Sink g.E.Sink c.args.input.now c.args.input.now c.args.out.now
+    c.put_lives.new.out c.args.err.now c.args.err.now in
+    let told = lives_pay c.put_lives.result c.in-Explained.lives s (refl, refl) c.put_lives.ensures.ok
     c.put_lives.ensures.written in
-    subst (λ (o : Option Due). IfSome o (λ due. IfOk c.put_lives.result (λ s. Pays due s out out' err err)))
+    subst (λ (o : Option Due). IfSome o (λ due. IfOk c.put_lives.result (λ e. Pays due e s)))
     (sym (ap (due_of (map string_bytes c.args.asked.now.files.items)) c.in-Explained.is)) told
 
 pub returns-in-Explained-clause-fails : goal.returns-in-Explained-clause-fails
 returns-in-Explained-clause-fails g c =
-    let out = g.O.Sink.written c.args.out.now in
-    let out' = g.O.Sink.written c.put_lives.new.out in
-    let err = g.E.Sink.written c.args.err.now in
-    let faults = g.O.Sink.faults c.args.out.now in
-    let faults' = g.O.Sink.faults c.put_lives.new.out in
-    let errors = g.E.Sink.faults c.args.err.now in
-    let failed = lives_fail c.put_lives.result c.in-Explained.lives out out' err faults faults' errors
+    let s : Streams = streams g.I.Source g.O.Sink g.E.Sink c.args.input.now c.args.input.now c.args.out.now
+    c.put_lives.new.out c.args.err.now c.args.err.now in
+    let failed = lives_fail c.put_lives.result c.in-Explained.lives s (refl, refl)
     c.put_lives.ensures.front c.put_lives.ensures.risen c.put_lives.ensures.memory in
-    subst (λ (o : Option Due). IfSome o
-    (λ due. IfErr c.put_lives.result (λ e. Fails e due out out' err err faults faults' errors errors)))
+    subst (λ (o : Option Due). IfSome o (λ due. IfErr c.put_lives.result (λ e. Fails e due s)))
     (sym (ap (due_of (map string_bytes c.args.asked.now.files.items)) c.in-Explained.is)) failed

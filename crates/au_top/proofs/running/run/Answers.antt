@@ -2,7 +2,8 @@
 use Rattle.std.proofs.Common.{refl, sym, ◌∙◌}
 use Rattle.std.proofs.lemmas.Result.{err_from_is_err_and}
 use Rattle.au_modules.specs.Slots as slots
-use Rattle.au_top.specs.Ends.{Streams}
+use Rattle.au_top.specs.Runs.{Run}
+use Rattle.au_top.specs.Streams.{Streams, streams}
 use Rattle.au_top.proofs.RunLemmas.{has_ran, idle_stopped, run_cut, run_said, run_stopped}
 use Rattle.au_top.proofs.running.run.Goals as goal
 
@@ -13,91 +14,53 @@ run_program-requires g c = c.requires c.in_ok-entry.entry.«module» c.in_ok-ent
 pub returns-in_err-entry : goal.returns-in_err-entry
 returns-in_err-entry g c =
     let p = err_from_is_err_and c.from_residual.result c.from_residual.ensures.1 in
-    let s : Streams = record {
-      left = g.I.Source.left c.args.input.now;
-      left' = g.I.Source.left c.args.input.now;
-      lapses = g.I.Source.faults c.args.input.now;
-      lapses' = g.I.Source.faults c.args.input.now;
-      out = g.O.Sink.written c.args.out.now;
-      out' = g.O.Sink.written c.args.out.now;
-      faults = g.O.Sink.faults c.args.out.now;
-      faults' = g.O.Sink.faults c.args.out.now;
-      err = g.E.Sink.written c.args.err.now;
-      err' = g.E.Sink.written c.args.err.now;
-      errors = g.E.Sink.faults c.args.err.now;
-      errors' = g.E.Sink.faults c.args.err.now;
+    let run : Run = record {
+      named = c.args.asked.now.entry;
+      steps = c.args.asked.now.steps;
+      program = slots.modules c.args.program.now;
     } in
-    rw (p.1, p.2)
-    (idle_stopped c.args.asked.now.entry c.args.asked.now.steps (slots.modules c.args.program.now) s refl refl
-    (refl, refl))
+    let s : Streams = streams g.I.Source g.O.Sink g.E.Sink c.args.input.now c.args.input.now c.args.out.now
+    c.args.out.now c.args.err.now c.args.err.now in
+    rw (p.1, p.2) (idle_stopped run s refl (refl, refl) refl)
 
 pub returns-in_err-ran : goal.returns-in_err-ran
 returns-in_err-ran g c =
     let p = err_from_is_err_and c.from_residual-in_err-ran.result c.from_residual-in_err-ran.ensures.1 in
-    let s : Streams = record {
-      left = g.I.Source.left c.args.input.now;
-      left' = g.I.Source.left c.run_program.new.input;
-      lapses = g.I.Source.faults c.args.input.now;
-      lapses' = g.I.Source.faults c.run_program.new.input;
-      out = g.O.Sink.written c.args.out.now;
-      out' = g.O.Sink.written c.run_program.new.out;
-      faults = g.O.Sink.faults c.args.out.now;
-      faults' = g.O.Sink.faults c.run_program.new.out;
-      err = g.E.Sink.written c.args.err.now;
-      err' = g.E.Sink.written c.args.err.now;
-      errors = g.E.Sink.faults c.args.err.now;
-      errors' = g.E.Sink.faults c.args.err.now;
+    let run : Run = record {
+      named = c.args.asked.now.entry;
+      steps = c.args.asked.now.steps;
+      program = slots.modules c.args.program.now;
     } in
+    let s : Streams = streams g.I.Source g.O.Sink g.E.Sink c.args.input.now c.run_program.new.input
+    c.args.out.now c.run_program.new.out c.args.err.now c.args.err.now in
     rw (p.1, p.2)
-    (run_stopped c.args.asked.now.entry c.args.asked.now.steps (slots.modules c.args.program.now) s
-    c.in_ok-entry.entry c.in_ok-entry.ensures c.in_err-ran.ensures.broken refl
-    (c.in_err-ran.ensures.quiet.1, refl))
+    (run_stopped run s c.in_ok-entry.entry c.in_ok-entry.ensures c.in_err-ran.ensures.broken (refl, refl)
+    c.in_err-ran.ensures.quiet.1)
 
 pub returns-then-is_cut : goal.returns-then-is_cut
 returns-then-is_cut g c =
-    let entry = c.args.asked.now.entry in
-    let steps = c.args.asked.now.steps in
-    let program = slots.modules c.args.program.now in
-    let s : Streams = record {
-      left = g.I.Source.left c.args.input.now;
-      left' = g.I.Source.left c.run_program.new.input;
-      lapses = g.I.Source.faults c.args.input.now;
-      lapses' = g.I.Source.faults c.run_program.new.input;
-      out = g.O.Sink.written c.args.out.now;
-      out' = g.O.Sink.written c.run_program.new.out;
-      faults = g.O.Sink.faults c.args.out.now;
-      faults' = g.O.Sink.faults c.run_program.new.out;
-      err = g.E.Sink.written c.args.err.now;
-      err' = g.E.Sink.written c.args.err.now;
-      errors = g.E.Sink.faults c.args.err.now;
-      errors' = g.E.Sink.faults c.args.err.now;
+    let run : Run = record {
+      named = c.args.asked.now.entry;
+      steps = c.args.asked.now.steps;
+      program = slots.modules c.args.program.now;
     } in
-    run_cut entry steps program s c.in_ok-ran.ran (sym c.is_cut.ensures ∙ c.if-is_cut.true)
-    (has_ran entry steps program c.in_ok-entry.entry c.in_ok-ran.ran s.left s.left' s.out s.out'
-    c.in_ok-entry.ensures c.in_ok-ran.ensures.ran) c.in_ok-ran.ensures.written refl refl
+    let s : Streams = streams g.I.Source g.O.Sink g.E.Sink c.args.input.now c.run_program.new.input
+    c.args.out.now c.run_program.new.out c.args.err.now c.args.err.now in
+    run_cut run s c.in_ok-ran.ran (sym c.is_cut.ensures ∙ c.if-is_cut.true)
+    (has_ran run s c.in_ok-entry.entry c.in_ok-ran.ran c.in_ok-entry.ensures c.in_ok-ran.ensures.ran)
+    c.in_ok-ran.ensures.written (refl, refl)
 
 pub returns : goal.returns
 returns g c =
-    let entry = c.args.asked.now.entry in
-    let steps = c.args.asked.now.steps in
-    let program = slots.modules c.args.program.now in
-    let s : Streams = record {
-      left = g.I.Source.left c.args.input.now;
-      left' = g.I.Source.left c.run_program.new.input;
-      lapses = g.I.Source.faults c.args.input.now;
-      lapses' = g.I.Source.faults c.run_program.new.input;
-      out = g.O.Sink.written c.args.out.now;
-      out' = g.O.Sink.written c.run_program.new.out;
-      faults = g.O.Sink.faults c.args.out.now;
-      faults' = g.O.Sink.faults c.run_program.new.out;
-      err = g.E.Sink.written c.args.err.now;
-      err' = g.E.Sink.written c.say_ran.new.err;
-      errors = g.E.Sink.faults c.args.err.now;
-      errors' = g.E.Sink.faults c.say_ran.new.err;
+    let run : Run = record {
+      named = c.args.asked.now.entry;
+      steps = c.args.asked.now.steps;
+      program = slots.modules c.args.program.now;
     } in
-    run_said entry steps program s c.say_ran.result c.in_ok-entry.entry c.in_ok-ran.ran c.in_ok-entry.ensures
+    let s : Streams = streams g.I.Source g.O.Sink g.E.Sink c.args.input.now c.run_program.new.input
+    c.args.out.now c.run_program.new.out c.args.err.now c.say_ran.new.err in
+    run_said run s c.say_ran.result c.in_ok-entry.entry c.in_ok-ran.ran c.in_ok-entry.ensures
     (sym c.is_cut.ensures ∙ c.if-is_cut.false)
-    (has_ran entry steps program c.in_ok-entry.entry c.in_ok-ran.ran s.left s.left' s.out s.out'
-    c.in_ok-entry.ensures c.in_ok-ran.ensures.ran) c.in_ok-ran.ensures.read c.in_ok-ran.ensures.written
-    c.say_ran.ensures.ok c.say_ran.ensures.written c.say_ran.ensures.quiet c.say_ran.ensures.front
-    c.say_ran.ensures.risen c.say_ran.ensures.memory
+    (has_ran run s c.in_ok-entry.entry c.in_ok-ran.ran c.in_ok-entry.ensures c.in_ok-ran.ensures.ran)
+    c.in_ok-ran.ensures.read c.in_ok-ran.ensures.written c.say_ran.ensures.ok c.say_ran.ensures.written
+    c.say_ran.ensures.quiet c.say_ran.ensures.front c.say_ran.ensures.risen c.say_ran.ensures.memory

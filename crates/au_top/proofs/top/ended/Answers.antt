@@ -1,7 +1,8 @@
 -- What was answered for what was found, or why it wasn't found.
 use Rattle.std.proofs.Common.{map, refl}
 use Rattle.std.specs.String.{string_bytes}
-use Rattle.au_top.specs.Ends.{Streams}
+use Rattle.au_top.specs.Calls.{shelf_of}
+use Rattle.au_top.specs.Streams.{streams}
 use Rattle.au_top.proofs.AnsweredLemmas.{answered, unanswered}
 use Rattle.au_top.proofs.ArisesLemmas.{arises_outcome}
 use Rattle.au_top.proofs.PlainLemmas.{arises_plain}
@@ -22,23 +23,11 @@ answer-requires-clause-plain g c =
 
 pub returns-in-Ok-clause-ends : goal.returns-in-Ok-clause-ends
 returns-in-Ok-clause-ends g c =
-    let s : Streams = record {
-      left = g.I.Source.left c.args.input.now;
-      left' = g.I.Source.left c.answer.new.input;
-      lapses = g.I.Source.faults c.args.input.now;
-      lapses' = g.I.Source.faults c.answer.new.input;
-      out = g.O.Sink.written c.args.out.now;
-      out' = g.O.Sink.written c.answer.new.out;
-      faults = g.O.Sink.faults c.args.out.now;
-      faults' = g.O.Sink.faults c.answer.new.out;
-      err = g.E.Sink.written c.args.err.now;
-      err' = g.E.Sink.written c.answer.new.err;
-      errors = g.E.Sink.faults c.args.err.now;
-      errors' = g.E.Sink.faults c.answer.new.err;
-    } in
-    answered (map string_bytes c.args.words.now) (g.S.Shelf.files c.args.shelf.now)
-    (g.S.Shelf.faults c.args.shelf.now) (g.S.Shelf.faults c.outcome_of.new.shelf)
-    (g.S.Shelf.misses c.args.shelf.now) (g.S.Shelf.misses c.outcome_of.new.shelf) s c.answer.result
+    answered (map string_bytes c.args.words.now)
+    (shelf_of g.S.Shelf c.args.shelf.now c.outcome_of.new.shelf)
+    (streams g.I.Source g.O.Sink g.E.Sink c.args.input.now c.answer.new.input c.args.out.now c.answer.new.out
+    c.args.err.now c.answer.new.err)
+    c.answer.result
     (map string_bytes c.in-Ok.asked.files.items) c.in-Ok.outcome c.in-Ok.asked.entry c.in-Ok.asked.steps
     c.in-Ok.ensures.arises c.in-Ok.ensures.asked c.in-Ok.ensures.faults c.in-Ok.ensures.misses
     c.answer.ensures.pays c.answer.ensures.quiet c.answer.ensures.fails c.answer.ensures.kept
@@ -47,22 +36,9 @@ returns-in-Ok-clause-ends g c =
 
 pub returns-in-Err-clause-ends : goal.returns-in-Err-clause-ends
 returns-in-Err-clause-ends g c =
-    let s : Streams = record {
-      left = g.I.Source.left c.args.input.now;
-      left' = g.I.Source.left c.args.input.now;
-      lapses = g.I.Source.faults c.args.input.now;
-      lapses' = g.I.Source.faults c.args.input.now;
-      out = g.O.Sink.written c.args.out.now;
-      out' = g.O.Sink.written c.args.out.now;
-      faults = g.O.Sink.faults c.args.out.now;
-      faults' = g.O.Sink.faults c.args.out.now;
-      err = g.E.Sink.written c.args.err.now;
-      err' = g.E.Sink.written c.fault_status.new.err;
-      errors = g.E.Sink.faults c.args.err.now;
-      errors' = g.E.Sink.faults c.fault_status.new.err;
-    } in
-    unanswered (map string_bytes c.args.words.now) (g.S.Shelf.files c.args.shelf.now)
-    (g.S.Shelf.faults c.args.shelf.now) (g.S.Shelf.faults c.outcome_of.new.shelf)
-    (g.S.Shelf.misses c.args.shelf.now) (g.S.Shelf.misses c.outcome_of.new.shelf) s c.in-Err.fault
-    c.fault_status.result c.in-Err.ensures.stops c.in-Err.ensures.faults c.fault_status.ensures refl refl
-    (refl, refl)
+    unanswered (map string_bytes c.args.words.now)
+    (shelf_of g.S.Shelf c.args.shelf.now c.outcome_of.new.shelf)
+    (streams g.I.Source g.O.Sink g.E.Sink c.args.input.now c.args.input.now c.args.out.now c.args.out.now
+    c.args.err.now c.fault_status.new.err)
+    c.in-Err.fault c.fault_status.result c.in-Err.ensures.stops c.in-Err.ensures.faults c.fault_status.ensures
+    (refl, refl) (refl, refl)

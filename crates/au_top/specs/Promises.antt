@@ -1,0 +1,106 @@
+-- What is promised of a call: what `austral` ensures.
+use Rattle.std.specs.Prelude.{◌≡◌, ◌≢◌, ◌↔◌, ◌⊎◌, ℕ, false, true, List}
+use Rattle.au_base.specs.declared.statuses.Status.TheVariants as status
+use Rattle.au_base.specs.Outside.{Files, HasRisen}
+use Rattle.au_words.specs.Jobs.{IsNoJob, Task}
+use Rattle.au_outcomes.specs.Accepted.{Accepted, AreAcceptedAs}
+use Rattle.au_outcomes.specs.Programs.{read_lives}
+use Rattle.au_outcomes.specs.Trees.{ReadFile}
+use Rattle.au_running.specs.declared.ran.Ran.TheVariants as how
+use Rattle.au_top.specs.Calls.{Aborts, Call, GoesBehind, HasPaid, HasProgram, HasRun, IsDecided, IsDone}
+use Rattle.au_top.specs.Calls.{IsRefused, IsRunEnd, LacksMemory, LosesSink, LosesSource, MissesFile}
+use Rattle.au_top.specs.Calls.{PassesLimit, ShelfMissedNone, ShelfNeverFailed, Succeeds, Tells}
+use Rattle.au_top.specs.Dues.{AsksForNoFile, AsksForTooMany, Due, IsAcceptedJob, IsCheck, IsExplain, IsRun}
+use Rattle.au_top.specs.Dues.{IsUnread, Owes, accepted_due, explained_due}
+use Rattle.au_top.specs.Entered.{CanRun, IsToRun}
+use Rattle.au_top.specs.Runs.{EndsAsRun, Run}
+use Rattle.au_top.specs.Shown.{IsAsMeant}
+use Rattle.au_top.specs.Streams.{AreQuiet, HasStayed, NeverFailed}
+
+-- What is promised of a call whose words are this job, a `run`, over these files.
+pub record RunPromises (call : Call) (files : Files) (task : Task) : Type 0 where
+  -- The code of its files' program is run where they are accepted and no form in them isn't built yet: the
+  -- call ends as the run of that code does, its output is what that writes, the input is left as that leaves
+  -- it, and its line tells how the run ended.
+  pub runs : IsDecided call → (run : Run) → IsToRun files task run → EndsAsRun run call.streams call.status
+  -- Then what is seen of the run is what the program means on its input, where that isn't stuck: it ends with
+  -- 0 or 1, with 3 or with 4 by how its meaning ends within the steps, and has written what that writes.
+  pub shown : IsDecided call → (run : Run) → IsToRun files task run → IsAsMeant run call.streams call.status
+  -- It ends so only where its program can run: where the files are accepted, no form in them isn't built yet,
+  -- and the program has its entry.
+  pub runs_only : IsRunEnd call → CanRun files task
+  -- Unless a limit is passed, it ends so, or its run is stuck, exactly where its program can run.
+  pub entered :
+      IsDecided call → call.status ≢ status.Limit
+      → CanRun files task ↔ (IsRunEnd call ⊎ HasRun call how.Stuck)
+  -- Unless a limit is passed or a file is missing, it ends with 2, and not since its run is stuck, exactly
+  -- where its program can't run.
+  pub not_entered :
+      IsDecided call → call.status ≢ status.Limit → call.status ≢ status.Missing
+      → (CanRun files task → ⊥) ↔ ((call.status ≡ status.Refused) × (HasRun call how.Stuck → ⊥))
+
+-- What is promised of a call over files that are told.
+pub record FilePromises (call : Call) (files : Files) : Type 0 where
+  -- What the words and the files owe is what is paid: they owe one thing alone.
+  pub only : (due : Due) → Owes call.words files due → IsDecided call → HasPaid call due
+  -- A file that has no tree is refused, or a limit is told, unless the words ask for what is not built.
+  pub unread :
+      IsUnread call.words files → IsDecided call
+      → (call.status ≡ status.Refused) ⊎ (call.status ≡ status.Limit)
+  -- A job isn't refused by the steps that judge whether its files are accepted exactly where they are: then
+  -- the call says so, or its program is run, or a form in it isn't built yet.
+  pub accepted : IsDecided call → IsAcceptedJob call.words files ↔ GoesBehind call
+  -- A job `check` writes that its files are accepted, and ends with 0, exactly where they are.
+  pub checked :
+      (task : Task) → IsCheck call.words task → IsDecided call
+      → Accepted files task.files ↔ HasPaid call accepted_due
+  -- A job `explain` writes the lives of the variables of its files' program, and ends with 0, where the files
+  -- are accepted, and it ends with 0 only there.
+  pub explained :
+      (task : Task) (all : List (List ℕ)) (reads : List ReadFile) → IsExplain call.words task → IsDecided call
+      → AreAcceptedAs files task.files all reads → HasPaid call (explained_due (read_lives reads))
+  pub explained_only :
+      (task : Task) → IsExplain call.words task → call.status ≡ status.Success → Accepted files task.files
+  -- what is promised of a job `run`
+  pub run : (task : Task) → IsRun call.words task → RunPromises call files task
+
+-- What is promised of every call.
+pub record Promises (call : Call) : Type 0 where
+  -- What is due is paid, whole, unless a sink fails or memory runs out; or the program of the files is run,
+  -- and its line is written.
+  pub due : call.status ≢ status.WriteFault → call.status ≢ status.Memory → IsDone call
+  -- what is promised where files are told
+  pub told : (files : Files) → Tells call files → FilePromises call files
+  -- 64 comes exactly where the words are no job.
+  pub words : call.status ≡ status.Words → IsNoJob call.words
+  pub no_job : IsNoJob call.words → IsDecided call → call.status ≡ status.Words
+  -- 2 comes with the line of a refusal that the words or the files have, or of a program without such an
+  -- entry, or of one whose run is stuck.
+  pub refused : call.status ≡ status.Refused → IsRefused call
+  -- 8 comes with the line of a limit that is passed, and 9 with that of the first file that is missing.
+  pub limit : call.status ≡ status.Limit → PassesLimit call
+  pub missing_file : call.status ≡ status.Missing → MissesFile call
+  -- 0 and 1 come by what the program returns, and 0 where it's checked and accepted, or where the lives of
+  -- its variables are told.
+  pub success : call.status ≡ status.Success → Succeeds call
+  pub failure : call.status ≡ status.Failure → HasRun call (how.Exit false)
+  -- 3 comes by an abort, whose cause its line tells, and 4 where the steps of the run were spent.
+  pub abort : call.status ≡ status.Abort → Aborts call
+  pub steps : call.status ≡ status.Steps → HasRun call how.Steps
+  -- Where a sink failed, a front of what is due stands there, or of what the program writes, or of its line.
+  pub write_fault : call.status ≡ status.WriteFault → LosesSink call
+  -- Where memory ran out, nothing was written, or a run was broken off.
+  pub memory : call.status ≡ status.Memory → LacksMemory call
+  -- Where the shelf failed, it failed behind files that can be had; or the input failed while a program ran.
+  pub read_fault : call.status ≡ status.ReadFault → LosesSource call × AreQuiet call.streams
+  pub missing : call.status ≡ status.Missing → HasRisen call.shelf.old_misses call.shelf.new_misses
+  -- A status that the words and the files decide says that no count of faults rose.
+  pub quiet : IsDecided call → ShelfNeverFailed call × NeverFailed call.streams.input × AreQuiet call.streams
+  pub no_miss : IsDecided call → call.status ≢ status.Missing → ShelfMissedNone call
+  -- Where the words ask for no file, or for too many, the shelf neither fails nor misses one.
+  pub idle : AsksForNoFile call.words → ShelfNeverFailed call × ShelfMissedNone call
+  pub crowded : AsksForTooMany call.words → ShelfNeverFailed call × ShelfMissedNone call
+  -- The input is as it was, unless the files came to a program that is to run.
+  pub input : HasStayed call.streams.input ⊎ HasProgram call
+  -- The shelf tells the same files.
+  pub files : call.shelf.new_files ≡ call.shelf.files
