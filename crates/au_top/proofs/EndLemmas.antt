@@ -23,7 +23,7 @@ use Rattle.au_outcomes.specs.declared.outcomes.Outcome.{Outcome}
 use Rattle.au_outcomes.specs.declared.outcomes.Outcome.TheVariants as outcome
 use Rattle.au_outcomes.proofs.AcceptedLemmas.{not_both}
 use Rattle.au_top.specs.Calls.{Aborts, Call, CameTo, ComesToRun, GoesBehind, HasEndedAsRun, HasPaid}
-use Rattle.au_top.specs.Calls.{HasProgram, HasRun, IsDecided, IsDone, IsPaid, IsRefused, LacksMemory}
+use Rattle.au_top.specs.Calls.{HasProgram, IsDecided, IsDone, IsPaid, IsRefused, LacksMemory, RanTo}
 use Rattle.au_top.specs.Calls.{LosesSink, LosesSource, MissesFile, PassesLimit, ShelfMissedNone}
 use Rattle.au_top.specs.Calls.{ShelfNeverFailed, Succeeds, Tells, is_decided}
 use Rattle.au_top.specs.Dues.{Arises, Due, IsAcceptedJob, IsCheck, IsExplain, IsRun, IsUnread, Owes}
@@ -143,7 +143,7 @@ module _ (call : Call) where
   whole_as r =
       run_with call r (record { ran = r.run.ran; status = r.run.status; done = r.run.done })
 
-  pub whole_to : (r : Whole) (ran : Ran) → r.run.ran ≡ ran → HasRun call ran
+  pub whole_to : (r : Whole) (ran : Ran) → r.run.ran ≡ ran → RanTo call ran
   whole_to r ran is =
       run_with call r
       (subst (λ one. IsTold (run_of r.task (slots.modules r.program)) call.streams one) is r.run.done)
@@ -380,7 +380,7 @@ module _ (call : Call) where
         (whole_status r.0 status.Success is)))
   ]
 
-  pub ended_failure : Ending → call.status ≡ status.Failure → HasRun call (how.Exit false)
+  pub ended_failure : Ending → call.status ≡ status.Failure → RanTo call (how.Exit false)
   ended_failure h is = elim (decided h (ap is_decided is)) [
     | inl p ↦ paid_not status.Failure p refl is
     | inr r ↦
@@ -395,7 +395,7 @@ module _ (call : Call) where
         (why.0, whole_to r.0 (how.Abort why.0) why.1)
   ]
 
-  pub ended_steps : Ending → call.status ≡ status.Steps → HasRun call how.Steps
+  pub ended_steps : Ending → call.status ≡ status.Steps → RanTo call how.Steps
   ended_steps h is = elim (decided h (ap is_decided is)) [
     | inl p ↦ paid_not status.Steps p refl is
     | inr r ↦ whole_to r.0 how.Steps (run.steps_ran r.0.run.ran (whole_status r.0 status.Steps is))
@@ -449,7 +449,7 @@ module _ (call : Call) where
 
   -- the input failed while a program ran
   whole_read : (r : Whole) → call.status ≡ status.ReadFault
-      → HasRun call how.ReadFault × HasFailed call.streams.input
+      → RanTo call how.ReadFault × HasFailed call.streams.input
   whole_read r is =
       let failed = run.read_ran r.run.ran (whole_status r status.ReadFault is) in (
         whole_to r how.ReadFault failed,

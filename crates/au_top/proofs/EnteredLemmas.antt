@@ -22,7 +22,7 @@ use Rattle.au_outcomes.specs.declared.outcomes.Aim.TheVariants as aims
 use Rattle.au_outcomes.specs.declared.outcomes.Outcome.{Outcome}
 use Rattle.au_outcomes.specs.declared.outcomes.Outcome.TheVariants as outcome
 use Rattle.au_outcomes.proofs.AcceptedLemmas.{behind_accepted, comes_asked}
-use Rattle.au_top.specs.Calls.{Call, ComesToRun, HasRun, HasSucceeded, IsDecided, IsRunEnd, ShelfMissedNone}
+use Rattle.au_top.specs.Calls.{Call, ComesToRun, HasSucceeded, IsDecided, IsRunEnd, RanTo, ShelfMissedNone}
 use Rattle.au_top.specs.Calls.{ShelfNeverFailed, Tells, is_decided, is_run_end}
 use Rattle.au_top.specs.Dues.{Arises, AsksForNoFile, AsksForTooMany, IsRun}
 use Rattle.au_top.specs.Ends.{HasEnded, HasPaidAll, IsRunWhole}
@@ -194,7 +194,7 @@ module _ (call : Call) (files : Files) (task : Task) (is : Tells call files)
       call.streams.input.old call.streams.input.new call.streams.out.old call.streams.out.new
       (sym (ap is_run_end r.run.status) ∙ end) runs.done)
 
-  stuck_can : HasRun call how.Stuck → CanRun files task
+  stuck_can : RanTo call how.Stuck → CanRun files task
   stuck_can r =
       ran_can r (λ noted. stuck_entry (slots.modules r.program) r.run.runs.noted _ _ r.task.steps
       call.streams.input.old call.streams.input.new call.streams.out.old call.streams.out.new r.run.runs.done)
@@ -208,7 +208,7 @@ module _ (call : Call) where
 
   -- a run is stuck
   abbrev pub IsStuck : Type 0
-  IsStuck = HasRun call how.Stuck
+  IsStuck = RanTo call how.Stuck
 
   -- no line is paid for it that it succeeded
   paid_run : {T : Type 0} (files : Files) (task : Task) → Tells call files → IsRun call.words task

@@ -214,8 +214,8 @@ pub record ComesToRun (call : Call) (P : Run → Type 0) : Type 0 where
   pub run : P (run_of task (slots.modules program))
 
 -- The call came to a run, which ran so, and the line that is due stands on `err`.
-abbrev pub HasRun : Call → Ran → Type 0
-HasRun call ran = ComesToRun call (λ run. IsTold run call.streams ran)
+abbrev pub RanTo : Call → Ran → Type 0
+RanTo call ran = ComesToRun call (λ run. IsTold run call.streams ran)
 
 -- The call came to a run, which ran somehow, and the call ended by how it did.
 abbrev pub HasEndedAsRun : Call → Type 0
@@ -228,10 +228,6 @@ IsRunCut run s =
     (BreaksOff run s × HasFailed s.out)
     ⊎ ((ran : Ran) × Runs run s ran × GainsFront s.err (line_of run ran) × NeverFailed s.out
     × HasFailed s.err)
-
--- A run was broken off, and no sink failed.
-abbrev pub IsRunBroken : Run → Streams → Type 0
-IsRunBroken run s = BreaksOff run s × NeverFailed s.out
 
 -- ---- what a status says
 
@@ -247,19 +243,19 @@ GoesBehind call = CameTo call (HasComeBehind call) ⊎ HasEndedAsRun call
 -- What the words ask for is refused and the line of it stands on `err`, or their program ran, and has no such
 -- entry, or is stuck.
 abbrev pub IsRefused : Call → Type 0
-IsRefused call = CameTo call (IsRefusedSo call.streams) ⊎ (HasRun call how.NoEntry ⊎ HasRun call how.Stuck)
+IsRefused call = CameTo call (IsRefusedSo call.streams) ⊎ (RanTo call how.NoEntry ⊎ RanTo call how.Stuck)
 
 -- The line of a limit stands on `err` that words or files pass, or that their program passes which is to run.
 abbrev pub PassesLimit : Call → Type 0
-PassesLimit call = CameTo call (HasPassed call.streams) ⊎ ((limit : Limit) × HasRun call (how.Limit limit))
+PassesLimit call = CameTo call (HasPassed call.streams) ⊎ ((limit : Limit) × RanTo call (how.Limit limit))
 
 -- Files are accepted or explained, or their program ran and returned success.
 abbrev pub Succeeds : Call → Type 0
-Succeeds call = CameTo call (HasSucceeded call.streams) ⊎ HasRun call (how.Exit true)
+Succeeds call = CameTo call (HasSucceeded call.streams) ⊎ RanTo call (how.Exit true)
 
 -- The program ran and aborted.
 abbrev pub Aborts : Call → Type 0
-Aborts call = (text : List ℕ) × HasRun call (how.Abort text)
+Aborts call = (text : List ℕ) × RanTo call (how.Abort text)
 
 -- A sink failed: a front of what is due stands there, or of what the program writes, or of its line.
 abbrev pub LosesSink : Call → Type 0
@@ -269,10 +265,12 @@ LosesSink call =
 
 -- Memory ran out: nothing was written, or a run was broken off.
 abbrev pub LacksMemory : Call → Type 0
-LacksMemory call = IsUntouched call.streams ⊎ ComesToRun call (λ run. IsRunBroken run call.streams)
+LacksMemory call =
+    IsUntouched call.streams
+    ⊎ ComesToRun call (λ run. BreaksOff run call.streams × NeverFailed call.streams.out)
 
 -- The shelf failed, behind files that can be had, or the input did, while a program ran.
 abbrev pub LosesSource : Call → Type 0
 LosesSource call =
     (FailsBehind call.words call.shelf.files × ShelfFailed call)
-    ⊎ (HasRun call how.ReadFault × HasFailed call.streams.input)
+    ⊎ (RanTo call how.ReadFault × HasFailed call.streams.input)

@@ -14,10 +14,10 @@ use Rattle.au_outcomes.specs.declared.halts.CheckFault.{CheckFault}
 use Rattle.au_outcomes.specs.declared.halts.CheckFault.TheVariants as fault
 use Rattle.au_outcomes.specs.declared.outcomes.Outcome.{Outcome}
 use Rattle.au_outcomes.specs.declared.outcomes.Outcome.TheVariants as outcome
-use Rattle.au_top.specs.Calls.{Call, ComesToRun, FailsBehind, HasPaid, IsCut, IsRunBroken, IsRunCut}
+use Rattle.au_top.specs.Calls.{Call, ComesToRun, FailsBehind, HasPaid, IsCut, IsRunCut}
 use Rattle.au_top.specs.Calls.{IsUntouched, MayOwe, ShelfFailed, ShelfMissedNone, ShelfNeverFailed}
 use Rattle.au_top.specs.Dues.{Arises, Due, due_line, due_of}
-use Rattle.au_top.specs.Runs.{IsTold, Run, run_status}
+use Rattle.au_top.specs.Runs.{BreaksOff, IsTold, Run, run_status}
 use Rattle.au_top.specs.Streams.{AreQuiet, Gains, GainsFront, HasFailed, HasStayed, NeverFailed}
 use Rattle.au_top.specs.Streams.{Stream, Streams}
 use Rattle.au_top.specs.declared.saying.AnswerFault.{AnswerFault}
@@ -36,7 +36,7 @@ pub record IsRunWhole (ends : Status) (s : Streams) (run : Run) : Type 0 where
 
 -- Nothing was written, and no sink failed; or a run was broken off, and none did.
 abbrev pub IsRunStopped : Streams → Run → Type 0
-IsRunStopped s run = IsUntouched s ⊎ IsRunBroken run s
+IsRunStopped s run = IsUntouched s ⊎ (BreaksOff run s × NeverFailed s.out)
 
 -- what a call that ran a program has done, by what it answered
 abbrev pub RunAnswers : Result Status AnswerFault → Streams → Run → Type 0
@@ -108,11 +108,11 @@ module _ (call : Call) where
     pub kept : HasStayed call.streams.input
 
   -- The files came to a program that is to run, and what was done of it ended so.
-  pub record HasRunOne : Type 0 where
+  pub record HasComeToRun : Type 0 where
     pub runs : ComesToRun call (RunEnds call.status call.streams)
     pub read : ShelfNeverFailed call
     pub missed : ShelfMissedNone call
 
   -- how a call ended
   abbrev pub HasEnded : Type 0
-  HasEnded = HasPaidAll ⊎ (HasCut ⊎ (HasNoMemory ⊎ (HasNoFile ⊎ HasRunOne)))
+  HasEnded = HasPaidAll ⊎ (HasCut ⊎ (HasNoMemory ⊎ (HasNoFile ⊎ HasComeToRun)))
