@@ -219,13 +219,16 @@ module _ (run : Run) where
     run_stopped entry is h err quiet = elim h [
       | inl p ↦ idle_stopped p.1 err quiet
       | inr p ↦
-          inr (record {
-            front =
-                from_entry (λ program noted owner name. IsBroken program noted owner name run.steps
-                s.input.old
-                s.out.old s.out.new) entry is p;
-            err = err;
-          }, quiet)
+          inr (
+            record {
+              front =
+                  from_entry (λ program noted owner name. IsBroken program noted owner name run.steps
+                  s.input.old
+                  s.out.old s.out.new) entry is p;
+              err = err;
+            },
+            quiet,
+          )
     ]
 
     -- memory ran out behind a run
@@ -236,8 +239,10 @@ module _ (run : Run) where
         h.done) [
           | inl p ↦ idle_stopped p err quiet
           | inr p ↦
-              inr (record { front = record { noted = h.noted; derived = h.derived; done = p }; err = err },
-              quiet)
+              inr (
+                record { front = record { noted = h.noted; derived = h.derived; done = p }; err = err },
+                quiet,
+              )
         ]
 
     -- a run that a failure of its sink broke off
@@ -246,21 +251,21 @@ module _ (run : Run) where
         → RunAnswers (Err answer.Write) s run
     run_cut ran is h rose err =
         let there : Runs run s how.WriteFault = subst (Runs run s) (written_is ran is) h in (
-          inl (
-            record {
-              front =
-                  record {
-                    noted = there.noted;
-                    derived = there.derived;
-                    done =
-                        ran_broken run.program there.noted _ _ how.WriteFault run.steps s.input.old
-                        s.input.new
-                        s.out.old s.out.new there.done;
-                  };
-              err = err;
-            },
-            subst (λ b. Rose b s.out.old_faults s.out.new_faults) is rose,
-          )
+        inl (
+          record {
+            front =
+                record {
+                  noted = there.noted;
+                  derived = there.derived;
+                  done =
+                      ran_broken run.program there.noted _ _ how.WriteFault run.steps s.input.old
+                      s.input.new
+                      s.out.old s.out.new there.done;
+                };
+            err = err;
+          },
+          subst (λ b. Rose b s.out.old_faults s.out.new_faults) is rose,
+        )
         )
 
     -- a run that was made, and what was said of it

@@ -21,13 +21,19 @@ pub record Streams : Type 0 where
 -- what a source tells
 abbrev pub source_of : {I : Type 0} → source.Ghosts I → (old new : I) → Stream
 source_of i old new = record {
-  old = i.left old; new = i.left new; old_faults = i.faults old; new_faults = i.faults new;
+  old = i.left old;
+  new = i.left new;
+  old_faults = i.faults old;
+  new_faults = i.faults new;
 }
 
 -- what a sink tells
 abbrev pub sink_of : {O : Type 0} → sink.Ghosts O → (old new : O) → Stream
 sink_of o old new = record {
-  old = o.written old; new = o.written new; old_faults = o.faults old; new_faults = o.faults new;
+  old = o.written old;
+  new = o.written new;
+  old_faults = o.faults old;
+  new_faults = o.faults new;
 }
 
 -- what a source and two sinks tell

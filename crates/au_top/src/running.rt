@@ -40,9 +40,9 @@ pub fn run<I: Source, O: Sink, E: Sink>(
     ensures { RunAnswers result
         (streams I.Source O.Sink E.Sink input.old input.new out.old out.new err.old err.new)
         (record {
-            named = asked.now.entry;
-            steps = asked.now.steps;
-            program = slots.modules program.now;
+          named = asked.now.entry;
+          steps = asked.now.steps;
+          program = slots.modules program.now;
         }) }
 {
     let entry = entry_for(alloc, &asked.entry, program)?;

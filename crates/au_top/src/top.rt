@@ -35,10 +35,10 @@ pub fn austral<S: Shelf, I: Source, O: Sink, E: Sink>(
     err: &mut E,
 ) -> Status
     ensures { Promises (record {
-        words = map string_bytes words.now;
-        shelf = shelf_of S.Shelf shelf.old shelf.new;
-        streams = streams I.Source O.Sink E.Sink input.old input.new out.old out.new err.old err.new;
-        status = result;
+      words = map string_bytes words.now;
+      shelf = shelf_of S.Shelf shelf.old shelf.new;
+      streams = streams I.Source O.Sink E.Sink input.old input.new out.old out.new err.old err.new;
+      status = result;
     }) }
 {
     ended(alloc, words, shelf, input, out, err)
@@ -54,10 +54,10 @@ fn ended<S: Shelf, I: Source, O: Sink, E: Sink>(
     err: &mut E,
 ) -> Status
     ensures ends { HasEnded (record {
-        words = map string_bytes words.now;
-        shelf = shelf_of S.Shelf shelf.old shelf.new;
-        streams = streams I.Source O.Sink E.Sink input.old input.new out.old out.new err.old err.new;
-        status = result;
+      words = map string_bytes words.now;
+      shelf = shelf_of S.Shelf shelf.old shelf.new;
+      streams = streams I.Source O.Sink E.Sink input.old input.new out.old out.new err.old err.new;
+      status = result;
     }) }
     ensures idle { AsksForNoFile (map string_bytes words.now)
         → (S.faults shelf.new ≡ S.faults shelf.old) × (S.misses shelf.new ≡ S.misses shelf.old) }
