@@ -15,8 +15,6 @@ pub mod places;
 pub mod sequences;
 pub mod statuses;
 pub mod sure;
-#[cfg(test)]
-mod tests;
 pub mod texts;
 pub mod tokens;
 pub mod writing;

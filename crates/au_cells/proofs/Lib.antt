@@ -1,3 +1,4 @@
+pub mod PileLemmas
 pub mod CellLemmas
 pub mod FormLemmas
 pub mod NumberLemmas

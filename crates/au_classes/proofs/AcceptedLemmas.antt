@@ -7,12 +7,12 @@ use Rattle.au_syntax.specs.Plain.{Bytes}
 use Rattle.au_types.specs.declared.headings.Head.{Head}
 use Rattle.au_types.specs.declared.types.DeclAt.{DeclAt}
 use Rattle.au_modules.specs.Programs.{ModuleParts}
-use Rattle.au_class_methods.specs.Texts.{InstanceText, instances_of}
+use Rattle.au_classes.specs.Texts.{InstanceText, instances_of}
 use Rattle.au_instances.specs.Rows.{Row}
 use Rattle.au_classes.specs.declared.faults.ClassFault.{ClassFault}
 use Rattle.au_classes.specs.declared.faults.ClassFault.TheVariants.{BadHead, Orphan, Overlap, MethodDiffers}
 use Rattle.au_classes.specs.declared.faults.ClassFault.TheVariants as fault
-use Rattle.au_class_methods.specs.Classes.{ClassText, class_at}
+use Rattle.au_classes.specs.Classes.{ClassText, class_at}
 use Rattle.au_classes.specs.Faults.{Known, class_fault, fault_of, first_fault, instance_fault, module_fault}
 use Rattle.au_classes.specs.Faults.{read_fault, row_fault, unless, with_text}
 use Rattle.au_classes.specs.Good.{InstancesAreGood}

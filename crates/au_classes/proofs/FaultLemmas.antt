@@ -10,27 +10,27 @@ use Rattle.au_syntax.specs.Plain.{Bytes}
 use Rattle.au_types.specs.declared.headings.Head.{Head}
 use Rattle.au_types.specs.declared.types.DeclAt.{DeclAt}
 use Rattle.au_types.specs.Types.{Meaning}
-use Rattle.au_universes.specs.Forming.{StandsOver}
-use Rattle.au_universes.proofs.LawLemmas.{well_formed_stands}
+use Rattle.au_matching.specs.Forming.{StandsOver}
+use Rattle.au_matching.proofs.LawLemmas.{well_formed_stands}
 use Rattle.au_modules.specs.Programs.{ModuleParts}
 use Rattle.au_names.specs.HeadsOf.{heads_of}
 use Rattle.au_promises.specs.Agreeing.{visible}
 use Rattle.au_judged_types.specs.Agreement.{found}
 use Rattle.au_judged_types.specs.Judging.{judged}
 use Rattle.au_judged_types.proofs.AgreementLemmas.{found_means, judged_is_meant}
-use Rattle.au_generics.specs.declared.reading.Meant.{Meant}
-use Rattle.au_generics.specs.declared.reading.Meant.TheVariants.{Are, Fails}
-use Rattle.au_generics.specs.Bounds.{Bounded, parameters}
-use Rattle.au_generics.specs.Meanings.{class_meant, generics_meant}
-use Rattle.au_class_methods.specs.declared.instance_texts.InstanceText as code
-use Rattle.au_class_methods.specs.Texts.{InstanceText, instances_of}
-use Rattle.au_class_methods.specs.InstanceViews.{text_said, texts_said}
+use Rattle.au_judged_types.specs.declared.reading.Meant.{Meant}
+use Rattle.au_judged_types.specs.declared.reading.Meant.TheVariants.{Are, Fails}
+use Rattle.au_judged_types.specs.Bounds.{Bounded, parameters}
+use Rattle.au_judged_types.specs.Meanings.{class_meant, generics_meant}
+use Rattle.au_classes.specs.declared.instance_texts.InstanceText as code
+use Rattle.au_classes.specs.Texts.{InstanceText, instances_of}
+use Rattle.au_classes.specs.InstanceViews.{text_said, texts_said}
 use Rattle.au_instances.specs.Rows.{Row}
-use Rattle.au_class_methods.specs.Classes.{visible_in}
+use Rattle.au_classes.specs.Classes.{visible_in}
 use Rattle.au_classes.specs.declared.faults.ClassFault.{ClassFault}
 use Rattle.au_classes.specs.Faults.{Known, fault_of, first_fault, instance_fault, known_of, module_fault, read_fault, with_text, with_texts}
 use Rattle.au_classes.specs.Rows.{row_in, row_of, row_of_class, row_over, row_seen, row_with, rows_of, rows_read}
-use Rattle.au_classes.specs.Views.{known_rows}
+use Rattle.au_classes.specs.ClassViews.{known_rows}
 
 -- ---- the head of a row stands over the rows of declared types
 

@@ -15,14 +15,14 @@ use Rattle.au_types.specs.declared.headings.Head.{Head}
 use Rattle.au_types.specs.declared.types.DeclAt.{DeclAt}
 use Rattle.au_types.specs.Rows.{same_place}
 use Rattle.au_types.proofs.SameLemmas.{place_is, place_self}
-use Rattle.au_universes.specs.Forming.{takes}
-use Rattle.au_universes.specs.Universes.{universe_of}
+use Rattle.au_matching.specs.Forming.{takes}
+use Rattle.au_matching.specs.Universes.{universe_of}
 use Rattle.au_modules.specs.Programs.{ModuleParts}
 use Rattle.au_names.specs.HeadsOf.{heads_of}
 use Rattle.au_names.proofs.AmongLemmas.{Among, among, contains, among-flat_map, among-flat_map_from}
 use Rattle.au_promises.specs.Agreeing.{visible}
-use Rattle.au_generics.specs.Bounds.{parameters}
-use Rattle.au_class_methods.specs.Texts.{InstanceText, instances_of}
+use Rattle.au_judged_types.specs.Bounds.{parameters}
+use Rattle.au_classes.specs.Texts.{InstanceText, instances_of}
 use Rattle.au_instances.specs.declared.constructors.Constructor.{Constructor}
 use Rattle.au_instances.specs.Constructors.{constructor_of, is_constructor}
 use Rattle.au_instances.specs.Forms.{HasForm, has_form}
@@ -30,10 +30,10 @@ use Rattle.au_instances.specs.Rows.{Row}
 use Rattle.au_instances.specs.Tables.{AreApart, is_row_of}
 use Rattle.au_instances.proofs.ConstructorLemmas.{is_that, that_is}
 use Rattle.au_instances.proofs.FormLemmas.{form_decides}
-use Rattle.au_class_methods.specs.Classes.{ClassText, class_at, visible_at, visible_in}
-use Rattle.au_class_methods.specs.Methods.{AreMethods, are_methods}
-use Rattle.au_class_methods.specs.Signatures.{given, wanted}
-use Rattle.au_class_methods.proofs.RuleLemmas.{methods_decide}
+use Rattle.au_classes.specs.Classes.{ClassText, class_at, visible_at, visible_in}
+use Rattle.au_classes.specs.Methods.{AreMethods, are_methods}
+use Rattle.au_classes.specs.Signatures.{given, wanted}
+use Rattle.au_classes.proofs.RuleLemmas.{methods_decide}
 use Rattle.au_classes.specs.declared.faults.ClassFault.{ClassFault}
 use Rattle.au_classes.specs.declared.faults.ClassFault.TheVariants.{BadHead, Orphan, Overlap, MethodDiffers}
 use Rattle.au_classes.specs.Faults.{Known, are_written, class_fault, fault_of, first_fault, first_like, home_of, instance_fault, is_head, is_home, is_like, known_of, methods_fault, module_fault, overlap, place_of, read_fault, row_fault, unless, with_text}

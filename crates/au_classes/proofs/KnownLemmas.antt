@@ -11,7 +11,7 @@ use Rattle.au_instances.specs.declared.rows.Row as code
 use Rattle.au_instances.specs.Rows.{Row, row_said, rows_said}
 use Rattle.au_instances.specs.Tables.{is_row_of, row_of, row_with}
 use Rattle.au_classes.specs.Faults.{Known, is_like, place_of}
-use Rattle.au_classes.specs.Views.{known_rows}
+use Rattle.au_classes.specs.ClassViews.{known_rows}
 
 abbrev row_in : Known → Row
 row_in known = known.row

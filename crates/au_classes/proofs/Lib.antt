@@ -1,3 +1,10 @@
+pub mod ListLemmas
+pub mod MethodLemmas
+pub mod RuleLemmas
+pub mod PuttingLemmas
+pub mod IndexLemmas
+pub mod MarkLemmas
+pub mod GatherLemmas
 pub mod KnownLemmas
 pub mod FaultLemmas
 pub mod GoodLemmas

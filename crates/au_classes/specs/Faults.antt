@@ -11,22 +11,22 @@ use Rattle.au_syntax.specs.declared.modules.Part.TheVariants.{Body}
 use Rattle.au_syntax.specs.Plain.{Bytes, PlainMethod}
 use Rattle.au_types.specs.declared.headings.Head.{Head}
 use Rattle.au_types.specs.declared.types.DeclAt.{DeclAt}
-use Rattle.au_universes.specs.Forming.{takes}
-use Rattle.au_universes.specs.Universes.{universe_of}
+use Rattle.au_matching.specs.Forming.{takes}
+use Rattle.au_matching.specs.Universes.{universe_of}
 use Rattle.au_modules.specs.Programs.{ModuleParts}
 use Rattle.au_names.specs.HeadsOf.{heads_of}
-use Rattle.au_generics.specs.Bounds.{parameters}
+use Rattle.au_judged_types.specs.Bounds.{parameters}
 use Rattle.au_promises.specs.Agreeing.{visible}
-use Rattle.au_class_methods.specs.Texts.{InstanceText, instances_of}
+use Rattle.au_classes.specs.Texts.{InstanceText, instances_of}
 use Rattle.au_instances.specs.declared.constructors.Constructor.{Constructor}
 use Rattle.au_instances.specs.declared.constructors.Constructor.TheVariants as constructors
 use Rattle.au_instances.specs.Constructors.{constructor_of}
 use Rattle.au_instances.specs.Forms.{has_form}
 use Rattle.au_instances.specs.Rows.{Row}
 use Rattle.au_instances.specs.Tables.{is_row_of}
-use Rattle.au_class_methods.specs.Classes.{ClassText, class_at}
-use Rattle.au_class_methods.specs.Methods.{are_methods}
-use Rattle.au_class_methods.specs.Signatures.{given, wanted}
+use Rattle.au_classes.specs.Classes.{ClassText, class_at}
+use Rattle.au_classes.specs.Methods.{are_methods}
+use Rattle.au_classes.specs.Signatures.{given, wanted}
 use Rattle.au_classes.specs.declared.faults.ClassFault.{ClassFault}
 use Rattle.au_classes.specs.declared.faults.ClassFault.TheVariants.{BadHead, Orphan, Overlap, MethodDiffers}
 use Rattle.au_classes.specs.Rows.{row_in, row_of}

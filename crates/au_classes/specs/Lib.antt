@@ -1,4 +1,11 @@
+pub mod Classes
+pub mod Methods
+pub mod Signatures
+pub mod Views
+pub mod Indices
+pub mod Texts
+pub mod InstanceViews
 pub mod Rows
 pub mod Faults
 pub mod Good
-pub mod Views
+pub mod ClassViews

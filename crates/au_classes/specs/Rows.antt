@@ -11,13 +11,13 @@ use Rattle.au_modules.specs.Programs.{ModuleParts}
 use Rattle.au_names.specs.HeadsOf.{heads_of}
 use Rattle.au_judged_types.specs.Agreement.{found}
 use Rattle.au_judged_types.specs.Judging.{judged}
-use Rattle.au_generics.specs.declared.reading.Meant.{Meant}
-use Rattle.au_generics.specs.declared.reading.Meant.TheVariants.{Are, Fails}
-use Rattle.au_generics.specs.Bounds.{Bounded, parameters}
-use Rattle.au_generics.specs.Meanings.{class_meant, generics_meant}
-use Rattle.au_class_methods.specs.Texts.{InstanceText, instances_of}
+use Rattle.au_judged_types.specs.declared.reading.Meant.{Meant}
+use Rattle.au_judged_types.specs.declared.reading.Meant.TheVariants.{Are, Fails}
+use Rattle.au_judged_types.specs.Bounds.{Bounded, parameters}
+use Rattle.au_judged_types.specs.Meanings.{class_meant, generics_meant}
+use Rattle.au_classes.specs.Texts.{InstanceText, instances_of}
 use Rattle.au_instances.specs.Rows.{Row}
-use Rattle.au_class_methods.specs.Classes.{visible_at}
+use Rattle.au_classes.specs.Classes.{visible_at}
 
 -- an instance, by the names that are seen where it is written and the rows of declared types
 module _ (text : InstanceText) (names : List (Bytes × DeclAt)) (heads : List (DeclAt × Head)) where

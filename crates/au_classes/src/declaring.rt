@@ -4,27 +4,26 @@ ghost use Rattle.std.specs.Prelude.{◌≡◌, ◌⊎◌, ◌++◌, Err, IfOk, N
 ghost use Rattle.au_classes.specs.Faults as spec;
 ghost use Rattle.au_classes.specs.Good.{InstancesAreGood};
 ghost use Rattle.au_classes.specs.Rows.{rows_of};
-ghost use Rattle.au_class_methods.specs.Views.{class_said};
-ghost use Rattle.au_classes.specs.Views.{known_said};
-ghost use Rattle.au_generics.specs.Bounds.{parameters};
+ghost use Rattle.au_classes.specs.Views.{class_said};
+ghost use Rattle.au_classes.specs.ClassViews.{known_said};
+ghost use Rattle.au_judged_types.specs.Bounds.{parameters};
 ghost use Rattle.au_names.specs.HeadsOf.{heads_of};
-ghost use Rattle.au_class_methods.specs.InstanceViews.{text_said, texts_said};
+ghost use Rattle.au_classes.specs.InstanceViews.{text_said, texts_said};
 ghost use Rattle.au_instances.specs.Rows.{row_said};
 ghost use Rattle.au_modules.specs.Slots as slots;
 ghost use Rattle.au_types.specs.Views.{meaning};
-ghost use Rattle.au_universes.specs.Forming.{StandsOver};
+ghost use Rattle.au_matching.specs.Forming.{StandsOver};
 
 use crate::faults::ClassFault;
 use crate::judging::row_fault;
 use crate::known::Known;
 use crate::rows::row_in;
+use crate::{ClassText, InstanceText, class_at, instances_of};
 use au_base::Memory;
-use au_class_methods::{ClassText, InstanceText, class_at, instances_of};
 use au_imports::Resolved;
 use au_instances::{Instances, Row};
 use au_syntax::Part;
-use au_tables::Table;
-use au_types::{DeclAt, Heads};
+use au_types::{DeclAt, Heads, Table};
 use std::alloc::Global;
 
 /// The instances of a program whose table is good, and the rows of its declared types.

@@ -2,7 +2,7 @@
 
 ghost use Rattle.std.specs.Prelude.{◌≡◌, ◌↔◌, None, Some, IfOk, IfSome};
 ghost use Rattle.std.specs.Option.{option_map};
-ghost use Rattle.au_closed_types.specs.Views.{closed_meaning};
+ghost use Rattle.au_type_texts.specs.Views.{closed_meaning};
 ghost use Rattle.au_instances.specs.Becoming.{IsRowFor};
 ghost use Rattle.au_instances.specs.ClosedInstances.{ClosedInstance};
 ghost use Rattle.au_instances.specs.Instances.{Holds};
@@ -12,8 +12,8 @@ ghost use Rattle.au_types.specs.Views.{meaning};
 
 use crate::declaring::Classes;
 use au_base::{Memory, Name};
-use au_closed_types::Closed;
 use au_instances::{ClassAt, InstanceAt};
+use au_type_texts::Closed;
 use au_types::{Params, Ty};
 use std::alloc::Global;
 

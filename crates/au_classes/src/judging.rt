@@ -2,24 +2,23 @@
 
 ghost use Rattle.std.specs.Prelude.{◌≡◌, [], IfOk};
 ghost use Rattle.std.specs.Option.{option_map};
-ghost use Rattle.au_class_methods.specs.Views.{class_said};
+ghost use Rattle.au_classes.specs.Views.{class_said};
 ghost use Rattle.au_classes.specs.Faults as spec;
-ghost use Rattle.au_classes.specs.Views.{known_said};
-ghost use Rattle.au_generics.specs.Bounds.{parameters};
-ghost use Rattle.au_class_methods.specs.InstanceViews.{methods_seen, text_said};
+ghost use Rattle.au_classes.specs.ClassViews.{known_said};
+ghost use Rattle.au_judged_types.specs.Bounds.{parameters};
+ghost use Rattle.au_classes.specs.InstanceViews.{methods_seen, text_said};
 ghost use Rattle.au_instances.specs.Rows.{row_said};
 ghost use Rattle.au_types.specs.Views.{meaning};
-ghost use Rattle.au_universes.specs.Forming.{StandsOver};
+ghost use Rattle.au_matching.specs.Forming.{StandsOver};
 
 use crate::faults::ClassFault;
 use crate::known::Known;
+use crate::{ClassText, InstanceText, are_methods};
 use au_base::Memory;
-use au_class_methods::{ClassText, InstanceText, are_methods};
 use au_instances::{Constructor, Row, constructor_of, has_form};
+use au_matching::{takes, universe_of};
 use au_syntax::{Method, Parsed};
-use au_tables::Table;
-use au_types::{DeclAt, Heads};
-use au_universes::{takes, universe_of};
+use au_types::{DeclAt, Heads, Table};
 use std::alloc::Global;
 
 /// Whether the head of a row is one for its class: it has the form, and fits the universe of the class's

@@ -3,7 +3,7 @@
 ghost use Rattle.std.specs.Prelude.{◌≡◌, ◌++◌, ◌∷◌, [], None, Some, OnOk, find, length};
 ghost use Rattle.std.specs.Option.{option_map};
 ghost use Rattle.au_classes.specs.Faults as spec;
-ghost use Rattle.au_classes.specs.Views.{known_rows};
+ghost use Rattle.au_classes.specs.ClassViews.{known_rows};
 ghost use Rattle.au_instances.specs.Constructors as constructors;
 ghost use Rattle.au_instances.specs.Forms.{HasForm};
 ghost use Rattle.au_instances.specs.Rows.{row_said, rows_said};

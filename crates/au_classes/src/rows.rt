@@ -3,9 +3,9 @@
 ghost use Rattle.std.specs.Prelude.{◌≡◌, [], IfOk, Some};
 ghost use Rattle.std.specs.Option.{option_map};
 ghost use Rattle.au_classes.specs.Rows as spec;
-ghost use Rattle.au_generics.specs.Bounds.{parameters};
-ghost use Rattle.au_generics.specs.Meanings as generics;
-ghost use Rattle.au_class_methods.specs.InstanceViews.{text_said};
+ghost use Rattle.au_judged_types.specs.Bounds.{parameters};
+ghost use Rattle.au_judged_types.specs.Meanings as generics;
+ghost use Rattle.au_classes.specs.InstanceViews.{text_said};
 ghost use Rattle.au_instances.specs.Rows.{row_said};
 ghost use Rattle.au_judged_types.specs.Agreement.{found};
 ghost use Rattle.au_judged_types.specs.Judging.{judged};
@@ -13,17 +13,14 @@ ghost use Rattle.au_judged_types.specs.Views.{judged_in};
 ghost use Rattle.au_syntax.specs.Plain.{Bytes};
 ghost use Rattle.au_syntax.specs.Views.{written};
 ghost use Rattle.au_types.specs.Views.{meaning};
-ghost use Rattle.au_written_types.specs.Views.{said};
+ghost use Rattle.au_types.specs.WrittenViews.{said};
 
+use crate::InstanceText;
 use au_base::{Memory, Name};
-use au_class_methods::InstanceText;
-use au_generics::{Generics, Meant, generics_of};
 use au_instances::{ClassAt, Row};
-use au_judged_types::{Judged, judge_type};
+use au_judged_types::{Generics, Judged, Meant, generics_of, judge_type};
 use au_syntax::TypeText;
-use au_tables::Table;
-use au_types::{DeclAt, Heads, Params, Ty};
-use au_written_types::{Scope, Sense, sense_of};
+use au_types::{DeclAt, Heads, Params, Scope, Sense, Table, Ty, sense_of};
 use std::alloc::Global;
 
 /// The class that a sense is, if it is one.

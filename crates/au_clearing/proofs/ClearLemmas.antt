@@ -32,9 +32,9 @@ whole_rank Broken h = absurd (cc)
 clears_whole : (sort : Sort) (n : ℕ) (d : Dealing) → clears sort n d ≡ true → is_whole d.touch ≡ true
 clears_whole sorts.Free n d h = h
 clears_whole sorts.WriteReference n d h = h
-clears_whole sorts.Other n d h = and_left (is_whole d.touch) (is_spent n d) h
+clears_whole sorts.Linear n d h = and_left (is_whole d.touch) (is_spent n d) h
 
-clears_spent : (sort : Sort) (n : ℕ) (d : Dealing) → clears sort n d ≡ true → sort ≡ sorts.Other →
+clears_spent : (sort : Sort) (n : ℕ) (d : Dealing) → clears sort n d ≡ true → sort ≡ sorts.Linear →
     is_spent n d ≡ true
 clears_spent sort n d h e =
     and_right (is_whole d.touch) (is_spent n d) (sym (ap (λ s. clears s n d) e) ∙ h)
@@ -88,4 +88,4 @@ life_clears s sort life is h =
         ≡ clears sort (returns_in_block s.block) (deal_block s.name.name (is_free sort) s.block unlent)
     dealing_is sorts.Free = refl
     dealing_is sorts.WriteReference = refl
-    dealing_is sorts.Other = refl
+    dealing_is sorts.Linear = refl

@@ -2,7 +2,7 @@
 use Rattle.std.proofs.Common.{◌≡◌, ◌≢◌, ℕ, zero, suc, ◌+◌, ◌≤◌, ◌<◌, Bool, true, false, refl, ap, arith, if◌then◌else◌}
 use Rattle.au_syntax.specs.declared.types.Access.{Access}
 use Rattle.au_lives.specs.Lives.{Hold, unlent, read_lent, write_lent, hidden}
-use Rattle.au_uses.specs.Choices.{counted}
+use Rattle.au_lives.specs.Choices.{counted}
 use Rattle.au_clearing.specs.Touches.{behind_spent}
 use Rattle.au_clearing.specs.Dealings.{Dealing, sum, chain, fork, turns, lend, lend_by}
 use Rattle.au_clearing.proofs.TouchLemmas.{rank, two, worse_rank, behind_rank, kept_above, lent_rank}

@@ -155,19 +155,19 @@ behind_lands false (Some p) (Some q) d l e n =
     record { live = λ h. inr (refl, l); spent = λ h. inr (inl (refl, l)) }
 
 -- the end of paths where none is left that owes a consumption
-pub finish_goes : (sort : Sort) (r : Reach) → (sort ≡ sorts.Other → Has r.live → ⊥) →
+pub finish_goes : (sort : Sort) (r : Reach) → (sort ≡ sorts.Linear → Has r.live → ⊥) →
     (o : Reach) × (finish sort r ≡ Ok o)
 finish_goes sorts.Free r h = (behind false r, walked (at_end sorts.Free) false r (λ p. refl) (λ p. refl))
 finish_goes sorts.WriteReference r h =
     (behind false r, walked (at_end sorts.WriteReference) false r (λ p. refl) (λ p. refl))
-finish_goes sorts.Other r h =
-    (behind false r, walked (at_end sorts.Other) false r (λ p. refl) (λ p. absurd (h refl p)))
+finish_goes sorts.Linear r h =
+    (behind false r, walked (at_end sorts.Linear) false r (λ p. refl) (λ p. absurd (h refl p)))
 
 module _ (sort : Sort) where
   -- the states fit a dealing of a part that has so many returns
   pub record Suits (r : Reach) (d : Dealing) (n : ℕ) : Type 0 where
     pub spent : Has r.spent → d.touch ≡ Untouched
-    pub owed : sort ≡ sorts.Other → Has r.live → (d.spared ≡ n) × (n < most)
+    pub owed : sort ≡ sorts.Linear → Has r.live → (d.spared ≡ n) × (n < most)
 
   -- the walk over a part goes on as its dealing says, where its touches are at most so bad
   pub record Fine (w : Reach → Walk) (d : Dealing) (n worst : ℕ) : Type 0 where

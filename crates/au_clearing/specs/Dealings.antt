@@ -13,7 +13,7 @@ use Rattle.au_lives.specs.declared.lives.Sort.TheVariants as sorts
 use Rattle.au_lives.specs.Paths.{lent as lent_name, declared, declared_by, bound_names, access_of}
 use Rattle.au_lives.specs.Lives.{Hold, unlent, read_lent, write_lent, hidden, held_from, is_free}
 use Rattle.au_lives.specs.Scopes.{Scope}
-use Rattle.au_uses.specs.Choices.{counted}
+use Rattle.au_lives.specs.Choices.{counted}
 pub use Rattle.au_clearing.specs.declared.dealings.Dealing.{Dealing}
 use Rattle.au_clearing.specs.declared.dealings.Dealings.{Dealings}
 use Rattle.au_clearing.specs.declared.dealings.Life.{Life}
@@ -174,7 +174,7 @@ is_spent n d = not d.lives && ((d.spared == n) && nat_lt n 18446744073709551615)
 abbrev pub clears : Sort → ℕ → Dealing → Bool
 clears sorts.Free n d = is_whole d.touch
 clears sorts.WriteReference n d = is_whole d.touch
-clears sorts.Other n d = is_whole d.touch && is_spent n d
+clears sorts.Linear n d = is_whole d.touch && is_spent n d
 
 -- the dealing of the block that is the scope of x clears x
 abbrev pub is_cleared : Bytes → Sort → PlainStatements → Bool

@@ -74,7 +74,7 @@ fn is_cleared(sort: Sort, life: Life) -> bool
     match sort {
         Sort::Free => is_whole(life.dealings.free.touch),
         Sort::WriteReference => is_whole(owned.touch),
-        Sort::Other => is_whole(owned.touch) && is_spent(life.returns, owned),
+        Sort::Linear => is_whole(owned.touch) && is_spent(life.returns, owned),
     }
 }
 

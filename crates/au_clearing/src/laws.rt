@@ -44,5 +44,5 @@ pub fn cleared_lives_are_good()
 /// The dealings of small bodies clear a variable that must be consumed where it is said so by hand, and else
 /// don't.
 pub fn small_bodies_are_judged()
-    ensures { Each (λ row. is_cleared (codes "x") sorts.Other row.0 ≡ row.1) judged }
+    ensures { Each (λ row. is_cleared (codes "x") sorts.Linear row.0 ≡ row.1) judged }
 {}

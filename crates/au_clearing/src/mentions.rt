@@ -65,7 +65,7 @@ fn mention_as<P: Phase>(
 }
 
 /// Whether an expression is a variable or a constant alone, or that in parentheses.
-#[tactic(auto, using(au_uses::proofs::CountLemmas::alone, au_syntax::proofs::ExpressionLemmas::expression_steps))]
+#[tactic(auto, using(au_lives::proofs::CountLemmas::alone, au_syntax::proofs::ExpressionLemmas::expression_steps))]
 fn is_variable<P: Phase>(e: &Expr<P>) -> bool
     ensures { result ≡ mentions.is_variable (seen_expression P.Phase e.now) }
 {

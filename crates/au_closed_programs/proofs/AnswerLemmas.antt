@@ -3,13 +3,13 @@ use Rattle.std.proofs.Common.{◌≡◌, List, [], ◌∷◌, map, Some}
 use Rattle.au_syntax.specs.Plain.{Bytes}
 use Rattle.au_modules.specs.Programs.{ModuleParts}
 use Rattle.au_names.specs.declared.targets.Target.{Target}
-use Rattle.au_derivations.specs.Trees.{NotedParts}
-use Rattle.au_reach.specs.Reached.{Lists}
-use Rattle.au_reach.specs.Walks.{IsWithin}
-use Rattle.au_entries.specs.Entries.{begins, entry_of}
+use Rattle.au_typing.specs.Trees.{NotedParts}
+use Rattle.au_graphs.specs.Reached.{Lists}
+use Rattle.au_graphs.specs.Walks.{IsWithin}
+use Rattle.au_closing.specs.Entries.{begins, entry_of}
 use Rattle.au_closing.specs.Closes.{calls_of, instance_closed}
 use Rattle.au_closing.specs.Instances.{Instance, same_instance}
-use Rattle.au_instance_walks.specs.Told.{instance_told, most_instances}
+use Rattle.au_closing.specs.Told.{instance_told, most_instances}
 use Rattle.au_closed_programs.specs.Answers.{ClosesWithin}
 use Rattle.au_closed_programs.specs.Programs.{ClosedProgram, ClosesTypes, plain_instance}
 

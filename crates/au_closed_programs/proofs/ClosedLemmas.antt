@@ -9,16 +9,16 @@ use Rattle.au_syntax.specs.Plain.{Bytes}
 use Rattle.au_modules.specs.Programs.{ModuleParts}
 use Rattle.au_names.specs.declared.targets.Target.{Target}
 use Rattle.au_names.specs.HeadsOf.{heads_of}
-use Rattle.au_derivations.specs.Trees.{NotedParts}
-use Rattle.au_closed_types.specs.Same.{same}
-use Rattle.au_closed_types.specs.Types.{ClosedType}
-use Rattle.au_closed_types.proofs.SameLemmas.{same_is, same_self}
-use Rattle.au_closed_types.specs.Keys.{key_of}
-use Rattle.au_closed_types.proofs.KeyTellLemmas.{key_one}
-use Rattle.au_reach.specs.Reached.{TellsSame}
-use Rattle.au_reach.proofs.FoundLemmas.{one_list}
-use Rattle.au_closed_parts.specs.Occurring.{follows}
-use Rattle.au_entries.specs.Entries.{Found, begins}
+use Rattle.au_typing.specs.Trees.{NotedParts}
+use Rattle.au_type_texts.specs.Same.{same}
+use Rattle.au_type_texts.specs.Types.{ClosedType}
+use Rattle.au_type_texts.proofs.SameLemmas.{same_is, same_self}
+use Rattle.au_type_texts.specs.Keys.{key_of}
+use Rattle.au_type_texts.proofs.KeyTellLemmas.{key_one}
+use Rattle.au_graphs.specs.Reached.{TellsSame}
+use Rattle.au_graphs.proofs.FoundLemmas.{one_list}
+use Rattle.au_closed_trees.specs.Occurring.{follows}
+use Rattle.au_closing.specs.Entries.{Found, begins}
 use Rattle.au_closing.specs.Closes.{ClosedFunction, ClosesFunctions}
 use Rattle.au_closing.proofs.ClosesLemmas.{one_closing}
 use Rattle.au_closed_programs.specs.Programs.{ClosedProgram, Closes, ClosesTypes, TypeRow, plain_instance, row_cmp, row_of, types_in_functions}

@@ -10,7 +10,7 @@ use Rattle.au_modules.specs.Programs.{ModuleParts}
 use Rattle.au_names.specs.declared.targets.Target.{Target}
 use Rattle.au_names.specs.Standing.{Standing, standing_at, standing_in}
 use Rattle.au_names.proofs.DefinitionLemmas.{module_place}
-use Rattle.au_derivations.specs.Trees.{NotedDeclaration, NotedMethod, NotedParts}
+use Rattle.au_typing.specs.Trees.{NotedDeclaration, NotedMethod, NotedParts}
 use Rattle.au_closing.specs.Bodies.{BodyOf, body_in, body_of, body_standing, defining, is_method, method_body}
 
 -- a declaration that is found stands in a module of the program

@@ -2,8 +2,8 @@
 use Rattle.std.proofs.Common.{◌≡◌, ℕ, List}
 use Rattle.std.specs.Prelude.{Option}
 use Rattle.au_syntax.specs.declared.modules.Part.TheVariants.{Body}
-use Rattle.au_tables.specs.declared.spaces.Space.TheVariants.{Callables, Values}
-use Rattle.au_tables.specs.Tables as tables
+use Rattle.au_types.specs.declared.spaces.Space.TheVariants.{Callables, Values}
+use Rattle.au_types.specs.Tables as tables
 use Rattle.au_types.specs.declared.parameters.Parameter.{Parameter}
 use Rattle.au_types.specs.declared.types.DeclAt.{DeclAt}
 use Rattle.au_modules.specs.Programs.{ModuleParts}
@@ -11,15 +11,15 @@ use Rattle.au_modules.specs.Slots as slots
 use Rattle.au_names.specs.HeadsOf.{heads_of}
 use Rattle.au_names.specs.Meanings.{declared_by}
 use Rattle.au_classes.specs.Rows.{rows_of}
-use Rattle.au_outsides.specs.Written.{seen_at}
-use Rattle.au_given_types.specs.Given.{Given}
+use Rattle.au_typing.specs.Written.{seen_at}
+use Rattle.au_type_texts.specs.Given.{Given}
 use Rattle.au_closed_trees.specs.declared.notes.Literal.{Literal}
 use Rattle.au_closing.specs.declared.leading.Sight.{Sight}
 use Rattle.au_closing.specs.Bodies.{constant_seen}
 use Rattle.au_closing.specs.Closes.{change_by}
 use Rattle.au_closing.specs.Instances.{Instance, instance_of}
 use Rattle.au_closing.specs.Leading.{call_leads, case_name, declared_name, target_leads}
-use Rattle.au_closing.specs.Views.{change_seen, leads_of}
+use Rattle.au_closing.specs.ClosingViews.{change_seen, leads_of}
 
 module _ (sight : Sight) (program : List ModuleParts) (place : ℕ) (given : Given)
     (modules : slots.modules sight.program.now ≡ program)

@@ -4,13 +4,13 @@ use Rattle.au_base.specs.declared.limits.Limit.{Limit}
 use Rattle.au_syntax.specs.Plain.{Bytes}
 use Rattle.au_modules.specs.Programs.{ModuleParts}
 use Rattle.au_names.specs.declared.targets.Target.{Target}
-use Rattle.au_derivations.specs.Trees.{NotedParts}
-use Rattle.au_reach.specs.Reached.{Lists}
-use Rattle.au_reach.specs.Walks.{IsWithin, Refused}
-use Rattle.au_entries.specs.Entries.{begins, entry_of, not_of_the_form, nowhere}
+use Rattle.au_typing.specs.Trees.{NotedParts}
+use Rattle.au_graphs.specs.Reached.{Lists}
+use Rattle.au_graphs.specs.Walks.{IsWithin, Refused}
+use Rattle.au_closing.specs.Entries.{begins, entry_of, not_of_the_form, nowhere}
 use Rattle.au_closing.specs.Closes.{calls_of}
 use Rattle.au_closing.specs.Instances.{Instance, same_instance}
-use Rattle.au_instance_walks.specs.Told.{instance_told, most_instances, too_many}
+use Rattle.au_closing.specs.Told.{instance_told, most_instances, too_many}
 use Rattle.au_closed_programs.specs.declared.faults.CloseFault.{CloseFault}
 use Rattle.au_closed_programs.specs.declared.faults.CloseFault.TheVariants as faults
 use Rattle.au_closed_programs.specs.declared.programs.ClosedProgram as found

@@ -2,9 +2,9 @@
 use Rattle.std.specs.Prelude.{◌≡◌, ℕ, List, Option, Some, length, map, slice_get}
 use Rattle.std.specs.Borrow.{Bor}
 use Rattle.std.specs.Option.{option_map}
-use Rattle.au_notes.specs.contracts.noted.NotedPhase.TheImpl.{ghosts as noted}
-use Rattle.au_notes.specs.declared.noted.Noted.{Noted}
-use Rattle.au_notes.specs.declared.notes.Notes.{Notes}
+use Rattle.au_sights.specs.contracts.noted.NotedPhase.TheImpl.{ghosts as noted}
+use Rattle.au_sights.specs.declared.noted.Noted.{Noted}
+use Rattle.au_sights.specs.declared.notes.Notes.{Notes}
 use Rattle.au_syntax.specs.declared.declarations.Decl.{Decl}
 use Rattle.au_syntax.specs.declared.declarations.Method.{Method}
 use Rattle.au_syntax.specs.Views as trees
@@ -14,7 +14,7 @@ use Rattle.au_names.specs.Exporting.{declarations_seen}
 use Rattle.au_promises.specs.declared.definitions.Definitions.{Definitions}
 use Rattle.au_promises.specs.Agreeing.{sight_of}
 use Rattle.au_promises.specs.Defining.{AreDefinitions}
-use Rattle.au_derivations.specs.Trees.{NotedDeclaration, NotedMethod}
+use Rattle.au_typing.specs.Trees.{NotedDeclaration, NotedMethod}
 use Rattle.au_closed_programs.specs.declared.bodies.Body as code
 use Rattle.au_closing.specs.Bodies.{BodyOf}
 

@@ -1,9 +1,9 @@
 -- What the code's closed functions say.
 use Rattle.std.specs.Prelude.{List, map}
 use Rattle.au_closed_programs.specs.declared.functions.ClosedFunction as found
-use Rattle.au_closed_parts.specs.Views.{fields_said}
+use Rattle.au_closed_trees.specs.Views.{fields_said}
 use Rattle.au_closed_trees.specs.contracts.phase.ClosedTreesPhase.TheImpl.{ghosts as closed}
-use Rattle.au_closed_types.specs.Views.{closed_meaning}
+use Rattle.au_type_texts.specs.Views.{closed_meaning}
 use Rattle.au_closing.specs.Closes.{ClosedFunction}
 use Rattle.au_syntax.specs.Views.{block}
 

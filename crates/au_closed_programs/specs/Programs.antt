@@ -10,18 +10,18 @@ use Rattle.au_types.specs.declared.types.DeclAt.{DeclAt}
 use Rattle.au_modules.specs.Programs.{ModuleParts}
 use Rattle.au_names.specs.declared.targets.Target.{Target}
 use Rattle.au_names.specs.HeadsOf.{heads_of}
-use Rattle.au_derivations.specs.Trees.{NotedParts}
-use Rattle.au_universes.specs.Universes.{is_linear}
-use Rattle.au_closed_types.specs.Same.{same}
-use Rattle.au_closed_types.specs.Texts.{text_of}
-use Rattle.au_closed_types.specs.Types.{ClosedType, named}
-use Rattle.au_closed_types.specs.Keys.{key_of}
+use Rattle.au_typing.specs.Trees.{NotedParts}
+use Rattle.au_matching.specs.Universes.{is_linear}
+use Rattle.au_type_texts.specs.Same.{same}
+use Rattle.au_type_texts.specs.ClosedTexts.{text_of}
+use Rattle.au_type_texts.specs.Types.{ClosedType, named}
+use Rattle.au_type_texts.specs.Keys.{key_of}
 use Rattle.au_instances.specs.ClosedInstances.{closed_universe}
-use Rattle.au_reach.specs.Reached.{Lists}
-use Rattle.au_closed_parts.specs.Occurring.{counts_in, follows, occurring, occurring_in_fields}
-use Rattle.au_closed_parts.specs.Parts.{ClosedCase, cases_of}
-use Rattle.au_tree_types.specs.Types.{types_in_block}
-use Rattle.au_entries.specs.Entries.{begins, entry_of}
+use Rattle.au_graphs.specs.Reached.{Lists}
+use Rattle.au_closed_trees.specs.Occurring.{counts_in, follows, occurring, occurring_in_fields}
+use Rattle.au_closed_trees.specs.Parts.{ClosedCase, cases_of}
+use Rattle.au_closed_trees.specs.Types.{types_in_block}
+use Rattle.au_closing.specs.Entries.{begins, entry_of}
 use Rattle.au_closing.specs.Closes.{ClosedFunction, ClosesFunctions}
 use Rattle.au_closing.specs.Instances.{Instance}
 use Rattle.au_closing.specs.Leading.{module_name}

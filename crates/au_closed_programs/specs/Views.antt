@@ -1,7 +1,7 @@
 -- What the code's closed programs say.
 use Rattle.std.specs.Prelude.{List, map}
-use Rattle.au_closed_types.specs.Views.{closed_meaning}
-use Rattle.au_closed_parts.specs.Views.{cases_said}
+use Rattle.au_type_texts.specs.Views.{closed_meaning}
+use Rattle.au_closed_trees.specs.Views.{cases_said}
 use Rattle.au_closed_programs.specs.FunctionViews.{functions_said}
 use Rattle.au_closed_programs.specs.declared.programs.ClosedProgram as found
 use Rattle.au_closed_programs.specs.declared.rows.TypeRow as found_row

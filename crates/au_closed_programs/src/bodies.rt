@@ -5,7 +5,7 @@ ghost use Rattle.std.specs.Option.{option_map};
 ghost use Rattle.au_closing.specs.Bodies as spec;
 ghost use Rattle.au_closed_programs.specs.Defined.{AllDefined, body_said, method_seen};
 ghost use Rattle.au_modules.specs.Slots as slots;
-ghost use Rattle.au_notes.specs.contracts.noted.NotedPhase.TheImpl.{ghosts as noted};
+ghost use Rattle.au_sights.specs.contracts.noted.NotedPhase.TheImpl.{ghosts as noted};
 ghost use Rattle.au_noting_programs.specs.Said.{modules_said};
 ghost use Rattle.au_syntax.specs.Views as trees;
 
@@ -13,9 +13,9 @@ use crate::defining::defining;
 use au_base::{Memory, Text};
 use au_imports::Resolved;
 use au_names::Target;
-use au_notes::Noted;
 use au_noting_programs::NotedModule;
 use au_promises::definitions::Definitions;
+use au_sights::Noted;
 use au_syntax::{Block, Decl, Generic, Method, Signature};
 use std::alloc::Global;
 

@@ -7,27 +7,25 @@ ghost use Rattle.au_classes.specs.Rows.{rows_of};
 ghost use Rattle.au_closing.specs.Bodies as found;
 ghost use Rattle.au_closing.specs.Closes as closes;
 ghost use Rattle.au_closing.specs.Leading.{module_name};
-ghost use Rattle.au_closing.specs.Views.{instance_said, instances_said};
-ghost use Rattle.au_given_types.specs.Views.{given_said};
+ghost use Rattle.au_closing.specs.ClosingViews.{instance_said, instances_said};
+ghost use Rattle.au_type_texts.specs.GivenViews.{given_said};
 ghost use Rattle.au_modules.specs.Slots as slots;
 ghost use Rattle.au_names.specs.Meanings.{declared_by};
 ghost use Rattle.au_noting_programs.specs.Said.{modules_said};
-ghost use Rattle.au_outsides.specs.Written.{seen_at, types_at};
+ghost use Rattle.au_typing.specs.Written.{seen_at, types_at};
 ghost use Rattle.au_syntax.specs.declared.modules.Part.TheVariants as parts;
-ghost use Rattle.au_tables.specs.declared.spaces.Space.TheVariants as spaces;
+ghost use Rattle.au_types.specs.declared.spaces.Space.TheVariants as spaces;
 
 use crate::bodies::{Body, body_of};
 use au_base::{Memory, Name};
-use au_closing::{Instance, Sight, instances_called};
-use au_given_types::GivenType;
+use au_closing::{Calls, Instance, Sight, instances_called};
 use au_imports::Resolved;
-use au_instance_walks::Calls;
 use au_instances::Instances;
 use au_noting_programs::NotedModule;
 use au_promises::definitions::Definitions;
 use au_syntax::Part;
-use au_tables::Table;
-use au_types::DeclAt;
+use au_type_texts::GivenType;
+use au_types::{DeclAt, Table};
 use std::alloc::Global;
 
 /// A program with notes, and the definitions of the bodies of all its modules.

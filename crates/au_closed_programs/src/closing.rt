@@ -7,7 +7,7 @@ ghost use Rattle.au_closed_programs.specs.Answers.{Answers, PassesNoLimit, Tells
 ghost use Rattle.au_closed_programs.specs.Programs.{ClosesTypes};
 ghost use Rattle.au_closed_programs.specs.Views.{rows_said};
 ghost use Rattle.au_closing.specs.Closes as closes;
-ghost use Rattle.au_entries.specs.Entries as entries;
+ghost use Rattle.au_closing.specs.Entries as entries;
 ghost use Rattle.au_modules.specs.Slots as slots;
 ghost use Rattle.au_names.specs.declared.targets.Target.{Target};
 ghost use Rattle.au_noting_programs.specs.Said.{modules_said};
@@ -20,13 +20,11 @@ use crate::listing::closed_functions;
 use crate::programs::ClosedProgram;
 use crate::types::closed_types;
 use au_base::{Memory, Name};
-use au_closing::Instance;
-use au_entries::{Begin, EntryFault, entry_of};
+use au_closing::{Begin, EntryFault, Instance, Reached, entry_of, reached_instances};
+use au_graphs::WalkFault;
 use au_imports::Resolved;
-use au_instance_walks::{Reached, reached_instances};
 use au_instances::Instances;
 use au_noting_programs::NotedModule;
-use au_reach::WalkFault;
 use std::alloc::Global;
 
 /// The closed program of the instances that are reached from its entry, which takes the root or not.

@@ -20,12 +20,12 @@ ghost use Rattle.au_syntax.specs.Views.{written};
 use au_base::Memory;
 use au_imports::Resolved;
 use au_names::Declared;
-use au_notes::Noted;
 use au_noting_programs::NotedModule;
 use au_promises::agreeing::scope_of;
 use au_promises::definitions::Definitions;
 use au_promises::finding::instance_index;
 use au_promises::sights::Sight;
+use au_sights::Noted;
 use au_syntax::{Decl, Generic, Ident, Parsed, Part, TypeText, Whole};
 use std::alloc::Global;
 

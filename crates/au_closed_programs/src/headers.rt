@@ -1,16 +1,16 @@
 //! What is written before a body, with closed types.
 
 ghost use Rattle.std.specs.Prelude.{◌≡◌, IfOk, map};
-ghost use Rattle.au_closed_parts.specs.Parts as spec;
-ghost use Rattle.au_closed_parts.specs.Views.{field_said, fields_said};
-ghost use Rattle.au_generics.specs.Meanings.{parameter, written_params};
-ghost use Rattle.au_given_types.specs.Views.{given_said};
-ghost use Rattle.au_notes.specs.contracts.noted.NotedPhase.TheImpl.{ghosts as noted};
+ghost use Rattle.au_closed_trees.specs.Parts as spec;
+ghost use Rattle.au_closed_trees.specs.Views.{field_said, fields_said};
+ghost use Rattle.au_judged_types.specs.Meanings.{parameter, written_params};
+ghost use Rattle.au_type_texts.specs.GivenViews.{given_said};
+ghost use Rattle.au_sights.specs.contracts.noted.NotedPhase.TheImpl.{ghosts as noted};
 ghost use Rattle.au_syntax.specs.Views.{constrained, in_universe, labelled};
 
 use au_base::Memory;
-use au_closed_parts::{ClosedField, Written, field_under};
-use au_notes::Noted;
+use au_closed_trees::{ClosedField, Written, field_under};
+use au_sights::Noted;
 use au_syntax::{Field, Generic, TypeParameter};
 use au_types::{Parameter, Params};
 use std::alloc::Global;

@@ -3,7 +3,7 @@
 ghost use Rattle.std.specs.Prelude.{◌≡◌, IfOk, length};
 ghost use Rattle.au_closing.specs.Bodies as found;
 ghost use Rattle.au_closing.specs.Instances as spec;
-ghost use Rattle.au_closing.specs.Views.{instance_said};
+ghost use Rattle.au_closing.specs.ClosingViews.{instance_said};
 ghost use Rattle.au_modules.specs.Slots as slots;
 ghost use Rattle.au_noting_programs.specs.Said.{modules_said};
 
@@ -11,8 +11,7 @@ use crate::calls::Bodies;
 use crate::constants::value_of;
 use au_base::Memory;
 use au_closed_trees::Literal;
-use au_closing::{Instance, Listed};
-use au_instance_walks::Reached;
+use au_closing::{Instance, Listed, Reached};
 use au_types::DeclAt;
 use std::alloc::Global;
 

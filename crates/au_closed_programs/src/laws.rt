@@ -2,7 +2,7 @@
 
 ghost use Rattle.std.specs.Prelude.{◌≡◌, List};
 ghost use Rattle.au_closed_programs.specs.Programs.{ClosedProgram, Closes};
-ghost use Rattle.au_derivations.specs.Trees.{NotedParts};
+ghost use Rattle.au_typing.specs.Trees.{NotedParts};
 ghost use Rattle.au_modules.specs.Programs.{ModuleParts};
 ghost use Rattle.au_syntax.specs.Plain.{Bytes};
 

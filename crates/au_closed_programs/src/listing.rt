@@ -10,7 +10,7 @@ use crate::calls::Bodies;
 use crate::functions::{ClosedFunction, instance_closed};
 use crate::known::Known;
 use au_base::Memory;
-use au_instance_walks::Reached;
+use au_closing::Reached;
 use std::alloc::Global;
 
 /// The instances of a list with their closed trees, over this list, in its order.

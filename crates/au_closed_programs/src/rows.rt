@@ -1,24 +1,24 @@
 //! The closed declared types of a program.
 
 ghost use Rattle.std.specs.Prelude.{◌≡◌, IfOk, map};
-ghost use Rattle.au_closed_types.specs.Keys as keys;
+ghost use Rattle.au_type_texts.specs.Keys as keys;
 ghost use Rattle.au_closed_programs.specs.Programs as spec;
 ghost use Rattle.au_closed_programs.specs.Views.{row_said, rows_said};
-ghost use Rattle.au_closed_types.specs.Texts.{text_of};
-ghost use Rattle.au_closed_types.specs.Views.{closed_meaning};
+ghost use Rattle.au_type_texts.specs.ClosedTexts.{text_of};
+ghost use Rattle.au_type_texts.specs.Views.{closed_meaning};
 ghost use Rattle.au_closing.specs.Leading.{module_name};
 ghost use Rattle.au_instances.specs.ClosedInstances as instances;
 ghost use Rattle.au_modules.specs.Slots as slots;
 ghost use Rattle.au_names.specs.HeadsOf.{heads_of};
-ghost use Rattle.au_universes.specs.Universes as universes;
+ghost use Rattle.au_matching.specs.Universes as universes;
 
 use au_base::{Memory, Text};
-use au_closed_parts::{ClosedCase, cases_of};
-use au_closed_types::{Closed, add_key, closed_text, copy_closed};
+use au_closed_trees::{ClosedCase, cases_of};
 use au_imports::Resolved;
 use au_instances::universes::closed_universe;
+use au_matching::TypeUniverse;
+use au_type_texts::{Closed, add_key, closed_text, copy_closed};
 use au_types::Heads;
-use au_universes::TypeUniverse;
 use std::alloc::Global;
 use std::cmp::Ordering;
 
@@ -72,7 +72,7 @@ fn name_at(alloc: Global, program: &Resolved, place: u16) -> Result<Text, Memory
 }
 
 /// The name of the module of a declared type.
-#[tactic(auto, using(au_closed_types::proofs::ClosedLemmas::closed_steps))]
+#[tactic(auto, using(au_type_texts::proofs::ClosedLemmas::closed_steps))]
 fn home_of(alloc: Global, program: &Resolved, of: &Closed) -> Result<Text, Memory>
     ensures { IfOk result (λ name.
         name ≡ spec.home_of (slots.modules program.now) (closed_meaning of.now)) }

@@ -3,21 +3,20 @@
 ghost use Rattle.std.specs.Prelude.{◌≡◌, ◌++◌, IfOk, OnOk, map, true};
 ghost use Rattle.std.specs.List.Sorted.{IsPermutation, IsSorted};
 ghost use Rattle.au_closed_programs.specs.FunctionViews.{function_said, functions_said};
-ghost use Rattle.au_closed_parts.specs.Occurring.{counts_in, occurring_in_fields};
-ghost use Rattle.au_closed_parts.specs.Views.{fields_said};
+ghost use Rattle.au_closed_trees.specs.Occurring.{counts_in, occurring_in_fields};
+ghost use Rattle.au_closed_trees.specs.Views.{fields_said};
 ghost use Rattle.au_closed_programs.specs.Programs as spec;
 ghost use Rattle.au_closed_programs.specs.Programs.{ClosesTypes};
 ghost use Rattle.au_closed_programs.specs.Views.{rows_said};
-ghost use Rattle.au_closed_types.specs.Views.{closed_meaning};
+ghost use Rattle.au_type_texts.specs.Views.{closed_meaning};
 ghost use Rattle.au_modules.specs.Slots as slots;
 
 use crate::functions::ClosedFunction;
 use crate::rows::{TypeRow, row_cmp, rows_of};
 use au_base::Memory;
-use au_closed_parts::{ClosedField, add_occurring, types_reached};
-use au_closed_types::Closed;
+use au_closed_trees::{ClosedField, add_occurring, add_types_in_block, types_reached};
 use au_imports::Resolved;
-use au_tree_types::add_types_in_block;
+use au_type_texts::Closed;
 use au_types::Heads;
 use std::alloc::Global;
 

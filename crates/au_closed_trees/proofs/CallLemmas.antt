@@ -3,7 +3,7 @@ use Rattle.std.proofs.Common.{◌≡◌, ℕ, Bool, List, [], ◌++◌, Vec, app
 use Rattle.std.specs.Global.{Global}
 use Rattle.std.proofs.lemmas.List.{append-nil}
 use Rattle.au_base.specs.declared.places.Pos.{Pos}
-use Rattle.au_notes.specs.contracts.noted.NotedPhase.TheImpl.{ghosts as noted}
+use Rattle.au_sights.specs.contracts.noted.NotedPhase.TheImpl.{ghosts as noted}
 use Rattle.au_syntax.specs.declared.expressions.BinaryOperator.{BinaryOperator}
 use Rattle.au_syntax.specs.declared.expressions.BorrowMode.{BorrowMode}
 use Rattle.au_syntax.specs.declared.expressions.Expr as expr

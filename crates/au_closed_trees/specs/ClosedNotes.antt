@@ -4,7 +4,7 @@ use Rattle.au_shipped.specs.declared.prims.ShippedCall.{ShippedCall}
 use Rattle.au_syntax.specs.Expressions.{Expression}
 use Rattle.au_syntax.specs.Plain.{Bytes}
 use Rattle.au_syntax.specs.Statements.{Statement, Statements}
-use Rattle.au_closed_types.specs.Types.{ClosedType}
+use Rattle.au_type_texts.specs.Types.{ClosedType}
 use Rattle.au_closed_trees.specs.declared.notes.Literal.{Literal}
 
 -- what is noted at an expression: its closed type; where a variable or a part of one is mentioned, whether

@@ -1,5 +1,12 @@
+pub mod TypeNames
+pub mod Parts
+pub mod Occurring
+pub mod Views
+pub mod Telling
 pub mod ClosedNotes
 pub mod Changes
 pub mod Renoted
 pub mod Calls
-pub mod Views
+pub mod TreeViews
+pub mod Notes
+pub mod Types

@@ -1,17 +1,22 @@
--- What the code's closed notes say.
-use Rattle.std.specs.Prelude.{ℕ}
-use Rattle.au_closed_types.specs.Views.{closed_meaning}
-use Rattle.au_closed_trees.specs.declared.notes.ClosedNote as found
-use Rattle.au_closed_trees.specs.declared.notes.Callee as found_callee
-use Rattle.au_closed_trees.specs.declared.notes.Callee.TheVariants as code
-use Rattle.au_closed_trees.specs.ClosedNotes.{Callee, ClosedNote, constructor, instance, shipped}
+-- What the code's fields and cases say.
+use Rattle.std.specs.Prelude.{List, map}
+use Rattle.au_type_texts.specs.Views.{closed_meaning}
+use Rattle.au_closed_trees.specs.declared.parts.ClosedCase as found_case
+use Rattle.au_closed_trees.specs.declared.parts.ClosedField as found_field
+use Rattle.au_closed_trees.specs.Parts.{ClosedCase, ClosedField}
 
--- a note of an expression
-abbrev pub closed_note : found.ClosedNote → ClosedNote
-closed_note n = record { of = closed_meaning n.of; free = n.free; literal = n.literal }
+-- a field
+abbrev pub field_said : found_field.ClosedField → ClosedField
+field_said one = record { name = one.name; of = closed_meaning one.of }
 
--- what a call leads to
-abbrev pub callee : found_callee.Callee → Callee ℕ
-callee (code.Instance number) = instance number
-callee (code.Constructor of tag) = constructor (closed_meaning of) tag
-callee (code.Shipped call) = shipped call
+-- fields in order
+abbrev pub fields_said : List found_field.ClosedField → List ClosedField
+fields_said all = map field_said all
+
+-- a case
+abbrev pub case_said : found_case.ClosedCase → ClosedCase
+case_said one = record { name = one.name; fields = fields_said one.fields.items }
+
+-- cases in order
+abbrev pub cases_said : List found_case.ClosedCase → List ClosedCase
+cases_said all = map case_said all

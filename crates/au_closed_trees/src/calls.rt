@@ -1,14 +1,14 @@
 //! What the calls in a tree lead to.
 
 ghost use Rattle.std.specs.Prelude.{◌≡◌, ◌++◌, IfOk, OnOk, map};
-ghost use Rattle.au_notes.specs.contracts.noted.NotedPhase.TheImpl.{ghosts as noted};
+ghost use Rattle.au_sights.specs.contracts.noted.NotedPhase.TheImpl.{ghosts as noted};
 ghost use Rattle.au_syntax.specs.Views.{argument_all, arm_all, block, branch_all, expression};
 ghost use Rattle.au_syntax.specs.Views.{expression_all, statement};
 ghost use Rattle.au_closed_trees.specs.Calls as spec;
 
 use crate::changes::Finder;
 use au_base::Memory;
-use au_notes::Noted;
+use au_sights::Noted;
 use au_syntax::{Argument, Arm, Block, Branch, Expr, Stmt};
 use std::alloc::Global;
 

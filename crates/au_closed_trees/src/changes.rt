@@ -1,15 +1,15 @@
 //! How closed notes are made, and what is found at a call.
 
 ghost use Rattle.std.specs.Prelude.{◌≡◌, ◌++◌, ℕ, IfOk, List, OnOk, map};
-ghost use Rattle.au_notes.specs.Views.{note as note_said};
+ghost use Rattle.au_sights.specs.Views.{note as note_said};
 ghost use Rattle.au_typing.specs.Notes.{Note};
 ghost use Rattle.au_closed_trees.specs.Changes.{Change};
 ghost use Rattle.au_closed_trees.specs.ClosedNotes.{Callee as CalleeSeen, ClosedNote as NoteSeen};
-ghost use Rattle.au_closed_trees.specs.Views.{callee as callee_said, closed_note};
+ghost use Rattle.au_closed_trees.specs.TreeViews.{callee as callee_said, closed_note};
 
 use crate::notes::{Callee, ClosedNote};
 use au_base::{Memory, Name};
-use au_notes::Notes;
+use au_sights::Notes;
 use std::alloc::Global;
 
 /// How the notes of a tree are closed. Each call errs only for want of memory.

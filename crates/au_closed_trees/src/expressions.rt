@@ -1,19 +1,19 @@
 //! Expressions whose types are closed.
 
 ghost use Rattle.std.specs.Prelude.{◌≡◌, IfOk, map};
-ghost use Rattle.au_notes.specs.contracts.noted.NotedPhase.TheImpl.{ghosts as noted};
+ghost use Rattle.au_sights.specs.contracts.noted.NotedPhase.TheImpl.{ghosts as noted};
 ghost use Rattle.au_syntax.specs.Views.{argument_all, expression, expression_all, node, placed};
 ghost use Rattle.au_closed_trees.specs.contracts.phase.ClosedTreesPhase.TheImpl.{ghosts as closed};
 ghost use Rattle.au_closed_trees.specs.Renoted.{arguments_renoted, called, expression_renoted};
 ghost use Rattle.au_closed_trees.specs.Renoted.{expressions_renoted, mentioned, renoted};
-ghost use Rattle.au_closed_trees.specs.Views.{callee as callee_said};
+ghost use Rattle.au_closed_trees.specs.TreeViews.{callee as callee_said};
 
 use crate::changes::Closer;
 use crate::names::{copy_name, copy_names};
 use crate::notes::Callee;
 use crate::phase::ClosedTrees;
 use au_base::Memory;
-use au_notes::{Noted, copy_text_of_type};
+use au_sights::{Noted, copy_text_of_type};
 use au_syntax::{Argument, Expr, Ident, Site};
 use std::alloc::Global;
 

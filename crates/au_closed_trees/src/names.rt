@@ -1,13 +1,13 @@
 //! Copies of names and of what is bound, for a closed tree.
 
 ghost use Rattle.std.specs.Prelude.{◌≡◌, IfOk, map};
-ghost use Rattle.au_notes.specs.contracts.noted.NotedPhase.TheImpl.{ghosts as noted};
+ghost use Rattle.au_sights.specs.contracts.noted.NotedPhase.TheImpl.{ghosts as noted};
 ghost use Rattle.au_syntax.specs.Views.{bound, placed, renaming};
 ghost use Rattle.au_closed_trees.specs.contracts.phase.ClosedTreesPhase.TheImpl.{ghosts as closed};
 
 use crate::phase::ClosedTrees;
 use au_base::Memory;
-use au_notes::{Noted, copy_text_of_type};
+use au_sights::{Noted, copy_text_of_type};
 use au_syntax::{Bind, BorrowNames, Ident, Renamed};
 use std::alloc::Global;
 

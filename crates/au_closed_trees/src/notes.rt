@@ -1,11 +1,11 @@
 //! What is noted in a tree whose types are closed.
 
 ghost use Rattle.std.specs.Prelude.{◌≡◌, IfOk};
-ghost use Rattle.au_closed_trees.specs.Views.{callee, closed_note};
+ghost use Rattle.au_closed_trees.specs.TreeViews.{callee, closed_note};
 
 use au_base::{IntKind, Memory, Text};
-use au_closed_types::{Closed, copy_closed};
 use au_shipped::ShippedCall;
+use au_type_texts::{Closed, copy_closed};
 use std::alloc::Global;
 
 /// The literal that is the value of a constant.

@@ -3,7 +3,7 @@
 ghost use Rattle.std.specs.Prelude.{◌≡◌, true};
 ghost use Rattle.std.specs.Prelude.{List, ℕ};
 ghost use Rattle.au_closed_trees.specs.ClosedNotes.{Callee as CalleeSeen, ClosedNote as NoteSeen};
-ghost use Rattle.au_closed_trees.specs.Views.{callee, closed_note};
+ghost use Rattle.au_closed_trees.specs.TreeViews.{callee, closed_note};
 
 use crate::notes::{Callee, ClosedNote};
 use au_base::{Memory, Name};

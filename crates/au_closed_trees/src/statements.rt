@@ -1,7 +1,7 @@
 //! Statements and blocks whose types are closed.
 
 ghost use Rattle.std.specs.Prelude.{◌≡◌, IfOk, map};
-ghost use Rattle.au_notes.specs.contracts.noted.NotedPhase.TheImpl.{ghosts as noted};
+ghost use Rattle.au_sights.specs.contracts.noted.NotedPhase.TheImpl.{ghosts as noted};
 ghost use Rattle.au_syntax.specs.Views.{arm_all, block, bound, branch_all, expression, placed, statement};
 ghost use Rattle.au_syntax.specs.Views.{written};
 ghost use Rattle.au_closed_trees.specs.contracts.phase.ClosedTreesPhase.TheImpl.{ghosts as closed};
@@ -13,7 +13,7 @@ use crate::expressions::close_boxed;
 use crate::names::{copy_binds, copy_borrow_names, copy_name, copy_names};
 use crate::phase::ClosedTrees;
 use au_base::Memory;
-use au_notes::{Noted, copy_text_of_type};
+use au_sights::{Noted, copy_text_of_type};
 use au_syntax::{Arm, Bind, Block, Branch, Expr, Ident, Stmt, TypeText};
 use std::alloc::Global;
 

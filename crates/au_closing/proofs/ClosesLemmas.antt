@@ -7,12 +7,12 @@ use Rattle.std.proofs.lemmas.Slice.Eq.{bytes_eq-Decides}
 use Rattle.au_types.specs.Rows.{same_place}
 use Rattle.au_types.proofs.SameLemmas.{place_is, place_self}
 use Rattle.au_modules.specs.Programs.{ModuleParts}
-use Rattle.au_derivations.specs.Trees.{NotedParts}
-use Rattle.au_given_types.specs.Given.{same_given}
-use Rattle.au_given_types.proofs.GivenLemmas.{given_is, given_self}
-use Rattle.au_reach.specs.Reached.{Has, Lists, TellsSame, all_next, follows, has}
-use Rattle.au_reach.proofs.FoundLemmas.{has_all, one_list}
-use Rattle.au_reach.proofs.HasLemmas.{adds_more}
+use Rattle.au_typing.specs.Trees.{NotedParts}
+use Rattle.au_type_texts.specs.Given.{same_given}
+use Rattle.au_type_texts.proofs.GivenLemmas.{given_is, given_self}
+use Rattle.au_graphs.specs.Reached.{Has, Lists, TellsSame, all_next, follows, has}
+use Rattle.au_graphs.proofs.FoundLemmas.{has_all, one_list}
+use Rattle.au_graphs.proofs.HasLemmas.{adds_more}
 use Rattle.au_closing.specs.Closes.{ClosedFunction, ClosesFunctions, calls_of, instance_closed}
 use Rattle.au_closing.specs.Instances.{Instance, place_in, same_instance}
 

@@ -11,13 +11,13 @@ use Rattle.au_types.specs.Types.{Meaning, arguments}
 use Rattle.au_types.specs.Views.{argument, argument_all, meaning}
 use Rattle.au_types.proofs.TypeLemmas.{region_argument_means, type_argument_means}
 use Rattle.au_matching.specs.Bindings.{Bindings}
-use Rattle.au_closed_types.specs.declared.types.Closed.{Closed}
-use Rattle.au_closed_types.specs.Types.{ClosedType}
-use Rattle.au_closed_types.specs.Views.{closed_meaning}
+use Rattle.au_type_texts.specs.declared.types.Closed.{Closed}
+use Rattle.au_type_texts.specs.Types.{ClosedType}
+use Rattle.au_type_texts.specs.Views.{closed_meaning}
 use Rattle.au_instances.specs.ClosedInstances.{type_in, types_in}
 use Rattle.au_instances.specs.Forms.{type_name}
-use Rattle.au_given_types.specs.Given.{Given, given_by}
-use Rattle.au_closed_parts.specs.TypeNames.{is_region, type_names}
+use Rattle.au_type_texts.specs.Given.{Given, given_by}
+use Rattle.au_closed_trees.specs.TypeNames.{is_region, type_names}
 use Rattle.au_closing.specs.Instances.{pair_before, paired, picked}
 
 -- a pair alone, before others

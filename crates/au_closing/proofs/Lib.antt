@@ -1,5 +1,10 @@
+mod NamingLemmas
+mod PlaceLemmas
+mod TypeLemmas
 pub mod ClosesLemmas
 mod GivenLemmas
-mod PlaceLemmas
+mod ClosingPlaceLemmas
 mod RowLemmas
 mod ShippedLemmas
+mod LoopLemmas
+pub mod WalkLemmas

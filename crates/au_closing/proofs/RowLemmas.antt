@@ -3,7 +3,7 @@ use Rattle.std.proofs.Common.{◌≡◌, Bool, true, false, cond, List, refl, sy
 use Rattle.std.specs.Prelude.{Option, None, Some}
 use Rattle.au_types.specs.declared.headings.Head.{Head}
 use Rattle.au_types.specs.declared.types.DeclAt.{DeclAt}
-use Rattle.au_closed_types.specs.Types.{ClosedType}
+use Rattle.au_type_texts.specs.Types.{ClosedType}
 use Rattle.au_instances.specs.ClosedInstances.{ClosedInstance, Part, closed_row, gives, if_gives, parts_in}
 use Rattle.au_instances.specs.Constructors.{closed_constructor}
 use Rattle.au_instances.specs.Rows.{Row}

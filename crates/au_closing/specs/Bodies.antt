@@ -7,8 +7,8 @@ use Rattle.au_syntax.specs.declared.modules.Part.TheVariants.{Interface, Body}
 use Rattle.au_syntax.specs.Expressions.{number, negative, text, truth, nil}
 use Rattle.au_syntax.specs.Modules.{Constrained, Header, constant_body, function_body, instance_body}
 use Rattle.au_syntax.specs.Plain.{Bytes, PlainDeclaration}
-use Rattle.au_tables.specs.declared.spaces.Space.TheVariants.{Values}
-use Rattle.au_tables.specs.Tables as tables
+use Rattle.au_types.specs.declared.spaces.Space.TheVariants.{Values}
+use Rattle.au_types.specs.Tables as tables
 use Rattle.au_types.specs.declared.types.DeclAt.{DeclAt}
 use Rattle.au_types.specs.Types as mean
 use Rattle.au_types.specs.Types.{Meaning}
@@ -20,9 +20,9 @@ use Rattle.au_names.specs.Meanings.{declared_by}
 use Rattle.au_names.specs.Standing.{Standing, standing_at}
 use Rattle.au_promises.specs.Agreeing.{sight_of}
 use Rattle.au_promises.specs.Promises.{defines}
-use Rattle.au_outsides.specs.Written.{seen_at}
+use Rattle.au_typing.specs.Written.{seen_at}
 use Rattle.au_typing.specs.Notes.{NotedExpression}
-use Rattle.au_derivations.specs.Trees.{NotedDeclaration, NotedEntry, NotedMethod, NotedParts, NotedStatements}
+use Rattle.au_typing.specs.Trees.{NotedDeclaration, NotedEntry, NotedMethod, NotedParts, NotedStatements}
 use Rattle.au_closed_trees.specs.declared.notes.Literal.{Literal}
 use Rattle.au_closed_trees.specs.declared.notes.Literal.TheVariants as literals
 

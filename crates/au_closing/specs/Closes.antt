@@ -6,23 +6,23 @@ use Rattle.au_syntax.specs.Plain.{Bytes}
 use Rattle.au_types.specs.declared.headings.Head.{Head}
 use Rattle.au_types.specs.declared.parameters.Parameter.{Parameter}
 use Rattle.au_types.specs.declared.types.DeclAt.{DeclAt}
-use Rattle.au_universes.specs.Universes.{is_free, universe_of}
-use Rattle.au_closed_types.specs.Types.{ClosedType}
+use Rattle.au_matching.specs.Universes.{is_free, universe_of}
+use Rattle.au_type_texts.specs.Types.{ClosedType}
 use Rattle.au_modules.specs.Programs.{ModuleParts}
 use Rattle.au_names.specs.HeadsOf.{heads_of}
-use Rattle.au_generics.specs.Meanings.{written_params}
-use Rattle.au_outsides.specs.Written.{types_at}
+use Rattle.au_judged_types.specs.Meanings.{written_params}
+use Rattle.au_typing.specs.Written.{types_at}
 use Rattle.au_typing.specs.Notes.{Note}
-use Rattle.au_derivations.specs.Trees.{NotedParts}
-use Rattle.au_reach.specs.Reached.{Lists}
+use Rattle.au_typing.specs.Trees.{NotedParts}
+use Rattle.au_graphs.specs.Reached.{Lists}
 use Rattle.au_closed_trees.specs.declared.notes.Literal.{Literal}
 use Rattle.au_closed_trees.specs.Calls.{calls_in_block}
 use Rattle.au_closed_trees.specs.Changes.{Change}
 use Rattle.au_closed_trees.specs.ClosedNotes.{Callee, ClosedNote, ClosedStatements}
 use Rattle.au_closed_trees.specs.Renoted.{block_renoted}
 use Rattle.au_closing.specs.Bodies.{BodyOf, body_of, constant_seen, value_of}
-use Rattle.au_given_types.specs.Given.{Given, closed_under}
-use Rattle.au_closed_parts.specs.Parts.{ClosedField, field_under, written_under}
+use Rattle.au_type_texts.specs.Given.{Given, closed_under}
+use Rattle.au_closed_trees.specs.Parts.{ClosedField, field_under, written_under}
 use Rattle.au_closing.specs.Instances.{Instance, instance_of, numbered, same_instance}
 use Rattle.au_closing.specs.Leading.{call_leads, case_name, module_name}
 

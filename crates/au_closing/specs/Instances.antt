@@ -6,14 +6,14 @@ use Rattle.au_syntax.specs.Plain.{Bytes}
 use Rattle.au_types.specs.Rows.{same_place}
 use Rattle.au_types.specs.Types.{Meaning}
 use Rattle.au_names.specs.declared.targets.Target.{Target}
-use Rattle.au_generics.specs.Bounds.{parameters}
-use Rattle.au_closed_types.specs.Types.{ClosedType, named}
+use Rattle.au_judged_types.specs.Bounds.{parameters}
+use Rattle.au_type_texts.specs.Types.{ClosedType, named}
 use Rattle.au_instances.specs.ClosedInstances.{types_in}
 use Rattle.au_instances.specs.Forms.{arguments_of, type_name}
 use Rattle.au_instances.specs.Rows.{Row}
 use Rattle.au_closed_trees.specs.ClosedNotes.{Callee, constructor, instance, shipped}
-use Rattle.au_given_types.specs.Given.{Given, given_for, same_given}
-use Rattle.au_closed_parts.specs.TypeNames.{listed, type_names}
+use Rattle.au_type_texts.specs.Given.{Given, given_for, same_given}
+use Rattle.au_closed_trees.specs.TypeNames.{listed, type_names}
 
 -- An instance: of the function of a declaration, or of the method of a name in the instance of a class that
 -- a declaration is, with the closed types that are given for its type parameters in declared order. A method

@@ -9,26 +9,26 @@ use Rattle.au_syntax.specs.declared.modules.Part.TheVariants.{Body}
 use Rattle.au_syntax.specs.Modules.{Constrained, Header, record_type, union_type, function, class}
 use Rattle.au_syntax.specs.Modules.{function_body}
 use Rattle.au_syntax.specs.Plain.{Bytes, PlainDeclaration}
-use Rattle.au_tables.specs.declared.spaces.Space.TheVariants.{Callables}
-use Rattle.au_tables.specs.Tables as tables
+use Rattle.au_types.specs.declared.spaces.Space.TheVariants.{Callables}
+use Rattle.au_types.specs.Tables as tables
 use Rattle.au_types.specs.declared.types.DeclAt.{DeclAt}
 use Rattle.au_types.specs.Types.{parameter}
 use Rattle.au_matching.specs.Substituted.{substituted}
-use Rattle.au_closed_types.specs.Types.{ClosedType, truth, integer}
+use Rattle.au_type_texts.specs.Types.{ClosedType, truth, integer}
 use Rattle.au_modules.specs.Programs.{ModuleParts}
 use Rattle.au_names.specs.declared.targets.Target.{Target}
 use Rattle.au_names.specs.HeadsOf.{heads_of}
 use Rattle.au_names.specs.Standing.{Standing, standing_at}
-use Rattle.au_generics.specs.Meanings.{written_params}
+use Rattle.au_judged_types.specs.Meanings.{written_params}
 use Rattle.au_instances.specs.ClosedInstances.{closed_row}
 use Rattle.au_instances.specs.Rows.{Row}
 use Rattle.au_classes.specs.Rows.{rows_of}
-use Rattle.au_outsides.specs.Called.{is_case, is_method}
-use Rattle.au_outsides.specs.Written.{seen_at}
+use Rattle.au_typing.specs.Called.{is_case, is_method}
+use Rattle.au_typing.specs.Written.{seen_at}
 use Rattle.au_typing.specs.Notes.{Note}
 use Rattle.au_closed_trees.specs.ClosedNotes.{Callee, constructor, instance, shipped}
-use Rattle.au_given_types.specs.Given.{Given, closed_under, given_by}
-use Rattle.au_closed_parts.specs.TypeNames.{type_names}
+use Rattle.au_type_texts.specs.Given.{Given, closed_under, given_by}
+use Rattle.au_closed_trees.specs.TypeNames.{type_names}
 use Rattle.au_closing.specs.Instances.{Instance, method_at}
 
 -- ---- what is called

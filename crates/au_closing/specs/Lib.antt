@@ -1,5 +1,11 @@
+pub mod Entries
+pub mod Views
 pub mod Instances
 pub mod Leading
 pub mod Bodies
 pub mod Closes
-pub mod Views
+pub mod ClosingViews
+pub mod Keys
+pub mod Told
+pub mod WalkViews
+pub mod Telling

@@ -1,10 +1,10 @@
 //! What calls of methods of classes lead to.
 
 ghost use Rattle.std.specs.Prelude.{◌≡◌, IfOk};
-ghost use Rattle.au_closed_types.specs.Views.{closed_meaning};
+ghost use Rattle.au_type_texts.specs.Views.{closed_meaning};
 ghost use Rattle.au_closing.specs.Instances as instances;
 ghost use Rattle.au_closing.specs.Leading as spec;
-ghost use Rattle.au_closing.specs.Views.{instance_said, lead_said};
+ghost use Rattle.au_closing.specs.ClosingViews.{instance_said, lead_said};
 ghost use Rattle.au_instances.specs.Rows.{row_said};
 ghost use Rattle.au_modules.specs.Slots as slots;
 
@@ -12,10 +12,10 @@ use crate::instances::{Instance, Lead};
 use crate::rows::{given_of_row, row_at};
 use crate::shipped::shipped_method;
 use au_base::{Memory, Name, Text};
-use au_closed_types::Closed;
 use au_imports::Resolved;
 use au_instances::{ClassAt, Instances, Row};
 use au_names::Target;
+use au_type_texts::Closed;
 use std::alloc::Global;
 
 /// The instance of a method of a name at a closed type, by the row of the instance of its class.

@@ -1,76 +1,119 @@
-//! The instances that the calls of a body lead to.
+//! Functions by the names of their modules and their own.
 
-ghost use Rattle.std.specs.Prelude.{◌≡◌, IfOk};
-ghost use Rattle.au_closed_trees.specs.Calls as calls;
-ghost use Rattle.au_closing.specs.Instances.{Instance as InstanceSeen};
-ghost use Rattle.au_closing.specs.Views.{instance_said, instances_said, leads_of};
-ghost use Rattle.au_given_types.specs.Views.{given_said};
-ghost use Rattle.au_notes.specs.contracts.noted.NotedPhase.TheImpl.{ghosts as noted};
-ghost use Rattle.au_syntax.specs.Views.{block};
+ghost use Rattle.std.specs.Prelude.{◌≡◌, ◌<◌, None, Some, if◌then◌else◌, length};
+ghost use Rattle.std.specs.Str.{bytes_eq};
+ghost use Rattle.au_closing.specs.Entries as spec;
+ghost use Rattle.au_closing.specs.Views.{function_seen};
+ghost use Rattle.au_modules.specs.Seen.{tree_seen};
+ghost use Rattle.au_modules.specs.Slots as slots;
+ghost use Rattle.au_names.specs.Exporting.{declarations_seen};
+ghost use Rattle.au_names.specs.Importing as importing;
+ghost use Rattle.au_names.specs.Walks.{written, written_all};
+ghost use Rattle.au_promises.specs.Written.{generics_of, header_of};
 
-use crate::instances::{Instance, Lead};
-use crate::leading::{Sight, call_leads};
-use au_base::{Memory, Name};
-use au_closed_trees::{Finder, calls_in_block};
-use au_given_types::GivenType;
-use au_notes::{Noted, Notes};
-use au_syntax::Block;
-use std::alloc::Global;
+use au_base::{Name, Pos};
+use au_imports::Resolved;
+use au_syntax::{Decl, Generic, Parsed, Signature, Whole};
 
-/// What is seen in a body, and what is given for its type parameters.
+/// A function that has a body.
 #[derive(Clone, Copy)]
-struct CallFinder<'a> {
-    sight: Sight<'a>,
-    given: &'a [GivenType],
+pub(crate) struct Candidate<'a> {
+    /// Its place in the text.
+    pub at: Pos,
+    /// Its type parameters.
+    pub generics: &'a Vec<Generic<Parsed>>,
+    /// What is written before its body.
+    pub signature: &'a Signature<Parsed>,
 }
 
-impl<'a> Finder for CallFinder<'a> {
-    type Found = Instance;
-
-    ghost Seen = { InstanceSeen };
-
-    ghost see = { λ one. instance_said one };
-
-    ghost leads = { λ finder. leads_of finder.sight (given_said finder.given.now) };
-
-    fn add(
-        &self,
-        alloc: Global,
-        of: &Notes,
-        name: &Name,
-        found: &mut Vec<Instance>,
-    ) -> Result<(), Memory> {
-        match call_leads(alloc, &self.sight, self.given, of, name)? {
-            Lead::Nowhere => Ok(()),
-            Lead::To(one) => {
-                found.push(one)?;
-                Ok(())
-            }
-            Lead::Constructor { .. } => Ok(()),
-            Lead::Shipped(_) => Ok(()),
+/// The place of the module of a name, if there is one.
+pub(crate) fn place_of(program: &Resolved, name: &Name) -> Option<usize>
+    ensures { result ≡ importing.place_of (slots.modules program.now) name.now }
+{
+    let modules = program.modules();
+    for place in 0..modules.len() {
+        if name.as_bytes() == modules.name(place).as_bytes() {
+            return Some(place);
         }
+    }
+    None
+}
+
+/// The function that a declaration is, if it is one of this name with a body.
+fn function_in<'a>(name: &Name, decl: &'a Decl<Parsed>) -> Option<Candidate<'a>>
+    ensures { function_seen result ≡ spec.function_in name.now (written decl.now) }
+{
+    match decl {
+        Decl::Constant(_, _, _) => None,
+        Decl::Opaque(_, _, _, _) => None,
+        Decl::Record(_, _, _, _, _) => None,
+        Decl::Union(_, _, _, _, _) => None,
+        Decl::Function(_, _, _) => None,
+        Decl::Class(_, _, _, _) => None,
+        Decl::Instance(_, _, _, _) => None,
+        Decl::ConstantBody(_, _, _, _) => None,
+        Decl::FunctionBody(at, generics, signature, _, _) => {
+            named_function(name, *at, generics, signature)
+        }
+        Decl::InstanceBody(_, _, _, _, _) => None,
     }
 }
 
-/// The instances that the calls of a block lead to, in the order of the text, where this is seen and this is
-/// given for the type parameters.
-///
-/// # Errors
-///
-/// Only for want of memory.
-pub fn instances_called(
-    alloc: Global,
-    sight: &Sight,
-    given: &[GivenType],
-    of: &Block<Noted>,
-) -> Result<Vec<Instance>, Memory>
-    ensures { IfOk result (λ found.
-        instances_said found.items
-        ≡ calls.calls_in_block (leads_of sight.now (given_said given.now)) (block noted of.now)) }
+/// A function, if it has this name.
+fn named_function<'a>(
+    name: &Name,
+    at: Pos,
+    generics: &'a Vec<Generic<Parsed>>,
+    signature: &'a Signature<Parsed>,
+) -> Option<Candidate<'a>>
+    ensures { function_seen result
+        ≡ (if bytes_eq name.now (header_of signature.now).name.name then Some (record {
+          at = at;
+          generics = generics_of generics.now.items;
+          header = header_of signature.now;
+        }) else None) }
 {
-    let finder = CallFinder {
-        sight: *sight,
-        given,
-    };
-    calls_in_block(alloc, &finder, of)
+    if name.as_bytes() == signature.name.name.as_bytes() {
+        Some(Candidate {
+            at,
+            generics,
+            signature,
+        })
+    } else {
+        None
+    }
+}
+
+/// The first function of a name with a body among declarations, if there is one.
+fn function_among<'a>(name: &Name, decls: &'a [Decl<Parsed>]) -> Option<Candidate<'a>>
+    ensures { function_seen result ≡ spec.function_among name.now (written_all decls.now) }
+{
+    for decl in decls {
+        if let Some(found) = function_in(name, decl) {
+            return Some(found);
+        }
+    }
+    None
+}
+
+/// The declarations of a file, of which there are none where it isn't there.
+fn declarations_in<'a>(part: Option<&'a Whole<Parsed>>) -> &'a [Decl<Parsed>]
+    ensures { written_all result.now ≡ declarations_seen (tree_seen part.entry) }
+{
+    match part {
+        None => &[],
+        Some(file) => file.tree().declarations.as_slice(),
+    }
+}
+
+/// The function of a name with a body in the module at a place, if there is one.
+pub(crate) fn function_at<'a>(
+    program: &'a Resolved,
+    place: usize,
+    name: &Name,
+) -> Option<Candidate<'a>>
+    requires { place < length (slots.modules program.now) }
+    ensures { function_seen result ≡ spec.function_at (slots.modules program.now) place name.now }
+{
+    function_among(name, declarations_in(program.modules().body(place)))
 }

@@ -1,24 +1,24 @@
 //! What calls of functions lead to.
 
 ghost use Rattle.std.specs.Prelude.{◌≡◌, [], IfOk, unwrap_or};
-ghost use Rattle.au_closed_parts.specs.TypeNames.{type_names};
+ghost use Rattle.au_closed_trees.specs.TypeNames.{type_names};
 ghost use Rattle.au_closing.specs.Leading as spec;
-ghost use Rattle.au_closing.specs.Views.{lead_said};
-ghost use Rattle.au_generics.specs.Meanings.{written_params};
-ghost use Rattle.au_given_types.specs.Given as given_types;
-ghost use Rattle.au_given_types.specs.Views.{given_said};
+ghost use Rattle.au_closing.specs.ClosingViews.{lead_said};
+ghost use Rattle.au_judged_types.specs.Meanings.{written_params};
+ghost use Rattle.au_type_texts.specs.Given as given_types;
+ghost use Rattle.au_type_texts.specs.GivenViews.{given_said};
 ghost use Rattle.au_modules.specs.Slots as slots;
 ghost use Rattle.au_promises.specs.Written.{generics_of};
 
 use crate::instances::{Instance, Lead};
 use crate::shipped::shipped_function;
 use au_base::{Memory, Name};
-use au_closed_parts::{is_region, push_given};
-use au_given_types::{GivenType, value_under};
+use au_closed_trees::{is_region, push_given};
 use au_imports::Resolved;
 use au_matching::Substitution;
 use au_names::Target;
 use au_syntax::{Generic, Parsed};
+use au_type_texts::{GivenType, value_under};
 use std::alloc::Global;
 
 /// What the substitution of a call gives for the type parameters of a function that aren't regions, in

@@ -2,13 +2,12 @@
 
 ghost use Rattle.std.specs.Prelude.{◌≡◌, IfOk};
 ghost use Rattle.au_closing.specs.Instances.{same_instance};
-ghost use Rattle.au_closing.specs.Views.{instance_said};
+ghost use Rattle.au_closing.specs.ClosingViews.{instance_said};
 
 use au_base::Memory;
-use au_closed_types::Closed;
-use au_given_types::{GivenType, copy_given, is_same_given};
 use au_names::Target;
 use au_shipped::ShippedCall;
+use au_type_texts::{Closed, GivenType, copy_given, is_same_given};
 use std::alloc::Global;
 
 /// A function or a method of an instance of a class, with closed types for its type parameters.

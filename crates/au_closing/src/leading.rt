@@ -3,29 +3,29 @@
 ghost use Rattle.std.specs.Prelude.{◌≡◌, IfOk, Some, find, position};
 ghost use Rattle.std.specs.Option.{option_map};
 ghost use Rattle.au_closing.specs.Leading as spec;
-ghost use Rattle.au_closing.specs.Views.{lead_said};
-ghost use Rattle.au_given_types.specs.Views.{given_said};
+ghost use Rattle.au_closing.specs.ClosingViews.{lead_said};
+ghost use Rattle.au_type_texts.specs.GivenViews.{given_said};
 ghost use Rattle.au_modules.specs.Slots as slots;
 ghost use Rattle.au_names.specs.Walks.{written, written_parameter};
-ghost use Rattle.au_notes.specs.Views.{note as note_said};
-ghost use Rattle.au_outsides.specs.Called.{is_case, is_method};
+ghost use Rattle.au_sights.specs.Views.{note as note_said};
+ghost use Rattle.au_typing.specs.Called.{is_case, is_method};
 ghost use Rattle.au_promises.specs.Written.{header_of};
 ghost use Rattle.au_sights.specs.Steps.{method_seen, methods_of, variants_of};
 ghost use Rattle.au_syntax.specs.contracts.parsed.ParsedPhase.TheImpl.{ghosts as parsed};
 ghost use Rattle.au_syntax.specs.Plain.{plain_variant};
 ghost use Rattle.au_syntax.specs.Views.{variant};
-ghost use Rattle.au_tables.specs.Tables as tables;
+ghost use Rattle.au_types.specs.Tables as tables;
 
 use crate::classes::class_leads;
 use crate::functions::function_leads;
 use crate::instances::Lead;
 use au_base::{Memory, Name, Text};
-use au_given_types::{GivenType, closed_under, value_under};
 use au_imports::Resolved;
 use au_instances::Instances;
 use au_names::{PartNames, Target};
-use au_notes::Notes;
+use au_sights::Notes;
 use au_syntax::{Decl, Parsed, Signature, TypeParameter, UnionCase};
+use au_type_texts::{GivenType, closed_under, value_under};
 use std::alloc::Global;
 
 /// What is seen in the body of a module.

@@ -1,7 +1,7 @@
 //! Names as the declarations of a program have them.
 
 ghost use Rattle.std.specs.Prelude.{◌≡◌, IfOk};
-ghost use Rattle.au_closing.specs.Views.{case_seen};
+ghost use Rattle.au_closing.specs.ClosingViews.{case_seen};
 
 use crate::leading::Sight;
 use au_base::{MOST_NAME_BYTES, Memory, Name, Text};

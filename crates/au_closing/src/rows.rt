@@ -2,20 +2,19 @@
 
 ghost use Rattle.std.specs.Prelude.{◌≡◌, [], ◌++◌, ◌∷◌, IfOk, List, OnOk, map, option_copied};
 ghost use Rattle.std.specs.Option.{option_map};
-ghost use Rattle.au_closed_parts.specs.TypeNames.{type_names};
-ghost use Rattle.au_closed_types.specs.Views.{closed_meaning};
+ghost use Rattle.au_closed_trees.specs.TypeNames.{type_names};
+ghost use Rattle.au_type_texts.specs.Views.{closed_meaning};
 ghost use Rattle.au_closing.specs.Instances as spec;
-ghost use Rattle.au_given_types.specs.Views.{given_said};
+ghost use Rattle.au_type_texts.specs.GivenViews.{given_said};
 ghost use Rattle.au_instances.specs.ClosedInstances.{closed_row, types_in};
 ghost use Rattle.au_instances.specs.Forms as forms;
 ghost use Rattle.au_instances.specs.Rows.{row_said};
 ghost use Rattle.au_types.specs.Views.{argument_all, meaning};
 
 use au_base::{Memory, Name};
-use au_closed_parts::{is_region, push_given};
-use au_closed_types::{Closed, copy_closed};
-use au_given_types::{GivenType, given_for};
+use au_closed_trees::{is_region, push_given};
 use au_instances::{ClassAt, Instances, Row, constructor_of_closed};
+use au_type_texts::{Closed, GivenType, copy_closed, given_for};
 use au_types::{Arg, Heads, Params, Ty};
 use std::alloc::Global;
 
@@ -52,7 +51,7 @@ fn arguments_of(of: &Ty) -> &[Arg]
 }
 
 /// The closed types in a closed type.
-#[tactic(auto, using(au_closed_types::proofs::ClosedLemmas::closed_steps))]
+#[tactic(auto, using(au_type_texts::proofs::ClosedLemmas::closed_steps))]
 fn types_within(of: &Closed) -> &[Closed]
     ensures { map closed_meaning result.now ≡ spec.types_within (closed_meaning of.now) }
 {

@@ -2,18 +2,18 @@
 
 ghost use Rattle.std.specs.Prelude.{◌≡◌, None};
 ghost use Rattle.std.specs.Option.{option_map};
-ghost use Rattle.au_closed_types.specs.Views.{closed_meaning};
+ghost use Rattle.au_type_texts.specs.Views.{closed_meaning};
 ghost use Rattle.au_closing.specs.Leading as spec;
 ghost use Rattle.au_modules.specs.Slots as slots;
 ghost use Rattle.au_shipped.specs.Calls as calls;
 
 use au_base::{IntKind, Name};
-use au_closed_types::Closed;
 use au_imports::Resolved;
 use au_shipped::{ShippedCall, prim_of};
+use au_type_texts::Closed;
 
 /// The kind of integers that a closed type is.
-#[tactic(auto, using(au_closed_types::proofs::ClosedLemmas::closed_steps))]
+#[tactic(auto, using(au_type_texts::proofs::ClosedLemmas::closed_steps))]
 fn kind_of(of: &Closed) -> Option<IntKind>
     ensures { result ≡ spec.kind_of (closed_meaning of.now) }
 {
@@ -40,7 +40,7 @@ fn at_truth(call: ShippedCall) -> ShippedCall
 }
 
 /// A shipped method at a closed type.
-#[tactic(auto, using(au_closed_types::proofs::ClosedLemmas::closed_steps))]
+#[tactic(auto, using(au_type_texts::proofs::ClosedLemmas::closed_steps))]
 fn at_type(of: &Closed, call: ShippedCall) -> ShippedCall
     ensures { result ≡ spec.at_type (closed_meaning of.now) call }
 {

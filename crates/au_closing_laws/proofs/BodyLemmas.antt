@@ -10,19 +10,19 @@ use Rattle.au_syntax.specs.Modules.{Constrained, constant, opaque_type, record_t
 use Rattle.au_syntax.specs.Plain.{Bytes}
 use Rattle.au_syntax.specs.Types.{Labelled, WrittenType}
 use Rattle.au_types.specs.Types.{Meaning}
-use Rattle.au_generics.specs.Bounds.{Bounded}
+use Rattle.au_judged_types.specs.Bounds.{Bounded}
 use Rattle.au_modules.specs.Programs.{ModuleParts}
 use Rattle.au_names.specs.declared.targets.Target.{Target}
 use Rattle.au_names.specs.Standing.{Standing, standing_at}
-use Rattle.au_scopes.specs.Scopes.{Outside, Scope}
-use Rattle.au_outsides.specs.Outsides.{outside_of}
+use Rattle.au_typing.specs.Scopes.{Outside, Scope}
+use Rattle.au_typing.specs.Outsides.{outside_of}
 use Rattle.au_typing.specs.Faults.{Noting, ◌>>=◌}
 use Rattle.au_typing.specs.Lookups.{written_type}
 use Rattle.au_typing.proofs.Steps.{ok_same}
-use Rattle.au_derivations.specs.Bodies.{GoodBody, GoodMethods, generics_in, outer_scope, with_parameters, with_result}
-use Rattle.au_derivations.specs.Derivations.{GoodDeclaration, GoodDeclarations, GoodModules, GoodPart}
-use Rattle.au_derivations.specs.InScope.{fixed_variable, with_variable}
-use Rattle.au_derivations.specs.Trees.{NotedDeclaration, NotedEntry, NotedMethod, NotedParts}
+use Rattle.au_typing.specs.Bodies.{GoodBody, GoodMethods, generics_in, outer_scope, with_parameters, with_result}
+use Rattle.au_typing.specs.Derivations.{GoodDeclaration, GoodDeclarations, GoodModules, GoodPart}
+use Rattle.au_typing.specs.InScope.{fixed_variable, with_variable}
+use Rattle.au_typing.specs.Trees.{NotedDeclaration, NotedEntry, NotedMethod, NotedParts}
 use Rattle.au_noting_programs.specs.Faults.{IsDerived}
 use Rattle.au_closing.specs.Bodies.{BodyOf, body_at, body_in, body_of, body_of_parts, body_standing, declared_in, defining, defining_index, is_method, method_body, noted_at}
 use Rattle.au_closing_laws.specs.Targets.{Call, calls_listed}

@@ -10,8 +10,8 @@ use Rattle.au_syntax.specs.Modules.{constant, opaque_type, record_type, union_ty
 use Rattle.au_syntax.specs.Names.{Placed}
 use Rattle.au_syntax.specs.Plain.{Bytes, PlainDeclaration}
 use Rattle.au_syntax.specs.Statements.{skip, declare, destructure, assign, assign_through, conditional, conditional_else, case_of, while_loop, for_loop, borrow_in, borrow_typed, discard, return_of, no_statements, statements, no_branches, branches, no_arms, arms}
-use Rattle.au_tables.specs.declared.spaces.Space.TheVariants.{Callables}
-use Rattle.au_tables.specs.Tables as tables
+use Rattle.au_types.specs.declared.spaces.Space.TheVariants.{Callables}
+use Rattle.au_types.specs.Tables as tables
 use Rattle.au_shipped.specs.Shipped.{shipped_files}
 use Rattle.au_modules.specs.Programs.{Entry, ModuleParts, is_interface, is_shipped, module_of, shipped_module}
 use Rattle.au_names.specs.declared.targets.Target.{Target}
@@ -22,9 +22,9 @@ use Rattle.au_names.proofs.AmongLemmas.{Among, among, among-append}
 use Rattle.au_unbuilt.specs.Names.{is_unbuilt_target, unbuilt_call, unbuilt_type}
 use Rattle.au_unbuilt.specs.Places.{in_arguments, in_arms, in_block, in_bound, in_branches, in_declaration, in_expression, in_expressions, in_header, in_method, in_statement, in_type, place_if}
 use Rattle.au_unbuilt.specs.Unbuilt.{declaration_places, file_places, part_places, places_at, places_from, unbuilt_places}
-use Rattle.au_outsides.specs.Written.{seen_at, seen_in}
+use Rattle.au_typing.specs.Written.{seen_at, seen_in}
 use Rattle.au_typing.specs.Notes.{Note, NotedArguments, NotedExpression, NotedExpressions, erase, erase_all, erase_arguments}
-use Rattle.au_derivations.specs.Trees.{NotedArms, NotedBranches, NotedDeclaration, NotedMethod, NotedParts, NotedStatement, NotedStatements, erase_arms, erase_block, erase_branches, erase_declaration, erase_method, erase_program, erase_statement}
+use Rattle.au_typing.specs.Trees.{NotedArms, NotedBranches, NotedDeclaration, NotedMethod, NotedParts, NotedStatement, NotedStatements, erase_arms, erase_block, erase_branches, erase_declaration, erase_method, erase_program, erase_statement}
 use Rattle.au_closed_trees.specs.Calls.{calls_in, calls_in_all, calls_in_arguments, calls_in_arms, calls_in_block, calls_in_branches, calls_in_statement}
 use Rattle.au_closing.specs.Bodies.{BodyOf, body_in, body_of, is_method, method_body}
 use Rattle.au_closing_laws.specs.Gathered.{IsGathered, entry_of}

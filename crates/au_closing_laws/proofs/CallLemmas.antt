@@ -8,8 +8,8 @@ use Rattle.au_syntax.specs.Plain.{Bytes}
 use Rattle.au_syntax.specs.Statements.{Statement, Statements, Branches, Arms, declare, destructure, assign, assign_through, conditional, conditional_else, case_of, while_loop, for_loop, borrow_in, borrow_typed, discard, return_of, no_statements, statements, no_branches, branches, no_arms, arms}
 use Rattle.au_instances.proofs.TableLemmas.{Contains-first, Contains-rest}
 use Rattle.au_typing.specs.Notes.{Note}
-use Rattle.au_reach.specs.Reached.{Has}
-use Rattle.au_reach.proofs.HasLemmas.{has_split}
+use Rattle.au_graphs.specs.Reached.{Has}
+use Rattle.au_graphs.proofs.HasLemmas.{has_split}
 use Rattle.au_closed_trees.specs.Calls.{calls_in, calls_in_all, calls_in_arguments, calls_in_statement, calls_in_block, calls_in_branches, calls_in_arms}
 use Rattle.au_closing_laws.specs.Targets.{Call}
 

@@ -11,10 +11,10 @@ use Rattle.au_syntax.specs.Modules.{Header, Importing, constant, opaque_type, re
 use Rattle.au_syntax.specs.Names.{Renaming}
 use Rattle.au_syntax.specs.Plain.{Bytes, PlainDeclaration}
 use Rattle.au_syntax.specs.Sizes.{joined}
-use Rattle.au_tables.specs.declared.spaces.Space.TheVariants.{Callables}
-use Rattle.au_tables.specs.DeclaredNames.{callable_names, given, names_in, numbered}
-use Rattle.au_tables.specs.Tables as tables
-use Rattle.au_tables.proofs.TableLemmas.{find-firsts}
+use Rattle.au_types.specs.declared.spaces.Space.TheVariants.{Callables}
+use Rattle.au_types.specs.DeclaredNames.{callable_names, given, names_in, numbered}
+use Rattle.au_types.specs.Tables as tables
+use Rattle.au_types.proofs.TableLemmas.{find-firsts}
 use Rattle.au_types.specs.declared.types.DeclAt.{DeclAt}
 use Rattle.au_modules.specs.Programs.{ModuleParts}
 use Rattle.au_names.specs.declared.targets.Target.{Target}
@@ -23,8 +23,8 @@ use Rattle.au_names.specs.Meanings.{imports_in, meanings, offered, part_of, perv
 use Rattle.au_names.specs.Owned.{declarations_in, declarations_of, exported, interface_of, own, target, targets}
 use Rattle.au_names.specs.Standing.{Standing, module_standing, standing_at, standing_from, standing_in}
 use Rattle.au_names.proofs.AmongLemmas.{Among, among-append, among-flat_map}
-use Rattle.au_outsides.specs.Called.{is_case, is_method}
-use Rattle.au_outsides.specs.Written.{seen_at, seen_in}
+use Rattle.au_typing.specs.Called.{is_case, is_method}
+use Rattle.au_typing.specs.Written.{seen_at, seen_in}
 use Rattle.au_closing.specs.Leading.{Called, a_function, a_maker, a_method, called_of, function_called, method_called}
 use Rattle.au_closing_laws.proofs.GatheredLemmas.{among_filter, among_find, among_map}
 use Rattle.au_closing_laws.proofs.ShippedMethodLemmas.{get_left}

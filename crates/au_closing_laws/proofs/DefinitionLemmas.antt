@@ -21,7 +21,7 @@ use Rattle.au_promises.specs.Fulfilled.{AllFulfil, Each, OfSignature, SameGeneri
 use Rattle.au_promises.specs.Promises.{defines}
 use Rattle.au_promises.proofs.DecidingLemmas.{keeps_decides}
 use Rattle.au_promises.proofs.FulfilledLemmas.{kept_passes}
-use Rattle.au_derivations.specs.Trees.{NotedDeclaration, NotedEntry, NotedParts, erase_declaration, erase_entry, erase_parts, erase_program}
+use Rattle.au_typing.specs.Trees.{NotedDeclaration, NotedEntry, NotedParts, erase_declaration, erase_entry, erase_parts, erase_program}
 use Rattle.au_closing.specs.Bodies.{BodyOf, body_at, body_in, body_of, body_of_parts, body_standing, declared_in, defining_in, defining_index, noted_at}
 use Rattle.au_closing_laws.proofs.MeantLemmas.{placed}
 

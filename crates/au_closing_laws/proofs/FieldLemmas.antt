@@ -20,10 +20,10 @@ use Rattle.au_types.specs.Universes.{universe_in}
 use Rattle.au_matching.specs.Bindings.{Bindings, value_of, with_pair}
 use Rattle.au_matching.specs.Substituted.{substituted}
 use Rattle.au_matching.proofs.BindingLemmas.{value_of-with}
-use Rattle.au_universes.specs.Fitting.{stand_in}
-use Rattle.au_universes.specs.Forming.{StandsOver, all_fit, all_formed, argument_formed, fit_row, fits_in_kind, is_formed}
-use Rattle.au_universes.proofs.SubstitutingFormedLemmas.{standing_kept}
-use Rattle.au_generics.specs.Meanings.{parameter}
+use Rattle.au_matching.specs.Fitting.{stand_in}
+use Rattle.au_matching.specs.Forming.{StandsOver, all_fit, all_formed, argument_formed, fit_row, fits_in_kind, is_formed}
+use Rattle.au_matching.proofs.SubstitutingFormedLemmas.{standing_kept}
+use Rattle.au_judged_types.specs.Meanings.{parameter}
 use Rattle.au_modules.specs.Programs.{Entry, ModuleParts}
 use Rattle.au_names.specs.DeclaredTypes.{DeclaredType, a_type, type_declared}
 use Rattle.au_names.specs.HeadsOf.{heads_of}
@@ -33,9 +33,9 @@ use Rattle.au_promises.specs.Agreeing.{Sight, sight_of}
 use Rattle.au_promises.specs.Fulfilled.{Agrees, Each, OfHeading, SameParameter}
 use Rattle.au_imports.specs.Good.{IsGood}
 use Rattle.au_imports.proofs.OpaqueLemmas.{opaque_defined}
-use Rattle.au_scopes.specs.Scopes.{Typed}
-use Rattle.au_outsides.specs.Insides.{fields_defined, fields_of, is_known, known_definition, known_standing, record_fields, typed_under, with_arguments}
-use Rattle.au_outsides.specs.Written.{all_typed}
+use Rattle.au_typing.specs.Scopes.{Typed}
+use Rattle.au_typing.specs.Insides.{fields_defined, fields_of, is_known, known_definition, known_standing, record_fields, typed_under, with_arguments}
+use Rattle.au_typing.specs.Written.{all_typed}
 use Rattle.au_closing_laws.specs.Premises.{AreOfParts}
 use Rattle.au_closing_laws.specs.Standing.{EachStand, FieldsStand}
 use Rattle.au_closing_laws.proofs.DefinitionLemmas.{IsThere, stands_in}

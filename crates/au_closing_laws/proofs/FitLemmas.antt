@@ -17,19 +17,19 @@ use Rattle.au_types.specs.Universes.{universe_in}
 use Rattle.au_matching.specs.Bindings.{Bindings, GivesType, value_of}
 use Rattle.au_matching.specs.Fixed.{is_a_type}
 use Rattle.au_matching.specs.Substituted.{substituted, type_for}
-use Rattle.au_universes.specs.Forming.{takes}
-use Rattle.au_universes.specs.Universes.{universe_of}
-use Rattle.au_generics.specs.Bounds.{constrains, parameters}
+use Rattle.au_matching.specs.Forming.{takes}
+use Rattle.au_matching.specs.Universes.{universe_of}
+use Rattle.au_judged_types.specs.Bounds.{constrains, parameters}
 use Rattle.au_instances.specs.Instances.{Holds, Known}
 use Rattle.au_instances.specs.Pairs.{Pair, constraints_of}
 use Rattle.au_instances.specs.Tables.{IsTable}
 use Rattle.au_instances.proofs.PairLemmas.{constraint_listed, none_holds}
 use Rattle.au_instances.proofs.TableLemmas.{Contains-cases, Contains-first}
-use Rattle.au_scopes.specs.Scopes.{Scope, Typed}
+use Rattle.au_typing.specs.Scopes.{Scope, Typed}
 use Rattle.au_typing.specs.Calls.{GoodCall, Shown, first_lacking, first_left, first_misfit, is_given, lacking_at, value_fits, wanted_of}
 use Rattle.au_typing.specs.Lookups.{parameters_in}
 use Rattle.au_typing.specs.Notes.{Note}
-use Rattle.au_closed_parts.specs.TypeNames.{is_region}
+use Rattle.au_closed_trees.specs.TypeNames.{is_region}
 use Rattle.au_closing_laws.proofs.TypedCallLemmas.{nothing_there}
 
 -- ---- each type parameter stands for a type

@@ -9,7 +9,7 @@ use Rattle.au_syntax.specs.declared.modules.Part.TheVariants.{Interface, Body}
 use Rattle.au_syntax.specs.Forms.{formed_declaration}
 use Rattle.au_syntax.specs.Modules.{Constrained, Header, function, function_body}
 use Rattle.au_syntax.specs.Plain.{Bytes, PlainStatements}
-use Rattle.au_tables.specs.declared.spaces.Space.TheVariants.{Types}
+use Rattle.au_types.specs.declared.spaces.Space.TheVariants.{Types}
 use Rattle.au_types.specs.declared.types.DeclAt.{DeclAt}
 use Rattle.au_types.specs.Types.{Meaning}
 use Rattle.au_modules.specs.Programs.{Entry, ModuleParts}
@@ -20,20 +20,20 @@ use Rattle.au_names.specs.Owned.{declarations_in}
 use Rattle.au_names.specs.Standing.{Standing}
 use Rattle.au_promises.specs.Agreeing.{sight_of}
 use Rattle.au_promises.specs.Fulfilled.{AllFulfil, Each, SameGeneric}
-use Rattle.au_generics.specs.declared.reading.Meant.{Meant}
-use Rattle.au_generics.specs.declared.reading.Meant.TheVariants.{Are, Fails}
-use Rattle.au_generics.specs.declared.reading.Misfit.{Misfit}
-use Rattle.au_generics.specs.Bounds.{Bounded, constrains, parameters}
-use Rattle.au_generics.specs.Meanings.{class_meant, first_misfit, generics_meant, judged, with_classes, written_params}
-use Rattle.au_generics.proofs.MeaningLemmas.{params_written}
+use Rattle.au_judged_types.specs.declared.reading.Meant.{Meant}
+use Rattle.au_judged_types.specs.declared.reading.Meant.TheVariants.{Are, Fails}
+use Rattle.au_judged_types.specs.declared.reading.Misfit.{Misfit}
+use Rattle.au_judged_types.specs.Bounds.{Bounded, constrains, parameters}
+use Rattle.au_judged_types.specs.Meanings.{class_meant, first_misfit, generics_meant, judged, with_classes, written_params}
+use Rattle.au_judged_types.proofs.MeaningLemmas.{params_written}
 use Rattle.au_classes.specs.Good.{InstancesAreGood}
 use Rattle.au_rules.specs.Good.{AllDeclarationsAreGood}
-use Rattle.au_scopes.specs.Scopes.{Callable, Typed}
-use Rattle.au_outsides.specs.Called.{callable, declared_callable, function_called}
-use Rattle.au_outsides.specs.Written.{all_typed, meant_in, seen_in, types_at}
-use Rattle.au_derivations.specs.Trees.{NotedParts}
+use Rattle.au_typing.specs.Scopes.{Callable, Typed}
+use Rattle.au_typing.specs.Called.{callable, declared_callable, function_called}
+use Rattle.au_typing.specs.Written.{all_typed, meant_in, seen_in, types_at}
+use Rattle.au_typing.specs.Trees.{NotedParts}
 use Rattle.au_noting_programs.specs.Faults.{IsDerived}
-use Rattle.au_closed_parts.specs.TypeNames.{type_names}
+use Rattle.au_closed_trees.specs.TypeNames.{type_names}
 use Rattle.au_closing.specs.Bodies.{BodyOf, body_of}
 use Rattle.au_closing_laws.specs.Targets.{Call, FunctionIsTyped, IsFor, IsTypeOf, bounds_in, bounds_of, calls_listed, function_has_body, function_is_shipped}
 use Rattle.au_closing_laws.specs.Calls.{IsMeant, put_for}

@@ -11,7 +11,7 @@ use Rattle.au_syntax.specs.declared.modules.Part.TheVariants.{Interface, Body}
 use Rattle.au_syntax.specs.Modules.{Constrained, InUniverse, constant, opaque_type, record_type, union_type, function, class, instance, constant_body, function_body, instance_body}
 use Rattle.au_syntax.specs.Names.{Placed}
 use Rattle.au_syntax.specs.Plain.{Bytes, PlainDeclaration}
-use Rattle.au_tables.specs.declared.spaces.Space.TheVariants.{Types}
+use Rattle.au_types.specs.declared.spaces.Space.TheVariants.{Types}
 use Rattle.au_types.specs.declared.headings.Head.{Head}
 use Rattle.au_types.specs.declared.parameters.Parameter.{Parameter}
 use Rattle.au_types.specs.declared.types.DeclAt.{DeclAt}
@@ -21,17 +21,17 @@ use Rattle.au_names.specs.HeadsOf.{heads_of}
 use Rattle.au_names.specs.Meanings.{declared_by}
 use Rattle.au_names.specs.Owned.{declarations_in}
 use Rattle.au_names.specs.Standing.{Standing, standing_at}
-use Rattle.au_mentions.specs.Mentions.{type_parameters}
-use Rattle.au_generics.specs.declared.reading.Misfit.TheVariants.{NoClass, OfRegion}
-use Rattle.au_generics.specs.Meanings.{class_in, class_meant, first_misfit, is_constrained_region, judged, no_class, written_params}
+use Rattle.au_promises.specs.Mentions.{type_parameters}
+use Rattle.au_judged_types.specs.declared.reading.Misfit.TheVariants.{NoClass, OfRegion}
+use Rattle.au_judged_types.specs.Meanings.{class_in, class_meant, first_misfit, is_constrained_region, judged, no_class, written_params}
 use Rattle.au_formed.specs.Good.{IsGoodWriting, IsWellMade}
 use Rattle.au_formed.specs.Text.{Spot, module_spots, spots_from, text_from, visible_in}
 use Rattle.au_formed.specs.Writings.{Writing, a_class, a_universe, bound_writings, class_writings, generic_writings, header_writings, instance_writings, writings}
 use Rattle.au_rules.specs.Good.{AllDeclarationsAreGood}
 use Rattle.au_instances.proofs.TableLemmas.{Contains-first, Contains-rest}
-use Rattle.au_outsides.specs.Written.{seen_in, types_at}
-use Rattle.au_derivations.specs.Bodies.{generics_in}
-use Rattle.au_derivations.specs.Trees.{NotedDeclaration, NotedEntry, NotedMethod, NotedParts, erase_declaration, erase_parts, erase_program}
+use Rattle.au_typing.specs.Written.{seen_in, types_at}
+use Rattle.au_typing.specs.Bodies.{generics_in}
+use Rattle.au_typing.specs.Trees.{NotedDeclaration, NotedEntry, NotedMethod, NotedParts, erase_declaration, erase_parts, erase_program}
 use Rattle.au_noting_programs.specs.Faults.{IsDerived}
 use Rattle.au_closing.specs.Bodies.{BodyOf, body_at, body_in, body_of, body_of_parts, body_standing, declared_in, defining_index, is_method, method_body, noted_at}
 use Rattle.au_closing_laws.specs.Targets.{bounds_in, bounds_of}

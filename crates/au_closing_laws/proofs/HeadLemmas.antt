@@ -8,8 +8,8 @@ use Rattle.std.specs.Str.{bytes_eq}
 use Rattle.std.proofs.lemmas.Option.{none-some, same_Some}
 use Rattle.au_syntax.specs.declared.modules.Part.TheVariants.{Interface, Body}
 use Rattle.au_syntax.specs.Plain.{Bytes, PlainDeclaration}
-use Rattle.au_tables.specs.DeclaredNames.{numbered, type_names}
-use Rattle.au_tables.specs.Tables.{firsts, without}
+use Rattle.au_types.specs.DeclaredNames.{numbered, type_names}
+use Rattle.au_types.specs.Tables.{firsts, without}
 use Rattle.au_types.specs.declared.headings.Head.{Head}
 use Rattle.au_types.specs.declared.types.DeclAt.{DeclAt}
 use Rattle.au_types.specs.Rows.{head_of, same_place}

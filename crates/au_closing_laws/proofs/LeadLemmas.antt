@@ -10,12 +10,12 @@ use Rattle.au_classes.specs.Good.{InstancesAreGood}
 use Rattle.au_imports.specs.Good.{AllNamesAreGood}
 use Rattle.au_promises.specs.Fulfilled.{AllFulfil}
 use Rattle.au_rules.specs.Good.{AllDeclarationsAreGood}
-use Rattle.au_derivations.specs.Trees.{NotedParts}
+use Rattle.au_typing.specs.Trees.{NotedParts}
 use Rattle.au_noting_programs.specs.Faults.{IsDerived}
 use Rattle.au_outcomes.specs.Accepted.{AreAcceptedAs}
 use Rattle.au_outcomes.specs.Programs.{program_modules}
 use Rattle.au_outcomes.specs.Trees.{ReadFile}
-use Rattle.au_reach.specs.Reached.{Reached}
+use Rattle.au_graphs.specs.Reached.{Reached}
 use Rattle.au_closing.specs.Bodies.{BodyOf, body_of}
 use Rattle.au_closing.specs.Closes.{calls_of}
 use Rattle.au_closing.specs.Instances.{Instance, same_instance}

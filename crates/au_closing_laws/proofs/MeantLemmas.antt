@@ -9,17 +9,17 @@ use Rattle.std.proofs.lemmas.Option.{none-some, slice_get_within}
 use Rattle.au_syntax.specs.declared.modules.Part.TheVariants.{Body}
 use Rattle.au_syntax.specs.Modules.{Header, Variant, constant, opaque_type, record_type, union_type, function, class, instance, constant_body, function_body, instance_body}
 use Rattle.au_syntax.specs.Plain.{Bytes, PlainDeclaration}
-use Rattle.au_tables.specs.declared.spaces.Space.TheVariants.{Callables}
-use Rattle.au_tables.specs.Tables as tables
+use Rattle.au_types.specs.declared.spaces.Space.TheVariants.{Callables}
+use Rattle.au_types.specs.Tables as tables
 use Rattle.au_modules.specs.Programs.{ModuleParts}
 use Rattle.au_names.specs.declared.targets.Target.{Target}
 use Rattle.au_names.specs.Standing.{Standing, standing_at}
-use Rattle.au_generics.specs.Meanings.{parameter}
-use Rattle.au_scopes.specs.Scopes.{Callable, Outside}
-use Rattle.au_outsides.specs.Called.{callable_at, callable_standing, case_called, declared_callable, is_case, is_method, method_called}
-use Rattle.au_outsides.specs.Written.{seen_at}
-use Rattle.au_derivations.specs.Bodies.{generics_in}
-use Rattle.au_derivations.specs.Trees.{NotedParts}
+use Rattle.au_judged_types.specs.Meanings.{parameter}
+use Rattle.au_typing.specs.Scopes.{Callable, Outside}
+use Rattle.au_typing.specs.Called.{callable_at, callable_standing, case_called, declared_callable, is_case, is_method, method_called}
+use Rattle.au_typing.specs.Written.{seen_at}
+use Rattle.au_typing.specs.Bodies.{generics_in}
+use Rattle.au_typing.specs.Trees.{NotedParts}
 use Rattle.au_noting_programs.specs.Faults.{IsDerived}
 use Rattle.au_closing.specs.Bodies.{BodyOf, body_of}
 use Rattle.au_closing.specs.Leading as leading

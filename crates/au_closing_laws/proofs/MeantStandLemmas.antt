@@ -13,7 +13,7 @@ use Rattle.au_syntax.specs.declared.types.Access.{Access}
 use Rattle.au_syntax.specs.declared.types.Access.TheVariants as access
 use Rattle.au_syntax.specs.Plain.{Bytes}
 use Rattle.au_syntax.specs.Types.{WrittenType, WrittenTypes, named, reference, no_types, types}
-use Rattle.au_tables.specs.Tables.{find}
+use Rattle.au_types.specs.Tables.{find}
 use Rattle.au_types.specs.declared.headings.Head.{Head}
 use Rattle.au_types.specs.declared.parameters.Parameter.{Parameter}
 use Rattle.au_types.specs.declared.types.DeclAt.{DeclAt}
@@ -24,10 +24,10 @@ use Rattle.au_types.specs.Same.{same, same_region}
 use Rattle.au_types.specs.Types as mean
 use Rattle.au_types.specs.Types.{Meaning, Argument, Arguments, of_type, in_region, parameter}
 use Rattle.au_types.specs.Universes.{universe_in}
-use Rattle.au_universes.specs.Forming.{StandsOver, all_fit, all_formed, argument_formed, fit_row, fits_in_kind, is_formed}
-use Rattle.au_universes.specs.Universes.{of_parameter}
-use Rattle.au_written_types.specs.Meant.{Given, all_given, applied, argument_meant, arguments_meant, followed, meant, refers, region_meant, region_of, span_of}
-use Rattle.au_written_types.specs.Senses.{Sense, a_class, a_region, a_span, a_type, built_in, declared, declared_sense, open_region, outer_sense, parameter_sense, sense_of}
+use Rattle.au_matching.specs.Forming.{StandsOver, all_fit, all_formed, argument_formed, fit_row, fits_in_kind, is_formed}
+use Rattle.au_matching.specs.Universes.{of_parameter}
+use Rattle.au_types.specs.Meant.{Given, all_given, applied, argument_meant, arguments_meant, followed, meant, refers, region_meant, region_of, span_of}
+use Rattle.au_types.specs.Senses.{Sense, a_class, a_region, a_span, a_type, built_in, declared, declared_sense, open_region, outer_sense, parameter_sense, sense_of}
 
 mapped : {A B : Type 0} (f : A → B) (o : Option A) (y : B) → option_map f o ≡ Some y → (x : A) × (o ≡ Some x) × (f x ≡ y)
 mapped f None y e = absurd (none-some y e)

@@ -13,15 +13,15 @@ use Rattle.au_syntax.specs.Modules.{Constrained, Header, InUniverse, constant, o
 use Rattle.au_syntax.specs.Names.{Placed}
 use Rattle.au_syntax.specs.Plain.{Bytes, PlainDeclaration, PlainMethod}
 use Rattle.au_types.specs.declared.types.DeclAt.{DeclAt}
-use Rattle.au_closed_types.specs.Types.{ClosedType}
+use Rattle.au_type_texts.specs.Types.{ClosedType}
 use Rattle.au_modules.specs.Programs.{Entry, ModuleParts}
 use Rattle.au_names.specs.declared.targets.Target.{Target}
 use Rattle.au_names.specs.Exporting.{declarations_seen}
 use Rattle.au_names.specs.HeadsOf.{heads_of}
 use Rattle.au_names.specs.Owned.{declarations_in}
 use Rattle.au_names.specs.Standing.{Standing, standing_at}
-use Rattle.au_generics.specs.declared.reading.Meant.TheVariants.{Are}
-use Rattle.au_generics.specs.Meanings.{generics_meant, parameter}
+use Rattle.au_judged_types.specs.declared.reading.Meant.TheVariants.{Are}
+use Rattle.au_judged_types.specs.Meanings.{generics_meant, parameter}
 use Rattle.au_shipped.specs.Calls.{prim_of}
 use Rattle.au_promises.specs.Agreeing.{Sight, scope_of, sight_of}
 use Rattle.au_promises.specs.Fulfilled.{AllFulfil, Each, OfGenerics, SameGeneric}
@@ -31,14 +31,14 @@ use Rattle.au_promises.proofs.FulfilledLemmas.{kept_passes}
 use Rattle.au_instances.specs.ClosedInstances.{ClosedInstance, by_row}
 use Rattle.au_instances.specs.Rows.{Row}
 use Rattle.au_instances.proofs.TableLemmas.{Contains-cases, Contains-first, Contains-rest}
-use Rattle.au_class_methods.specs.Classes.{ClassText, class_at, class_in, class_standing, visible_at}
-use Rattle.au_class_methods.specs.Methods.{AreMethods}
-use Rattle.au_class_methods.specs.Texts.{InstanceText, instances_of, methods_in}
+use Rattle.au_classes.specs.Classes.{ClassText, class_at, class_in, class_standing, visible_at}
+use Rattle.au_classes.specs.Methods.{AreMethods}
+use Rattle.au_classes.specs.Texts.{InstanceText, instances_of, methods_in}
 use Rattle.au_classes.specs.Good.{InstancesAreGood, IsGood}
 use Rattle.au_classes.specs.Rows.{row_of, rows_of}
 use Rattle.au_rules.specs.Good.{AllDeclarationsAreGood}
-use Rattle.au_outsides.specs.Written.{types_at}
-use Rattle.au_derivations.specs.Trees.{NotedDeclaration, NotedMethod, NotedParts, erase_declaration, erase_method, erase_program}
+use Rattle.au_typing.specs.Written.{types_at}
+use Rattle.au_typing.specs.Trees.{NotedDeclaration, NotedMethod, NotedParts, erase_declaration, erase_method, erase_program}
 use Rattle.au_noting_programs.specs.Faults.{IsDerived}
 use Rattle.au_closing.specs.Bodies.{BodyOf, body_in, body_of, body_standing, defining_in, defining_index, is_method, method_body, noted_at}
 use Rattle.au_closing.specs.Leading.{kind_of, module_name}

@@ -28,16 +28,16 @@ use Rattle.au_types.specs.Types.{Meaning}
 use Rattle.au_types.specs.Universes.{universe_in}
 use Rattle.au_matching.specs.Substituted.{argument_substituted, substituted}
 use Rattle.au_matching.proofs.SubstitutedLemmas.{stays}
-use Rattle.au_universes.specs.Forming.{StandsOver, argument_formed, fits_in_kind, is_formed}
-use Rattle.au_universes.specs.Universes.{of_parameter}
-use Rattle.au_universes.proofs.LawLemmas.{well_formed_stands}
-use Rattle.au_universes.proofs.SubstitutingFormedLemmas.{formed_kept}
+use Rattle.au_matching.specs.Forming.{StandsOver, argument_formed, fits_in_kind, is_formed}
+use Rattle.au_matching.specs.Universes.{of_parameter}
+use Rattle.au_matching.proofs.LawLemmas.{well_formed_stands}
+use Rattle.au_matching.proofs.SubstitutingFormedLemmas.{formed_kept}
 use Rattle.au_judged_types.specs.Judging.{refers}
 use Rattle.au_judged_types.specs.Reasons.{Outcome, means, fails}
 use Rattle.au_judged_types.proofs.AgreementLemmas.{judged_is_meant}
-use Rattle.au_generics.specs.Bounds.{Bounded, parameters}
+use Rattle.au_judged_types.specs.Bounds.{Bounded, parameters}
 use Rattle.au_names.specs.Importing.{given_name}
-use Rattle.au_scopes.specs.Scopes.{Outside, Scope, Typed, Variable}
+use Rattle.au_typing.specs.Scopes.{Outside, Scope, Typed, Variable}
 use Rattle.au_typing.specs.Bare.{is_arithmetic, is_bare}
 use Rattle.au_typing.specs.Calls.{Shown}
 use Rattle.au_typing.specs.Faults.{Noting}
@@ -45,10 +45,10 @@ use Rattle.au_typing.specs.Good.{AllGood, AllGoodIn, AllGoodLabelled, GoodBinary
 use Rattle.au_typing.specs.Lookups.{IsPart, behind, field_type, outcome_noted, parameters_in, type_of_name, value_type, variable_of, variable_type, written_means, written_type}
 use Rattle.au_typing.specs.Notes.{Mode, Note, NotedArguments, NotedExpression, NotedExpressions, mode_of, note_of, type_of}
 use Rattle.au_typing.specs.Rules.{is_logical}
-use Rattle.au_derivations.specs.InScope.{after, fixed_variable, is_var, with_bound, with_reference, with_typed, with_variable}
-use Rattle.au_derivations.specs.Parts.{access_of, borrow_type, lent, mode_for}
-use Rattle.au_derivations.specs.Statements.{GoodArmBlocks, GoodBlock, GoodBranches, GoodStatement, IsReference}
-use Rattle.au_derivations.specs.Trees.{NotedArms, NotedBranches, NotedStatement, NotedStatements}
+use Rattle.au_typing.specs.InScope.{after, fixed_variable, is_var, with_bound, with_reference, with_typed, with_variable}
+use Rattle.au_typing.specs.Parts.{access_of, borrow_type, lent, mode_for}
+use Rattle.au_typing.specs.Statements.{GoodArmBlocks, GoodBlock, GoodBranches, GoodStatement, IsReference}
+use Rattle.au_typing.specs.Trees.{NotedArms, NotedBranches, NotedStatement, NotedStatements}
 use Rattle.au_instances.proofs.TableLemmas.{Contains-cases}
 use Rattle.au_closed_trees.specs.Calls.{calls_in, calls_in_all, calls_in_arguments, calls_in_arms, calls_in_block, calls_in_branches, calls_in_statement}
 use Rattle.au_closing_laws.specs.Targets.{Call}

@@ -12,23 +12,23 @@ use Rattle.au_syntax.specs.declared.modules.Part.{Part}
 use Rattle.au_syntax.specs.declared.modules.Part.TheVariants.{Interface, Body}
 use Rattle.au_syntax.specs.Modules.{InUniverse, constant, opaque_type, record_type, union_type, function, class, instance, constant_body, function_body, instance_body}
 use Rattle.au_syntax.specs.Plain.{Bytes, PlainDeclaration}
-use Rattle.au_tables.specs.DeclaredNames.{type_names}
+use Rattle.au_types.specs.DeclaredNames.{type_names}
 use Rattle.au_types.specs.Universes.{universe_in}
-use Rattle.au_generics.specs.Meanings.{parameter}
+use Rattle.au_judged_types.specs.Meanings.{parameter}
 use Rattle.au_modules.specs.Programs.{ModuleParts}
 use Rattle.au_names.specs.DeclaredTypes.{DeclaredType, a_type, type_declared}
 use Rattle.au_names.specs.Owned.{declarations_in}
 use Rattle.au_names.specs.Standing.{Standing, body_standing, module_standing, standing_from}
 use Rattle.au_names.proofs.AmongLemmas.{Among, among, among-append, contains}
-use Rattle.au_again.specs.declared.marks.Kind.{Kind}
-use Rattle.au_again.specs.declared.marks.Kind.TheVariants.{Types, Callables, Fields}
-use Rattle.au_again.specs.declared.marks.Mark.{Mark}
-use Rattle.au_again.specs.declared.marks.Mark.TheVariants.{Opens, Closes, Declares}
-use Rattle.au_again.specs.declared.marks.Role.{Role}
-use Rattle.au_again.specs.declared.marks.Role.TheVariants.{Local, Whole, Promise, Definition}
-use Rattle.au_again.specs.Marks.{case_marks, enclosed, labelled_mark, marks, method_marks, parameter_mark, type_role}
-use Rattle.au_again.specs.Once.{AreNew, IsDue, IsInBlock, IsNew, IsUnknown, NamesAreOnce, StaysOpen, closed, opened, text_of}
-use Rattle.au_again.specs.Outside.{outside}
+use Rattle.au_rules.specs.declared.marks.Kind.{Kind}
+use Rattle.au_rules.specs.declared.marks.Kind.TheVariants.{Types, Callables, Fields}
+use Rattle.au_rules.specs.declared.marks.Mark.{Mark}
+use Rattle.au_rules.specs.declared.marks.Mark.TheVariants.{Opens, Closes, Declares}
+use Rattle.au_rules.specs.declared.marks.Role.{Role}
+use Rattle.au_rules.specs.declared.marks.Role.TheVariants.{Local, Whole, Promise, Definition}
+use Rattle.au_rules.specs.Marks.{case_marks, enclosed, labelled_mark, marks, method_marks, parameter_mark, type_role}
+use Rattle.au_rules.specs.Once.{AreNew, IsDue, IsInBlock, IsNew, IsUnknown, NamesAreOnce, StaysOpen, closed, opened, text_of}
+use Rattle.au_rules.specs.Outside.{outside}
 
 -- ---- lists
 

@@ -7,26 +7,26 @@ use Rattle.au_syntax.specs.declared.modules.Part.{Part}
 use Rattle.au_syntax.specs.Modules.{Constrained, Header, Variant, constant, opaque_type, record_type, union_type, function, class, instance, constant_body, function_body, instance_body}
 use Rattle.au_syntax.specs.Plain.{Bytes, PlainDeclaration}
 use Rattle.au_syntax.specs.Types.{Labelled, WrittenType}
-use Rattle.au_tables.specs.declared.spaces.Space.TheVariants.{Values, Callables}
-use Rattle.au_tables.specs.Tables as tables
+use Rattle.au_types.specs.declared.spaces.Space.TheVariants.{Values, Callables}
+use Rattle.au_types.specs.Tables as tables
 use Rattle.au_types.specs.declared.parameters.Parameter.{Parameter}
 use Rattle.au_types.specs.declared.types.DeclAt.{DeclAt}
 use Rattle.au_types.specs.Types.{Meaning}
-use Rattle.au_universes.specs.Forming.{StandsOver}
-use Rattle.au_generics.specs.declared.reading.Meant.{Meant}
-use Rattle.au_generics.specs.declared.reading.Meant.TheVariants.{Are, Fails}
-use Rattle.au_generics.specs.Bounds.{Bounded, parameters}
-use Rattle.au_generics.specs.Meanings.{generics_meant, parameter}
+use Rattle.au_matching.specs.Forming.{StandsOver}
+use Rattle.au_judged_types.specs.declared.reading.Meant.{Meant}
+use Rattle.au_judged_types.specs.declared.reading.Meant.TheVariants.{Are, Fails}
+use Rattle.au_judged_types.specs.Bounds.{Bounded, parameters}
+use Rattle.au_judged_types.specs.Meanings.{generics_meant, parameter}
 use Rattle.au_modules.specs.Programs.{ModuleParts}
 use Rattle.au_names.specs.declared.targets.Target.{Target}
 use Rattle.au_names.specs.DeclaredTypes.{a_type, type_declared}
 use Rattle.au_names.specs.HeadsOf.{heads_of}
 use Rattle.au_names.specs.Standing.{Standing, standing_at, whole_name}
-use Rattle.au_scopes.specs.Scopes.{Callable, Typed}
-use Rattle.au_outsides.specs.Called.{by_header, callable, callable_at, callable_standing, case_called, declared_callable, function_called, is_case, is_method, maker, method_called, type_itself, unconstrained}
-use Rattle.au_outsides.specs.Outsides.{constant_at, constant_declared, constant_standing, outside_of}
-use Rattle.au_outsides.specs.Written.{all_typed, followed, meant_in, seen_at, typed, types_at}
-use Rattle.au_outsides.proofs.MakerLemmas.{made}
+use Rattle.au_typing.specs.Scopes.{Callable, Typed}
+use Rattle.au_typing.specs.Called.{by_header, callable, callable_at, callable_standing, case_called, declared_callable, function_called, is_case, is_method, maker, method_called, type_itself, unconstrained}
+use Rattle.au_typing.specs.Outsides.{constant_at, constant_declared, constant_standing, outside_of}
+use Rattle.au_typing.specs.Written.{all_typed, followed, meant_in, seen_at, typed, types_at}
+use Rattle.au_typing.proofs.MakerLemmas.{made}
 use Rattle.au_closing_laws.specs.Standing.{EachStand, FieldsStand, OutsideStands, OwnTypesStand}
 use Rattle.au_closing_laws.proofs.MeantStandLemmas.{meant_stands}
 

@@ -13,11 +13,11 @@ use Rattle.au_syntax.specs.declared.modules.Part.{Part}
 use Rattle.au_syntax.specs.declared.modules.Part.TheVariants.{Interface, Body}
 use Rattle.au_syntax.specs.Modules.{InUniverse, constant, opaque_type, record_type, union_type, function, class, instance, constant_body, function_body, instance_body}
 use Rattle.au_syntax.specs.Plain.{Bytes, PlainDeclaration}
-use Rattle.au_tables.specs.DeclaredNames.{given, names_in, numbered, type_names}
-use Rattle.au_tables.specs.declared.spaces.Space.TheVariants.{Types}
-use Rattle.au_tables.specs.Tables as tables
-use Rattle.au_tables.specs.Tables.{firsts}
-use Rattle.au_tables.proofs.TableLemmas.{find-firsts}
+use Rattle.au_types.specs.DeclaredNames.{given, names_in, numbered, type_names}
+use Rattle.au_types.specs.declared.spaces.Space.TheVariants.{Types}
+use Rattle.au_types.specs.Tables as tables
+use Rattle.au_types.specs.Tables.{firsts}
+use Rattle.au_types.proofs.TableLemmas.{find-firsts}
 use Rattle.au_types.specs.declared.headings.Head.{Head}
 use Rattle.au_types.specs.declared.parameters.Parameter.{Parameter}
 use Rattle.au_types.specs.declared.types.DeclAt.{DeclAt}
@@ -25,9 +25,9 @@ use Rattle.au_types.specs.Rows.{head_of, same_place}
 use Rattle.au_types.specs.Types.{Meaning, named}
 use Rattle.au_types.specs.Universes.{universe_in}
 use Rattle.au_types.proofs.SameLemmas.{place_self}
-use Rattle.au_universes.specs.Forming.{StandsOver, all_fit, all_formed, argument_formed, fit_row, fits_in_kind, is_formed}
-use Rattle.au_universes.specs.Universes.{of_parameter}
-use Rattle.au_generics.specs.Meanings.{parameter}
+use Rattle.au_matching.specs.Forming.{StandsOver, all_fit, all_formed, argument_formed, fit_row, fits_in_kind, is_formed}
+use Rattle.au_matching.specs.Universes.{of_parameter}
+use Rattle.au_judged_types.specs.Meanings.{parameter}
 use Rattle.au_modules.specs.Programs.{ModuleParts}
 use Rattle.au_names.specs.declared.targets.Target.{Target}
 use Rattle.au_names.specs.DeclaredTypes.{DeclaredType, a_type, type_declared}
@@ -35,12 +35,12 @@ use Rattle.au_names.specs.HeadsOf.{counting, head_for, heads_of, row_of, row_und
 use Rattle.au_names.specs.Owned.{declarations_in, declarations_of, own, target, targets}
 use Rattle.au_names.specs.Standing.{Standing, body_at, body_standing, defined_by, definition_for, definition_of, is_named, is_whole, module_standing, opaque_name, standing_at, standing_from, standing_in, whole_name}
 use Rattle.au_names.proofs.AmongLemmas.{Among, among-append_left, among-append_right, among-flat_map, among-flat_map_from}
-use Rattle.au_again.specs.Marks.{type_role}
-use Rattle.au_again.specs.Once.{AllNamesAreOnce, AreNew}
-use Rattle.au_again.specs.declared.marks.Role.{Role}
-use Rattle.au_again.specs.declared.marks.Role.TheVariants.{Whole, Promise, Definition}
+use Rattle.au_rules.specs.Marks.{type_role}
+use Rattle.au_rules.specs.Once.{AllNamesAreOnce, AreNew}
+use Rattle.au_rules.specs.declared.marks.Role.{Role}
+use Rattle.au_rules.specs.declared.marks.Role.TheVariants.{Whole, Promise, Definition}
 use Rattle.au_imports.specs.Good.{IsGood}
-use Rattle.au_outsides.specs.Called.{as_argument, as_arguments, owned, type_itself, type_number}
+use Rattle.au_typing.specs.Called.{as_argument, as_arguments, owned, type_itself, type_number}
 use Rattle.au_closing_laws.specs.Premises.{AreOfParts}
 use Rattle.au_closing_laws.specs.Standing.{OwnTypesStand}
 use Rattle.au_closing_laws.proofs.DefinitionLemmas.{IsThere, stands_in}

@@ -13,16 +13,16 @@ use Rattle.au_shipped.specs.declared.prims.ShippedCall.{ShippedCall}
 use Rattle.au_shipped.specs.declared.prims.ShippedCall.TheVariants as prim
 use Rattle.au_shipped.specs.Calls.{call_in, calls, found, prim_of}
 use Rattle.au_shipped.specs.Shipped.{shipped_files}
-use Rattle.au_simulation.specs.Premises.{is_plain}
+use Rattle.au_lowered.specs.Premises.{is_plain}
 use Rattle.au_syntax.specs.declared.modules.Part.TheVariants.{Body}
 use Rattle.au_syntax.specs.Modules.{instance_body}
 use Rattle.au_syntax.specs.Plain.{Bytes}
-use Rattle.au_tables.specs.declared.spaces.Space.TheVariants.{Callables}
-use Rattle.au_tables.specs.Tables as tables
+use Rattle.au_types.specs.declared.spaces.Space.TheVariants.{Callables}
+use Rattle.au_types.specs.Tables as tables
 use Rattle.au_types.specs.declared.types.DeclAt.{DeclAt}
 use Rattle.au_types.specs.Types.{parameter}
 use Rattle.au_matching.specs.Substituted.{substituted}
-use Rattle.au_closed_types.specs.Types.{ClosedType, truth}
+use Rattle.au_type_texts.specs.Types.{ClosedType, truth}
 use Rattle.au_modules.specs.Accepted.{IsOwn, IsProgram}
 use Rattle.au_modules.specs.Accepted as files
 use Rattle.au_modules.specs.Programs.{Entry, ModuleParts, first_shipped, is_interface, is_shipped, module_of, shipped_module}
@@ -38,18 +38,18 @@ use Rattle.au_instances.specs.ClosedInstances.{ClosedInstance, by_row, closed_ro
 use Rattle.au_instances.specs.Rows.{Row}
 use Rattle.au_instances.specs.Tables.{IsTable}
 use Rattle.au_instances.proofs.ClosedLemmas.{closed_row_gave}
-use Rattle.au_class_methods.specs.Classes.{visible_at}
-use Rattle.au_class_methods.specs.Texts.{InstanceText, instances_of}
+use Rattle.au_classes.specs.Classes.{visible_at}
+use Rattle.au_classes.specs.Texts.{InstanceText, instances_of}
 use Rattle.au_classes.specs.Rows.{rows_of}
-use Rattle.au_outsides.specs.Written.{seen_at}
+use Rattle.au_typing.specs.Written.{seen_at}
 use Rattle.au_typing.specs.Notes.{Note}
-use Rattle.au_derivations.specs.Trees.{NotedParts}
+use Rattle.au_typing.specs.Trees.{NotedParts}
 use Rattle.au_noting_programs.specs.Faults.{IsDerived}
 use Rattle.au_outcomes.specs.Accepted.{AreAcceptedAs}
 use Rattle.au_outcomes.specs.Programs.{program_modules}
 use Rattle.au_outcomes.specs.Trees.{ReadFile}
 use Rattle.au_closed_trees.specs.ClosedNotes.{shipped}
-use Rattle.au_given_types.specs.Given.{Given, closed_under, given_by}
+use Rattle.au_type_texts.specs.Given.{Given, closed_under, given_by}
 use Rattle.au_closing.specs.Bodies.{BodyOf, body_of}
 use Rattle.au_closing.specs.Instances.{Instance}
 use Rattle.au_closing.specs.Leading.{Called, a_function, a_maker, a_method, at_truth, at_type, call_leads, called_leads, called_of, called_standing, kind_of, method_by_row, method_leads, module_name, shipped_or, target_leads}

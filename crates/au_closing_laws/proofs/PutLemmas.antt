@@ -3,16 +3,16 @@ use Rattle.std.proofs.Common.{◌≡◌, true, List, Some, sym, subst}
 use Rattle.au_syntax.specs.declared.declarations.Universe.{Universe}
 use Rattle.au_syntax.specs.Plain.{Bytes}
 use Rattle.au_types.specs.declared.types.DeclAt.{DeclAt}
-use Rattle.au_universes.specs.Forming.{takes}
-use Rattle.au_universes.specs.Universes.{universe_of}
-use Rattle.au_generics.specs.Bounds.{Bounded, parameters}
+use Rattle.au_matching.specs.Forming.{takes}
+use Rattle.au_matching.specs.Universes.{universe_of}
+use Rattle.au_judged_types.specs.Bounds.{Bounded, parameters}
 use Rattle.au_modules.specs.Programs.{ModuleParts}
 use Rattle.au_instances.specs.Instances.{Holds}
 use Rattle.au_instances.specs.Pairs.{constraints_of}
 use Rattle.au_instances.specs.Tables.{IsTable}
 use Rattle.au_classes.specs.Good.{InstancesAreGood}
-use Rattle.au_scopes.specs.Scopes.{Outside}
-use Rattle.au_derivations.specs.Bodies.{generics_in}
+use Rattle.au_typing.specs.Scopes.{Outside}
+use Rattle.au_typing.specs.Bodies.{generics_in}
 use Rattle.au_closing.specs.Bodies.{BodyOf}
 use Rattle.au_closing_laws.specs.Targets.{Call, HoldsIn, IsTypeOf, bounds_of}
 use Rattle.au_closing_laws.specs.Calls.{AreMeant, IsGoodCall, Suits, outside_at, put_for}

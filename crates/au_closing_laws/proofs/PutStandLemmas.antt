@@ -10,21 +10,21 @@ use Rattle.au_syntax.specs.Types.{Labelled, WrittenType}
 use Rattle.au_types.specs.Types.{Meaning, of_type, parameter}
 use Rattle.au_matching.specs.Bindings.{value_of}
 use Rattle.au_matching.specs.Substituted.{substituted, type_for}
-use Rattle.au_universes.specs.Forming.{StandsOver, is_formed}
-use Rattle.au_generics.specs.Bounds.{Bounded, parameters}
+use Rattle.au_matching.specs.Forming.{StandsOver, is_formed}
+use Rattle.au_judged_types.specs.Bounds.{Bounded, parameters}
 use Rattle.au_modules.specs.Programs.{ModuleParts}
 use Rattle.au_names.specs.declared.targets.Target.{Target}
 use Rattle.au_names.specs.HeadsOf.{heads_of}
 use Rattle.au_names.specs.Standing.{standing_at}
 use Rattle.au_rules.specs.Good.{AllDeclarationsAreGood}
-use Rattle.au_scopes.specs.Scopes.{Outside, Scope, Variable}
-use Rattle.au_outsides.specs.Outsides.{outside_of}
+use Rattle.au_typing.specs.Scopes.{Outside, Scope, Variable}
+use Rattle.au_typing.specs.Outsides.{outside_of}
 use Rattle.au_typing.specs.Faults.{Noting, ◌>>=◌}
 use Rattle.au_typing.specs.Lookups.{variable_of, written_type}
 use Rattle.au_typing.specs.Notes.{Note}
-use Rattle.au_derivations.specs.Bodies.{GoodBody, body_scope, generics_in, outer_scope, with_parameters, with_result}
-use Rattle.au_derivations.specs.InScope.{fixed_variable, with_variable}
-use Rattle.au_derivations.specs.Trees.{NotedParts}
+use Rattle.au_typing.specs.Bodies.{GoodBody, body_scope, generics_in, outer_scope, with_parameters, with_result}
+use Rattle.au_typing.specs.InScope.{fixed_variable, with_variable}
+use Rattle.au_typing.specs.Trees.{NotedParts}
 use Rattle.au_noting_programs.specs.Faults.{IsDerived}
 use Rattle.au_closing.specs.Bodies.{BodyOf, body_of}
 use Rattle.au_closing_laws.specs.Calls.{IsGoodIn, outside_at, put_for}

@@ -4,12 +4,12 @@ use Rattle.std.specs.Prelude.{unwrap_or}
 use Rattle.std.proofs.lemmas.Option.{none-some, same_Some}
 use Rattle.au_syntax.specs.declared.modules.Part.TheVariants.{Body}
 use Rattle.au_syntax.specs.Plain.{Bytes}
-use Rattle.au_tables.specs.declared.spaces.Space.TheVariants.{Callables}
-use Rattle.au_tables.specs.Tables as tables
+use Rattle.au_types.specs.declared.spaces.Space.TheVariants.{Callables}
+use Rattle.au_types.specs.Tables as tables
 use Rattle.au_types.specs.declared.types.DeclAt.{DeclAt}
 use Rattle.au_types.specs.Types.{parameter}
 use Rattle.au_matching.specs.Substituted.{substituted}
-use Rattle.au_closed_types.specs.Types.{ClosedType}
+use Rattle.au_type_texts.specs.Types.{ClosedType}
 use Rattle.au_modules.specs.Programs.{ModuleParts}
 use Rattle.au_names.specs.declared.targets.Target.{Target}
 use Rattle.au_names.specs.HeadsOf.{heads_of}
@@ -19,9 +19,9 @@ use Rattle.au_instances.specs.Rows.{Row}
 use Rattle.au_instances.specs.Tables.{IsTable}
 use Rattle.au_instances.proofs.ClosedLemmas.{closed_row_gave, closed_row_there}
 use Rattle.au_classes.specs.Rows.{rows_of}
-use Rattle.au_outsides.specs.Written.{seen_at}
+use Rattle.au_typing.specs.Written.{seen_at}
 use Rattle.au_typing.specs.Notes.{Note}
-use Rattle.au_given_types.specs.Given.{Given, closed_under}
+use Rattle.au_type_texts.specs.Given.{Given, closed_under}
 use Rattle.au_closing.specs.Leading.{a_method, call_leads, called_leads, called_standing, class_leads, method_by_row, method_leads, target_leads}
 use Rattle.au_closing_laws.specs.Resolved.{Gives, IsTheInstance, Resolves}
 

@@ -19,9 +19,9 @@ use Rattle.au_types.specs.Types.{Meaning, Arguments, parameter, of_type, in_regi
 use Rattle.au_types.specs.Universes.{universe_in}
 use Rattle.au_matching.specs.Bindings.{Bindings}
 use Rattle.au_matching.specs.Substituted.{substituted}
-use Rattle.au_universes.specs.Forming.{wants_region}
-use Rattle.au_closed_types.specs.Types.{ClosedType, ClosedTypes, unit, truth, integer, text, named, reads, writes, no_types, types}
-use Rattle.au_generics.specs.Bounds.{Bounded, parameters}
+use Rattle.au_matching.specs.Forming.{wants_region}
+use Rattle.au_type_texts.specs.Types.{ClosedType, ClosedTypes, unit, truth, integer, text, named, reads, writes, no_types, types}
+use Rattle.au_judged_types.specs.Bounds.{Bounded, parameters}
 use Rattle.au_instances.specs.ClosedInstances.{ClosedInstance, by_row, all_closed_stand, closed_stands, gives, part_of, parts_in, parts_of, types_in}
 use Rattle.au_instances.specs.Constructors.{closed_constructor}
 use Rattle.au_instances.specs.Forms.{HasForm, are_parameters, arguments_of, is_called, is_one_of, of_kind, region_name, stands_in, type_name}
@@ -31,8 +31,8 @@ use Rattle.au_instances.proofs.BecomingLemmas.{parameter_stands}
 use Rattle.au_instances.proofs.ClosedLemmas.{closed_row_is, closed_row_there, if_gives_gave}
 use Rattle.au_instances.proofs.FormLemmas.{form_over}
 use Rattle.au_instances.proofs.TableLemmas.{Contains-cases, Contains-first, Contains-rest}
-use Rattle.au_given_types.specs.Given.{Given, closed_or_unit, closed_under, given_by, given_for}
-use Rattle.au_closed_parts.specs.TypeNames.{is_region, listed, type_names}
+use Rattle.au_type_texts.specs.Given.{Given, closed_or_unit, closed_under, given_by, given_for}
+use Rattle.au_closed_trees.specs.TypeNames.{is_region, listed, type_names}
 use Rattle.au_closing.specs.Instances.{given_of_row, pair_before, paired, picked, types_within}
 use Rattle.au_closing_laws.specs.Targets.{IsTypeOf}
 

@@ -9,17 +9,17 @@ use Rattle.au_syntax.specs.declared.declarations.Universe.TheVariants as univers
 use Rattle.au_syntax.specs.Modules.{Constrained}
 use Rattle.au_syntax.specs.Names.{Placed}
 use Rattle.au_syntax.specs.Plain.{Bytes}
-use Rattle.au_tables.specs.Tables.{find}
+use Rattle.au_types.specs.Tables.{find}
 use Rattle.au_types.specs.declared.headings.Head.{Head}
 use Rattle.au_types.specs.declared.parameters.Parameter.{Parameter}
 use Rattle.au_types.specs.declared.types.DeclAt.{DeclAt}
 use Rattle.au_types.specs.Universes.{universe_in}
-use Rattle.au_written_types.specs.Senses.{Sense, built_in, declared_sense, outer_sense, parameter_sense}
+use Rattle.au_types.specs.Senses.{Sense, built_in, declared_sense, outer_sense, parameter_sense}
 use Rattle.au_promises.specs.Agreeing.{Sight}
 use Rattle.au_promises.specs.Fulfilled.{Each, SameClass, SameGeneric}
-use Rattle.au_generics.specs.declared.reading.Misfit.{Misfit}
-use Rattle.au_generics.specs.declared.reading.Misfit.TheVariants.{NoClass, OfRegion}
-use Rattle.au_generics.specs.Meanings.{class_in, class_meant, classes_meant, first_misfit, is_constrained_region, misfit_of, name_misfit, no_class, parameter, with_classes, written_params}
+use Rattle.au_judged_types.specs.declared.reading.Misfit.{Misfit}
+use Rattle.au_judged_types.specs.declared.reading.Misfit.TheVariants.{NoClass, OfRegion}
+use Rattle.au_judged_types.specs.Meanings.{class_in, class_meant, classes_meant, first_misfit, is_constrained_region, misfit_of, name_misfit, no_class, parameter, with_classes, written_params}
 
 -- ---- the class that a name means is a declaration that is seen
 

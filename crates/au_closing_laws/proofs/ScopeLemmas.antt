@@ -21,16 +21,16 @@ use Rattle.au_types.specs.Types.{Meaning, Argument, Arguments, unit, truth, inte
 use Rattle.au_types.specs.Universes.{universe_in}
 use Rattle.au_matching.specs.Bindings.{Bindings, value_of}
 use Rattle.au_matching.specs.Substituted.{substituted, type_for, EachNameOfAll, OfRegion}
-use Rattle.au_universes.specs.Fitting.{stand_in, BindingsFit}
-use Rattle.au_universes.proofs.SubstitutingUniverseLemmas.{universe_kept}
-use Rattle.au_universes.specs.declared.universes.TypeUniverse.{TypeUniverse}
-use Rattle.au_universes.specs.declared.universes.TypeUniverse.TheVariants.{Free, Linear, AnyUniverse}
-use Rattle.au_universes.specs.Forming.{StandsOver, fits, fits_in_kind, is_formed, all_formed, takes, wants_region}
-use Rattle.au_universes.specs.Replaced.{may_be}
-use Rattle.au_universes.specs.Universes.{of_parameter, universe_of}
-use Rattle.au_closed_types.specs.Closing.{closed}
-use Rattle.au_closed_types.specs.Types.{ClosedType}
-use Rattle.au_generics.specs.Bounds.{Bounded, classes_of, constrains, is_among, parameters}
+use Rattle.au_matching.specs.Fitting.{stand_in, BindingsFit}
+use Rattle.au_matching.proofs.SubstitutingUniverseLemmas.{universe_kept}
+use Rattle.au_matching.specs.declared.universes.TypeUniverse.{TypeUniverse}
+use Rattle.au_matching.specs.declared.universes.TypeUniverse.TheVariants.{Free, Linear, AnyUniverse}
+use Rattle.au_matching.specs.Forming.{StandsOver, fits, fits_in_kind, is_formed, all_formed, takes, wants_region}
+use Rattle.au_matching.specs.Replaced.{may_be}
+use Rattle.au_matching.specs.Universes.{of_parameter, universe_of}
+use Rattle.au_type_texts.specs.Closing.{closed}
+use Rattle.au_type_texts.specs.Types.{ClosedType}
+use Rattle.au_judged_types.specs.Bounds.{Bounded, classes_of, constrains, is_among, parameters}
 use Rattle.au_instances.specs.ClosedInstances.{ClosedHolds, given, closed_row, closed_stands, closed_taken, closed_universe, has_instance, part_of}
 use Rattle.au_instances.specs.Instances.{Holds, Known, is_known}
 use Rattle.au_instances.specs.Laws.{ValuesMeet}
@@ -42,9 +42,9 @@ use Rattle.au_instances.proofs.ClosedLemmas.{closed_row_gave, closed_row_there, 
 use Rattle.au_instances.proofs.PairLemmas.{class_among, in_classes, listed_constrains}
 use Rattle.au_instances.proofs.StandingLemmas.{arguments_stand, first_stands}
 use Rattle.au_instances.proofs.TableLemmas.{Contains-cases, Contains-first, Contains-rest}
-use Rattle.au_given_types.specs.Given.{Closes, Given, closed_under, given_for}
-use Rattle.au_given_types.proofs.GivenLemmas.{closing_substituted}
-use Rattle.au_closed_parts.specs.TypeNames.{is_region}
+use Rattle.au_type_texts.specs.Given.{Closes, Given, closed_under, given_for}
+use Rattle.au_type_texts.proofs.GivenLemmas.{closing_substituted}
+use Rattle.au_closed_trees.specs.TypeNames.{is_region}
 use Rattle.au_closing_laws.specs.Targets.{IsTypeOf}
 
 -- ---- tests of lists

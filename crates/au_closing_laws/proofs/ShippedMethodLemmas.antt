@@ -19,10 +19,10 @@ use Rattle.au_syntax.specs.Names.{Placed}
 use Rattle.au_syntax.specs.Plain.{Bytes, PlainDeclaration}
 use Rattle.au_syntax.specs.Sizes.{joined}
 use Rattle.au_syntax.specs.Types.{WrittenType}
-use Rattle.au_tables.specs.declared.spaces.Space.TheVariants.{Types}
-use Rattle.au_tables.specs.DeclaredNames.{names_in, numbered}
-use Rattle.au_tables.specs.Tables as tables
-use Rattle.au_tables.proofs.TableLemmas.{find-firsts}
+use Rattle.au_types.specs.declared.spaces.Space.TheVariants.{Types}
+use Rattle.au_types.specs.DeclaredNames.{names_in, numbered}
+use Rattle.au_types.specs.Tables as tables
+use Rattle.au_types.proofs.TableLemmas.{find-firsts}
 use Rattle.au_types.specs.declared.headings.Head.{Head}
 use Rattle.au_types.specs.declared.types.DeclAt.{DeclAt}
 use Rattle.au_types.specs.Rows.{head_of}
@@ -33,10 +33,10 @@ use Rattle.au_names.specs.Meanings.{declared_by, imports_in, meanings, part_of, 
 use Rattle.au_names.specs.Owned.{declarations_in, own, targets}
 use Rattle.au_names.specs.Standing.{Standing, body_standing, standing_at, standing_from, standing_in}
 use Rattle.au_names.proofs.AmongLemmas.{Among, among}
-use Rattle.au_written_types.specs.Senses.{declared_sense}
-use Rattle.au_generics.specs.Meanings.{class_in, class_meant}
+use Rattle.au_types.specs.Senses.{declared_sense}
+use Rattle.au_judged_types.specs.Meanings.{class_in, class_meant}
 use Rattle.au_promises.specs.Agreeing.{visible}
-use Rattle.au_class_methods.specs.Classes.{visible_at, visible_in}
+use Rattle.au_classes.specs.Classes.{visible_at, visible_in}
 use Rattle.au_closing_laws.specs.Gathered.{IsGathered, entry_of}
 use Rattle.au_closing_laws.proofs.GatheredLemmas.{all_among, among_get, module_is}
 use Rattle.au_closing_laws.proofs.SameLemmas.{class_found, declared_class}

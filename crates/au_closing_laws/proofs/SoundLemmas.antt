@@ -11,20 +11,20 @@ use Rattle.au_types.specs.declared.headings.Head.{Head}
 use Rattle.au_types.specs.declared.types.DeclAt.{DeclAt}
 use Rattle.au_types.specs.Types.{Meaning, parameter}
 use Rattle.au_matching.specs.Substituted.{substituted}
-use Rattle.au_closed_types.specs.Types.{ClosedType}
+use Rattle.au_type_texts.specs.Types.{ClosedType}
 use Rattle.au_modules.specs.Programs.{ModuleParts}
 use Rattle.au_names.specs.declared.targets.Target.{Target}
 use Rattle.au_names.specs.HeadsOf.{heads_of}
-use Rattle.au_generics.specs.Bounds.{parameters}
+use Rattle.au_judged_types.specs.Bounds.{parameters}
 use Rattle.au_instances.specs.ClosedInstances.{ClosedHolds, ClosedInstance, given, closed_row, closed_stands, part_of}
 use Rattle.au_instances.specs.Rows.{Row}
 use Rattle.au_instances.proofs.ClosedLemmas.{closed_row_there}
 use Rattle.au_classes.specs.Rows.{rows_of}
 use Rattle.au_typing.specs.Notes.{Note}
-use Rattle.au_derivations.specs.Trees.{NotedParts}
-use Rattle.au_reach.specs.Reached.{Has, Lists, Reached, follows, has, start}
+use Rattle.au_typing.specs.Trees.{NotedParts}
+use Rattle.au_graphs.specs.Reached.{Has, Lists, Reached, follows, has, start}
 use Rattle.au_closed_trees.specs.ClosedNotes.{Callee, constructor, instance, shipped}
-use Rattle.au_given_types.specs.Given.{closed_under, given_by, given_for}
+use Rattle.au_type_texts.specs.Given.{closed_under, given_by, given_for}
 use Rattle.au_closing.proofs.ClosesLemmas.{instances_told}
 use Rattle.au_closing.specs.Closes.{ClosedFunction, ClosesFunctions, body_closed, calls_in_body, calls_of, instance_closed}
 use Rattle.au_closing.specs.Instances.{Instance, given_of_row, instance_of, method_at, same_instance}

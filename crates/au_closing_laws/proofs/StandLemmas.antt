@@ -23,16 +23,16 @@ use Rattle.au_matching.specs.Fixed.{all_fixed, argument_fixed, fixed, is_a_type,
 use Rattle.au_matching.specs.Matched.{all_matched, and_then, argument_matched, bound, matched, only_if, region_matched}
 use Rattle.au_matching.specs.Substituted.{all_substituted, argument_substituted, substituted, type_for}
 use Rattle.au_matching.proofs.BindingLemmas.{value_of-with}
-use Rattle.au_universes.specs.Forming.{ArgumentStandsOver, StandsOver, all_fit, all_formed, argument_formed, fit_row, fits_in_kind, is_formed}
-use Rattle.au_universes.specs.Universes.{of_parameter}
-use Rattle.au_universes.proofs.SubstitutingFormedLemmas.{formed_kept}
-use Rattle.au_generics.specs.Bounds.{parameters}
-use Rattle.au_scopes.specs.Scopes.{Callable, Scope, Typed}
+use Rattle.au_matching.specs.Forming.{ArgumentStandsOver, StandsOver, all_fit, all_formed, argument_formed, fit_row, fits_in_kind, is_formed}
+use Rattle.au_matching.specs.Universes.{of_parameter}
+use Rattle.au_matching.proofs.SubstitutingFormedLemmas.{formed_kept}
+use Rattle.au_judged_types.specs.Bounds.{parameters}
+use Rattle.au_typing.specs.Scopes.{Callable, Scope, Typed}
 use Rattle.au_typing.specs.Calls.{FirstStep, GoodCall, Passes, SecondStep, Shown, Taken, TakenBare, begun, by_labels, each_is_named_once, first_left, in_order, labelled_types}
 use Rattle.au_typing.specs.Lookups.{type_of_name}
 use Rattle.au_typing.specs.Notes.{Mode, Note}
 use Rattle.au_typing.specs.Rules.{int32}
-use Rattle.au_closed_parts.specs.TypeNames.{is_region}
+use Rattle.au_closed_trees.specs.TypeNames.{is_region}
 use Rattle.au_closing_laws.specs.Standing.{EachStand}
 use Rattle.au_closing_laws.proofs.FitLemmas.{value_there}
 

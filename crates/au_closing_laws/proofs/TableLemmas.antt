@@ -7,7 +7,7 @@ use Rattle.std.proofs.lemmas.List.{append-nil}
 use Rattle.std.proofs.lemmas.List.Elements.{Contains-append_cases, Contains-get_or, Contains-push_cases}
 use Rattle.std.proofs.lemmas.List.Quantifiers.{all_pairs_push}
 use Rattle.au_modules.specs.Programs.{ModuleParts}
-use Rattle.au_class_methods.specs.Texts.{InstanceText, instances_of}
+use Rattle.au_classes.specs.Texts.{InstanceText, instances_of}
 use Rattle.au_instances.specs.Forms.{HasForm}
 use Rattle.au_instances.specs.Rows.{Row}
 use Rattle.au_instances.specs.Tables.{AreApart, IsTable}

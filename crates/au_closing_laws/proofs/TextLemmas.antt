@@ -19,18 +19,18 @@ use Rattle.au_names.specs.HeadsOf.{heads_of}
 use Rattle.au_names.specs.Owned.{declarations_in}
 use Rattle.au_judged_types.specs.Agreement.{found}
 use Rattle.au_judged_types.specs.Judging.{judged}
-use Rattle.au_generics.specs.declared.reading.Meant.{Meant}
-use Rattle.au_generics.specs.declared.reading.Meant.TheVariants.{Are, Fails}
-use Rattle.au_generics.specs.Bounds.{Bounded, parameters}
-use Rattle.au_generics.specs.Meanings.{class_meant, generics_meant}
+use Rattle.au_judged_types.specs.declared.reading.Meant.{Meant}
+use Rattle.au_judged_types.specs.declared.reading.Meant.TheVariants.{Are, Fails}
+use Rattle.au_judged_types.specs.Bounds.{Bounded, parameters}
+use Rattle.au_judged_types.specs.Meanings.{class_meant, generics_meant}
 use Rattle.au_promises.specs.Agreeing.{scope_of, sight_of}
 use Rattle.au_promises.specs.Promises.{instance_defined}
 use Rattle.au_instances.specs.Rows.{Row}
 use Rattle.au_instances.proofs.TableLemmas.{Contains-cases}
-use Rattle.au_class_methods.specs.Classes.{visible_at}
-use Rattle.au_class_methods.specs.Indices.{first_index, is_among}
-use Rattle.au_class_methods.specs.Texts.{InstanceText, declared_at, defined, defined_from, definition_at, definition_index, definition_indices, instances_from, instances_in, instances_of, methods_at, methods_in, module_instances, promised, promised_from, put_before, unless_promised}
-use Rattle.au_class_methods.proofs.IndexLemmas.{found_none, found_there}
+use Rattle.au_classes.specs.Classes.{visible_at}
+use Rattle.au_classes.specs.Indices.{first_index, is_among}
+use Rattle.au_classes.specs.Texts.{InstanceText, declared_at, defined, defined_from, definition_at, definition_index, definition_indices, instances_from, instances_in, instances_of, methods_at, methods_in, module_instances, promised, promised_from, put_before, unless_promised}
+use Rattle.au_classes.proofs.IndexLemmas.{found_none, found_there}
 use Rattle.au_classes.specs.Rows.{row_in, row_of, row_of_class, row_over, row_seen, row_with}
 
 nothing_there : {A : Type 0} (x : A) → Contains [] x → ⊥

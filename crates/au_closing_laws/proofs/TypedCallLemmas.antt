@@ -8,18 +8,18 @@ use Rattle.au_syntax.specs.Plain.{Bytes}
 use Rattle.au_syntax.specs.Statements.{skip, declare, destructure, assign, assign_through, conditional, conditional_else, case_of, while_loop, for_loop, borrow_in, borrow_typed, discard, return_of, no_statements, statements, no_branches, branches, no_arms, arms}
 use Rattle.au_syntax.specs.Types.{Bound}
 use Rattle.au_types.specs.Types.{Meaning}
-use Rattle.au_generics.specs.Bounds.{Bounded}
+use Rattle.au_judged_types.specs.Bounds.{Bounded}
 use Rattle.au_names.specs.Importing.{given_name}
-use Rattle.au_scopes.specs.Scopes.{Outside, Scope}
+use Rattle.au_typing.specs.Scopes.{Outside, Scope}
 use Rattle.au_typing.specs.Calls.{in_order, by_labels}
 use Rattle.au_typing.specs.Faults.{Noting}
 use Rattle.au_typing.specs.Good.{AllGood, AllGoodIn, AllGoodLabelled, count_of, items_of, labels_of, shown, values_of}
 use Rattle.au_typing.specs.Lookups.{written_type}
 use Rattle.au_typing.specs.Notes.{Note, NotedArguments, NotedExpression, NotedExpressions, type_of}
-use Rattle.au_derivations.specs.InScope.{after, fixed_variable, is_var, with_bound, with_reference, with_typed, with_variable}
-use Rattle.au_derivations.specs.Parts.{borrow_type, mode_for}
-use Rattle.au_derivations.specs.Statements.{GoodArmBlocks, GoodBlock, GoodBranches, GoodStatement}
-use Rattle.au_derivations.specs.Trees.{NotedArms, NotedBranches, NotedStatement, NotedStatements}
+use Rattle.au_typing.specs.InScope.{after, fixed_variable, is_var, with_bound, with_reference, with_typed, with_variable}
+use Rattle.au_typing.specs.Parts.{borrow_type, mode_for}
+use Rattle.au_typing.specs.Statements.{GoodArmBlocks, GoodBlock, GoodBranches, GoodStatement}
+use Rattle.au_typing.specs.Trees.{NotedArms, NotedBranches, NotedStatement, NotedStatements}
 use Rattle.au_instances.proofs.TableLemmas.{Contains-cases}
 use Rattle.au_closed_trees.specs.Calls.{calls_in, calls_in_all, calls_in_arguments, calls_in_arms, calls_in_block, calls_in_branches, calls_in_statement}
 use Rattle.au_closing_laws.specs.Targets.{Call}

@@ -21,18 +21,18 @@ use Rattle.au_names.specs.declared.targets.Target.{Target}
 use Rattle.au_names.specs.Owned.{declarations_in}
 use Rattle.au_names.specs.Standing.{Standing, standing_at}
 use Rattle.au_promises.specs.Fulfilled.{AllFulfil}
-use Rattle.au_generics.specs.Bounds.{Bounded, parameters}
-use Rattle.au_generics.specs.Meanings.{parameter}
+use Rattle.au_judged_types.specs.Bounds.{Bounded, parameters}
+use Rattle.au_judged_types.specs.Meanings.{parameter}
 use Rattle.au_formed.specs.Writings.{a_universe, writings}
 use Rattle.au_instances.proofs.TableLemmas.{Contains-first}
 use Rattle.au_classes.specs.Good.{InstancesAreGood}
 use Rattle.au_rules.specs.Good.{AllDeclarationsAreGood}
-use Rattle.au_scopes.specs.Scopes.{Callable, Typed}
-use Rattle.au_outsides.specs.Called.{callable, declared_callable, is_case, is_method, method_called, unconstrained}
-use Rattle.au_outsides.specs.Written.{all_typed, meant_in}
-use Rattle.au_derivations.specs.Trees.{NotedParts}
+use Rattle.au_typing.specs.Scopes.{Callable, Typed}
+use Rattle.au_typing.specs.Called.{callable, declared_callable, is_case, is_method, method_called, unconstrained}
+use Rattle.au_typing.specs.Written.{all_typed, meant_in}
+use Rattle.au_typing.specs.Trees.{NotedParts}
 use Rattle.au_noting_programs.specs.Faults.{IsDerived}
-use Rattle.au_closed_parts.specs.TypeNames.{is_region}
+use Rattle.au_closed_trees.specs.TypeNames.{is_region}
 use Rattle.au_closing.specs.Bodies.{BodyOf, body_of}
 use Rattle.au_closing.specs.Leading as leading
 use Rattle.au_closing.specs.Leading.{Called, a_function, a_maker, a_method, called_of, called_standing}

@@ -3,25 +3,25 @@ use Rattle.std.specs.Prelude.{◌≡◌, List, [], Option, Some, IsTrue, unwrap_
 use Rattle.au_syntax.specs.declared.declarations.Universe.{Universe}
 use Rattle.au_syntax.specs.Plain.{Bytes}
 use Rattle.au_syntax.specs.declared.modules.Part.TheVariants.{Body}
-use Rattle.au_tables.specs.declared.spaces.Space.TheVariants.{Callables}
-use Rattle.au_tables.specs.Tables as tables
+use Rattle.au_types.specs.declared.spaces.Space.TheVariants.{Callables}
+use Rattle.au_types.specs.Tables as tables
 use Rattle.au_types.specs.declared.types.DeclAt.{DeclAt}
 use Rattle.au_types.specs.Types.{Meaning, parameter}
 use Rattle.au_matching.specs.Substituted.{substituted}
-use Rattle.au_universes.specs.Forming.{takes}
-use Rattle.au_universes.specs.Universes.{universe_of}
-use Rattle.au_generics.specs.Bounds.{Bounded, constrains}
+use Rattle.au_matching.specs.Forming.{takes}
+use Rattle.au_matching.specs.Universes.{universe_of}
+use Rattle.au_judged_types.specs.Bounds.{Bounded, constrains}
 use Rattle.au_modules.specs.Programs.{ModuleParts}
 use Rattle.au_names.specs.declared.targets.Target.{Target}
 use Rattle.au_names.specs.HeadsOf.{heads_of}
 use Rattle.au_names.specs.Standing.{Standing, standing_at}
-use Rattle.au_scopes.specs.Scopes.{Outside, Scope, Typed}
-use Rattle.au_outsides.specs.Called.{declared_callable}
-use Rattle.au_outsides.specs.Outsides.{outside_of}
-use Rattle.au_outsides.specs.Written.{seen_at}
+use Rattle.au_typing.specs.Scopes.{Outside, Scope, Typed}
+use Rattle.au_typing.specs.Called.{declared_callable}
+use Rattle.au_typing.specs.Outsides.{outside_of}
+use Rattle.au_typing.specs.Written.{seen_at}
 use Rattle.au_typing.specs.Calls.{GoodCall, Shown}
 use Rattle.au_typing.specs.Notes.{Note}
-use Rattle.au_derivations.specs.Bodies.{generics_in}
+use Rattle.au_typing.specs.Bodies.{generics_in}
 use Rattle.au_closing.specs.Bodies.{BodyOf}
 use Rattle.au_closing.specs.Leading.{Called, called_of}
 use Rattle.au_closing_laws.specs.Targets.{Call, HoldsIn, bounds_of, scope_of}

@@ -9,17 +9,17 @@ use Rattle.au_syntax.specs.Modules.{Constrained, Header, InUniverse, class, func
 use Rattle.au_syntax.specs.Names.{Placed}
 use Rattle.au_syntax.specs.Plain.{Bytes}
 use Rattle.au_types.specs.declared.types.DeclAt.{DeclAt}
-use Rattle.au_universes.specs.Forming.{StandsOver}
-use Rattle.au_closed_types.specs.Types.{ClosedType}
+use Rattle.au_matching.specs.Forming.{StandsOver}
+use Rattle.au_type_texts.specs.Types.{ClosedType}
 use Rattle.au_instances.specs.ClosedInstances.{ClosedInstance}
 use Rattle.au_instances.specs.Rows.{Row}
 use Rattle.au_classes.specs.Rows.{rows_of}
-use Rattle.au_generics.specs.Bounds.{parameters}
+use Rattle.au_judged_types.specs.Bounds.{parameters}
 use Rattle.au_modules.specs.Programs.{ModuleParts}
 use Rattle.au_names.specs.declared.targets.Target.{Target}
 use Rattle.au_names.specs.HeadsOf.{heads_of}
 use Rattle.au_names.specs.Standing.{Standing, standing_at}
-use Rattle.au_derivations.specs.Trees.{NotedParts}
+use Rattle.au_typing.specs.Trees.{NotedParts}
 use Rattle.au_closing.specs.Bodies.{BodyOf, body_of}
 use Rattle.au_closing.specs.Leading.{module_name}
 use Rattle.au_closing_laws.specs.Targets.{Call, IsTypeOf, MethodIsThere, calls_listed, scope_of}

@@ -6,9 +6,9 @@ use Rattle.au_modules.specs.Programs.{ModuleParts}
 use Rattle.au_names.specs.HeadsOf.{heads_of}
 use Rattle.au_instances.specs.ClosedInstances.{closed_stands, part_of}
 use Rattle.au_classes.specs.Rows.{rows_of}
-use Rattle.au_derivations.specs.Trees.{NotedParts}
+use Rattle.au_typing.specs.Trees.{NotedParts}
 use Rattle.au_closed_trees.specs.ClosedNotes.{Callee, constructor, instance, shipped}
-use Rattle.au_given_types.specs.Given.{given_for}
+use Rattle.au_type_texts.specs.Given.{given_for}
 use Rattle.au_closing.specs.Bodies.{BodyOf, body_of}
 use Rattle.au_closing.specs.Instances.{Instance}
 use Rattle.au_closing_laws.specs.Targets.{IsTypeOf, bounds_of, scope_of}

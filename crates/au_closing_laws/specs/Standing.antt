@@ -6,17 +6,17 @@ use Rattle.au_types.specs.declared.headings.Head.{Head}
 use Rattle.au_types.specs.declared.parameters.Parameter.{Parameter}
 use Rattle.au_types.specs.declared.types.DeclAt.{DeclAt}
 use Rattle.au_types.specs.Types.{Meaning}
-use Rattle.au_universes.specs.Forming.{StandsOver}
-use Rattle.au_generics.specs.Bounds.{parameters}
-use Rattle.au_generics.specs.Meanings.{parameter}
+use Rattle.au_matching.specs.Forming.{StandsOver}
+use Rattle.au_judged_types.specs.Bounds.{parameters}
+use Rattle.au_judged_types.specs.Meanings.{parameter}
 use Rattle.au_modules.specs.Programs.{ModuleParts}
 use Rattle.au_names.specs.DeclaredTypes.{DeclaredType, type_declared}
 use Rattle.au_names.specs.HeadsOf.{heads_of}
 use Rattle.au_names.specs.Standing.{Standing, standing_at, whole_name}
-use Rattle.au_scopes.specs.Scopes.{Callable, Outside, Typed}
-use Rattle.au_outsides.specs.Called.{type_itself}
-use Rattle.au_outsides.specs.Insides.{fields_of}
-use Rattle.au_outsides.specs.Outsides.{outside_of}
+use Rattle.au_typing.specs.Scopes.{Callable, Outside, Typed}
+use Rattle.au_typing.specs.Called.{type_itself}
+use Rattle.au_typing.specs.Insides.{fields_of}
+use Rattle.au_typing.specs.Outsides.{outside_of}
 
 module _ (heads : List (DeclAt × Head)) (params : List Parameter) where
   -- each of some fields or parameters has a type that stands

@@ -7,35 +7,35 @@ use Rattle.au_shipped.specs.Calls.{prim_of}
 use Rattle.au_syntax.specs.declared.declarations.Universe.{Universe}
 use Rattle.au_syntax.specs.declared.modules.Part.TheVariants.{Body}
 use Rattle.au_syntax.specs.Plain.{Bytes}
-use Rattle.au_tables.specs.declared.spaces.Space.TheVariants.{Callables}
-use Rattle.au_tables.specs.Tables as tables
+use Rattle.au_types.specs.declared.spaces.Space.TheVariants.{Callables}
+use Rattle.au_types.specs.Tables as tables
 use Rattle.au_types.specs.declared.parameters.Parameter.{Parameter}
 use Rattle.au_types.specs.declared.types.DeclAt.{DeclAt}
 use Rattle.au_types.specs.Types.{Meaning, parameter}
 use Rattle.au_types.specs.Universes.{universe_in}
 use Rattle.au_matching.specs.Substituted.{substituted}
-use Rattle.au_universes.specs.Forming.{StandsOver, takes}
-use Rattle.au_universes.specs.Universes.{universe_of}
-use Rattle.au_closed_types.specs.Types.{ClosedType}
+use Rattle.au_matching.specs.Forming.{StandsOver, takes}
+use Rattle.au_matching.specs.Universes.{universe_of}
+use Rattle.au_type_texts.specs.Types.{ClosedType}
 use Rattle.au_modules.specs.Programs.{ModuleParts}
 use Rattle.au_names.specs.declared.targets.Target.{Target}
 use Rattle.au_names.specs.HeadsOf.{heads_of}
 use Rattle.au_names.specs.Standing.{standing_at}
-use Rattle.au_generics.specs.declared.reading.Meant.{Meant}
-use Rattle.au_generics.specs.declared.reading.Meant.TheVariants as meant
-use Rattle.au_generics.specs.Bounds.{Bounded, constrains, parameters}
-use Rattle.au_generics.specs.Meanings.{generics_meant}
+use Rattle.au_judged_types.specs.declared.reading.Meant.{Meant}
+use Rattle.au_judged_types.specs.declared.reading.Meant.TheVariants as meant
+use Rattle.au_judged_types.specs.Bounds.{Bounded, constrains, parameters}
+use Rattle.au_judged_types.specs.Meanings.{generics_meant}
 use Rattle.au_instances.specs.ClosedInstances.{ClosedInstance}
 use Rattle.au_instances.specs.Instances.{Holds}
 use Rattle.au_instances.specs.Pairs.{constraints_of}
 use Rattle.au_instances.specs.Rows.{Row}
 use Rattle.au_instances.specs.Tables.{IsTable}
 use Rattle.au_classes.specs.Rows.{rows_of}
-use Rattle.au_outsides.specs.Written.{seen_at, types_at}
+use Rattle.au_typing.specs.Written.{seen_at, types_at}
 use Rattle.au_typing.specs.Notes.{Note}
-use Rattle.au_derivations.specs.Trees.{NotedParts, NotedStatements}
+use Rattle.au_typing.specs.Trees.{NotedParts, NotedStatements}
 use Rattle.au_closed_trees.specs.Calls.{calls_in_block}
-use Rattle.au_closed_parts.specs.TypeNames.{is_region, type_names}
+use Rattle.au_closed_trees.specs.TypeNames.{is_region, type_names}
 use Rattle.au_closing.specs.Bodies.{BodyOf, body_of}
 use Rattle.au_closing.specs.Instances.{Instance}
 use Rattle.au_closing.specs.Leading.{Called, a_function, a_method, a_maker, called_standing, kind_of}

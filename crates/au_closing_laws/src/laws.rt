@@ -6,9 +6,9 @@ ghost use Rattle.au_closing.specs.Instances.{Instance as InstanceSeen, same_inst
 ghost use Rattle.au_closing.specs.Leading.{call_leads};
 ghost use Rattle.au_closing_laws.specs.Sound.{IsSomewhere, IsSound};
 ghost use Rattle.au_closing_laws.specs.Targets.{Call, IsEntry, IsTyped, calls_listed};
-ghost use Rattle.au_derivations.specs.Trees.{NotedParts};
+ghost use Rattle.au_typing.specs.Trees.{NotedParts};
 ghost use Rattle.au_modules.specs.Programs.{ModuleParts};
-ghost use Rattle.au_reach.specs.Reached.{Lists, Reached};
+ghost use Rattle.au_graphs.specs.Reached.{Lists, Reached};
 
 /// In a typed program each instance that is reached from an entry is sound, and each call of a sound instance
 /// leads somewhere: to an instance that is sound as well, to a constructor or to a shipped call.

@@ -1,0 +1,4 @@
+pub mod DeclarationLemmas
+pub mod TurnLemmas
+pub mod PutLemmas
+pub mod StatementLemmas

@@ -9,7 +9,7 @@ use Rattle.std.proofs.lemmas.List.{append-nil, get_or-set_same, get_or_at, lengt
 use Rattle.std.proofs.lemmas.List.{length-replicate, length-take-le, map_push, set-set, set-get_or, set_at}
 use Rattle.std.proofs.lemmas.List.{take_all, take_more}
 use Rattle.std.proofs.lemmas.List.Elements.{filter_map-append}
-use Rattle.au_cycles.specs.Cycles.{successors}
+use Rattle.au_graphs.specs.Cycles.{successors}
 use Rattle.au_types.specs.declared.types.DeclAt.{DeclAt}
 use Rattle.au_types.specs.Rows.{same_place}
 use Rattle.au_types.proofs.SameLemmas.{place_is}

@@ -8,9 +8,9 @@ use Rattle.std.proofs.lemmas.Bool.{cases_Bool}
 use Rattle.std.proofs.lemmas.List.{length-map}
 use Rattle.std.proofs.lemmas.Option.{none-some, same_Some, slice_get-map, slice_get_within, slice_get-get_or}
 use Rattle.std.proofs.lemmas.Option.{get_or_from_slice_get}
-use Rattle.au_cycles.specs.Cycles as graph
-use Rattle.au_cycles.specs.Cycles.{successors, IsOnCycle, IsFirstOnCycle, HasNoCycle}
-use Rattle.au_cycles.proofs.CycleLemmas.{past_names}
+use Rattle.au_graphs.specs.Cycles as graph
+use Rattle.au_graphs.specs.Cycles.{successors, IsOnCycle, IsFirstOnCycle, HasNoCycle}
+use Rattle.au_graphs.proofs.CycleLemmas.{past_names}
 use Rattle.au_types.specs.declared.types.DeclAt.{DeclAt}
 use Rattle.au_types.specs.Rows.{same_place}
 use Rattle.au_types.proofs.SameLemmas.{place_is, place_self}

@@ -11,7 +11,7 @@ use Rattle.au_syntax.specs.Plain.{Bytes}
 use Rattle.au_syntax.specs.Types.{WrittenType, WrittenTypes, named, reference, no_types}
 use Rattle.au_syntax.specs.Views.{written, written_all}
 use Rattle.au_types.specs.declared.types.DeclAt.{DeclAt}
-use Rattle.au_written_types.specs.Senses.{Sense}
+use Rattle.au_types.specs.Senses.{Sense}
 use Rattle.au_formed.specs.Naming.{all_named, declared_type, named_by, types_named}
 
 module _ (sense : Bytes → Option Sense) (holder : DeclAt → Bool) where

@@ -25,7 +25,7 @@ use Rattle.au_syntax.proofs.ExpressionLemmas.{path_says, arrow_says, call_says, 
 use Rattle.au_syntax.proofs.ExpressionLemmas.{parenthesized_says, dereference_says, borrow_says}
 use Rattle.au_syntax.proofs.ExpressionLemmas.{borrow_part_says, binary_says, not_says, typed_says, if_says}
 use Rattle.au_formed.specs.Writings.{a_type, value_writings, values_writings, named_values_writings}
-use Rattle.au_mentions.specs.Said.{arguments_said, expression_said, expressions_said}
+use Rattle.au_promises.specs.Said.{arguments_said, expression_said, expressions_said}
 
 abbrev TheSite : Type 0
 TheSite = Site Parsed (List ℕ) (Unit {0}) (Unit {0})

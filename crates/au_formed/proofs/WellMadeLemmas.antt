@@ -20,14 +20,14 @@ use Rattle.au_types.specs.Types.{Meaning}
 use Rattle.au_judged_types.specs.Judging.{judged}
 use Rattle.au_judged_types.specs.Reasons.{Outcome, means, fails}
 use Rattle.au_judged_types.proofs.AgreementLemmas.{judged_is_meant, meant_is_judged}
-use Rattle.au_mentions.specs.Mentions.{type_parameters}
-use Rattle.au_universes.specs.declared.universes.TypeUniverse.{TypeUniverse}
-use Rattle.au_universes.specs.declared.universes.TypeUniverse.TheVariants.{Free, Linear, AnyUniverse}
-use Rattle.au_universes.specs.Forming.{wants_region}
-use Rattle.au_universes.specs.Universes.{is_free, is_linear, universe_of}
-use Rattle.au_written_types.specs.Meant.{meant}
-use Rattle.au_written_types.specs.Senses.{Sense, a_type as type_sense, a_span, a_region, declared}
-use Rattle.au_written_types.specs.Senses.{a_class as class_sense, sense_of}
+use Rattle.au_promises.specs.Mentions.{type_parameters}
+use Rattle.au_matching.specs.declared.universes.TypeUniverse.{TypeUniverse}
+use Rattle.au_matching.specs.declared.universes.TypeUniverse.TheVariants.{Free, Linear, AnyUniverse}
+use Rattle.au_matching.specs.Forming.{wants_region}
+use Rattle.au_matching.specs.Universes.{is_free, is_linear, universe_of}
+use Rattle.au_types.specs.Meant.{meant}
+use Rattle.au_types.specs.Senses.{Sense, a_type as type_sense, a_span, a_region, declared}
+use Rattle.au_types.specs.Senses.{a_class as class_sense, sense_of}
 use Rattle.au_imports.specs.Choices.{first_of, where_so}
 use Rattle.au_names.proofs.AmongLemmas.{
   Among,

@@ -10,8 +10,8 @@ use Rattle.au_syntax.specs.Types.{Labelled, WrittenType}
 use Rattle.au_types.specs.Types.{Meaning}
 use Rattle.au_judged_types.specs.Reasons.{Outcome, means, fails}
 use Rattle.au_imports.specs.Choices.{first_of, where_so}
-use Rattle.au_universes.specs.declared.universes.TypeUniverse.{TypeUniverse}
-use Rattle.au_universes.specs.Universes.{is_free, is_linear}
+use Rattle.au_matching.specs.declared.universes.TypeUniverse.{TypeUniverse}
+use Rattle.au_matching.specs.Universes.{is_free, is_linear}
 
 -- what is declared in a universe may hold a field of this one: what is Free holds Free fields, what is `Type`
 -- holds no Linear field, and what is Linear holds any

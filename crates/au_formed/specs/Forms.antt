@@ -10,10 +10,10 @@ use Rattle.au_types.specs.declared.types.DeclAt.{DeclAt}
 use Rattle.au_types.specs.Types.{Meaning}
 use Rattle.au_judged_types.specs.Judging.{judged}
 use Rattle.au_judged_types.specs.Reasons.{Outcome}
-use Rattle.au_mentions.specs.Mentions.{type_parameters}
-use Rattle.au_universes.specs.declared.universes.TypeUniverse.{TypeUniverse}
-use Rattle.au_universes.specs.Universes.{universe_of}
-use Rattle.au_written_types.specs.Senses.{Sense, sense_of}
+use Rattle.au_promises.specs.Mentions.{type_parameters}
+use Rattle.au_matching.specs.declared.universes.TypeUniverse.{TypeUniverse}
+use Rattle.au_matching.specs.Universes.{universe_of}
+use Rattle.au_types.specs.Senses.{Sense, sense_of}
 use Rattle.au_formed.specs.declared.faults.FormFault.{FormFault}
 use Rattle.au_formed.specs.declared.faults.FormFault.TheVariants.{Malformed, EmptyUnion, UniverseBelow}
 use Rattle.au_formed.specs.Fields.{empty_union, field_above}

@@ -9,13 +9,13 @@ use Rattle.au_types.specs.declared.headings.Head.{Head}
 use Rattle.au_types.specs.declared.parameters.Parameter.{Parameter}
 use Rattle.au_types.specs.declared.types.DeclAt.{DeclAt}
 use Rattle.au_types.specs.Types.{Meaning}
-use Rattle.au_mentions.specs.Mentions.{type_parameters}
-use Rattle.au_universes.specs.declared.universes.TypeUniverse.{TypeUniverse}
-use Rattle.au_universes.specs.declared.universes.TypeUniverse.TheVariants.{Free, Linear}
-use Rattle.au_universes.specs.Forming.{IsWellFormed}
-use Rattle.au_universes.specs.Universes.{universe_of}
-use Rattle.au_written_types.specs.Meant.{meant}
-use Rattle.au_written_types.specs.Senses.{a_class, sense_of}
+use Rattle.au_promises.specs.Mentions.{type_parameters}
+use Rattle.au_matching.specs.declared.universes.TypeUniverse.{TypeUniverse}
+use Rattle.au_matching.specs.declared.universes.TypeUniverse.TheVariants.{Free, Linear}
+use Rattle.au_matching.specs.Forming.{IsWellFormed}
+use Rattle.au_matching.specs.Universes.{universe_of}
+use Rattle.au_types.specs.Meant.{meant}
+use Rattle.au_types.specs.Senses.{a_class, sense_of}
 use Rattle.au_formed.specs.Writings.{Writing, a_type, a_universe, writings}
 use Rattle.au_formed.specs.Writings as writing
 

@@ -6,8 +6,8 @@ use Rattle.au_syntax.specs.Types.{WrittenType}
 use Rattle.au_types.specs.Types.{Meaning}
 use Rattle.au_judged_types.specs.Reasons.{Outcome, means, fails}
 use Rattle.au_imports.specs.Choices.{first_of, where_so}
-use Rattle.au_universes.specs.Forming.{wants_region}
-use Rattle.au_written_types.specs.Senses.{Sense, a_class as class_sense}
+use Rattle.au_matching.specs.Forming.{wants_region}
+use Rattle.au_types.specs.Senses.{Sense, a_class as class_sense}
 use Rattle.au_formed.specs.Writings.{Writing, a_type, a_class, a_universe, place_of}
 
 -- whether nothing is meant

@@ -7,15 +7,15 @@ use Rattle.std.specs.Str.{bytes_eq}
 use Rattle.au_syntax.specs.Modules.{Variant, record_type, union_type}
 use Rattle.au_syntax.specs.Plain.{Bytes, PlainDeclaration}
 use Rattle.au_syntax.specs.Types.{Labelled, WrittenType, WrittenTypes, named, reference, no_types, types}
-use Rattle.au_tables.specs.Tables.{find}
+use Rattle.au_types.specs.Tables.{find}
 use Rattle.au_types.specs.declared.headings.Head.{Head}
 use Rattle.au_types.specs.declared.types.DeclAt.{DeclAt}
 use Rattle.au_types.specs.Rows.{head_of}
 use Rattle.au_modules.specs.Programs.{ModuleParts}
 use Rattle.au_names.specs.HeadsOf.{heads_of}
 use Rattle.au_names.specs.Standing.{whole_name}
-use Rattle.au_mentions.specs.Mentions.{type_parameters}
-use Rattle.au_written_types.specs.Senses.{Sense, declared, sense_of}
+use Rattle.au_promises.specs.Mentions.{type_parameters}
+use Rattle.au_types.specs.Senses.{Sense, declared, sense_of}
 use Rattle.au_formed.specs.declared.namings.Naming.{Naming}
 use Rattle.au_formed.specs.Text.{Spot, text, visible_at}
 

@@ -3,7 +3,7 @@ use Rattle.std.specs.Prelude.{ℕ, ◌+◌, List, [], ◌∷◌, ◌++◌, lengt
 use Rattle.au_syntax.specs.declared.modules.Part.{Part}
 use Rattle.au_syntax.specs.declared.modules.Part.TheVariants.{Interface, Body}
 use Rattle.au_syntax.specs.Plain.{Bytes, PlainDeclaration}
-use Rattle.au_tables.specs.declared.spaces.Space.TheVariants.{Types}
+use Rattle.au_types.specs.declared.spaces.Space.TheVariants.{Types}
 use Rattle.au_types.specs.declared.types.DeclAt.{DeclAt}
 use Rattle.au_modules.specs.Programs.{ModuleParts}
 use Rattle.au_names.specs.Meanings.{declared_by, seen}

@@ -4,15 +4,15 @@ ghost use Rattle.std.specs.Prelude.{◌≡◌, IfOk, not};
 ghost use Rattle.au_formed.specs.Fields as spec;
 ghost use Rattle.au_names.specs.Walks as walks;
 ghost use Rattle.au_judged_types.specs.Views.{judged_in};
-ghost use Rattle.au_mentions.specs.Said.{cases_said, fields_said};
+ghost use Rattle.au_promises.specs.Said.{cases_said, fields_said};
 ghost use Rattle.au_syntax.specs.Views.{written};
-ghost use Rattle.au_universes.specs.Universes as universes;
+ghost use Rattle.au_matching.specs.Universes as universes;
 
 use au_base::{Memory, Pos};
 use au_judged_types::{Judged, judge_type};
+use au_matching::{TypeUniverse, universe_of};
 use au_syntax::{Decl, Field, Parsed, TypeText, UnionCase, Universe};
-use au_universes::{TypeUniverse, universe_of};
-use au_written_types::Scope;
+use au_types::Scope;
 use std::alloc::Global;
 
 /// Whether what is declared in a universe may hold a field of this one.

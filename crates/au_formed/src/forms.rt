@@ -4,17 +4,17 @@ ghost use Rattle.std.specs.Prelude.{◌≡◌, IfOk};
 ghost use Rattle.au_formed.specs.Forms as spec;
 ghost use Rattle.au_names.specs.Walks as walks;
 ghost use Rattle.au_judged_types.specs.Views.{judged_in};
-ghost use Rattle.au_universes.specs.Universes as universes;
-ghost use Rattle.au_written_types.specs.Views.{sense_in};
+ghost use Rattle.au_matching.specs.Universes as universes;
+ghost use Rattle.au_types.specs.WrittenViews.{sense_in};
 
 use crate::faults::FormFault;
 use crate::fields::{empty_union, field_above};
 use crate::malformed::malformed;
 use crate::visible::Visible;
 use au_base::Memory;
-use au_mentions::type_parameters;
+use au_promises::type_parameters;
 use au_syntax::{Decl, Parsed};
-use au_written_types::Scope;
+use au_types::Scope;
 use std::alloc::Global;
 
 /// What a declaration is refused for in the scope of its type parameters.

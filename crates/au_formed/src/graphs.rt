@@ -2,13 +2,13 @@
 
 ghost use Rattle.std.specs.Prelude.{◌≡◌, ◌<◌, ◌++◌, IfOk, OnOk, length, option_to_list, slice_set};
 ghost use Rattle.std.specs.List.{filter_map};
-ghost use Rattle.au_cycles.specs.Cycles.{successors};
+ghost use Rattle.au_graphs.specs.Cycles.{successors};
 ghost use Rattle.au_formed.specs.Graphs.{graph_by, index_at};
 
 use crate::declarers::Declarers;
 use crate::namings::Naming;
 use au_base::Memory;
-use au_cycles::Graph;
+use au_graphs::Graph;
 use au_types::DeclAt;
 use std::alloc::Global;
 

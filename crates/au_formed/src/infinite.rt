@@ -1,7 +1,7 @@
 //! The first type that is infinite.
 
 ghost use Rattle.std.specs.Prelude.{◌≡◌, ◌↔◌, ℕ, IfOk, None, Some};
-ghost use Rattle.au_cycles.specs.Cycles.{HasNoCycle, IsFirstOnCycle};
+ghost use Rattle.au_graphs.specs.Cycles.{HasNoCycle, IsFirstOnCycle};
 ghost use Rattle.au_formed.specs.Graphs.{graph_of};
 ghost use Rattle.au_formed.specs.Infinite as spec;
 
@@ -9,7 +9,7 @@ use crate::declarers::first_declarers;
 use crate::graphs::graph_of;
 use crate::namings::Naming;
 use au_base::Memory;
-use au_cycles::first_on_cycle;
+use au_graphs::first_on_cycle;
 use au_types::DeclAt;
 use std::alloc::Global;
 

@@ -5,8 +5,8 @@ ghost use Rattle.std.specs.List.{flat_map};
 ghost use Rattle.au_formed.specs.Said.{name_said, writings_said};
 ghost use Rattle.au_formed.specs.Writings as spec;
 ghost use Rattle.au_names.specs.Walks as walks;
-ghost use Rattle.au_mentions.specs.Said.{cases_said, expression_said, fields_said, generics_said};
-ghost use Rattle.au_mentions.specs.Said.{header_said, headers_said, methods_said};
+ghost use Rattle.au_promises.specs.Said.{cases_said, expression_said, fields_said, generics_said};
+ghost use Rattle.au_promises.specs.Said.{header_said, headers_said, methods_said};
 ghost use Rattle.au_syntax.specs.Views.{written};
 
 use crate::pushing::{

@@ -8,8 +8,8 @@ ghost use Rattle.au_names.specs.Walks as walks;
 ghost use Rattle.au_judged_types.specs.Views.{judged_in};
 ghost use Rattle.au_syntax.specs.Plain.{Bytes};
 ghost use Rattle.au_syntax.specs.Views.{written};
-ghost use Rattle.au_universes.specs.Forming as forming;
-ghost use Rattle.au_written_types.specs.Views.{said, sense_in};
+ghost use Rattle.au_matching.specs.Forming as forming;
+ghost use Rattle.au_types.specs.WrittenViews.{said, sense_in};
 ghost use Rattle.std.specs.Prelude.{Some, not};
 
 use crate::listing::writings_of;
@@ -17,7 +17,7 @@ use crate::writings::{Writing, place_of};
 use au_base::{Memory, Name, Pos};
 use au_judged_types::{Judged, judge_type};
 use au_syntax::{Decl, Parsed, TypeText, Universe};
-use au_written_types::{Scope, Sense, sense_of};
+use au_types::{Scope, Sense, sense_of};
 use std::alloc::Global;
 
 /// Whether a written type isn't well formed.

@@ -7,17 +7,16 @@ ghost use Rattle.std.specs.Str.{bytes_eq};
 ghost use Rattle.au_names.specs.Standing as standing;
 ghost use Rattle.au_formed.specs.Naming as spec;
 ghost use Rattle.au_names.specs.Walks as walks;
-ghost use Rattle.au_mentions.specs.Said.{case_said, cases_said, fields_said};
+ghost use Rattle.au_promises.specs.Said.{case_said, cases_said, fields_said};
 ghost use Rattle.au_syntax.specs.Plain.{Bytes};
 ghost use Rattle.au_syntax.specs.Views.{written, written_all};
-ghost use Rattle.au_written_types.specs.Views.{said, sense_in};
+ghost use Rattle.au_types.specs.WrittenViews.{said, sense_in};
 ghost use Rattle.std.specs.Prelude.{Some, option_copied};
 
 use crate::visible::Visible;
 use au_base::{Memory, Name};
 use au_syntax::{Decl, Field, Parsed, TypeText, UnionCase};
-use au_types::{DeclAt, Heads};
-use au_written_types::{Scope, Sense, sense_of};
+use au_types::{DeclAt, Heads, Scope, Sense, sense_of};
 
 /// The declared type that a sense is, if it is one.
 fn declared_by(sense: &Sense) -> Option<DeclAt>

@@ -14,10 +14,9 @@ use crate::texts::Spot;
 use crate::visible::{Visible, visible_at};
 use au_base::{Memory, Sequence};
 use au_imports::Resolved;
-use au_mentions::type_parameters;
+use au_promises::type_parameters;
 use au_syntax::{Decl, Parsed};
-use au_types::DeclAt;
-use au_written_types::Scope;
+use au_types::{DeclAt, Scope};
 use std::alloc::Global;
 
 /// A record or a union.

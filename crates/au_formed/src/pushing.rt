@@ -4,8 +4,8 @@ ghost use Rattle.std.specs.Prelude.{◌≡◌, ◌++◌, ◌∷◌, [], OnOk};
 ghost use Rattle.std.specs.List.{flat_map};
 ghost use Rattle.au_formed.specs.Said.{name_said, writings_said};
 ghost use Rattle.au_formed.specs.Writings as spec;
-ghost use Rattle.au_mentions.specs.Said.{cases_said, fields_said, generic_said, generics_said, header_said};
-ghost use Rattle.au_mentions.specs.Said.{headers_said, methods_said, names_said};
+ghost use Rattle.au_promises.specs.Said.{cases_said, fields_said, generic_said, generics_said, header_said};
+ghost use Rattle.au_promises.specs.Said.{headers_said, methods_said, names_said};
 ghost use Rattle.au_syntax.specs.Views.{written};
 
 use crate::writings::Writing;

@@ -3,7 +3,7 @@
 ghost use Rattle.std.specs.Prelude.{◌≡◌, ◌++◌, OnOk};
 ghost use Rattle.au_formed.specs.Said.{writings_said};
 ghost use Rattle.au_formed.specs.Writings.{named_values_writings, value_writings, values_writings};
-ghost use Rattle.au_mentions.specs.Said.{arguments_said, expression_said, expressions_said};
+ghost use Rattle.au_promises.specs.Said.{arguments_said, expression_said, expressions_said};
 
 use crate::pushing::push_type;
 use crate::writings::Writing;

@@ -8,8 +8,7 @@ ghost use Rattle.au_modules.specs.Slots as slots;
 
 use crate::texts::Spot;
 use au_imports::Resolved;
-use au_tables::Table;
-use au_types::{DeclAt, Heads};
+use au_types::{DeclAt, Heads, Table};
 
 /// What is visible among types in a part of a module.
 #[derive(Clone, Copy)]

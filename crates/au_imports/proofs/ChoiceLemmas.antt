@@ -27,7 +27,7 @@ use Rattle.std.proofs.Common.{
 use Rattle.std.specs.Str.{bytes_eq}
 use Rattle.std.proofs.lemmas.Option.{none-some, same_Some}
 use Rattle.std.proofs.lemmas.Slice.Eq.{bytes_eq-Decides}
-use Rattle.au_tables.specs.Tables.{find, has_name}
+use Rattle.au_types.specs.Tables.{find, has_name}
 use Rattle.au_names.proofs.AmongLemmas.{Among, among-append, or_first, or_second, or_neither}
 use Rattle.au_imports.specs.Choices.{first_of, where_so}
 

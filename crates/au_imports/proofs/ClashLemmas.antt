@@ -3,7 +3,7 @@ use Rattle.std.proofs.Common.{◌≡◌, ℕ, Bool, false, not, List, Option, No
 use Rattle.std.specs.Prelude.{slice_get}
 use Rattle.std.specs.Option.{option_map}
 use Rattle.au_syntax.specs.Plain.{Bytes}
-use Rattle.au_tables.specs.declared.spaces.Space.{Space}
+use Rattle.au_types.specs.declared.spaces.Space.{Space}
 use Rattle.au_modules.specs.Programs.{ModuleParts}
 use Rattle.au_names.specs.declared.targets.Target.{Target}
 use Rattle.au_names.specs.Owned.{target}

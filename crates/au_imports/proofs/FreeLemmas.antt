@@ -5,14 +5,14 @@ use Rattle.au_base.specs.declared.places.Pos.{Pos}
 use Rattle.au_syntax.specs.declared.modules.Part.{Part}
 use Rattle.au_syntax.specs.Modules.{Importing}
 use Rattle.au_syntax.specs.Plain.{Bytes, PlainDeclaration}
-use Rattle.au_tables.specs.declared.spaces.Space.{Space}
-use Rattle.au_tables.specs.DeclaredNames.{declared_names}
+use Rattle.au_types.specs.declared.spaces.Space.{Space}
+use Rattle.au_types.specs.DeclaredNames.{declared_names}
 use Rattle.au_modules.specs.Programs.{Entry, ModuleParts}
 use Rattle.au_names.specs.Meanings.{imports_in, part_of}
 use Rattle.au_names.specs.Owned.{declarations_in}
-use Rattle.au_mentions.specs.declared.mentions.Mention.{Mention}
-use Rattle.au_mentions.specs.declared.mentions.Mention.TheVariants.{Declares, Writes}
-use Rattle.au_mentions.specs.Mentions.{mentions, type_parameters}
+use Rattle.au_promises.specs.declared.mentions.Mention.{Mention}
+use Rattle.au_promises.specs.declared.mentions.Mention.TheVariants.{Declares, Writes}
+use Rattle.au_promises.specs.Mentions.{mentions, type_parameters}
 use Rattle.au_imports.specs.declared.name_faults.NameFault.TheVariants.{NotVisible, NameTwice}
 use Rattle.au_imports.specs.Choices.{first_of}
 use Rattle.au_imports.specs.Clashing.{declaration_clashes}

@@ -25,12 +25,12 @@ use Rattle.std.proofs.lemmas.Option.{slice_get_past}
 use Rattle.au_syntax.specs.declared.modules.Part.{Part}
 use Rattle.au_syntax.specs.Names.{Renaming}
 use Rattle.au_syntax.specs.Plain.{Bytes, PlainDeclaration, PlainModule}
-use Rattle.au_tables.specs.declared.spaces.Space.{Space}
-use Rattle.au_tables.specs.declared.spaces.Space.TheVariants.{Values, Callables, Types}
-use Rattle.au_tables.specs.DeclaredNames.{names_in, table_of}
-use Rattle.au_tables.specs.DeclaredNames as names
-use Rattle.au_tables.specs.Tables.{find}
-use Rattle.au_tables.proofs.TableLemmas.{find-firsts}
+use Rattle.au_types.specs.declared.spaces.Space.{Space}
+use Rattle.au_types.specs.declared.spaces.Space.TheVariants.{Values, Callables, Types}
+use Rattle.au_types.specs.DeclaredNames.{names_in, table_of}
+use Rattle.au_types.specs.DeclaredNames as names
+use Rattle.au_types.specs.Tables.{find}
+use Rattle.au_types.proofs.TableLemmas.{find-firsts}
 use Rattle.au_modules.specs.Programs.{ModuleParts}
 use Rattle.au_modules.specs.Seen.{interface_tree}
 use Rattle.au_names.specs.declared.targets.Target.{Target}

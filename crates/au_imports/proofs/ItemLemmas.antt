@@ -44,10 +44,10 @@ use Rattle.au_syntax.specs.Modules.{Importing}
 use Rattle.au_syntax.specs.Names.{Placed, Renaming}
 use Rattle.au_syntax.specs.Plain.{Bytes}
 use Rattle.au_syntax.specs.Sizes.{joined}
-use Rattle.au_tables.specs.declared.spaces.Space.{Space}
-use Rattle.au_tables.specs.declared.spaces.Space.TheVariants.{Values, Callables, Types}
-use Rattle.au_tables.specs.DeclaredNames.{names_in}
-use Rattle.au_tables.specs.Tables.{find}
+use Rattle.au_types.specs.declared.spaces.Space.{Space}
+use Rattle.au_types.specs.declared.spaces.Space.TheVariants.{Values, Callables, Types}
+use Rattle.au_types.specs.DeclaredNames.{names_in}
+use Rattle.au_types.specs.Tables.{find}
 use Rattle.au_types.specs.Rows.{same_place}
 use Rattle.au_types.proofs.SameLemmas.{place_is, place_self}
 use Rattle.au_modules.specs.Programs.{ModuleParts}

@@ -21,12 +21,12 @@ use Rattle.au_syntax.specs.Names.{Placed}
 use Rattle.au_syntax.specs.Plain.{Bytes, PlainDeclaration, PlainExpression}
 use Rattle.au_syntax.specs.Sizes.{expression_types}
 use Rattle.au_syntax.specs.Types.{WrittenType, WrittenTypes, Labelled, named, reference, no_types, types}
-use Rattle.au_tables.specs.declared.spaces.Space.{Space}
-use Rattle.au_tables.specs.declared.spaces.Space.TheVariants.{Values, Callables, Types}
-use Rattle.au_tables.specs.DeclaredNames.{value_names, callable_names, type_names, declared_names}
-use Rattle.au_mentions.specs.declared.mentions.Mention.{Mention}
-use Rattle.au_mentions.specs.declared.mentions.Mention.TheVariants.{Declares, Writes}
-use Rattle.au_mentions.specs.Mentions.{
+use Rattle.au_types.specs.declared.spaces.Space.{Space}
+use Rattle.au_types.specs.declared.spaces.Space.TheVariants.{Values, Callables, Types}
+use Rattle.au_types.specs.DeclaredNames.{value_names, callable_names, type_names, declared_names}
+use Rattle.au_promises.specs.declared.mentions.Mention.{Mention}
+use Rattle.au_promises.specs.declared.mentions.Mention.TheVariants.{Declares, Writes}
+use Rattle.au_promises.specs.Mentions.{
   writes,
   type_mentions,
   argument_mentions,

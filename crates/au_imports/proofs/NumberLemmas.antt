@@ -32,9 +32,9 @@ use Rattle.std.proofs.Common.{
 use Rattle.std.proofs.lemmas.Bool.{not-false, not_from_true}
 use mathlib.Core.List.{reverse-cons}
 use Rattle.au_syntax.specs.Plain.{Bytes, PlainDeclaration}
-use Rattle.au_tables.specs.declared.spaces.Space.{Space}
-use Rattle.au_tables.specs.DeclaredNames.{declared_names, given, names_in, numbered}
-use Rattle.au_tables.specs.Tables.{find}
+use Rattle.au_types.specs.declared.spaces.Space.{Space}
+use Rattle.au_types.specs.DeclaredNames.{declared_names, given, names_in, numbered}
+use Rattle.au_types.specs.Tables.{find}
 use Rattle.au_imports.specs.NameFaults.{is_apart}
 use Rattle.au_names.proofs.AmongLemmas.{Among, among-append, among-append_left, among-append_right}
 use Rattle.au_imports.proofs.ChoiceLemmas.{found_among, among_found, Ordered, ordered-append, first_bounds}

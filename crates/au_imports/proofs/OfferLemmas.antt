@@ -45,13 +45,13 @@ use Rattle.std.proofs.lemmas.Option.{
   get_or_from_slice_get,
 }
 use Rattle.au_syntax.specs.Plain.{Bytes, PlainDeclaration, PlainModule}
-use Rattle.au_tables.specs.declared.name_tables.NameTables.{NameTables}
-use Rattle.au_tables.specs.declared.spaces.Space.{Space}
-use Rattle.au_tables.specs.declared.spaces.Space.TheVariants.{Values, Callables, Types}
-use Rattle.au_tables.specs.Tables.{find, with_all, firsts}
-use Rattle.au_tables.specs.DeclaredNames.{declared_names, given, numbered, names_in, table_of}
-use Rattle.au_tables.proofs.TableLemmas.{find-firsts, with_all-none, with_all-firsts}
-use Rattle.au_tables.proofs.DeclaredLemmas.{numbered-append}
+use Rattle.au_types.specs.declared.name_tables.NameTables.{NameTables}
+use Rattle.au_types.specs.declared.spaces.Space.{Space}
+use Rattle.au_types.specs.declared.spaces.Space.TheVariants.{Values, Callables, Types}
+use Rattle.au_types.specs.Tables.{find, with_all, firsts}
+use Rattle.au_types.specs.DeclaredNames.{declared_names, given, numbered, names_in, table_of}
+use Rattle.au_types.proofs.TableLemmas.{find-firsts, with_all-none, with_all-firsts}
+use Rattle.au_types.proofs.DeclaredLemmas.{numbered-append}
 use Rattle.au_modules.specs.Programs.{ModuleParts}
 use Rattle.au_modules.specs.Seen.{interface_tree}
 use Rattle.au_names.specs.Exporting.{in_space, declarations_seen}

@@ -47,17 +47,17 @@ use Rattle.au_syntax.specs.declared.modules.Part.{Part}
 use Rattle.au_syntax.specs.declared.modules.Part.TheVariants.{Interface, Body}
 use Rattle.au_syntax.specs.Modules.{Importing}
 use Rattle.au_syntax.specs.Plain.{Bytes, PlainDeclaration}
-use Rattle.au_tables.specs.declared.spaces.Space.{Space}
-use Rattle.au_tables.specs.declared.spaces.Space.TheVariants.{Values, Callables, Types}
-use Rattle.au_tables.specs.DeclaredNames.{declared_names, names_in}
-use Rattle.au_tables.specs.Tables.{find, has_name}
+use Rattle.au_types.specs.declared.spaces.Space.{Space}
+use Rattle.au_types.specs.declared.spaces.Space.TheVariants.{Values, Callables, Types}
+use Rattle.au_types.specs.DeclaredNames.{declared_names, names_in}
+use Rattle.au_types.specs.Tables.{find, has_name}
 use Rattle.au_modules.specs.Programs.{ModuleParts}
 use Rattle.au_names.specs.declared.targets.Target.{Target}
 use Rattle.au_names.specs.Meanings.{imports_in, offered, part_of}
 use Rattle.au_names.specs.Owned.{declarations_in, declarations_of, interface_of, own, target}
-use Rattle.au_written_types.specs.Senses.{built_in}
-use Rattle.au_mentions.specs.declared.mentions.Mention.TheVariants.{Writes}
-use Rattle.au_mentions.specs.Mentions.{mentions}
+use Rattle.au_types.specs.Senses.{built_in}
+use Rattle.au_promises.specs.declared.mentions.Mention.TheVariants.{Writes}
+use Rattle.au_promises.specs.Mentions.{mentions}
 use Rattle.au_imports.specs.Clashing.{
   is_built_in,
   is_offered,

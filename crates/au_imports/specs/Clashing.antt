@@ -10,17 +10,17 @@ use Rattle.std.specs.Str.{bytes_eq}
 use Rattle.au_syntax.specs.declared.modules.Part.{Part}
 use Rattle.au_syntax.specs.declared.modules.Part.TheVariants.{Interface, Body}
 use Rattle.au_syntax.specs.Plain.{Bytes}
-use Rattle.au_tables.specs.declared.spaces.Space.{Space}
-use Rattle.au_tables.specs.declared.spaces.Space.TheVariants.{Values, Callables, Types}
-use Rattle.au_tables.specs.DeclaredNames.{names_in}
-use Rattle.au_tables.specs.Tables.{find, has_name}
+use Rattle.au_types.specs.declared.spaces.Space.{Space}
+use Rattle.au_types.specs.declared.spaces.Space.TheVariants.{Values, Callables, Types}
+use Rattle.au_types.specs.DeclaredNames.{names_in}
+use Rattle.au_types.specs.Tables.{find, has_name}
 use Rattle.au_types.specs.Rows.{same_place}
 use Rattle.au_modules.specs.Programs.{ModuleParts}
 use Rattle.au_names.specs.declared.targets.Target.{Target}
 use Rattle.au_names.specs.Importing.{imported}
 use Rattle.au_names.specs.Meanings.{imports_in, part_of}
 use Rattle.au_names.specs.Owned.{interface_of, target}
-use Rattle.au_written_types.specs.Senses.{built_in}
+use Rattle.au_types.specs.Senses.{built_in}
 
 -- whether two meanings are one
 abbrev pub same_target : Target → Target → Bool

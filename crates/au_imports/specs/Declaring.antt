@@ -3,14 +3,14 @@ use Rattle.std.specs.Prelude.{Bool, not, ◌||◌, ◌&&◌, List, [], Option, i
 use Rattle.au_syntax.specs.declared.modules.Part.{Part}
 use Rattle.au_syntax.specs.declared.modules.Part.TheVariants.{Interface, Body}
 use Rattle.au_syntax.specs.Plain.{Bytes, PlainDeclaration}
-use Rattle.au_tables.specs.declared.spaces.Space.{Space}
-use Rattle.au_tables.specs.Tables.{has_name}
+use Rattle.au_types.specs.declared.spaces.Space.{Space}
+use Rattle.au_types.specs.Tables.{has_name}
 use Rattle.au_types.specs.declared.parameters.Parameter.{Parameter}
 use Rattle.au_names.specs.Exporting.{in_space}
-use Rattle.au_written_types.specs.Senses.{sense_of}
-use Rattle.au_mentions.specs.declared.mentions.Mention.{Mention}
-use Rattle.au_mentions.specs.declared.mentions.Mention.TheVariants.{Declares, Writes}
-use Rattle.au_mentions.specs.Mentions.{mentions, type_parameters}
+use Rattle.au_types.specs.Senses.{sense_of}
+use Rattle.au_promises.specs.declared.mentions.Mention.{Mention}
+use Rattle.au_promises.specs.declared.mentions.Mention.TheVariants.{Declares, Writes}
+use Rattle.au_promises.specs.Mentions.{mentions, type_parameters}
 use Rattle.au_imports.specs.declared.brought.Brought.{Brought}
 use Rattle.au_imports.specs.declared.declaring.Site.{Site}
 use Rattle.au_imports.specs.declared.name_faults.NameFault.{NameFault}

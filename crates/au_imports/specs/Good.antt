@@ -11,18 +11,18 @@ use Rattle.au_syntax.specs.Modules.{Importing}
 use Rattle.au_syntax.specs.Names.{Renaming}
 use Rattle.au_syntax.specs.Plain.{Bytes, PlainDeclaration}
 use Rattle.au_syntax.specs.Sizes.{joined}
-use Rattle.au_tables.specs.declared.spaces.Space.{Space}
-use Rattle.au_tables.specs.declared.spaces.Space.TheVariants.{Types}
-use Rattle.au_tables.specs.Tables.{find, has_name}
+use Rattle.au_types.specs.declared.spaces.Space.{Space}
+use Rattle.au_types.specs.declared.spaces.Space.TheVariants.{Types}
+use Rattle.au_types.specs.Tables.{find, has_name}
 use Rattle.au_modules.specs.Programs.{ModuleParts}
 use Rattle.au_names.specs.HeadsOf.{heads_of}
 use Rattle.au_names.specs.declared.targets.Target.{Target}
 use Rattle.au_names.specs.Importing.{imported, place_of}
 use Rattle.au_names.specs.Meanings.{declared_by, imports_in, part_of, pervasive, seen}
 use Rattle.au_names.specs.Owned.{declarations_in, own}
-use Rattle.au_written_types.specs.Senses.{built_in, sense_of}
-use Rattle.au_mentions.specs.declared.mentions.Mention.TheVariants.{Writes}
-use Rattle.au_mentions.specs.Mentions.{mentions, type_parameters}
+use Rattle.au_types.specs.Senses.{built_in, sense_of}
+use Rattle.au_promises.specs.declared.mentions.Mention.TheVariants.{Writes}
+use Rattle.au_promises.specs.Mentions.{mentions, type_parameters}
 use Rattle.au_promises.specs.Fulfilled.{AllFulfil}
 use Rattle.au_imports.specs.Clashing.{is_offered}
 

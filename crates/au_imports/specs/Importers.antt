@@ -8,8 +8,8 @@ use Rattle.au_syntax.specs.Modules.{Importing}
 use Rattle.au_syntax.specs.Names.{Placed, Renaming}
 use Rattle.au_syntax.specs.Plain.{Bytes}
 use Rattle.au_syntax.specs.Sizes.{fits_name}
-use Rattle.au_tables.specs.declared.spaces.Space.{Space}
-use Rattle.au_tables.specs.declared.spaces.Space.TheVariants.{Values, Callables, Types}
+use Rattle.au_types.specs.declared.spaces.Space.{Space}
+use Rattle.au_types.specs.declared.spaces.Space.TheVariants.{Values, Callables, Types}
 use Rattle.au_types.specs.declared.types.DeclAt.{DeclAt}
 use Rattle.au_modules.specs.Programs.{ModuleParts}
 use Rattle.au_modules.specs.Slots as slots

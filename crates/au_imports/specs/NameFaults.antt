@@ -10,8 +10,8 @@ use Rattle.au_syntax.specs.Modules.{Importing}
 use Rattle.au_syntax.specs.Names.{Placed, Renaming}
 use Rattle.au_syntax.specs.Plain.{Bytes, PlainDeclaration}
 use Rattle.au_syntax.specs.Sizes.{joined}
-use Rattle.au_tables.specs.declared.spaces.Space.{Space}
-use Rattle.au_tables.specs.declared.spaces.Space.TheVariants.{Values, Callables, Types}
+use Rattle.au_types.specs.declared.spaces.Space.{Space}
+use Rattle.au_types.specs.declared.spaces.Space.TheVariants.{Values, Callables, Types}
 use Rattle.au_types.specs.declared.parameters.Parameter.{Parameter}
 use Rattle.au_modules.specs.Programs.{Entry, ModuleParts}
 use Rattle.au_names.specs.HeadsOf.{heads_of}
@@ -19,15 +19,15 @@ use Rattle.au_names.specs.declared.targets.Target.{Target}
 use Rattle.au_names.specs.Importing.{along, place_of}
 use Rattle.au_names.specs.Meanings.{declared_by, part_of, seen}
 use Rattle.au_names.specs.Owned.{interface_of, target}
-use Rattle.au_written_types.specs.Senses.{sense_of}
+use Rattle.au_types.specs.Senses.{sense_of}
 use Rattle.au_imports.specs.declared.name_faults.NameFault.{NameFault}
 use Rattle.au_imports.specs.declared.name_faults.NameFault.TheVariants.{NoModule, Late, NotVisible, NameTwice}
-use Rattle.au_mentions.specs.declared.mentions.Mention.{Mention}
-use Rattle.au_mentions.specs.declared.mentions.Mention.TheVariants.{Declares, Writes}
+use Rattle.au_promises.specs.declared.mentions.Mention.{Mention}
+use Rattle.au_promises.specs.declared.mentions.Mention.TheVariants.{Declares, Writes}
 use Rattle.au_imports.specs.Choices.{first_of, where_so}
 use Rattle.au_imports.specs.Clashing.{declaration_clashes, first_offered, import_clashes, is_offered}
 use Rattle.au_imports.specs.Clashing.{last_offered}
-use Rattle.au_mentions.specs.Mentions.{mentions, type_parameters}
+use Rattle.au_promises.specs.Mentions.{mentions, type_parameters}
 
 -- the place of the first of names, or else this place
 abbrev pub first_place : Pos → List (Placed Bytes) → Pos

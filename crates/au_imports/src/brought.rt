@@ -7,7 +7,7 @@ ghost use Rattle.au_modules.specs.Slots as slots;
 ghost use Rattle.au_imports.specs.Gathered.{AreBrought, brought_in};
 ghost use Rattle.au_names.specs.Exporting.{AreExports, imports_seen};
 ghost use Rattle.au_names.specs.Importing.{imported};
-ghost use Rattle.au_tables.specs.Tables.{firsts};
+ghost use Rattle.au_types.specs.Tables.{firsts};
 ghost use Rattle.au_imports.specs.Written.{IsAt};
 
 use au_base::Memory;
@@ -15,7 +15,7 @@ use au_modules::Modules;
 use au_names::imports::put_imported;
 use au_names::{Exports, Target};
 use au_syntax::{Parsed, Part, Whole};
-use au_tables::{Space, Table};
+use au_types::{Space, Table};
 use std::alloc::Global;
 
 /// What the imports of a part bring, by spaces: the first that each name is given.

@@ -3,10 +3,10 @@
 ghost use Rattle.std.specs.Prelude.{◌≡◌};
 ghost use Rattle.std.specs.Str.{bytes_eq};
 ghost use Rattle.au_imports.specs.Clashing as clashing;
-ghost use Rattle.au_tables.specs.Tables.{has_name};
-ghost use Rattle.au_written_types.specs.Senses.{built_in};
+ghost use Rattle.au_types.specs.Tables.{has_name};
+ghost use Rattle.au_types.specs.Senses.{built_in};
 
-use au_tables::Space;
+use au_types::Space;
 
 /// Whether a name is built in: those that are, are types and regions.
 pub fn is_built_in(space: Space, name: &[u8]) -> bool

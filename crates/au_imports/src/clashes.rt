@@ -7,7 +7,7 @@ ghost use Rattle.au_imports.specs.Clashing as spec;
 ghost use Rattle.au_imports.specs.Importers as importers;
 ghost use Rattle.au_imports.specs.Importers.{IsFrom, IsOf, IsReady, clashes_in, program_of};
 ghost use Rattle.au_names.specs.Owned.{target};
-ghost use Rattle.au_tables.specs.Tables.{find};
+ghost use Rattle.au_types.specs.Tables.{find};
 
 use crate::brought::{Brought, brought_in};
 use crate::built_in::is_built_in;
@@ -16,8 +16,7 @@ use au_modules::Modules;
 use au_names::exports::offered_names;
 use au_names::{Target, in_space};
 use au_syntax::Part;
-use au_tables::Space;
-use au_types::DeclAt;
+use au_types::{DeclAt, Space};
 
 /// A part of a module whose imports are looked at, with what is known of its program.
 #[derive(Clone, Copy)]

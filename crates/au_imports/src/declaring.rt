@@ -10,7 +10,7 @@ ghost use Rattle.au_imports.specs.Gathered.{AreBroughtTo, AreOffers, brought_in}
 ghost use Rattle.au_imports.specs.NameFaults.{declaration_fault};
 ghost use Rattle.au_names.specs.Exporting as exporting;
 ghost use Rattle.au_syntax.specs.Views.{declaration};
-ghost use Rattle.au_tables.specs.Tables.{has_name};
+ghost use Rattle.au_types.specs.Tables.{has_name};
 ghost use Rattle.au_imports.specs.Written.{IsAt, all_declared, declared_of};
 
 use crate::brought::{Brought, brought_in};
@@ -18,12 +18,10 @@ use crate::built_in::is_built_in;
 use crate::name_faults::NameFault;
 use crate::offers::Offers;
 use au_base::{Memory, Name, Pos};
-use au_mentions::{Mention, mentions_of, type_parameters};
 use au_names::{NamedModules as Resolved, in_space};
+use au_promises::{Mention, mentions_of, type_parameters};
 use au_syntax::{Decl, Parsed, Part};
-use au_tables::{NameTables, Space, Table};
-use au_types::{DeclAt, Heads, Params};
-use au_written_types::{Scope, sense_of};
+use au_types::{DeclAt, Heads, NameTables, Params, Scope, Space, Table, sense_of};
 use std::alloc::Global;
 
 /// What stands at a part of a module for the names in its declarations.

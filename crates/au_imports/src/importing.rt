@@ -25,8 +25,7 @@ use au_modules::{Modules, dotted_text};
 use au_names::DeclSet;
 use au_names::imports::place_named;
 use au_syntax::{Ident, Import, Parsed, Part, Renamed};
-use au_tables::Space;
-use au_types::DeclAt;
+use au_types::{DeclAt, Space};
 use std::alloc::Global;
 
 /// The name of a module, given by its parts.

@@ -9,7 +9,7 @@ ghost use Rattle.au_names.specs.Along.{members_in};
 ghost use Rattle.au_names.specs.Exporting.{declarations_seen, members_at};
 ghost use Rattle.au_names.specs.Importing.{along, members};
 ghost use Rattle.au_names.specs.Owned.{interface_of, target, targets};
-ghost use Rattle.au_tables.specs.DeclaredNames.{given};
+ghost use Rattle.au_types.specs.DeclaredNames.{given};
 ghost use Rattle.au_imports.specs.Written.{all_declared, cases_of, declared_of, methods_of};
 
 use crate::clashes::{Importer, first_offered, import_clashes};
@@ -17,8 +17,7 @@ use crate::name_faults::NameFault;
 use au_base::{Memory, Name, Pos};
 use au_names::DeclSet;
 use au_syntax::{Decl, Ident, Parsed, Signature, UnionCase, Whole};
-use au_tables::Space;
-use au_types::DeclAt;
+use au_types::{DeclAt, Space};
 use std::alloc::Global;
 
 /// What a case or a method that comes along is refused for. It stands at a place of the text.

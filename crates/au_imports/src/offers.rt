@@ -5,7 +5,7 @@ ghost use Rattle.std.specs.Option.{option_map};
 ghost use Rattle.au_modules.specs.Slots as slots;
 ghost use Rattle.au_imports.specs.Gathered.{AreOffers, last_offers, last_tables};
 ghost use Rattle.au_syntax.specs.Views.{declaration};
-ghost use Rattle.au_tables.specs.DeclaredNames.{numbered, table_of};
+ghost use Rattle.au_types.specs.DeclaredNames.{numbered, table_of};
 ghost use Rattle.au_imports.specs.Written.{all_declared};
 
 use au_base::Memory;
@@ -13,8 +13,8 @@ use au_modules::Modules;
 use au_names::exports::no_names;
 use au_names::{Exports, exports_of};
 use au_syntax::{Decl, Parsed};
-use au_tables::declared_names::put_declared;
-use au_tables::{NameTables, Space, Table};
+use au_types::declared_names::put_declared;
+use au_types::{NameTables, Space, Table};
 use std::alloc::Global;
 
 /// What the interfaces of a program offer, made once.

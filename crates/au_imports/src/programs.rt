@@ -10,9 +10,9 @@ ghost use Rattle.au_names.specs.Meanings.{declared_by, seen};
 ghost use Rattle.au_names.specs.Known as known;
 ghost use Rattle.au_names.specs.Standing.{definition_of, standing_at, standing_seen};
 ghost use Rattle.au_syntax.specs.Views.{written};
-ghost use Rattle.au_tables.specs.declared.spaces.Space.TheVariants as spaces;
+ghost use Rattle.au_types.specs.declared.spaces.Space.TheVariants as spaces;
 ghost use Rattle.au_types.specs.Views.{meaning};
-ghost use Rattle.au_written_types.specs.Meant.{meant};
+ghost use Rattle.au_types.specs.Meant.{meant};
 
 use au_base::{Memory, Name};
 use au_modules::Modules;

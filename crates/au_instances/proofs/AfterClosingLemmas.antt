@@ -17,16 +17,16 @@ use Rattle.au_matching.specs.Substituted.{type_for, region_substituted, substitu
 use Rattle.au_matching.proofs.BindingLemmas.{value_of-with}
 use Rattle.au_matching.proofs.ComposedLemmas.{twice}
 use Rattle.au_matching.proofs.SubstitutedLemmas.{each_so, fixes_suits}
-use Rattle.au_universes.specs.Fitting.{stand_in, BindingsFit}
-use Rattle.au_universes.proofs.SubstitutingUniverseLemmas.{universe_kept}
-use Rattle.au_universes.specs.declared.universes.TypeUniverse.{TypeUniverse}
-use Rattle.au_universes.specs.declared.universes.TypeUniverse.TheVariants.{Free, Linear, AnyUniverse}
-use Rattle.au_universes.specs.Forming.{ArgumentStandsOver, StandsOver, all_formed, fits, fits_in_kind, takes}
-use Rattle.au_universes.specs.Replaced.{may_be}
-use Rattle.au_universes.specs.Universes.{universe_of}
-use Rattle.au_closed_types.specs.Closing.{closed}
-use Rattle.au_closed_types.specs.Types.{ClosedType}
-use Rattle.au_generics.specs.Bounds.{constrains, parameters}
+use Rattle.au_matching.specs.Fitting.{stand_in, BindingsFit}
+use Rattle.au_matching.proofs.SubstitutingUniverseLemmas.{universe_kept}
+use Rattle.au_matching.specs.declared.universes.TypeUniverse.{TypeUniverse}
+use Rattle.au_matching.specs.declared.universes.TypeUniverse.TheVariants.{Free, Linear, AnyUniverse}
+use Rattle.au_matching.specs.Forming.{ArgumentStandsOver, StandsOver, all_formed, fits, fits_in_kind, takes}
+use Rattle.au_matching.specs.Replaced.{may_be}
+use Rattle.au_matching.specs.Universes.{universe_of}
+use Rattle.au_type_texts.specs.Closing.{closed}
+use Rattle.au_type_texts.specs.Types.{ClosedType}
+use Rattle.au_judged_types.specs.Bounds.{constrains, parameters}
 use Rattle.au_instances.specs.declared.constructors.Constructor.{Constructor}
 use Rattle.au_instances.specs.Becoming.{Becomes}
 use Rattle.au_instances.specs.ClosedInstances as closing

@@ -14,9 +14,9 @@ use Rattle.au_types.specs.Types.{Meaning, Argument, Arguments, parameter, of_typ
 use Rattle.au_types.specs.Universes.{universe_in}
 use Rattle.au_matching.specs.Bindings.{Bindings, value_of, GivesType, GivesRegion}
 use Rattle.au_matching.specs.Substituted.{type_for, region_for, argument_substituted, all_substituted, EachNameOf, EachNameOfAll}
-use Rattle.au_universes.specs.Fitting.{stand_in, BindingsFit}
-use Rattle.au_universes.specs.Forming.{fits, wants_region}
-use Rattle.au_universes.proofs.LawLemmas.{fits_kind}
+use Rattle.au_matching.specs.Fitting.{stand_in, BindingsFit}
+use Rattle.au_matching.specs.Forming.{fits, wants_region}
+use Rattle.au_matching.proofs.LawLemmas.{fits_kind}
 use Rattle.au_instances.specs.Becoming.{taken_by, stands_for, all_stand_for}
 use Rattle.au_instances.specs.Forms.{name_of, of_kind, is_one_of, are_parameters, are_distinct, is_again, is_called, stands_in, all_stand}
 

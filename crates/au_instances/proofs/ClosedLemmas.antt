@@ -3,9 +3,9 @@ use Rattle.std.proofs.Common.{◌≡◌, ◌⊎◌, Bool, true, false, cond, Lis
 use lib.Dec.{eqb}
 use Rattle.std.specs.Global.{Global}
 use Rattle.std.proofs.lemmas.Bool.{ne_eqb}
-use Rattle.au_closed_types.specs.declared.types.Closed.{Closed, Named as Named-of, Named'}
-use Rattle.au_closed_types.specs.declared.types.Closed.TheBlock.{backs-Closed, shown-the_row-Closed-0}
-use Rattle.au_closed_types.specs.Views.{closed_meaning}
+use Rattle.au_type_texts.specs.declared.types.Closed.{Closed, Named as Named-of, Named'}
+use Rattle.au_type_texts.specs.declared.types.Closed.TheBlock.{backs-Closed, shown-the_row-Closed-0}
+use Rattle.au_type_texts.specs.Views.{closed_meaning}
 use Rattle.std.specs.Prelude.{if◌then◌else◌, is_some, unwrap_or}
 use Rattle.std.specs.List.{list_all}
 use Rattle.std.specs.Option.{option_map}
@@ -27,14 +27,14 @@ use Rattle.au_types.specs.Universes.{universe_in}
 use Rattle.au_matching.specs.Bindings.{Bindings, value_of, GivesType, GivesRegion}
 use Rattle.au_matching.specs.Matched.{Makes}
 use Rattle.au_matching.specs.Substituted.{type_for, substituted, all_substituted, Fixes, EachNameOf, EachNameOfAll}
-use Rattle.au_universes.specs.Fitting.{BindingsFit}
-use Rattle.au_universes.specs.declared.universes.TypeUniverse.{TypeUniverse}
-use Rattle.au_universes.specs.Forming.{takes}
-use Rattle.au_universes.specs.Universes.{judged, of_row, universe_of, argument_universe, argument_universes}
-use Rattle.au_closed_types.specs.Closing.{closed, all_closed, argument_closed, in_front}
-use Rattle.au_closed_types.specs.Types.{ClosedType, ClosedTypes, unit, truth, integer, text, named, reads, writes, no_types, types}
-use Rattle.au_closed_types.proofs.SameLemmas.{same_is, same_self}
-use Rattle.au_generics.specs.Bounds.{Bounded, classes_of, constrains, is_among, parameters}
+use Rattle.au_matching.specs.Fitting.{BindingsFit}
+use Rattle.au_matching.specs.declared.universes.TypeUniverse.{TypeUniverse}
+use Rattle.au_matching.specs.Forming.{takes}
+use Rattle.au_matching.specs.Universes.{judged, of_row, universe_of, argument_universe, argument_universes}
+use Rattle.au_type_texts.specs.Closing.{closed, all_closed, argument_closed, in_front}
+use Rattle.au_type_texts.specs.Types.{ClosedType, ClosedTypes, unit, truth, integer, text, named, reads, writes, no_types, types}
+use Rattle.au_type_texts.proofs.SameLemmas.{same_is, same_self}
+use Rattle.au_judged_types.specs.Bounds.{Bounded, classes_of, constrains, is_among, parameters}
 use Rattle.au_instances.specs.declared.constructors.Constructor.{Constructor}
 use Rattle.au_instances.specs.Becoming.{stands_for, all_stand_for, taken_by}
 use Rattle.au_instances.specs.ClosedInstances.{ClosedInstance, by_row, ClosedHolds, given, closed_universe, closed_universes, Part, types_in, closes_to, closed_taken, closed_stands, all_closed_stand, gives, if_gives, closed_row, parts_of, has_instance, parts_in}

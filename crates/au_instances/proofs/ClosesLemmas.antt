@@ -12,9 +12,9 @@ use Rattle.au_types.specs.Types as whole
 use Rattle.au_types.specs.Types.{Meaning, Argument, Arguments, of_type, in_region, no_arguments, arguments}
 use Rattle.au_types.specs.Views.{meaning}
 use Rattle.au_types.proofs.SameLemmas.{place_is, place_self}
-use Rattle.au_closed_types.specs.Closing.{closed, all_closed, in_front}
-use Rattle.au_closed_types.specs.Same.{same, same_all}
-use Rattle.au_closed_types.specs.Types.{ClosedType, ClosedTypes, named, reads, writes, no_types, types}
+use Rattle.au_type_texts.specs.Closing.{closed, all_closed, in_front}
+use Rattle.au_type_texts.specs.Same.{same, same_all}
+use Rattle.au_type_texts.specs.Types.{ClosedType, ClosedTypes, named, reads, writes, no_types, types}
 use Rattle.au_instances.specs.declared.constructors.Constructor.TheVariants as constructors
 use Rattle.au_instances.specs.ClosedInstances.{closes_to, all_close_to, types_in}
 use Rattle.au_instances.specs.Constructors.{constructor_of, is_constructor}

@@ -10,7 +10,7 @@ use Rattle.au_types.specs.declared.types.Region.{Region}
 use Rattle.au_types.specs.declared.types.Region.TheVariants.{Static, Named, Anonymous}
 use Rattle.au_types.specs.Types.{Meaning, Argument, Arguments, unit, truth, integer, text, parameter, named, reads, writes, of_type, in_region, no_arguments, arguments}
 use Rattle.au_matching.specs.Substituted.{EachName, EachNameOf, EachNameOfAll, OfRegion}
-use Rattle.au_generics.specs.Bounds.{Bounded, parameters}
+use Rattle.au_judged_types.specs.Bounds.{Bounded, parameters}
 use Rattle.au_instances.specs.declared.constructors.Constructor.{Constructor}
 use Rattle.au_instances.specs.Constructors.{constructor_of}
 use Rattle.au_instances.specs.Forms.{HasForm, has_form, is_closed, is_closed_argument, are_closed, is_static, arguments_of, are_parameters, are_distinct, all_stand, stands_in, is_called, name_of, type_name, is_one_of}

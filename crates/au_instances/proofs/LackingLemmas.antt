@@ -4,7 +4,7 @@ use Rattle.std.specs.Global.{Global}
 use Rattle.au_types.specs.declared.headings.Head.{Head}
 use Rattle.au_types.specs.declared.types.Arg.{Arg, Of}
 use Rattle.au_types.proofs.TypeLemmas.{named_means, type_argument_means}
-use Rattle.au_universes.specs.Forming.{ArgumentStandsOver, StandsOver, all_formed, fits_in_kind}
+use Rattle.au_matching.specs.Forming.{ArgumentStandsOver, StandsOver, all_formed, fits_in_kind}
 use Rattle.std.specs.Prelude.{slice_get, is_none, if◌then◌else◌, unwrap_or}
 use Rattle.std.specs.List.{flat_map}
 use Rattle.std.specs.Option.{option_map, option_or}
@@ -18,7 +18,7 @@ use Rattle.au_types.specs.declared.types.DeclAt.{DeclAt}
 use Rattle.au_types.specs.declared.types.Ty.{Ty, Unit, Bool as Bool', Int, Text, Param, Named as Named-of, Named', Read', Write'}
 use Rattle.au_types.specs.Types.{Arguments, no_arguments, arguments}
 use Rattle.au_types.specs.Views.{argument, argument_all, meaning}
-use Rattle.au_generics.specs.Bounds.{Bounded, classes_of, parameters}
+use Rattle.au_judged_types.specs.Bounds.{Bounded, classes_of, parameters}
 use Rattle.au_instances.specs.declared.lacking.Sight.{Sight}
 use Rattle.au_instances.specs.Forms.{arguments_of, is_called, name_of}
 use Rattle.au_instances.specs.Instances.{Known}

@@ -12,9 +12,9 @@ use Rattle.au_types.specs.declared.types.Region.TheVariants.{Named}
 use Rattle.au_types.specs.Types.{Meaning, Argument, Arguments, parameter, of_type, in_region, no_arguments, arguments}
 use Rattle.au_matching.specs.Bindings.{Bindings, value_of, GivesType, GivesRegion}
 use Rattle.au_matching.specs.Substituted.{type_for, substituted, argument_substituted, all_substituted, Fixes, EachNameOf, EachNameOfAll}
-use Rattle.au_closed_types.specs.Closing.{closed}
-use Rattle.au_closed_types.specs.Types.{ClosedType}
-use Rattle.au_generics.specs.Bounds.{Bounded}
+use Rattle.au_type_texts.specs.Closing.{closed}
+use Rattle.au_type_texts.specs.Types.{ClosedType}
+use Rattle.au_judged_types.specs.Bounds.{Bounded}
 use Rattle.au_instances.specs.Becoming.{IsRowFor}
 use Rattle.au_instances.specs.ClosedInstances.{ClosedInstance, parts_in}
 use Rattle.au_instances.specs.Constructors.{constructor_of, closed_constructor}

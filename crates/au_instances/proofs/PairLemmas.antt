@@ -18,7 +18,7 @@ use Rattle.au_types.specs.Types.{Meaning, Argument, Arguments, unit, truth, inte
 use Rattle.au_types.proofs.SameLemmas.{place_is, place_self}
 use Rattle.au_matching.specs.Bindings.{Bindings, value_of, GivesType, GivesRegion}
 use Rattle.au_matching.specs.Substituted.{type_for, substituted, argument_substituted, all_substituted, Fixes, EachNameOf, EachNameOfAll}
-use Rattle.au_generics.specs.Bounds.{Bounded, classes_of, constrains, is_among, parameters}
+use Rattle.au_judged_types.specs.Bounds.{Bounded, classes_of, constrains, is_among, parameters}
 use Rattle.au_instances.specs.Becoming.{Becomes, IsRowFor}
 use Rattle.au_instances.specs.Forms.{HasForm, arguments_of, is_called, name_of, stands_in, all_stand}
 use Rattle.au_instances.specs.Instances.{Known, is_known, Instance, by_row, Holds, assumed, given}

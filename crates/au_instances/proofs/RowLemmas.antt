@@ -20,8 +20,8 @@ use Rattle.au_matching.specs.Bindings.{Bindings, value_of, GivesType, GivesRegio
 use Rattle.au_matching.specs.Matched.{Makes}
 use Rattle.au_matching.specs.Substituted.{substituted, all_substituted, Fixes, EachNameOfAll}
 use Rattle.au_matching.proofs.SubstitutedLemmas.{untouched}
-use Rattle.au_universes.specs.Fitting.{BindingsFit}
-use Rattle.au_generics.specs.Bounds.{Bounded, parameters}
+use Rattle.au_matching.specs.Fitting.{BindingsFit}
+use Rattle.au_judged_types.specs.Bounds.{Bounded, parameters}
 use Rattle.au_instances.specs.declared.constructors.Constructor.{Constructor}
 use Rattle.au_instances.specs.Constructors.{constructor_of}
 use Rattle.au_instances.specs.Becoming.{IsRowFor, applies, becomes, all_stand_for}

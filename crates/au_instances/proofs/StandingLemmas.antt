@@ -9,7 +9,7 @@ use Rattle.au_types.specs.declared.types.DeclAt.{DeclAt}
 use Rattle.au_types.specs.Rows.{head_of}
 use Rattle.au_types.specs.Types.{Argument, Arguments, named, of_type, in_region, no_arguments, arguments}
 use Rattle.au_types.specs.Views.{argument, argument_all}
-use Rattle.au_universes.specs.Forming.{ArgumentStandsOver, StandsOver, fit_row, fits_in_kind, is_formed, argument_formed, all_formed}
+use Rattle.au_matching.specs.Forming.{ArgumentStandsOver, StandsOver, fit_row, fits_in_kind, is_formed, argument_formed, all_formed}
 
 -- the first of the arguments that are left, and the others
 pub arguments_left : (xs : List Arg) (i : ℕ) (d : Arg) → i < length xs → argument_all (drop i xs) ≡ arguments (argument (get_or xs i d)) (argument_all (drop (i + 1) xs))

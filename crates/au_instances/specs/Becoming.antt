@@ -11,9 +11,9 @@ use Rattle.au_types.specs.Types.{Meaning, Argument, Arguments, named, no_argumen
 use Rattle.au_types.specs.Universes.{universe_in}
 use Rattle.au_matching.specs.Bindings.{Bindings}
 use Rattle.au_matching.specs.Matched.{Makes}
-use Rattle.au_universes.specs.Fitting.{BindingsFit}
-use Rattle.au_universes.specs.Forming.{fits}
-use Rattle.au_generics.specs.Bounds.{Bounded, parameters}
+use Rattle.au_matching.specs.Fitting.{BindingsFit}
+use Rattle.au_matching.specs.Forming.{fits}
+use Rattle.au_judged_types.specs.Bounds.{Bounded, parameters}
 use Rattle.au_instances.specs.Forms.{name_of}
 use Rattle.au_instances.specs.Rows.{Row}
 

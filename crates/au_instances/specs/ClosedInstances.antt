@@ -11,16 +11,16 @@ use Rattle.au_types.specs.Rows.{head_of}
 use Rattle.au_types.specs.Types as whole
 use Rattle.au_types.specs.Types.{Meaning, Argument, Arguments, of_type}
 use Rattle.au_types.specs.Universes.{universe_in}
-use Rattle.au_universes.specs.declared.universes.TypeUniverse.{TypeUniverse}
-use Rattle.au_universes.specs.declared.universes.TypeUniverse.TheVariants.{Free, Linear}
-use Rattle.au_universes.specs.Forming.{takes}
-use Rattle.au_universes.specs.Universes.{judged, of_row}
+use Rattle.au_matching.specs.declared.universes.TypeUniverse.{TypeUniverse}
+use Rattle.au_matching.specs.declared.universes.TypeUniverse.TheVariants.{Free, Linear}
+use Rattle.au_matching.specs.Forming.{takes}
+use Rattle.au_matching.specs.Universes.{judged, of_row}
 use Rattle.au_matching.specs.Bindings.{Bindings, value_of}
-use Rattle.au_closed_types.specs.Closing.{closed}
-use Rattle.au_closed_types.specs.Same.{same}
-use Rattle.au_closed_types.specs.Types.{ClosedType, ClosedTypes, unit, truth, integer, text, named, reads}
-use Rattle.au_closed_types.specs.Types.{writes, no_types, types}
-use Rattle.au_generics.specs.Bounds.{Bounded, constrains, parameters, classes_of}
+use Rattle.au_type_texts.specs.Closing.{closed}
+use Rattle.au_type_texts.specs.Same.{same}
+use Rattle.au_type_texts.specs.Types.{ClosedType, ClosedTypes, unit, truth, integer, text, named, reads}
+use Rattle.au_type_texts.specs.Types.{writes, no_types, types}
+use Rattle.au_judged_types.specs.Bounds.{Bounded, constrains, parameters, classes_of}
 use Rattle.au_instances.specs.declared.constructors.Constructor.TheVariants as constructors
 use Rattle.au_instances.specs.Becoming.{Becomes}
 use Rattle.au_instances.specs.Forms.{arguments_of, type_name}

@@ -4,8 +4,8 @@ use denote.Enum.Bare.{sameb}
 use Rattle.au_base.specs.contracts.kinds.IntKind.{the_type as kind}
 use Rattle.au_types.specs.Rows.{same_place}
 use Rattle.au_types.specs.Types.{Meaning, unit, truth, integer, text, parameter, named, reads, writes}
-use Rattle.au_closed_types.specs.Types as closed
-use Rattle.au_closed_types.specs.Types.{ClosedType}
+use Rattle.au_type_texts.specs.Types as closed
+use Rattle.au_type_texts.specs.Types.{ClosedType}
 use Rattle.au_instances.specs.declared.constructors.Constructor.{Constructor}
 use Rattle.au_instances.specs.declared.constructors.Constructor.TheVariants as constructors
 

@@ -10,8 +10,8 @@ use Rattle.au_types.specs.declared.types.DeclAt.{DeclAt}
 use Rattle.au_types.specs.declared.types.Region.TheVariants as regions
 use Rattle.au_types.specs.Types as whole
 use Rattle.au_types.specs.Types.{Meaning, Argument, Arguments}
-use Rattle.au_closed_types.specs.Types.{ClosedType, integer, text, truth, named, reads, no_types, types}
-use Rattle.au_generics.specs.Bounds.{Bounded}
+use Rattle.au_type_texts.specs.Types.{ClosedType, integer, text, truth, named, reads, no_types, types}
+use Rattle.au_judged_types.specs.Bounds.{Bounded}
 use Rattle.au_instances.specs.Instances.{Known}
 use Rattle.au_instances.specs.Pairs.{Pair}
 use Rattle.au_instances.specs.Rows.{Row}

@@ -11,8 +11,8 @@ use Rattle.au_types.specs.declared.types.Region.TheVariants.{Static, Named, Anon
 use Rattle.au_types.specs.Types.{Meaning, Argument, Arguments, unit, truth, integer, text, parameter, named}
 use Rattle.au_types.specs.Types.{reads, writes, of_type, in_region, no_arguments, arguments}
 use Rattle.au_types.specs.Universes.{universe_in}
-use Rattle.au_universes.specs.Forming.{fits_in_kind}
-use Rattle.au_generics.specs.Bounds.{Bounded, parameters}
+use Rattle.au_matching.specs.Forming.{fits_in_kind}
+use Rattle.au_judged_types.specs.Bounds.{Bounded, parameters}
 use Rattle.au_instances.specs.declared.constructors.Constructor.{Constructor}
 use Rattle.au_instances.specs.Constructors.{constructor_of}
 

@@ -9,7 +9,7 @@ use Rattle.au_types.specs.declared.types.DeclAt.{DeclAt}
 use Rattle.au_types.specs.Rows.{same_place}
 use Rattle.au_types.specs.Types.{Meaning, parameter, of_type}
 use Rattle.au_matching.specs.Bindings.{Bindings, value_of}
-use Rattle.au_generics.specs.Bounds.{constrains}
+use Rattle.au_judged_types.specs.Bounds.{constrains}
 use Rattle.au_instances.specs.Becoming.{Becomes}
 use Rattle.au_instances.specs.Rows.{Row}
 

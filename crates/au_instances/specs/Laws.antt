@@ -6,8 +6,8 @@ use Rattle.au_types.specs.declared.parameters.Parameter.{Parameter}
 use Rattle.au_types.specs.declared.types.DeclAt.{DeclAt}
 use Rattle.au_types.specs.Types.{Meaning, Argument, of_type, in_region}
 use Rattle.au_matching.specs.Bindings.{Bindings, value_of}
-use Rattle.au_closed_types.specs.Closing.{closed}
-use Rattle.au_closed_types.specs.Types.{ClosedType}
+use Rattle.au_type_texts.specs.Closing.{closed}
+use Rattle.au_type_texts.specs.Types.{ClosedType}
 use Rattle.au_syntax.specs.Plain.{Bytes}
 use Rattle.au_instances.specs.ClosedInstances.{ClosedHolds}
 use Rattle.au_instances.specs.Instances.{Known, is_known}

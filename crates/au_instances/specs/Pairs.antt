@@ -11,7 +11,7 @@ use Rattle.au_types.specs.declared.types.Ty.{Ty}
 use Rattle.au_types.specs.Views.{meaning}
 use Rattle.au_types.specs.Types.{Meaning, Argument, Arguments, unit, truth, integer, text, parameter, named}
 use Rattle.au_types.specs.Types.{reads, writes, of_type, in_region, no_arguments, arguments}
-use Rattle.au_generics.specs.Bounds.{Bounded, classes_of}
+use Rattle.au_judged_types.specs.Bounds.{Bounded, classes_of}
 use Rattle.au_instances.specs.Forms.{arguments_of, is_called, name_of}
 use Rattle.au_instances.specs.Instances.{Known, is_known}
 use Rattle.au_instances.specs.Rows.{Row}

@@ -8,7 +8,7 @@ use Rattle.au_types.specs.declared.types.DeclAt.{DeclAt}
 use Rattle.au_types.specs.Types.{Meaning, Argument, unit, of_type, in_region}
 use Rattle.au_types.specs.Views.{meaning}
 use Rattle.au_matching.specs.Codes.{argument_coded}
-use Rattle.au_generics.specs.Bounds.{Bounded}
+use Rattle.au_judged_types.specs.Bounds.{Bounded}
 use Rattle.au_instances.specs.declared.rows.Row.{Row as RowGiven}
 
 -- an instance: its place, that of its class, its type parameters with their universes and the classes that

@@ -4,7 +4,7 @@ use Rattle.std.specs.List.{find, flat_map}
 use Rattle.au_syntax.specs.Plain.{Bytes}
 use Rattle.au_types.specs.declared.types.DeclAt.{DeclAt}
 use Rattle.au_types.specs.Types.{Meaning, Argument, Arguments}
-use Rattle.au_generics.specs.Bounds.{Bounded}
+use Rattle.au_judged_types.specs.Bounds.{Bounded}
 use Rattle.au_instances.specs.declared.lacking.Sight.{Sight}
 use Rattle.au_instances.specs.Forms.{arguments_of}
 use Rattle.au_instances.specs.Pairs.{Pair, Parts, constraints_of, is_lacking, lacking, named_with, part_for}

@@ -9,8 +9,8 @@ ghost use Rattle.au_instances.specs.Forms as forms;
 use crate::forms::name_of;
 use crate::rows::Row;
 use au_base::Name;
+use au_matching::fits;
 use au_types::{Arg, Heads, Params, Ty, is_same, universe_in};
-use au_universes::fits;
 
 /// Whether the head of a row becomes a type: without type parameters itself alone, and else what has its
 /// constructor and arguments that fit the parameters in their places.

@@ -5,10 +5,10 @@ ghost use Rattle.std.specs.List.{list_all};
 ghost use Rattle.std.specs.Option.{option_map};
 ghost use Rattle.au_types.specs.Universes as universes;
 ghost use Rattle.au_types.specs.Views.{argument_all, meaning};
-ghost use Rattle.au_closed_types.specs.Closing.{closed};
-ghost use Rattle.au_closed_types.specs.Types.{reads, writes};
-ghost use Rattle.au_closed_types.specs.Views.{closed_meaning, closed_meanings};
-ghost use Rattle.au_generics.specs.Bounds as bounds;
+ghost use Rattle.au_type_texts.specs.Closing.{closed};
+ghost use Rattle.au_type_texts.specs.Types.{reads, writes};
+ghost use Rattle.au_type_texts.specs.Views.{closed_meaning, closed_meanings};
+ghost use Rattle.au_judged_types.specs.Bounds as bounds;
 ghost use Rattle.au_instances.specs.ClosedInstances as spec;
 ghost use Rattle.au_instances.specs.Constructors as constructors;
 ghost use Rattle.au_instances.specs.Forms as forms;
@@ -20,10 +20,10 @@ use crate::instances::Instances;
 use crate::rows::{ClassAt, Row};
 use crate::universes::closed_universe;
 use au_base::Name;
-use au_closed_types::Closed;
-use au_generics::Generics;
+use au_judged_types::Generics;
+use au_matching::takes;
+use au_type_texts::Closed;
 use au_types::{Arg, Heads, Params, Ty, universe_in};
-use au_universes::takes;
 
 /// The row that gives the instance of a class at a closed type.
 #[cycle(closed_row)]
@@ -45,7 +45,7 @@ pub(crate) fn closed_row<'a>(
 }
 
 /// Whether the head of a row becomes a closed type, and the row's constraints hold.
-#[tactic(auto, using(au_closed_types::proofs::ClosedLemmas::closed_steps))]
+#[tactic(auto, using(au_type_texts::proofs::ClosedLemmas::closed_steps))]
 #[cycle(closed_row)]
 fn gives(of: &Closed, instances: &Instances, heads: &Heads, row: &Row) -> bool
     ensures { let t = closed_meaning of.now in
@@ -178,7 +178,7 @@ fn nth_type(args: &[Arg], place: usize) -> Option<&Ty>
 }
 
 /// Whether a type closes to a closed type.
-#[tactic(auto, using(au_closed_types::proofs::ClosedLemmas::closed_steps))]
+#[tactic(auto, using(au_type_texts::proofs::ClosedLemmas::closed_steps))]
 #[cycle(closes_to)]
 fn closes_to(target: &Closed, of: &Ty) -> bool
     ensures { result ≡ spec.closes_to (closed (meaning of.now)) (closed_meaning target.now) }

@@ -2,11 +2,11 @@
 
 ghost use Rattle.std.specs.Prelude.{◌≡◌};
 ghost use Rattle.au_types.specs.Views.{meaning};
-ghost use Rattle.au_closed_types.specs.Views.{closed_meaning};
+ghost use Rattle.au_type_texts.specs.Views.{closed_meaning};
 ghost use Rattle.au_instances.specs.Constructors as spec;
 
 use au_base::IntKind;
-use au_closed_types::Closed;
+use au_type_texts::Closed;
 use au_types::{DeclAt, Ty};
 
 /// What heads a type that is neither a type parameter nor a reference.
@@ -42,7 +42,7 @@ pub fn constructor_of(of: &Ty) -> Option<Constructor>
 }
 
 /// The constructor that heads a closed type, and `None` exactly for a reference.
-#[tactic(auto, using(au_closed_types::proofs::ClosedLemmas::closed_steps))]
+#[tactic(auto, using(au_type_texts::proofs::ClosedLemmas::closed_steps))]
 pub fn constructor_of_closed(of: &Closed) -> Option<Constructor>
     ensures { result ≡ spec.closed_constructor (closed_meaning of.now) }
 {

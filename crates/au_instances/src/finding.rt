@@ -3,7 +3,7 @@
 ghost use Rattle.std.specs.Prelude.{◌≡◌, ◌↔◌, IfOk, IfSome, None, Some, option_copied};
 ghost use Rattle.std.specs.Option.{option_map};
 ghost use Rattle.au_types.specs.Views.{meaning};
-ghost use Rattle.au_closed_types.specs.Views.{closed_meaning};
+ghost use Rattle.au_type_texts.specs.Views.{closed_meaning};
 ghost use Rattle.au_instances.specs.Becoming.{IsRowFor};
 ghost use Rattle.au_instances.specs.ClosedInstances.{ClosedInstance};
 ghost use Rattle.au_instances.specs.Instances.{Holds};
@@ -18,7 +18,7 @@ use crate::instances::Instances;
 use crate::lacking::{Sight, lacking_in};
 use crate::rows::{ClassAt, InstanceAt, Row};
 use au_base::{Memory, Name};
-use au_closed_types::Closed;
+use au_type_texts::Closed;
 use au_types::{Heads, Params, Ty, copy_type};
 use std::alloc::Global;
 

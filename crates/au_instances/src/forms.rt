@@ -4,13 +4,13 @@ ghost use Rattle.std.specs.Prelude.{◌≡◌, ◌↔◌, IsTrue, option_copied}
 ghost use Rattle.au_types.specs.Types.{of_type, in_region};
 ghost use Rattle.au_types.specs.Universes as universes;
 ghost use Rattle.au_types.specs.Views.{argument, argument_all, meaning};
-ghost use Rattle.au_universes.specs.Forming as forming;
+ghost use Rattle.au_matching.specs.Forming as forming;
 ghost use Rattle.au_instances.specs.Forms as spec;
 ghost use Rattle.au_instances.specs.Forms.{HasForm};
 
 use crate::constructors::constructor_of;
 use au_base::Name;
-use au_generics::Generics;
+use au_judged_types::Generics;
 use au_syntax::Universe;
 use au_types::{Arg, Params, Region, Ty, universe_in};
 

@@ -1,6 +1,6 @@
 //! The rows of a table of instances.
 
-use au_generics::Generics;
+use au_judged_types::Generics;
 use au_types::{DeclAt, Ty};
 
 /// Which class: where it is declared.

@@ -2,19 +2,19 @@
 
 ghost use Rattle.std.specs.Prelude.{◌≡◌};
 ghost use Rattle.au_types.specs.Rows.{head_of};
-ghost use Rattle.au_closed_types.specs.Types.{named};
-ghost use Rattle.au_closed_types.specs.Views.{closed_meaning, closed_meanings};
-ghost use Rattle.au_universes.specs.Joined as join;
-ghost use Rattle.au_universes.specs.Universes as universes;
+ghost use Rattle.au_type_texts.specs.Types.{named};
+ghost use Rattle.au_type_texts.specs.Views.{closed_meaning, closed_meanings};
+ghost use Rattle.au_matching.specs.Joined as join;
+ghost use Rattle.au_matching.specs.Universes as universes;
 ghost use Rattle.au_instances.specs.ClosedInstances as spec;
 
-use au_closed_types::Closed;
+use au_matching::TypeUniverse;
 use au_syntax::Universe;
+use au_type_texts::Closed;
 use au_types::{DeclAt, Heads};
-use au_universes::TypeUniverse;
 
 /// The universe of a closed type. A declared type without a row counts as `Type`.
-#[tactic(auto, using(au_closed_types::proofs::ClosedLemmas::closed_steps))]
+#[tactic(auto, using(au_type_texts::proofs::ClosedLemmas::closed_steps))]
 #[cycle(closed_universe)]
 pub fn closed_universe(heads: &Heads, of: &Closed) -> TypeUniverse
     ensures { result ≡ spec.closed_universe heads.now (closed_meaning of.now) }

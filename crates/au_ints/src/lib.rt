@@ -14,6 +14,3 @@ pub mod ranges;
 pub use calls::{compare, convert, trap, wrap};
 pub use operations::{IntOp, Order, WrapOp};
 pub use ranges::Kind;
-
-#[cfg(test)]
-mod tests;

@@ -19,10 +19,10 @@ use Rattle.au_types.specs.Rows.{head_of}
 use Rattle.au_types.specs.Same.{same, same_region}
 use Rattle.au_types.specs.Types as mean
 use Rattle.au_types.specs.Types.{Meaning, Argument, Arguments}
-use Rattle.au_universes.specs.Forming.{IsWellFormed, all_fit, fit_row, fits, fits_in_kind, is_formed, argument_formed, all_formed}
-use Rattle.au_written_types.specs.Meant as meant
-use Rattle.au_written_types.specs.Meant.{followed, region_of, region_meant, arguments_meant, argument_meant, all_given as all_meant, applied as applied_meant, meant as type_meant}
-use Rattle.au_written_types.specs.Senses.{Sense, a_type, a_span, a_region, declared, a_class, sense_of}
+use Rattle.au_matching.specs.Forming.{IsWellFormed, all_fit, fit_row, fits, fits_in_kind, is_formed, argument_formed, all_formed}
+use Rattle.au_types.specs.Meant as meant
+use Rattle.au_types.specs.Meant.{followed, region_of, region_meant, arguments_meant, argument_meant, all_given as all_meant, applied as applied_meant, meant as type_meant}
+use Rattle.au_types.specs.Senses.{Sense, a_type, a_span, a_region, declared, a_class, sense_of}
 use Rattle.au_judged_types.specs.Agreement.{found, only_formed}
 use Rattle.au_judged_types.specs.Judging.{Given, alone, all_given, applied, argument_judged, arguments_judged, declared_judged, first_unfit, fitted, judged, refers, region_judged, region_named, region_with, span_of, span_with}
 use Rattle.au_judged_types.specs.Reasons.{Reason, number_wanted, Outcome, means, fails, kept, in_order, unless}

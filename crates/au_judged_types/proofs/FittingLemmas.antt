@@ -17,7 +17,7 @@ use Rattle.au_types.specs.declared.types.Region.{Region}
 use Rattle.au_types.specs.Types as mean
 use Rattle.au_types.specs.Types.{Meaning, Argument, Arguments}
 use Rattle.au_types.specs.Views.{argument, argument_all, meaning}
-use Rattle.au_universes.specs.Forming.{ArgumentStandsOver, StandsOver, all_fit, all_formed, argument_formed, fits_in_kind}
+use Rattle.au_matching.specs.Forming.{ArgumentStandsOver, StandsOver, all_fit, all_formed, argument_formed, fits_in_kind}
 use Rattle.au_judged_types.specs.Judging.{first_unfit, unfit}
 use Rattle.au_judged_types.specs.Reasons.{Reason}
 use Rattle.au_judged_types.specs.Standing.{StandFor}

@@ -25,11 +25,11 @@ use Rattle.au_types.specs.declared.types.Region.{Region}
 use Rattle.au_types.specs.Types as mean
 use Rattle.au_types.specs.Types.{Meaning, Argument, Arguments}
 use Rattle.au_types.specs.Views.{argument, argument_all}
-use Rattle.au_universes.specs.Forming.{all_fit, all_formed, argument_formed, fits, fits_in_kind, is_formed}
-use Rattle.au_universes.proofs.LawLemmas.{well_formed_stands}
-use Rattle.au_written_types.proofs.MeantLemmas.{joined, joined_none, joined_push, joined_start as option_start}
-use Rattle.au_written_types.specs.Senses.{sense_of}
-use Rattle.au_written_types.specs.Meant as meant
+use Rattle.au_matching.specs.Forming.{all_fit, all_formed, argument_formed, fits, fits_in_kind, is_formed}
+use Rattle.au_matching.proofs.LawLemmas.{well_formed_stands}
+use Rattle.au_types.proofs.MeantLemmas.{joined, joined_none, joined_push, joined_start as option_start}
+use Rattle.au_types.specs.Senses.{sense_of}
+use Rattle.au_types.specs.Meant as meant
 use Rattle.au_judged_types.specs.Judging.{Given, alone, all_given, applied, argument_judged, arguments_judged, declared_judged, fitted, judged, refers, region_judged, region_named, region_with, span_of, span_with}
 use Rattle.au_judged_types.specs.Reasons.{Reason, number_wanted, Outcome, means, fails, kept, in_order}
 use Rattle.au_judged_types.specs.Standing.{StandFor}

@@ -3,3 +3,5 @@ pub mod UnfitLemmas
 pub mod AgreementLemmas
 pub mod JudgedLemmas
 pub mod FittingLemmas
+pub mod BoundLemmas
+pub mod MeaningLemmas

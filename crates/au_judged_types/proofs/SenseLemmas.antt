@@ -9,7 +9,7 @@ use Rattle.std.specs.Str.{bytes_eq}
 use Rattle.au_syntax.specs.declared.declarations.Universe.{Universe}
 use Rattle.au_syntax.specs.declared.declarations.Universe.TheVariants as universes
 use Rattle.au_syntax.specs.Plain.{Bytes}
-use Rattle.au_tables.specs.Tables.{find}
+use Rattle.au_types.specs.Tables.{find}
 use Rattle.au_types.specs.declared.headings.Head.{Head}
 use Rattle.au_types.specs.declared.parameters.Parameter.{Parameter}
 use Rattle.au_types.specs.declared.types.DeclAt.{DeclAt}
@@ -18,9 +18,9 @@ use Rattle.au_types.specs.declared.types.Region.TheVariants as regions
 use Rattle.au_types.specs.Rows.{head_of}
 use Rattle.au_types.specs.Types.{Arguments}
 use Rattle.au_types.specs.Universes.{universe_in}
-use Rattle.au_universes.specs.Forming.{all_fit, fit_row, fits, is_formed}
-use Rattle.au_universes.specs.Universes.{of_parameter}
-use Rattle.au_written_types.specs.Senses.{Sense, a_type, a_region, declared, built_in, declared_sense, open_region, outer_sense, parameter_sense, sense_of}
+use Rattle.au_matching.specs.Forming.{all_fit, fit_row, fits, is_formed}
+use Rattle.au_matching.specs.Universes.{of_parameter}
+use Rattle.au_types.specs.Senses.{Sense, a_type, a_region, declared, built_in, declared_sense, open_region, outer_sense, parameter_sense, sense_of}
 
 module _ (heads : List (DeclAt × Head)) (params : List Parameter) where
   -- what is good of a sense

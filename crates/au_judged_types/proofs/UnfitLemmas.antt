@@ -11,8 +11,8 @@ use Rattle.au_types.specs.declared.types.DeclAt.{DeclAt}
 use Rattle.au_types.specs.declared.types.Region.{Region}
 use Rattle.au_types.specs.Types as mean
 use Rattle.au_types.specs.Types.{Meaning, Argument, Arguments}
-use Rattle.au_universes.specs.Forming.{all_fit, fits, fits_in_kind}
-use Rattle.au_universes.specs.Universes.{is_free, is_linear, universe_of}
+use Rattle.au_matching.specs.Forming.{all_fit, fits, fits_in_kind}
+use Rattle.au_matching.specs.Universes.{is_free, is_linear, universe_of}
 use Rattle.au_judged_types.specs.Judging.{Given, argument_judged, arguments_judged, first_unfit, unfit}
 use Rattle.au_judged_types.specs.Reasons.{Reason, not_free, linear_wanted, Outcome, means, fails, kept, in_order}
 

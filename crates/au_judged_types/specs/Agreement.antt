@@ -4,7 +4,7 @@ use Rattle.au_types.specs.declared.headings.Head.{Head}
 use Rattle.au_types.specs.declared.parameters.Parameter.{Parameter}
 use Rattle.au_types.specs.declared.types.DeclAt.{DeclAt}
 use Rattle.au_types.specs.Types.{Meaning}
-use Rattle.au_universes.specs.Forming.{fits, is_formed}
+use Rattle.au_matching.specs.Forming.{fits, is_formed}
 use Rattle.au_judged_types.specs.Reasons.{Outcome, means, fails}
 
 -- what is meant, with the reason forgotten

@@ -19,8 +19,8 @@ use Rattle.au_types.specs.declared.types.Region.TheVariants as regions
 use Rattle.au_types.specs.Same.{same, same_region}
 use Rattle.au_types.specs.Types as mean
 use Rattle.au_types.specs.Types.{Meaning, Argument, Arguments}
-use Rattle.au_universes.specs.Universes.{is_free, is_linear, universe_of}
-use Rattle.au_written_types.specs.Senses.{Sense, a_type, a_span, a_region, declared, sense_of}
+use Rattle.au_matching.specs.Universes.{is_free, is_linear, universe_of}
+use Rattle.au_types.specs.Senses.{Sense, a_type, a_span, a_region, declared, sense_of}
 use Rattle.au_judged_types.specs.Reasons.{Reason, unknown, number_wanted, region_wanted, not_free}
 use Rattle.au_judged_types.specs.Reasons.{linear_wanted, Outcome, means, fails, kept, in_order, unless}
 

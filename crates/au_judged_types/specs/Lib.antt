@@ -3,3 +3,7 @@ pub mod Judging
 pub mod Standing
 pub mod Agreement
 pub mod Views
+pub mod Bounds
+pub mod Meanings
+pub mod GenericViews
+pub mod Examples

@@ -4,7 +4,7 @@ use Rattle.au_types.specs.declared.headings.Head.{Head}
 use Rattle.au_types.specs.declared.parameters.Parameter.{Parameter}
 use Rattle.au_types.specs.declared.types.DeclAt.{DeclAt}
 use Rattle.au_types.specs.Types.{Arguments}
-use Rattle.au_universes.specs.Forming.{all_fit, all_formed, fits_in_kind}
+use Rattle.au_matching.specs.Forming.{all_fit, all_formed, fits_in_kind}
 
 -- there are as many, a region exactly where a parameter is one, and each stands over the rows and the type
 -- parameters in scope

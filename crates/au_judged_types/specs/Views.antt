@@ -10,10 +10,10 @@ use Rattle.au_types.specs.declared.types.DeclAt.{DeclAt}
 use Rattle.au_types.specs.declared.types.Region.{Region}
 use Rattle.au_types.specs.Types.{Meaning, Argument, Arguments}
 use Rattle.au_types.specs.Views.{meaning}
-use Rattle.au_universes.specs.Forming.{ArgumentStandsOver, StandsOver}
-use Rattle.au_written_types.specs.declared.scopes.Scope.{Scope}
-use Rattle.au_written_types.specs.Senses.{Sense}
-use Rattle.au_written_types.specs.Views.{sense_in}
+use Rattle.au_matching.specs.Forming.{ArgumentStandsOver, StandsOver}
+use Rattle.au_types.specs.declared.scopes.Scope.{Scope}
+use Rattle.au_types.specs.Senses.{Sense}
+use Rattle.au_types.specs.WrittenViews.{sense_in}
 use Rattle.au_judged_types.specs.declared.reasons.Judged.{Judged}
 use Rattle.au_judged_types.specs.declared.reasons.Judged.TheVariants.{Means, Fails}
 use Rattle.au_judged_types.specs.declared.reasons.Reason as code

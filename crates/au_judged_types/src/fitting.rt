@@ -10,10 +10,9 @@ ghost use Rattle.au_judged_types.specs.Views.{unfit_in};
 
 use crate::reasons::Reason;
 use au_base::Memory;
+use au_matching::{takes, universe_of};
 use au_syntax::Universe;
-use au_types::{Arg, Params, Ty, copy_type};
-use au_universes::{takes, universe_of};
-use au_written_types::Scope;
+use au_types::{Arg, Params, Scope, Ty, copy_type};
 use std::alloc::Global;
 
 /// Why the first of the arguments that don't fit type parameters in universe doesn't, if one doesn't.

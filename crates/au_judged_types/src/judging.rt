@@ -6,7 +6,7 @@ ghost use Rattle.au_syntax.specs.Views.{written};
 ghost use Rattle.au_types.specs.Same.{same, same_region};
 ghost use Rattle.au_types.specs.Types.{in_region, integer, of_type};
 ghost use Rattle.au_types.specs.Views.{argument, argument_all, meaning};
-ghost use Rattle.au_written_types.specs.Views.{said, sense_in};
+ghost use Rattle.au_types.specs.WrittenViews.{said, sense_in};
 ghost use Rattle.au_judged_types.specs.Judging as judging;
 ghost use Rattle.au_judged_types.specs.Reasons.{kept, means};
 ghost use Rattle.au_judged_types.specs.Views.{StandForIn, applied_in, arguments_in, declared_in, fitted_in};
@@ -18,8 +18,7 @@ use crate::reasons::{Judged, Reason, unknown};
 use crate::regions::{judge_region, written_region};
 use au_base::{IntKind, Memory, Name};
 use au_syntax::{Access, TypeText, Universe};
-use au_types::{Arg, DeclAt, Params, Region, Ty, is_same, is_same_region};
-use au_written_types::{Scope, Sense, sense_of};
+use au_types::{Arg, DeclAt, Params, Region, Scope, Sense, Ty, is_same, is_same_region, sense_of};
 use std::alloc::Global;
 
 /// The type that a written type is judged to mean in a scope, or why it isn't well formed there. Its name is

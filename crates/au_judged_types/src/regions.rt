@@ -2,15 +2,14 @@
 
 ghost use Rattle.std.specs.Prelude.{◌≡◌, IfOk, Some};
 ghost use Rattle.au_syntax.specs.Views.{written, written_all};
-ghost use Rattle.au_written_types.specs.Views.{said};
+ghost use Rattle.au_types.specs.WrittenViews.{said};
 ghost use Rattle.au_judged_types.specs.Judging.{region_named, region_with};
 ghost use Rattle.au_judged_types.specs.Views.{region, region_in, region_named_in};
 
 use crate::reasons::{Judged, Reason, unknown};
 use au_base::{Memory, Name};
 use au_syntax::TypeText;
-use au_types::Region;
-use au_written_types::{Scope, Sense, sense_of};
+use au_types::{Region, Scope, Sense, sense_of};
 use std::alloc::Global;
 
 /// The region that a name with this sense means, or why it means none.

@@ -1,7 +1,7 @@
 -- Why noting a statement stops, from why noting its parts does.
 use Rattle.std.proofs.Common.{◌≡◌, Result, Ok, Err, ap, subst, sym}
 use Rattle.au_base.specs.declared.places.Pos.{Pos}
-use Rattle.au_derivations.specs.Faults.{Judged, ◌then◌, placed}
+use Rattle.au_typing.specs.DerivationFaults.{Judged, ◌then◌, placed}
 use Rattle.au_judgements.specs.declared.refusals.Refused.{Refused}
 use Rattle.au_judgements.specs.declared.refusals.Refused.TheVariants as told
 use Rattle.au_judgements.specs.Refusing.{Judges, Refuses, refused_from, refused_with}

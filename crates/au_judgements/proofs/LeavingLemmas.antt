@@ -1,11 +1,11 @@
 -- A scope that has grown by variables, and how it is brought back to what it was.
 use Rattle.std.proofs.Common.{arith, ◌≡◌, ◌-◌, ◌++◌, Bool, false, List, [], ◌∷◌, Ok, Err, length, refl, ap, sym, ◌∙◌, append_assoc, length-append}
 use Rattle.std.proofs.lemmas.List.{drop_at}
-use Rattle.au_derivations.specs.InScope.{after, is_var, with_bound, with_reference, with_typed}
+use Rattle.au_typing.specs.InScope.{after, is_var, with_bound, with_reference, with_typed}
 use Rattle.au_judgements.specs.Leaving.{IsGrown}
 use Rattle.au_names.specs.Importing.{given_name}
 use Rattle.au_noting.specs.Scopes.{closed_in, without}
-use Rattle.au_scopes.specs.Scopes.{Scope, Variable}
+use Rattle.au_typing.specs.Scopes.{Scope, Variable}
 use Rattle.au_syntax.specs.Plain.{Bytes}
 use Rattle.au_syntax.specs.Statements.{Statement, skip, declare, destructure, assign, assign_through, conditional, conditional_else, case_of, while_loop, for_loop, borrow_in, borrow_typed, discard, return_of}
 use Rattle.au_syntax.specs.Types.{Bound}

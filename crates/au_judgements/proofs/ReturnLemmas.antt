@@ -1,7 +1,7 @@
 -- One step of each walk over statements, branches and arms that asks whether they return.
 use Rattle.std.proofs.Common.{◌≡◌, ◌&&◌, ◌||◌, ◌<◌, get_or, ℕ, ◌+◌, drop, length, List, ap, sym, ◌∙◌}
 use Rattle.std.proofs.lemmas.List.{at_drop_more}
-use Rattle.au_derivations.specs.Returns.{arms_return, block_returns, branches_return, returns}
+use Rattle.au_typing.specs.Returns.{arms_return, block_returns, branches_return, returns}
 use Rattle.au_syntax.specs.declared.phases.Phase.{Ghosts}
 use Rattle.au_syntax.specs.declared.statements.Arm.{Arm}
 use Rattle.au_syntax.specs.declared.statements.Branch.{Branch}

@@ -6,18 +6,18 @@ use Rattle.std.specs.Str.{bytes_eq}
 use Rattle.au_syntax.specs.declared.names.Bind.{Bind}
 use Rattle.au_syntax.specs.declared.parsed.Parsed.{Parsed}
 use Rattle.au_syntax.specs.Plain.{Bytes}
-use Rattle.au_derivations.specs.InScope.{with_bound, with_typed, with_variable}
-use Rattle.au_derivations.specs.Search.{judge_all_bound, judge_arm, judge_binds, judge_bound}
-use Rattle.au_derivations.specs.Parts.{case_of_arm}
-use Rattle.au_scopes.specs.Scopes as scopes
+use Rattle.au_typing.specs.InScope.{with_bound, with_typed, with_variable}
+use Rattle.au_typing.specs.DerivationSearch.{judge_all_bound, judge_arm, judge_binds, judge_bound}
+use Rattle.au_typing.specs.Parts.{case_of_arm}
+use Rattle.au_typing.specs.Scopes as scopes
 use Rattle.au_noting.specs.Scopes.{without}
 use Rattle.au_types.specs.Types.{Meaning}
 use Rattle.au_typing.specs.Faults.{Noting, ◌>>=◌}
 use Rattle.au_sights.specs.declared.called.Case as code
 use Rattle.au_sights.specs.declared.called.Typed as code_typed
 use Rattle.au_sights.specs.Sights.{case_said}
-use Rattle.au_derivations.specs.Parts.{ArmHead}
-use Rattle.au_scopes.specs.Scopes.{Scope}
+use Rattle.au_typing.specs.Parts.{ArmHead}
+use Rattle.au_typing.specs.Scopes.{Scope}
 use Rattle.au_judgements.specs.Said.{bind_said, binds_said, cases_said, fields_named}
 use Rattle.au_judgements.specs.Steps.{each_has_one_arm, formed, has_one_arm, judge_found, judge_one, with_one}
 use Rattle.au_noting.specs.Said.{all_typed}

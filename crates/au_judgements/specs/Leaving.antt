@@ -1,6 +1,6 @@
 -- How the scope at a place grows in a block.
 use Rattle.std.specs.Prelude.{◌≡◌, ◌++◌, List}
-use Rattle.au_scopes.specs.Scopes.{Scope, Variable}
+use Rattle.au_typing.specs.Scopes.{Scope, Variable}
 
 -- a scope has grown by variables alone, which are the innermost
 abbrev pub IsGrown : Scope → Scope → Type 0

@@ -1,7 +1,7 @@
 -- What the code says of why noting a statement stops, and when a call answers what the search gives.
 use Rattle.std.specs.Prelude.{◌≡◌, Result, Ok, Err}
 use Rattle.au_base.specs.declared.places.Pos.{Pos}
-use Rattle.au_derivations.specs.Faults.{Judged, refused, too_large}
+use Rattle.au_typing.specs.DerivationFaults.{Judged, refused, too_large}
 use Rattle.au_judgements.specs.declared.refusals.Refused.{Refused}
 use Rattle.au_judgements.specs.declared.refusals.Refused.TheVariants as told
 use Rattle.au_noting.specs.declared.faults.Fault.{Fault}

@@ -7,8 +7,8 @@ use Rattle.au_syntax.specs.declared.statements.Arm.{Arm}
 use Rattle.au_syntax.specs.Plain.{Bytes}
 use Rattle.au_syntax.specs.Types.{Bound}
 use Rattle.au_syntax.specs.Views.{arm_all, bound}
-use Rattle.au_derivations.specs.Parts.{ArmHead, heads_of}
-use Rattle.au_scopes.specs.Scopes.{Case, Typed}
+use Rattle.au_typing.specs.Parts.{ArmHead, heads_of}
+use Rattle.au_typing.specs.Scopes.{Case, Typed}
 use Rattle.au_sights.specs.declared.called.Case as code
 use Rattle.au_sights.specs.Sights.{case_said}
 use Rattle.au_types.specs.declared.types.Ty.{Ty}

@@ -10,14 +10,14 @@ use Rattle.au_types.specs.declared.types.Region.TheVariants as regions
 use Rattle.au_types.specs.Same.{same}
 use Rattle.au_types.specs.Types.{Meaning}
 use Rattle.au_judged_types.specs.Judging.{refers}
-use Rattle.au_derivations.specs.InScope.{with_typed}
-use Rattle.au_derivations.specs.Parts.{ArmHead, borrow_type, case_of_arm, is_for}
-use Rattle.au_derivations.specs.Search.{free_place, is_of_borrow, judge_binds, judge_bound, judge_reference}
-use Rattle.au_derivations.specs.Search.{place_type, written_through}
+use Rattle.au_typing.specs.InScope.{with_typed}
+use Rattle.au_typing.specs.Parts.{ArmHead, borrow_type, case_of_arm, is_for}
+use Rattle.au_typing.specs.DerivationSearch.{free_place, is_of_borrow, judge_binds, judge_bound, judge_reference}
+use Rattle.au_typing.specs.DerivationSearch.{place_type, written_through}
 use Rattle.au_imports.specs.Clashing.{same_target}
 use Rattle.au_names.specs.Importing.{given_name}
 use Rattle.au_names.specs.declared.targets.Target.{Target}
-use Rattle.au_scopes.specs.Scopes.{Case, Scope, Typed, Variable}
+use Rattle.au_typing.specs.Scopes.{Case, Scope, Typed, Variable}
 use Rattle.au_typing.specs.Faults.{Noting, ◌>>=◌, arms_wanted, assignable_wanted, check, different, known_or}
 use Rattle.au_typing.specs.Faults.{reference_wanted, shape, why, write_reference_wanted}
 use Rattle.au_typing.specs.Lookups.{record_part, written_type}

@@ -6,8 +6,8 @@
 ghost use Rattle.std.specs.Prelude.{◌≡◌};
 ghost use Rattle.std.specs.List.{count_by};
 ghost use Rattle.std.specs.Option.{option_copied, option_map};
-ghost use Rattle.au_derivations.specs.Parts as parts;
-ghost use Rattle.au_derivations.specs.Search as spec;
+ghost use Rattle.au_typing.specs.Parts as parts;
+ghost use Rattle.au_typing.specs.DerivationSearch as spec;
 ghost use Rattle.au_judgements.specs.Said.{cases_said, head_said, heads_said};
 ghost use Rattle.au_judgements.specs.Steps as steps;
 ghost use Rattle.au_imports.specs.Clashing.{same_target};
@@ -18,11 +18,10 @@ ghost use Rattle.au_types.specs.Views.{argument, argument_all, meaning};
 
 use crate::binding::judge_binds;
 use au_names::Target;
-use au_notes::Form;
 use au_noting::faults::{other_form, unknown};
 use au_noting::{Fault, Scope};
-use au_sights::Case;
 use au_sights::surroundings::{cases, target};
+use au_sights::{Case, Form};
 use au_syntax::{Arm, Parsed};
 use au_types::{Arg, Region, Ty};
 use std::alloc::Global;

@@ -2,7 +2,7 @@
 
 ghost use Rattle.std.specs.Prelude.{◌≡◌};
 ghost use Rattle.std.specs.Option.{option_copied, option_map};
-ghost use Rattle.au_derivations.specs.Search as spec;
+ghost use Rattle.au_typing.specs.DerivationSearch as spec;
 ghost use Rattle.au_judgements.specs.Steps as steps;
 ghost use Rattle.au_noting.specs.Giving.{Gives, Lets, Tells};
 ghost use Rattle.au_noting.specs.Said.{fields_said};
@@ -13,10 +13,10 @@ ghost use Rattle.au_typing.specs.Faults as faults;
 ghost use Rattle.au_typing.specs.Lookups as lookups;
 
 use au_base::Name;
-use au_notes::Form;
 use au_noting::faults::{not_free, other_form, unknown};
 use au_noting::lookups::{is_free_in, record_part, value_type, variable_of};
 use au_noting::{Fault, Scope, Variable};
+use au_sights::Form;
 use au_syntax::{Ident, Parsed};
 use au_types::{Ty, copy_type};
 use std::alloc::Global;

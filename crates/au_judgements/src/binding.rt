@@ -6,8 +6,8 @@
 ghost use Rattle.std.specs.Prelude.{◌≡◌, ◌==◌};
 ghost use Rattle.std.specs.List.{count_by, list_all, list_any};
 ghost use Rattle.std.specs.Str.{bytes_eq};
-ghost use Rattle.au_derivations.specs.Parts as parts;
-ghost use Rattle.au_derivations.specs.Search as spec;
+ghost use Rattle.au_typing.specs.Parts as parts;
+ghost use Rattle.au_typing.specs.DerivationSearch as spec;
 ghost use Rattle.au_judgements.specs.Said.{bind_said, binds_said, fields_bound, fields_named};
 ghost use Rattle.au_judgements.specs.Steps as steps;
 ghost use Rattle.au_noting.specs.Giving.{Gives};
@@ -17,11 +17,10 @@ ghost use Rattle.au_syntax.specs.Views.{written};
 ghost use Rattle.au_types.specs.Views.{meaning};
 
 use au_base::Name;
-use au_notes::Form;
 use au_noting::faults::{different, other_form};
 use au_noting::lookups::{type_of_name, written_type};
 use au_noting::{Fault, Scope};
-use au_sights::Typed;
+use au_sights::{Form, Typed};
 use au_syntax::{Bind, Parsed, TypeText};
 use au_types::{Ty, is_same};
 use std::alloc::Global;

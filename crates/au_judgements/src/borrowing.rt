@@ -2,8 +2,8 @@
 
 ghost use Rattle.std.specs.Prelude.{◌≡◌, IfOk};
 ghost use Rattle.std.specs.Option.{option_copied, option_map};
-ghost use Rattle.au_derivations.specs.Parts as parts;
-ghost use Rattle.au_derivations.specs.Search as spec;
+ghost use Rattle.au_typing.specs.Parts as parts;
+ghost use Rattle.au_typing.specs.DerivationSearch as spec;
 ghost use Rattle.au_judged_types.specs.Judging as judging;
 ghost use Rattle.au_judgements.specs.Said.{reference_said};
 ghost use Rattle.au_judgements.specs.Steps as steps;
@@ -15,11 +15,11 @@ ghost use Rattle.au_types.specs.Views.{meaning};
 ghost use Rattle.au_typing.specs.Faults as faults;
 
 use au_base::{Memory, Name};
-use au_notes::Form;
 use au_noting::faults::{other_form, unknown};
 use au_noting::lookups::{variable_of, written_type};
 use au_noting::nodes::of_one_type;
 use au_noting::{Fault, Scope};
+use au_sights::Form;
 use au_syntax::{Access, BorrowMode, TypeName, TypeText};
 use au_types::{Region, Ty, copy_type};
 use std::alloc::Global;

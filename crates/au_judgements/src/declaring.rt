@@ -2,7 +2,7 @@
 
 ghost use Rattle.std.specs.Prelude.{◌≡◌, IfOk, OnErr, OnOk};
 ghost use Rattle.std.specs.Option.{option_map};
-ghost use Rattle.au_derivations.specs.InScope as spec;
+ghost use Rattle.au_typing.specs.InScope as spec;
 ghost use Rattle.au_judgements.specs.Said.{bind_said, binds_said};
 ghost use Rattle.au_judgements.specs.Steps as steps;
 ghost use Rattle.au_noting.specs.Scopes.{scope_said};

@@ -1,7 +1,7 @@
 //! The blocks of borrow statements: what comes into scope in them, and how it leaves again.
 
 ghost use Rattle.std.specs.Prelude.{◌≡◌, OnOk};
-ghost use Rattle.au_derivations.specs.InScope as spec;
+ghost use Rattle.au_typing.specs.InScope as spec;
 ghost use Rattle.au_noting.specs.Scopes.{closed_in, opened_in, scope_said, without};
 ghost use Rattle.au_types.specs.Views.{meaning};
 

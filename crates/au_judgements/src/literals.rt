@@ -1,7 +1,7 @@
 //! Literals.
 
 ghost use Rattle.std.specs.Prelude.{◌≡◌};
-ghost use Rattle.au_derivations.specs.Parts as parts;
+ghost use Rattle.au_typing.specs.Parts as parts;
 ghost use Rattle.au_syntax.specs.Views.{expression};
 
 use au_syntax::{Expr, Phase};

@@ -1,7 +1,7 @@
 //! Which statements and blocks return on every path.
 
 ghost use Rattle.std.specs.Prelude.{◌≡◌};
-ghost use Rattle.au_derivations.specs.Returns as spec;
+ghost use Rattle.au_typing.specs.Returns as spec;
 ghost use Rattle.au_syntax.specs.Views.{arm_all, block, branch_all, statement};
 
 use au_syntax::{Arm, Block, Branch, Phase, Stmt};

@@ -25,7 +25,7 @@ Allotted (life ∷ rest) sorts (t ∷ ts) = Allots life (asked sorts) t × Allot
 
 -- the first of some tasks; where there is none, a scope is walked for a variable that is consumed once
 abbrev pub asked_task : List Task → Task
-asked_task [] = tasks.Judge sorts.Other
+asked_task [] = tasks.Judge sorts.Linear
 asked_task (t ∷ ts) = t
 
 -- what is told of a variable, or else of others

@@ -12,7 +12,7 @@ use Rattle.au_linear.specs.declared.faults.LinearFault.TheVariants as faults
 
 -- the first sort of some, that of variables that are consumed once where there is none
 abbrev pub asked : List Sort → Sort
-asked [] = sorts.Other
+asked [] = sorts.Linear
 asked (sort ∷ rest) = sort
 
 -- variables in text order, with what the type of each asks, in the same order

@@ -25,7 +25,7 @@ fn sort_at(sorts: &[Sort], from: usize) -> Sort
     if from < sorts.len() {
         sorts[from]
     } else {
-        Sort::Other
+        Sort::Linear
     }
 }
 
@@ -43,7 +43,7 @@ pub(crate) fn task_at(tasks: &[Task], from: usize) -> Task
     if from < tasks.len() {
         tasks[from]
     } else {
-        Task::Judge(Sort::Other)
+        Task::Judge(Sort::Linear)
     }
 }
 

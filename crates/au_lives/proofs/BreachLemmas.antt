@@ -103,12 +103,12 @@ module _ (x : Bytes) (sort : Sort) where
         breaks = how t.before t.at k t.state r.total t.breaks;
       }
 
-ends_broken : (sort : Sort) (w : Bool) (k : LifeKind) → at_end sort w ≡ broken k → (sort ≡ sorts.Other)
+ends_broken : (sort : Sort) (w : Bool) (k : LifeKind) → at_end sort w ≡ broken k → (sort ≡ sorts.Linear)
     × (w ≡ false) × (k ≡ kinds.Unused)
 ends_broken sorts.Free w k h = broken_going k w (sym h)
 ends_broken sorts.WriteReference w k h = broken_going k w (sym h)
-ends_broken sorts.Other true k h = broken_going k true (sym h)
-ends_broken sorts.Other false k h = (refl, refl, sym (ap kind_of h))
+ends_broken sorts.Linear true k h = broken_going k true (sym h)
+ends_broken sorts.Linear false k h = (refl, refl, sym (ap kind_of h))
 
 first_on : (x : Bytes) (sort : Sort) (k : LifeKind) (ss : List Step) (f : Fate) →
     judge x sort (going false) ss ≡ f → onward (at_end sort) f ≡ broken k → BreaksFirst x sort k ss

@@ -178,8 +178,8 @@ end_spent : (x : Bytes) (sort : Sort) (ss : List Step) (u t : Bool) → at_end s
 end_spent x sorts.Free ss u t h e = none_consumed x ss
 end_spent x sorts.WriteReference ss true t h e = omega (arith, e)
 end_spent x sorts.WriteReference ss false t h e = omega (arith, e)
-end_spent x sorts.Other ss true t h e = e
-end_spent x sorts.Other ss false t h e = broken_going kinds.Unused t h
+end_spent x sorts.Linear ss true t h e = e
+end_spent x sorts.Linear ss false t h e = broken_going kinds.Unused t h
 
 pub fate_good : (x : Bytes) (sort : Sort) (ss : List Step) (t : Bool) → fate x sort ss ≡ going t →
     GoodPath x sort ss
@@ -256,8 +256,8 @@ ends_well : (sort : Sort) (u : Bool) (n : ℕ) → n ≡ times u → IsSpent sor
     × (at_end sort u ≡ going t)
 ends_well sorts.Free u n e h = (u, refl)
 ends_well sorts.WriteReference u n e h = (u, refl)
-ends_well sorts.Other true n e h = (true, refl)
-ends_well sorts.Other false n e h = absurd (omega (arith, e, h))
+ends_well sorts.Linear true n e h = (true, refl)
+ends_well sorts.Linear false n e h = absurd (omega (arith, e, h))
 
 pub good_fate : (x : Bytes) (sort : Sort) (ss : List Step) → GoodPath x sort ss → (t : Bool)
     × (fate x sort ss ≡ going t)

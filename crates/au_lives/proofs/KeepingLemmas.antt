@@ -57,8 +57,8 @@ opening_kept access.Write = refl
 end_kept : (sort : Sort) → Keeps (ending (at_end sort))
 end_kept sorts.Free s t cs h = sym (going_same s t h)
 end_kept sorts.WriteReference s t cs h = sym (going_same s t h)
-end_kept sorts.Other true t cs h = sym (going_same true t h)
-end_kept sorts.Other false t cs h = broken_going kinds.Unused t h
+end_kept sorts.Linear true t cs h = sym (going_same true t h)
+end_kept sorts.Linear false t cs h = broken_going kinds.Unused t h
 
 module _ (x : Bytes) (sort : Sort) where
   mutual

@@ -11,3 +11,7 @@ pub mod WholeLemmas
 pub mod PlaceLemmas
 pub mod RefusalLemmas
 pub mod BreachLemmas
+pub mod CountLemmas
+pub mod StepLemmas
+pub mod ChoiceLemmas
+pub mod UseJudgingLemmas

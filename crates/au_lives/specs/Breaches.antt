@@ -41,7 +41,7 @@ module _ (x : Bytes) (sort : Sort) where
   -- all steps keep the rules, but x isn't consumed and had to be
   pub record BreaksAtEnd (kind : LifeKind) (steps : List Step) : Type 0 where
     pub unused : kind ≡ kinds.Unused
-    pub owed : sort ≡ sorts.Other
+    pub owed : sort ≡ sorts.Linear
     pub keeps : KeepsRules steps
     pub never : consumptions x sort steps ≡ 0
 

@@ -8,3 +8,7 @@ pub mod Refusals
 pub mod Trimming
 pub mod Examples
 pub mod Breaches
+pub mod Tallies
+pub mod Steps
+pub mod Choices
+pub mod Judging

@@ -23,7 +23,7 @@ use Rattle.au_lives.specs.Paths.{Step, follow_block, declared_by, bound_names, a
 abbrev pub is_free : Sort → Bool
 is_free sorts.Free = true
 is_free sorts.WriteReference = false
-is_free sorts.Other = false
+is_free sorts.Linear = false
 
 -- How the open borrow statements on a variable hold it: not at all, for reading or for writing. Or its name
 -- is that of another variable there.
@@ -104,7 +104,7 @@ is_allowed hidden k = true
 abbrev pub IsSpent : Sort → ℕ → Type 0
 IsSpent sorts.Free n = n ≡ 0
 IsSpent sorts.WriteReference n = n ≤ 1
-IsSpent sorts.Other n = n ≡ 1
+IsSpent sorts.Linear n = n ≡ 1
 
 module _ (x : Bytes) (sort : Sort) where
   abbrev pub counts_at : Step → Counts
@@ -259,8 +259,8 @@ onward f (broken k) = broken k
 
 -- the end of a path
 abbrev pub at_end : Sort → Bool → Fate
-at_end sorts.Other false = broken kinds.Unused
-at_end sorts.Other true = going true
+at_end sorts.Linear false = broken kinds.Unused
+at_end sorts.Linear true = going true
 at_end sorts.WriteReference s = going s
 at_end sorts.Free s = going s
 

@@ -28,7 +28,7 @@ pub fn mentions_are_counted()
 /// there.
 pub fn paths_are_followed()
     ensures met { Each (λ row. without_around (follow_block row.0 [] row.1).steps ≡ row.2) ways }
-    ensures done { Each (λ row. fate (codes "x") sorts.Other (follow_block row.0 [] row.1).steps
+    ensures done { Each (λ row. fate (codes "x") sorts.Linear (follow_block row.0 [] row.1).steps
         ≡ row.3) ways }
 {}
 

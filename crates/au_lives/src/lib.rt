@@ -1,6 +1,15 @@
-//! Lives of variables: how often a step mentions a variable, which steps a path meets, when every path uses a
-//! variable as its type asks for, and a walk that decides it.
+//! Lives of variables: paths, steps, mentions, and when a life is good.
 #![tactic(auto)]
 
+pub mod counting;
 pub mod laws;
 pub mod lives;
+pub mod readings;
+pub mod steps;
+pub mod tallies;
+pub mod use_laws;
+
+pub use counting::counts;
+pub use readings::choices;
+pub use steps::{State, Verdict, step};
+pub use tallies::{Few, Tally};

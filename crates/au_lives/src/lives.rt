@@ -8,7 +8,7 @@ pub enum Sort {
     /// The type is a write reference: the variable is consumed at most once.
     WriteReference,
     /// Any other type that isn't Free: the variable is consumed exactly once.
-    Other,
+    Linear,
 }
 
 /// How a life is broken.

@@ -1,6 +1,6 @@
 -- The labels of what returns on every path lead to places before its end.
 use Rattle.std.proofs.Common.{◌≡◌, ℕ, ◌+◌, Bool, true, false, not, ◌&&◌, ◌||◌, IsTrue, [], length, Option, Some, None, refl, subst, arith, unwrap_or}
-use Rattle.au_derivations.specs.Returns.{returns, block_returns, branches_return, arms_return}
+use Rattle.au_typing.specs.Returns.{returns, block_returns, branches_return, arms_return}
 use Rattle.au_low.specs.declared.instructions.Instr.TheVariants as instr
 use Rattle.au_meaning.specs.Expressions.{note_of}
 use Rattle.au_meaning.specs.Names.{Scope, Variable, variable_of, with_parameters}

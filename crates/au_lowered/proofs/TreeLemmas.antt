@@ -1,7 +1,7 @@
 -- All that is lowered fits: each clause of its definition is made of pieces that do.
 use Rattle.std.proofs.Common.{ℕ, ◌+◌, Bool, true, false, ◌||◌, List, [], ◌∷◌, Option, Some, None, refl, arith, unwrap_or}
-use Rattle.au_closed_types.specs.Types.{ClosedType}
-use Rattle.au_derivations.specs.Returns.{block_returns}
+use Rattle.au_type_texts.specs.Types.{ClosedType}
+use Rattle.au_typing.specs.Returns.{block_returns}
 use Rattle.au_effects.specs.Values as values
 use Rattle.au_low.specs.declared.instructions.Instr.TheVariants as instr
 use Rattle.au_meaning.specs.Expressions.{Operation, computes, compares, is_and, is_or, operation_of, kind_in, note_of, names_of}

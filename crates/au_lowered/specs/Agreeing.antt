@@ -1,7 +1,7 @@
 -- What it means that a run of lowered code and one of the meaning do the same: lowered code tells texts and
 -- types by their numbers.
 use Rattle.std.specs.Prelude.{◌≡◌, ℕ, ◌*◌, nat_le, IsTrue, List, map}
-use Rattle.au_closed_types.specs.Types.{ClosedType}
+use Rattle.au_type_texts.specs.Types.{ClosedType}
 use Rattle.au_effects.specs.Answers as answer
 use Rattle.au_effects.specs.Worlds.{Deed, born, consumed, opened, used, closed}
 use Rattle.au_low.specs.declared.endings.Ending.{Ending}

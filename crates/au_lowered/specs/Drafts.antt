@@ -1,7 +1,7 @@
 -- Code as it is written first: texts and types stand for themselves, and get their numbers when all of it is
 -- written. The words here are those that put pieces together and find the labels.
 use Rattle.std.specs.Prelude.{ℕ, ◌+◌, Bool, true, false, List, [], ◌∷◌, ◌++◌, length, Option, Some, None}
-use Rattle.au_closed_types.specs.Types.{ClosedType}
+use Rattle.au_type_texts.specs.Types.{ClosedType}
 use Rattle.au_low.specs.declared.instructions.Instr.{Instr}
 use Rattle.au_low.specs.declared.instructions.Instr.TheVariants.{Jump, JumpNot}
 use Rattle.au_shipped.specs.declared.prims.ShippedCall.{ShippedCall}

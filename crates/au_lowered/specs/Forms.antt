@@ -3,8 +3,8 @@ use Rattle.std.specs.Prelude.{◌≡◌, ℕ, true, false, List, [], ◌∷◌, 
 use Rattle.std.specs.Prelude.{codes, if◌then◌else◌}
 use Rattle.std.specs.Str.{bytes_eq}
 use Rattle.au_base.specs.declared.kinds.IntKind.TheVariants.{Nat8, Int8}
-use Rattle.au_closed_types.specs.Types as closed_type
-use Rattle.au_closed_types.specs.Types.{ClosedType}
+use Rattle.au_type_texts.specs.Types as closed_type
+use Rattle.au_type_texts.specs.Types.{ClosedType}
 use Rattle.au_effects.specs.Values as values
 use Rattle.au_effects.specs.Worlds.{opened, used, closed}
 use Rattle.au_ints.specs.declared.operations.WrapOp.TheVariants as wrap_op

@@ -1,6 +1,6 @@
 -- What holds of all that is lowered: how many instructions it has, and where its labels lead.
 use Rattle.std.specs.Prelude.{◌≡◌, ℕ, ◌+◌, ◌≤◌, true, IsTrue, List, [], ◌∷◌, length}
-use Rattle.au_derivations.specs.Returns.{returns, block_returns, may_follow}
+use Rattle.au_typing.specs.Returns.{returns, block_returns, may_follow}
 use Rattle.au_low.specs.declared.instructions.Instr.{Instr}
 use Rattle.au_low.specs.declared.instructions.Instr.TheVariants.{Jump, JumpNot, ForTest, ForStep, Case}
 use Rattle.au_meaning.specs.Names.{Scope}

@@ -9,3 +9,16 @@ pub mod Shown
 pub mod Forms
 pub mod Laws
 pub mod Standing
+pub mod Premises
+pub mod Rows
+pub mod Flows
+pub mod Trees
+pub mod FollowPrograms
+pub mod FollowLaws
+pub mod Binds
+pub mod Witness
+pub mod Maps
+pub mod Sides
+pub mod Runs
+pub mod Scopes
+pub mod StepLaws

@@ -2,8 +2,8 @@
 use Rattle.std.specs.Prelude.{ℕ, ◌+◌, nat_lt, Bool, List, [], ◌∷◌, ◌++◌, length, map, Some}
 use Rattle.std.specs.List.{position_or_len}
 use Rattle.std.specs.Str.{bytes_eq}
-use Rattle.au_closed_types.specs.Same.{same}
-use Rattle.au_closed_types.specs.Types.{ClosedType}
+use Rattle.au_type_texts.specs.Same.{same}
+use Rattle.au_type_texts.specs.Types.{ClosedType}
 use Rattle.au_low.specs.declared.code.Code.{Code}
 use Rattle.au_low.specs.declared.code.Function as low
 use Rattle.au_low.specs.declared.code.LowType.{LowType}
@@ -11,7 +11,7 @@ use Rattle.au_low.specs.declared.instructions.Instr.{Instr}
 use Rattle.au_low.specs.declared.instructions.Instr.TheVariants.{PushText, Make, Shipped}
 use Rattle.au_meaning.specs.Names.{with_parameters}
 use Rattle.au_meaning.specs.Views.{Field, Function}
-use Rattle.au_reach.specs.Reached.{adds}
+use Rattle.au_graphs.specs.Reached.{adds}
 use Rattle.au_syntax.specs.Plain.{Bytes}
 use Rattle.au_lowered.specs.Drafts.{Draft, plain, pushes_text, makes_case, ships_birth}
 use Rattle.au_lowered.specs.Slots.{room_of_block}

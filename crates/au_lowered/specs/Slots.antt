@@ -2,8 +2,8 @@
 -- each later variable has the next one that is free, and a slot is free again where the block of its variable
 -- ends. The number of a variable in a scope is here the number of its slot.
 use Rattle.std.specs.Prelude.{ℕ, ◌+◌, max, List, [], ◌∷◌, length, Option, Some, None, option_map}
-use Rattle.au_closed_types.specs.Types as types
-use Rattle.au_closed_types.specs.Types.{ClosedType}
+use Rattle.au_type_texts.specs.Types as types
+use Rattle.au_type_texts.specs.Types.{ClosedType}
 use Rattle.au_effects.specs.Parts.{along}
 use Rattle.au_meaning.specs.Expressions.{note_of}
 use Rattle.au_meaning.specs.Names.{Scope, Variable, with_name, bound_name, field_of}

@@ -2,7 +2,7 @@
 -- stand round it, how many slots are in use before it, and what is in scope.
 use Rattle.std.specs.Prelude.{ℕ, zero, suc, ◌+◌, max, Bool, true, false, ◌||◌, List, [], ◌∷◌, ◌++◌, length}
 use Rattle.std.specs.Prelude.{Option, Some, None, if◌then◌else◌, unwrap_or}
-use Rattle.au_derivations.specs.Returns.{block_returns}
+use Rattle.au_typing.specs.Returns.{block_returns}
 use Rattle.au_low.specs.declared.instructions.Instr.TheVariants as instr
 use Rattle.au_low.specs.declared.instructions.Mode.{Mode}
 use Rattle.au_low.specs.declared.instructions.Mode.TheVariants as mode

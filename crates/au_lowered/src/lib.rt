@@ -1,5 +1,6 @@
-//! The code that a closed program is lowered to, instruction by instruction, as functions on its noted trees
-//! (`specs/Programs.antt`).
+//! The code that a closed program is lowered to, and that it does what the program means.
 #![tactic(auto)]
 
+pub mod follow_laws;
 pub mod laws;
+pub mod step_laws;

@@ -5,11 +5,11 @@ use Rattle.std.specs.Str.{bytes_eq}
 use Rattle.std.proofs.lemmas.List.{append-nil, map-append}
 use Rattle.std.proofs.lemmas.Slice.Eq.{bytes_eq-Decides}
 use Rattle.std.specs.Cmp.Lexicographic.{nat_list_eq_equiv}
-use Rattle.au_closed_types.specs.Keys.{key_of}
-use Rattle.au_closed_types.proofs.KeyTellLemmas.{key_one}
-use Rattle.au_closed_types.specs.Same.{same}
-use Rattle.au_closed_types.specs.Types.{ClosedType}
-use Rattle.au_closed_types.proofs.SameLemmas.{same_is, same_self}
+use Rattle.au_type_texts.specs.Keys.{key_of}
+use Rattle.au_type_texts.proofs.KeyTellLemmas.{key_one}
+use Rattle.au_type_texts.specs.Same.{same}
+use Rattle.au_type_texts.specs.Types.{ClosedType}
+use Rattle.au_type_texts.proofs.SameLemmas.{same_is, same_self}
 use Rattle.au_low.specs.declared.code.LowType.{LowType}
 use Rattle.au_low.specs.declared.instructions.Instr.TheVariants.{Make, Shipped}
 use Rattle.au_lowered.specs.Drafts.{Draft, plain, pushes_text, makes_case, ships_birth}
@@ -19,7 +19,7 @@ use Rattle.au_lowering.specs.Drafted.{Drafted, all_drafts, coded, drafted, funct
 use Rattle.au_lowering.specs.Drafted.{function_of, is_long}
 use Rattle.au_lowering.specs.Keyed.{key_number, keyed}
 use Rattle.au_meaning.specs.Views.{Function}
-use Rattle.au_reach.specs.Reached.{adds, has, put_new}
+use Rattle.au_graphs.specs.Reached.{adds, has, put_new}
 use Rattle.au_syntax.specs.Plain.{Bytes}
 
 -- ---- types by their keys

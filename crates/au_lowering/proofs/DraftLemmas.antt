@@ -5,7 +5,7 @@ use Rattle.std.specs.Option.{option_map}
 use Rattle.std.proofs.lemmas.Option.{slice_get-map}
 use Rattle.au_closed_programs.specs.declared.functions.ClosedFunction as found
 use Rattle.au_closed_programs.specs.FunctionViews.{function_said, functions_said}
-use Rattle.au_closed_views.specs.Programs.{Body, Row, functions_by, functions_seen}
+use Rattle.au_closed_meanings.specs.Programs.{Body, Row, functions_by, functions_seen}
 use Rattle.au_lowering.specs.Drafts.{drafted_from}
 use Rattle.au_lowering.specs.Closed.{body_seen}
 use Rattle.au_lowering.specs.Drafted.{drafted}

@@ -4,11 +4,11 @@ use Rattle.std.proofs.Common.{sym, ap, ◌∙◌}
 use Rattle.std.specs.Str.{bytes_eq}
 use Rattle.std.proofs.lemmas.List.{map-append}
 use Rattle.au_base.specs.declared.faults.Memory.{Memory}
-use Rattle.au_closed_types.specs.Keys.{key_of}
-use Rattle.au_closed_parts.specs.Parts.{ClosedField}
+use Rattle.au_type_texts.specs.Keys.{key_of}
+use Rattle.au_closed_trees.specs.Parts.{ClosedField}
 use Rattle.au_closed_programs.specs.Programs.{ClosedProgram}
-use Rattle.au_closed_types.specs.Same.{same}
-use Rattle.au_closed_types.specs.Types.{ClosedType}
+use Rattle.au_type_texts.specs.Same.{same}
+use Rattle.au_type_texts.specs.Types.{ClosedType}
 use Rattle.au_closing.specs.Closes.{ClosedFunction}
 use Rattle.au_low.specs.declared.code.Code.{Code}
 use Rattle.au_low.specs.declared.code.Function as low
@@ -22,10 +22,10 @@ use Rattle.au_lowering.specs.Rows.{rows_told}
 use Rattle.au_lowering.proofs.CodedLemmas.{coded_is, functions_by, keys_added, long_is}
 use Rattle.au_lowering.proofs.RowLemmas.{told_all}
 use Rattle.au_meaning.specs.Views.{Field}
-use Rattle.au_reach.specs.Reached.{adds}
-use Rattle.au_reach.proofs.HasLemmas.{adds_both}
+use Rattle.au_graphs.specs.Reached.{adds}
+use Rattle.au_graphs.proofs.HasLemmas.{adds_both}
 use Rattle.au_syntax.specs.Plain.{Bytes}
-use Rattle.au_tables.specs.Tables.{find, with_all}
+use Rattle.au_types.specs.Tables.{find, with_all}
 
 -- the types of an entry's parameters and then of what instructions name
 pub more_types : (roots : List ClosedType) (types : List ClosedType)

@@ -1,11 +1,11 @@
 -- What instructions name, one by one.
 use Rattle.std.proofs.Common.{◌≡◌, ℕ, List, [], ◌∷◌, ◌++◌, map, refl, sym, ap, ◌∙◌}
 use Rattle.std.specs.Str.{bytes_eq}
-use Rattle.au_closed_types.specs.Keys.{key_of}
+use Rattle.au_type_texts.specs.Keys.{key_of}
 use Rattle.au_lowered.specs.Drafts.{Draft, plain, pushes_text, makes_case, ships_birth}
 use Rattle.au_lowered.specs.Programs.{texts_named, types_named}
-use Rattle.au_reach.specs.Reached.{adds}
-use Rattle.au_reach.proofs.HasLemmas.{adds_both}
+use Rattle.au_graphs.specs.Reached.{adds}
+use Rattle.au_graphs.proofs.HasLemmas.{adds_both}
 use Rattle.std.proofs.lemmas.List.{map-append}
 use Rattle.au_syntax.specs.Plain.{Bytes}
 

@@ -8,21 +8,21 @@ use Rattle.std.specs.Global.{Global}
 use Rattle.std.specs.Map.{lookup}
 use Rattle.std.specs.Str.{bytes_eq}
 use Rattle.au_base.specs.declared.faults.Memory.{Memory}
-use Rattle.au_reach.specs.Finding.{numbers}
+use Rattle.au_graphs.specs.Finding.{numbers}
 use Rattle.std.specs.Cmp.Lexicographic.{nat_list_eq_equiv}
-use Rattle.au_closed_types.specs.Keys.{key_of}
+use Rattle.au_type_texts.specs.Keys.{key_of}
 use Rattle.au_closed_programs.specs.Programs.{TypeRow}
 use Rattle.au_closed_programs.specs.Views.{row_said, rows_said}
 use Rattle.au_closed_programs.specs.declared.rows.TypeRow as found
 use Rattle.std.proofs.lemmas.List.{drop_more}
-use Rattle.au_closed_types.specs.Same.{same}
-use Rattle.au_closed_types.specs.Types.{ClosedType}
+use Rattle.au_type_texts.specs.Same.{same}
+use Rattle.au_type_texts.specs.Types.{ClosedType}
 use Rattle.au_low.specs.declared.code.LowType.{LowType}
 use Rattle.au_lowering.specs.Closed.{told_by, told_in}
 use Rattle.au_lowering.specs.Rows.{rows_told}
 use Rattle.au_lowering.proofs.CodedLemmas.{same_key}
-use Rattle.au_tables.specs.Tables.{find, has_name, pairs_by, with_all, with_pair}
-use Rattle.au_tables.proofs.TableLemmas.{find-firsts, find-pairs_by, with_all-firsts}
+use Rattle.au_types.specs.Tables.{find, has_name, pairs_by, with_all, with_pair}
+use Rattle.au_types.proofs.TableLemmas.{find-firsts, find-pairs_by, with_all-firsts}
 
 -- one row more is put
 pub one_row : (pairs : List (List ℕ × LowType)) (row : TypeRow) (rest : List TypeRow)

@@ -9,8 +9,8 @@ use Rattle.std.specs.Cmp.Lexicographic.{nat_list_eq_equiv}
 use Rattle.std.proofs.lemmas.List.{map_push}
 use Rattle.std.proofs.lemmas.List.Sums.{prefix_len-le-length}
 use Rattle.au_base.specs.declared.faults.Memory.{Memory}
-use Rattle.au_reach.specs.Finding.{numbers}
-use Rattle.au_reach.specs.Reached.{adds, has, put_new}
+use Rattle.au_graphs.specs.Finding.{numbers}
+use Rattle.au_graphs.specs.Reached.{adds, has, put_new}
 
 -- whether a key is there
 has_key : (key : List ℕ) (ks : List (Vec ℕ Global))

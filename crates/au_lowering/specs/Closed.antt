@@ -1,12 +1,12 @@
 -- What a closed program is lowered to.
 use Rattle.std.specs.Prelude.{ℕ, Bool, false, List, [], ◌∷◌, length, map, nat_lt, Option, Some, None}
 use Rattle.std.specs.List.{find}
-use Rattle.au_closed_parts.specs.Parts.{ClosedCase, ClosedField}
+use Rattle.au_closed_trees.specs.Parts.{ClosedCase, ClosedField}
 use Rattle.au_closed_programs.specs.Programs.{ClosedProgram, TypeRow}
 use Rattle.au_closed_trees.specs.ClosedNotes.{Callee, ClosedNote}
-use Rattle.au_closed_types.specs.Same.{same}
-use Rattle.au_closed_types.specs.Types.{ClosedType}
-use Rattle.au_closed_views.specs.Programs.{Body, Case, Row, functions_seen}
+use Rattle.au_type_texts.specs.Same.{same}
+use Rattle.au_type_texts.specs.Types.{ClosedType}
+use Rattle.au_closed_meanings.specs.Programs.{Body, Case, Row, functions_seen}
 use Rattle.au_closing.specs.Closes.{ClosedFunction}
 use Rattle.au_low.specs.declared.code.Code.{Code}
 use Rattle.au_low.specs.declared.code.LowType.{LowType}

@@ -2,8 +2,8 @@
 -- program of them.
 use Rattle.std.specs.Prelude.{ℕ, Bool, List, [], ◌∷◌, ◌++◌, length, map, nat_lt}
 use Rattle.std.specs.Str.{bytes_eq}
-use Rattle.au_closed_types.specs.Same.{same}
-use Rattle.au_closed_types.specs.Types.{ClosedType}
+use Rattle.au_type_texts.specs.Same.{same}
+use Rattle.au_type_texts.specs.Types.{ClosedType}
 use Rattle.au_low.specs.declared.code.Code.{Code}
 use Rattle.au_low.specs.declared.code.Function as low
 use Rattle.au_low.specs.declared.code.LowType.{LowType}
@@ -12,7 +12,7 @@ use Rattle.au_lowered.specs.Programs.{body_of, most_instructions, numbered, slot
 use Rattle.au_lowered.specs.Programs.{types_named}
 use Rattle.au_lowering.specs.Keyed.{keyed}
 use Rattle.au_meaning.specs.Views.{Function}
-use Rattle.au_reach.specs.Reached.{adds}
+use Rattle.au_graphs.specs.Reached.{adds}
 use Rattle.au_syntax.specs.Plain.{Bytes}
 
 -- a function: how many parameters and slots it has, and its instructions

@@ -2,8 +2,8 @@
 use Rattle.std.specs.Prelude.{ℕ, List, Some}
 use Rattle.std.specs.List.{position_or_len}
 use Rattle.std.specs.Str.{bytes_eq}
-use Rattle.au_closed_types.specs.Keys.{key_of}
-use Rattle.au_closed_types.specs.Types.{ClosedType}
+use Rattle.au_type_texts.specs.Keys.{key_of}
+use Rattle.au_type_texts.specs.Types.{ClosedType}
 use Rattle.au_low.specs.declared.instructions.Instr.{Instr}
 use Rattle.au_low.specs.declared.instructions.Instr.TheVariants.{PushText, Make, Shipped}
 use Rattle.au_lowered.specs.Drafts.{Draft, plain, pushes_text, makes_case, ships_birth}

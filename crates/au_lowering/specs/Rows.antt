@@ -1,12 +1,12 @@
 -- What rows tell of their types, by keys.
 use Rattle.std.specs.Prelude.{ℕ, List, map, Some}
-use Rattle.au_closed_types.specs.Keys.{key_of}
+use Rattle.au_type_texts.specs.Keys.{key_of}
 use Rattle.au_closed_programs.specs.Programs.{TypeRow}
 use Rattle.au_low.specs.declared.code.LowType.{LowType}
 use Rattle.au_lowering.specs.Closed.{told_by}
 use Rattle.au_lowering.specs.declared.telling.TypeRows.{TypeRows}
-use Rattle.au_reach.specs.Finding.{numbers}
-use Rattle.au_tables.specs.Tables.{pairs_by}
+use Rattle.au_graphs.specs.Finding.{numbers}
+use Rattle.au_types.specs.Tables.{pairs_by}
 
 -- what a table has
 abbrev pub rows_in : TypeRows → List (List ℕ × LowType)

@@ -1,8 +1,8 @@
 -- What the code's rows say.
 use Rattle.std.specs.Prelude.{List, map}
-use Rattle.au_closed_parts.specs.Views.{case_said}
-use Rattle.au_closed_types.specs.Views.{closed_meaning}
-use Rattle.au_closed_views.specs.Programs.{Case, Row}
+use Rattle.au_closed_trees.specs.Views.{case_said}
+use Rattle.au_type_texts.specs.Views.{closed_meaning}
+use Rattle.au_closed_meanings.specs.Programs.{Case, Row}
 use Rattle.au_lowering.specs.Closed.{case_seen}
 use Rattle.au_lowering.specs.declared.seen.SeenCase.{SeenCase}
 use Rattle.au_lowering.specs.declared.seen.SeenRow.{SeenRow}

@@ -3,10 +3,10 @@
 ghost use Rattle.std.specs.Prelude.{◌≡◌, ◌++◌, [], IfOk, OnOk, Some, map, List};
 ghost use Rattle.std.specs.Str.{bytes_eq};
 ghost use Rattle.au_closed_programs.specs.FunctionViews.{functions_said};
-ghost use Rattle.au_closed_types.specs.Keys.{key_of};
-ghost use Rattle.au_closed_parts.specs.Views.{fields_said};
+ghost use Rattle.au_type_texts.specs.Keys.{key_of};
+ghost use Rattle.au_closed_trees.specs.Views.{fields_said};
 ghost use Rattle.au_closed_programs.specs.Views.{program_said};
-ghost use Rattle.au_closed_types.specs.Same.{same};
+ghost use Rattle.au_type_texts.specs.Same.{same};
 ghost use Rattle.au_lowered.specs.Programs.{texts_named, types_named};
 ghost use Rattle.au_lowering.specs.Closed as spec;
 ghost use Rattle.au_lowering.specs.Closed.{functions_of, is_too_long, takes_root_of, types_of};
@@ -14,16 +14,16 @@ ghost use Rattle.au_lowering.specs.Answers.{TellsLimit};
 ghost use Rattle.au_lowering.specs.Drafted.{all_drafts, drafted, function_by};
 ghost use Rattle.au_lowering.specs.Rows.{rows_in};
 ghost use Rattle.au_lowering.specs.DraftViews.{all_said};
-ghost use Rattle.au_reach.specs.Reached.{adds};
-ghost use Rattle.au_tables.specs.Tables.{find};
+ghost use Rattle.au_graphs.specs.Reached.{adds};
+ghost use Rattle.au_types.specs.Tables.{find};
 
 use crate::faults::LowerFault;
 use crate::functions::{Drafted, collect_functions, number_functions, passes_limit};
 use crate::tables::{Tables, TextTable, TypeTable};
 use crate::telling::{TypeRows, tell_rows, tell_types};
 use au_base::{Limit, LimitKind, Memory};
-use au_closed_parts::ClosedField;
 use au_closed_programs::{ClosedFunction, ClosedProgram};
+use au_closed_trees::ClosedField;
 use au_low::Code;
 use std::alloc::Global;
 

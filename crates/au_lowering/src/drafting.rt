@@ -2,10 +2,10 @@
 
 ghost use Rattle.std.specs.Prelude.{◌≡◌, IfOk, OnOk, Some, length, map};
 ghost use Rattle.au_closed_programs.specs.FunctionViews.{function_said, functions_said};
-ghost use Rattle.au_closed_parts.specs.Views.{fields_said};
+ghost use Rattle.au_closed_trees.specs.Views.{fields_said};
 ghost use Rattle.au_closed_trees.specs.contracts.phase.ClosedTreesPhase.TheImpl.{ghosts as closed};
-ghost use Rattle.au_closed_types.specs.Views.{closed_meaning};
-ghost use Rattle.au_closed_views.specs.Surroundings.{view_in};
+ghost use Rattle.au_type_texts.specs.Views.{closed_meaning};
+ghost use Rattle.au_closed_meanings.specs.Surroundings.{view_in};
 ghost use Rattle.au_lowered.specs.Statements as statements;
 ghost use Rattle.au_lowering.specs.Drafts.{drafted_from};
 ghost use Rattle.au_lowering.specs.Views.{rows_held};
@@ -19,14 +19,13 @@ use crate::functions::Drafted;
 use crate::lookups::Round;
 use crate::seen::SeenRow;
 use au_base::Memory;
-use au_closed_parts::ClosedField;
+use au_closed_meanings::Lookup;
 use au_closed_programs::ClosedFunction;
-use au_closed_trees::ClosedTrees;
-use au_closed_types::copy_closed;
-use au_closed_views::Lookup;
+use au_closed_trees::{ClosedField, ClosedTrees};
 use au_lowering_expressions::{Draft, Local};
 use au_lowering_statements::{declare, further, room_of_block, write_block};
 use au_syntax::Block;
+use au_type_texts::copy_closed;
 use std::alloc::Global;
 
 /// Declares a parameter in a slot.

@@ -3,11 +3,11 @@
 ghost use Rattle.std.specs.Prelude.{◌≡◌, IfOk, Some, map, slice_get};
 ghost use Rattle.std.specs.Option.{option_copied, option_map};
 ghost use Rattle.au_closed_programs.specs.FunctionViews.{function_said, functions_said};
-ghost use Rattle.au_closed_types.specs.Views.{closed_meaning};
-ghost use Rattle.au_closed_views.specs.Programs.{Body, fields_at, row_in};
-ghost use Rattle.au_closed_views.specs.Shipped as shipped;
-ghost use Rattle.au_closed_views.specs.Surroundings.{field_names, with_parameters};
-ghost use Rattle.au_closed_views.specs.Views.{called_said};
+ghost use Rattle.au_type_texts.specs.Views.{closed_meaning};
+ghost use Rattle.au_closed_meanings.specs.Programs.{Body, fields_at, row_in};
+ghost use Rattle.au_closed_meanings.specs.Shipped as shipped;
+ghost use Rattle.au_closed_meanings.specs.Surroundings.{field_names, with_parameters};
+ghost use Rattle.au_closed_meanings.specs.Views.{called_said};
 ghost use Rattle.au_effects.specs.Parts.{along};
 ghost use Rattle.au_lowering.specs.Views.{case_in, rows_held};
 ghost use Rattle.au_lowering.specs.Closed.{body_seen};
@@ -16,11 +16,11 @@ ghost use Rattle.au_meaning.specs.Views.{invokes, makes, ships};
 use crate::rows::{case_at, count_of, field_in as field_of_case, find_row, names_of, tag_in};
 use crate::seen::{SeenCase, SeenRow};
 use au_base::{Memory, Name};
+use au_closed_meanings::{Act, Called, Found, Lookup, born, shipped_parameters};
 use au_closed_programs::ClosedFunction;
 use au_closed_trees::{Callee, ClosedNote};
-use au_closed_types::{Closed, copy_closed};
-use au_closed_views::{Act, Called, Found, Lookup, born, shipped_parameters};
 use au_shipped::ShippedCall;
+use au_type_texts::{Closed, copy_closed};
 use std::alloc::Global;
 
 /// What is round a tree that stands in the text of a module: the functions and the types of the program.
@@ -127,7 +127,7 @@ fn shipped_called(alloc: Global, call: ShippedCall, of: &Closed) -> Result<Optio
 impl<'a> Lookup for Round<'a> {
     ghost use Rattle.std.specs.Prelude.{map};
     ghost use Rattle.au_closed_programs.specs.FunctionViews.{functions_said};
-    ghost use Rattle.au_closed_views.specs.Programs.{surroundings};
+    ghost use Rattle.au_closed_meanings.specs.Programs.{surroundings};
     ghost use Rattle.au_lowering.specs.Views.{rows_held};
     ghost use Rattle.au_lowering.specs.Closed.{body_seen};
 

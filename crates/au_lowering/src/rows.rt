@@ -2,22 +2,22 @@
 
 ghost use Rattle.std.specs.Prelude.{◌≡◌, ◌<◌, IfOk, length, map, slice_get};
 ghost use Rattle.std.specs.Option.{option_copied, option_map};
-ghost use Rattle.au_closed_parts.specs.Views.{case_said, cases_said, fields_said};
+ghost use Rattle.au_closed_trees.specs.Views.{case_said, cases_said, fields_said};
 ghost use Rattle.au_closed_programs.specs.Views.{row_said, rows_said};
-ghost use Rattle.au_closed_types.specs.Views.{closed_meaning};
-ghost use Rattle.au_closed_views.specs.Programs.{case_from, row_in};
-ghost use Rattle.au_closed_views.specs.Surroundings.{field_names};
-ghost use Rattle.au_closed_views.specs.Views.{found_said};
+ghost use Rattle.au_type_texts.specs.Views.{closed_meaning};
+ghost use Rattle.au_closed_meanings.specs.Programs.{case_from, row_in};
+ghost use Rattle.au_closed_meanings.specs.Surroundings.{field_names};
+ghost use Rattle.au_closed_meanings.specs.Views.{found_said};
 ghost use Rattle.au_lowering.specs.Views.{case_in, row_held, rows_held};
 ghost use Rattle.au_lowering.specs.Closed.{case_seen, fields_seen, row_seen};
 ghost use Rattle.au_meaning.specs.Names.{field_of};
 
 use crate::seen::{SeenCase, SeenRow};
 use au_base::{Memory, Name};
-use au_closed_parts::{ClosedCase, ClosedField};
+use au_closed_meanings::Found;
 use au_closed_programs::TypeRow;
-use au_closed_types::{Closed, is_same};
-use au_closed_views::Found;
+use au_closed_trees::{ClosedCase, ClosedField};
+use au_type_texts::{Closed, is_same};
 use std::alloc::Global;
 
 /// The number and the type of the field of a name.

@@ -2,8 +2,8 @@
 
 ghost use Rattle.std.specs.Prelude.{◌<◌, length};
 
-use au_closed_parts::ClosedCase;
-use au_closed_types::Closed;
+use au_closed_trees::ClosedCase;
+use au_type_texts::Closed;
 
 /// A case, or a record, whose fields have numbers of at most 32 bits.
 #[derive(Drop)]

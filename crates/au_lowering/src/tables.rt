@@ -2,15 +2,15 @@
 
 ghost use Rattle.std.specs.Prelude.{◌≡◌, [], ◌∷◌, IfOk, OnOk, map};
 ghost use Rattle.std.specs.Str.{bytes_eq};
-ghost use Rattle.au_closed_types.specs.Keys.{key_of};
-ghost use Rattle.au_closed_types.specs.Views.{closed_meaning};
+ghost use Rattle.au_type_texts.specs.Keys.{key_of};
+ghost use Rattle.au_type_texts.specs.Views.{closed_meaning};
 ghost use Rattle.au_lowered.specs.Programs.{text_number};
 ghost use Rattle.au_lowering.specs.Keyed.{key_number};
-ghost use Rattle.au_reach.specs.Finding.{numbers};
-ghost use Rattle.au_reach.specs.Reached.{adds};
+ghost use Rattle.au_graphs.specs.Finding.{numbers};
+ghost use Rattle.au_graphs.specs.Reached.{adds};
 
 use au_base::{Memory, Sequence, Text};
-use au_closed_types::{Closed, add_key};
+use au_type_texts::{Closed, add_key};
 use indexmap::IndexSet;
 use std::alloc::Global;
 use std::marker::Model;
@@ -24,7 +24,7 @@ pub struct TextTable {
 
 impl Model for TextTable {
     ghost use Rattle.std.specs.Prelude.{List, ℕ, map};
-    ghost use Rattle.au_reach.specs.Finding.{numbers};
+    ghost use Rattle.au_graphs.specs.Finding.{numbers};
 
     ghost Value = { List (List ℕ) };
 
@@ -104,7 +104,7 @@ pub struct TypeTable {
 
 impl Model for TypeTable {
     ghost use Rattle.std.specs.Prelude.{List, ℕ, map};
-    ghost use Rattle.au_reach.specs.Finding.{numbers};
+    ghost use Rattle.au_graphs.specs.Finding.{numbers};
 
     ghost Value = { List (List ℕ) };
 

@@ -1,11 +1,11 @@
 //! What is told of types.
 
 ghost use Rattle.std.specs.Prelude.{◌≡◌, [], IfOk, OnOk, Some, map};
-ghost use Rattle.au_closed_types.specs.Keys.{key_of};
+ghost use Rattle.au_type_texts.specs.Keys.{key_of};
 ghost use Rattle.au_closed_programs.specs.Views.{row_said, rows_said};
 ghost use Rattle.au_lowering.specs.Closed.{told_by};
 ghost use Rattle.au_lowering.specs.Rows.{rows_in, rows_told};
-ghost use Rattle.au_tables.specs.Tables.{find, with_all, with_pair};
+ghost use Rattle.au_types.specs.Tables.{find, with_all, with_pair};
 
 use crate::tables::{TypeTable, key_of_type};
 use au_base::{Memory, Sequence};

@@ -7,8 +7,8 @@ use Rattle.au_closed_trees.specs.ClosedNotes.{ClosedNote}
 use Rattle.au_closed_trees.specs.declared.notes.Callee.{Callee}
 use Rattle.au_closed_trees.specs.declared.notes.ClosedNote as found
 use Rattle.au_closed_trees.specs.declared.phase.ClosedTrees.{ClosedTrees}
-use Rattle.au_closed_trees.specs.Views.{callee}
-use Rattle.au_closed_views.specs.Surroundings.{Surroundings, call_noted, view_in}
+use Rattle.au_closed_trees.specs.TreeViews.{callee}
+use Rattle.au_closed_meanings.specs.Surroundings.{Surroundings, call_noted, view_in}
 use Rattle.au_ints.specs.declared.operations.IntOp.{IntOp}
 use Rattle.au_ints.specs.declared.operations.Order.{Order}
 use Rattle.au_low.specs.declared.instructions.Instr.TheVariants as instr

@@ -3,7 +3,7 @@ use Rattle.std.proofs.Common.{◌≡◌, ℕ, ◌+◌, ◌<◌, ◌≤◌, Bool,
 use Rattle.std.proofs.lemmas.List.{at_drop_all, at_drop_more, length-take, map_more, map_push, reverse-append, take_more}
 use Rattle.std.specs.Str.{bytes_eq}
 use Rattle.au_closed_trees.specs.contracts.phase.ClosedTreesPhase.TheImpl.{ghosts as closed}
-use Rattle.au_closed_views.specs.Surroundings.{Surroundings, view_in}
+use Rattle.au_closed_meanings.specs.Surroundings.{Surroundings, view_in}
 use Rattle.au_lowered.specs.Drafts.{Draft}
 use Rattle.au_lowered.specs.Expressions.{code_of_all, code_of_named, numbers_from, one_opens, one_opens_named, opens}
 use Rattle.au_lowering_expressions.specs.declared.locals.Local.{Local}

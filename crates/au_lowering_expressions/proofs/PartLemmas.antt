@@ -1,7 +1,7 @@
 -- Parts of variables.
 use Rattle.std.proofs.Common.{◌≡◌, ◌≢◌, ℕ, true, false, is_some, List, [], ◌∷◌, ◌++◌, length, Option, Some, None, refl, sym, ap, ◌∙◌, append_assoc, arith}
 use Rattle.std.specs.Option.{option_map}
-use Rattle.au_closed_types.specs.Types.{ClosedType}
+use Rattle.au_type_texts.specs.Types.{ClosedType}
 use Rattle.au_effects.specs.Parts.{along}
 use Rattle.au_lowered.specs.Drafts.{Draft, Written, given, nothing}
 use Rattle.au_lowered.specs.Expressions.{looked_at, numbers_along, operand, part_behind, part_of}

@@ -1,7 +1,7 @@
 -- What the code's drafts, variables and operations say.
 use Rattle.std.specs.Prelude.{ℕ, List, map, reverse}
 use Rattle.std.specs.Option.{option_map}
-use Rattle.au_closed_types.specs.Views.{closed_meaning}
+use Rattle.au_type_texts.specs.Views.{closed_meaning}
 use Rattle.au_lowered.specs.Drafts as drafts
 use Rattle.au_lowered.specs.Drafts.{plain, pushes_text, makes_case, ships_birth}
 use Rattle.au_meaning.specs.Expressions as meant

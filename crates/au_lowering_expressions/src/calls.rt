@@ -3,10 +3,10 @@
 ghost use Rattle.std.specs.Prelude.{◌≡◌, OnOk};
 ghost use Rattle.std.specs.Option.{option_map};
 ghost use Rattle.au_closed_trees.specs.contracts.phase.ClosedTreesPhase.TheImpl.{ghosts as closed};
-ghost use Rattle.au_closed_trees.specs.Views.{callee as callee_said, closed_note};
-ghost use Rattle.au_closed_types.specs.Views.{closed_meaning};
-ghost use Rattle.au_closed_views.specs.Surroundings.{call_noted};
-ghost use Rattle.au_closed_views.specs.Views.{act_said};
+ghost use Rattle.au_closed_trees.specs.TreeViews.{callee as callee_said, closed_note};
+ghost use Rattle.au_type_texts.specs.Views.{closed_meaning};
+ghost use Rattle.au_closed_meanings.specs.Surroundings.{call_noted};
+ghost use Rattle.au_closed_meanings.specs.Views.{act_said};
 ghost use Rattle.au_lowered.specs.Expressions.{acts, by_labels as labelled, by_position as placed, calls};
 ghost use Rattle.au_lowered.specs.Expressions.{ships_call};
 ghost use Rattle.au_lowering_expressions.specs.Views.{drafts_said};
@@ -17,12 +17,12 @@ ghost use Rattle.au_syntax.specs.Views.{argument_all};
 use crate::drafts::{Draft, put, put_draft};
 use crate::orders::{by_labels, by_position, unless_declared};
 use au_base::{Memory, Sequence};
+use au_closed_meanings::{Act, Lookup};
 use au_closed_trees::{Callee, ClosedNote, ClosedTrees};
-use au_closed_types::Closed;
-use au_closed_views::{Act, Lookup};
 use au_low::Instr;
 use au_shipped::ShippedCall;
 use au_syntax::Argument;
+use au_type_texts::Closed;
 use std::alloc::Global;
 
 /// Writes a shipped call.

@@ -7,9 +7,9 @@ ghost use Rattle.au_lowering_expressions.specs.Views.{draft_said, drafts_said};
 ghost use Rattle.au_lowering_expressions.specs.Wrote.{wrote};
 
 use au_base::{Memory, Name, Sequence, Text};
-use au_closed_types::Closed;
 use au_low::Instr;
 use au_shipped::ShippedCall;
+use au_type_texts::Closed;
 
 /// An instruction as it is written first: texts and types stand for themselves.
 #[derive(Drop)]

@@ -2,8 +2,8 @@
 
 ghost use Rattle.std.specs.Prelude.{◌≡◌, IfOk, OnOk, Some, false, length};
 ghost use Rattle.au_closed_trees.specs.contracts.phase.ClosedTreesPhase.TheImpl.{ghosts as closed};
-ghost use Rattle.au_closed_trees.specs.Views.{closed_note};
-ghost use Rattle.au_closed_views.specs.Surroundings.{view_in};
+ghost use Rattle.au_closed_trees.specs.TreeViews.{closed_note};
+ghost use Rattle.au_closed_meanings.specs.Surroundings.{view_in};
 ghost use Rattle.au_lowered.specs.Drafts.{either, does, ◌>>◌};
 ghost use Rattle.au_lowered.specs.Expressions.{code, code_of_all, code_of_named, operand};
 ghost use Rattle.au_lowered.specs.Expressions as spec;
@@ -23,8 +23,8 @@ use crate::opening::opens;
 use crate::operations::{Operation, operation_of};
 use crate::types::{compared_kind, kind_in};
 use au_base::Memory;
+use au_closed_meanings::Lookup;
 use au_closed_trees::{ClosedNote, ClosedTrees};
-use au_closed_views::Lookup;
 use au_ints::{IntOp, Order};
 use au_low::Instr;
 use au_syntax::{Argument, Expr};

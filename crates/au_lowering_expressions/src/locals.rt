@@ -7,7 +7,7 @@ ghost use Rattle.au_lowering_expressions.specs.Views.{local_said, scope_said};
 ghost use Rattle.au_meaning.specs.Names.{variable_of};
 
 use au_base::Name;
-use au_closed_types::Closed;
+use au_type_texts::Closed;
 
 /// A variable with its slot.
 #[derive(Drop)]

@@ -3,8 +3,8 @@
 ghost use Rattle.std.specs.Prelude.{◌≡◌, IfOk, Some, map};
 ghost use Rattle.std.specs.Option.{option_copied, option_map};
 ghost use Rattle.au_closed_trees.specs.contracts.phase.ClosedTreesPhase.TheImpl.{ghosts as closed};
-ghost use Rattle.au_closed_types.specs.Views.{closed_meaning};
-ghost use Rattle.au_closed_views.specs.Surroundings.{view_in};
+ghost use Rattle.au_type_texts.specs.Views.{closed_meaning};
+ghost use Rattle.au_closed_meanings.specs.Surroundings.{view_in};
 ghost use Rattle.au_lowered.specs.Expressions.{numbers_along};
 ghost use Rattle.au_lowering_expressions.specs.Parts as spec;
 ghost use Rattle.au_lowering_expressions.specs.Views.{part_said, scope_said};
@@ -15,10 +15,10 @@ ghost use Rattle.au_syntax.specs.Views.{placed};
 use crate::locals::{Local, find_local};
 use crate::types::behind;
 use au_base::{Memory, Name, Sequence};
+use au_closed_meanings::Lookup;
 use au_closed_trees::ClosedTrees;
-use au_closed_types::Closed;
-use au_closed_views::Lookup;
 use au_syntax::Ident;
+use au_type_texts::Closed;
 use std::alloc::Global;
 
 /// A part of a variable: its slot, and the numbers of the fields along a path.

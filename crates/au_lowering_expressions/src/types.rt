@@ -2,15 +2,15 @@
 
 ghost use Rattle.std.specs.Prelude.{◌≡◌, Some};
 ghost use Rattle.std.specs.Option.{option_copied, option_map};
-ghost use Rattle.au_closed_types.specs.Views.{closed_meaning};
+ghost use Rattle.au_type_texts.specs.Views.{closed_meaning};
 ghost use Rattle.au_lowered.specs.Slots as slots;
 ghost use Rattle.au_meaning.specs.Expressions as meant;
 
 use au_base::IntKind;
-use au_closed_types::Closed;
+use au_type_texts::Closed;
 
 /// The kind that a type is, if it is one.
-#[tactic(auto, using(au_closed_types::proofs::ClosedLemmas::closed_steps))]
+#[tactic(auto, using(au_type_texts::proofs::ClosedLemmas::closed_steps))]
 pub fn kind_in(of: &Closed) -> Option<IntKind>
     ensures { result ≡ meant.kind_in (Some (closed_meaning of.now)) }
 {
@@ -26,7 +26,7 @@ pub fn kind_in(of: &Closed) -> Option<IntKind>
 }
 
 /// What is compared: numbers of a kind, or truth values, which have none.
-#[tactic(auto, using(au_closed_types::proofs::ClosedLemmas::closed_steps))]
+#[tactic(auto, using(au_type_texts::proofs::ClosedLemmas::closed_steps))]
 pub fn compared_kind(of: &Closed) -> Option<Option<IntKind>>
     ensures { result ≡ meant.compared_kind (Some (closed_meaning of.now)) }
 {
@@ -42,7 +42,7 @@ pub fn compared_kind(of: &Closed) -> Option<Option<IntKind>>
 }
 
 /// What a reference refers to.
-#[tactic(auto, using(au_closed_types::proofs::ClosedLemmas::closed_steps))]
+#[tactic(auto, using(au_type_texts::proofs::ClosedLemmas::closed_steps))]
 fn behind_type(of: &Closed) -> Option<&Closed>
     ensures { option_map closed_meaning (option_copied result)
         ≡ slots.behind (Some (closed_meaning of.now)) }

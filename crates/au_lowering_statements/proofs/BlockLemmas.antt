@@ -3,8 +3,8 @@ use Rattle.std.proofs.Common.{◌≡◌, ℕ, ◌+◌, ◌-◌, ◌<◌, ◌≤�
 use Rattle.std.proofs.lemmas.List.{at_drop_all, at_drop_more, length-take, take-take, take_all, take_at}
 use Rattle.au_closed_trees.specs.contracts.phase.ClosedTreesPhase.TheImpl.{ghosts as closed}
 use Rattle.au_closed_trees.specs.ClosedNotes.{ClosedNote}
-use Rattle.au_closed_views.specs.Surroundings.{Surroundings, view_in, known as round_known}
-use Rattle.au_derivations.specs.Returns.{block_returns}
+use Rattle.au_closed_meanings.specs.Surroundings.{Surroundings, view_in, known as round_known}
+use Rattle.au_typing.specs.Returns.{block_returns}
 use Rattle.au_low.specs.declared.instructions.Instr.TheVariants.{Jump}
 use Rattle.au_lowered.specs.Drafts.{Draft, Written, ◌>>◌, nothing, unless}
 use Rattle.au_effects.specs.Parts.{along}

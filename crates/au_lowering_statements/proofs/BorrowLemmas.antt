@@ -2,10 +2,10 @@
 use Rattle.std.proofs.Common.{◌≡◌, Some, sym, ap, ◌∙◌}
 use Rattle.std.specs.Global.{Global}
 use Rattle.std.specs.declared.boxed.Box.{Box}
-use Rattle.au_closed_types.specs.declared.types.Closed as closed_type
-use Rattle.au_closed_types.specs.Types.{reads, writes}
-use Rattle.au_closed_types.specs.Views.{closed_meaning}
-use Rattle.au_closed_types.proofs.ClosedLemmas.{reads_means, writes_means}
+use Rattle.au_type_texts.specs.declared.types.Closed as closed_type
+use Rattle.au_type_texts.specs.Types.{reads, writes}
+use Rattle.au_type_texts.specs.Views.{closed_meaning}
+use Rattle.au_type_texts.proofs.ClosedLemmas.{reads_means, writes_means}
 use Rattle.au_lowered.specs.Slots.{borrowed}
 use Rattle.au_syntax.specs.declared.expressions.BorrowMode.{BorrowMode}
 use Rattle.au_syntax.specs.declared.expressions.BorrowMode.TheVariants as borrow

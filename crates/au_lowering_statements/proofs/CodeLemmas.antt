@@ -7,8 +7,8 @@ use Rattle.au_closed_trees.specs.ClosedNotes.{ClosedNote, ClosedStatement}
 use Rattle.au_closed_trees.specs.declared.notes.Callee.{Callee}
 use Rattle.au_closed_trees.specs.declared.notes.ClosedNote as found
 use Rattle.au_closed_trees.specs.declared.phase.ClosedTrees.{ClosedTrees}
-use Rattle.au_closed_views.specs.Surroundings.{Surroundings, view_in}
-use Rattle.au_derivations.specs.Returns.{block_returns}
+use Rattle.au_closed_meanings.specs.Surroundings.{Surroundings, view_in}
+use Rattle.au_typing.specs.Returns.{block_returns}
 use Rattle.au_low.specs.declared.instructions.Instr.TheVariants as instr
 use Rattle.au_lowered.specs.Drafts.{Draft, Written, does, nothing}
 use Rattle.au_lowered.specs.Expressions.{whole}

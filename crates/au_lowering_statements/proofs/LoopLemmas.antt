@@ -4,8 +4,8 @@ use Rattle.std.proofs.lemmas.Bool.{lt-ltb}
 use Rattle.std.proofs.lemmas.List.{append-nil, append_assoc, at_drop_all, at_drop_more, length-drop}
 use Rattle.au_closed_trees.specs.contracts.phase.ClosedTreesPhase.TheImpl.{ghosts as closed}
 use Rattle.au_closed_trees.specs.ClosedNotes.{ClosedNote}
-use Rattle.au_closed_views.specs.Surroundings.{Surroundings, view_in}
-use Rattle.au_derivations.specs.Returns.{block_returns}
+use Rattle.au_closed_meanings.specs.Surroundings.{Surroundings, view_in}
+use Rattle.au_typing.specs.Returns.{block_returns}
 use Rattle.au_lowered.specs.Drafts.{Draft, Written, count_unless, does, nothing, plain}
 use Rattle.au_low.specs.declared.instructions.Instr.TheVariants.{Case}
 use Rattle.au_lowered.specs.Slots.{tag_in}

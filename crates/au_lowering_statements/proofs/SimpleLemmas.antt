@@ -5,7 +5,7 @@ use Rattle.std.specs.Global.{Global}
 use Rattle.au_base.specs.declared.places.Pos.{Pos}
 use Rattle.au_closed_trees.specs.contracts.phase.ClosedTreesPhase.TheImpl.{ghosts as closed}
 use Rattle.au_closed_trees.specs.ClosedNotes.{ClosedStatement}
-use Rattle.au_closed_views.specs.Surroundings.{Surroundings, view_in}
+use Rattle.au_closed_meanings.specs.Surroundings.{Surroundings, view_in}
 use Rattle.au_low.specs.declared.instructions.Instr.TheVariants as instr
 use Rattle.au_lowered.specs.Drafts.{Draft, Written, does, nothing}
 use Rattle.au_lowered.specs.Expressions.{part_behind, part_of}

@@ -1,7 +1,7 @@
 -- Code whose jumps to its end lead to a place that is given: what is written before the end is known.
 use Rattle.std.specs.Prelude.{◌≡◌, ◌≢◌, ◌<◌, ◌≤◌, ℕ, ◌+◌, Bool, true, false, ◌||◌, List, [], ◌∷◌, ◌++◌}
 use Rattle.std.specs.Prelude.{length, set, Option, Some, None, unwrap_or}
-use Rattle.au_derivations.specs.Returns.{block_returns}
+use Rattle.au_typing.specs.Returns.{block_returns}
 use Rattle.au_low.specs.declared.instructions.Instr.{Instr}
 use Rattle.au_low.specs.declared.instructions.Instr.TheVariants as instr
 use Rattle.au_lowered.specs.Drafts.{Draft, plain, Written, ◌>>◌, does, given, nothing, unless, count_unless}

@@ -2,9 +2,9 @@
 
 ghost use Rattle.std.specs.Prelude.{◌≡◌, ◌+◌, ◌++◌, ◌∷◌, [], IfOk, OnOk, Some, length, map, max, set};
 ghost use Rattle.au_closed_trees.specs.contracts.phase.ClosedTreesPhase.TheImpl.{ghosts as closed};
-ghost use Rattle.au_closed_trees.specs.Views.{closed_note};
-ghost use Rattle.au_closed_types.specs.Views.{closed_meaning};
-ghost use Rattle.au_closed_views.specs.Surroundings.{view_in};
+ghost use Rattle.au_closed_trees.specs.TreeViews.{closed_note};
+ghost use Rattle.au_type_texts.specs.Views.{closed_meaning};
+ghost use Rattle.au_closed_meanings.specs.Surroundings.{view_in};
 ghost use Rattle.au_low.specs.declared.instructions.Instr.TheVariants.{Case};
 ghost use Rattle.au_lowered.specs.Drafts.{does, plain};
 ghost use Rattle.au_lowered.specs.Slots as slots;
@@ -19,8 +19,8 @@ ghost use Rattle.au_syntax.specs.Views.{bound};
 use crate::entering::{bind_fields, further};
 use crate::jumps::end_jumps;
 use au_base::{Memory, Name, Sequence};
+use au_closed_meanings::Lookup;
 use au_closed_trees::{ClosedNote, ClosedTrees};
-use au_closed_views::Lookup;
 use au_low::Instr;
 use au_lowering_expressions::{Draft, Local, here, patch, put};
 use au_syntax::Bind;

@@ -3,9 +3,9 @@
 ghost use Rattle.std.specs.Prelude.{◌≡◌, ◌+◌, [], IfOk, None, OnOk, Some, length, set};
 ghost use Rattle.std.specs.Option.{option_map};
 ghost use Rattle.au_closed_trees.specs.contracts.phase.ClosedTreesPhase.TheImpl.{ghosts as closed};
-ghost use Rattle.au_closed_trees.specs.Views.{closed_note};
-ghost use Rattle.au_closed_types.specs.Views.{closed_meaning};
-ghost use Rattle.au_closed_views.specs.Surroundings.{view_in};
+ghost use Rattle.au_closed_trees.specs.TreeViews.{closed_note};
+ghost use Rattle.au_type_texts.specs.Views.{closed_meaning};
+ghost use Rattle.au_closed_meanings.specs.Surroundings.{view_in};
 ghost use Rattle.au_lowered.specs.Drafts.{does, plain, unless};
 ghost use Rattle.au_lowered.specs.Expressions.{whole};
 ghost use Rattle.au_lowered.specs.Slots as slots;
@@ -18,12 +18,12 @@ ghost use Rattle.au_syntax.specs.Views.{expression};
 
 use crate::entering::{declare, declare_noted, further};
 use au_base::{Memory, Name, Sequence};
+use au_closed_meanings::Lookup;
 use au_closed_trees::{ClosedNote, ClosedTrees};
-use au_closed_types::{Closed, copy_closed};
-use au_closed_views::Lookup;
 use au_low::Instr;
 use au_lowering_expressions::{Draft, Local, find_local, here, patch, put, write_whole};
 use au_syntax::{Access, BorrowMode, Expr};
+use au_type_texts::{Closed, copy_closed};
 use std::alloc::Global;
 
 /// How `borrow` and `borrow!` borrow.

@@ -3,10 +3,10 @@
 ghost use Rattle.std.specs.Prelude.{◌≡◌, ◌+◌, IfOk, OnOk, Some, length, map};
 ghost use Rattle.std.specs.Option.{option_map};
 ghost use Rattle.au_closed_trees.specs.contracts.phase.ClosedTreesPhase.TheImpl.{ghosts as closed};
-ghost use Rattle.au_closed_trees.specs.Views.{closed_note};
-ghost use Rattle.au_closed_types.specs.Views.{closed_meaning};
-ghost use Rattle.au_closed_views.specs.Surroundings.{fields_in, view_in};
-ghost use Rattle.au_closed_views.specs.Views.{found_said};
+ghost use Rattle.au_closed_trees.specs.TreeViews.{closed_note};
+ghost use Rattle.au_type_texts.specs.Views.{closed_meaning};
+ghost use Rattle.au_closed_meanings.specs.Surroundings.{fields_in, view_in};
+ghost use Rattle.au_closed_meanings.specs.Views.{found_said};
 ghost use Rattle.au_lowered.specs.Slots as slots;
 ghost use Rattle.au_lowering_expressions.specs.Views.{scope_said};
 ghost use Rattle.au_lowering_statements.specs.Views.{Begins};
@@ -14,11 +14,11 @@ ghost use Rattle.au_meaning.specs.Names as names;
 ghost use Rattle.au_syntax.specs.Views.{bound, renaming, statement};
 
 use au_base::{Memory, Name};
+use au_closed_meanings::{Found, Lookup};
 use au_closed_trees::{ClosedNote, ClosedTrees};
-use au_closed_types::{Closed, copy_closed};
-use au_closed_views::{Found, Lookup};
 use au_lowering_expressions::{Local, note_of};
 use au_syntax::{Bind, Renamed, Stmt};
+use au_type_texts::{Closed, copy_closed};
 use std::alloc::Global;
 
 /// A slot that is so many further on.

@@ -3,7 +3,7 @@
 ghost use Rattle.std.specs.Prelude.{◌≡◌, OnOk, map};
 ghost use Rattle.std.specs.Option.{option_map};
 ghost use Rattle.au_closed_trees.specs.contracts.phase.ClosedTreesPhase.TheImpl.{ghosts as closed};
-ghost use Rattle.au_closed_views.specs.Surroundings.{view_in};
+ghost use Rattle.au_closed_meanings.specs.Surroundings.{view_in};
 ghost use Rattle.au_lowered.specs.Expressions as spec;
 ghost use Rattle.au_lowered.specs.Statements as statements;
 ghost use Rattle.au_lowering_expressions.specs.Views.{drafts_said, scope_said};
@@ -14,8 +14,8 @@ ghost use Rattle.au_meaning.specs.Names.{variable_of};
 ghost use Rattle.au_syntax.specs.Views.{placed};
 
 use au_base::{Memory, Name};
+use au_closed_meanings::Lookup;
 use au_closed_trees::ClosedTrees;
-use au_closed_views::Lookup;
 use au_low::{Instr, Mode};
 use au_lowering_expressions::{Draft, Local, find_local, part_of, part_past, put};
 use au_syntax::{BorrowMode, Ident};

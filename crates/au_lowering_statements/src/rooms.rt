@@ -2,16 +2,16 @@
 
 ghost use Rattle.std.specs.Prelude.{◌≡◌, ◌+◌, IfOk, length, max};
 ghost use Rattle.au_closed_trees.specs.contracts.phase.ClosedTreesPhase.TheImpl.{ghosts as closed};
-ghost use Rattle.au_closed_trees.specs.Views.{closed_note};
-ghost use Rattle.au_closed_views.specs.Surroundings.{view_in};
+ghost use Rattle.au_closed_trees.specs.TreeViews.{closed_note};
+ghost use Rattle.au_closed_meanings.specs.Surroundings.{view_in};
 ghost use Rattle.au_lowered.specs.Slots as spec;
 ghost use Rattle.au_syntax.specs.Views.{arm_all, block, branch_all, placed, statement};
 
 use crate::arms::fields_of_arm;
 use crate::entering::{fields_of, further, kept};
 use au_base::Memory;
+use au_closed_meanings::Lookup;
 use au_closed_trees::{ClosedNote, ClosedTrees};
-use au_closed_views::Lookup;
 use au_lowering_expressions::note_of;
 use au_syntax::{Arm, Block, Branch, Stmt};
 

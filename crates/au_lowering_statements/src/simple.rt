@@ -2,7 +2,7 @@
 
 ghost use Rattle.std.specs.Prelude.{◌≡◌, OnOk, map};
 ghost use Rattle.au_closed_trees.specs.contracts.phase.ClosedTreesPhase.TheImpl.{ghosts as closed};
-ghost use Rattle.au_closed_views.specs.Surroundings.{view_in};
+ghost use Rattle.au_closed_meanings.specs.Surroundings.{view_in};
 ghost use Rattle.au_low.specs.declared.instructions.Instr.TheVariants.{Discard, Return, Take};
 ghost use Rattle.au_lowered.specs.Drafts.{does};
 ghost use Rattle.au_lowered.specs.Expressions as spec;
@@ -17,8 +17,8 @@ ghost use Rattle.au_syntax.specs.Views.{expression, placed, statement};
 use crate::block_pieces::write_stored;
 use crate::pieces::{put_put, put_set};
 use au_base::{Memory, Name};
+use au_closed_meanings::Lookup;
 use au_closed_trees::ClosedTrees;
-use au_closed_views::Lookup;
 use au_low::Instr;
 use au_lowering_expressions::{Draft, Local, put, write_expression, write_whole};
 use au_syntax::{Expr, Ident, Stmt};

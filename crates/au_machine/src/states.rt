@@ -11,8 +11,7 @@ ghost use Rattle.au_machine.specs.States.{machine_of, turned, most_place, IsQuie
 ghost use Rattle.au_machine.specs.States.{told};
 
 use au_base::Memory;
-use au_cells::{Cell, Computed};
-use au_piles::Piles;
+use au_cells::{Cell, Computed, Piles};
 use au_shipped::AbortKind;
 use au_stores::World;
 

@@ -1,32 +1,57 @@
-//! Modules of one phase as modules of another.
+//! Modules of the old phase as those of the new one.
 
-ghost use Rattle.std.specs.Prelude.{◌≡◌, IfOk, IsTrue};
-ghost use Rattle.au_syntax.specs.Notes.{notes_of_module};
-ghost use Rattle.au_syntax.specs.Plain.{plain_module};
-ghost use Rattle.au_syntax.specs.Views.{module_tree};
+ghost use Rattle.std.specs.Prelude.{◌≡◌, IfOk};
+ghost use Rattle.au_syntax.specs.Modules.{Importing};
+ghost use Rattle.au_syntax.specs.Views.{importing, module_tree};
+ghost use Rattle.au_mapping.specs.Seen.{before, after};
 
-use crate::turns::{Turn, Turning};
+use crate::parts::{Part, walked_three, walked_two};
+use crate::walks::Walk;
 use au_base::Memory;
-use au_copying::modules::walked_module;
-use au_syntax::{Module, Phase};
+use au_syntax::{Import, Module, Phase};
 use std::alloc::Global;
 
-/// The same module in another phase.
+impl<P: Phase, Q: Phase, W: Walk<P, Q>> Part<Q, W> for Import<P> {
+    type New = Import<Q>;
+
+    ghost Kept = { Importing W.KeptName };
+
+    ghost old = { importing (before W.Walk) };
+
+    ghost new = { importing (after W.Walk) };
+
+    fn walked(&self, alloc: Global, walk: &mut W) -> Result<Import<Q>, Memory> {
+        let (module, items) = walked_two(alloc, &self.module, &self.items, walk)?;
+        let at = self.at;
+        Ok(Import { at, module, items })
+    }
+}
+
+/// The module in the new phase.
 ///
 /// # Errors
 ///
 /// Only for want of memory.
-pub fn map_module<P: Phase, Q: Phase, F: Turn<P, Q>>(
+pub fn walked_module<P: Phase, Q: Phase, W: Walk<P, Q>>(
     alloc: Global,
-    module: Module<P>,
-    turn: &mut F,
+    of: &Module<P>,
+    walk: &mut W,
 ) -> Result<Module<Q>, Memory>
-    ensures same { IfOk result (λ new.
-        plain_module Q.name_bytes (module_tree Q.Phase new)
-        ≡ plain_module P.name_bytes (module_tree P.Phase «module»)) }
-    ensures notes { IfOk result (λ new.
-        IsTrue (notes_of_module Q.allows_type Q.allows_call (module_tree Q.Phase new))) }
+    ensures { IfOk result (λ new. module_tree (after W.Walk) new ≡ module_tree (before W.Walk) of.now) }
 {
-    let new = walked_module(alloc, &module, &mut Turning { turn })?;
-    Ok(new)
+    let (imports, name, declarations) = walked_three(
+        alloc,
+        &of.imports,
+        &of.name,
+        &of.declarations,
+        walk,
+    )?;
+    Ok(Module {
+        imports,
+        at: of.at,
+        part: of.part,
+        name,
+        pragma: of.pragma,
+        declarations,
+    })
 }

@@ -2,8 +2,8 @@
 
 ghost use Rattle.std.specs.Prelude.{◌≡◌, ℕ, Bool, true, List, IfOk, IsTrue};
 
+use crate::Walk;
 use au_base::Memory;
-use au_copying::Walk;
 use au_syntax::Phase;
 use std::alloc::Global;
 

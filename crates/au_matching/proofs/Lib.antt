@@ -5,3 +5,9 @@ pub mod ComposedLemmas
 pub mod FixedLemmas
 pub mod MatchedLemmas
 pub mod WalkLemmas
+pub mod UniverseLemmas
+pub mod FormedLemmas
+pub mod LawLemmas
+pub mod ReplacedLemmas
+pub mod SubstitutingUniverseLemmas
+pub mod SubstitutingFormedLemmas

@@ -6,3 +6,10 @@ pub mod Composed
 pub mod Fixed
 pub mod Matched
 pub mod Answers
+pub mod Universes
+pub mod Joined
+pub mod Forming
+pub mod Fits
+pub mod Erased
+pub mod Replaced
+pub mod Fitting

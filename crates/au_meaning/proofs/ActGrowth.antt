@@ -1,6 +1,6 @@
 -- What is done to the world goes on from it.
 use Rattle.std.proofs.Common.{ℕ, zero, suc, ◌+◌, Bool, true, false, List, [], ◌∷◌, length, Option, Some, None, refl}
-use Rattle.au_closed_types.specs.Types.{ClosedType}
+use Rattle.au_type_texts.specs.Types.{ClosedType}
 use Rattle.au_effects.specs.Values.{made}
 use Rattle.au_effects.specs.Worlds.{nothing, bears, spends}
 use Rattle.au_syntax.specs.Plain.{Bytes}

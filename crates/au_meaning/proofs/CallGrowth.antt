@@ -1,7 +1,7 @@
 -- Shipped calls go on from the events that were told before them.
 use Rattle.std.proofs.Common.{ℕ, ◌+◌, ◌≤◌, Bool, true, false, List, [], ◌∷◌, ◌++◌, Option, Some, None, refl, if◌then◌else◌}
 use Rattle.std.proofs.Math.Nat.{le_refl}
-use Rattle.au_closed_types.specs.Types.{ClosedType}
+use Rattle.au_type_texts.specs.Types.{ClosedType}
 use Rattle.au_effects.specs.Answers as answer
 use Rattle.au_effects.specs.Answers.{Answer}
 use Rattle.au_effects.specs.Calls.{with_elements, reference_in, root_in, box_in, buffer_in, terminal_in, elements_in, natural_in, index_in, untyped, given, of_none, of_one, of_two, of_three, use_of, buffer_use, last_taken, element_copied, element_replaced, buffer_ended, print_text, print_number, print_truth, span_length, abort_call, surrender_root, release_terminal, swap_call, make_box, unbox_call, box_get, destroy_empty, length_call, insert_back, remove_back, nth_call, replace_nth, acquire_terminal, write_byte, read_byte, byte_read, shipped}

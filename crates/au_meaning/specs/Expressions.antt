@@ -2,8 +2,8 @@
 -- operands, or its test, and before a body that is called, a branch that is chosen or a right side.
 use Rattle.std.specs.Prelude.{ℕ, Bool, true, false, List, [], ◌∷◌, map, Option, Some, None, ℤ, neg_ℤ}
 use Rattle.au_base.specs.declared.kinds.IntKind.{IntKind}
-use Rattle.au_closed_types.specs.Types as types
-use Rattle.au_closed_types.specs.Types.{ClosedType}
+use Rattle.au_type_texts.specs.Types as types
+use Rattle.au_type_texts.specs.Types.{ClosedType}
 use Rattle.au_effects.specs.Numbers.{computed, compared, negated, truth_in}
 use Rattle.au_effects.specs.Values as values
 use Rattle.au_ints.specs.declared.operations.IntOp.{IntOp}

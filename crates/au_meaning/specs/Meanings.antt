@@ -1,7 +1,7 @@
 -- The meaning of a program: what it does for at most so many ticks.
 use Rattle.std.specs.Prelude.{ℕ, zero, suc, ◌+◌, ◌-◌, ◌==◌, true, false, List, [], ◌∷◌, length, Option, Some}
 use Rattle.std.specs.Prelude.{None, if◌then◌else◌, codes}
-use Rattle.au_closed_types.specs.Types.{ClosedType}
+use Rattle.au_type_texts.specs.Types.{ClosedType}
 use Rattle.au_effects.specs.Values.{made, no_fields, field_then, root}
 use Rattle.au_effects.specs.Worlds.{bears, nothing}
 use Rattle.au_meaning.specs.Acts.{in_store, new_names, begins, ends_frame}

@@ -7,9 +7,9 @@ use Rattle.std.specs.Option.{option_or}
 use Rattle.std.specs.Str.{bytes_eq}
 use Rattle.au_base.specs.declared.kinds.IntKind.TheVariants.{Nat8}
 use Rattle.au_base.specs.declared.places.Pos.{Pos}
-use Rattle.au_closed_types.specs.Closing.{closed}
-use Rattle.au_closed_types.specs.Types as closed_type
-use Rattle.au_closed_types.specs.Types.{ClosedType, ClosedTypes}
+use Rattle.au_type_texts.specs.Closing.{closed}
+use Rattle.au_type_texts.specs.Types as closed_type
+use Rattle.au_type_texts.specs.Types.{ClosedType, ClosedTypes}
 use Rattle.au_effects.specs.Calls.{arity}
 use Rattle.au_ints.specs.declared.operations.WrapOp.TheVariants as wrap_op
 use Rattle.au_types.specs.Rows.{same_place}

@@ -1,7 +1,7 @@
 -- Small programs, and what is told of each: its output, its events, its ticks and its ending.
 use Rattle.std.specs.Prelude.{◌≡◌, ℕ, Bool, true, false, List, [], ◌∷◌, ◌++◌, Some, pos, codes}
 use Rattle.std.specs.Fmt.{signed_decimal}
-use Rattle.au_closed_types.specs.Types as closed_type
+use Rattle.au_type_texts.specs.Types as closed_type
 use Rattle.au_effects.specs.Answers.{arithmetic, called}
 use Rattle.au_effects.specs.Worlds.{born, consumed}
 use Rattle.au_syntax.specs.declared.expressions.BinaryOperator.TheVariants.{Add, Subtract, Less, And, Or}

@@ -1,7 +1,7 @@
 -- What the meaning of a function's tree needs to know of the program round it. Generic trees and closed trees
 -- have one meaning, over two views.
 use Rattle.std.specs.Prelude.{ℕ, Bool, List, Option}
-use Rattle.au_closed_types.specs.Types.{ClosedType}
+use Rattle.au_type_texts.specs.Types.{ClosedType}
 use Rattle.au_shipped.specs.declared.prims.ShippedCall.{ShippedCall}
 use Rattle.au_syntax.specs.Plain.{Bytes}
 use Rattle.au_syntax.specs.Statements.{Statements}

@@ -24,8 +24,8 @@ use Rattle.std.proofs.Common.{
 use Rattle.std.specs.Prelude.{◌||◌, slice_get}
 use Rattle.std.proofs.lemmas.Bool.{and_parts, and_from}
 use Rattle.au_syntax.specs.Plain.{Bytes, PlainModule}
-use Rattle.au_tables.specs.Tables.{has_name, with_all, with_pair}
-use Rattle.au_tables.proofs.TableLemmas.{with_pair-old}
+use Rattle.au_types.specs.Tables.{has_name, with_all, with_pair}
+use Rattle.au_types.proofs.TableLemmas.{with_pair-old}
 use Rattle.au_types.specs.declared.types.DeclAt.{DeclAt}
 use Rattle.au_types.specs.Rows.{same_place}
 use Rattle.au_types.proofs.SameLemmas.{place_is}

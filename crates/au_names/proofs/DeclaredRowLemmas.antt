@@ -13,7 +13,7 @@ use Rattle.au_syntax.specs.declared.types.Access.TheVariants as access
 use Rattle.au_syntax.specs.Plain.{Bytes}
 use Rattle.au_syntax.specs.Types as written
 use Rattle.au_syntax.specs.Types.{WrittenType}
-use Rattle.au_tables.specs.Tables.{find}
+use Rattle.au_types.specs.Tables.{find}
 use Rattle.au_types.specs.declared.headings.Head.{Head}
 use Rattle.au_types.specs.declared.parameters.Parameter.{Parameter}
 use Rattle.au_types.specs.declared.types.DeclAt.{DeclAt}
@@ -24,10 +24,10 @@ use Rattle.au_types.specs.Same.{same, same_region}
 use Rattle.au_types.specs.Types as mean
 use Rattle.au_types.specs.Types.{Meaning, Arguments}
 use Rattle.au_types.specs.Universes.{universe_in}
-use Rattle.au_written_types.specs.Meant.{Given, refers, region_of, span_of, span_with, alone, meant}
-use Rattle.au_written_types.specs.Meant.{all_given, applied, arguments_meant}
-use Rattle.au_written_types.specs.Senses.{Sense, a_type, a_span, a_region, declared, a_class, built_in}
-use Rattle.au_written_types.specs.Senses.{parameter_sense, declared_sense, open_region, outer_sense, sense_of}
+use Rattle.au_types.specs.Meant.{Given, refers, region_of, span_of, span_with, alone, meant}
+use Rattle.au_types.specs.Meant.{all_given, applied, arguments_meant}
+use Rattle.au_types.specs.Senses.{Sense, a_type, a_span, a_region, declared, a_class, built_in}
+use Rattle.au_types.specs.Senses.{parameter_sense, declared_sense, open_region, outer_sense, sense_of}
 
 -- a row of a declaration
 abbrev pub HasRow : List (DeclAt × Head) → DeclAt → Type 0

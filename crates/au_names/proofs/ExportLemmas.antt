@@ -18,12 +18,12 @@ use Rattle.au_syntax.specs.Files.{says}
 use Rattle.au_syntax.specs.Plain.{Bytes, PlainDeclaration, PlainModule, plain_declaration}
 use Rattle.au_syntax.specs.Views.{declaration}
 use Rattle.au_modules.proofs.PlaceLemmas.{declared}
-use Rattle.au_tables.specs.declared.name_tables.NameTables.{NameTables}
-use Rattle.au_tables.specs.declared.spaces.Space.{Space}
-use Rattle.au_tables.specs.declared.spaces.Space.TheVariants.{Values, Callables, Types}
-use Rattle.au_tables.specs.Tables.{find, with_pair, with_all, firsts}
-use Rattle.au_tables.specs.DeclaredNames.{numbered, names_in, table_of}
-use Rattle.au_tables.proofs.TableLemmas.{with_all-none, with_all-firsts, find-firsts}
+use Rattle.au_types.specs.declared.name_tables.NameTables.{NameTables}
+use Rattle.au_types.specs.declared.spaces.Space.{Space}
+use Rattle.au_types.specs.declared.spaces.Space.TheVariants.{Values, Callables, Types}
+use Rattle.au_types.specs.Tables.{find, with_pair, with_all, firsts}
+use Rattle.au_types.specs.DeclaredNames.{numbered, names_in, table_of}
+use Rattle.au_types.proofs.TableLemmas.{with_all-none, with_all-firsts, find-firsts}
 use Rattle.au_modules.specs.Programs.{Entry, ModuleParts}
 use Rattle.au_modules.specs.Seen.{name_of, interface_tree, body_tree}
 use Rattle.au_names.specs.Owned.{declarations_in, interface_of}

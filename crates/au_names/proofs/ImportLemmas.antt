@@ -13,11 +13,11 @@ use Rattle.au_syntax.specs.Modules.{Importing}
 use Rattle.au_syntax.specs.Names.{Renaming}
 use Rattle.au_syntax.specs.Plain.{Bytes, PlainDeclaration, PlainModule}
 use Rattle.au_syntax.specs.Sizes.{joined}
-use Rattle.au_tables.specs.declared.spaces.Space.{Space}
-use Rattle.au_tables.specs.declared.spaces.Space.TheVariants.{Values, Callables, Types}
-use Rattle.au_tables.specs.Tables.{find, has_name, with_pair, with_all}
-use Rattle.au_tables.specs.DeclaredNames.{declared_names, given, numbered, names_in, table_of}
-use Rattle.au_tables.proofs.TableLemmas.{with_pair-old, with_all-none, find-firsts}
+use Rattle.au_types.specs.declared.spaces.Space.{Space}
+use Rattle.au_types.specs.declared.spaces.Space.TheVariants.{Values, Callables, Types}
+use Rattle.au_types.specs.Tables.{find, has_name, with_pair, with_all}
+use Rattle.au_types.specs.DeclaredNames.{declared_names, given, numbered, names_in, table_of}
+use Rattle.au_types.proofs.TableLemmas.{with_pair-old, with_all-none, find-firsts}
 use Rattle.au_modules.specs.Programs.{ModuleParts}
 use Rattle.au_modules.specs.Seen.{interface_tree}
 use Rattle.au_names.specs.declared.targets.Target.{Target}

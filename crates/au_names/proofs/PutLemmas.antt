@@ -6,9 +6,9 @@ use Rattle.std.specs.Str.{bytes_eq}
 use Rattle.std.proofs.lemmas.List.{drop_more, drop_all}
 use Rattle.std.proofs.lemmas.Option.{slice_get_within, slice_get_read, get_or_from_slice_get}
 use Rattle.std.proofs.lemmas.Slice.Eq.{bytes_eq-Decides}
-use Rattle.au_tables.specs.Tables.{find, has_name, with_pair, with_all, without, firsts}
-use Rattle.au_tables.proofs.TableLemmas.{with_pair-old, with_pair-new, find-with_pair, with_all-none}
-use Rattle.au_tables.proofs.TableLemmas.{with_all-one}
+use Rattle.au_types.specs.Tables.{find, has_name, with_pair, with_all, without, firsts}
+use Rattle.au_types.proofs.TableLemmas.{with_pair-old, with_pair-new, find-with_pair, with_all-none}
+use Rattle.au_types.proofs.TableLemmas.{with_all-one}
 use Rattle.au_names.specs.declared.targets.Target.{Target}
 use Rattle.au_names.specs.Owned.{target}
 

@@ -11,11 +11,11 @@ use Rattle.std.proofs.lemmas.Slice.Eq.{bytes_eq-Decides}
 use Rattle.au_syntax.specs.declared.modules.Part.{Part}
 use Rattle.au_syntax.specs.declared.modules.Part.TheVariants.{Interface, Body}
 use Rattle.au_syntax.specs.Plain.{Bytes, PlainDeclaration, PlainModule}
-use Rattle.au_tables.specs.declared.spaces.Space.{Space}
-use Rattle.au_tables.specs.Tables.{find, with_all, firsts}
-use Rattle.au_tables.specs.DeclaredNames.{declared_names, given, numbered, names_in, table_of}
-use Rattle.au_tables.proofs.TableLemmas.{with_all-firsts, find-firsts}
-use Rattle.au_tables.proofs.DeclaredLemmas.{numbered-append}
+use Rattle.au_types.specs.declared.spaces.Space.{Space}
+use Rattle.au_types.specs.Tables.{find, with_all, firsts}
+use Rattle.au_types.specs.DeclaredNames.{declared_names, given, numbered, names_in, table_of}
+use Rattle.au_types.proofs.TableLemmas.{with_all-firsts, find-firsts}
+use Rattle.au_types.proofs.DeclaredLemmas.{numbered-append}
 use Rattle.au_modules.specs.Programs.{Entry, ModuleParts}
 use Rattle.au_modules.specs.Seen.{interface_tree, body_tree, part_tree}
 use Rattle.au_names.specs.declared.targets.Target.{Target}

@@ -10,11 +10,11 @@ use Rattle.std.proofs.lemmas.List.{append-nil, length-append, map-append}
 use Rattle.std.proofs.lemmas.Grind.{flat_map-append}
 use Rattle.au_syntax.specs.Modules.{constant}
 use Rattle.au_syntax.specs.Plain.{Bytes, PlainDeclaration, PlainModule}
-use Rattle.au_tables.specs.declared.spaces.Space.TheVariants.{Types}
-use Rattle.au_tables.specs.DeclaredNames.{type_names, numbered, given, names_in, table_of}
-use Rattle.au_tables.specs.Tables.{find, has_name, with_pair, with_all, without, firsts}
-use Rattle.au_tables.proofs.TableLemmas.{with_pair-old, with_pair-new, with_all-none, with_all-one}
-use Rattle.au_tables.proofs.TableLemmas.{find-firsts, firsts-append}
+use Rattle.au_types.specs.declared.spaces.Space.TheVariants.{Types}
+use Rattle.au_types.specs.DeclaredNames.{type_names, numbered, given, names_in, table_of}
+use Rattle.au_types.specs.Tables.{find, has_name, with_pair, with_all, without, firsts}
+use Rattle.au_types.proofs.TableLemmas.{with_pair-old, with_pair-new, with_all-none, with_all-one}
+use Rattle.au_types.proofs.TableLemmas.{find-firsts, firsts-append}
 use Rattle.au_types.specs.declared.types.DeclAt.{DeclAt}
 use Rattle.au_types.specs.declared.headings.Head.{Head}
 use Rattle.au_types.specs.Rows.{head_of}

@@ -3,7 +3,7 @@
 use Rattle.std.specs.Prelude.{◌≡◌, Bool, true, List, [], ◌∷◌, ◌++◌, Some, slice_get, if◌then◌else◌}
 use Rattle.std.specs.List.{list_all, list_any}
 use Rattle.au_syntax.specs.Plain.{Bytes}
-use Rattle.au_tables.specs.Tables.{has_name}
+use Rattle.au_types.specs.Tables.{has_name}
 use Rattle.au_types.specs.declared.types.DeclAt.{DeclAt}
 use Rattle.au_types.specs.Rows.{same_place}
 use Rattle.au_modules.specs.Programs.{ModuleParts}

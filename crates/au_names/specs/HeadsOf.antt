@@ -5,8 +5,8 @@ use Rattle.std.specs.Option.{option_map}
 use Rattle.au_syntax.specs.declared.declarations.Universe.{Universe}
 use Rattle.au_syntax.specs.Modules.{InUniverse}
 use Rattle.au_syntax.specs.Plain.{Bytes, PlainDeclaration}
-use Rattle.au_tables.specs.DeclaredNames.{type_names}
-use Rattle.au_tables.specs.Tables.{firsts}
+use Rattle.au_types.specs.DeclaredNames.{type_names}
+use Rattle.au_types.specs.Tables.{firsts}
 use Rattle.au_types.specs.declared.types.DeclAt.{DeclAt}
 use Rattle.au_types.specs.declared.headings.Head.{Head}
 use Rattle.au_types.specs.declared.parameters.Parameter.{Parameter}

@@ -3,7 +3,7 @@ use Rattle.std.specs.Prelude.{◌≡◌, ℕ, Bool, true, false, List, slice_get
 use Rattle.std.specs.Option.{option_map}
 use Rattle.au_syntax.specs.declared.modules.Part.{Part}
 use Rattle.au_syntax.specs.declared.modules.Part.TheVariants.{Interface, Body}
-use Rattle.au_tables.specs.declared.spaces.Space.TheVariants.{Values, Callables, Types}
+use Rattle.au_types.specs.declared.spaces.Space.TheVariants.{Values, Callables, Types}
 use Rattle.au_types.specs.declared.types.DeclAt.{DeclAt}
 use Rattle.au_types.specs.declared.headings.Head.{Head}
 use Rattle.au_modules.specs.Programs.{ModuleParts}

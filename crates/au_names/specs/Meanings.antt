@@ -5,8 +5,8 @@ use Rattle.au_syntax.specs.declared.modules.Part.{Part}
 use Rattle.au_syntax.specs.declared.modules.Part.TheVariants.{Interface, Body}
 use Rattle.au_syntax.specs.Modules.{Importing}
 use Rattle.au_syntax.specs.Plain.{Bytes}
-use Rattle.au_tables.specs.declared.spaces.Space.{Space}
-use Rattle.au_tables.specs.Tables.{firsts}
+use Rattle.au_types.specs.declared.spaces.Space.{Space}
+use Rattle.au_types.specs.Tables.{firsts}
 use Rattle.au_types.specs.declared.types.DeclAt.{DeclAt}
 use Rattle.au_modules.specs.Programs.{Entry, ModuleParts}
 use Rattle.au_names.specs.declared.targets.Target.{Target}

@@ -1,8 +1,8 @@
 -- What the declarations of a module bring in, and what other modules may have of it.
 use Rattle.std.specs.Prelude.{ℕ, List, [], ◌++◌, map, Option, None, Some}
 use Rattle.au_syntax.specs.Plain.{Bytes, PlainDeclaration}
-use Rattle.au_tables.specs.declared.spaces.Space.{Space}
-use Rattle.au_tables.specs.DeclaredNames.{numbered, names_in}
+use Rattle.au_types.specs.declared.spaces.Space.{Space}
+use Rattle.au_types.specs.DeclaredNames.{numbered, names_in}
 use Rattle.au_modules.specs.Programs.{Entry, ModuleParts}
 use Rattle.au_names.specs.declared.targets.Target.{Target}
 

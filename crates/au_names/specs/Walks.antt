@@ -8,8 +8,8 @@ use Rattle.au_syntax.specs.declared.declarations.TypeParameter.{TypeParameter}
 use Rattle.au_syntax.specs.Modules.{InUniverse}
 use Rattle.au_syntax.specs.Plain.{Bytes, PlainDeclaration, plain_declaration, plain_in_universe}
 use Rattle.au_syntax.specs.Views.{declaration, in_universe}
-use Rattle.au_tables.specs.DeclaredNames.{type_names, given}
-use Rattle.au_tables.specs.Tables.{has_name, with_all}
+use Rattle.au_types.specs.DeclaredNames.{type_names, given}
+use Rattle.au_types.specs.Tables.{has_name, with_all}
 use Rattle.au_types.specs.declared.types.DeclAt.{DeclAt}
 use Rattle.au_types.specs.declared.headings.Head.{Head}
 use Rattle.au_types.specs.Rows.{head_of}

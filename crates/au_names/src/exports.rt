@@ -9,15 +9,15 @@ ghost use Rattle.au_names.specs.Placing.{places_from};
 ghost use Rattle.au_syntax.specs.Files.{says};
 ghost use Rattle.au_syntax.specs.contracts.parsed.ParsedPhase.TheImpl.{ghosts as parsed};
 ghost use Rattle.au_names.specs.Owned.{interface_of};
-ghost use Rattle.au_tables.specs.DeclaredNames.{table_of};
-ghost use Rattle.au_tables.specs.Tables.{with_all};
+ghost use Rattle.au_types.specs.DeclaredNames.{table_of};
+ghost use Rattle.au_types.specs.Tables.{with_all};
 
 use crate::putting::in_space;
 use crate::trees::tree_of;
 use au_base::Memory;
 use au_modules::Modules;
 use au_syntax::{Module, Parsed};
-use au_tables::{NameTables, Space, Table};
+use au_types::{NameTables, Space, Table};
 use std::alloc::Global;
 
 /// What is made once for a program, so that names of its interfaces are found without a walk.

@@ -14,7 +14,7 @@ ghost use Rattle.au_syntax.specs.Plain.{plain_importing, plain_name, plain_renam
 ghost use Rattle.au_syntax.specs.Sizes.{joined};
 ghost use Rattle.au_syntax.specs.Views.{importing, placed, renaming};
 ghost use Rattle.au_syntax.specs.contracts.parsed.ParsedPhase.TheImpl.{ghosts as parsed};
-ghost use Rattle.au_tables.specs.Tables.{find, with_all};
+ghost use Rattle.au_types.specs.Tables.{find, with_all};
 
 use crate::decl_sets::DeclSet;
 use crate::exports::{Exports, offered_names};
@@ -25,8 +25,7 @@ use crate::trees::tree_of;
 use au_base::Memory;
 use au_modules::{Modules, dotted_text};
 use au_syntax::{Ident, Import, Parsed, Renamed, Whole};
-use au_tables::{Space, Table};
-use au_types::DeclAt;
+use au_types::{DeclAt, Space, Table};
 use std::alloc::Global;
 
 /// Bytes without the first.

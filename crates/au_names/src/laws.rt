@@ -10,16 +10,16 @@ ghost use Rattle.au_names.specs.declared.targets.Target.{Target};
 ghost use Rattle.au_syntax.specs.Plain.{Bytes, PlainDeclaration};
 ghost use Rattle.au_syntax.specs.Types.{WrittenType};
 ghost use Rattle.au_syntax.specs.declared.modules.Part.{Part as ThePart};
-ghost use Rattle.au_tables.specs.DeclaredNames.{table_of, type_names};
-ghost use Rattle.au_tables.specs.Tables.{find, firsts, with_all};
-ghost use Rattle.au_tables.specs.declared.spaces.Space.TheVariants as spaces;
-ghost use Rattle.au_tables.specs.declared.spaces.Space.{Space as TheSpace};
+ghost use Rattle.au_types.specs.DeclaredNames.{table_of, type_names};
+ghost use Rattle.au_types.specs.Tables.{find, firsts, with_all};
+ghost use Rattle.au_types.specs.declared.spaces.Space.TheVariants as spaces;
+ghost use Rattle.au_types.specs.declared.spaces.Space.{Space as TheSpace};
 ghost use Rattle.au_types.specs.Rows.{head_of};
 ghost use Rattle.au_types.specs.Types.{Arguments, named};
 ghost use Rattle.au_types.specs.declared.headings.Head.{Head};
 ghost use Rattle.au_types.specs.declared.parameters.Parameter.{Parameter};
 ghost use Rattle.au_types.specs.declared.types.DeclAt.{DeclAt};
-ghost use Rattle.au_written_types.specs.Meant.{meant};
+ghost use Rattle.au_types.specs.Meant.{meant};
 
 /// What is found under a name it means, and something is found under a name that means something.
 pub fn seen_is_meant()

@@ -9,16 +9,15 @@ ghost use Rattle.au_names.specs.Walks.{written, written_all};
 ghost use Rattle.au_syntax.specs.Plain.{plain_header, plain_variant};
 ghost use Rattle.au_syntax.specs.Views.{header, variant};
 ghost use Rattle.au_syntax.specs.contracts.parsed.ParsedPhase.TheImpl.{ghosts as parsed};
-ghost use Rattle.au_tables.specs.DeclaredNames.{given};
-ghost use Rattle.au_tables.specs.Tables.{with_all};
+ghost use Rattle.au_types.specs.DeclaredNames.{given};
+ghost use Rattle.au_types.specs.Tables.{with_all};
 
 use crate::putting::put_target;
 use crate::targets::Target;
 use crate::trees::tree_of;
 use au_base::Memory;
 use au_syntax::{Decl, Parsed, Signature, UnionCase, Whole};
-use au_tables::Table;
-use au_types::DeclAt;
+use au_types::{DeclAt, Table};
 use std::alloc::Global;
 
 /// Puts a union's cases.

@@ -2,12 +2,11 @@
 
 ghost use Rattle.std.specs.Prelude.{◌≡◌, [], IfOk};
 ghost use Rattle.au_names.specs.Meanings.{declared_by};
-ghost use Rattle.au_tables.specs.Tables.{with_all};
+ghost use Rattle.au_types.specs.Tables.{with_all};
 
 use crate::targets::Target;
 use au_base::Memory;
-use au_tables::Table;
-use au_types::DeclAt;
+use au_types::{DeclAt, Table};
 use std::alloc::Global;
 
 /// What names mean in a part of a module, by spaces. A value or a type is declared under its own name

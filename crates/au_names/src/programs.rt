@@ -8,9 +8,9 @@ ghost use Rattle.au_modules.specs.Slots as slots;
 ghost use Rattle.au_names.specs.Meanings.{declared_by, seen};
 ghost use Rattle.au_names.specs.Known as known;
 ghost use Rattle.au_syntax.specs.Views.{written};
-ghost use Rattle.au_tables.specs.declared.spaces.Space.TheVariants as spaces;
+ghost use Rattle.au_types.specs.declared.spaces.Space.TheVariants as spaces;
 ghost use Rattle.au_types.specs.Views.{meaning};
-ghost use Rattle.au_written_types.specs.Meant.{meant};
+ghost use Rattle.au_types.specs.Meant.{meant};
 
 use crate::module_names::{ModuleNames, all_names};
 use crate::part_names::PartNames;
@@ -18,9 +18,7 @@ use crate::walking::heads_of;
 use au_base::{Memory, Name};
 use au_modules::Modules;
 use au_syntax::{Part, TypeText};
-use au_tables::Table;
-use au_types::{DeclAt, Heads, Params, Ty};
-use au_written_types::{Scope, type_meant};
+use au_types::{DeclAt, Heads, Params, Scope, Table, Ty, type_meant};
 use std::alloc::Global;
 use std::marker::Model;
 

@@ -4,12 +4,11 @@ ghost use Rattle.std.specs.Prelude.{◌≡◌, OnOk, Option};
 ghost use Rattle.au_names.specs.Exporting as exporting;
 ghost use Rattle.au_names.specs.Exporting.{found_as};
 ghost use Rattle.au_names.specs.Owned.{target, targets};
-ghost use Rattle.au_tables.specs.Tables.{find, with_all, with_pair};
+ghost use Rattle.au_types.specs.Tables.{find, with_all, with_pair};
 
 use crate::targets::Target;
 use au_base::{Memory, Text};
-use au_tables::{NameTables, Space, Table};
-use au_types::DeclAt;
+use au_types::{DeclAt, NameTables, Space, Table};
 use std::alloc::Global;
 
 /// Puts a declaration, or its case or method of a name, under a local name.

@@ -7,7 +7,7 @@ ghost use Rattle.au_modules.specs.Slots as slots;
 ghost use Rattle.au_names.specs.Exporting.{AreExports, body_names};
 ghost use Rattle.au_names.specs.Meanings.{declared_by, seen};
 ghost use Rattle.au_names.specs.Owned.{own};
-ghost use Rattle.au_tables.specs.Tables.{with_all};
+ghost use Rattle.au_types.specs.Tables.{with_all};
 
 use crate::declarations::count_in;
 use crate::exports::{Exports, names_from, no_names, offered_names};
@@ -19,8 +19,7 @@ use crate::trees::tree_of;
 use au_base::Memory;
 use au_modules::Modules;
 use au_syntax::Part;
-use au_tables::{NameTables, Space, Table};
-use au_types::DeclAt;
+use au_types::{DeclAt, NameTables, Space, Table};
 use std::alloc::Global;
 
 /// The names that the body of the module at a place brings in.

@@ -7,17 +7,16 @@ ghost use Rattle.au_names.specs.Walks.{IsFreeFrom, is_new, row_on, rows_on, type
 ghost use Rattle.au_names.specs.Walks.{walk_over, walk_past, written, written_all};
 ghost use Rattle.au_modules.specs.Seen.{tree_seen};
 ghost use Rattle.au_modules.specs.Slots.{modules};
-ghost use Rattle.au_tables.specs.DeclaredNames.{given};
-ghost use Rattle.au_tables.specs.Tables.{with_all};
+ghost use Rattle.au_types.specs.DeclaredNames.{given};
+ghost use Rattle.au_types.specs.Tables.{with_all};
 
 use crate::rows::push_row;
 use crate::trees::tree_of;
 use au_base::{Memory, Name};
 use au_modules::Modules;
 use au_syntax::{Decl, Parsed, Whole};
-use au_tables::declared_names::put_declared;
-use au_tables::{Space, Table};
-use au_types::{DeclAt, Heads};
+use au_types::declared_names::put_declared;
+use au_types::{DeclAt, Heads, Space, Table};
 use std::alloc::Global;
 
 /// Where a walk through the declarations of a module stands.

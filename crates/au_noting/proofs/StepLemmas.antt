@@ -3,7 +3,7 @@ use Rattle.std.proofs.Common.{◌≡◌, ℕ, ◌+◌, drop, slice_get, List, �
 use Rattle.au_types.specs.declared.parameters.Parameter.{Parameter}
 use Rattle.au_types.specs.Types.{Argument, Meaning, of_type, in_region}
 use Rattle.au_matching.specs.Bindings.{Bindings, value_of}
-use Rattle.au_scopes.specs.Scopes.{Scope}
+use Rattle.au_typing.specs.Scopes.{Scope}
 use Rattle.au_typing.specs.Calls.{first_left, first_misfit, is_given, type_values, value_fits}
 use Rattle.au_noting.specs.Nodes.{type_in}
 use Rattle.au_noting.proofs.WalkLemmas.{walked}

@@ -2,7 +2,7 @@
 use Rattle.std.proofs.Common.{arith, ◌≡◌, ℕ, ◌+◌, ◌-◌, ◌<◌, length, drop, take, get_or, slice_get, List, [], ◌∷◌, ◌++◌, map, reverse, find, flat_map, Bool, Option, None, Some, option_map, unwrap_or, if◌then◌else◌, refl, ap, subst, sym, ◌∙◌}
 use Rattle.std.proofs.lemmas.List.{at_drop_more, drop_at, drop_more, get_or-map, length-drop, length-map, length-reverse, map_more, reverse-append, take-append-drop}
 use Rattle.std.proofs.lemmas.Option.{slice_get_within, get_or_from_slice_get}
-use Rattle.au_generics.specs.Bounds.{Bounded, classes_of, parameters}
+use Rattle.au_judged_types.specs.Bounds.{Bounded, classes_of, parameters}
 use Rattle.au_instances.specs.Instances.{Known}
 use Rattle.au_instances.specs.Pairs.{named_with}
 use Rattle.au_types.specs.declared.parameters.Parameter.{Parameter}

@@ -1,7 +1,7 @@
 -- What the code says of why noting stops, and when a call answers what the search gives.
 use Rattle.std.specs.Prelude.{◌≡◌, Bool, true, false, Option, None, Some, Result, Ok, Err}
-use Rattle.au_notes.specs.declared.faults.Form as code
-use Rattle.au_notes.specs.declared.faults.Form.TheVariants as form
+use Rattle.au_sights.specs.declared.faults.Form as code
+use Rattle.au_sights.specs.declared.faults.Form.TheVariants as form
 use Rattle.au_noting.specs.declared.faults.Cause.{Cause}
 use Rattle.au_noting.specs.declared.faults.Cause.TheVariants as cause
 use Rattle.au_noting.specs.declared.faults.Fault as told

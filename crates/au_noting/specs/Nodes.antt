@@ -5,8 +5,8 @@ use Rattle.au_types.specs.Same.{same}
 use Rattle.au_types.specs.Types as mean
 use Rattle.au_types.specs.Types.{Argument, Meaning, of_type}
 use Rattle.au_matching.specs.Bindings.{Bindings}
-use Rattle.au_generics.specs.Bounds.{parameters}
-use Rattle.au_scopes.specs.Scopes.{Callable, Scope}
+use Rattle.au_judged_types.specs.Bounds.{parameters}
+use Rattle.au_typing.specs.Scopes.{Callable, Scope}
 use Rattle.au_typing.specs.Calls.{first_lacking, first_misfit, types_of_call, wanted_of}
 use Rattle.au_typing.specs.Faults.{Noting, check, different, shape, integer_wanted}
 use Rattle.au_typing.specs.Limits.{within, types_noted}

@@ -10,7 +10,7 @@ use Rattle.au_syntax.specs.Plain.{Bytes}
 use Rattle.au_syntax.specs.Views.{argument_all, placed}
 use Rattle.au_sights.specs.declared.called.Typed as code
 use Rattle.au_sights.specs.Sights.{typed_said}
-use Rattle.au_scopes.specs.Scopes.{Typed}
+use Rattle.au_typing.specs.Scopes.{Typed}
 use Rattle.au_types.specs.declared.types.Ty.{Ty}
 use Rattle.au_types.specs.Types.{Meaning}
 use Rattle.au_types.specs.Views.{meaning}

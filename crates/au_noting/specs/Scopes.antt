@@ -1,7 +1,7 @@
 -- What the code's scope says, and how it changes.
 use Rattle.std.specs.Prelude.{ℕ, ◌∷◌, drop}
 use Rattle.au_noting.specs.declared.scopes.Scope as code
-use Rattle.au_scopes.specs.Scopes.{Scope, Variable}
+use Rattle.au_typing.specs.Scopes.{Scope, Variable}
 use Rattle.au_sights.specs.Sights.{outside_seen}
 use Rattle.au_syntax.specs.Plain.{Bytes}
 use Rattle.au_types.specs.Views.{meaning}

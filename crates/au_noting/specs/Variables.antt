@@ -1,2 +1,2 @@
 -- What the code's variables say.
-pub use Rattle.au_scopes.specs.Variables.{variable_said}
+pub use Rattle.au_typing.specs.Variables.{variable_said}

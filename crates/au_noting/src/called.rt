@@ -5,7 +5,7 @@ ghost use Rattle.std.specs.Option.{option_copied, option_map};
 ghost use Rattle.au_instances.specs.Pairs.{told};
 ghost use Rattle.au_matching.specs.Bindings.{value_of};
 ghost use Rattle.au_matching.specs.Fixed.{is_a_region, is_a_type};
-ghost use Rattle.au_notes.specs.Views.{note};
+ghost use Rattle.au_sights.specs.Views.{note};
 ghost use Rattle.au_noting.specs.Giving.{Gives, Tells};
 ghost use Rattle.au_noting.specs.Modes.{wanted};
 ghost use Rattle.au_noting.specs.Nodes as node;
@@ -23,12 +23,10 @@ use crate::rules::{full_note, limit_among};
 use crate::scopes::{Scope, constraints};
 use au_base::{Memory, Name};
 use au_instances::ClassAt;
-use au_matching::{Substitution, substitute};
-use au_notes::{Form, Notes};
-use au_sights::Callable;
+use au_matching::{Substitution, fits, substitute};
+use au_sights::{Callable, Form, Notes};
 use au_syntax::Universe;
 use au_types::{Arg, Parameter, Params, Ty, copy_type};
-use au_universes::fits;
 use std::alloc::Global;
 
 /// Whether a type parameter stands for something of its kind.

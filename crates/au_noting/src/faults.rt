@@ -9,7 +9,7 @@ ghost use Rattle.au_typing.specs.Faults as spec;
 
 use au_base::{Limit, Memory, Name};
 use au_judged_types::Reason;
-use au_notes::Form;
+use au_sights::Form;
 use au_types::{DeclAt, Ty, copy_type};
 use std::alloc::Global;
 

@@ -12,6 +12,6 @@ pub mod nodes;
 pub mod rules;
 pub mod scopes;
 
-pub use au_scopes::{Variable, Variables};
+pub use au_typing::{Variable, Variables};
 pub use faults::{Cause, Fault};
 pub use scopes::{Bounds, Scope};

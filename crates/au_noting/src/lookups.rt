@@ -16,13 +16,12 @@ use crate::faults::{Fault, ill_formed, other_form, unknown};
 use crate::scopes::Scope;
 use au_base::{Memory, Name};
 use au_judged_types::{Judged, judge_type};
-use au_notes::Form;
-use au_scopes::Variable;
+use au_matching::{takes, universe_of};
 use au_sights::surroundings::{callable, constant, fields};
-use au_sights::{Callable, Typed};
+use au_sights::{Callable, Form, Typed};
 use au_syntax::{Ident, Parsed, TypeText, Universe};
 use au_types::{Ty, copy_type};
-use au_universes::{takes, universe_of};
+use au_typing::Variable;
 use std::alloc::Global;
 
 /// The innermost variable of a name, if there is one.

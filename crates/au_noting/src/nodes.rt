@@ -2,7 +2,7 @@
 
 ghost use Rattle.std.specs.Prelude.{◌≡◌, IfOk, neg_ℤ};
 ghost use Rattle.au_ints.specs.Ranges.{is_of_kind};
-ghost use Rattle.au_notes.specs.Views.{note};
+ghost use Rattle.au_sights.specs.Views.{note};
 ghost use Rattle.au_noting.specs.Giving.{Gives, Lets};
 ghost use Rattle.au_noting.specs.Modes.{wanted};
 ghost use Rattle.au_noting.specs.Nodes as node;
@@ -22,7 +22,7 @@ use crate::rules::{is_compared, is_integer, limit_among, literal_kind, noted, wa
 use crate::scopes::Scope;
 use au_base::{IntKind, Memory};
 use au_ints::convert;
-use au_notes::{Form, Notes};
+use au_sights::{Form, Notes};
 use au_syntax::{BinaryOperator, BorrowMode, Ident, Parsed};
 use au_types::{Region, Ty, copy_region, copy_type, is_same};
 use std::alloc::Global;

@@ -2,7 +2,7 @@
 
 ghost use Rattle.std.specs.Prelude.{◌≡◌, IfOk, Some};
 ghost use Rattle.std.specs.Option.{option_map};
-ghost use Rattle.au_notes.specs.Views.{note};
+ghost use Rattle.au_sights.specs.Views.{note};
 ghost use Rattle.au_noting.specs.Giving.{Gives};
 ghost use Rattle.au_noting.specs.Modes.{wanted};
 ghost use Rattle.au_noting.specs.Said.{meanings};
@@ -16,7 +16,7 @@ ghost use Rattle.au_typing.specs.Rules as spec;
 use crate::faults::{Fault, different};
 use au_base::{IntKind, Limit, Memory};
 use au_matching::Substitution;
-use au_notes::Notes;
+use au_sights::Notes;
 use au_syntax::{BinaryOperator, Expr, Phase};
 use au_type_texts::{depth_passed, nodes_passed};
 use au_types::{Ty, copy_type, is_same};

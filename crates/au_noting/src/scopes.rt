@@ -1,18 +1,17 @@
 //! What is in scope at a place of a function.
 
 ghost use Rattle.std.specs.Prelude.{◌≡◌, ◌++◌, ◌-◌, [], IfOk, OnErr, OnOk, length, unwrap_or};
-ghost use Rattle.au_generics.specs.Bounds.{classes_of, parameters};
+ghost use Rattle.au_judged_types.specs.Bounds.{classes_of, parameters};
 ghost use Rattle.au_instances.specs.Pairs.{constraints_of, named_with};
 ghost use Rattle.au_noting.specs.Scopes.{closed_in, declared_in, opened_in, scope_said, without};
 ghost use Rattle.au_noting.specs.Variables.{variable_said};
 
 use au_base::{Memory, Name};
-use au_generics::Generics;
 use au_instances::ClassAt;
-use au_scopes::{Variable, Variables};
+use au_judged_types::Generics;
 use au_sights::Surroundings;
-use au_types::{Params, Ty};
-use au_written_types::Scope as WrittenScope;
+use au_types::{Params, Scope as WrittenScope, Ty};
+use au_typing::{Variable, Variables};
 use std::alloc::Global;
 use std::marker::Model;
 
@@ -26,7 +25,7 @@ pub struct Bounds {
 
 impl Model for Bounds {
     ghost use Rattle.std.specs.Prelude.{◌≡◌, List};
-    ghost use Rattle.au_generics.specs.Bounds.{Bounded};
+    ghost use Rattle.au_judged_types.specs.Bounds.{Bounded};
     ghost use Rattle.au_instances.specs.Pairs.{constraints_of};
 
     ghost Value = { List Bounded };

@@ -8,12 +8,12 @@ use Rattle.au_matching.specs.Bindings.{Bindings}
 use Rattle.au_noting.specs.declared.faults.Fault as told
 use Rattle.au_noting.specs.Giving.{Gives, Stops}
 use Rattle.au_noting.specs.Said.{meanings}
-use Rattle.au_noting_expressions.specs.declared.operands.Operands as code
-use Rattle.au_noting_expressions.specs.declared.operands.Operands.TheVariants as form
+use Rattle.au_noting_expressions.specs.declared.noted_operands.Operands as code
+use Rattle.au_noting_expressions.specs.declared.noted_operands.Operands.TheVariants as form
 use Rattle.au_noting_expressions.specs.Arguments.{ReadArgument, ReadCode, each_operand, mistaken, operands_of, takes, value_of, values}
 use Rattle.au_noting_expressions.specs.Passing.{both_passes, call_begun}
 use Rattle.au_noting_expressions.proofs.Steps.{gives_at, step_after, stops_at, stops_first}
-use Rattle.au_scopes.specs.Scopes.{Callable, Scope, Typed}
+use Rattle.au_typing.specs.Scopes.{Callable, Scope, Typed}
 use Rattle.au_syntax.specs.contracts.parsed.ParsedPhase.TheImpl.{ghosts as parsed}
 use Rattle.au_syntax.specs.Plain.{Bytes}
 use Rattle.au_syntax.specs.Views.{argument_all, expression, expression_all}

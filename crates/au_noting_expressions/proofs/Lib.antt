@@ -1,3 +1,8 @@
+pub mod ClauseLemmas
+mod LabelLemmas
+mod MadeLemmas
+mod ParameterLemmas
+mod StopLemmas
 pub mod Heights
 pub mod Steps
 pub mod FormLemmas

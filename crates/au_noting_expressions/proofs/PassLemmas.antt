@@ -4,9 +4,9 @@ use Rattle.std.proofs.lemmas.List.{append_assoc, append-nil, drop_all, drop_more
 use Rattle.au_matching.specs.Bindings.{Bindings}
 use Rattle.au_noting.specs.Said.{meanings}
 use Rattle.au_noting_expressions.specs.Arguments.{ReadCode, each_operand}
-use Rattle.au_noting_leaves.specs.Said.{NotedCode, all_said, half_said}
-use Rattle.au_notes.specs.contracts.noted.NotedPhase.TheImpl.{ghosts as noted}
-use Rattle.au_scopes.specs.Scopes.{Scope}
+use Rattle.au_noting_expressions.specs.Said.{NotedCode, all_said, half_said}
+use Rattle.au_sights.specs.contracts.noted.NotedPhase.TheImpl.{ghosts as noted}
+use Rattle.au_typing.specs.Scopes.{Scope}
 use Rattle.au_syntax.specs.contracts.parsed.ParsedPhase.TheImpl.{ghosts as parsed}
 use Rattle.au_syntax.specs.Views.{expression}
 use Rattle.au_types.specs.declared.types.Ty.{Ty}

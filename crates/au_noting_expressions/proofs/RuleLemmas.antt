@@ -3,7 +3,7 @@ use Rattle.std.proofs.Common.{◌≡◌, refl, sym, ap, ◌∙◌, Result, Ok, E
 use Rattle.au_noting.specs.declared.faults.Fault as told
 use Rattle.au_noting.specs.declared.faults.Fault.TheVariants as fault
 use Rattle.au_noting.specs.Giving.{Gives, cause_said}
-use Rattle.au_scopes.specs.Scopes.{Scope}
+use Rattle.au_typing.specs.Scopes.{Scope}
 use Rattle.au_syntax.specs.Plain.{PlainExpression}
 use Rattle.au_typing.specs.Faults as faults
 use Rattle.au_typing.specs.Faults.{Noting}

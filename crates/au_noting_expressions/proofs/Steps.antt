@@ -4,7 +4,7 @@ use Rattle.au_noting.specs.declared.faults.Fault as told
 use Rattle.au_noting.specs.declared.faults.Fault.TheVariants as fault
 use Rattle.au_noting.specs.Giving.{Gives, Stops, cause_said}
 use Rattle.au_noting_expressions.specs.Arguments.{ReadCode}
-use Rattle.au_scopes.specs.Scopes.{Scope}
+use Rattle.au_typing.specs.Scopes.{Scope}
 use Rattle.au_syntax.specs.contracts.parsed.ParsedPhase.TheImpl.{ghosts as parsed}
 use Rattle.au_syntax.specs.Plain.{PlainExpression}
 use Rattle.au_syntax.specs.Views.{expression}

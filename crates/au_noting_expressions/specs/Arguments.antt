@@ -1,8 +1,8 @@
 -- The arguments of a call as the code has them, and what they are for the search.
 use Rattle.std.specs.Prelude.{ℕ, List, Option, map}
-use Rattle.au_noting_expressions.specs.declared.operands.Operands as code
-use Rattle.au_noting_expressions.specs.declared.operands.Operands.TheVariants as form
-use Rattle.au_scopes.specs.Scopes.{Scope, Typed}
+use Rattle.au_noting_expressions.specs.declared.noted_operands.Operands as code
+use Rattle.au_noting_expressions.specs.declared.noted_operands.Operands.TheVariants as form
+use Rattle.au_typing.specs.Scopes.{Scope, Typed}
 use Rattle.au_syntax.specs.contracts.parsed.ParsedPhase.TheImpl.{ghosts as parsed}
 use Rattle.au_syntax.specs.declared.expressions.Argument.{Argument}
 use Rattle.au_syntax.specs.declared.expressions.Expr.{Expr}

@@ -5,9 +5,9 @@ use Rattle.std.specs.Global.{Global}
 use Rattle.au_matching.specs.Bindings.{Bindings}
 use Rattle.au_matching.specs.Substituted.{substituted}
 use Rattle.au_noting.specs.Said.{meanings}
-use Rattle.au_noting_leaves.specs.Said.{NotedCode, all_said, half_said}
-use Rattle.au_noting_leaves.specs.Made.{typed_made}
-use Rattle.au_scopes.specs.Scopes.{Callable, Scope, Typed}
+use Rattle.au_noting_expressions.specs.Said.{NotedCode, all_said, half_said}
+use Rattle.au_noting_expressions.specs.Made.{typed_made}
+use Rattle.au_typing.specs.Scopes.{Callable, Scope, Typed}
 use Rattle.au_sights.specs.declared.called.Callable as code
 use Rattle.au_sights.specs.Sights.{callable_said}
 use Rattle.au_syntax.specs.Expressions.{Node}

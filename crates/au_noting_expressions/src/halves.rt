@@ -4,7 +4,7 @@ ghost use Rattle.std.specs.Prelude.{◌≡◌, ◌+◌, ◌<◌, ◌++◌, ◌�
 ghost use Rattle.std.specs.VecDeque.{deque_len};
 
 use au_base::Memory;
-use au_notes::Noted;
+use au_sights::Noted;
 use au_syntax::Expr;
 use std::collections::VecDeque;
 

@@ -8,8 +8,8 @@ ghost use Rattle.au_noting.specs.Said.{meanings};
 ghost use Rattle.au_noting.specs.Scopes.{scope_said};
 ghost use Rattle.au_noting_expressions.specs.Arguments.{each_operand, mistaken, operands_of, takes, values};
 ghost use Rattle.au_noting_expressions.specs.Passing.{all_beside, both_passes, fixed_taken, half_beside};
-ghost use Rattle.au_noting_leaves.specs.Said.{beside_said, call_said, half_said};
-ghost use Rattle.au_notes.specs.contracts.noted.NotedPhase.TheImpl.{ghosts as noted};
+ghost use Rattle.au_noting_expressions.specs.Said.{beside_said, call_said, half_said};
+ghost use Rattle.au_sights.specs.contracts.noted.NotedPhase.TheImpl.{ghosts as noted};
 ghost use Rattle.au_matching.specs.Fixed.{fixed};
 ghost use Rattle.au_syntax.specs.contracts.parsed.ParsedPhase.TheImpl.{ghosts as parsed};
 ghost use Rattle.au_syntax.specs.Expressions as tree;
@@ -22,19 +22,19 @@ ghost use Rattle.au_typing.specs.Search.{note_expression};
 ghost use Rattle.au_typing.specs.SearchCalls as search;
 
 use crate::halves::{Half, next_half, put_half, put_noted};
-use crate::operands::{Operands, begin_call, operand_at};
-use au_base::Name;
-use au_matching::{Substitution, fixes, substitute};
-use au_notes::{Noted, Notes};
-use au_noting::lookups::written_type;
-use au_noting::rules::{is_arithmetic, is_bare, is_logical};
-use au_noting::{Fault, Scope};
-use au_noting_leaves::{
+use crate::noted_operands::{Operands, begin_call, operand_at};
+use crate::{
     boxed, is_parameter, make_arithmetic, make_call, make_choice, make_comparison,
     make_dereference, make_logical, make_named_call, make_negation, make_parenthesized, make_typed,
     note_arrow, note_borrow, note_borrow_part, note_negative, note_nil, note_number, note_path,
     note_text, note_truth, take_as, take_as_int32, truth, type_of, unlike_int32, with_arguments,
 };
+use au_base::Name;
+use au_matching::{Substitution, fixes, substitute};
+use au_noting::lookups::written_type;
+use au_noting::rules::{is_arithmetic, is_bare, is_logical};
+use au_noting::{Fault, Scope};
+use au_sights::{Noted, Notes};
 use au_syntax::{Argument, BinaryOperator, Expr, Ident, Parsed, Site};
 use au_types::Ty;
 use std::alloc::Global;

@@ -1,78 +1,77 @@
-//! The arguments of a call, and what a call begins with.
+//! Noted operands: their types, and what is wanted of them.
 
-ghost use Rattle.std.specs.Prelude.{◌≡◌, ◌<◌, IfOk, length, slice_index_or};
-ghost use Rattle.au_noting.specs.Giving.{Gives};
-ghost use Rattle.au_noting.specs.Modes.{wanted};
-ghost use Rattle.au_noting.specs.Said.{all_typed, meanings};
-ghost use Rattle.au_noting.specs.Scopes.{scope_said};
-ghost use Rattle.au_noting_expressions.specs.Arguments.{mistaken, takes, values};
-ghost use Rattle.au_noting_expressions.specs.Passing.{begun_said, call_begun};
-ghost use Rattle.au_typing.specs.Faults.{known_or};
+ghost use Rattle.std.specs.Prelude.{◌≡◌, IfOk};
+ghost use Rattle.au_sights.specs.contracts.noted.NotedPhase.TheImpl.{ghosts as noted};
+ghost use Rattle.au_sights.specs.Views.{note};
+ghost use Rattle.au_syntax.specs.contracts.parsed.ParsedPhase.TheImpl.{ghosts as parsed};
+ghost use Rattle.au_syntax.specs.Views.{expression, node};
+ghost use Rattle.au_types.specs.Types as mean;
+ghost use Rattle.au_types.specs.Views.{meaning};
+ghost use Rattle.au_typing.specs.Notes as spec;
 
-use au_base::Name;
-use au_matching::Substitution;
-use au_noting::lookups::called;
-use au_noting::{Fault, Scope};
-use au_noting_leaves::argument_types::{begun, by_labels, in_order};
-use au_sights::{Callable, Typed};
-use au_syntax::{Argument, Expr, Parsed};
+use au_base::Memory;
+use au_sights::{Noted, Notes};
+use au_syntax::{Expr, Parsed, Site};
 use au_types::Ty;
 use std::alloc::Global;
 
-/// The arguments of a call.
-#[derive(Clone, Copy)]
-pub(crate) enum Operands<'a> {
-    /// Arguments in the order of the parameters.
-    Positional(&'a Vec<Expr<Parsed>>),
-    /// Arguments by the names of the parameters.
-    Labelled(&'a Vec<Argument<Parsed>>),
-}
-
-/// An argument, without its label.
-pub(crate) fn operand_at<'a>(ops: &Operands<'a>, index: usize) -> &'a Expr<Parsed>
-    requires { index < length (values ops.now) }
-    ensures { result.now ≡ slice_index_or (values ops.now) index result.now }
+/// The place and the note of a noted expression.
+#[tactic(auto, using(au_syntax::proofs::ExpressionLemmas::expression_steps))]
+fn site_of(of: &Expr<Noted>) -> &Site<Noted>
+    ensures { node noted result.now ≡ spec.node_of (expression noted of.now) }
 {
-    match ops {
-        Operands::Positional(args) => &args[index],
-        Operands::Labelled(args) => &args[index].value,
+    match of {
+        Expr::Number(site, _) => site,
+        Expr::Negative(site, _) => site,
+        Expr::Text(site, _) => site,
+        Expr::Bool(site, _) => site,
+        Expr::Nil(site) => site,
+        Expr::Path(site, _, _) => site,
+        Expr::Arrow(site, _, _) => site,
+        Expr::Call(site, _, _, _) => site,
+        Expr::NamedCall(site, _, _, _) => site,
+        Expr::Parenthesized(site, _) => site,
+        Expr::Dereference(site, _) => site,
+        Expr::Borrow(site, _, _) => site,
+        Expr::BorrowPart(site, _, _) => site,
+        Expr::Binary(site, _, _, _) => site,
+        Expr::Not(site, _) => site,
+        Expr::Typed(site, _, _) => site,
+        Expr::If(site, _, _, _) => site,
     }
 }
 
-/// The types that the arguments get from the parameters.
-///
-/// # Errors
-///
-/// How many arguments are wanted, or that other labels are.
-fn argument_types(alloc: Global, ops: &Operands, params: &[Typed]) -> Result<Vec<Ty>, Fault>
-    ensures gives { Gives (λ types. meanings types.items) result (known_or
-        (mistaken ops.now (all_typed params.now)) (takes ops.now (all_typed params.now))) }
-    ensures lengths { IfOk result (λ types. length types.items ≡ length (values ops.now)) }
+/// The type that is noted at an expression.
+pub fn type_of(of: &Expr<Noted>) -> &Ty
+    ensures { meaning result.now ≡ spec.type_of (expression noted of.now) }
 {
-    match ops {
-        Operands::Positional(args) => in_order(alloc, args.len(), params),
-        Operands::Labelled(args) => by_labels(alloc, args.as_slice(), params),
-    }
+    &site_of(of).note.of
 }
 
-/// What is called, the types of its arguments, and the substitution that it begins with.
+/// The type `Bool`, which is wanted of a test.
+pub fn truth() -> Ty
+    ensures { meaning result ≡ mean.truth }
+{
+    Ty::Bool
+}
+
+/// A noted expression in a box.
 ///
 /// # Errors
 ///
-/// The clause that fails.
-pub(crate) fn begin_call(
-    alloc: Global,
-    scope: &Scope,
-    mode: Option<&Ty>,
-    name: &Name,
-    ops: &Operands,
-) -> Result<(Callable, Vec<Ty>, Substitution), Fault>
-    ensures gives { Gives begun_said result (call_begun (scope_said scope.now) name.now
-        (takes ops.now) (mistaken ops.now) (wanted mode.entry)) }
-    ensures lengths { IfOk result (λ y. length y.1.items ≡ length (values ops.now)) }
+/// Only for want of memory.
+pub fn boxed(alloc: Global, of: Expr<Noted>) -> Result<Box<Expr<Noted>>, Memory>
+    ensures { IfOk result (λ made. expression noted made.value ≡ expression noted of) }
 {
-    let one = called(alloc, scope, name)?;
-    let types = argument_types(alloc, ops, one.parameters.as_slice())?;
-    let s = begun(alloc, mode, &one.result)?;
-    Ok((one, types, s))
+    Ok(Box::new(alloc, of)?)
+}
+
+/// A note at the place of an expression.
+pub(crate) fn noted_site(site: &Site<Parsed>, notes: Notes) -> Site<Noted>
+    ensures { node noted result ≡ spec.noted_at (node parsed site.now) (note notes) }
+{
+    Site {
+        at: site.at,
+        note: notes,
+    }
 }

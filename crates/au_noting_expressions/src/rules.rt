@@ -5,7 +5,7 @@ ghost use Rattle.au_noting.specs.declared.faults.Fault.TheVariants.{Memory};
 ghost use Rattle.au_noting.specs.Giving.{Gives};
 ghost use Rattle.au_noting.specs.Modes.{wanted};
 ghost use Rattle.au_noting.specs.Scopes.{scope_said};
-ghost use Rattle.au_notes.specs.contracts.noted.NotedPhase.TheImpl.{ghosts as noted};
+ghost use Rattle.au_sights.specs.contracts.noted.NotedPhase.TheImpl.{ghosts as noted};
 ghost use Rattle.au_syntax.specs.contracts.parsed.ParsedPhase.TheImpl.{ghosts as parsed};
 ghost use Rattle.au_syntax.specs.Views.{expression};
 ghost use Rattle.au_typing.specs.Good.{IsNoting};
@@ -13,8 +13,8 @@ ghost use Rattle.au_typing.specs.Notes.{NotedExpression};
 ghost use Rattle.au_typing.specs.Search.{note_expression};
 
 use crate::noting::note;
-use au_notes::Noted;
 use au_noting::{Fault, Scope};
+use au_sights::Noted;
 use au_syntax::{Expr, Parsed};
 use au_types::Ty;
 use std::alloc::Global;

@@ -1,11 +1,11 @@
 -- The law of typed programs, for those above; and what a program is refused for is never want of memory.
 use Rattle.std.proofs.Common.{◌≡◌, List, Some, None, Ok, Err, refl, ap}
 use Rattle.au_modules.specs.Programs.{ModuleParts}
-use Rattle.au_notes.specs.declared.faults.TypeFault.TheVariants as fault
-use Rattle.au_outsides.specs.Outsides.{outside_of}
-use Rattle.au_derivations.specs.Faults.{Judged, StatementFault, refused, too_large}
-use Rattle.au_derivations.specs.Trees.{NotedParts}
-use Rattle.au_derivations.proofs.ProgramLemmas.{program_found, program_sound}
+use Rattle.au_sights.specs.declared.faults.TypeFault.TheVariants as fault
+use Rattle.au_typing.specs.Outsides.{outside_of}
+use Rattle.au_typing.specs.DerivationFaults.{Judged, StatementFault, refused, too_large}
+use Rattle.au_typing.specs.Trees.{NotedParts}
+use Rattle.au_typing.proofs.ProgramLemmas.{program_found, program_sound}
 use Rattle.au_noting_programs.specs.Faults.{IsDerived, fault_in, fault_told, noting_of, type_fault}
 
 -- what is refused for nothing is found

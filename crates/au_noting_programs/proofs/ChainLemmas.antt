@@ -1,7 +1,7 @@
 -- Lists that are judged item by item, in order.
 use Rattle.std.proofs.Common.{◌≡◌, ℕ, ◌+◌, ◌<◌, List, [], ◌∷◌, ◌++◌, length, map, drop, get_or, Result, Ok, Err, refl, sym, ap, subst, ◌∙◌}
 use Rattle.std.proofs.lemmas.List.{append_assoc, drop_more, map-append}
-use Rattle.au_derivations.specs.Faults.{Judged, StatementFault, ◌then◌, refused, too_large}
+use Rattle.au_typing.specs.DerivationFaults.{Judged, StatementFault, ◌then◌, refused, too_large}
 use Rattle.au_judgements.specs.declared.refusals.Refused.{Refused}
 use Rattle.au_judgements.specs.declared.refusals.Refused.TheVariants as told
 use Rattle.au_judgements.specs.Refusing.{Judges, Refuses}

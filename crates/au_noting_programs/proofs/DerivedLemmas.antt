@@ -2,13 +2,13 @@
 use Rattle.std.proofs.Common.{◌≡◌, ◌⊎◌, inl, inr, List, Some, Ok, Err, sym, ap, ◌∙◌}
 use Rattle.std.proofs.lemmas.Option.{none-some}
 use Rattle.au_modules.specs.Programs.{ModuleParts}
-use Rattle.au_notes.specs.declared.faults.TypeFault.{TypeFault}
-use Rattle.au_notes.specs.declared.faults.TypeFault.TheVariants as fault
+use Rattle.au_sights.specs.declared.faults.TypeFault.{TypeFault}
+use Rattle.au_sights.specs.declared.faults.TypeFault.TheVariants as fault
 use Rattle.au_noting.specs.Giving.{cause_said}
-use Rattle.au_outsides.specs.Outsides.{outside_of}
-use Rattle.au_derivations.specs.Faults.{StatementFault, refused, too_large}
-use Rattle.au_derivations.specs.Trees.{NotedParts}
-use Rattle.au_derivations.proofs.ProgramLemmas.{program_sound}
+use Rattle.au_typing.specs.Outsides.{outside_of}
+use Rattle.au_typing.specs.DerivationFaults.{StatementFault, refused, too_large}
+use Rattle.au_typing.specs.Trees.{NotedParts}
+use Rattle.au_typing.proofs.ProgramLemmas.{program_sound}
 use Rattle.au_judgements.specs.declared.refusals.Refused.{Refused}
 use Rattle.au_judgements.specs.declared.refusals.Refused.TheVariants as code
 use Rattle.au_judgements.specs.Refusing.{Refuses}

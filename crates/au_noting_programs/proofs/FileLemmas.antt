@@ -5,10 +5,10 @@ use Rattle.au_syntax.specs.declared.wholes.FileTree.{FileTree}
 use Rattle.au_syntax.specs.Plain.{PlainModule}
 use Rattle.au_syntax.specs.Views.{module_tree}
 use Rattle.au_modules.specs.Programs.{Entry, entry}
-use Rattle.au_scopes.specs.Scopes.{Outside}
-use Rattle.au_derivations.specs.Faults.{Judged, ◌then◌}
-use Rattle.au_derivations.specs.ProgramSearch.{note_declarations, noted_entry}
-use Rattle.au_derivations.specs.Trees.{NotedDeclaration, NotedEntry, NotedModule}
+use Rattle.au_typing.specs.Scopes.{Outside}
+use Rattle.au_typing.specs.DerivationFaults.{Judged, ◌then◌}
+use Rattle.au_typing.specs.ProgramSearch.{note_declarations, noted_entry}
+use Rattle.au_typing.specs.Trees.{NotedDeclaration, NotedEntry, NotedModule}
 use Rattle.au_noting_programs.specs.Steps.{note_entry, note_tree, tree_with}
 use Rattle.au_noting_programs.proofs.PlainLemmas.{module_kept}
 

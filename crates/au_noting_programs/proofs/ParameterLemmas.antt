@@ -5,12 +5,12 @@ use Rattle.au_syntax.specs.Plain.{Bytes}
 use Rattle.au_types.specs.declared.headings.Head.{Head}
 use Rattle.au_types.specs.declared.parameters.Parameter.{Parameter}
 use Rattle.au_types.specs.declared.types.DeclAt.{DeclAt}
-use Rattle.au_written_types.specs.Senses.{sense_of}
-use Rattle.au_generics.specs.Bounds.{bounded}
-use Rattle.au_generics.specs.Meanings.{class_in, class_meant, constraints, parameter, written_params}
-use Rattle.au_generics.proofs.BoundLemmas.{of_each}
-use Rattle.au_scopes.specs.Scopes.{Outside}
-use Rattle.au_derivations.specs.Bodies.{generics_in}
+use Rattle.au_types.specs.Senses.{sense_of}
+use Rattle.au_judged_types.specs.Bounds.{bounded}
+use Rattle.au_judged_types.specs.Meanings.{class_in, class_meant, constraints, parameter, written_params}
+use Rattle.au_judged_types.proofs.BoundLemmas.{of_each}
+use Rattle.au_typing.specs.Scopes.{Outside}
+use Rattle.au_typing.specs.Bodies.{generics_in}
 
 pub generics_made : (outside : Outside) (written : List (Constrained Bytes)) (params : List Parameter) (all : List (List DeclAt)) (heads : List (DeclAt × Head))
     → params ≡ written_params written → heads ≡ outside.heads → all ≡ map (constraints (λ name. class_in (sense_of [] params outside.visible heads name))) written

@@ -7,9 +7,9 @@ use Rattle.std.specs.Str.{bytes_eq}
 use Rattle.std.proofs.lemmas.Option.{none-some, slice_get-get_or}
 use Rattle.au_syntax.specs.declared.modules.Part.{Part}
 use Rattle.au_syntax.specs.Plain.{Bytes}
-use Rattle.au_tables.specs.declared.spaces.Space.{Space}
-use Rattle.au_tables.specs.declared.spaces.Space.TheVariants.{Callables, Types, Values}
-use Rattle.au_tables.specs.Tables.{find}
+use Rattle.au_types.specs.declared.spaces.Space.{Space}
+use Rattle.au_types.specs.declared.spaces.Space.TheVariants.{Callables, Types, Values}
+use Rattle.au_types.specs.Tables.{find}
 use Rattle.au_types.specs.declared.types.DeclAt.{DeclAt}
 use Rattle.au_modules.specs.Programs.{ModuleParts}
 use Rattle.au_names.specs.declared.targets.Target.{Target}
@@ -17,11 +17,11 @@ use Rattle.au_names.specs.HeadsOf.{heads_of}
 use Rattle.au_names.specs.Meanings.{declared_by, seen}
 use Rattle.au_classes.specs.Rows.{rows_of}
 use Rattle.au_instances.specs.Rows.{Row}
-use Rattle.au_outsides.specs.Called.{callable_at}
-use Rattle.au_outsides.specs.Insides.{cases_of, fields_of}
-use Rattle.au_outsides.specs.Outsides.{constant_at, outside_of}
-use Rattle.au_outsides.specs.Written.{seen_at, seen_in, types_at}
-use Rattle.au_scopes.specs.Scopes.{Outside}
+use Rattle.au_typing.specs.Called.{callable_at}
+use Rattle.au_typing.specs.Insides.{cases_of, fields_of}
+use Rattle.au_typing.specs.Outsides.{constant_at, outside_of}
+use Rattle.au_typing.specs.Written.{seen_at, seen_in, types_at}
+use Rattle.au_typing.specs.Scopes.{Outside}
 use Rattle.au_sights.specs.Sights.{constant_numbered}
 
 nothing : ModuleParts

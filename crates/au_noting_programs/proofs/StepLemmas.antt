@@ -6,15 +6,15 @@ use Rattle.au_syntax.specs.Names.{Placed}
 use Rattle.au_syntax.specs.Plain.{Bytes, PlainDeclaration, PlainExpression, PlainMethod, PlainStatements}
 use Rattle.au_syntax.specs.Types.{Labelled, WrittenType}
 use Rattle.au_types.specs.Types.{Meaning, unit}
-use Rattle.au_generics.specs.Bounds.{Bounded}
-use Rattle.au_scopes.specs.Scopes.{Outside, Scope, Variable}
+use Rattle.au_judged_types.specs.Bounds.{Bounded}
+use Rattle.au_typing.specs.Scopes.{Outside, Scope, Variable}
 use Rattle.au_typing.specs.Faults.{Noting, ◌>>=◌}
 use Rattle.au_typing.specs.Lookups.{written_type}
-use Rattle.au_derivations.specs.Bodies.{outer_scope, with_parameters, with_result}
-use Rattle.au_derivations.specs.Faults.{Judged, ◌then◌}
-use Rattle.au_derivations.specs.InScope.{fixed_variable, with_variable}
-use Rattle.au_derivations.specs.ProgramSearch.{note_body, note_constant, note_declaration, note_declarations, note_methods}
-use Rattle.au_derivations.specs.Trees.{NotedDeclaration, NotedMethod, NotedStatements}
+use Rattle.au_typing.specs.Bodies.{outer_scope, with_parameters, with_result}
+use Rattle.au_typing.specs.DerivationFaults.{Judged, ◌then◌}
+use Rattle.au_typing.specs.InScope.{fixed_variable, with_variable}
+use Rattle.au_typing.specs.ProgramSearch.{note_body, note_constant, note_declaration, note_declarations, note_methods}
+use Rattle.au_typing.specs.Trees.{NotedDeclaration, NotedMethod, NotedStatements}
 use Rattle.au_judgements.specs.declared.refusals.Refused.{Refused}
 use Rattle.au_judgements.specs.Refusing.{Judges}
 use Rattle.au_noting_programs.specs.Steps.{note_method, note_value, with_header, with_parameter}

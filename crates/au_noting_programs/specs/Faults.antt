@@ -2,17 +2,17 @@
 use Rattle.std.specs.Prelude.{List, Option, None, Some, Ok, Err}
 use Rattle.au_modules.specs.Programs.{ModuleParts}
 use Rattle.au_names.specs.HeadsOf.{heads_of}
-use Rattle.au_notes.specs.declared.faults.TypeFault.{TypeFault}
-use Rattle.au_notes.specs.declared.faults.TypeFault.TheVariants as fault
-use Rattle.au_notes.specs.declared.faults.Why as told
-use Rattle.au_notes.specs.Views.{why_told}
-use Rattle.au_outsides.specs.ClassTexts.{class_text}
-use Rattle.au_outsides.specs.Outsides.{outside_of}
+use Rattle.au_sights.specs.declared.faults.TypeFault.{TypeFault}
+use Rattle.au_sights.specs.declared.faults.TypeFault.TheVariants as fault
+use Rattle.au_sights.specs.declared.faults.Why as told
+use Rattle.au_sights.specs.Views.{why_told}
+use Rattle.au_typing.specs.ClassTexts.{class_text}
+use Rattle.au_typing.specs.Outsides.{outside_of}
 use Rattle.au_typing.specs.Faults.{Why}
-use Rattle.au_derivations.specs.Derivations.{Derives}
-use Rattle.au_derivations.specs.Faults.{Judged, StatementFault, refused, too_large}
-use Rattle.au_derivations.specs.ProgramSearch.{note_program}
-use Rattle.au_derivations.specs.Trees.{NotedParts}
+use Rattle.au_typing.specs.Derivations.{Derives}
+use Rattle.au_typing.specs.DerivationFaults.{Judged, StatementFault, refused, too_large}
+use Rattle.au_typing.specs.ProgramSearch.{note_program}
+use Rattle.au_typing.specs.Trees.{NotedParts}
 
 -- what the search for the notes of a program comes to, by what each part of each module sees
 abbrev pub noting_of : List ModuleParts → Judged (List NotedParts)

@@ -3,9 +3,9 @@ use Rattle.std.specs.Prelude.{ℕ, List, Option, None, Some, Vec, map}
 use Rattle.std.specs.declared.boxed.Box.{Box}
 use Rattle.std.specs.Global.{Global}
 use Rattle.std.specs.Option.{option_map}
-use Rattle.au_notes.specs.contracts.noted.NotedPhase.TheImpl.{ghosts as noted}
-use Rattle.au_notes.specs.declared.noted.Noted.{Noted}
-use Rattle.au_notes.specs.declared.notes.Notes.{Notes}
+use Rattle.au_sights.specs.contracts.noted.NotedPhase.TheImpl.{ghosts as noted}
+use Rattle.au_sights.specs.declared.noted.Noted.{Noted}
+use Rattle.au_sights.specs.declared.notes.Notes.{Notes}
 use Rattle.au_syntax.specs.declared.declarations.Decl.{Decl}
 use Rattle.au_syntax.specs.declared.declarations.Method.{Method}
 use Rattle.au_syntax.specs.declared.expressions.Expr.{Expr}
@@ -13,7 +13,7 @@ use Rattle.au_syntax.specs.declared.modules.Part.{Part}
 use Rattle.au_syntax.specs.declared.modules.Part.TheVariants.{Interface, Body}
 use Rattle.au_syntax.specs.Views.{declaration, expression, method_body, module_tree}
 use Rattle.au_typing.specs.Notes.{NotedExpression}
-use Rattle.au_derivations.specs.Trees.{NotedDeclaration, NotedEntry, NotedMethod, NotedParts}
+use Rattle.au_typing.specs.Trees.{NotedDeclaration, NotedEntry, NotedMethod, NotedParts}
 use Rattle.au_noting_programs.specs.declared.modules.NotedFile.{NotedFile}
 use Rattle.au_noting_programs.specs.declared.modules.NotedModule.{NotedModule}
 

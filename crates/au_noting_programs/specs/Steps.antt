@@ -6,20 +6,20 @@ use Rattle.au_syntax.specs.Plain.{Bytes, PlainExpression, PlainMethod, PlainModu
 use Rattle.au_syntax.specs.Types.{Labelled}
 use Rattle.au_types.specs.Types.{Meaning}
 use Rattle.au_modules.specs.Programs.{Entry}
-use Rattle.au_scopes.specs.Scopes.{Outside, Scope}
+use Rattle.au_typing.specs.Scopes.{Outside, Scope}
 use Rattle.au_typing.specs.Faults.{Noting, ◌>>=◌, assignable_wanted, check, shape}
 use Rattle.au_typing.specs.Lookups.{written_type}
 use Rattle.au_typing.specs.Notes.{NotedExpression}
 use Rattle.au_typing.specs.Search.{note}
-use Rattle.au_derivations.specs.Bodies.{with_parameters, with_result}
-use Rattle.au_derivations.specs.Faults.{Judged, ◌then◌}
-use Rattle.au_derivations.specs.InScope.{fixed_variable, with_variable}
-use Rattle.au_derivations.specs.Parts.{is_literal}
-use Rattle.au_derivations.specs.ProgramSearch.{judge_end, note_body, note_declarations, noted_entry}
-use Rattle.au_derivations.specs.Returns.{block_returns}
-use Rattle.au_derivations.specs.Search.{note_block}
-use Rattle.au_derivations.specs.Trees.{NotedDeclaration, NotedEntry, NotedMethod, NotedModule}
-use Rattle.au_derivations.specs.Trees.{NotedStatements}
+use Rattle.au_typing.specs.Bodies.{with_parameters, with_result}
+use Rattle.au_typing.specs.DerivationFaults.{Judged, ◌then◌}
+use Rattle.au_typing.specs.InScope.{fixed_variable, with_variable}
+use Rattle.au_typing.specs.Parts.{is_literal}
+use Rattle.au_typing.specs.ProgramSearch.{judge_end, note_body, note_declarations, noted_entry}
+use Rattle.au_typing.specs.Returns.{block_returns}
+use Rattle.au_typing.specs.DerivationSearch.{note_block}
+use Rattle.au_typing.specs.Trees.{NotedDeclaration, NotedEntry, NotedMethod, NotedModule}
+use Rattle.au_typing.specs.Trees.{NotedStatements}
 
 -- a scope with a parameter, which isn't assigned to
 abbrev pub with_parameter : Labelled Bytes → Scope → Noting Scope

@@ -1,11 +1,11 @@
 -- What the code tells of a fault of a statement.
 use Rattle.std.specs.Prelude.{◌≡◌, ◌⊎◌, List}
 use Rattle.au_modules.specs.Programs.{ModuleParts}
-use Rattle.au_derivations.specs.Faults.{refused, too_large}
+use Rattle.au_typing.specs.DerivationFaults.{refused, too_large}
 use Rattle.au_judgements.specs.declared.refusals.Refused.{Refused}
 use Rattle.au_judgements.specs.declared.refusals.Refused.TheVariants as code
-use Rattle.au_notes.specs.declared.faults.TypeFault.{TypeFault}
-use Rattle.au_notes.specs.declared.faults.TypeFault.TheVariants as fault
+use Rattle.au_sights.specs.declared.faults.TypeFault.{TypeFault}
+use Rattle.au_sights.specs.declared.faults.TypeFault.TheVariants as fault
 use Rattle.au_noting.specs.Giving.{cause_said}
 use Rattle.au_noting_programs.specs.Faults.{fault_told}
 

@@ -1,10 +1,10 @@
 //! What is in scope in a body, and bodies with their notes.
 
 ghost use Rattle.std.specs.Prelude.{◌≡◌, IfOk, map};
-ghost use Rattle.au_derivations.specs.Bodies as spec;
-ghost use Rattle.au_derivations.specs.ProgramSearch as programs;
+ghost use Rattle.au_typing.specs.Bodies as spec;
+ghost use Rattle.au_typing.specs.ProgramSearch as programs;
 ghost use Rattle.au_judgements.specs.Refusing.{Judges};
-ghost use Rattle.au_notes.specs.contracts.noted.NotedPhase.TheImpl.{ghosts as noted};
+ghost use Rattle.au_sights.specs.contracts.noted.NotedPhase.TheImpl.{ghosts as noted};
 ghost use Rattle.au_noting.specs.Giving.{Gives};
 ghost use Rattle.au_noting.specs.Scopes.{scope_said};
 ghost use Rattle.au_noting_programs.specs.Steps as steps;
@@ -14,14 +14,13 @@ ghost use Rattle.au_syntax.specs.Views as views;
 
 use crate::parameters::generics_in;
 use au_base::{Memory, Pos};
-use au_generics::Generics;
+use au_judged_types::Generics;
 use au_judgements::returning::block_returns;
 use au_judgements::{Refused, refused_at};
-use au_notes::Noted;
 use au_noting::lookups::written_type;
 use au_noting::{Bounds, Cause, Fault, Scope, Variable, Variables};
 use au_noting_statements::note_block;
-use au_sights::Surroundings;
+use au_sights::{Noted, Surroundings};
 use au_syntax::{Block, Field, Generic, Parsed, Signature, TypeText};
 use au_types::Ty;
 use std::alloc::Global;

@@ -1,10 +1,10 @@
 //! Constants with their notes.
 
 ghost use Rattle.std.specs.Prelude.{◌≡◌, [], IfOk};
-ghost use Rattle.au_derivations.specs.Bodies as bodies;
-ghost use Rattle.au_derivations.specs.ProgramSearch as spec;
+ghost use Rattle.au_typing.specs.Bodies as bodies;
+ghost use Rattle.au_typing.specs.ProgramSearch as spec;
 ghost use Rattle.au_judgements.specs.Refusing.{Judges};
-ghost use Rattle.au_notes.specs.contracts.noted.NotedPhase.TheImpl.{ghosts as noted};
+ghost use Rattle.au_sights.specs.contracts.noted.NotedPhase.TheImpl.{ghosts as noted};
 ghost use Rattle.au_noting.specs.Giving.{Gives};
 ghost use Rattle.au_noting.specs.Scopes.{scope_said};
 ghost use Rattle.au_noting_programs.specs.Said.{boxed_said};
@@ -18,15 +18,14 @@ ghost use Rattle.au_types.specs.Views.{meaning};
 use crate::bodies::outer_scope;
 use crate::heads::copy_constant;
 use au_base::{Memory, Pos};
-use au_generics::Generics;
+use au_judged_types::Generics;
 use au_judgements::literals::is_literal;
 use au_judgements::{Refused, refused_at};
-use au_notes::{Form, Noted};
 use au_noting::faults::other_form;
 use au_noting::lookups::written_type;
 use au_noting::{Fault, Scope};
 use au_noting_expressions::note_boxed;
-use au_sights::Surroundings;
+use au_sights::{Form, Noted, Surroundings};
 use au_syntax::{Decl, Expr, Ident, Parsed, TypeText};
 use au_types::{Params, Ty};
 use std::alloc::Global;

@@ -1,7 +1,7 @@
 //! Copies of the parts of declarations that hold no expression, for a tree with notes.
 
 ghost use Rattle.std.specs.Prelude.{◌≡◌, ℕ, IfOk, List, map};
-ghost use Rattle.au_notes.specs.contracts.noted.NotedPhase.TheImpl.{ghosts as noted};
+ghost use Rattle.au_sights.specs.contracts.noted.NotedPhase.TheImpl.{ghosts as noted};
 ghost use Rattle.au_syntax.specs.contracts.parsed.ParsedPhase.TheImpl.{ghosts as parsed};
 ghost use Rattle.au_syntax.specs.Modules.{Constrained, Header, Importing, InUniverse, Variant};
 ghost use Rattle.au_syntax.specs.Names.{Placed, Renaming};
@@ -10,7 +10,7 @@ ghost use Rattle.au_syntax.specs.Views.{constrained, header, importing, in_unive
 ghost use Rattle.au_syntax.specs.Views.{renaming, variant};
 
 use au_base::Memory;
-use au_notes::{Noted, copy_name, copy_names, copy_renamed, copy_text_of_type};
+use au_sights::{Noted, copy_name, copy_names, copy_renamed, copy_text_of_type};
 use au_syntax::{
     Field, Generic, Ident, Import, Parsed, Renamed, Signature, TypeParameter, UnionCase,
 };

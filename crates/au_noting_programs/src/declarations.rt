@@ -1,9 +1,9 @@
 //! Declarations with their notes.
 
 ghost use Rattle.std.specs.Prelude.{map};
-ghost use Rattle.au_derivations.specs.ProgramSearch as spec;
+ghost use Rattle.au_typing.specs.ProgramSearch as spec;
 ghost use Rattle.au_judgements.specs.Refusing.{Judges};
-ghost use Rattle.au_notes.specs.contracts.noted.NotedPhase.TheImpl.{ghosts as noted};
+ghost use Rattle.au_sights.specs.contracts.noted.NotedPhase.TheImpl.{ghosts as noted};
 ghost use Rattle.au_noting_programs.specs.Said.{declarations_said, methods_said};
 ghost use Rattle.au_noting_programs.specs.Steps as steps;
 ghost use Rattle.au_sights.specs.Sights.{outside_seen};
@@ -21,8 +21,7 @@ use crate::heads::{
 use crate::lists::put;
 use au_base::Pos;
 use au_judgements::Refused;
-use au_notes::Noted;
-use au_sights::Surroundings;
+use au_sights::{Noted, Surroundings};
 use au_syntax::{Block, Decl, Generic, Ident, Method, Parsed, Signature, TypeText};
 use std::alloc::Global;
 

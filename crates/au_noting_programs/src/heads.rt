@@ -2,7 +2,7 @@
 
 ghost use Rattle.std.specs.Prelude.{◌≡◌, IfOk, Ok, map};
 ghost use Rattle.au_judgements.specs.Refusing.{Judges};
-ghost use Rattle.au_notes.specs.contracts.noted.NotedPhase.TheImpl.{ghosts as noted};
+ghost use Rattle.au_sights.specs.contracts.noted.NotedPhase.TheImpl.{ghosts as noted};
 ghost use Rattle.au_syntax.specs.contracts.parsed.ParsedPhase.TheImpl.{ghosts as parsed};
 ghost use Rattle.au_syntax.specs.Modules as tree;
 ghost use Rattle.au_syntax.specs.Views as views;
@@ -10,7 +10,7 @@ ghost use Rattle.au_syntax.specs.Views as views;
 use crate::copies::{Copied, copy_all};
 use au_base::{Memory, Pos};
 use au_judgements::Refused;
-use au_notes::{Noted, copy_name, copy_text_of_type};
+use au_sights::{Noted, copy_name, copy_text_of_type};
 use au_syntax::{
     Decl, Field, Generic, Ident, Parsed, Signature, TypeParameter, TypeText, UnionCase, Universe,
 };

@@ -2,7 +2,7 @@
 
 ghost use Rattle.std.specs.Prelude.{◌≡◌, ◌⊎◌, Err, IfOk, List, MatchResult, None, Ok, Some};
 ghost use Rattle.au_classes.specs.Rows.{rows_of};
-ghost use Rattle.au_derivations.specs.Trees.{NotedParts};
+ghost use Rattle.au_typing.specs.Trees.{NotedParts};
 ghost use Rattle.au_modules.specs.Slots as slots;
 ghost use Rattle.au_names.specs.HeadsOf.{heads_of};
 ghost use Rattle.au_noting_programs.specs.Faults.{IsDerived, noting_of, type_fault};
@@ -12,7 +12,7 @@ use crate::programs::NotedProgram;
 use crate::telling::told;
 use au_classes::Classes;
 use au_imports::Resolved;
-use au_notes::TypeFault;
+use au_sights::TypeFault;
 use std::alloc::Global;
 
 /// A program with its notes, the one derivation that it has.

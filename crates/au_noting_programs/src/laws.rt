@@ -1,7 +1,7 @@
 //! Laws of the definitions.
 
 ghost use Rattle.std.specs.Prelude.{◌≡◌, ◌↔◌, List, None};
-ghost use Rattle.au_derivations.specs.Trees.{NotedParts};
+ghost use Rattle.au_typing.specs.Trees.{NotedParts};
 ghost use Rattle.au_modules.specs.Programs.{ModuleParts};
 ghost use Rattle.au_noting_programs.specs.Faults.{IsDerived, type_fault};
 

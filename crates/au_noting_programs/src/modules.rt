@@ -1,7 +1,7 @@
 //! Modules with notes.
 
 use au_base::Name;
-use au_notes::Noted;
+use au_sights::Noted;
 use au_syntax::Module;
 
 /// A file with notes.

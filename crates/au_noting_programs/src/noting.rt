@@ -3,14 +3,14 @@
 ghost use Rattle.std.specs.Prelude.{◌≡◌, ◌<◌, IfOk, length, map};
 ghost use Rattle.std.specs.Option.{option_copied, option_map};
 ghost use Rattle.au_classes.specs.Rows.{rows_of};
-ghost use Rattle.au_derivations.specs.ProgramSearch as spec;
+ghost use Rattle.au_typing.specs.ProgramSearch as spec;
 ghost use Rattle.au_judgements.specs.Refusing.{Judges};
 ghost use Rattle.au_modules.specs.Programs.{entry};
 ghost use Rattle.au_modules.specs.Slots as slots;
-ghost use Rattle.au_notes.specs.contracts.noted.NotedPhase.TheImpl.{ghosts as noted};
+ghost use Rattle.au_sights.specs.contracts.noted.NotedPhase.TheImpl.{ghosts as noted};
 ghost use Rattle.au_noting_programs.specs.Said.{file_said, made_said, module_said, part_said};
 ghost use Rattle.au_noting_programs.specs.Steps as steps;
-ghost use Rattle.au_outsides.specs.Outsides.{outside_of};
+ghost use Rattle.au_typing.specs.Outsides.{outside_of};
 ghost use Rattle.au_sights.specs.Sights.{outside_seen};
 ghost use Rattle.au_syntax.specs.contracts.parsed.ParsedPhase.TheImpl.{ghosts as parsed};
 ghost use Rattle.au_syntax.specs.Views.{declaration, module_tree};
@@ -25,8 +25,7 @@ use au_imports::Resolved;
 use au_instances::Instances;
 use au_judgements::Refused;
 use au_modules::modules::Slot;
-use au_notes::Noted;
-use au_sights::Surroundings;
+use au_sights::{Noted, Surroundings};
 use au_syntax::{Decl, FileTree, Module, Parsed, Part};
 use std::alloc::Global;
 

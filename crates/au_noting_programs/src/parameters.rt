@@ -1,21 +1,20 @@
 //! The type parameters of a declaration with the classes of their constraints.
 
 ghost use Rattle.std.specs.Prelude.{◌≡◌, ◌++◌, IfOk, OnOk, Some, map, option_to_list};
-ghost use Rattle.au_derivations.specs.Bodies as bodies;
-ghost use Rattle.au_generics.specs.Meanings as spec;
-ghost use Rattle.au_generics.specs.Views.{class_within};
+ghost use Rattle.au_typing.specs.Bodies as bodies;
+ghost use Rattle.au_judged_types.specs.Meanings as spec;
+ghost use Rattle.au_judged_types.specs.GenericViews.{class_within};
 ghost use Rattle.au_sights.specs.Sights.{outside_seen};
 ghost use Rattle.au_syntax.specs.contracts.parsed.ParsedPhase.TheImpl.{ghosts as parsed};
 ghost use Rattle.au_syntax.specs.Plain.{Bytes};
 ghost use Rattle.au_syntax.specs.Views.{constrained, in_universe, placed};
-ghost use Rattle.au_written_types.specs.Views.{said};
+ghost use Rattle.au_types.specs.WrittenViews.{said};
 
 use au_base::{Memory, Name, Sequence};
-use au_generics::Generics;
+use au_judged_types::Generics;
 use au_sights::Surroundings;
 use au_syntax::{Generic, Ident, Parsed, TypeParameter};
-use au_types::{DeclAt, Parameter, Params};
-use au_written_types::{Scope, Sense, sense_of};
+use au_types::{DeclAt, Parameter, Params, Scope, Sense, sense_of};
 use std::alloc::Global;
 
 /// A type parameter as it is written.

@@ -3,7 +3,7 @@
 ghost use Rattle.std.specs.Prelude.{◌≡◌, ◌<◌, List, Ok, Some, length, slice_get};
 ghost use Rattle.std.specs.Option.{option_copied};
 ghost use Rattle.au_classes.specs.Rows.{rows_of};
-ghost use Rattle.au_derivations.specs.Trees.{NotedParts};
+ghost use Rattle.au_typing.specs.Trees.{NotedParts};
 ghost use Rattle.au_modules.specs.Slots as slots;
 ghost use Rattle.au_names.specs.HeadsOf.{heads_of};
 ghost use Rattle.au_noting_programs.specs.Faults.{IsDerived, noting_of};

@@ -3,7 +3,7 @@
 ghost use Rattle.std.specs.Prelude.{◌≡◌, ◌<◌, length};
 ghost use Rattle.au_classes.specs.Rows.{rows_of};
 ghost use Rattle.au_modules.specs.Slots as slots;
-ghost use Rattle.au_outsides.specs.Outsides.{outside_of};
+ghost use Rattle.au_typing.specs.Outsides.{outside_of};
 ghost use Rattle.au_sights.specs.Sights.{outside_seen};
 
 use au_imports::Resolved;

@@ -13,11 +13,11 @@ ghost use Rattle.au_typing.specs.Faults as faults;
 use au_base::{Memory, Pos, Text};
 use au_imports::Resolved;
 use au_judgements::Refused;
-use au_notes::{TypeFault, Why};
 use au_noting::Cause;
-use au_outsides::class_texts::class_text;
+use au_sights::{TypeFault, Why};
 use au_type_texts::type_text;
 use au_types::{DeclAt, Ty};
+use au_typing::class_texts::class_text;
 use std::alloc::Global;
 
 /// The text of a type of a program.

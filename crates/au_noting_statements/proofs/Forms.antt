@@ -1,19 +1,19 @@
 -- Statements with blocks, from what their parts give; and the scopes behind them.
 use Rattle.std.proofs.Common.{arith, ◌≡◌, ◌∷◌, ◌-◌, [], ℕ, List, Err, Ok, Result, ap, refl, subst, sym, ◌∙◌, length}
 use Rattle.au_base.specs.declared.places.Pos.{Pos}
-use Rattle.au_derivations.specs.Faults as refusals
-use Rattle.au_derivations.specs.Faults.{Judged, ◌then◌, StatementFault}
-use Rattle.au_derivations.specs.InScope.{fixed_variable, with_bound, with_reference, with_variable}
-use Rattle.au_derivations.specs.Parts.{borrow_type, heads_of, mode_for}
-use Rattle.au_derivations.specs.Search.{judge_borrow, judge_lent, note_arms, note_block, note_bounds, note_branches, note_case, note_statement, note_test, note_tests}
-use Rattle.au_derivations.specs.Trees.{NotedArms, NotedBranches, NotedStatement, NotedStatements}
+use Rattle.au_typing.specs.DerivationFaults as refusals
+use Rattle.au_typing.specs.DerivationFaults.{Judged, ◌then◌, StatementFault}
+use Rattle.au_typing.specs.InScope.{fixed_variable, with_bound, with_reference, with_variable}
+use Rattle.au_typing.specs.Parts.{borrow_type, heads_of, mode_for}
+use Rattle.au_typing.specs.DerivationSearch.{judge_borrow, judge_lent, note_arms, note_block, note_bounds, note_branches, note_case, note_statement, note_test, note_tests}
+use Rattle.au_typing.specs.Trees.{NotedArms, NotedBranches, NotedStatement, NotedStatements}
 use Rattle.au_judgements.proofs.LeavingLemmas.{bound_grown, grown_left, reference_left}
 use Rattle.au_judgements.specs.declared.refusals.Refused.{Refused}
 use Rattle.au_judgements.specs.Refusing.{Judges}
-use Rattle.au_notes.specs.contracts.noted.NotedPhase.TheImpl.{ghosts as noted}
+use Rattle.au_sights.specs.contracts.noted.NotedPhase.TheImpl.{ghosts as noted}
 use Rattle.au_noting.specs.Scopes.{closed_in, without}
 use Rattle.au_noting_statements.specs.Entering.{lent_scope, typed_scope}
-use Rattle.au_scopes.specs.Scopes.{Scope, Variable}
+use Rattle.au_typing.specs.Scopes.{Scope, Variable}
 use Rattle.au_syntax.specs.declared.expressions.BorrowMode.{BorrowMode}
 use Rattle.au_syntax.specs.declared.types.Access.{Access}
 use Rattle.au_syntax.specs.Names.{Placed}

@@ -1,14 +1,14 @@
 -- Noted parts in front of what is still judged.
 use Rattle.std.proofs.Common.{◌≡◌, ◌++◌, ◌∷◌, ◌<◌, ◌+◌, [], ℕ, List, Err, Ok, Result, ap, subst, sym, ◌∙◌, drop, get_or, length, map, refl}
 use Rattle.std.proofs.lemmas.List.{at_drop_more}
-use Rattle.au_derivations.specs.Faults.{Judged, ◌then◌, StatementFault, refused, too_large}
-use Rattle.au_derivations.specs.Trees.{NotedArms, NotedBranches, NotedStatements}
+use Rattle.au_typing.specs.DerivationFaults.{Judged, ◌then◌, StatementFault, refused, too_large}
+use Rattle.au_typing.specs.Trees.{NotedArms, NotedBranches, NotedStatements}
 use Rattle.au_judgements.specs.declared.refusals.Refused.{Refused}
 use Rattle.au_judgements.specs.declared.refusals.Refused.TheVariants as told
 use Rattle.au_judgements.specs.Refusing.{Judges, Refuses}
-use Rattle.au_notes.specs.contracts.noted.NotedPhase.TheImpl.{ghosts as noted}
-use Rattle.au_notes.specs.declared.noted.Noted.{Noted}
-use Rattle.au_notes.specs.declared.notes.Notes.{Notes}
+use Rattle.au_sights.specs.contracts.noted.NotedPhase.TheImpl.{ghosts as noted}
+use Rattle.au_sights.specs.declared.noted.Noted.{Noted}
+use Rattle.au_sights.specs.declared.notes.Notes.{Notes}
 use Rattle.au_noting.specs.Giving.{cause_said}
 use Rattle.au_noting_statements.specs.Noted.{boxed}
 use Rattle.au_syntax.specs.declared.statements.Arm.{Arm}

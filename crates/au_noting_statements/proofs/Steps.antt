@@ -1,11 +1,11 @@
 -- Parts of statements from what their own parts give.
 use Rattle.std.proofs.Common.{◌≡◌, Err, None, Ok, List, Result, ap, subst, sym, ◌∙◌}
-use Rattle.au_derivations.specs.Parts.{ArmHead}
-use Rattle.au_derivations.specs.Search.{judge_binds, judge_heads, judge_union, note_case, note_taken}
+use Rattle.au_typing.specs.Parts.{ArmHead}
+use Rattle.au_typing.specs.DerivationSearch.{judge_binds, judge_heads, judge_union, note_case, note_taken}
 use Rattle.au_noting.specs.declared.faults.Fault as told
 use Rattle.au_noting.specs.declared.faults.Fault.TheVariants as fault
 use Rattle.au_noting.specs.Giving.{Gives, Stops, cause_said}
-use Rattle.au_scopes.specs.Scopes.{Case, Scope, Typed}
+use Rattle.au_typing.specs.Scopes.{Case, Scope, Typed}
 use Rattle.au_syntax.specs.Plain.{Bytes, PlainExpression}
 use Rattle.au_syntax.specs.Types.{Bound}
 use Rattle.au_types.specs.Types.{Meaning}

@@ -4,15 +4,15 @@ use Rattle.std.proofs.lemmas.List.{append-nil, at_drop_all, length-drop, map-app
 use Rattle.std.specs.Global.{Global}
 use Rattle.std.specs.declared.boxed.Box.{Box}
 use Rattle.au_base.specs.declared.places.Pos.{Pos}
-use Rattle.au_derivations.specs.Faults.{Judged, ◌then◌, StatementFault}
-use Rattle.au_derivations.specs.InScope.{after, with_bound}
-use Rattle.au_derivations.specs.Returns.{returns}
-use Rattle.au_derivations.specs.Search.{judge_next, note_arms, note_block, note_branches, note_statement, note_test, note_tests}
-use Rattle.au_derivations.specs.Trees.{NotedArms, NotedBranches, NotedStatement, NotedStatements}
-use Rattle.au_notes.specs.contracts.noted.NotedPhase.TheImpl.{ghosts as noted}
+use Rattle.au_typing.specs.DerivationFaults.{Judged, ◌then◌, StatementFault}
+use Rattle.au_typing.specs.InScope.{after, with_bound}
+use Rattle.au_typing.specs.Returns.{returns}
+use Rattle.au_typing.specs.DerivationSearch.{judge_next, note_arms, note_block, note_branches, note_statement, note_test, note_tests}
+use Rattle.au_typing.specs.Trees.{NotedArms, NotedBranches, NotedStatement, NotedStatements}
+use Rattle.au_sights.specs.contracts.noted.NotedPhase.TheImpl.{ghosts as noted}
 use Rattle.au_noting_statements.specs.Noted.{all_boxed, boxed}
-use Rattle.au_noting_leaves.specs.Said.{NotedCode}
-use Rattle.au_scopes.specs.Scopes.{Scope}
+use Rattle.au_noting_expressions.specs.Said.{NotedCode}
+use Rattle.au_typing.specs.Scopes.{Scope}
 use Rattle.au_syntax.specs.contracts.parsed.ParsedPhase.TheImpl.{ghosts as parsed}
 use Rattle.au_syntax.specs.Names.{Placed}
 use Rattle.au_syntax.specs.Plain.{Bytes, PlainArms, PlainBranches, PlainStatement, PlainStatements}

@@ -5,10 +5,10 @@ use Rattle.au_syntax.specs.declared.types.Access.{Access}
 use Rattle.au_syntax.specs.Plain.{Bytes}
 use Rattle.au_syntax.specs.Types.{WrittenType}
 use Rattle.au_types.specs.Types.{Meaning}
-use Rattle.au_derivations.specs.InScope.{with_reference}
-use Rattle.au_derivations.specs.Parts.{borrow_type, mode_for}
-use Rattle.au_derivations.specs.Search.{judge_borrow, judge_lent}
-use Rattle.au_scopes.specs.Scopes.{Scope}
+use Rattle.au_typing.specs.InScope.{with_reference}
+use Rattle.au_typing.specs.Parts.{borrow_type, mode_for}
+use Rattle.au_typing.specs.DerivationSearch.{judge_borrow, judge_lent}
+use Rattle.au_typing.specs.Scopes.{Scope}
 use Rattle.au_typing.specs.Faults.{Noting, ◌>>=◌}
 
 -- the type of the reference of a borrow statement without a written type

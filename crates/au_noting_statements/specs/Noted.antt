@@ -2,8 +2,8 @@
 use Rattle.std.specs.Prelude.{List, map}
 use Rattle.std.specs.Global.{Global}
 use Rattle.std.specs.declared.boxed.Box.{Box}
-use Rattle.au_notes.specs.contracts.noted.NotedPhase.TheImpl.{ghosts as noted}
-use Rattle.au_noting_leaves.specs.Said.{NotedCode}
+use Rattle.au_sights.specs.contracts.noted.NotedPhase.TheImpl.{ghosts as noted}
+use Rattle.au_noting_expressions.specs.Said.{NotedCode}
 use Rattle.au_syntax.specs.Views.{expression}
 use Rattle.au_typing.specs.Notes.{NotedExpression}
 

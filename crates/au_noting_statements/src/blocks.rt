@@ -1,11 +1,11 @@
 //! Statements and blocks.
 
 ghost use Rattle.std.specs.Prelude.{◌≡◌, IfOk, OnOk, map};
-ghost use Rattle.au_derivations.specs.InScope as inside;
-ghost use Rattle.au_derivations.specs.Search as spec;
+ghost use Rattle.au_typing.specs.InScope as inside;
+ghost use Rattle.au_typing.specs.DerivationSearch as spec;
 ghost use Rattle.au_judgements.specs.Refusing.{Judges};
 ghost use Rattle.au_judgements.specs.Said.{binds_said};
-ghost use Rattle.au_notes.specs.contracts.noted.NotedPhase.TheImpl.{ghosts as noted};
+ghost use Rattle.au_sights.specs.contracts.noted.NotedPhase.TheImpl.{ghosts as noted};
 ghost use Rattle.au_noting.specs.Scopes.{scope_said};
 ghost use Rattle.au_noting_statements.specs.Noted.{all_boxed};
 ghost use Rattle.au_syntax.specs.contracts.parsed.ParsedPhase.TheImpl.{ghosts as parsed};
@@ -20,8 +20,8 @@ use crate::single::{
 };
 use au_base::Pos;
 use au_judgements::Refused;
-use au_notes::Noted;
 use au_noting::Scope;
+use au_sights::Noted;
 use au_syntax::{
     Access, Arm, Block, BorrowMode, BorrowNames, Branch, Expr, Ident, Parsed, Stmt, TypeText,
 };

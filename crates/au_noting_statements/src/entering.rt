@@ -1,13 +1,13 @@
 //! What stands before the blocks of statements, and the scopes in these blocks.
 
 ghost use Rattle.std.specs.Prelude.{◌≡◌, IfOk, OnOk, map};
-ghost use Rattle.au_derivations.specs.Faults as refusals;
-ghost use Rattle.au_derivations.specs.InScope as inside;
-ghost use Rattle.au_derivations.specs.Returns as paths;
-ghost use Rattle.au_derivations.specs.Search as spec;
+ghost use Rattle.au_typing.specs.DerivationFaults as refusals;
+ghost use Rattle.au_typing.specs.InScope as inside;
+ghost use Rattle.au_typing.specs.Returns as paths;
+ghost use Rattle.au_typing.specs.DerivationSearch as spec;
 ghost use Rattle.au_judgements.specs.Refusing.{Judges};
 ghost use Rattle.au_judgements.specs.Said.{binds_said, heads_said};
-ghost use Rattle.au_notes.specs.contracts.noted.NotedPhase.TheImpl.{ghosts as noted};
+ghost use Rattle.au_sights.specs.contracts.noted.NotedPhase.TheImpl.{ghosts as noted};
 ghost use Rattle.au_noting.specs.Giving.{Gives};
 ghost use Rattle.au_noting.specs.Scopes.{scope_said};
 ghost use Rattle.au_noting_statements.specs.Entering as entering;
@@ -26,9 +26,9 @@ use au_judgements::leaving::enter_reference;
 use au_judgements::places::judge_next;
 use au_judgements::returning::returns;
 use au_judgements::{Refused, refused_at};
-use au_notes::{Noted, copy_binds, copy_borrow_names, copy_name, copy_text_of_type};
 use au_noting::{Fault, Scope};
-use au_noting_leaves::type_of;
+use au_noting_expressions::type_of;
+use au_sights::{Noted, copy_binds, copy_borrow_names, copy_name, copy_text_of_type};
 use au_syntax::{
     Access, Arm, Bind, BorrowMode, BorrowNames, Branch, Expr, Ident, Parsed, Stmt, TypeText,
 };

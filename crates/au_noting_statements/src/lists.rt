@@ -3,7 +3,7 @@
 ghost use Rattle.std.specs.Prelude.{◌≡◌, ◌++◌, ◌∷◌, [], MatchOption, OnOk};
 
 use au_base::Memory;
-use au_notes::Noted;
+use au_sights::Noted;
 use au_syntax::{Arm, Branch, Expr, Stmt};
 use std::collections::VecDeque;
 

@@ -1,6 +1,6 @@
 //! The notes of what a statement says itself, without its blocks.
 
-ghost use Rattle.au_derivations.specs.Search as spec;
+ghost use Rattle.au_typing.specs.DerivationSearch as spec;
 ghost use Rattle.au_judgements.specs.Said.{binds_said, heads_said};
 ghost use Rattle.au_noting.specs.Giving.{Gives};
 ghost use Rattle.au_noting.specs.Said.{all_typed, fields_said};
@@ -17,16 +17,14 @@ use crate::lists::put_test;
 use crate::vectors::{judge_assigned, judge_binds, judge_heads, judge_put};
 use au_base::Name;
 use au_judgements::arms::judge_union;
-use au_notes::{Form, Noted};
 use au_noting::faults::{not_free, other_form};
 use au_noting::lookups::{is_free_in, written_type};
 use au_noting::nodes::of_one_type;
 use au_noting::rules::is_integer;
 use au_noting::{Fault, Scope};
-use au_noting_expressions::{note_boxed, paired};
-use au_noting_leaves::{truth, type_of};
-use au_sights::Typed;
+use au_noting_expressions::{note_boxed, paired, truth, type_of};
 use au_sights::surroundings::fields;
+use au_sights::{Form, Noted, Typed};
 use au_syntax::{Arm, Bind, Branch, Expr, Ident, Parsed, TypeText};
 use au_types::Ty;
 use std::alloc::Global;

@@ -1,9 +1,9 @@
 //! Statements that hold no block.
 
-ghost use Rattle.au_derivations.specs.Search as spec;
+ghost use Rattle.au_typing.specs.DerivationSearch as spec;
 ghost use Rattle.au_judgements.specs.Refusing.{Judges};
 ghost use Rattle.au_judgements.specs.Said.{binds_said};
-ghost use Rattle.au_notes.specs.contracts.noted.NotedPhase.TheImpl.{ghosts as noted};
+ghost use Rattle.au_sights.specs.contracts.noted.NotedPhase.TheImpl.{ghosts as noted};
 ghost use Rattle.au_noting.specs.Said.{fields_said};
 ghost use Rattle.au_noting.specs.Scopes.{scope_said};
 ghost use Rattle.au_syntax.specs.contracts.parsed.ParsedPhase.TheImpl.{ghosts as parsed};
@@ -15,8 +15,8 @@ use crate::parts::{
 };
 use au_base::Pos;
 use au_judgements::{Refused, refused_at};
-use au_notes::{Noted, copy_binds, copy_name, copy_names, copy_text_of_type};
 use au_noting::Scope;
+use au_sights::{Noted, copy_binds, copy_name, copy_names, copy_text_of_type};
 use au_syntax::{Bind, Binding, Expr, Ident, Parsed, Stmt, TypeText};
 use std::alloc::Global;
 

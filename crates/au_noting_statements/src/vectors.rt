@@ -1,6 +1,6 @@
 //! Judgements over the items of vectors.
 
-ghost use Rattle.au_derivations.specs.Search as spec;
+ghost use Rattle.au_typing.specs.DerivationSearch as spec;
 ghost use Rattle.au_judgements.specs.Said.{binds_said, cases_said, heads_said};
 ghost use Rattle.au_noting.specs.Giving.{Gives};
 ghost use Rattle.au_noting.specs.Said.{all_typed, fields_said};

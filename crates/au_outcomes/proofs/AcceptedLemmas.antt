@@ -27,8 +27,8 @@ use Rattle.au_imports.specs.NameFaults.{name_fault}
 use Rattle.au_promises.specs.declared.faults.PromiseFault.{PromiseFault}
 use Rattle.au_promises.specs.declared.faults.PromiseFault.TheVariants as promises
 use Rattle.au_promises.specs.Promises.{promise_fault}
-use Rattle.au_derivations.specs.Trees.{NotedParts}
-use Rattle.au_notes.specs.declared.faults.TypeFault.TheVariants as types
+use Rattle.au_typing.specs.Trees.{NotedParts}
+use Rattle.au_sights.specs.declared.faults.TypeFault.TheVariants as types
 use Rattle.au_noting_programs.specs.Faults.{IsDerived, type_fault}
 use Rattle.au_noting_programs.proofs.AcceptedLemmas as typing
 use Rattle.au_program_lives.specs.declared.faults.LinearFault.TheVariants as lives
@@ -51,7 +51,7 @@ use Rattle.au_outcomes.specs.declared.outcomes.Aim.{Aim}
 use Rattle.au_outcomes.specs.declared.outcomes.Aim.TheVariants as aims
 use Rattle.au_outcomes.specs.declared.outcomes.Outcome.{Outcome}
 use Rattle.au_outcomes.specs.declared.outcomes.Outcome.TheVariants as outcome
-use Rattle.au_refusals.specs.declared.refusals.Refusal.TheVariants as refusal
+use Rattle.au_outcomes.specs.declared.refusals.Refusal.TheVariants as refusal
 use Rattle.au_syntax.specs.Plain.{Bytes}
 use Rattle.au_outcomes.proofs.FetchLemmas.{few_had, files_few}
 use Rattle.au_outcomes.proofs.HaltLemmas.{are_read_same, first_halts_or_read}

@@ -7,7 +7,7 @@ use Rattle.au_imports.specs.Importing as importing
 use Rattle.au_modules.specs.declared.faults.ModuleFault.TheVariants as modules
 use Rattle.au_modules.specs.Programs as programs
 use Rattle.au_modules.specs.Programs.{Entry, ModuleParts, modules_of}
-use Rattle.au_notes.specs.declared.faults.TypeFault.TheVariants as typing
+use Rattle.au_sights.specs.declared.faults.TypeFault.TheVariants as typing
 use Rattle.au_noting_programs.specs.Faults.{type_fault}
 use Rattle.au_program_lives.specs.declared.faults.LinearFault.TheVariants as lives
 use Rattle.au_program_lives.specs.LinearFaults.{linear_fault}
@@ -24,7 +24,7 @@ use Rattle.au_outcomes.specs.declared.outcomes.Aim.{Aim}
 use Rattle.au_outcomes.specs.declared.outcomes.Aim.TheVariants as aims
 use Rattle.au_outcomes.specs.declared.outcomes.Outcome.{Outcome}
 use Rattle.au_outcomes.specs.declared.outcomes.Outcome.TheVariants as outcome
-use Rattle.au_refusals.specs.declared.refusals.Refusal.TheVariants as refusal
+use Rattle.au_outcomes.specs.declared.refusals.Refusal.TheVariants as refusal
 use Rattle.au_outcomes.proofs.FaultLemmas.{judged_found, of_declarations, of_imports, of_instances, of_lives}
 use Rattle.au_outcomes.proofs.FaultLemmas.{of_modules, of_types, or_some}
 use Rattle.au_outcomes.proofs.HaltLemmas.{is_of_files, are_read_same, first_found, first_halts_or_read, first_halts_same}

@@ -4,7 +4,7 @@ use Rattle.std.specs.Option.{option_or}
 use Rattle.au_classes.specs.declared.faults.ClassFault.TheVariants as classes
 use Rattle.au_imports.specs.declared.faults.ImportFault.TheVariants as imports
 use Rattle.au_modules.specs.declared.faults.ModuleFault.TheVariants as modules
-use Rattle.au_notes.specs.declared.faults.TypeFault.TheVariants as typing
+use Rattle.au_sights.specs.declared.faults.TypeFault.TheVariants as typing
 use Rattle.au_program_lives.specs.declared.faults.LinearFault.TheVariants as lives
 use Rattle.au_rules.specs.declared.faults.DeclFault.TheVariants as rules
 use Rattle.au_outcomes.specs.Accepted.{is_behind}

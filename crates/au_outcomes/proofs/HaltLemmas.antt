@@ -8,11 +8,11 @@ use Rattle.au_lexer.specs.Cut.{Cut, Lexed, tokens, stray, passes, Lexes}
 use Rattle.au_lexer.specs.Passing.{IsWithinLimits}
 use Rattle.au_lexer.proofs.UniqueLemmas.{one_cut, one_outcome}
 use Rattle.au_parser.proofs.Keeping.{fits_none}
-use Rattle.au_read_modules.specs.ModuleReading.{file_at}
-use Rattle.au_reading.specs.Bounds.{usual}
-use Rattle.au_reading.specs.Reading.{Read}
-use Rattle.au_reading.specs.declared.faults.Fault.{Fault}
-use Rattle.au_reading.specs.declared.faults.Fault.TheVariants as reading
+use Rattle.au_parser.specs.ModuleReading.{file_at}
+use Rattle.au_read_expressions.specs.Bounds.{usual}
+use Rattle.au_read_expressions.specs.Reading.{Read}
+use Rattle.au_read_expressions.specs.declared.faults.Fault.{Fault}
+use Rattle.au_read_expressions.specs.declared.faults.Fault.TheVariants as reading
 use Rattle.au_syntax.specs.Plain.{PlainModule}
 use Rattle.au_syntax.specs.Words.{Spells}
 use Rattle.au_outcomes.specs.Halts.{is_missing}
@@ -20,9 +20,9 @@ use Rattle.au_outcomes.specs.Reading.{TokensHalt}
 use Rattle.au_outcomes.specs.Trees.{AreRead, FirstHalts, Halts, HasNoTree, HasTokens, HasTree, IsRead, ReadFile, place_or}
 use Rattle.au_outcomes.specs.declared.outcomes.Outcome.{Outcome}
 use Rattle.au_outcomes.specs.declared.outcomes.Outcome.TheVariants as outcome
-use Rattle.au_refusals.specs.Refusals.{is_refusal}
-use Rattle.au_refusals.specs.declared.refusals.Refusal.{Refusal}
-use Rattle.au_refusals.specs.declared.refusals.Refusal.TheVariants.{Byte, Syntax}
+use Rattle.au_outcomes.specs.Refusals.{is_refusal}
+use Rattle.au_outcomes.specs.declared.refusals.Refusal.{Refusal}
+use Rattle.au_outcomes.specs.declared.refusals.Refusal.TheVariants.{Byte, Syntax}
 use Rattle.au_outcomes.proofs.TreeLemmas.{one_tree}
 
 -- what a file halts with, by what its bytes are cut into

@@ -2,11 +2,11 @@
 use Rattle.std.proofs.Common.{◌≡◌, true, List, [], Ok, inl, inr, sym, ap, ◌∙◌}
 use Rattle.au_base.specs.declared.tokens.Token.{Token}
 use Rattle.au_parser.proofs.Keeping.{bounds_of, first_keeps, none_passed, second_keeps}
-use Rattle.au_read_modules.specs.ModuleReading.{file_at}
-use Rattle.au_read_modules.proofs.FileForm.{ModuleFits, file_found}
-use Rattle.au_read_modules.proofs.Lower.{lower}
-use Rattle.au_reading.specs.Bounds.{Bounds}
-use Rattle.au_reading.specs.Reading.{Read}
+use Rattle.au_parser.specs.ModuleReading.{file_at}
+use Rattle.au_parser.proofs.FileForm.{ModuleFits, file_found}
+use Rattle.au_parser.proofs.Lower.{lower}
+use Rattle.au_read_expressions.specs.Bounds.{Bounds}
+use Rattle.au_read_expressions.specs.Reading.{Read}
 use Rattle.au_syntax.specs.Forms.{formed_module}
 use Rattle.au_syntax.specs.Plain.{PlainModule}
 use Rattle.au_syntax.specs.Words.{Spells}

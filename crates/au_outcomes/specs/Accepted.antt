@@ -3,16 +3,16 @@
 use Rattle.std.specs.Prelude.{ℕ, ◌≤◌, Bool, true, false, List, length}
 use Rattle.au_base.specs.Outside.{Files}
 use Rattle.au_classes.specs.Good.{InstancesAreGood}
-use Rattle.au_derivations.specs.Trees.{NotedParts}
+use Rattle.au_typing.specs.Trees.{NotedParts}
 use Rattle.au_modules.specs.Accepted.{IsProgram}
 use Rattle.au_imports.specs.Good.{AllNamesAreGood}
 use Rattle.au_noting_programs.specs.Faults.{IsDerived}
 use Rattle.au_program_lives.specs.Good.{AllLivesAreGood}
 use Rattle.au_promises.specs.Fulfilled.{AllFulfil}
-use Rattle.au_refusals.specs.declared.refusals.Refusal.{Refusal}
-use Rattle.au_refusals.specs.declared.refusals.Refusal.TheVariants.{Byte, Syntax, NotYet, WordNotYet}
-use Rattle.au_refusals.specs.declared.refusals.Refusal.TheVariants.{Pair, Import, Declaration, Instance}
-use Rattle.au_refusals.specs.declared.refusals.Refusal.TheVariants.{Typing, Linear, Entry, Stuck}
+use Rattle.au_outcomes.specs.declared.refusals.Refusal.{Refusal}
+use Rattle.au_outcomes.specs.declared.refusals.Refusal.TheVariants.{Byte, Syntax, NotYet, WordNotYet}
+use Rattle.au_outcomes.specs.declared.refusals.Refusal.TheVariants.{Pair, Import, Declaration, Instance}
+use Rattle.au_outcomes.specs.declared.refusals.Refusal.TheVariants.{Typing, Linear, Entry, Stuck}
 use Rattle.au_rules.specs.Good.{AllDeclarationsAreGood}
 use Rattle.au_outcomes.specs.Outcomes.{AreFiles, most_files}
 use Rattle.au_outcomes.specs.Programs.{program_files, program_modules}

@@ -13,7 +13,7 @@ use Rattle.au_outcomes.specs.declared.halts.Halt.TheVariants as halt
 use Rattle.au_outcomes.specs.declared.outcomes.Aim.{Aim}
 use Rattle.au_outcomes.specs.declared.outcomes.Outcome.{Outcome}
 use Rattle.au_outcomes.specs.declared.outcomes.Outcome.TheVariants as outcome
-use Rattle.au_refusals.specs.declared.refusals.Refusal.TheVariants.{Byte}
+use Rattle.au_outcomes.specs.declared.refusals.Refusal.TheVariants.{Byte}
 
 -- The files are those that a shelf tells, if it tells them.
 abbrev pub AreTold : Option Files → Files → Type 0

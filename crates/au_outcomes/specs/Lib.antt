@@ -1,3 +1,5 @@
+pub mod Refusals
+pub mod Lines
 pub mod Trees
 pub mod Programs
 pub mod Outcomes

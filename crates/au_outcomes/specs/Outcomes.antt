@@ -4,7 +4,7 @@ use Rattle.au_base.specs.declared.limits.Limit.{Limit}
 use Rattle.au_base.specs.declared.limits.LimitKind.TheVariants as kind
 use Rattle.au_base.specs.Limits.{most_file_bytes}
 use Rattle.au_base.specs.Outside.{Files}
-use Rattle.au_refusals.specs.Refusals.{is_refusal}
+use Rattle.au_outcomes.specs.Refusals.{is_refusal}
 use Rattle.au_outcomes.specs.Programs.{ReadsCome}
 use Rattle.au_outcomes.specs.Trees.{AreRead, FirstHalts, ReadFile}
 use Rattle.au_outcomes.specs.declared.outcomes.Aim.{Aim}

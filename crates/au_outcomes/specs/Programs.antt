@@ -18,9 +18,9 @@ use Rattle.au_classes.specs.Faults.{instance_fault}
 use Rattle.au_imports.specs.declared.faults.ImportFault.{ImportFault}
 use Rattle.au_imports.specs.declared.faults.ImportFault.TheVariants as imports
 use Rattle.au_imports.specs.Importing as importing
-use Rattle.au_life_lists.specs.Programs.{program_lives}
-use Rattle.au_notes.specs.declared.faults.TypeFault.{TypeFault}
-use Rattle.au_notes.specs.declared.faults.TypeFault.TheVariants as typing
+use Rattle.au_explain.specs.Programs.{program_lives}
+use Rattle.au_sights.specs.declared.faults.TypeFault.{TypeFault}
+use Rattle.au_sights.specs.declared.faults.TypeFault.TheVariants as typing
 use Rattle.au_noting_programs.specs.Faults.{type_fault}
 use Rattle.au_program_lives.specs.declared.faults.LinearFault.{LinearFault}
 use Rattle.au_program_lives.specs.declared.faults.LinearFault.TheVariants as lives
@@ -34,7 +34,7 @@ use Rattle.au_outcomes.specs.declared.outcomes.Aim.{Aim}
 use Rattle.au_outcomes.specs.declared.outcomes.Aim.TheVariants as aims
 use Rattle.au_outcomes.specs.declared.outcomes.Outcome.{Outcome}
 use Rattle.au_outcomes.specs.declared.outcomes.Outcome.TheVariants as outcome
-use Rattle.au_refusals.specs.declared.refusals.Refusal.TheVariants as refusal
+use Rattle.au_outcomes.specs.declared.refusals.Refusal.TheVariants as refusal
 
 -- files that were read, the first of this number, as those that modules are gathered of
 unfoldable pub entries : ℕ → List ReadFile → List Entry

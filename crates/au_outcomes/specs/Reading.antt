@@ -8,7 +8,7 @@ use Rattle.au_outcomes.specs.Programs.{entries}
 use Rattle.au_outcomes.specs.Trees.{AreRead, HasNoTree, IsPlaceIn, IsRead, ReadFile, TreesPass}
 use Rattle.au_outcomes.specs.declared.outcomes.Outcome.{Outcome}
 use Rattle.au_outcomes.specs.declared.outcomes.Outcome.TheVariants as outcome
-use Rattle.au_refusals.specs.declared.refusals.Refusal.TheVariants.{Syntax}
+use Rattle.au_outcomes.specs.declared.refusals.Refusal.TheVariants.{Syntax}
 
 -- What tokens come to that are the words of no tree within the limits.
 abbrev pub TokensHalt : List Token → Pos → Outcome → Type 0

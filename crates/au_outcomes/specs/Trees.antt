@@ -7,16 +7,16 @@ use Rattle.au_base.specs.declared.tokens.Token.{Token}
 use Rattle.au_base.specs.Places.{place_after}
 use Rattle.au_lexer.specs.Cut.{Cut, IsStray, PassesLimit}
 use Rattle.au_lexer.specs.Passing.{IsWithinLimits}
-use Rattle.au_read_modules.specs.ModuleReading.{file_at}
-use Rattle.au_reading.specs.Bounds.{ModulePasses, usual}
-use Rattle.au_reading.specs.declared.faults.Fault.TheVariants as reading
+use Rattle.au_parser.specs.ModuleReading.{file_at}
+use Rattle.au_read_expressions.specs.Bounds.{ModulePasses, usual}
+use Rattle.au_read_expressions.specs.declared.faults.Fault.TheVariants as reading
 use Rattle.au_syntax.specs.Forms.{formed_module}
 use Rattle.au_syntax.specs.Plain.{PlainModule}
 use Rattle.au_syntax.specs.Sizes.{fits}
 use Rattle.au_syntax.specs.Words.{Spells}
 use Rattle.au_outcomes.specs.declared.outcomes.Outcome.{Outcome}
 use Rattle.au_outcomes.specs.declared.outcomes.Outcome.TheVariants as outcome
-use Rattle.au_refusals.specs.declared.refusals.Refusal.TheVariants.{Byte, Syntax}
+use Rattle.au_outcomes.specs.declared.refusals.Refusal.TheVariants.{Byte, Syntax}
 
 -- The tokens are the words of a tree within the limits.
 abbrev pub HasTree : List Token → Type 0

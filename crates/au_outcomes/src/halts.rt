@@ -7,16 +7,16 @@ ghost use Rattle.au_outcomes.specs.Programs.{life_outcome, module_outcome, type_
 ghost use Rattle.au_outcomes.specs.declared.halts.CheckFault.TheVariants as fault;
 ghost use Rattle.au_outcomes.specs.declared.halts.Halt.TheVariants as halt;
 
+use crate::Refusal;
 use crate::outcomes::Outcome;
 use au_base::Memory;
 use au_classes::ClassFault;
 use au_imports::ImportFault;
 use au_lexer::LexFault;
 use au_modules::ModuleFault;
-use au_notes::TypeFault;
 use au_program_lives::LinearFault;
-use au_refusals::Refusal;
 use au_rules::DeclFault;
+use au_sights::TypeFault;
 use std::alloc::{AllocError, AllocFailed};
 use thiserror::Error;
 

@@ -2,7 +2,7 @@
 
 ghost use Rattle.std.specs.Prelude.{◌≡◌, ◌≤◌, ◌++◌, List, Some, None, IfOk, IsTrue, false, map, length};
 ghost use Rattle.std.specs.List.{list_all};
-ghost use Rattle.au_life_lists.specs.Programs.{program_lives};
+ghost use Rattle.au_explain.specs.Programs.{program_lives};
 ghost use Rattle.au_modules.specs.Counts.{are_few, has_few};
 ghost use Rattle.au_modules.specs.Programs.{entry};
 ghost use Rattle.au_modules.specs.Slots as slots;
@@ -14,16 +14,16 @@ ghost use Rattle.au_outcomes.specs.Programs.{shipped_entries};
 ghost use Rattle.au_outcomes.specs.Trees.{ReadFile};
 ghost use Rattle.au_outcomes.specs.declared.outcomes.Outcome.TheVariants as outcome;
 
+use crate::Refusal;
 use crate::halts::Halt;
 use crate::outcomes::{Aim, Outcome};
 use au_base::Memory;
 use au_classes::declare;
+use au_explain::lives_of;
 use au_imports::{Resolved, resolve};
-use au_life_lists::lives_of;
 use au_modules::{Modules, gather};
 use au_noting_programs::{NotedProgram, note_program};
 use au_program_lives::check_linear;
-use au_refusals::Refusal;
 use au_rules::declarations_hold;
 use au_shipped::shipped;
 use au_syntax::FileTree;

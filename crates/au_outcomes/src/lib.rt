@@ -1,8 +1,4 @@
-//! From the names of files to what their program comes to: they are fetched, read and judged, in the order of
-//! refusals.
-//!
-//! `specs/Outcomes.antt` says what a program comes to, and `check` finds it. `specs/Accepted.antt` says which
-//! files are accepted. Files whose bytes are there already are read by `read_all` and judged by `judge`.
+//! From the names of files to what their program comes to, and why it is refused.
 #![tactic(auto)]
 
 mod checking;
@@ -10,11 +6,15 @@ mod fetching;
 mod halts;
 mod judging;
 pub mod laws;
+mod lines;
 mod outcomes;
 mod reading;
+mod refusals;
 
 pub use checking::{MOST_FILES, check};
 pub use halts::{CheckFault, Halt};
 pub use judging::judge;
+pub use lines::{abort_line, limit_line, missing_line, refusal_text, steps_line};
 pub use outcomes::{Aim, Outcome};
 pub use reading::read_all;
+pub use refusals::{Refusal, Unbuilt};

@@ -1,9 +1,9 @@
 //! What a program comes to before it runs, and why it is not run.
 
+use crate::Refusal;
 use au_base::{Limit, Text};
 use au_explain::Lives;
 use au_noting_programs::NotedProgram;
-use au_refusals::Refusal;
 
 /// What is asked of the program of files.
 #[derive(Clone, Copy, Debug, PartialEq, Eq)]

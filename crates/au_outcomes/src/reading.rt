@@ -9,12 +9,12 @@ ghost use Rattle.au_outcomes.specs.Outcomes.{most_files};
 ghost use Rattle.au_outcomes.specs.Reading.{AreKept, IsKept, TokensHalt};
 ghost use Rattle.au_outcomes.specs.Trees.{FirstHalts, Halts, place_or};
 
+use crate::Refusal;
 use crate::halts::{CheckFault, Halt};
 use crate::outcomes::Outcome;
 use au_base::{Pos, Token};
 use au_lexer::lex;
 use au_parser::{ParseFault, parse};
-use au_refusals::Refusal;
 use au_syntax::{FileTree, Parsed, Phase, Whole};
 use std::alloc::Global;
 

@@ -9,14 +9,14 @@ use Rattle.au_syntax.specs.Plain.{PlainModule}
 use Rattle.au_syntax.specs.Sizes.{fits}
 use Rattle.au_syntax.specs.Views.{module_tree}
 use Rattle.au_syntax.specs.Words.{words, AreWords, Spells}
-use Rattle.au_reading.specs.Bounds.{Bounds, usual, ModulePasses}
-use Rattle.au_reading.specs.Reading.{Read, Stops}
-use Rattle.au_reading.specs.declared.faults.Fault.{Fault}
-use Rattle.au_reading.specs.declared.faults.Fault.TheVariants.{Syntax, Passed}
-use Rattle.au_reading.specs.declared.faults.Stop.{Stop}
-use Rattle.au_reading.specs.declared.faults.Stop.TheVariants as stop
-use Rattle.au_read_modules.specs.ModuleReading.{file_at}
-use Rattle.au_read_modules.proofs.FileForm.{ModuleFits}
+use Rattle.au_read_expressions.specs.Bounds.{Bounds, usual, ModulePasses}
+use Rattle.au_read_expressions.specs.Reading.{Read, Stops}
+use Rattle.au_read_expressions.specs.declared.faults.Fault.{Fault}
+use Rattle.au_read_expressions.specs.declared.faults.Fault.TheVariants.{Syntax, Passed}
+use Rattle.au_read_expressions.specs.declared.faults.Stop.{Stop}
+use Rattle.au_read_expressions.specs.declared.faults.Stop.TheVariants as stop
+use Rattle.au_parser.specs.ModuleReading.{file_at}
+use Rattle.au_parser.proofs.FileForm.{ModuleFits}
 use Rattle.au_parser.proofs.Keeping.{none_passed, keeps_fits, fits_keeps, bounds_of, first_keeps, second_keeps}
 use Rattle.au_parser.proofs.PlainTrees.{ParsedModule, says_itself}
 

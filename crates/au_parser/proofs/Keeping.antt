@@ -11,9 +11,9 @@ use Rattle.au_syntax.specs.Names.{Placed}
 use Rattle.au_syntax.specs.Plain.{Bytes, PlainModule}
 use Rattle.au_syntax.specs.Sizes.{type_depth, type_nodes, declaration_types, fits_type, joined, fits_name, names_fit, types_fit, fits}
 use Rattle.au_syntax.specs.Types.{WrittenType}
-use Rattle.au_reading.specs.Bounds.{Bounds, usual, SomeTypePasses, SomeNamePasses, module_names, ModulePasses}
-use Rattle.au_reading.proofs.Limits.{TypesFit}
-use Rattle.au_read_modules.proofs.FileForm.{NamesFit, ModuleFits}
+use Rattle.au_read_expressions.specs.Bounds.{Bounds, usual, SomeTypePasses, SomeNamePasses, module_names, ModulePasses}
+use Rattle.au_read_expressions.proofs.Limits.{TypesFit}
+use Rattle.au_parser.proofs.FileForm.{NamesFit, ModuleFits}
 
 -- the types that are written in a file
 abbrev pub module_types : PlainModule → List WrittenType

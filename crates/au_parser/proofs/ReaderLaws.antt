@@ -5,12 +5,12 @@ use Rattle.au_base.specs.declared.tokens.Token.{Token}
 use Rattle.au_syntax.specs.Forms.{formed_module}
 use Rattle.au_syntax.specs.Plain.{PlainModule}
 use Rattle.au_syntax.specs.Words.{words, AreWords}
-use Rattle.au_reading.specs.Bounds.{Bounds, ModulePasses}
-use Rattle.au_reading.specs.declared.faults.Fault.TheVariants.{Passed}
-use Rattle.au_read_modules.specs.ModuleReading.{file_at}
-use Rattle.au_read_modules.proofs.FileForm as form
-use Rattle.au_read_modules.proofs.FileForm.{ModuleFits}
-use Rattle.au_read_modules.proofs.Lower.{lower}
+use Rattle.au_read_expressions.specs.Bounds.{Bounds, ModulePasses}
+use Rattle.au_read_expressions.specs.declared.faults.Fault.TheVariants.{Passed}
+use Rattle.au_parser.specs.ModuleReading.{file_at}
+use Rattle.au_parser.proofs.FileForm as form
+use Rattle.au_parser.proofs.FileForm.{ModuleFits}
+use Rattle.au_parser.proofs.Lower.{lower}
 
 pub file_sound : (b : Bounds) (ts rest : List Token) (m : PlainModule) → file_at b ts ≡ Ok (m, rest) → (rest ≡ []) × AreWords (words m) ts × (formed_module m ≡ true) × ModuleFits b m
 file_sound b = form.file_sound b (lower b)

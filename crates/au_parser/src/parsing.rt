@@ -2,9 +2,9 @@
 
 ghost use Rattle.std.specs.Prelude.{◌≡◌, ◌<◌, ◌≤◌, ◌-◌, ℕ, IfOk, IsTrue, MatchResult, length};
 ghost use Rattle.au_base.specs.declared.limits.Limit.{Limit};
-ghost use Rattle.au_read_modules.specs.ModuleReading.{file_at};
-ghost use Rattle.au_reading.specs.Bounds.{usual, ModulePasses};
-ghost use Rattle.au_reading.specs.declared.faults.Fault.TheVariants.{Syntax, Passed};
+ghost use Rattle.au_parser.specs.ModuleReading.{file_at};
+ghost use Rattle.au_read_expressions.specs.Bounds.{usual, ModulePasses};
+ghost use Rattle.au_read_expressions.specs.declared.faults.Fault.TheVariants.{Syntax, Passed};
 ghost use Rattle.au_syntax.specs.Files.{says};
 ghost use Rattle.au_syntax.specs.Forms.{formed_module};
 ghost use Rattle.au_syntax.specs.Plain.{PlainModule};
@@ -12,9 +12,9 @@ ghost use Rattle.au_syntax.specs.Sizes.{fits};
 ghost use Rattle.au_syntax.specs.Words.{Spells};
 
 use crate::faults::ParseFault;
+use crate::file;
 use au_base::Token;
-use au_read_modules::file;
-use au_reading::{Fault, Stop};
+use au_read_expressions::{Fault, Stop};
 use au_syntax::{Parsed, Phase, Whole};
 use std::alloc::Global;
 

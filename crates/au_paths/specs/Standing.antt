@@ -8,8 +8,8 @@ use Rattle.au_lives.specs.Lives.{Hold, unlent, read_lent, write_lent, hidden, Fa
 use Rattle.au_lives.specs.Paths.{bound_names}
 use Rattle.au_lives.specs.Walks.{Reach, reach, nowhere, Breach, Walk, choose, merge, joined, walk_block}
 use Rattle.au_lives.specs.Walks.{walk_branches, walk_arms, ◌>>=◌}
-use Rattle.au_uses.specs.declared.steps.Verdict.{Verdict}
-use Rattle.au_uses.specs.declared.steps.Verdict.TheVariants as verdicts
+use Rattle.au_lives.specs.declared.steps.Verdict.{Verdict}
+use Rattle.au_lives.specs.declared.steps.Verdict.TheVariants as verdicts
 use Rattle.au_paths.specs.declared.holds.Hold.{Hold as CodeHold}
 use Rattle.au_paths.specs.declared.holds.Hold.TheVariants as holds
 use Rattle.au_paths.specs.declared.fates.Fate.{Fate as CodeFate}

@@ -5,12 +5,12 @@ ghost use Rattle.au_lives.specs.Lives as lives;
 ghost use Rattle.au_lives.specs.Lives.{going, broken, if_spent, if_live, verdict};
 ghost use Rattle.au_lives.specs.declared.lives.LifeKind.TheVariants as kinds;
 ghost use Rattle.au_lives.specs.Mentions.{Counts};
-ghost use Rattle.au_uses.specs.Tallies.{tally_of};
+ghost use Rattle.au_lives.specs.Tallies.{tally_of};
 ghost use Rattle.au_paths.specs.Standing.{hold_of, fate_of, stays, Does};
 
 use crate::holds::Hold;
 use au_lives::lives::{LifeKind, Sort};
-use au_uses::{State, Tally, Verdict, step};
+use au_lives::{State, Tally, Verdict, step};
 
 /// What the steps of a path have done so far.
 #[derive(Clone, Copy)]
@@ -37,7 +37,7 @@ pub fn is_free(sort: Sort) -> bool
     match sort {
         Sort::Free => true,
         Sort::WriteReference => false,
-        Sort::Other => false,
+        Sort::Linear => false,
     }
 }
 
@@ -113,7 +113,7 @@ pub(crate) fn ending(sort: Sort) -> Effect
     ensures { Does result (lives.at_end sort) }
 {
     match sort {
-        Sort::Other => {
+        Sort::Linear => {
             Effect {
                 live: Fate::Broken(LifeKind::Unused),
                 spent: Fate::Going(true),

@@ -7,7 +7,7 @@ ghost use Rattle.au_lives.specs.Mentions as mentions;
 ghost use Rattle.au_lives.specs.Mentions.{Counts, where_named};
 ghost use Rattle.au_lives.specs.Paths.{whole, opening, assignment, assignment_behind};
 ghost use Rattle.au_lives.specs.Walks.{walk_step, does, noted, returned};
-ghost use Rattle.au_uses.specs.Tallies.{tally_of};
+ghost use Rattle.au_lives.specs.Tallies.{tally_of};
 ghost use Rattle.au_paths.specs.Seen.{seen_name, seen_expression};
 ghost use Rattle.au_paths.specs.Standing.{hold_of, reach_of, Gives, then_on};
 
@@ -16,8 +16,8 @@ use crate::holds::{Hold, is_named};
 use crate::reaches::{Reached, Stop, go_on, noted, returned};
 use au_base::Name;
 use au_lives::lives::Sort;
+use au_lives::{Few, Tally, counts};
 use au_syntax::{Access, Expr, Ident, Phase};
-use au_uses::{Few, Tally, counts};
 
 const NONE: Tally = Tally {
     consumed: Few::Zero,

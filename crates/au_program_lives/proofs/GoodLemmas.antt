@@ -10,7 +10,7 @@ use Rattle.au_imports.proofs.ChoiceLemmas.{first_from, first_to}
 use Rattle.au_program_lives.specs.declared.faults.LinearFault.{LinearFault}
 use Rattle.au_program_lives.specs.Good.{AllLivesAreGood, DeclarationIsGood, FunctionIsGood, IsRefused}
 use Rattle.au_program_lives.specs.LinearFaults.{declaration_fault, declared_fault, fault_told, function_fault, function_variables, linear_fault, method_fault, spot_types}
-use Rattle.au_sorts.specs.Scopes.{TypeScope}
+use Rattle.au_program_lives.specs.Scopes.{TypeScope}
 use Rattle.au_syntax.specs.Modules.{Header, constant, opaque_type, record_type, union_type, function, class, instance, constant_body, function_body, instance_body}
 use Rattle.au_syntax.specs.Plain.{Bytes, PlainDeclaration, PlainStatements}
 

@@ -1,3 +1,6 @@
+pub mod PutLemmas
+pub mod StatementLemmas
+pub mod LengthLemmas
 pub mod ToldLemmas
 pub mod VariableLemmas
 pub mod GoodLemmas

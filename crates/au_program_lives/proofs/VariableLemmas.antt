@@ -12,10 +12,10 @@ use Rattle.au_lives.specs.Scopes.{scopes_of_arms, scopes_of_branches}
 use Rattle.au_program_lives.specs.Variables.{bound_over, parameters_over, variable_over, variables_after}
 use Rattle.au_program_lives.specs.Variables.{variables_in, variables_in_arms, variables_in_branches}
 use Rattle.au_program_lives.specs.Variables.{variables_inside, variables_of}
-use Rattle.au_sorts.specs.Scopes.{TypeScope, opened_by, opened_in}
-use Rattle.au_sorts.specs.Sorts.{bound_sorts, parameter_sorts, reference_sort, region_written, sorts}
-use Rattle.au_sorts.specs.Sorts.{sorts_after, sorts_inside, sorts_of, sorts_of_arms, sorts_of_branches}
-use Rattle.au_sorts.specs.Sorts.{written_sort}
+use Rattle.au_program_lives.specs.Scopes.{TypeScope, opened_by, opened_in}
+use Rattle.au_program_lives.specs.Sorts.{bound_sorts, parameter_sorts, reference_sort, region_written, sorts}
+use Rattle.au_program_lives.specs.Sorts.{sorts_after, sorts_inside, sorts_of, sorts_of_arms, sorts_of_branches}
+use Rattle.au_program_lives.specs.Sorts.{written_sort}
 use Rattle.au_syntax.specs.Names.{Placed}
 use Rattle.au_syntax.specs.Plain.{Bytes, PlainStatement, PlainStatements, PlainBranches, PlainArms}
 use Rattle.au_syntax.specs.Statements.{skip, declare, destructure, assign, assign_through, conditional}

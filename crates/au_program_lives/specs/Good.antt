@@ -5,7 +5,7 @@ use Rattle.au_lives.specs.Refusals.{GoodLives, IsFirstRefused, Refused}
 use Rattle.au_modules.specs.Programs.{ModuleParts}
 use Rattle.au_program_lives.specs.declared.faults.LinearFault.{LinearFault}
 use Rattle.au_program_lives.specs.LinearFaults.{fault_told, function_variables, spot_types}
-use Rattle.au_sorts.specs.Scopes.{TypeScope}
+use Rattle.au_program_lives.specs.Scopes.{TypeScope}
 use Rattle.au_syntax.specs.Modules.{Header, function_body, instance_body}
 use Rattle.au_syntax.specs.Plain.{Bytes, PlainDeclaration, PlainMethod, PlainStatements}
 

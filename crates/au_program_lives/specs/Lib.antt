@@ -1,5 +1,9 @@
+pub mod Scopes
+pub mod Said
+pub mod Sorts
+pub mod Examples
 pub mod Variables
 pub mod LinearFaults
 pub mod Good
 pub mod Lines
-pub mod Said
+pub mod ProgramSaid

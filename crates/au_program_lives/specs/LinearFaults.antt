@@ -6,14 +6,14 @@ use Rattle.std.specs.Option.{option_map}
 use Rattle.au_base.specs.declared.places.Pos.{Pos}
 use Rattle.au_formed.specs.Text.{Spot, text, visible_at}
 use Rattle.au_lives.specs.Refusals.{Refusal, in_loop, in_part, on_path, Refused, Variable, first_refused}
-use Rattle.au_mentions.specs.Mentions.{type_parameters}
+use Rattle.au_promises.specs.Mentions.{type_parameters}
 use Rattle.au_modules.specs.Programs.{ModuleParts}
 use Rattle.au_imports.specs.Choices.{first_of}
 use Rattle.au_names.specs.HeadsOf.{heads_of}
 use Rattle.au_program_lives.specs.declared.faults.LinearFault.{LinearFault}
 use Rattle.au_program_lives.specs.declared.faults.LinearFault.TheVariants as fault
 use Rattle.au_program_lives.specs.Variables.{variables_of}
-use Rattle.au_sorts.specs.Scopes.{TypeScope}
+use Rattle.au_program_lives.specs.Scopes.{TypeScope}
 use Rattle.au_syntax.specs.Modules.{Header, function_body, instance_body}
 use Rattle.au_syntax.specs.Plain.{Bytes, PlainDeclaration, PlainMethod, PlainStatements}
 use Rattle.au_types.specs.declared.headings.Head.{Head}

@@ -6,8 +6,8 @@ use Rattle.au_lives.specs.declared.lives.Sort.TheVariants as asks
 use Rattle.au_lives.specs.Paths.{access_of, bound_name}
 use Rattle.au_lives.specs.Refusals.{Variable}
 use Rattle.au_lives.specs.Scopes.{scope}
-use Rattle.au_sorts.specs.Scopes.{TypeScope, opened_by, opened_in}
-use Rattle.au_sorts.specs.Sorts.{reference_sort, region_written, written_sort}
+use Rattle.au_program_lives.specs.Scopes.{TypeScope, opened_by, opened_in}
+use Rattle.au_program_lives.specs.Sorts.{reference_sort, region_written, written_sort}
 use Rattle.au_syntax.specs.Names.{Placed}
 use Rattle.au_syntax.specs.Plain.{Bytes, PlainStatement, PlainStatements, PlainBranches, PlainArms}
 use Rattle.au_syntax.specs.Statements.{skip, declare, destructure, assign, assign_through, conditional}

@@ -1,23 +1,21 @@
-//! Laws of the definitions.
+//! Laws of sorts.
 
-ghost use Rattle.std.specs.Prelude.{◌≡◌, ◌↔◌, List, None, Some};
-ghost use Rattle.au_modules.specs.Programs.{ModuleParts};
-ghost use Rattle.au_program_lives.specs.declared.faults.LinearFault.{LinearFault};
-ghost use Rattle.au_program_lives.specs.Good.{AllLivesAreGood, IsRefused};
-ghost use Rattle.au_program_lives.specs.LinearFaults.{function_fault, linear_fault};
-ghost use Rattle.au_sorts.specs.Scopes.{TypeScope};
-ghost use Rattle.au_syntax.specs.Modules.{Header};
+ghost use Rattle.std.specs.Prelude.{◌≡◌, List, length};
+ghost use Rattle.au_lives.specs.Scopes.{scopes_of};
+ghost use Rattle.au_program_lives.specs.Scopes.{TypeScope};
+ghost use Rattle.au_program_lives.specs.Examples.{examples, over_two};
+ghost use Rattle.au_program_lives.specs.Sorts.{sorts, sorts_of};
+ghost use Rattle.au_syntax.specs.Parts.{Each};
 ghost use Rattle.au_syntax.specs.Plain.{Bytes, PlainStatements};
+ghost use Rattle.au_syntax.specs.Types.{Labelled};
 
-/// A program is refused for nothing exactly where every variable of every function
-/// and method has a good life.
-pub fn good_lives_are_not_refused()
-    ensures { (program : List ModuleParts) → (linear_fault program ≡ None) ↔ AllLivesAreGood program }
+/// Each variable of a function has one sort.
+pub fn each_variable_has_a_sort()
+    ensures { (parameters : List (Labelled Bytes)) (body : PlainStatements) (sc : TypeScope)
+        → length (sorts_of parameters body sc) ≡ length (scopes_of parameters body) }
 {}
 
-/// What is told of a function is told of its first variable that has no good life.
-pub fn the_first_bad_life_is_told()
-    ensures { (header : Header Bytes) (body : PlainStatements) (sc : TypeScope) (e : LinearFault)
-        → function_fault header body sc ≡ Some e
-        → IsRefused header body sc e }
+/// What the types of the variables of a few bodies ask is what is written beside these by hand.
+pub fn examples_hold()
+    ensures { Each (λ one. sorts one.0 over_two ≡ one.1) examples }
 {}

@@ -8,14 +8,14 @@ ghost use Rattle.au_imports.specs.Choices.{first_of};
 ghost use Rattle.au_names.specs.Walks as walks;
 ghost use Rattle.au_program_lives.specs.Good.{AllLivesAreGood};
 ghost use Rattle.au_program_lives.specs.LinearFaults as spec;
-ghost use Rattle.au_program_lives.specs.Said.{scope_of};
+ghost use Rattle.au_program_lives.specs.ProgramSaid.{scope_of};
 
 use crate::faults::LinearFault;
 use crate::functions::{function_fault, methods_fault};
 use au_base::Memory;
 use au_formed::{Spot, Visible, all_declarations, visible_at};
 use au_imports::Resolved;
-use au_mentions::type_parameters;
+use au_promises::type_parameters;
 use au_syntax::{Decl, Parsed};
 use au_types::Params;
 use std::alloc::Global;

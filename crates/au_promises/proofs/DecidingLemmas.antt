@@ -48,7 +48,7 @@ use Rattle.au_syntax.specs.Modules.{
 use Rattle.au_syntax.specs.Names.{Placed}
 use Rattle.au_syntax.specs.Plain.{Bytes, PlainDeclaration}
 use Rattle.au_syntax.specs.Types.{WrittenType, WrittenTypes, named, reference, no_types, types, Labelled}
-use Rattle.au_tables.specs.Tables.{find}
+use Rattle.au_types.specs.Tables.{find}
 use Rattle.au_types.specs.declared.parameters.Parameter.{Parameter}
 use Rattle.au_types.specs.declared.types.DeclAt.{DeclAt}
 use Rattle.au_types.specs.Rows.{same_place}

@@ -51,9 +51,9 @@ use Rattle.std.proofs.lemmas.List.Folds.{find_at}
 use Rattle.std.proofs.lemmas.Option.{slice_get-map, slice_get_past, slice_get_read}
 use Rattle.std.proofs.lemmas.Slice.Eq.{bytes_eq-Decides}
 use Rattle.au_syntax.specs.Plain.{Bytes, PlainDeclaration}
-use Rattle.au_tables.specs.Tables as tables
-use Rattle.au_tables.specs.Tables.{has_name, with_pair}
-use Rattle.au_tables.proofs.TableLemmas.{with_pair-old, with_pair-new}
+use Rattle.au_types.specs.Tables as tables
+use Rattle.au_types.specs.Tables.{has_name, with_pair}
+use Rattle.au_types.proofs.TableLemmas.{with_pair-old, with_pair-new}
 use Rattle.au_promises.specs.declared.definitions.ByName.{ByName}
 use Rattle.au_promises.specs.declared.definitions.Sort.{Sort}
 use Rattle.au_promises.specs.declared.definitions.Sort.TheVariants.{Constants, Types, Functions}

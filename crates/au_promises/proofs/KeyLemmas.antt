@@ -34,12 +34,12 @@ use Rattle.au_syntax.specs.Modules.{instance_body}
 use Rattle.au_syntax.specs.Names.{Placed}
 use Rattle.au_syntax.specs.Plain.{Bytes, PlainDeclaration}
 use Rattle.au_syntax.specs.Types.{WrittenType, WrittenTypes, named, reference, no_types, types}
-use Rattle.au_tables.specs.Tables as tables
+use Rattle.au_types.specs.Tables as tables
 use Rattle.au_types.specs.declared.parameters.Parameter.{Parameter}
 use Rattle.au_types.specs.declared.types.DeclAt.{DeclAt}
 use Rattle.au_types.specs.Types.{Meaning}
 use Rattle.au_types.proofs.SameLemmas.{place_is, place_self}
-use Rattle.au_written_types.specs.Meant.{meant}
+use Rattle.au_types.specs.Meant.{meant}
 use Rattle.au_promises.specs.declared.keys.KeySort.TheVariants.{Worded, Meaningless}
 use Rattle.au_promises.specs.Agreeing.{same_class, same_declaration, scope_of, Sight}
 use Rattle.au_promises.specs.Defining.{has_key, key_defined, nothing_key}

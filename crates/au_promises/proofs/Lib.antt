@@ -1,3 +1,5 @@
+pub mod MentionLemmas
+pub mod ValueLemmas
 pub mod AgreeingLemmas
 pub mod DecidingLemmas
 pub mod DefinitionLemmas

@@ -11,8 +11,8 @@ use Rattle.au_syntax.specs.Modules.{InUniverse, Constrained, Header}
 use Rattle.au_syntax.specs.Names.{Placed}
 use Rattle.au_syntax.specs.Plain.{Bytes}
 use Rattle.au_syntax.specs.Types.{WrittenType, Labelled}
-use Rattle.au_tables.specs.declared.spaces.Space.TheVariants.{Types}
-use Rattle.au_tables.specs.Tables.{find}
+use Rattle.au_types.specs.declared.spaces.Space.TheVariants.{Types}
+use Rattle.au_types.specs.Tables.{find}
 use Rattle.au_types.specs.declared.headings.Head.{Head}
 use Rattle.au_types.specs.declared.parameters.Parameter.{Parameter}
 use Rattle.au_types.specs.declared.types.DeclAt.{DeclAt}
@@ -22,7 +22,7 @@ use Rattle.au_types.specs.Types.{Meaning}
 use Rattle.au_modules.specs.Programs.{ModuleParts}
 use Rattle.au_names.specs.HeadsOf.{heads_of, parameter}
 use Rattle.au_names.specs.Meanings.{declared_by, seen}
-use Rattle.au_written_types.specs.Meant.{meant}
+use Rattle.au_types.specs.Meant.{meant}
 
 -- items of two lists agree, each with that in its place, and there are as many
 unfoldable pub all_agree : {A B : Type 0} → (A → B → Bool) → List A → List B → Bool

@@ -4,11 +4,11 @@ use Rattle.au_syntax.specs.Modules.{Constrained, instance_body}
 use Rattle.au_syntax.specs.Names.{Placed}
 use Rattle.au_syntax.specs.Plain.{Bytes, PlainDeclaration}
 use Rattle.au_syntax.specs.Types.{WrittenType}
-use Rattle.au_tables.specs.Tables as tables
-use Rattle.au_tables.specs.Tables.{with_pair}
+use Rattle.au_types.specs.Tables as tables
+use Rattle.au_types.specs.Tables.{with_pair}
 use Rattle.au_types.specs.declared.parameters.Parameter.{Parameter}
 use Rattle.au_types.specs.Types.{Meaning}
-use Rattle.au_written_types.specs.Meant.{meant}
+use Rattle.au_types.specs.Meant.{meant}
 use Rattle.au_promises.specs.declared.definitions.ByName.{ByName}
 use Rattle.au_promises.specs.declared.definitions.Definitions.{Definitions}
 use Rattle.au_promises.specs.declared.definitions.Sort.{Sort}

@@ -9,11 +9,11 @@ use Rattle.au_syntax.specs.Modules.{instance_body}
 use Rattle.au_syntax.specs.Names.{Placed}
 use Rattle.au_syntax.specs.Plain.{Bytes, PlainDeclaration, PlainModule}
 use Rattle.au_syntax.specs.Types.{WrittenType, WrittenTypes, named, reference, no_types, types, Labelled}
-use Rattle.au_tables.specs.Tables.{find}
+use Rattle.au_types.specs.Tables.{find}
 use Rattle.au_types.specs.declared.parameters.Parameter.{Parameter}
 use Rattle.au_types.specs.declared.types.DeclAt.{DeclAt}
 use Rattle.au_types.specs.Types.{Meaning}
-use Rattle.au_written_types.specs.Meant.{meant}
+use Rattle.au_types.specs.Meant.{meant}
 use Rattle.au_modules.specs.Programs.{Entry, ModuleParts}
 use Rattle.au_promises.specs.Agreeing.{scope_of, Sight, sight_of}
 use Rattle.au_promises.specs.Promises.{constant_defined, type_defined, function_defined, promised}

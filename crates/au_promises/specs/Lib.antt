@@ -1,3 +1,5 @@
+pub mod Mentions
+pub mod Said
 pub mod Agreeing
 pub mod Defining
 pub mod Promises

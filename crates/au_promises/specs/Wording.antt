@@ -11,8 +11,8 @@ use Rattle.au_types.specs.declared.headings.Head.{Head}
 use Rattle.au_types.specs.declared.parameters.Parameter.{Parameter}
 use Rattle.au_types.specs.declared.types.DeclAt.{DeclAt}
 use Rattle.au_types.specs.Types.{Meaning}
-use Rattle.au_written_types.specs.Meant.{meant}
-use Rattle.au_written_types.specs.Senses.{Sense, declared, a_class, sense_of}
+use Rattle.au_types.specs.Meant.{meant}
+use Rattle.au_types.specs.Senses.{Sense, declared, a_class, sense_of}
 use Rattle.au_promises.specs.Agreeing.{same_declaration, Sight}
 
 -- the declaration of what a name means, if it has one: type parameters and what is built in have none

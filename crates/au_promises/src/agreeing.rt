@@ -7,14 +7,12 @@ ghost use Rattle.au_promises.specs.Written.{generic_of, generics_of, header_of, 
 ghost use Rattle.au_promises.specs.Written.{name_of, names_of, parameter_of, parameters_of, sight_in};
 ghost use Rattle.au_syntax.specs.Views.{written};
 ghost use Rattle.au_types.specs.Views.{meaning};
-ghost use Rattle.au_written_types.specs.Meant.{meant};
+ghost use Rattle.au_types.specs.Meant.{meant};
 
 use crate::sights::Sight;
 use au_base::{Memory, Name};
 use au_syntax::{Field, Generic, Ident, Parsed, Signature, TypeParameter, TypeText, Universe};
-use au_tables::Table;
-use au_types::{DeclAt, Heads, Parameter, Params, Ty, is_same};
-use au_written_types::{Scope, type_meant};
+use au_types::{DeclAt, Heads, Parameter, Params, Scope, Table, Ty, is_same, type_meant};
 use std::alloc::Global;
 
 /// Whether two universes are one.

@@ -12,7 +12,7 @@ use crate::keys::{KeySort, first_keyed};
 use crate::sights::Sight;
 use au_base::{Memory, Name};
 use au_syntax::{Decl, Parsed};
-use au_tables::Table;
+use au_types::Table;
 use std::alloc::Global;
 
 /// A sort of definitions that have names.

@@ -13,7 +13,7 @@ ghost use Rattle.au_promises.specs.Written.{declarations_of, declared_of, declar
 ghost use Rattle.au_promises.specs.Written.{name_of, sight_in};
 ghost use Rattle.au_syntax.specs.Plain.{PlainDeclaration};
 ghost use Rattle.au_syntax.specs.Views.{written};
-ghost use Rattle.au_tables.specs.Tables as tables;
+ghost use Rattle.au_types.specs.Tables as tables;
 
 use crate::agreeing::scope_of;
 use crate::definitions::{Definitions, Sort, declared_at, found_by};

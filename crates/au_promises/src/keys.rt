@@ -15,8 +15,7 @@ use crate::sights::Sight;
 use crate::wording::{declaration_meant, is_meaningless};
 use au_base::{Memory, Name};
 use au_syntax::{Access, Decl, Generic, Ident, Parsed, TypeText};
-use au_tables::Table;
-use au_types::{DeclAt, Heads, Params};
+use au_types::{DeclAt, Heads, Params, Table};
 use std::alloc::Global;
 
 /// What instances of a body are looked up by.

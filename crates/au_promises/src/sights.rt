@@ -1,7 +1,6 @@
 //! What is seen of a module.
 
-use au_tables::Table;
-use au_types::{DeclAt, Heads};
+use au_types::{DeclAt, Heads, Table};
 
 /// What is seen of a module by which its two parts are compared.
 #[derive(Clone, Copy)]

@@ -3,15 +3,13 @@
 ghost use Rattle.std.specs.Prelude.{◌≡◌, [], IfOk, Some, is_none};
 ghost use Rattle.au_promises.specs.Wording as spec;
 ghost use Rattle.au_syntax.specs.Views.{written};
-ghost use Rattle.au_written_types.specs.Meant.{meant};
-ghost use Rattle.au_written_types.specs.Views.{said};
+ghost use Rattle.au_types.specs.Meant.{meant};
+ghost use Rattle.au_types.specs.WrittenViews.{said};
 
 use crate::agreeing::meant_with;
 use au_base::{Memory, Name};
 use au_syntax::TypeText;
-use au_tables::Table;
-use au_types::{DeclAt, Heads, Params};
-use au_written_types::{Scope, Sense, sense_of};
+use au_types::{DeclAt, Heads, Params, Scope, Sense, Table, sense_of};
 use std::alloc::Global;
 
 /// The declaration of what a name means, if it has one.

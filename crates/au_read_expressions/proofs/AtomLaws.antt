@@ -13,13 +13,13 @@ use Rattle.au_syntax.specs.Expressions.{number, negative, text, truth, nil, path
 use Rattle.au_syntax.specs.Forms.{is_atom, is_call, formed_expression}
 use Rattle.au_syntax.specs.Plain.{PlainExpression}
 use Rattle.au_syntax.specs.Words.{expression_words}
-use Rattle.au_reading.specs.Bounds.{Bounds}
-use Rattle.au_reading.specs.Reading.{Read, front, name_at, behind, closed, pair, built, fields_at}
-use Rattle.au_reading.specs.Spelling.{Begins}
-use Rattle.au_reading.proofs.Steps.{not_read}
-use Rattle.au_reading.proofs.Begins.{first_word, front_of}
-use Rattle.au_reading.proofs.Forms.{Sound, Finds, Reads, anything, behind_form, behind_reads, closed_form, closed_reads}
-use Rattle.au_reading.proofs.Limits.{one_fits, one_passes}
+use Rattle.au_read_expressions.specs.Bounds.{Bounds}
+use Rattle.au_read_expressions.specs.Reading.{Read, front, name_at, behind, closed, pair, built, fields_at}
+use Rattle.au_read_expressions.specs.Spelling.{Begins}
+use Rattle.au_read_expressions.proofs.Steps.{not_read}
+use Rattle.au_read_expressions.proofs.Begins.{first_word, front_of}
+use Rattle.au_read_expressions.proofs.Forms.{Sound, Finds, Reads, anything, behind_form, behind_reads, closed_form, closed_reads}
+use Rattle.au_read_expressions.proofs.Limits.{one_fits, one_passes}
 use Rattle.au_read_expressions.specs.ExpressionReading.{path_of, parenthesized_of, dereference_of, call_with, named_by, borrowed_by, atom_by, atom_with, ends_atom, ends_expression}
 use Rattle.au_read_expressions.proofs.ExpressionForm.{expression_form, atom_form, call_form, call_is_atom, expression_some}
 use Rattle.au_read_expressions.proofs.RowLaws.{Row, row}

@@ -16,14 +16,14 @@ use Rattle.au_syntax.specs.Forms.{some, is_call, some_arguments, formed_expressi
 use Rattle.au_syntax.specs.Names.{Placed}
 use Rattle.au_syntax.specs.Plain.{Bytes, PlainExpression, PlainExpressions, PlainArguments}
 use Rattle.au_syntax.specs.Words.{Words, begun, mark, listed, name_words, expression_words, words_of_expressions, words_of_arguments}
-use Rattle.au_reading.specs.Bounds.{Bounds, TreePasses}
-use Rattle.au_reading.specs.Reading.{Read, front, is_front, name_at, exactly, behind, closed, pair, shaped, built, listed as listed_at}
-use Rattle.au_reading.specs.Spelling.{Begins, fixed}
-use Rattle.au_reading.proofs.Begins.{begins_split, front_of}
-use Rattle.au_reading.proofs.Forms.{Form, Sound, Finds, Reads, Shapes, anything, light, behind_form, closed_form, closed_reads, pair_form, pair_behind, shaped_sound, shaped_found}
-use Rattle.au_reading.proofs.ListForms.{AllFit, OnePasses, separated_form, separated_reads}
-use Rattle.au_reading.proofs.Limits.{TreeFits, one_fits, one_passes, beside_fit, beside_passes}
-use Rattle.au_reading.proofs.Single.{exactly_reads, name_form, name_reads}
+use Rattle.au_read_expressions.specs.Bounds.{Bounds, TreePasses}
+use Rattle.au_read_expressions.specs.Reading.{Read, front, is_front, name_at, exactly, behind, closed, pair, shaped, built, listed as listed_at}
+use Rattle.au_read_expressions.specs.Spelling.{Begins, fixed}
+use Rattle.au_read_expressions.proofs.Begins.{begins_split, front_of}
+use Rattle.au_read_expressions.proofs.Forms.{Form, Sound, Finds, Reads, Shapes, anything, light, behind_form, closed_form, closed_reads, pair_form, pair_behind, shaped_sound, shaped_found}
+use Rattle.au_read_expressions.proofs.ListForms.{AllFit, OnePasses, separated_form, separated_reads}
+use Rattle.au_read_expressions.proofs.Limits.{TreeFits, one_fits, one_passes, beside_fit, beside_passes}
+use Rattle.au_read_expressions.proofs.Single.{exactly_reads, name_form, name_reads}
 use Rattle.au_read_expressions.specs.ExpressionReading.{Given, in_order, by_name, expressions_of, arguments_of, call_by, call_of, labelled, none_given, given_by, given_at, call_with, ends_expression}
 use Rattle.au_read_expressions.proofs.ExpressionForm.{expression_form, call_form, expression_some}
 use Rattle.au_read_expressions.proofs.RowLaws.{Row, row}

@@ -8,9 +8,9 @@ use Rattle.au_base.specs.declared.tokens.Sign.TheVariants.{LeftParenthesis, Righ
 use Rattle.au_base.specs.declared.tokens.Token.{Token}
 use Rattle.au_base.specs.declared.tokens.What.{What}
 use Rattle.au_base.specs.declared.tokens.What.TheVariants.{Word, Sign, Name, Number, Text}
-use Rattle.au_reading.specs.Bounds.{Bounds}
-use Rattle.au_reading.specs.Reading.{Read, ◌>>=◌, front, is_front, begins_with, place_of, name_at, tokens_at, nothing_at, behind, joined_at, joined_with, built_at, closed, shaped, listed, exactly}
-use Rattle.au_reading.proofs.Steps.{given, when_true}
+use Rattle.au_read_expressions.specs.Bounds.{Bounds}
+use Rattle.au_read_expressions.specs.Reading.{Read, ◌>>=◌, front, is_front, begins_with, place_of, name_at, tokens_at, nothing_at, behind, joined_at, joined_with, built_at, closed, shaped, listed, exactly}
+use Rattle.au_read_expressions.proofs.Steps.{given, when_true}
 use Rattle.au_read_expressions.specs.Arguments.{argument, called, called_by_name, called_in_order}
 use Rattle.au_read_expressions.specs.ExpressionReading.{site, call_of, begins_atom, begins_expression, expressions_of, arguments_of, Given, in_order, by_name, labelled, none_given, given_by, given_at, call_with, atom_with, expression_with, too_deep, no_call, expression_at, atom_at, call_at}
 use Rattle.au_read_expressions.specs.FirstTokens.{is_label}

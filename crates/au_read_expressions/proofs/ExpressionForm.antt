@@ -16,13 +16,13 @@ use Rattle.au_syntax.specs.Expressions.{number, negative, text, truth, nil, path
 use Rattle.au_syntax.specs.Forms.{is_atom, is_call, formed_expression}
 use Rattle.au_syntax.specs.Plain.{PlainExpression}
 use Rattle.au_syntax.specs.Words.{Words, begun, type_words, mark, expression_words, operator_words}
-use Rattle.au_reading.specs.Bounds.{Bounds, TreePasses}
-use Rattle.au_reading.specs.Reading.{front, is_front}
-use Rattle.au_reading.specs.Spelling.{Begins, fixed}
-use Rattle.au_reading.proofs.Begins.{first_word, front_of}
-use Rattle.au_reading.proofs.Forms.{Form}
-use Rattle.au_reading.proofs.Limits.{TreeFits}
-use Rattle.au_read_types.specs.TypeReading.{ends_type}
+use Rattle.au_read_expressions.specs.Bounds.{Bounds, TreePasses}
+use Rattle.au_read_expressions.specs.Reading.{front, is_front}
+use Rattle.au_read_expressions.specs.Spelling.{Begins, fixed}
+use Rattle.au_read_expressions.proofs.Begins.{first_word, front_of}
+use Rattle.au_read_expressions.proofs.Forms.{Form}
+use Rattle.au_read_expressions.proofs.Limits.{TreeFits}
+use Rattle.au_read_expressions.specs.TypeReading.{ends_type}
 use Rattle.au_read_expressions.specs.ExpressionReading.{begins_atom, begins_expression, operator_of, ends_atom, ends_expression}
 
 module _ (b : Bounds) (n : ℕ) where

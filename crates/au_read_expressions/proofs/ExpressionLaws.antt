@@ -17,17 +17,17 @@ use Rattle.au_syntax.specs.Expressions.{Node, binary, negation, typed, choice}
 use Rattle.au_syntax.specs.Forms.{is_atom, formed_expression}
 use Rattle.au_syntax.specs.Plain.{PlainExpression}
 use Rattle.au_syntax.specs.Words.{Words, begun, mark, word, type_words, expression_words, operator_words}
-use Rattle.au_reading.specs.declared.faults.Fault.TheVariants.{Passed}
-use Rattle.au_reading.specs.Bounds.{Bounds, TreePasses, nesting_limit}
-use Rattle.au_reading.specs.Reading.{Read, ◌>>=◌, front, place_of, is_front, begins_with, read_of, behind, pair}
-use Rattle.au_reading.specs.Spelling.{Begins, fixed}
-use Rattle.au_reading.proofs.Steps.{not_read, bind_ok, chosen, when_true, when_false, begins_is}
-use Rattle.au_reading.proofs.Begins.{begins_split, begins_join, begun_split, begun_join, front_of}
-use Rattle.au_reading.proofs.Forms.{Form, Sound, Finds, Reads, behind_form, behind_reads, pair_form, pair_behind, finds_on, sound_of}
-use Rattle.au_reading.proofs.Limits.{TreeFits, first_passes, one_fits, one_passes, two_fit, two_pass, type_fits_behind, type_passes_behind, beside_fit, beside_passes}
-use Rattle.au_read_types.specs.TypeReading.{type_at, ends_type}
+use Rattle.au_read_expressions.specs.declared.faults.Fault.TheVariants.{Passed}
+use Rattle.au_read_expressions.specs.Bounds.{Bounds, TreePasses, nesting_limit}
+use Rattle.au_read_expressions.specs.Reading.{Read, ◌>>=◌, front, place_of, is_front, begins_with, read_of, behind, pair}
+use Rattle.au_read_expressions.specs.Spelling.{Begins, fixed}
+use Rattle.au_read_expressions.proofs.Steps.{not_read, bind_ok, chosen, when_true, when_false, begins_is}
+use Rattle.au_read_expressions.proofs.Begins.{begins_split, begins_join, begun_split, begun_join, front_of}
+use Rattle.au_read_expressions.proofs.Forms.{Form, Sound, Finds, Reads, behind_form, behind_reads, pair_form, pair_behind, finds_on, sound_of}
+use Rattle.au_read_expressions.proofs.Limits.{TreeFits, first_passes, one_fits, one_passes, two_fit, two_pass, type_fits_behind, type_passes_behind, beside_fit, beside_passes}
+use Rattle.au_read_expressions.specs.TypeReading.{type_at, ends_type}
 use Rattle.au_read_expressions.specs.ExpressionReading.{site, negation_of, choice_of, choice_with, begins_atom, operator_of, atom_with, binary_of, typed_of, continued_by, continued, expression_by, expression_with, ends_atom, ends_expression}
-use Rattle.au_read_types.proofs.TypeForm.{type_form}
+use Rattle.au_read_expressions.proofs.TypeForm.{type_form}
 use Rattle.au_read_expressions.proofs.ExpressionForm.{expression_form, atom_form, before_some, expression_some, atom_begins, binary_good, good_binary, ends_both, ends_operator, ends_colon, ends_bracket, operator_what, operator_fixed, operator_there, operator_ends, operator_back}
 use Rattle.au_read_expressions.proofs.RowLaws.{Row, row}
 use Rattle.au_read_expressions.proofs.AtomLaws.{atom_with_reads}

@@ -10,15 +10,15 @@ use Rattle.au_syntax.specs.Forms.{is_atom, is_call, formed_expression}
 use Rattle.au_syntax.specs.Names.{Placed}
 use Rattle.au_syntax.specs.Plain.{Bytes, PlainExpression}
 use Rattle.au_syntax.specs.Words.{expression_words}
-use Rattle.au_reading.specs.declared.faults.Fault.TheVariants.{Passed}
-use Rattle.au_reading.specs.Bounds.{Bounds, nesting_limit}
-use Rattle.au_reading.specs.Reading.{◌>>=◌, front, begins_with, value_or_no, name_of, name_at}
-use Rattle.au_reading.specs.Spelling.{Begins}
-use Rattle.au_reading.proofs.Steps.{not_read, bind_ok, begins_again}
-use Rattle.au_reading.proofs.Forms.{Finds, Reads, anything}
-use Rattle.au_read_types.specs.TypeReading.{type_at, ends_type}
+use Rattle.au_read_expressions.specs.declared.faults.Fault.TheVariants.{Passed}
+use Rattle.au_read_expressions.specs.Bounds.{Bounds, nesting_limit}
+use Rattle.au_read_expressions.specs.Reading.{◌>>=◌, front, begins_with, value_or_no, name_of, name_at}
+use Rattle.au_read_expressions.specs.Spelling.{Begins}
+use Rattle.au_read_expressions.proofs.Steps.{not_read, bind_ok, begins_again}
+use Rattle.au_read_expressions.proofs.Forms.{Finds, Reads, anything}
+use Rattle.au_read_expressions.specs.TypeReading.{type_at, ends_type}
 use Rattle.au_read_expressions.specs.ExpressionReading.{begins_atom, begins_expression, ends_atom, ends_expression, too_deep, expression_at, atom_at, no_call, call_at}
-use Rattle.au_read_types.proofs.TypeForm.{type_form}
+use Rattle.au_read_expressions.proofs.TypeForm.{type_form}
 use Rattle.au_read_expressions.proofs.ExpressionForm.{expression_form, atom_form, call_form, expression_begins, atom_begins, expression_level}
 use Rattle.au_read_expressions.proofs.SecondTokens.{call_begins}
 use Rattle.au_read_expressions.proofs.CallLaws.{call_with_reads}

@@ -13,13 +13,13 @@ use Rattle.au_syntax.specs.Forms.{some}
 use Rattle.au_syntax.specs.Names.{Placed}
 use Rattle.au_syntax.specs.Plain.{Bytes}
 use Rattle.au_syntax.specs.Words.{begun, mark, name_words}
-use Rattle.au_reading.specs.Bounds.{Bounds}
-use Rattle.au_reading.specs.Reading.{is_front, name_at, number_at, text_at, exactly, behind, closed, pair, dotted_at, fields_at}
-use Rattle.au_reading.specs.Spelling.{fixed}
-use Rattle.au_reading.proofs.Forms.{Form, Reads, anything, light, behind_form, behind_reads, closed_form, closed_reads, pair_form, pair_after, pair_behind}
-use Rattle.au_reading.proofs.ListForms.{OnePasses, repeated_form, separated_form}
-use Rattle.au_reading.proofs.Limits.{TreeFits}
-use Rattle.au_reading.proofs.Single.{exactly_reads, name_form, name_reads, number_form, number_reads, text_form, text_reads, dotted_reads, fields_reads}
+use Rattle.au_read_expressions.specs.Bounds.{Bounds}
+use Rattle.au_read_expressions.specs.Reading.{is_front, name_at, number_at, text_at, exactly, behind, closed, pair, dotted_at, fields_at}
+use Rattle.au_read_expressions.specs.Spelling.{fixed}
+use Rattle.au_read_expressions.proofs.Forms.{Form, Reads, anything, light, behind_form, behind_reads, closed_form, closed_reads, pair_form, pair_after, pair_behind}
+use Rattle.au_read_expressions.proofs.ListForms.{OnePasses, repeated_form, separated_form}
+use Rattle.au_read_expressions.proofs.Limits.{TreeFits}
+use Rattle.au_read_expressions.proofs.Single.{exactly_reads, name_form, name_reads, number_form, number_reads, text_form, text_reads, dotted_reads, fields_reads}
 use Rattle.au_read_expressions.specs.ExpressionReading.{number_of, negative_of, text_of, truth_of, nil_of, path_of, arrow_of, borrow_of, borrow_part_of, arrow_parts}
 use Rattle.au_read_expressions.proofs.ExpressionForm.{atom_form}
 use Rattle.au_read_expressions.proofs.RowLaws.{Row, row, none_passes, all_good}

@@ -1,3 +1,14 @@
+pub mod Steps
+pub mod Begins
+pub mod Forms
+pub mod ListForms
+pub mod Single
+pub mod Loops
+pub mod Limits
+pub mod TypeNodes
+pub mod TypeForm
+pub mod TypeSteps
+pub mod TypeStops
 pub mod ExpressionForm
 pub mod RowLaws
 pub mod LeafLaws

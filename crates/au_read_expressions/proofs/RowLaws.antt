@@ -5,10 +5,10 @@ use Rattle.au_base.specs.declared.limits.Limit.{Limit}
 use Rattle.au_base.specs.declared.places.Pos.{Pos}
 use Rattle.au_base.specs.declared.tokens.Token.{Token}
 use Rattle.au_base.specs.declared.tokens.What.{What}
-use Rattle.au_reading.specs.Reading.{Read, front, built}
-use Rattle.au_reading.specs.Spelling.{Begins}
-use Rattle.au_reading.proofs.Forms.{Form, Sound, Finds, Reads, Builds, built_sound, built_found}
-use Rattle.au_reading.proofs.ListForms.{OnePasses}
+use Rattle.au_read_expressions.specs.Reading.{Read, front, built}
+use Rattle.au_read_expressions.specs.Spelling.{Begins}
+use Rattle.au_read_expressions.proofs.Forms.{Form, Sound, Finds, Reads, Builds, built_sound, built_found}
+use Rattle.au_read_expressions.proofs.ListForms.{OnePasses}
 
 -- the two laws of a row
 pub record Row {A B : Type 0} (other : Form B) (ends : Option What → Bool) (build : Pos → A → B) (read : List Token → Read A) : Type 0 where

@@ -13,9 +13,9 @@ use Rattle.au_syntax.specs.Expressions.{truth, path, call, named_call, borrow, b
 use Rattle.au_syntax.specs.Forms.{is_atom, is_call, formed_expression}
 use Rattle.au_syntax.specs.Plain.{Bytes, PlainExpression}
 use Rattle.au_syntax.specs.Words.{Words, begun, mark, type_words, expression_words, operator_words}
-use Rattle.au_reading.specs.Reading.{front}
-use Rattle.au_reading.specs.Spelling.{Begins}
-use Rattle.au_reading.proofs.Begins.{first_word, front_of}
+use Rattle.au_read_expressions.specs.Reading.{front}
+use Rattle.au_read_expressions.specs.Spelling.{Begins}
+use Rattle.au_read_expressions.proofs.Begins.{first_word, front_of}
 use Rattle.au_read_expressions.proofs.ExpressionForm.{begun_first, before_some, before_first, expression_some, binary_good}
 
 -- the first of words, or what stands behind them

@@ -4,7 +4,7 @@ use Rattle.au_base.specs.declared.places.Pos.{Pos}
 use Rattle.au_base.specs.declared.tokens.Sign.TheVariants.{RightParenthesis}
 use Rattle.au_base.specs.declared.tokens.Token.{Token}
 use Rattle.au_base.specs.declared.tokens.What.TheVariants.{Sign}
-use Rattle.au_reading.specs.Reading.{Read, ◌>>=◌, joined_with, built_at, closed, listed, shaped}
+use Rattle.au_read_expressions.specs.Reading.{Read, ◌>>=◌, joined_with, built_at, closed, listed, shaped}
 use Rattle.au_read_expressions.specs.ExpressionReading.{in_order, by_name, labelled, given_at, call_of}
 use Rattle.au_syntax.specs.Plain.{Bytes, PlainExpression}
 use Rattle.au_syntax.specs.declared.phases.Phase.{Ghosts}

@@ -26,12 +26,12 @@ use Rattle.au_syntax.specs.Expressions.{negation, typed, choice, no_expressions,
 use Rattle.au_syntax.specs.Expressions.{arguments}
 use Rattle.au_syntax.specs.Names.{Placed}
 use Rattle.au_syntax.specs.Plain.{Bytes, PlainExpression, PlainExpressions, PlainArguments}
-use Rattle.au_reading.specs.declared.faults.Fault.TheVariants.{Passed}
-use Rattle.au_reading.specs.Bounds.{Bounds, nesting_limit}
-use Rattle.au_reading.specs.Reading.{Read, ◌>>=◌, front, place_of, begins_with, no, name_at, number_at}
-use Rattle.au_reading.specs.Reading.{text_at, exactly, behind, closed, pair, shaped, built, listed, dotted_at}
-use Rattle.au_reading.specs.Reading.{fields_at}
-use Rattle.au_read_types.specs.TypeReading.{type_at}
+use Rattle.au_read_expressions.specs.declared.faults.Fault.TheVariants.{Passed}
+use Rattle.au_read_expressions.specs.Bounds.{Bounds, nesting_limit}
+use Rattle.au_read_expressions.specs.Reading.{Read, ◌>>=◌, front, place_of, begins_with, no, name_at, number_at}
+use Rattle.au_read_expressions.specs.Reading.{text_at, exactly, behind, closed, pair, shaped, built, listed, dotted_at}
+use Rattle.au_read_expressions.specs.Reading.{fields_at}
+use Rattle.au_read_expressions.specs.TypeReading.{type_at}
 
 -- the place of an expression, without a note
 abbrev pub site : Pos → Node (Unit {0})

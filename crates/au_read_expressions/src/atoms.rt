@@ -4,13 +4,13 @@ ghost use Rattle.std.specs.Prelude.{◌≡◌, ◌∷◌, [], true, false, map, 
 ghost use Rattle.au_base.specs.declared.tokens.Keyword.TheVariants as keyword;
 ghost use Rattle.au_base.specs.declared.tokens.Sign.TheVariants as sign;
 ghost use Rattle.au_base.specs.declared.tokens.What.TheVariants as what;
-ghost use Rattle.au_reading.specs.Reading.{Gives, place_of, name_at, number_at, text_at, fields_at, exactly};
-ghost use Rattle.au_reading.specs.Reading.{behind, closed, pair, built};
+ghost use Rattle.au_read_expressions.specs.Reading.{Gives, place_of, name_at, number_at, text_at, fields_at, exactly};
+ghost use Rattle.au_read_expressions.specs.Reading.{behind, closed, pair, built};
 ghost use Rattle.au_read_expressions.specs.ExpressionReading as spec;
 ghost use Rattle.au_syntax.specs.Views as views;
 
+use crate::{Expected, Stop, dotted, expect, fields, name, number, place, text};
 use au_base::{Keyword, Memory, Sign, Token};
-use au_reading::{Expected, Stop, dotted, expect, fields, name, number, place, text};
 use au_syntax::{BorrowMode, Expr, Ident, Parsed, Phase, Site};
 use std::alloc::Global;
 

@@ -4,8 +4,8 @@ ghost use Rattle.std.specs.Prelude.{◌≡◌, ◌<◌, ◌∷◌, [], Some, Non
 ghost use Rattle.au_base.specs.declared.tokens.Keyword.TheVariants as keyword;
 ghost use Rattle.au_base.specs.declared.tokens.Sign.TheVariants as sign;
 ghost use Rattle.au_base.specs.declared.tokens.What.TheVariants as what;
-ghost use Rattle.au_reading.specs.Bounds.{usual};
-ghost use Rattle.au_reading.specs.Reading.{Gives, behind, built, closed, front, listed};
+ghost use Rattle.au_read_expressions.specs.Bounds.{usual};
+ghost use Rattle.au_read_expressions.specs.Reading.{Gives, behind, built, closed, front, listed};
 ghost use Rattle.au_read_expressions.specs.Arguments.{argument, called, called_by_name, called_in_order};
 ghost use Rattle.au_read_expressions.specs.ExpressionReading as spec;
 ghost use Rattle.au_read_expressions.specs.ExpressionReading.{atom_at, call_at, expression_at};
@@ -18,9 +18,8 @@ use crate::atoms::{
 use crate::first::{
     begins_atom, begins_expression, begins_label, is_within, operator, passed, too_deep,
 };
+use crate::{Expected, Stop, after, expect, is_sign, name, stop_before, written_type};
 use au_base::{Keyword, Sign, Token, What};
-use au_read_types::written_type;
-use au_reading::{Expected, Stop, after, expect, is_sign, name, stop_before};
 use au_syntax::{Argument, BinaryOperator, BorrowMode, Expr, Ident, Parsed, Phase, Site};
 use std::alloc::Global;
 

@@ -1,16 +1,16 @@
 //! What the first tokens tell.
 
 ghost use Rattle.std.specs.Prelude.{◌≡◌, ◌<◌, drop, length, nat_le};
-ghost use Rattle.au_reading.specs.Bounds.{nesting_limit, usual};
-ghost use Rattle.au_reading.specs.Reading.{Stops, front};
+ghost use Rattle.au_read_expressions.specs.Bounds.{nesting_limit, usual};
+ghost use Rattle.au_read_expressions.specs.Reading.{Stops, front};
 ghost use Rattle.au_read_expressions.specs.ExpressionReading as spec;
 ghost use Rattle.au_read_expressions.specs.FirstTokens as first;
 ghost use Rattle.au_syntax.specs.Depths.{expression_depth as depth_of};
 ghost use Rattle.au_syntax.specs.Views as views;
 
+use crate::{Fault, Stop, stop_before};
 use au_base::limits::MOST_NESTING;
 use au_base::{Keyword, Limit, LimitKind, Sign, Token, What};
-use au_reading::{Fault, Stop, stop_before};
 use au_syntax::depths::expression_depth;
 use au_syntax::{BinaryOperator, Expr, Parsed, Phase};
 

@@ -16,12 +16,12 @@ use Rattle.au_syntax.specs.declared.types.Access.{Access}
 use Rattle.au_syntax.specs.Names.{Placed}
 use Rattle.au_syntax.specs.Plain.{Bytes, PlainExpression, PlainStatements}
 use Rattle.au_syntax.specs.Types.{WrittenType, Bound}
-use Rattle.au_reading.specs.Bounds.{Bounds}
-use Rattle.au_reading.specs.declared.faults.Fault.{Fault}
-use Rattle.au_reading.specs.Reading.{Read, ◌>>=◌, name_at, place_of, tokens_at, behind, closed_at, closed}
-use Rattle.au_reading.specs.Reading.{read_of, joined_with, joined_at, pair, built_at, built, shaped}
-use Rattle.au_reading.specs.Reading.{bracketed}
-use Rattle.au_read_types.specs.TypeReading.{type_at}
+use Rattle.au_read_expressions.specs.Bounds.{Bounds}
+use Rattle.au_read_expressions.specs.declared.faults.Fault.{Fault}
+use Rattle.au_read_expressions.specs.Reading.{Read, ◌>>=◌, name_at, place_of, tokens_at, behind, closed_at, closed}
+use Rattle.au_read_expressions.specs.Reading.{read_of, joined_with, joined_at, pair, built_at, built, shaped}
+use Rattle.au_read_expressions.specs.Reading.{bracketed}
+use Rattle.au_read_expressions.specs.TypeReading.{type_at}
 use Rattle.au_read_statements.specs.BlockHeads.{regrouped, between, for_start, for_head, borrow_start}
 use Rattle.au_read_statements.specs.BlockHeads.{borrow_head, binds_end, arm_head, typed_start, typed_head}
 use Rattle.au_read_statements.specs.BlockHeads.{for_of_parts, borrow_in_of_parts, borrow_typed_of_parts}

@@ -19,15 +19,15 @@ use Rattle.au_syntax.specs.Sizes.{expression_types, bound_types, block_types, ar
 use Rattle.au_syntax.specs.Statements.{no_arms, arms}
 use Rattle.au_syntax.specs.Types.{Bound}
 use Rattle.au_syntax.specs.Words.{Words, word, mark, begun, listed_in, name_words, bound_words, expression_words, type_words, block_words, arm_words, mode_sign, end_at}
-use Rattle.au_reading.specs.Bounds.{Bounds, TreePasses}
-use Rattle.au_reading.specs.Reading.{Read, front, is_front, name_at, behind, pair, bracketed}
-use Rattle.au_reading.specs.Spelling.{Begins, fixed}
-use Rattle.au_reading.proofs.Begins.{front_of}
-use Rattle.au_reading.proofs.Forms.{Form, Reads, Builds, anything, behind_form, behind_reads, closed_form, closed_reads, pair_form, pair_reads, pair_after, pair_behind, built_sound, built_found}
-use Rattle.au_reading.proofs.Limits.{TreeFits, one_fits, one_passes, two_fit, two_pass, beside_fit, beside_passes, types_fit_before, types_pass_before}
-use Rattle.au_reading.proofs.ListForms.{repeated_form, repeated_reads, bracketed_form, bracketed_reads, AllFit, OnePasses}
-use Rattle.au_reading.proofs.Single.{name_form, name_reads}
-use Rattle.au_read_types.specs.TypeReading.{ends_type}
+use Rattle.au_read_expressions.specs.Bounds.{Bounds, TreePasses}
+use Rattle.au_read_expressions.specs.Reading.{Read, front, is_front, name_at, behind, pair, bracketed}
+use Rattle.au_read_expressions.specs.Spelling.{Begins, fixed}
+use Rattle.au_read_expressions.proofs.Begins.{front_of}
+use Rattle.au_read_expressions.proofs.Forms.{Form, Reads, Builds, anything, behind_form, behind_reads, closed_form, closed_reads, pair_form, pair_reads, pair_after, pair_behind, built_sound, built_found}
+use Rattle.au_read_expressions.proofs.Limits.{TreeFits, one_fits, one_passes, two_fit, two_pass, beside_fit, beside_passes, types_fit_before, types_pass_before}
+use Rattle.au_read_expressions.proofs.ListForms.{repeated_form, repeated_reads, bracketed_form, bracketed_reads, AllFit, OnePasses}
+use Rattle.au_read_expressions.proofs.Single.{name_form, name_reads}
+use Rattle.au_read_expressions.specs.TypeReading.{ends_type}
 use Rattle.au_read_statements.specs.StatementReading.{ends_block, bound_at, borrow_whats, ArmParts, arm_of, arms_of, arm_with, arms_with, case_of_parts, case_with, while_of, while_with, for_of, for_with, borrowed_block, borrow_in_of, borrow_in_with, borrow_typed_of, borrow_typed_with}
 use Rattle.au_read_statements.proofs.FirstWords.{front_is}
 use Rattle.au_read_statements.proofs.Nesting.{nest_5, nest_7, nest_9, nest_10}

@@ -10,13 +10,13 @@ use Rattle.au_base.specs.declared.tokens.What.TheVariants.{Word}
 use Rattle.au_syntax.specs.Forms.{begins_with_if, formed_block}
 use Rattle.au_syntax.specs.Plain.{PlainExpression, PlainStatements}
 use Rattle.au_syntax.specs.Words.{Words, block_words}
-use Rattle.au_reading.specs.Bounds.{Bounds}
-use Rattle.au_reading.specs.Reading.{Read, ◌>>=◌, front, is_front, begins_with, read_of, before_all, joined_with, joined_at, pair, optional}
-use Rattle.au_reading.specs.Spelling.{Begins, fixed}
-use Rattle.au_reading.proofs.Steps.{not_read, ok_same, bind_ok, chosen, not_true, when_true, when_false, begins_is, begins_again}
-use Rattle.au_reading.proofs.Begins.{begins_split, begins_join, begins_shorter, front_of}
-use Rattle.au_reading.proofs.Forms.{Form, Sound, Finds, Reads, finds_on, sound_of, behind_form, behind_reads, pair_form, pair_behind}
-use Rattle.au_reading.proofs.ListForms.{separated_form, optional_form, optional_reads}
+use Rattle.au_read_expressions.specs.Bounds.{Bounds}
+use Rattle.au_read_expressions.specs.Reading.{Read, ◌>>=◌, front, is_front, begins_with, read_of, before_all, joined_with, joined_at, pair, optional}
+use Rattle.au_read_expressions.specs.Spelling.{Begins, fixed}
+use Rattle.au_read_expressions.proofs.Steps.{not_read, ok_same, bind_ok, chosen, not_true, when_true, when_false, begins_is, begins_again}
+use Rattle.au_read_expressions.proofs.Begins.{begins_split, begins_join, begins_shorter, front_of}
+use Rattle.au_read_expressions.proofs.Forms.{Form, Sound, Finds, Reads, finds_on, sound_of, behind_form, behind_reads, pair_form, pair_behind}
+use Rattle.au_read_expressions.proofs.ListForms.{separated_form, optional_form, optional_reads}
 use Rattle.au_read_statements.specs.StatementReading.{begins_statement, ends_block, else_if, branch_with, after_branch, branches_within, branches_with}
 use Rattle.au_read_expressions.proofs.ExpressionForm.{expression_form}
 use Rattle.au_read_statements.proofs.FirstWords.{front_is, block_if, block_no_if}

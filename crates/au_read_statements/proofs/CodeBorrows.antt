@@ -11,8 +11,8 @@ use Rattle.au_base.specs.declared.tokens.Keyword.TheVariants.{KwBorrow}
 use Rattle.au_base.specs.declared.tokens.What.TheVariants.{Word, Sign}
 use Rattle.au_syntax.specs.declared.types.Access.TheVariants as access
 use Rattle.au_syntax.specs.Plain.{PlainExpression, PlainStatements}
-use Rattle.au_reading.specs.Bounds.{Bounds}
-use Rattle.au_reading.specs.Reading.{Read, front, is_front, begins_with}
+use Rattle.au_read_expressions.specs.Bounds.{Bounds}
+use Rattle.au_read_expressions.specs.Reading.{Read, front, is_front, begins_with}
 use Rattle.au_read_statements.specs.StatementReading.{borrow_by, borrow_in_with, borrow_typed_with, statement_by, statement_with}
 
 -- what the first token is

@@ -9,11 +9,11 @@ use Rattle.au_syntax.specs.contracts.parsed.ParsedPhase.TheImpl.{ghosts as parse
 use Rattle.au_syntax.specs.Plain.{PlainExpression, PlainStatements}
 use Rattle.au_syntax.specs.Statements.{statements, branches, arms}
 use Rattle.au_syntax.specs.Views.{placed, bound, expression, statement, block, statement_all, branch_all, arm_all}
-use Rattle.au_reading.specs.declared.faults.Fault.{Fault}
-use Rattle.au_reading.specs.Bounds.{Bounds}
-use Rattle.au_reading.specs.Reading.{Read, ◌>>=◌, no, read_of, before_all}
-use Rattle.au_reading.proofs.Loops.{with_front, one_more}
-use Rattle.au_reading.proofs.Steps.{when_true, when_false}
+use Rattle.au_read_expressions.specs.declared.faults.Fault.{Fault}
+use Rattle.au_read_expressions.specs.Bounds.{Bounds}
+use Rattle.au_read_expressions.specs.Reading.{Read, ◌>>=◌, no, read_of, before_all}
+use Rattle.au_read_expressions.proofs.Loops.{with_front, one_more}
+use Rattle.au_read_expressions.proofs.Steps.{when_true, when_false}
 use Rattle.au_read_expressions.specs.ExpressionReading.{expression_at, call_at}
 use Rattle.au_read_statements.specs.Seen.{branch_seen, arm_seen}
 use Rattle.au_read_statements.specs.StatementReading.{statements_of, branches_of, arms_of, else_if, branch_with, after_branch, branches_within, statement_with, statement_at, block_at}

@@ -14,12 +14,12 @@ use Rattle.au_syntax.specs.Plain.{PlainExpression, PlainStatements, PlainBranche
 use Rattle.au_syntax.specs.Sizes.{expression_types, block_types, branches_types}
 use Rattle.au_syntax.specs.Statements.{no_branches, branches}
 use Rattle.au_syntax.specs.Words.{Words, word, mark, begun, separated, expression_words, block_words, words_of_branches, statement_words}
-use Rattle.au_reading.specs.Bounds.{Bounds, TreePasses}
-use Rattle.au_reading.specs.Reading.{Read}
-use Rattle.au_reading.specs.Spelling.{fixed}
-use Rattle.au_reading.proofs.Forms.{closed_form, closed_reads}
-use Rattle.au_reading.proofs.Limits.{TreeFits, one_fits, one_passes, two_fit, two_pass}
-use Rattle.au_reading.proofs.ListForms.{AllFit, OnePasses}
+use Rattle.au_read_expressions.specs.Bounds.{Bounds, TreePasses}
+use Rattle.au_read_expressions.specs.Reading.{Read}
+use Rattle.au_read_expressions.specs.Spelling.{fixed}
+use Rattle.au_read_expressions.proofs.Forms.{closed_form, closed_reads}
+use Rattle.au_read_expressions.proofs.Limits.{TreeFits, one_fits, one_passes, two_fit, two_pass}
+use Rattle.au_read_expressions.proofs.ListForms.{AllFit, OnePasses}
 use Rattle.au_read_statements.specs.StatementReading.{branches_of, conditional_by, conditional_of, conditional_with}
 use Rattle.au_read_statements.proofs.Nesting.{nest_3, nest_4}
 use Rattle.au_read_statements.proofs.PartForms.{not_second}

@@ -12,10 +12,10 @@ use Rattle.au_syntax.specs.Forms.{is_conditional, begins_with_if, formed_stateme
 use Rattle.au_syntax.specs.Plain.{PlainStatement, PlainStatements}
 use Rattle.au_syntax.specs.Statements.{skip, declare, destructure, assign, assign_through, conditional, conditional_else, case_of, while_loop, for_loop, borrow_in, borrow_typed, discard, return_of, no_statements, statements, no_branches, branches}
 use Rattle.au_syntax.specs.Words.{Words, statement_words, block_words}
-use Rattle.au_reading.specs.Reading.{front, is_front, begins_with}
-use Rattle.au_reading.specs.Spelling.{Begins}
-use Rattle.au_reading.proofs.Steps.{same_is}
-use Rattle.au_reading.proofs.Begins.{begins_split, first_word, front_of}
+use Rattle.au_read_expressions.specs.Reading.{front, is_front, begins_with}
+use Rattle.au_read_expressions.specs.Spelling.{Begins}
+use Rattle.au_read_expressions.proofs.Steps.{same_is}
+use Rattle.au_read_expressions.proofs.Begins.{begins_split, first_word, front_of}
 use Rattle.au_read_statements.specs.StatementReading.{begins_statement}
 
 -- the first token is this one where the test holds

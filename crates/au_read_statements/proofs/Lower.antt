@@ -2,10 +2,10 @@
 use Rattle.std.proofs.Common.{ℕ, ◌<◌, length}
 use Rattle.au_syntax.specs.Plain.{PlainExpression}
 use Rattle.au_syntax.specs.Words.{expression_words}
-use Rattle.au_reading.specs.Bounds.{Bounds}
-use Rattle.au_reading.proofs.Forms.{Reads, anything}
-use Rattle.au_read_types.specs.TypeReading.{ends_type, type_at}
-use Rattle.au_read_types.proofs.TypeForm.{type_form, type_reads}
+use Rattle.au_read_expressions.specs.Bounds.{Bounds}
+use Rattle.au_read_expressions.proofs.Forms.{Reads, anything}
+use Rattle.au_read_expressions.specs.TypeReading.{ends_type, type_at}
+use Rattle.au_read_expressions.proofs.TypeForm.{type_form, type_reads}
 use Rattle.au_read_expressions.specs.ExpressionReading.{ends_expression, expression_at, call_at}
 use Rattle.au_read_expressions.proofs.ExpressionForm.{expression_form, call_form, expression_some as some_words}
 use Rattle.au_read_expressions.proofs.ExpressionReads.{expression_reads, call_reads}

@@ -13,17 +13,17 @@ use Rattle.au_syntax.specs.Names.{Placed, Renaming}
 use Rattle.au_syntax.specs.Plain.{Bytes}
 use Rattle.au_syntax.specs.Types.{WrittenType, Bound}
 use Rattle.au_syntax.specs.Words.{name_words, mark, mode_sign, renaming_words, bound_words, end_at}
-use Rattle.au_reading.specs.Bounds.{Bounds, TypePasses}
-use Rattle.au_reading.specs.Reading.{is_front, value_or_no, name_at, optional, exactly, behind, pair, read_of}
-use Rattle.au_reading.specs.Spelling.{Begins, fixed}
-use Rattle.au_reading.proofs.Steps.{ok_same}
-use Rattle.au_reading.proofs.Forms.{Form, Reads, Builds, anything, light, behind_form, pair_form, pair_after, pair_behind, shaped_reads, built_sound, built_found}
-use Rattle.au_reading.proofs.ListForms.{optional_form, optional_reads}
-use Rattle.au_reading.proofs.Single.{name_form, name_reads, exactly_reads}
-use Rattle.au_reading.proofs.Limits.{TypeFits}
-use Rattle.au_read_types.specs.TypeReading.{ends_type, type_at}
+use Rattle.au_read_expressions.specs.Bounds.{Bounds, TypePasses}
+use Rattle.au_read_expressions.specs.Reading.{is_front, value_or_no, name_at, optional, exactly, behind, pair, read_of}
+use Rattle.au_read_expressions.specs.Spelling.{Begins, fixed}
+use Rattle.au_read_expressions.proofs.Steps.{ok_same}
+use Rattle.au_read_expressions.proofs.Forms.{Form, Reads, Builds, anything, light, behind_form, pair_form, pair_after, pair_behind, shaped_reads, built_sound, built_found}
+use Rattle.au_read_expressions.proofs.ListForms.{optional_form, optional_reads}
+use Rattle.au_read_expressions.proofs.Single.{name_form, name_reads, exactly_reads}
+use Rattle.au_read_expressions.proofs.Limits.{TypeFits}
+use Rattle.au_read_expressions.specs.TypeReading.{ends_type, type_at}
 use Rattle.au_read_statements.specs.StatementReading.{renaming_of, renaming_at, bound_of, bound_at, place_alone, end_place, mode_of, mode_at}
-use Rattle.au_read_types.proofs.TypeForm.{type_form}
+use Rattle.au_read_expressions.proofs.TypeForm.{type_form}
 
 -- a passed limit that a light part can't have passed
 pub not_first : {P : Type 0} → ⊥ ⊎ P → P

@@ -15,14 +15,14 @@ use Rattle.au_syntax.specs.Depths.{expression_depth}
 use Rattle.au_syntax.specs.Sizes.{expression_types, bound_types}
 use Rattle.au_syntax.specs.Plain.{Bytes, PlainExpression, PlainStatements}
 use Rattle.au_syntax.specs.Words.{word, mark, begun, listed, dotted, name_words, type_words, bound_words, expression_words, binding_word}
-use Rattle.au_reading.specs.Bounds.{Bounds}
-use Rattle.au_reading.specs.Reading.{Read, is_front, name_at, fields_at, exactly, behind, closed}
-use Rattle.au_reading.specs.Spelling.{fixed}
-use Rattle.au_reading.proofs.Forms.{Form, Reads, anything, light, behind_form, behind_reads, closed_form, closed_reads, pair_after, pair_behind}
-use Rattle.au_reading.proofs.Limits.{one_fits, one_passes, types_fit_before, types_pass_before}
-use Rattle.au_reading.proofs.ListForms.{OnePasses, repeated_form, separated_reads}
-use Rattle.au_reading.proofs.Single.{name_form, name_reads, exactly_reads, dotted_reads, fields_reads}
-use Rattle.au_read_types.specs.TypeReading.{ends_type}
+use Rattle.au_read_expressions.specs.Bounds.{Bounds}
+use Rattle.au_read_expressions.specs.Reading.{Read, is_front, name_at, fields_at, exactly, behind, closed}
+use Rattle.au_read_expressions.specs.Spelling.{fixed}
+use Rattle.au_read_expressions.proofs.Forms.{Form, Reads, anything, light, behind_form, behind_reads, closed_form, closed_reads, pair_after, pair_behind}
+use Rattle.au_read_expressions.proofs.Limits.{one_fits, one_passes, types_fit_before, types_pass_before}
+use Rattle.au_read_expressions.proofs.ListForms.{OnePasses, repeated_form, separated_reads}
+use Rattle.au_read_expressions.proofs.Single.{name_form, name_reads, exactly_reads, dotted_reads, fields_reads}
+use Rattle.au_read_expressions.specs.TypeReading.{ends_type}
 use Rattle.au_read_expressions.specs.ExpressionReading.{ends_expression}
 use Rattle.au_read_statements.specs.StatementReading.{bound_at, destructure_of, destructure_with, assign_of, assign_with, assign_through_of, assign_through_with, discard_of, discard_with, declare_of, declare_with, skip_of, skip_at, return_of_part, return_with}
 use Rattle.au_read_expressions.proofs.ExpressionForm.{expression_form}

@@ -10,16 +10,16 @@ use Rattle.au_syntax.specs.Plain.{Bytes, PlainExpression, PlainStatement, PlainS
 use Rattle.au_syntax.specs.Sizes.{statement_types, block_types, bound_types}
 use Rattle.au_syntax.specs.Types.{WrittenType, Bound}
 use Rattle.au_syntax.specs.Words.{statement_words, block_words}
-use Rattle.au_reading.specs.Bounds.{Bounds, TypePasses, SomeTypePasses, TreePasses}
-use Rattle.au_reading.specs.Reading.{Read, built}
-use Rattle.au_reading.specs.Spelling.{Begins}
-use Rattle.au_reading.proofs.Forms.{Form, Sound, Finds, Reads, Builds, anything, built_sound, built_found}
-use Rattle.au_reading.proofs.Limits.{TypeFits, TypesFit, TreeFits, beside_fit, beside_passes}
-use Rattle.au_reading.proofs.ListForms.{AllFit, OnePasses}
-use Rattle.au_read_types.specs.TypeReading.{ends_type, type_at}
+use Rattle.au_read_expressions.specs.Bounds.{Bounds, TypePasses, SomeTypePasses, TreePasses}
+use Rattle.au_read_expressions.specs.Reading.{Read, built}
+use Rattle.au_read_expressions.specs.Spelling.{Begins}
+use Rattle.au_read_expressions.proofs.Forms.{Form, Sound, Finds, Reads, Builds, anything, built_sound, built_found}
+use Rattle.au_read_expressions.proofs.Limits.{TypeFits, TypesFit, TreeFits, beside_fit, beside_passes}
+use Rattle.au_read_expressions.proofs.ListForms.{AllFit, OnePasses}
+use Rattle.au_read_expressions.specs.TypeReading.{ends_type, type_at}
 use Rattle.au_read_expressions.specs.ExpressionReading.{ends_expression}
 use Rattle.au_read_statements.specs.StatementReading.{ends_block}
-use Rattle.au_read_types.proofs.TypeForm.{type_form}
+use Rattle.au_read_expressions.proofs.TypeForm.{type_form}
 use Rattle.au_read_expressions.proofs.ExpressionForm.{expression_form, call_form}
 use Rattle.au_read_statements.proofs.PartForms.{bound_form}
 

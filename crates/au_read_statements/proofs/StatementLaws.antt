@@ -18,15 +18,15 @@ use Rattle.au_syntax.specs.Plain.{PlainExpression, PlainStatement, PlainStatemen
 use Rattle.au_syntax.specs.Sizes.{statement_types, block_types}
 use Rattle.au_syntax.specs.Statements.{skip, declare, destructure, assign, assign_through, conditional, conditional_else, case_of, while_loop, for_loop, borrow_in, borrow_typed, discard, return_of, no_statements, statements, no_branches, branches}
 use Rattle.au_syntax.specs.Words.{Words, expression_words, statement_words, block_words}
-use Rattle.au_reading.specs.declared.faults.Fault.TheVariants.{Passed}
-use Rattle.au_reading.specs.Bounds.{Bounds, nesting_limit}
-use Rattle.au_reading.specs.Reading.{Read, front, no, repeated}
-use Rattle.au_reading.specs.Spelling.{Begins}
-use Rattle.au_reading.proofs.Steps.{given, not_read, chosen, when_true}
-use Rattle.au_reading.proofs.Begins.{first_word, front_of}
-use Rattle.au_reading.proofs.Forms.{Sound, Finds, Reads, anything, shaped_reads}
-use Rattle.au_reading.proofs.Limits.{beside_fit, beside_passes}
-use Rattle.au_reading.proofs.ListForms.{AllFit, OnePasses, repeated_form, repeated_reads}
+use Rattle.au_read_expressions.specs.declared.faults.Fault.TheVariants.{Passed}
+use Rattle.au_read_expressions.specs.Bounds.{Bounds, nesting_limit}
+use Rattle.au_read_expressions.specs.Reading.{Read, front, no, repeated}
+use Rattle.au_read_expressions.specs.Spelling.{Begins}
+use Rattle.au_read_expressions.proofs.Steps.{given, not_read, chosen, when_true}
+use Rattle.au_read_expressions.proofs.Begins.{first_word, front_of}
+use Rattle.au_read_expressions.proofs.Forms.{Sound, Finds, Reads, anything, shaped_reads}
+use Rattle.au_read_expressions.proofs.Limits.{beside_fit, beside_passes}
+use Rattle.au_read_expressions.proofs.ListForms.{AllFit, OnePasses, repeated_form, repeated_reads}
 use Rattle.au_read_expressions.specs.ExpressionReading.{expression_at, call_at}
 use Rattle.au_read_statements.specs.StatementReading.{begins_statement, ends_block, statements_of, conditional_with, case_with, let_by, named_by, borrow_by, statement_by, statement_with, block_with, statement_at, block_at}
 use Rattle.au_read_statements.proofs.Lower.{Lower}

@@ -13,9 +13,9 @@ use Rattle.au_syntax.specs.Names.{Placed}
 use Rattle.au_syntax.specs.Plain.{Bytes, PlainExpression, PlainStatement, PlainStatements}
 use Rattle.au_syntax.specs.Statements.{for_loop, borrow_in, borrow_typed}
 use Rattle.au_syntax.specs.Types.{WrittenType, Bound}
-use Rattle.au_reading.specs.Bounds.{Bounds}
-use Rattle.au_reading.specs.Reading.{Read, name_at, behind, closed, pair, bracketed}
-use Rattle.au_read_types.specs.TypeReading.{type_at}
+use Rattle.au_read_expressions.specs.Bounds.{Bounds}
+use Rattle.au_read_expressions.specs.Reading.{Read, name_at, behind, closed, pair, bracketed}
+use Rattle.au_read_expressions.specs.TypeReading.{type_at}
 use Rattle.au_read_statements.specs.StatementReading.{bound_at, borrow_whats, mode_at}
 
 -- three parts, grouped from the right

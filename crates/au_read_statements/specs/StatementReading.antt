@@ -29,12 +29,12 @@ use Rattle.au_syntax.specs.Statements.{conditional_else, case_of, while_loop, fo
 use Rattle.au_syntax.specs.Statements.{borrow_typed, discard, return_of, no_statements, statements}
 use Rattle.au_syntax.specs.Statements.{no_branches, branches, no_arms, arms}
 use Rattle.au_syntax.specs.Types.{WrittenType, Bound}
-use Rattle.au_reading.specs.declared.faults.Fault.TheVariants.{Passed}
-use Rattle.au_reading.specs.Bounds.{Bounds, nesting_limit}
-use Rattle.au_reading.specs.Reading.{Read, ◌>>=◌, front, is_front, begins_with, no, value_at, name_at}
-use Rattle.au_reading.specs.Reading.{exactly, behind, closed, pair, shaped, built, before_all, repeated}
-use Rattle.au_reading.specs.Reading.{listed, bracketed, optional, fields_at}
-use Rattle.au_read_types.specs.TypeReading.{type_at}
+use Rattle.au_read_expressions.specs.declared.faults.Fault.TheVariants.{Passed}
+use Rattle.au_read_expressions.specs.Bounds.{Bounds, nesting_limit}
+use Rattle.au_read_expressions.specs.Reading.{Read, ◌>>=◌, front, is_front, begins_with, no, value_at, name_at}
+use Rattle.au_read_expressions.specs.Reading.{exactly, behind, closed, pair, shaped, built, before_all, repeated}
+use Rattle.au_read_expressions.specs.Reading.{listed, bracketed, optional, fields_at}
+use Rattle.au_read_expressions.specs.TypeReading.{type_at}
 use Rattle.au_read_expressions.specs.ExpressionReading.{arrow_parts, expression_at, call_at}
 
 -- with which tokens a statement begins

@@ -5,12 +5,12 @@ ghost use Rattle.au_base.specs.declared.tokens.Keyword.TheVariants as keyword;
 ghost use Rattle.au_base.specs.declared.tokens.Sign.TheVariants as sign;
 ghost use Rattle.au_base.specs.declared.tokens.What.TheVariants as what;
 ghost use Rattle.au_read_statements.specs.StatementReading as spec;
-ghost use Rattle.au_reading.specs.Bounds.{usual};
-ghost use Rattle.au_reading.specs.Reading.{Gives, Stops, front, tokens_at};
+ghost use Rattle.au_read_expressions.specs.Bounds.{usual};
+ghost use Rattle.au_read_expressions.specs.Reading.{Gives, Stops, front, tokens_at};
 
 use au_base::limits::MOST_NESTING;
 use au_base::{Keyword, Limit, LimitKind, Sign, Token, What};
-use au_reading::{Expected, Fault, Stop, after, expect, is_word, stop_before};
+use au_read_expressions::{Expected, Fault, Stop, after, expect, is_word, stop_before};
 use au_syntax::Access;
 
 /// Whether a statement begins here.

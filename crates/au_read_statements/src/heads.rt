@@ -7,17 +7,16 @@ ghost use Rattle.au_base.specs.declared.tokens.What.TheVariants as what;
 ghost use Rattle.au_read_expressions.specs.ExpressionReading.{expression_at};
 ghost use Rattle.au_read_statements.specs.BlockHeads as heads;
 ghost use Rattle.au_read_statements.specs.StatementReading.{end_place as end_at};
-ghost use Rattle.au_read_types.specs.TypeReading.{type_at};
-ghost use Rattle.au_reading.specs.Bounds.{usual};
-ghost use Rattle.au_reading.specs.Reading.{Gives, closed, name_at};
+ghost use Rattle.au_read_expressions.specs.TypeReading.{type_at};
+ghost use Rattle.au_read_expressions.specs.Bounds.{usual};
+ghost use Rattle.au_read_expressions.specs.Reading.{Gives, closed, name_at};
 ghost use Rattle.au_syntax.specs.Views.{bound, expression, placed, written};
 
 use crate::first::borrowing;
 use crate::parts::{BoundPart, end_place, mode};
 use crate::simple::boxed;
 use au_base::{Keyword, Pos, Sign, Token};
-use au_read_types::written_type;
-use au_reading::{Expected, Stop, bracketed, expect, name};
+use au_read_expressions::{Expected, Stop, bracketed, expect, name, written_type};
 use au_syntax::{Access, Bind, BorrowMode, BorrowNames, Expr, Ident, Parsed, Phase, TypeText};
 use std::alloc::Global;
 

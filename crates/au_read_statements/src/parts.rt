@@ -4,16 +4,17 @@ ghost use Rattle.std.specs.Prelude.{◌≡◌, ◌∷◌, [], List, ℕ};
 ghost use Rattle.au_base.specs.declared.tokens.Sign.TheVariants as sign;
 ghost use Rattle.au_base.specs.declared.tokens.What.TheVariants as what;
 ghost use Rattle.au_read_statements.specs.StatementReading as spec;
-ghost use Rattle.au_reading.specs.Bounds.{usual};
-ghost use Rattle.au_reading.specs.Reading.{Gives, behind};
-ghost use Rattle.au_read_types.specs.TypeReading.{type_at};
+ghost use Rattle.au_read_expressions.specs.Bounds.{usual};
+ghost use Rattle.au_read_expressions.specs.Reading.{Gives, behind};
+ghost use Rattle.au_read_expressions.specs.TypeReading.{type_at};
 ghost use Rattle.au_syntax.specs.Names.{Renaming};
 ghost use Rattle.au_syntax.specs.Types.{Bound};
 ghost use Rattle.au_syntax.specs.Views as views;
 
 use au_base::{Keyword, Pos, Sign, Token, What};
-use au_read_types::written_type;
-use au_reading::{Expected, Part, Stop, after, expect, is_word, name, place, stop_before};
+use au_read_expressions::{
+    Expected, Part, Stop, after, expect, is_word, name, place, stop_before, written_type,
+};
 use au_syntax::{Bind, BorrowMode, Parsed, Phase, Renamed, TypeText};
 use std::alloc::Global;
 

@@ -6,17 +6,18 @@ ghost use Rattle.au_base.specs.declared.tokens.Sign.TheVariants as sign;
 ghost use Rattle.au_base.specs.declared.tokens.What.TheVariants as what;
 ghost use Rattle.au_read_expressions.specs.ExpressionReading as spelled;
 ghost use Rattle.au_read_statements.specs.StatementReading as spec;
-ghost use Rattle.au_reading.specs.Bounds.{usual};
-ghost use Rattle.au_read_types.specs.TypeReading.{type_at};
-ghost use Rattle.au_reading.specs.Reading.{Gives, behind, built, closed, dotted_at, exactly, fields_at};
-ghost use Rattle.au_reading.specs.Reading.{front, name_at, pair};
+ghost use Rattle.au_read_expressions.specs.Bounds.{usual};
+ghost use Rattle.au_read_expressions.specs.TypeReading.{type_at};
+ghost use Rattle.au_read_expressions.specs.Reading.{Gives, behind, built, closed, dotted_at, exactly, fields_at};
+ghost use Rattle.au_read_expressions.specs.Reading.{front, name_at, pair};
 ghost use Rattle.au_syntax.specs.Views as views;
 
 use crate::parts::BoundPart;
 use au_base::{Keyword, Sign, Token, What};
-use au_read_expressions::{call, expression};
-use au_read_types::written_type;
-use au_reading::{Expected, Stop, after, dotted, expect, fields, listed, name, place};
+use au_read_expressions::{
+    Expected, Stop, after, call, dotted, expect, expression, fields, listed, name, place,
+    written_type,
+};
 use au_syntax::{Binding, Expr, Ident, Parsed, Phase, Stmt, TypeText};
 use std::alloc::Global;
 

@@ -8,8 +8,8 @@ ghost use Rattle.au_read_expressions.specs.ExpressionReading.{call_at, expressio
 ghost use Rattle.au_read_statements.specs.Seen.{arm_seen, branch_seen};
 ghost use Rattle.au_read_statements.specs.StatementReading as spec;
 ghost use Rattle.au_read_statements.specs.StatementReading.{block_at};
-ghost use Rattle.au_reading.specs.Bounds.{usual};
-ghost use Rattle.au_reading.specs.Reading.{Gives, begins_with, closed, repeated};
+ghost use Rattle.au_read_expressions.specs.Bounds.{usual};
+ghost use Rattle.au_read_expressions.specs.Reading.{Gives, begins_with, closed, repeated};
 ghost use Rattle.au_syntax.specs.Views as views;
 ghost use Rattle.au_syntax.specs.declared.types.Access.TheVariants as access;
 
@@ -17,7 +17,7 @@ use crate::first::{begins, closing, else_if, too_deep};
 use crate::heads::{arm_head, borrow_end, borrow_head, for_head, typed_head, value_between};
 use crate::simple::{declare, let_statement, named_statement, return_statement, skip};
 use au_base::{Keyword, Pos, Sign, Token, What};
-use au_reading::{Expected, Stop, after, expect, is_sign, is_word, place, stop_before};
+use au_read_expressions::{Expected, Stop, after, expect, is_sign, is_word, place, stop_before};
 use au_syntax::{Access, Arm, Binding, Block, Branch, Parsed, Phase, Stmt};
 use std::alloc::Global;
 
@@ -136,7 +136,7 @@ fn conditional(
 }
 
 /// Reads branches with `else` between, as long as `else if` follows.
-#[tactic(auto, unfolding(crate::specs::StatementReading::branches_with), using(au_reading::proofs::Loops::with_none))]
+#[tactic(auto, unfolding(crate::specs::StatementReading::branches_with), using(au_read_expressions::proofs::Loops::with_none))]
 #[cycle(statements)]
 fn branches(
     alloc: Global,
@@ -229,7 +229,7 @@ fn closed_block(
 }
 
 /// Reads arms, as long as `when` follows.
-#[tactic(auto, unfolding(crate::specs::StatementReading::arms_with), using(au_reading::proofs::Loops::with_none))]
+#[tactic(auto, unfolding(crate::specs::StatementReading::arms_with), using(au_read_expressions::proofs::Loops::with_none))]
 #[cycle(statements)]
 fn arms(alloc: Global, levels: u32, tokens: &[Token]) -> Result<(Vec<Arm<Parsed>>, &[Token]), Stop>
     ensures { Gives (λ x. (map arm_seen x.0.items, x.1.now)) result

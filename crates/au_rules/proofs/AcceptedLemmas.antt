@@ -8,9 +8,9 @@ use Rattle.au_modules.specs.Programs.{ModuleParts}
 use Rattle.au_names.specs.HeadsOf.{heads_of}
 use Rattle.au_imports.specs.Choices.{first_of, where_so}
 use Rattle.au_promises.specs.Promises.{declaration_place}
-use Rattle.au_again.specs.declared.doubles.Double.{Double}
-use Rattle.au_again.specs.Doubles.{first_double}
-use Rattle.au_again.proofs.RuleLemmas.{exact}
+use Rattle.au_rules.specs.declared.doubles.Double.{Double}
+use Rattle.au_rules.specs.Doubles.{first_double}
+use Rattle.au_rules.proofs.RuleLemmas.{exact}
 use Rattle.au_formed.specs.declared.faults.FormFault.{FormFault}
 use Rattle.au_formed.specs.declared.faults.FormFault.TheVariants as form
 use Rattle.au_formed.specs.Forms.{form_fault}
@@ -21,7 +21,7 @@ use Rattle.au_rules.specs.declared.faults.DeclFault.{DeclFault}
 use Rattle.au_rules.specs.declared.faults.DeclFault.TheVariants as fault
 use Rattle.au_rules.specs.DeclFaults.{decl_fault, declaration_fault, of_double, of_form, type_fault}
 use Rattle.au_rules.specs.Good.{AllDeclarationsAreGood}
-use Rattle.au_rules.proofs.RuleLemmas.{all_good, none_refused}
+use Rattle.au_rules.proofs.RuleRuleLemmas.{all_good, none_refused}
 
 pub good_from : (program : List ModuleParts) → decl_fault program ≡ None → AllDeclarationsAreGood program
 good_from program h = all_good program (exact program) h

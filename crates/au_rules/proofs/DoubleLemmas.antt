@@ -13,13 +13,13 @@ use Rattle.au_types.specs.declared.types.DeclAt.{DeclAt}
 use Rattle.au_modules.specs.Programs.{ModuleParts}
 use Rattle.au_names.specs.Meanings.{part_of}
 use Rattle.au_names.specs.Owned.{declarations_in}
-use Rattle.au_again.specs.declared.doubles.Double.{Double}
-use Rattle.au_again.specs.declared.marks.Kind.{Kind}
-use Rattle.au_again.specs.declared.marks.Mark.{Mark}
-use Rattle.au_again.specs.Doubles.{behind, behind_all, doubles_behind, doubles_of, first_double}
-use Rattle.au_again.specs.Doubles.{numbered_double}
-use Rattle.au_again.specs.Marks.{marks}
-use Rattle.au_again.specs.Outside.{outside}
+use Rattle.au_rules.specs.declared.doubles.Double.{Double}
+use Rattle.au_rules.specs.declared.marks.Kind.{Kind}
+use Rattle.au_rules.specs.declared.marks.Mark.{Mark}
+use Rattle.au_rules.specs.Doubles.{behind, behind_all, doubles_behind, doubles_of, first_double}
+use Rattle.au_rules.specs.Doubles.{numbered_double}
+use Rattle.au_rules.specs.Marks.{marks}
+use Rattle.au_rules.specs.Outside.{outside}
 use Rattle.au_names.proofs.AmongLemmas.{Among, among-append_left, among-append_right}
 use Rattle.au_formed.specs.Text.{Spot, module_spots, spots_from, text, text_from}
 

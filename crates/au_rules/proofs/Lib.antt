@@ -1,4 +1,12 @@
-pub mod TestLemmas
+pub mod ListLemmas
+pub mod NestLemmas
+pub mod OnceLemmas
+pub mod PartLemmas
+pub mod PlaceLemmas
 pub mod RuleLemmas
+pub mod ScopeLemmas
+pub mod StatementLemmas
+pub mod TestLemmas
+pub mod RuleRuleLemmas
 pub mod DoubleLemmas
 pub mod AcceptedLemmas

@@ -10,7 +10,7 @@ use Rattle.au_types.specs.declared.types.DeclAt.{DeclAt}
 use Rattle.au_types.proofs.SameLemmas.{place_is, place_self}
 use Rattle.au_modules.specs.Programs.{ModuleParts}
 use Rattle.au_names.specs.HeadsOf.{heads_of}
-use Rattle.au_again.specs.Doubles.{first_double}
+use Rattle.au_rules.specs.Doubles.{first_double}
 use Rattle.au_imports.specs.Choices.{first_of, where_so}
 use Rattle.au_promises.specs.Promises.{declaration_place}
 use Rattle.au_formed.specs.declared.namings.Naming.{Naming}

@@ -7,8 +7,8 @@ use Rattle.au_syntax.specs.Plain.{Bytes, PlainDeclaration}
 use Rattle.au_types.specs.declared.types.DeclAt.{DeclAt}
 use Rattle.au_modules.specs.Programs.{ModuleParts}
 use Rattle.au_names.specs.HeadsOf.{heads_of}
-use Rattle.au_again.specs.declared.doubles.Double.{Double}
-use Rattle.au_again.specs.Doubles.{first_double}
+use Rattle.au_rules.specs.declared.doubles.Double.{Double}
+use Rattle.au_rules.specs.Doubles.{first_double}
 use Rattle.au_imports.specs.Choices.{first_of, where_so}
 use Rattle.au_promises.specs.Promises.{declaration_place}
 use Rattle.au_formed.specs.declared.faults.FormFault.{FormFault}

@@ -3,7 +3,7 @@ use Rattle.std.specs.Prelude.{◌≡◌, List, Some, Contains}
 use Rattle.au_types.specs.declared.types.DeclAt.{DeclAt}
 use Rattle.au_modules.specs.Programs.{ModuleParts}
 use Rattle.au_names.specs.HeadsOf.{heads_of}
-use Rattle.au_again.specs.Once.{AllNamesAreOnce}
+use Rattle.au_rules.specs.Once.{AllNamesAreOnce}
 use Rattle.au_formed.specs.Good.{IsWellMade}
 use Rattle.au_formed.specs.Infinite.{IsInfinite}
 use Rattle.au_formed.specs.Naming.{namings, type_of}

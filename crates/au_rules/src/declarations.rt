@@ -2,7 +2,7 @@
 
 ghost use Rattle.std.specs.Prelude.{◌≡◌, ◌⊎◌, ◌<◌, Err, IfOk, None, OnOk, Some, length};
 ghost use Rattle.std.specs.Option.{option_map, option_or};
-ghost use Rattle.au_again.specs.Doubles as doubling;
+ghost use Rattle.au_rules.specs.Doubles as doubling;
 ghost use Rattle.au_formed.specs.Forms as forms;
 ghost use Rattle.au_formed.specs.Infinite as infinite;
 ghost use Rattle.au_formed.specs.Naming as naming;
@@ -17,8 +17,8 @@ ghost use Rattle.au_rules.specs.Good.{AllDeclarationsAreGood};
 ghost use Rattle.au_rules.specs.Tests as tests;
 ghost use Rattle.au_types.specs.declared.types.DeclAt.{DeclAt};
 
+use crate::Doubles;
 use crate::faults::DeclFault;
-use au_again::Doubles;
 use au_base::{Memory, Pos};
 use au_formed::{
     FormFault, Spot, Visible, all_declarations, first_infinite, form_fault, namings_of, type_of,

@@ -5,13 +5,13 @@ use Rattle.au_syntax.specs.Expressions.{Expression, Expressions, Arguments, numb
 use Rattle.au_syntax.specs.Plain.{Bytes}
 use Rattle.au_syntax.specs.Statements.{Statement, Statements, Branches, Arms, skip, declare, destructure, assign, assign_through, conditional, conditional_else, case_of, while_loop, for_loop, borrow_in, borrow_typed, discard, return_of, no_statements, statements, no_branches, branches, no_arms, arms}
 use Rattle.au_modules.specs.Programs.{ModuleParts}
-use Rattle.au_closed_types.specs.Types.{ClosedType}
+use Rattle.au_type_texts.specs.Types.{ClosedType}
 use Rattle.au_closed_trees.specs.ClosedNotes.{Callee, ClosedNote, instance, constructor, shipped}
 use Rattle.au_closed_trees.specs.declared.notes.Literal.{Literal}
 use Rattle.au_closing.specs.Closes.{ClosedFunction}
-use Rattle.au_closed_views.specs.Shipped.{shipped_parameters}
-use Rattle.au_closed_views.specs.Surroundings.{Surroundings, field_names, literal_value, view_in, with_parameters}
-use Rattle.au_closing_meanings.specs.Closed.{surroundings_of}
+use Rattle.au_closed_meanings.specs.Shipped.{shipped_parameters}
+use Rattle.au_closed_meanings.specs.Surroundings.{Surroundings, field_names, literal_value, view_in, with_parameters}
+use Rattle.au_closed_meanings.specs.Closed.{surroundings_of}
 use Rattle.au_meaning.specs.Views.{Act, Field, invokes, makes}
 use Rattle.au_shipped.specs.declared.prims.ShippedCall.{ShippedCall}
 use Rattle.au_shipped.specs.declared.prims.ShippedCall.TheVariants as prim

@@ -20,7 +20,7 @@ use Rattle.au_running.specs.declared.ran.Ran.TheVariants as how
 use Rattle.au_running.proofs.AnswerLemmas.{came_cut}
 use Rattle.au_running.proofs.FrontLemmas.{front_of_whole}
 use Rattle.au_running.proofs.RunLemmas.{runs_shown}
-use Rattle.au_simulation.proofs.AnswerLemmas.{begins_refl}
+use Rattle.au_lowered.proofs.AnswerLemmas.{begins_refl}
 
 -- ---- endings
 

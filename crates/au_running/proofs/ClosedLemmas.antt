@@ -3,10 +3,10 @@ use Rattle.std.proofs.Common.{◌≡◌, List, Option, Some, None, refl, sym, ap
 use Rattle.std.specs.Option.{option_map}
 use Rattle.std.proofs.lemmas.Option.{slice_get-map}
 use Rattle.au_modules.specs.Programs.{ModuleParts}
-use Rattle.au_generics.specs.Meanings.{written_params}
-use Rattle.au_derivations.specs.Trees.{NotedParts}
+use Rattle.au_judged_types.specs.Meanings.{written_params}
+use Rattle.au_typing.specs.Trees.{NotedParts}
 use Rattle.au_noting_programs.specs.Faults.{IsDerived}
-use Rattle.au_outsides.specs.Outsides.{outside_of}
+use Rattle.au_typing.specs.Outsides.{outside_of}
 use Rattle.au_closing.specs.Bodies.{BodyOf, body_of}
 use Rattle.au_closing.specs.Closes.{ClosedFunction, body_closed, change_of, instance_closed}
 use Rattle.au_closing.specs.Instances.{Instance}

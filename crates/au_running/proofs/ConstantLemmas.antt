@@ -13,16 +13,16 @@ use Rattle.au_types.specs.Types.{Meaning}
 use Rattle.au_modules.specs.Programs.{ModuleParts}
 use Rattle.au_names.specs.HeadsOf.{heads_of}
 use Rattle.au_names.specs.Standing.{Standing, standing_at}
-use Rattle.au_generics.specs.Meanings.{written_params}
-use Rattle.au_scopes.specs.Scopes.{Outside, Scope}
+use Rattle.au_judged_types.specs.Meanings.{written_params}
+use Rattle.au_typing.specs.Scopes.{Outside, Scope}
 use Rattle.au_typing.specs.Good.{AllGood}
 use Rattle.au_typing.specs.Notes.{Note, NotedExpression}
 use Rattle.au_typing.specs.Rules.{literal_kind}
-use Rattle.au_derivations.specs.Bodies.{outer_scope}
-use Rattle.au_derivations.specs.Derivations.{GoodDeclaration}
-use Rattle.au_derivations.specs.Trees.{NotedDeclaration, NotedParts}
+use Rattle.au_typing.specs.Bodies.{outer_scope}
+use Rattle.au_typing.specs.Derivations.{GoodDeclaration}
+use Rattle.au_typing.specs.Trees.{NotedDeclaration, NotedParts}
 use Rattle.au_noting_programs.specs.Faults.{IsDerived}
-use Rattle.au_outsides.specs.Outsides.{outside_of}
+use Rattle.au_typing.specs.Outsides.{outside_of}
 use Rattle.au_closed_trees.specs.Changes.{Change}
 use Rattle.au_closed_trees.specs.declared.notes.Literal.{Literal}
 use Rattle.au_closed_trees.specs.declared.notes.Literal.TheVariants as literals
@@ -30,7 +30,7 @@ use Rattle.au_closed_trees.specs.Renoted.{expression_renoted, expressions_renote
 use Rattle.au_closing.specs.Bodies.{BodyOf, body_at, body_of, constant_seen, defining_index, integer_of, literal_of, noted_at, value_in, value_of, value_standing}
 use Rattle.au_closing.specs.Closes.{ClosedFunction, ClosesFunctions, body_closed, change_of, instance_closed, mention_closed}
 use Rattle.au_closing.specs.Instances.{Instance}
-use Rattle.au_closed_views.specs.Surroundings.{literal_value}
+use Rattle.au_closed_meanings.specs.Surroundings.{literal_value}
 use Rattle.au_running.specs.Asked.{AreSimple, CallsArePlain, InRange, IsAny, IsPlainCall}
 use Rattle.au_running.specs.Suits.{SaidOf, SaidOfAll, SaidOfNamed, SaidIn, SaidOfBlock, SaidOfTests, SaidOfArms, has_literal}
 use Rattle.au_running.proofs.DerivedLemmas.{good_there, module_good}

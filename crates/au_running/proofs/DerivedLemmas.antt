@@ -10,16 +10,16 @@ use Rattle.au_syntax.specs.Statements.{skip, declare, destructure, assign, assig
 use Rattle.au_modules.specs.Programs.{ModuleParts}
 use Rattle.au_names.specs.declared.targets.Target.{Target}
 use Rattle.au_names.specs.Standing.{Standing, standing_at}
-use Rattle.au_scopes.specs.Scopes.{Case, Outside, Scope}
+use Rattle.au_typing.specs.Scopes.{Case, Outside, Scope}
 use Rattle.au_typing.specs.Notes.{type_of}
-use Rattle.au_derivations.specs.Bodies.{GoodBody, GoodMethods}
-use Rattle.au_derivations.specs.Derivations.{Derives, GoodDeclaration, GoodDeclarations, GoodModules, GoodPart}
-use Rattle.au_derivations.specs.InScope.{after, fixed_variable, with_bound, with_variable}
-use Rattle.au_derivations.specs.Parts.{heads_of}
-use Rattle.au_derivations.specs.Statements.{GoodStatement, GoodBlock, GoodBranches, GoodArmBlocks, GoodArms}
-use Rattle.au_derivations.specs.Trees.{NotedStatement, NotedStatements, NotedBranches, NotedArms, NotedDeclaration, NotedEntry, NotedMethod, NotedParts}
+use Rattle.au_typing.specs.Bodies.{GoodBody, GoodMethods}
+use Rattle.au_typing.specs.Derivations.{Derives, GoodDeclaration, GoodDeclarations, GoodModules, GoodPart}
+use Rattle.au_typing.specs.InScope.{after, fixed_variable, with_bound, with_variable}
+use Rattle.au_typing.specs.Parts.{heads_of}
+use Rattle.au_typing.specs.Statements.{GoodStatement, GoodBlock, GoodBranches, GoodArmBlocks, GoodArms}
+use Rattle.au_typing.specs.Trees.{NotedStatement, NotedStatements, NotedBranches, NotedArms, NotedDeclaration, NotedEntry, NotedMethod, NotedParts}
 use Rattle.au_lowered.specs.Laws.{Tidy, BlockTidy, TestsTidy, ArmsTidy}
-use Rattle.au_simulation.specs.Trees.{BindsOnce, BlockBindsOnce, TestsBindOnce, ArmsBindOnce}
+use Rattle.au_lowered.specs.Trees.{BindsOnce, BlockBindsOnce, TestsBindOnce, ArmsBindOnce}
 use Rattle.au_closing.specs.Bodies.{BodyOf, body_at, body_in, body_of, body_of_parts, body_standing, declared_in, defining_index, is_method, method_body, noted_at}
 use Rattle.au_running.specs.Formed.{IsFormed}
 use Rattle.au_running.proofs.GoodOnceLemmas.{binds_once}

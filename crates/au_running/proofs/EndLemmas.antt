@@ -1,6 +1,6 @@
 -- Every run of the code of a good program shows what the program means.
 use Rattle.std.proofs.Common.{◌≡◌, ℕ, ◌+◌, ◌-◌, ◌*◌, ◌/◌, ◌≤◌, Bool, true, false, List, refl, sym, ap, subst, ◌∙◌, arith, slice_get, leb-true}
-use Rattle.au_closed_types.specs.Types.{ClosedType}
+use Rattle.au_type_texts.specs.Types.{ClosedType}
 use Rattle.au_effects.specs.Answers as answer
 use Rattle.au_low.proofs.MutedRuns.{kept}
 use Rattle.au_low.specs.Instructions.{text_bytes}
@@ -20,10 +20,10 @@ use Rattle.au_meaning.specs.Views.{Function}
 use Rattle.au_meaning.specs.Worlds as source
 use Rattle.au_meaning.specs.Worlds.{Fault, Outcome, abort, exit, running, stuck}
 use Rattle.au_shipped.specs.declared.prims.AbortKind.{AbortKind}
-use Rattle.au_simulation.proofs.BetweenLemmas.{between, ends_so, seen_within}
-use Rattle.au_simulation.proofs.EndLemmas.{has_ended}
-use Rattle.au_simulation.proofs.RunLemmas.{runs_follow}
-use Rattle.au_simulation.specs.Programs.{GoodProgram}
+use Rattle.au_lowered.proofs.BetweenLemmas.{between, ends_so, seen_within}
+use Rattle.au_lowered.proofs.EndLemmas.{has_ended}
+use Rattle.au_lowered.proofs.RunLemmas.{runs_follow}
+use Rattle.au_lowered.specs.FollowPrograms.{GoodProgram}
 use Rattle.au_running.specs.Runs.{RunShows, kind_words, ran_by}
 use Rattle.au_running.specs.Shown.{IsSeen, Shows, fault_words}
 use Rattle.au_running.proofs.NamedLemmas.{abort_named}

@@ -2,13 +2,13 @@
 use Rattle.std.proofs.Common.{◌≡◌, ℕ, List, map, sym, ap, subst, ◌∙◌}
 use Rattle.au_syntax.specs.Plain.{Bytes}
 use Rattle.au_modules.specs.Programs.{ModuleParts}
-use Rattle.au_derivations.specs.Trees.{NotedParts}
+use Rattle.au_typing.specs.Trees.{NotedParts}
 use Rattle.au_closed_trees.specs.ClosedNotes.{Callee, ClosedNote}
 use Rattle.au_closed_programs.specs.Programs.{ClosedProgram, Closes, plain_instance}
 use Rattle.au_lowering.specs.Closed.{body_seen, functions_numbered, row_seen, told_in}
 use Rattle.au_meaning.specs.Views.{Function}
 use Rattle.au_meaning.specs.Worlds.{Outcome, stuck}
-use Rattle.au_simulation.specs.Laws.{Follows}
+use Rattle.au_lowered.specs.FollowLaws.{Follows}
 use Rattle.au_running.specs.Asked.{FieldsAreOnce, ParametersAreOnce}
 use Rattle.au_running.proofs.GoodLemmas.{followed_follow}
 use Rattle.au_running.specs.Follows.{LoweredProgramsFollow}

@@ -12,7 +12,7 @@ use Rattle.au_low.specs.declared.code.Code.{Code}
 use Rattle.au_low.specs.declared.endings.Ending.{Ending}
 use Rattle.au_meaning.specs.Laws.{Begins}
 use Rattle.au_runs.specs.Calls.{HasWaited, IsCut, IsMade, Runs}
-use Rattle.au_simulation.proofs.GrowthLemmas.{run_grown}
+use Rattle.au_lowered.proofs.GrowthLemmas.{run_grown}
 
 -- ---- fronts
 

@@ -4,9 +4,9 @@ use Rattle.std.specs.Prelude.{slice_get, if◌then◌else◌}
 use Rattle.std.specs.Option.{option_map}
 use Rattle.std.specs.Str.{bytes_eq}
 use Rattle.std.proofs.lemmas.Option.{slice_get-map}
-use Rattle.au_closed_types.specs.Same.{same}
-use Rattle.au_closed_types.specs.Types.{ClosedType}
-use Rattle.au_closed_types.proofs.SameLemmas.{same_is}
+use Rattle.au_type_texts.specs.Same.{same}
+use Rattle.au_type_texts.specs.Types.{ClosedType}
+use Rattle.au_type_texts.proofs.SameLemmas.{same_is}
 use Rattle.au_effects.specs.Values as values
 use Rattle.au_low.specs.declared.code.LowType.{LowType}
 use Rattle.au_low.specs.Runs.{low_run}
@@ -16,10 +16,10 @@ use Rattle.au_meaning.specs.Meanings.{mean}
 use Rattle.au_meaning.specs.Views.{Act, Function, View, ships}
 use Rattle.au_meaning.specs.Worlds.{Outcome, Value, stuck}
 use Rattle.au_shipped.specs.declared.prims.ShippedCall.{ShippedCall}
-use Rattle.au_simulation.specs.Laws.{Follows}
-use Rattle.au_simulation.specs.Premises.{HasLiteral, Lacks, Once, GoodView, is_plain}
-use Rattle.au_simulation.specs.Programs.{coding, EntryTakes, GoodFunction, GoodProgram}
-use Rattle.au_simulation.proofs.RunLemmas.{runs_follow}
+use Rattle.au_lowered.specs.FollowLaws.{Follows}
+use Rattle.au_lowered.specs.Premises.{HasLiteral, Lacks, Once, GoodView, is_plain}
+use Rattle.au_lowered.specs.FollowPrograms.{coding, EntryTakes, GoodFunction, GoodProgram}
+use Rattle.au_lowered.proofs.RunLemmas.{runs_follow}
 use Rattle.au_syntax.specs.Plain.{Bytes}
 use Rattle.au_running.specs.Followed.{AreFollowed, FollowedRunsFollow, GuardedAreGood}
 use Rattle.au_running.specs.Suits.{has_literal, is_lacking, are_once, acts_plainly, is_followed, passing, guarded, guarded_function, guarded_functions}

@@ -6,10 +6,10 @@ use Rattle.std.proofs.lemmas.List.Sums.{sum_by-cons}
 use Rattle.std.proofs.lemmas.Slice.Eq.{bytes_eq-Decides}
 use Rattle.au_syntax.specs.Plain.{Bytes}
 use Rattle.au_syntax.specs.Types.{Bound}
-use Rattle.au_scopes.specs.Scopes.{Typed}
-use Rattle.au_derivations.specs.Parts.{binds_each}
-use Rattle.au_simulation.specs.Binds.{fields_bound}
-use Rattle.au_simulation.specs.Premises.{Lacks, Once}
+use Rattle.au_typing.specs.Scopes.{Typed}
+use Rattle.au_typing.specs.Parts.{binds_each}
+use Rattle.au_lowered.specs.Binds.{fields_bound}
+use Rattle.au_lowered.specs.Premises.{Lacks, Once}
 
 -- how often a name stands in a list
 abbrev times : Bytes → List Bytes → ℕ

@@ -3,19 +3,19 @@ use Rattle.std.proofs.Common.{◌≡◌, ℕ, true, zero, suc, List, [], ◌∷�
 use Rattle.std.specs.Prelude.{slice_get}
 use Rattle.std.specs.Option.{option_map}
 use Rattle.au_syntax.specs.Plain.{Bytes}
-use Rattle.au_closed_types.specs.Types as closed_type
-use Rattle.au_closed_types.specs.Types.{ClosedType}
+use Rattle.au_type_texts.specs.Types as closed_type
+use Rattle.au_type_texts.specs.Types.{ClosedType}
 use Rattle.au_closed_trees.specs.ClosedNotes.{Callee, ClosedNote, shipped}
 use Rattle.au_closing.specs.Closes.{ClosedFunction}
-use Rattle.au_closed_views.specs.Shipped.{shipped_parameters}
-use Rattle.au_closed_views.specs.Surroundings.{Surroundings}
-use Rattle.au_closing_meanings.specs.Closed.{closed_functions, function_closed, surroundings_of}
-use Rattle.au_closing_meanings.specs.Generic.{generic_functions}
-use Rattle.au_closing_meanings.proofs.KeptLemmas.{meaning_kept, what_is}
+use Rattle.au_closed_meanings.specs.Shipped.{shipped_parameters}
+use Rattle.au_closed_meanings.specs.Surroundings.{Surroundings}
+use Rattle.au_closed_meanings.specs.Closed.{closed_functions, function_closed, surroundings_of}
+use Rattle.au_closed_meanings.specs.Generic.{generic_functions}
+use Rattle.au_closed_meanings.proofs.KeptLemmas.{meaning_kept, what_is}
 use Rattle.au_meaning.specs.Meanings.{mean}
 use Rattle.au_meaning.specs.Views.{Function, ships}
 use Rattle.au_shipped.specs.declared.prims.ShippedCall.TheVariants as prim
-use Rattle.au_simulation.specs.Laws.{Follows}
+use Rattle.au_lowered.specs.FollowLaws.{Follows}
 use Rattle.au_running.specs.Formed.{IsFormed}
 use Rattle.au_running.specs.Followed.{functions_in, functions_of, AreFollowed, DerivedProgramsFollow, NoClosedViewIsGood}
 use Rattle.au_running.proofs.AskedLemmas.{asked_follow}

@@ -8,9 +8,9 @@ use Rattle.au_syntax.specs.Plain.{Bytes}
 use Rattle.au_syntax.specs.Statements.{skip, declare, destructure, assign, assign_through, conditional, conditional_else, case_of, while_loop, for_loop, borrow_in, borrow_typed, discard, return_of, no_statements, statements, no_branches, branches, no_arms, arms}
 use Rattle.au_modules.specs.Programs.{ModuleParts}
 use Rattle.au_names.proofs.AmongLemmas.{Among, among-append_left, among-append_right, contains}
-use Rattle.au_generics.specs.Meanings.{written_params}
+use Rattle.au_judged_types.specs.Meanings.{written_params}
 use Rattle.au_typing.specs.Notes.{Note, NotedArguments, NotedExpression, NotedExpressions}
-use Rattle.au_derivations.specs.Trees.{NotedArms, NotedBranches, NotedParts, NotedStatement, NotedStatements}
+use Rattle.au_typing.specs.Trees.{NotedArms, NotedBranches, NotedParts, NotedStatement, NotedStatements}
 use Rattle.au_noting_programs.specs.Faults.{IsDerived}
 use Rattle.au_closed_trees.specs.Calls.{calls_in, calls_in_all, calls_in_arguments, calls_in_arms, calls_in_block, calls_in_branches, calls_in_statement}
 use Rattle.au_closed_trees.specs.Changes.{Change}
@@ -20,7 +20,7 @@ use Rattle.au_closing.specs.Bodies.{BodyOf, body_of}
 use Rattle.au_closing.specs.Closes.{ClosedFunction, body_closed, change_of, instance_closed}
 use Rattle.au_closing.specs.Instances.{Instance, numbered}
 use Rattle.au_closing.specs.Leading.{call_leads}
-use Rattle.au_simulation.specs.Premises.{is_plain}
+use Rattle.au_lowered.specs.Premises.{is_plain}
 use Rattle.au_running.specs.Asked.{ClosesPlainly, IsAny, IsPlainCall, LeadsPlainly}
 use Rattle.au_running.specs.Suits.{SaidIn, SaidOf, SaidOfAll, SaidOfArms, SaidOfBlock, SaidOfNamed, SaidOfTests}
 

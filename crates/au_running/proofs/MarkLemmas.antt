@@ -9,12 +9,12 @@ use Rattle.std.proofs.lemmas.Slice.Eq.{bytes_eq-Decides}
 use Rattle.au_base.specs.declared.places.Pos.{Pos}
 use Rattle.au_syntax.specs.Plain.{Bytes}
 use Rattle.au_syntax.specs.Types.{Labelled}
-use Rattle.au_again.specs.declared.marks.Kind.{Kind}
-use Rattle.au_again.specs.declared.marks.Mark.{Mark}
-use Rattle.au_again.specs.declared.marks.Mark.TheVariants.{Opens, Closes, Declares}
-use Rattle.au_again.specs.declared.marks.Role.TheVariants.{Local}
-use Rattle.au_again.specs.Marks.{enclosed, labelled_mark}
-use Rattle.au_again.specs.Once.{AreNew, IsInBlock, IsNew, StaysOpen, closed}
+use Rattle.au_rules.specs.declared.marks.Kind.{Kind}
+use Rattle.au_rules.specs.declared.marks.Mark.{Mark}
+use Rattle.au_rules.specs.declared.marks.Mark.TheVariants.{Opens, Closes, Declares}
+use Rattle.au_rules.specs.declared.marks.Role.TheVariants.{Local}
+use Rattle.au_rules.specs.Marks.{enclosed, labelled_mark}
+use Rattle.au_rules.specs.Once.{AreNew, IsInBlock, IsNew, StaysOpen, closed}
 use Rattle.au_running.specs.Suits.{are_once, is_lacking}
 
 -- ---- a part of the text

@@ -3,7 +3,7 @@
 use Rattle.std.proofs.Common.{◌≡◌, ℕ, suc, ◌+◌, true, List, [], ◌∷◌, Bool, false, cond, length, Option, Some, ◌==◌, refl, sym, ap, subst, ◌∙◌, arith, slice_get, nat_lt, codes}
 use Rattle.std.specs.Str.{bytes_eq}
 use Rattle.std.proofs.lemmas.Slice.Eq.{bytes_eq-Decides}
-use Rattle.au_closed_types.specs.Types.{ClosedType}
+use Rattle.au_type_texts.specs.Types.{ClosedType}
 use Rattle.au_effects.specs.Answers as answer
 use Rattle.au_effects.specs.Values as values
 use Rattle.au_effects.specs.Worlds.{bears, nothing}
@@ -24,13 +24,13 @@ use Rattle.au_meaning.specs.Ticks.{Action, follows}
 use Rattle.au_meaning.specs.Views.{Field, Function, View}
 use Rattle.au_meaning.specs.Worlds.{Ending, Outcome, Value, abort, stuck}
 use Rattle.au_shipped.specs.declared.prims.AbortKind.TheVariants as kind
-use Rattle.au_simulation.specs.Premises.{GoodView, Placed, numbered}
-use Rattle.au_simulation.specs.Programs.{EntryTakes, GoodProgram, HasFunction, HasProgram, coding}
-use Rattle.au_simulation.proofs.PlacedLemmas.{has_program}
-use Rattle.au_simulation.proofs.RunLemmas.{begins_none, begins_root, runs_follow}
-use Rattle.au_simulation.proofs.TopLemmas.{Claims, Shows, ending_of, enters_if, entry_frame, first_common}
-use Rattle.au_simulation.specs.Runs.{run_at}
-use Rattle.au_simulation.specs.Sides.{Both, Coding, Common, Spot, all_meant, spot}
+use Rattle.au_lowered.specs.Premises.{GoodView, Placed, numbered}
+use Rattle.au_lowered.specs.FollowPrograms.{EntryTakes, GoodProgram, HasFunction, HasProgram, coding}
+use Rattle.au_lowered.proofs.PlacedLemmas.{has_program}
+use Rattle.au_lowered.proofs.RunLemmas.{begins_none, begins_root, runs_follow}
+use Rattle.au_lowered.proofs.TopLemmas.{Claims, Shows, ending_of, enters_if, entry_frame, first_common}
+use Rattle.au_lowered.specs.Runs.{run_at}
+use Rattle.au_lowered.specs.Sides.{Both, Coding, Common, Spot, all_meant, spot}
 use Rattle.au_syntax.specs.Plain.{Bytes}
 
 -- what is stuck doesn't abort

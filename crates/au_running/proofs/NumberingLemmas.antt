@@ -3,16 +3,16 @@
 use Rattle.std.proofs.Common.{◌≡◌, ℕ, suc, List, [], ◌∷◌, ◌++◌, length, map, nat_lt, refl, ◌∙◌}
 use Rattle.std.specs.Str.{bytes_eq}
 use Rattle.au_closed_trees.specs.ClosedNotes.{Callee, ClosedNote}
-use Rattle.au_closed_types.specs.Same.{same}
-use Rattle.au_closed_types.specs.Types.{ClosedType}
-use Rattle.au_closed_views.specs.Programs.{Body, Row, function_seen, functions_by, surroundings}
+use Rattle.au_type_texts.specs.Same.{same}
+use Rattle.au_type_texts.specs.Types.{ClosedType}
+use Rattle.au_closed_meanings.specs.Programs.{Body, Row, function_seen, functions_by, surroundings}
 use Rattle.au_closing.specs.Closes.{ClosedFunction}
 use Rattle.au_running.specs.Followed.{functions_in}
 use Rattle.au_low.specs.declared.code.LowType.{LowType}
 use Rattle.au_lowered.specs.Programs.{bodies, body_of, entry_types, function_code, lowered, texts_in, texts_named, types_in, types_named}
 use Rattle.au_lowering.specs.Closed.{body_seen}
 use Rattle.au_meaning.specs.Views.{Function}
-use Rattle.au_reach.specs.Reached.{adds}
+use Rattle.au_graphs.specs.Reached.{adds}
 use Rattle.au_syntax.specs.Plain.{Bytes}
 
 module _ (all : List Body) (rows : List Row) where

@@ -15,24 +15,24 @@ use Rattle.au_types.specs.declared.types.DeclAt.{DeclAt}
 use Rattle.au_modules.specs.Programs.{ModuleParts}
 use Rattle.au_names.specs.HeadsOf.{heads_of, parameter}
 use Rattle.au_names.specs.Standing.{Standing, definition_of}
-use Rattle.au_generics.specs.Meanings.{written_params}
-use Rattle.au_outsides.specs.Written.{types_at}
-use Rattle.au_again.specs.declared.marks.Kind.TheVariants.{Callables, Fields, Types, Values}
-use Rattle.au_again.specs.declared.marks.Role.TheVariants.{Whole}
-use Rattle.au_again.specs.Marks.{case_marks, declared, enclosed, marks, parameter_mark, type_role}
-use Rattle.au_derivations.specs.Trees.{NotedParts}
-use Rattle.au_given_types.specs.Given.{Given}
-use Rattle.au_closed_types.specs.Types.{ClosedType, integer, named, reads, text, truth, unit, writes}
-use Rattle.au_closed_parts.specs.Parts.{ClosedCase, case_under, cases_of, declared_cases, defined_cases, field_under, variant_under}
-use Rattle.au_closed_parts.specs.TypeNames.{given_over, listed, type_names}
+use Rattle.au_judged_types.specs.Meanings.{written_params}
+use Rattle.au_typing.specs.Written.{types_at}
+use Rattle.au_rules.specs.declared.marks.Kind.TheVariants.{Callables, Fields, Types, Values}
+use Rattle.au_rules.specs.declared.marks.Role.TheVariants.{Whole}
+use Rattle.au_rules.specs.Marks.{case_marks, declared, enclosed, marks, parameter_mark, type_role}
+use Rattle.au_typing.specs.Trees.{NotedParts}
+use Rattle.au_type_texts.specs.Given.{Given}
+use Rattle.au_type_texts.specs.Types.{ClosedType, integer, named, reads, text, truth, unit, writes}
+use Rattle.au_closed_trees.specs.Parts.{ClosedCase, case_under, cases_of, declared_cases, defined_cases, field_under, variant_under}
+use Rattle.au_closed_trees.specs.TypeNames.{given_over, listed, type_names}
 use Rattle.au_closing.specs.Bodies.{BodyOf, body_of}
 use Rattle.au_closing.specs.Closes.{ClosedFunction, body_closed, instance_closed}
 use Rattle.au_closing.specs.Instances.{Instance}
 use Rattle.au_meaning.specs.Views.{Field}
-use Rattle.au_closed_views.specs.Programs.{Case}
-use Rattle.au_closed_views.specs.Surroundings.{field_names}
-use Rattle.au_closing_meanings.specs.Closed.{parameters_seen}
-use Rattle.au_closing_meanings.specs.Generic.{case_seen, cases_in, field_seen}
+use Rattle.au_closed_meanings.specs.Programs.{Case}
+use Rattle.au_closed_meanings.specs.Surroundings.{field_names}
+use Rattle.au_closed_meanings.specs.Closed.{parameters_seen}
+use Rattle.au_closed_meanings.specs.Generic.{case_seen, cases_in, field_seen}
 use Rattle.au_running.specs.Suits.{are_once}
 use Rattle.au_running.specs.Once.{ClosedFieldsAreOnce, ClosedParametersAreOnce}
 use Rattle.au_running.proofs.MarkLemmas.{AreNewThere, declared_once, inside_new, item_new, marks_written, names_written, rest_new}

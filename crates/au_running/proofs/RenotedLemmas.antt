@@ -2,11 +2,11 @@
 use Rattle.std.proofs.Common.{◌≡◌, refl, ◌∙◌, ◌&&◌, ◌||◌, not}
 use Rattle.au_syntax.specs.Plain.{Bytes}
 use Rattle.au_syntax.specs.Statements.{Statement, Statements, Branches, Arms, skip, declare, destructure, assign, assign_through, conditional, conditional_else, case_of, while_loop, for_loop, borrow_in, borrow_typed, discard, return_of, no_statements, statements, no_branches, branches, no_arms, arms}
-use Rattle.au_derivations.specs.Returns.{returns, block_returns, branches_return, arms_return, may_follow}
+use Rattle.au_typing.specs.Returns.{returns, block_returns, branches_return, arms_return, may_follow}
 use Rattle.au_closed_trees.specs.Changes.{Change}
 use Rattle.au_closed_trees.specs.Renoted.{statement_renoted, block_renoted, branches_renoted, arms_renoted}
 use Rattle.au_lowered.specs.Laws.{Tidy, BlockTidy, TestsTidy, ArmsTidy}
-use Rattle.au_simulation.specs.Trees.{BindsOnce, BlockBindsOnce, TestsBindOnce, ArmsBindOnce}
+use Rattle.au_lowered.specs.Trees.{BindsOnce, BlockBindsOnce, TestsBindOnce, ArmsBindOnce}
 use Rattle.au_running.specs.Formed.{OtherNotesKeepForms}
 
 module _ {T C U D : Type 0} (change : Change Bytes T C U D) where

@@ -8,20 +8,20 @@ use Rattle.au_modules.specs.Programs.{ModuleParts}
 use Rattle.au_names.specs.HeadsOf.{heads_of}
 use Rattle.au_types.specs.declared.headings.Head.{Head}
 use Rattle.au_types.specs.declared.types.DeclAt.{DeclAt}
-use Rattle.au_closed_types.specs.Same.{same}
-use Rattle.au_closed_types.specs.Types.{ClosedType}
-use Rattle.au_closed_types.proofs.SameLemmas.{same_is, same_self}
-use Rattle.au_reach.specs.Reached.{Has, TellsSame, follows, has, start}
-use Rattle.au_reach.proofs.FoundLemmas.{has_all}
-use Rattle.au_reach.proofs.HasLemmas.{has_back, has_front, or_left, or_right, or_split}
-use Rattle.au_closed_parts.specs.Occurring as occur
-use Rattle.au_closed_parts.specs.Occurring.{counts_in, occurring, occurring_in_fields}
-use Rattle.au_tree_types.specs.Types.{types_in_block}
+use Rattle.au_type_texts.specs.Same.{same}
+use Rattle.au_type_texts.specs.Types.{ClosedType}
+use Rattle.au_type_texts.proofs.SameLemmas.{same_is, same_self}
+use Rattle.au_graphs.specs.Reached.{Has, TellsSame, follows, has, start}
+use Rattle.au_graphs.proofs.FoundLemmas.{has_all}
+use Rattle.au_graphs.proofs.HasLemmas.{has_back, has_front, or_left, or_right, or_split}
+use Rattle.au_closed_trees.specs.Occurring as occur
+use Rattle.au_closed_trees.specs.Occurring.{counts_in, occurring, occurring_in_fields}
+use Rattle.au_closed_trees.specs.Types.{types_in_block}
 use Rattle.au_closing.specs.Closes.{ClosedFunction}
 use Rattle.au_closed_programs.specs.Programs.{ClosesTypes, TypeRow, row_of, types_in_function, types_in_functions}
-use Rattle.au_closing_meanings.specs.InRow.{RowsSay}
-use Rattle.au_closing_meanings.specs.Listed.{ListsTypes, counts_by, rows_for}
-use Rattle.au_closing_meanings.proofs.ListedLemmas.{rows_say}
+use Rattle.au_closed_meanings.specs.InRow.{RowsSay}
+use Rattle.au_closed_meanings.specs.Listed.{ListsTypes, counts_by, rows_for}
+use Rattle.au_closed_meanings.proofs.ListedLemmas.{rows_say}
 use Rattle.au_lowering.specs.Closed.{row_seen}
 
 types_told : TellsSame same

@@ -3,23 +3,23 @@ use Rattle.std.proofs.Common.{◌≡◌, ℕ, suc, List, [], ◌∷◌, map, Som
 use Rattle.std.specs.Prelude.{slice_get}
 use Rattle.au_syntax.specs.Plain.{Bytes}
 use Rattle.au_modules.specs.Programs.{ModuleParts}
-use Rattle.au_derivations.specs.Trees.{NotedParts}
+use Rattle.au_typing.specs.Trees.{NotedParts}
 use Rattle.au_closed_trees.specs.ClosedNotes.{Callee, ClosedNote}
 use Rattle.au_running.proofs.OnceLemmas.{closed_fields_are_once, closed_parameters_are_once}
 use Rattle.au_closed_programs.specs.Programs.{ClosedProgram, Closes, plain_instance}
-use Rattle.au_closing_meanings.specs.Kept.{SaysWhatIs}
-use Rattle.au_closing_meanings.specs.Listed.{counts_by}
-use Rattle.au_closing_meanings.specs.Numbers.{first_name, numbers_of}
-use Rattle.au_closing_meanings.proofs.InRowLemmas.{numbered_alike}
-use Rattle.au_closing_meanings.proofs.KeptLemmas.{meaning_kept}
-use Rattle.au_closing_meanings.proofs.ListedCountLemmas.{listed_count}
+use Rattle.au_closed_meanings.specs.Kept.{SaysWhatIs}
+use Rattle.au_closed_meanings.specs.Listed.{counts_by}
+use Rattle.au_closed_meanings.specs.Numbers.{first_name, numbers_of}
+use Rattle.au_closed_meanings.proofs.InRowLemmas.{numbered_alike}
+use Rattle.au_closed_meanings.proofs.KeptLemmas.{meaning_kept}
+use Rattle.au_closed_meanings.proofs.ListedCountLemmas.{listed_count}
 use Rattle.au_low.specs.declared.code.Code.{Code}
 use Rattle.au_lowered.specs.Programs.{lowered}
 use Rattle.au_lowering.specs.Closed.{body_seen, code_of, row_seen, told_in}
 use Rattle.au_meaning.specs.Meanings.{begun, call_at, first_world, mean, parameters_of, seen}
 use Rattle.au_meaning.specs.Views.{Field, Function}
 use Rattle.au_meaning.specs.Worlds.{Outcome, stuck}
-use Rattle.au_simulation.specs.Programs.{EntryTakes}
+use Rattle.au_lowered.specs.FollowPrograms.{EntryTakes}
 use Rattle.au_running.specs.Asked.{FieldsAreOnce, ParametersAreOnce}
 use Rattle.au_running.specs.Followed.{AreFollowed, EntryBegins}
 use Rattle.au_running.specs.Suits.{guarded_functions}

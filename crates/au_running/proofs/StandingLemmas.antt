@@ -14,12 +14,12 @@ use Rattle.au_names.specs.declared.targets.Target.{Target}
 use Rattle.au_names.specs.Meanings.{part_of}
 use Rattle.au_names.specs.Owned.{declarations_in}
 use Rattle.au_names.specs.Standing.{Standing, body_at, body_standing, defined_by, definition_for, definition_of, is_whole, module_standing, opaque_name, standing_at, standing_from, standing_in}
-use Rattle.au_again.specs.declared.marks.Kind.TheVariants.{Values, Callables}
-use Rattle.au_again.specs.declared.marks.Role.TheVariants.{Definition}
-use Rattle.au_again.specs.Marks.{block_marks, declared, function_marks, generic_mark, marks, method_body_marks}
-use Rattle.au_again.specs.Once.{AllNamesAreOnce, text_of}
-use Rattle.au_again.specs.Outside.{outside}
-use Rattle.au_derivations.specs.Trees.{NotedDeclaration, NotedEntry, NotedMethod, NotedParts, erase_block, erase_declaration, erase_entry, erase_method, erase_parts, erase_program}
+use Rattle.au_rules.specs.declared.marks.Kind.TheVariants.{Values, Callables}
+use Rattle.au_rules.specs.declared.marks.Role.TheVariants.{Definition}
+use Rattle.au_rules.specs.Marks.{block_marks, declared, function_marks, generic_mark, marks, method_body_marks}
+use Rattle.au_rules.specs.Once.{AllNamesAreOnce, text_of}
+use Rattle.au_rules.specs.Outside.{outside}
+use Rattle.au_typing.specs.Trees.{NotedDeclaration, NotedEntry, NotedMethod, NotedParts, erase_block, erase_declaration, erase_entry, erase_method, erase_parts, erase_program}
 use Rattle.au_closing.specs.Bodies.{BodyOf, body_at as noted_body_at, body_in, body_of, body_of_parts, body_standing as body_of_standing, declared_in, defining_index, is_method, method_body, noted_at}
 use Rattle.au_running.proofs.MarkLemmas.{AreNewThere, first_new, inside_new, item_new, marks_written, rest_new}
 

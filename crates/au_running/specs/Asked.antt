@@ -5,10 +5,10 @@ use Rattle.au_syntax.specs.Plain.{Bytes}
 use Rattle.au_modules.specs.Programs.{ModuleParts}
 use Rattle.au_names.specs.declared.targets.Target.{Target}
 use Rattle.au_typing.specs.Notes.{Note}
-use Rattle.au_derivations.specs.Trees.{NotedParts}
+use Rattle.au_typing.specs.Trees.{NotedParts}
 use Rattle.au_noting_programs.specs.Faults.{IsDerived}
-use Rattle.au_closed_types.specs.Types.{ClosedType}
-use Rattle.au_given_types.specs.Given.{Given}
+use Rattle.au_type_texts.specs.Types.{ClosedType}
+use Rattle.au_type_texts.specs.Given.{Given}
 use Rattle.au_closed_trees.specs.Calls.{calls_in_block}
 use Rattle.au_closed_trees.specs.ClosedNotes.{Callee, ClosedNote, instance, constructor, shipped}
 use Rattle.au_closed_trees.specs.declared.notes.Literal.{Literal}
@@ -16,11 +16,11 @@ use Rattle.au_closing.specs.Bodies.{BodyOf, body_of}
 use Rattle.au_closing.specs.Closes.{ClosedFunction}
 use Rattle.au_closing.specs.Leading.{call_leads}
 use Rattle.au_closed_programs.specs.Programs.{ClosedProgram, Closes}
-use Rattle.au_closed_views.specs.Surroundings.{field_names, literal_value}
-use Rattle.au_closing_meanings.specs.Closed.{names_at}
-use Rattle.au_closing_meanings.specs.Generic.{fields_in}
+use Rattle.au_closed_meanings.specs.Surroundings.{field_names, literal_value}
+use Rattle.au_closed_meanings.specs.Closed.{names_at}
+use Rattle.au_closed_meanings.specs.Generic.{fields_in}
 use Rattle.au_meaning.specs.Views.{Field}
-use Rattle.au_simulation.specs.Premises.{is_plain}
+use Rattle.au_lowered.specs.Premises.{is_plain}
 use Rattle.au_running.specs.Suits.{SaidOfBlock, are_once, has_literal}
 
 -- The parameters of each closed function have names of their own.

@@ -2,9 +2,9 @@
 use Rattle.std.specs.Prelude.{◌≡◌, ℕ, suc, List, [], ◌∷◌, Some, slice_get}
 use Rattle.au_syntax.specs.Plain.{Bytes}
 use Rattle.au_modules.specs.Programs.{ModuleParts}
-use Rattle.au_closed_types.specs.Types.{ClosedType}
+use Rattle.au_type_texts.specs.Types.{ClosedType}
 use Rattle.au_low.specs.declared.code.LowType.{LowType}
-use Rattle.au_derivations.specs.Trees.{NotedParts}
+use Rattle.au_typing.specs.Trees.{NotedParts}
 use Rattle.au_noting_programs.specs.Faults.{IsDerived}
 use Rattle.au_closed_trees.specs.ClosedNotes.{Callee, ClosedNote}
 use Rattle.au_closing.specs.Closes.{ClosedFunction, ClosesFunctions}
@@ -12,13 +12,13 @@ use Rattle.au_closing.specs.Instances.{Instance}
 use Rattle.au_meaning.specs.Meanings.{mean}
 use Rattle.au_meaning.specs.Views.{Function}
 use Rattle.au_meaning.specs.Worlds.{stuck}
-use Rattle.au_closed_views.specs.Surroundings.{Surroundings, view_in}
-use Rattle.au_closing_meanings.specs.Closed.{function_closed, surroundings_of}
-use Rattle.au_closing_meanings.specs.Generic.{generic_functions, linear_in}
-use Rattle.au_closing_meanings.specs.Kept.{NumberAlike}
-use Rattle.au_simulation.specs.Laws.{Follows}
-use Rattle.au_simulation.specs.Premises.{GoodView}
-use Rattle.au_simulation.specs.Programs.{coding, EntryTakes, GoodProgram}
+use Rattle.au_closed_meanings.specs.Surroundings.{Surroundings, view_in}
+use Rattle.au_closed_meanings.specs.Closed.{function_closed, surroundings_of}
+use Rattle.au_closed_meanings.specs.Generic.{generic_functions, linear_in}
+use Rattle.au_closed_meanings.specs.Kept.{NumberAlike}
+use Rattle.au_lowered.specs.FollowLaws.{Follows}
+use Rattle.au_lowered.specs.Premises.{GoodView}
+use Rattle.au_lowered.specs.FollowPrograms.{coding, EntryTakes, GoodProgram}
 use Rattle.au_running.specs.Asked.{CallsArePlain, FieldsAreOnce, ParametersAreOnce}
 use Rattle.au_running.specs.Formed.{IsFormed}
 use Rattle.au_running.specs.Suits.{EachSuits, guarded_functions}

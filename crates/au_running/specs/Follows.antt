@@ -1,12 +1,12 @@
 -- That runs of the code of a program do what the program means, with its events and within its steps.
 use Rattle.std.specs.Prelude.{◌≡◌, ℕ, List}
 use Rattle.au_modules.specs.Programs.{ModuleParts}
-use Rattle.au_derivations.specs.Trees.{NotedParts}
+use Rattle.au_typing.specs.Trees.{NotedParts}
 use Rattle.au_closed_programs.specs.Programs.{ClosedProgram, Closes}
-use Rattle.au_closing_meanings.specs.Numbers.{numbers_of}
+use Rattle.au_closed_meanings.specs.Numbers.{numbers_of}
 use Rattle.au_lowering.specs.Closed.{functions_numbered, told_in}
 use Rattle.au_meaning.specs.Worlds.{stuck}
-use Rattle.au_simulation.specs.Laws.{Follows}
+use Rattle.au_lowered.specs.FollowLaws.{Follows}
 use Rattle.au_running.specs.Meant.{means}
 use Rattle.au_running.specs.Runs.{IsRunnable}
 use Rattle.au_syntax.specs.Plain.{Bytes}

@@ -4,7 +4,7 @@ use Rattle.std.specs.Prelude.{◌≡◌, ℕ, ◌<◌, false, List, ◌++◌, Op
 use Rattle.std.specs.Option.{option_map}
 use Rattle.au_base.specs.Outside.{Adds, AddsFront}
 use Rattle.au_closed_programs.specs.Programs.{ClosedProgram, Closes}
-use Rattle.au_derivations.specs.Trees.{NotedParts}
+use Rattle.au_typing.specs.Trees.{NotedParts}
 use Rattle.au_low.specs.Runs.{low_run}
 use Rattle.au_low.specs.declared.code.Code.{Code}
 use Rattle.au_low.specs.declared.endings.Ending.TheVariants as ending

@@ -6,7 +6,7 @@ use Rattle.au_effects.specs.Values as values
 use Rattle.au_ints.specs.Ranges.{is_of_kind}
 use Rattle.au_meaning.specs.Views.{Act, Callee, Function, View, invokes, makes, ships}
 use Rattle.au_meaning.specs.Worlds.{Value}
-use Rattle.au_simulation.specs.Premises.{is_plain}
+use Rattle.au_lowered.specs.Premises.{is_plain}
 use Rattle.au_syntax.specs.Expressions.{Expression, Expressions, Arguments, number, negative, text, truth}
 use Rattle.au_syntax.specs.Expressions.{nil, path, arrow, call, named_call, parenthesized, dereference}
 use Rattle.au_syntax.specs.Expressions.{borrow, borrow_part, binary, negation, typed, choice, no_expressions}

@@ -1,7 +1,7 @@
 //! A law of the shipped functions that programs call, as the contract of a call that does nothing.
 
 ghost use Rattle.std.specs.Prelude.{List};
-ghost use Rattle.au_derivations.specs.Trees.{NotedParts};
+ghost use Rattle.au_typing.specs.Trees.{NotedParts};
 ghost use Rattle.au_modules.specs.Programs.{ModuleParts};
 ghost use Rattle.au_noting_programs.specs.Faults.{IsDerived};
 ghost use Rattle.au_running.specs.Asked.{ClosesPlainly, LeadsPlainly};

@@ -1,7 +1,7 @@
 //! From an accepted program to what a run of it does.
 
 ghost use Rattle.std.specs.Prelude.{◌≡◌, ◌⊎◌, List, IfOk, OnErr};
-ghost use Rattle.au_derivations.specs.Trees.{NotedParts};
+ghost use Rattle.au_typing.specs.Trees.{NotedParts};
 ghost use Rattle.au_modules.specs.Slots as slots;
 ghost use Rattle.au_noting_programs.specs.Faults.{IsDerived};
 ghost use Rattle.au_running.specs.Asked.{ClosesPlainly};

@@ -1,4 +1,9 @@
+pub mod ArgumentLemmas
+pub mod FrameLemmas
+pub mod MovingLemmas
+pub mod ShipLemmas
 pub mod StepLemmas
+pub mod RunStepLemmas
 pub mod BeginLemmas
 pub mod RunLemmas
 pub mod WaitLemmas

@@ -1,3 +1,4 @@
+pub mod Orders
 pub mod Loaded
 pub mod Calls
 pub mod Steps

@@ -7,9 +7,9 @@ ghost use Rattle.au_stores.specs.Stores.{world_of, top_frame};
 ghost use Rattle.au_machine.specs.States.{machine_of};
 
 use au_base::Memory;
+use au_cells::Piles;
 use au_low::{Code, Function};
 use au_machine::State;
-use au_piles::Piles;
 use au_shipped::AbortKind;
 use au_stores::World;
 use std::alloc::Global;

@@ -6,10 +6,10 @@ ghost use Rattle.au_machine.specs.States.{machine_of, came, came_still, IsQuiet}
 ghost use Rattle.au_runs.specs.Steps.{WaitsAsBefore};
 
 use crate::waiting::waits;
+use crate::{act, fetched};
 use au_base::Memory;
 use au_low::Code;
 use au_machine::{State, Turn};
-use au_steps::{act, fetched};
 use std::alloc::Global;
 
 /// Does the next instruction. Where it waits for a byte of the input, the state stays as it is.

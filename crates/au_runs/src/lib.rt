@@ -1,16 +1,18 @@
-//! The machine that runs lowered code: it is loaded with code, and runs it once, on an input and a sink.
-//!
-//! - What a call of `run` promises stands in `specs/Calls.antt`: by its end, what the run of the definitions
-//!   (`low_run`) comes to, with what was taken of the input, written to the sink, and told.
-//! - Once the input said that no byte is left, it isn't asked again.
+//! The machine that runs lowered code: its steps, and whole runs.
 #![tactic(auto)]
 
+pub mod arguing;
 pub mod beginning;
+pub mod calling;
 pub mod ends;
 pub mod fetching;
+pub mod looping;
 pub mod machines;
+pub mod shipping;
 pub mod stepping;
+pub mod steps;
 pub mod waiting;
 
 pub use ends::End;
 pub use machines::Machine;
+pub use steps::{act, fetched, hear};

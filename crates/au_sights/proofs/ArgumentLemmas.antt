@@ -11,7 +11,7 @@ use Rattle.au_types.specs.Types.{Argument, Arguments, no_arguments, arguments}
 use Rattle.au_types.specs.Views.{argument, argument_all}
 use Rattle.au_matching.specs.Bindings.{Bindings, IsInOrder, value_of, with_pair}
 use Rattle.au_matching.proofs.BindingLemmas.{in_order-with, same_lists, value_of-with}
-use Rattle.au_outsides.specs.Insides.{with_arguments}
+use Rattle.au_typing.specs.Insides.{with_arguments}
 use Rattle.au_sights.specs.Steps.{put_at, put_first}
 
 -- what is put so far, before what the type parameters that are left give

@@ -4,7 +4,7 @@ use Rattle.std.proofs.Common.{◌≡◌, ℕ, ◌+◌, ◌<◌, ◌≤◌, Bool,
 use Rattle.std.specs.Option.{option_map}
 use Rattle.std.proofs.lemmas.List.{append-nil, append_assoc, drop_all, map-append}
 use Rattle.au_names.proofs.WalkLemmas.{left}
-use Rattle.au_outsides.specs.Written.{followed}
+use Rattle.au_typing.specs.Written.{followed}
 
 module _ {A B C X D : Type 0} (p : B → C) (v : A → B) (f : C → Option X) (all : List C → Option (List X)) (s : D → X) where
   -- what is made so far, before what is left

@@ -1,3 +1,4 @@
+mod CopyLemmas
 pub mod StandingLemmas
 pub mod FollowedLemmas
 pub mod ArgumentLemmas

@@ -13,10 +13,10 @@ use Rattle.au_types.specs.Types.{Argument, Arguments, no_arguments, arguments}
 use Rattle.au_types.specs.Views.{argument, argument_all}
 use Rattle.au_modules.specs.Programs.{ModuleParts}
 use Rattle.au_names.specs.Standing.{Standing}
-use Rattle.au_generics.specs.Bounds.{bounded}
-use Rattle.au_outsides.specs.Called.{as_argument, as_arguments, unconstrained}
-use Rattle.au_outsides.specs.Insides.{case_under, cases_under, number_of, with_arguments}
-use Rattle.au_outsides.specs.Written.{followed}
+use Rattle.au_judged_types.specs.Bounds.{bounded}
+use Rattle.au_typing.specs.Called.{as_argument, as_arguments, unconstrained}
+use Rattle.au_typing.specs.Insides.{case_under, cases_under, number_of, with_arguments}
+use Rattle.au_typing.specs.Written.{followed}
 use Rattle.au_sights.specs.Steps.{cases_by}
 
 -- arguments with one behind them

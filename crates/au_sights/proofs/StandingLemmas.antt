@@ -10,10 +10,10 @@ use Rattle.au_syntax.specs.declared.modules.Part.{Part}
 use Rattle.au_syntax.specs.declared.modules.Part.TheVariants.{Interface, Body}
 use Rattle.au_syntax.specs.Modules.{record_type, union_type}
 use Rattle.au_syntax.specs.Plain.{Bytes, PlainDeclaration, PlainModule}
-use Rattle.au_tables.specs.DeclaredNames.{given, names_in, numbered, type_names}
-use Rattle.au_tables.specs.declared.spaces.Space.TheVariants.{Types}
-use Rattle.au_tables.specs.Tables.{find, firsts}
-use Rattle.au_tables.proofs.TableLemmas.{find-firsts}
+use Rattle.au_types.specs.DeclaredNames.{given, names_in, numbered, type_names}
+use Rattle.au_types.specs.declared.spaces.Space.TheVariants.{Types}
+use Rattle.au_types.specs.Tables.{find, firsts}
+use Rattle.au_types.proofs.TableLemmas.{find-firsts}
 use Rattle.au_types.specs.declared.types.DeclAt.{DeclAt}
 use Rattle.au_modules.specs.Programs.{Entry, ModuleParts}
 use Rattle.au_modules.specs.Seen.{body_tree, interface_tree}
@@ -25,10 +25,10 @@ use Rattle.au_names.specs.Meanings.{declared_by, imports_in, part_of, pervasive,
 use Rattle.au_names.specs.Owned.{declarations_in, own, target, targets}
 use Rattle.au_names.specs.Standing.{Standing, body_standing, definition_of, module_standing, standing_at, standing_from, whole_name}
 use Rattle.au_names.proofs.ExportLemmas.{interface_seen}
-use Rattle.au_outsides.specs.Called.{owned, type_number}
-use Rattle.au_outsides.specs.Insides.{interface_count, known_definition, is_known, known_standing}
-use Rattle.au_outsides.specs.Written.{seen_in, types_at}
-use Rattle.au_outsides.proofs.NumberLemmas.{at_number, definition_stands, in_either, of_place, stands_at, stands_count, there}
+use Rattle.au_typing.specs.Called.{owned, type_number}
+use Rattle.au_typing.specs.Insides.{interface_count, known_definition, is_known, known_standing}
+use Rattle.au_typing.specs.Written.{seen_in, types_at}
+use Rattle.au_typing.proofs.NumberLemmas.{at_number, definition_stands, in_either, of_place, stands_at, stands_count, there}
 use Rattle.au_sights.specs.Steps.{Stands}
 
 -- ---- where it stands

@@ -1,2 +1,5 @@
+pub mod Views
+pub mod Lines
+pub mod Examples
 pub mod Sights
 pub mod Steps

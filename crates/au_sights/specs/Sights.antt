@@ -4,16 +4,16 @@ use Rattle.au_modules.specs.Programs.{ModuleParts}
 use Rattle.au_modules.specs.Slots as slots
 use Rattle.au_names.specs.HeadsOf.{heads_of}
 use Rattle.au_names.specs.Standing.{standing_at}
-use Rattle.au_outsides.specs.Called.{callable_at}
-use Rattle.au_outsides.specs.Insides.{cases_of, fields_of}
-use Rattle.au_outsides.specs.Outsides.{constant_standing}
-use Rattle.au_scopes.specs.Scopes as scopes
-use Rattle.au_scopes.specs.Scopes.{Outside}
+use Rattle.au_typing.specs.Called.{callable_at}
+use Rattle.au_typing.specs.Insides.{cases_of, fields_of}
+use Rattle.au_typing.specs.Outsides.{constant_standing}
+use Rattle.au_typing.specs.Scopes as scopes
+use Rattle.au_typing.specs.Scopes.{Outside}
 use Rattle.au_sights.specs.declared.called.Callable.{Callable}
 use Rattle.au_sights.specs.declared.called.Case.{Case}
 use Rattle.au_sights.specs.declared.called.Typed.{Typed}
 use Rattle.au_sights.specs.declared.surroundings.Surroundings.{Surroundings}
-use Rattle.au_tables.specs.Tables.{find}
+use Rattle.au_types.specs.Tables.{find}
 use Rattle.au_types.specs.declared.types.DeclAt.{DeclAt}
 use Rattle.au_types.specs.Types.{Meaning}
 use Rattle.au_types.specs.Views.{meaning}

@@ -19,9 +19,9 @@ use Rattle.au_matching.specs.Bindings.{Bindings, value_of, with_pair}
 use Rattle.au_modules.specs.Programs.{ModuleParts}
 use Rattle.au_names.specs.Owned.{target}
 use Rattle.au_names.specs.Standing.{Standing, standing_at}
-use Rattle.au_scopes.specs.Scopes as scopes
-use Rattle.au_outsides.specs.Insides.{typed_under}
-use Rattle.au_outsides.specs.Written.{all_typed, followed}
+use Rattle.au_typing.specs.Scopes as scopes
+use Rattle.au_typing.specs.Insides.{typed_under}
+use Rattle.au_typing.specs.Written.{all_typed, followed}
 use Rattle.au_sights.specs.declared.called.Case.{Case}
 use Rattle.au_sights.specs.declared.called.Typed.{Typed}
 use Rattle.au_sights.specs.Sights.{case_said, typed_said}

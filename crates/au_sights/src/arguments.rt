@@ -2,7 +2,7 @@
 
 ghost use Rattle.std.specs.Prelude.{◌≡◌, IfOk, None, OnOk, slice_get};
 ghost use Rattle.au_matching.specs.Bindings.{value_of, with_pair};
-ghost use Rattle.au_outsides.specs.Insides as insides;
+ghost use Rattle.au_typing.specs.Insides as insides;
 ghost use Rattle.au_sights.specs.Steps.{put_at, put_first};
 ghost use Rattle.au_types.specs.Views.{argument, argument_all};
 

@@ -2,13 +2,13 @@
 
 ghost use Rattle.std.specs.Prelude.{◌≡◌, ◌∷◌, [], IfOk, Some, find, map};
 ghost use Rattle.std.specs.Option.{option_copied, option_map};
-ghost use Rattle.au_generics.specs.Meanings.{generics_meant, parameter};
+ghost use Rattle.au_judged_types.specs.Meanings.{generics_meant, parameter};
 ghost use Rattle.au_modules.specs.Slots as slots;
 ghost use Rattle.au_names.specs.HeadsOf.{heads_of};
 ghost use Rattle.au_names.specs.Standing.{standing, standing_at, whole_name};
 ghost use Rattle.au_names.specs.Walks.{written, written_parameter, written_parameters};
-ghost use Rattle.au_outsides.specs.Called as spec;
-ghost use Rattle.au_outsides.specs.Written.{types_at};
+ghost use Rattle.au_typing.specs.Called as spec;
+ghost use Rattle.au_typing.specs.Written.{types_at};
 ghost use Rattle.au_promises.specs.Written.{generics_of, header_of};
 ghost use Rattle.au_sights.specs.Sights.{callable_said};
 ghost use Rattle.au_sights.specs.Steps.{Stands, method_seen, methods_of, variant_seen, variants_of};
@@ -18,8 +18,8 @@ use crate::makers::{callable, maker, unconstrained};
 use crate::standing::{type_there, types_seen};
 use crate::typing::all_typed;
 use au_base::{Memory, Name, Text};
-use au_generics::{Generics, Meant, generics_of};
 use au_imports::Resolved;
+use au_judged_types::{Generics, Meant, generics_of};
 use au_names::parameters::parameter_of;
 use au_names::{Declared, Target};
 use au_syntax::{Decl, Generic, Parsed, Signature, TypeParameter, UnionCase};

@@ -1,7 +1,7 @@
 //! What is called, and what a value is taken apart into.
 
 use au_base::Name;
-use au_generics::Generics;
+use au_judged_types::Generics;
 use au_names::Target;
 use au_types::{DeclAt, Ty};
 

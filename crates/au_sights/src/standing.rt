@@ -6,8 +6,8 @@ ghost use Rattle.au_modules.specs.Seen.{tree_seen};
 ghost use Rattle.au_modules.specs.Slots as slots;
 ghost use Rattle.au_names.specs.Exporting.{declarations_seen};
 ghost use Rattle.au_names.specs.Standing.{standing};
-ghost use Rattle.au_outsides.specs.Insides as insides;
-ghost use Rattle.au_outsides.specs.Written.{meant_in, types_at};
+ghost use Rattle.au_typing.specs.Insides as insides;
+ghost use Rattle.au_typing.specs.Written.{meant_in, types_at};
 ghost use Rattle.au_sights.specs.Steps.{Stands};
 ghost use Rattle.au_syntax.specs.Views.{written};
 ghost use Rattle.au_types.specs.Views.{meaning};
@@ -16,9 +16,7 @@ use au_base::Memory;
 use au_imports::Resolved;
 use au_names::Declared;
 use au_syntax::{Parsed, Part, TypeText, Whole};
-use au_tables::Table;
-use au_types::{DeclAt, Params, Ty};
-use au_written_types::{Scope, type_meant};
+use au_types::{DeclAt, Params, Scope, Table, Ty, type_meant};
 use std::alloc::Global;
 
 /// The names of types and classes that a part of the module at a place sees.

@@ -2,12 +2,12 @@
 
 ghost use Rattle.std.specs.Prelude.{◌≡◌, ◌<◌, ◌+◌, ◌-◌, length, take, drop, reverse, OnOk};
 ghost use Rattle.au_effects.specs.Worlds as effect;
-ghost use Rattle.au_piles.specs.Piles.{next_top};
+ghost use Rattle.au_cells.specs.Piles.{next_top};
 ghost use Rattle.au_stores.specs.Stores.{world_of, top_frame, without_frames};
 
 use crate::worlds::World;
 use au_base::Memory;
-use au_piles::Piles;
+use au_cells::Piles;
 
 impl World {
     /// Closes open borrows, the newest first, until so many are left. The newest one is the last of the

@@ -13,9 +13,8 @@ ghost use Rattle.au_stores.specs.Stores.{without_frames, given_slots, filled, do
 
 use crate::worlds::World;
 use au_base::Memory;
-use au_cells::Cell;
 use au_cells::paths::part;
-use au_piles::Piles;
+use au_cells::{Cell, Piles};
 
 #[inline(always)]
 fn item(slots: &[Option<Cell>], slot: usize) -> Option<&Option<Cell>>

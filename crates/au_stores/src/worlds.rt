@@ -7,9 +7,8 @@ ghost use Rattle.au_low.specs.Runs.{first_world};
 ghost use Rattle.au_stores.specs.Stores.{world_of, held_of, deed_of, top_frame};
 
 use au_base::{Memory, Name};
-use au_cells::Cell;
+use au_cells::{Cell, Piles};
 use au_low::Event;
-use au_piles::Piles;
 use std::alloc::Global;
 
 /// What there is of a birth besides its value.

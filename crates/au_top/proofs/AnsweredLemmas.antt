@@ -10,7 +10,7 @@ use Rattle.au_base.specs.Outside.{Counts, Files}
 use Rattle.au_words.specs.Jobs.{Task, IsJob}
 use Rattle.au_modules.specs.declared.modules.Modules.{Modules}
 use Rattle.au_modules.specs.Slots as slots
-use Rattle.au_refusals.specs.Lines.{read_fault_line}
+use Rattle.au_outcomes.specs.Lines.{read_fault_line}
 use Rattle.au_outcomes.specs.Halts.{AreTold, is_missing, is_read}
 use Rattle.au_outcomes.specs.declared.halts.CheckFault.{CheckFault}
 use Rattle.au_outcomes.specs.declared.halts.CheckFault.TheVariants as fault

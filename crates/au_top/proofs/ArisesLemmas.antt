@@ -18,10 +18,10 @@ use Rattle.au_outcomes.specs.Outcomes.{Comes, is_outcome, most_files}
 use Rattle.au_top.specs.Dues.{Arises, Asks, AsksForNoFile, AsksForTooMany}
 use Rattle.au_top.specs.Calls.{FailsBehind}
 use Rattle.au_outcomes.proofs.NameLemmas.{comes_outcome}
-use Rattle.au_refusals.specs.declared.refusals.Unbuilt.{Unbuilt}
+use Rattle.au_outcomes.specs.declared.refusals.Unbuilt.{Unbuilt}
 use Rattle.au_outcomes.specs.declared.outcomes.Outcome.{Outcome}
 use Rattle.au_outcomes.specs.declared.outcomes.Outcome.TheVariants as outcome
-use Rattle.au_refusals.specs.declared.refusals.Refusal.TheVariants.{WordNotYet}
+use Rattle.au_outcomes.specs.declared.refusals.Refusal.TheVariants.{WordNotYet}
 
 -- a job that asks for nothing that isn't built, and what its files come to
 module _ (words names : List (List ℕ)) (task : Task) (files : Files) (aim : Aim) where

@@ -13,9 +13,9 @@ use Rattle.au_words.proofs.JobLemmas.{one_job}
 use Rattle.au_unbuilt.specs.Unbuilt.{unbuilt_of}
 use Rattle.au_modules.specs.declared.modules.Modules.{Modules}
 use Rattle.au_modules.specs.Slots as slots
-use Rattle.au_refusals.specs.declared.refusals.Refusal.TheVariants as refusal
-use Rattle.au_refusals.specs.declared.refusals.Unbuilt.{Unbuilt}
-use Rattle.au_refusals.specs.declared.refusals.Unbuilt.TheVariants as unbuilt
+use Rattle.au_outcomes.specs.declared.refusals.Refusal.TheVariants as refusal
+use Rattle.au_outcomes.specs.declared.refusals.Unbuilt.{Unbuilt}
+use Rattle.au_outcomes.specs.declared.refusals.Unbuilt.TheVariants as unbuilt
 use Rattle.au_outcomes.specs.Accepted.{Accepted, AreAcceptedAs, is_behind}
 use Rattle.au_outcomes.specs.Halts.{is_missing}
 use Rattle.au_outcomes.specs.Outcomes.{AreFiles, BytesCome, Comes, FewCome, is_outcome}

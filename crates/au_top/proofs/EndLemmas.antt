@@ -7,7 +7,7 @@ use Rattle.au_base.specs.declared.statuses.Status.TheVariants as status
 use Rattle.au_base.specs.Outside.{Counts, Files, HasRisen}
 use Rattle.au_words.specs.Jobs.{Task, IsJob, IsNoJob}
 use Rattle.au_modules.specs.Slots as slots
-use Rattle.au_refusals.specs.Lines.{read_fault_line}
+use Rattle.au_outcomes.specs.Lines.{read_fault_line}
 use Rattle.au_rules.specs.Good.{AllDeclarationsAreGood}
 use Rattle.au_runs.specs.Calls.{Rose}
 use Rattle.au_running.specs.Ran.{is_read_fault}

@@ -9,7 +9,7 @@ use Rattle.au_words.specs.Jobs.{Task}
 use Rattle.au_words.proofs.JobLemmas.{one_job}
 use Rattle.au_modules.specs.Programs.{ModuleParts}
 use Rattle.au_modules.specs.Slots as slots
-use Rattle.au_derivations.specs.Trees.{NotedParts}
+use Rattle.au_typing.specs.Trees.{NotedParts}
 use Rattle.au_running.specs.Programs.{ClosedProgram, Closes}
 use Rattle.au_running.specs.Ran.{HasNoEntry, HasRunSo}
 use Rattle.au_running.specs.declared.ran.Ran.{Ran}

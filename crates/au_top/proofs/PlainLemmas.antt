@@ -1,7 +1,7 @@
 -- What a program that is to run closes to calls plain shipped functions alone.
 use Rattle.std.proofs.Common.{◌≡◌, ℕ, List, None, Result, Ok, Err, refl, subst, sym}
 use Rattle.au_base.specs.Outside.{Files}
-use Rattle.au_derivations.specs.Trees.{NotedParts}
+use Rattle.au_typing.specs.Trees.{NotedParts}
 use Rattle.au_modules.specs.Programs.{ModuleParts}
 use Rattle.au_modules.specs.Slots as slots
 use Rattle.au_modules.specs.declared.modules.Modules.{Modules}
@@ -14,7 +14,7 @@ use Rattle.au_outcomes.specs.declared.outcomes.Aim.{Aim}
 use Rattle.au_outcomes.specs.declared.outcomes.Aim.TheVariants as aims
 use Rattle.au_outcomes.specs.declared.outcomes.Outcome.{Outcome}
 use Rattle.au_outcomes.specs.declared.outcomes.Outcome.TheVariants as outcome
-use Rattle.au_refusals.specs.declared.refusals.Unbuilt.{Unbuilt}
+use Rattle.au_outcomes.specs.declared.refusals.Unbuilt.{Unbuilt}
 use Rattle.au_running.specs.Asked.{ClosesPlainly, LeadsPlainly}
 use Rattle.au_syntax.specs.Plain.{Bytes}
 use Rattle.au_top.specs.Dues.{Arises, Asks}

@@ -17,9 +17,9 @@ use Rattle.au_top.specs.Jobs.{asked_of}
 use Rattle.au_top.specs.Dues.{Due, IsRun, Owes, Arises, due_line, due_of}
 use Rattle.au_top.specs.Runs.{BreaksOff, EndsAsRun, IsTold, Run, Runs, line_of, run_of}
 use Rattle.au_top.specs.Streams.{Gains, GainsFront, HasFailed, HasStayed, NeverFailed, Streams}
-use Rattle.au_refusals.specs.Refusals.{is_refusal}
-use Rattle.au_refusals.specs.Lines.{accepted_line, refusal_line, limit_line, missing_line, read_fault_line}
-use Rattle.au_refusals.specs.declared.refusals.Refusal.{Refusal}
+use Rattle.au_outcomes.specs.Refusals.{is_refusal}
+use Rattle.au_outcomes.specs.Lines.{accepted_line, refusal_line, limit_line, missing_line, read_fault_line}
+use Rattle.au_outcomes.specs.declared.refusals.Refusal.{Refusal}
 use Rattle.au_running.specs.declared.ran.Ran.{Ran}
 use Rattle.au_running.specs.declared.ran.Ran.TheVariants as how
 use Rattle.au_top.specs.declared.saying.AnswerFault.{AnswerFault}

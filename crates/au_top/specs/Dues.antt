@@ -8,9 +8,9 @@ use Rattle.au_explain.specs.Lines.{life_text}
 use Rattle.au_explain.specs.declared.lists.Lives.{Lives}
 use Rattle.au_words.specs.Jobs.{Task, IsJob, IsNoJob}
 use Rattle.au_words.specs.declared.jobs.Command.TheVariants as command
-use Rattle.au_refusals.specs.Lines.{words_line, accepted_line, missing_line, limit_line, refusal_line}
-use Rattle.au_refusals.specs.declared.refusals.Unbuilt.{Unbuilt}
-use Rattle.au_refusals.specs.declared.refusals.Refusal.TheVariants.{WordNotYet}
+use Rattle.au_outcomes.specs.Lines.{words_line, accepted_line, missing_line, limit_line, refusal_line}
+use Rattle.au_outcomes.specs.declared.refusals.Unbuilt.{Unbuilt}
+use Rattle.au_outcomes.specs.declared.refusals.Refusal.TheVariants.{WordNotYet}
 use Rattle.au_outcomes.specs.Accepted.{Accepted}
 use Rattle.au_outcomes.specs.Outcomes.{AreFiles, Comes, most_files}
 use Rattle.au_outcomes.specs.Trees.{HasNoTree, HasTokens}

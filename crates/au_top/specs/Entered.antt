@@ -4,7 +4,7 @@ use Rattle.au_base.specs.declared.names.Entry.{Entry}
 use Rattle.au_base.specs.Outside.{Files}
 use Rattle.au_words.specs.Jobs.{Task}
 use Rattle.au_modules.specs.Programs.{ModuleParts}
-use Rattle.au_derivations.specs.Trees.{NotedParts}
+use Rattle.au_typing.specs.Trees.{NotedParts}
 use Rattle.au_unbuilt.specs.Unbuilt.{unbuilt_of}
 use Rattle.au_outcomes.specs.Accepted.{AreAcceptedAs}
 use Rattle.au_outcomes.specs.Programs.{program_modules}

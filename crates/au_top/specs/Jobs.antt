@@ -5,8 +5,8 @@ use Rattle.au_words.specs.declared.jobs.Command.{Command}
 use Rattle.au_words.specs.declared.jobs.Command.TheVariants as command
 use Rattle.au_outcomes.specs.declared.outcomes.Aim.{Aim}
 use Rattle.au_outcomes.specs.declared.outcomes.Aim.TheVariants as aims
-use Rattle.au_refusals.specs.declared.refusals.Unbuilt.{Unbuilt}
-use Rattle.au_refusals.specs.declared.refusals.Unbuilt.TheVariants as unbuilt
+use Rattle.au_outcomes.specs.declared.refusals.Unbuilt.{Unbuilt}
+use Rattle.au_outcomes.specs.declared.refusals.Unbuilt.TheVariants as unbuilt
 
 -- that a program is run, or that lives are told meanwhile, which isn't built yet
 abbrev pub asked_of_run : Task → Result Aim Unbuilt

@@ -3,7 +3,7 @@ use Rattle.std.specs.Prelude.{ℕ, true, false, List, []}
 use Rattle.au_base.specs.declared.statuses.Status.{Status}
 use Rattle.au_base.specs.declared.statuses.Status.TheVariants as status
 use Rattle.au_syntax.specs.Plain.{Bytes}
-use Rattle.au_refusals.specs.Lines.{abort_line, steps_line}
+use Rattle.au_outcomes.specs.Lines.{abort_line, steps_line}
 use Rattle.au_running.specs.Ran.{RanAsMeant}
 use Rattle.au_running.specs.declared.ran.Ran.{Ran}
 use Rattle.au_running.specs.declared.ran.Ran.TheVariants as how

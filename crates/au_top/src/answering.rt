@@ -16,8 +16,7 @@ use crate::running::run;
 use crate::saying::{AnswerFault, say};
 use au_base::{Entry, Sink, Source, Status, put_all};
 use au_explain::{Lives, PrintFault, explain};
-use au_outcomes::Outcome;
-use au_refusals::{limit_line, missing_line, refusal_text};
+use au_outcomes::{Outcome, limit_line, missing_line, refusal_text};
 use std::alloc::Global;
 
 /// The line for words that are no job.

@@ -4,8 +4,7 @@ ghost use Rattle.std.specs.Prelude.{◌≡◌};
 ghost use Rattle.au_words.specs.Jobs.{task_of};
 ghost use Rattle.au_top.specs.Jobs as asked;
 
-use au_outcomes::Aim;
-use au_refusals::Unbuilt;
+use au_outcomes::{Aim, Unbuilt};
 use au_words::{Command, Job};
 
 /// What a job asks of the program of its files.

@@ -3,8 +3,8 @@
 ghost use Rattle.std.specs.Prelude.{◌≡◌, [], Err, IfOk, IsTrue, OnOk};
 ghost use Rattle.au_base.specs.Outside.{Adds, AddsFront, HasRisen};
 ghost use Rattle.au_modules.specs.Slots as slots;
-ghost use Rattle.au_refusals.specs.Lines.{refusal_line};
-ghost use Rattle.au_refusals.specs.Refusals.{is_refusal};
+ghost use Rattle.au_outcomes.specs.Lines.{refusal_line};
+ghost use Rattle.au_outcomes.specs.Refusals.{is_refusal};
 ghost use Rattle.au_running.specs.Asked.{ClosesPlainly};
 ghost use Rattle.au_running.specs.Ran.{is_write_fault};
 ghost use Rattle.au_syntax.specs.Plain.{Bytes};
@@ -17,7 +17,7 @@ use crate::entries::entry_for;
 use crate::saying::{AnswerFault, READ_FAULT_LINE, say};
 use au_base::{Entry, Memory, Sink, Source, Status};
 use au_noting_programs::NotedProgram;
-use au_refusals::{Refusal, abort_line, limit_line, refusal_text, steps_line};
+use au_outcomes::{Refusal, abort_line, limit_line, refusal_text, steps_line};
 use au_running::{Ran, run_program};
 use std::alloc::Global;
 

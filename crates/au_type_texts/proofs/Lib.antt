@@ -3,3 +3,12 @@ pub mod TextLemmas
 pub mod TellLemmas
 pub mod ExampleLemmas
 pub mod WrittenLemmas
+pub mod ClosedLemmas
+pub mod ClosingLemmas
+pub mod ParameterLemmas
+pub mod SameLemmas
+pub mod ClosedTextLemmas
+pub mod ClosedTellLemmas
+pub mod ClosedSizeLemmas
+pub mod KeyTellLemmas
+pub mod GivenLemmas

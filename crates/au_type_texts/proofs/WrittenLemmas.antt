@@ -12,7 +12,7 @@ use Rattle.au_syntax.specs.declared.types.Access.TheVariants as access
 use Rattle.au_syntax.specs.Plain.{Bytes}
 use Rattle.au_syntax.specs.Sizes.{type_depth, types_depth, type_nodes, types_nodes}
 use Rattle.au_syntax.specs.Types.{WrittenType, WrittenTypes, named, reference, no_types, types}
-use Rattle.au_tables.specs.Tables.{find}
+use Rattle.au_types.specs.Tables.{find}
 use Rattle.au_types.specs.declared.headings.Head.{Head}
 use Rattle.au_types.specs.declared.parameters.Parameter.{Parameter}
 use Rattle.au_types.specs.declared.types.DeclAt.{DeclAt}
@@ -24,8 +24,8 @@ use Rattle.au_types.specs.Same.{same, same_region}
 use Rattle.au_types.specs.Types as mean
 use Rattle.au_types.specs.Types.{Meaning, Argument, Arguments}
 use Rattle.au_types.specs.Universes.{universe_in}
-use Rattle.au_written_types.specs.Meant.{Given, applied, argument_meant, arguments_meant, followed, refers, region_of, region_meant, span_of, span_with, meant, all_given}
-use Rattle.au_written_types.specs.Senses.{Sense, a_type, a_span, a_region, declared, a_class, built_in, parameter_sense, declared_sense, open_region, outer_sense, sense_of}
+use Rattle.au_types.specs.Meant.{Given, applied, argument_meant, arguments_meant, followed, refers, region_of, region_meant, span_of, span_with, meant, all_given}
+use Rattle.au_types.specs.Senses.{Sense, a_type, a_span, a_region, declared, a_class, built_in, parameter_sense, declared_sense, open_region, outer_sense, sense_of}
 use Rattle.au_type_texts.specs.Sizes.{depth_of, nodes_of, argument_depth, arguments_depth, argument_nodes, arguments_nodes}
 
 -- ---- a name alone means a type of depth 1 with one node

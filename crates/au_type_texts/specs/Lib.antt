@@ -3,3 +3,15 @@ pub mod Sizes
 pub mod Told
 pub mod Examples
 pub mod Written
+pub mod Types
+pub mod Views
+pub mod Closing
+pub mod Parameters
+pub mod Same
+pub mod ClosedTexts
+pub mod ClosedTold
+pub mod ClosedSizes
+pub mod ClosedExamples
+pub mod Keys
+pub mod Given
+pub mod GivenViews

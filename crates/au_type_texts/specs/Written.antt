@@ -7,7 +7,7 @@ use Rattle.au_types.specs.declared.headings.Head.{Head}
 use Rattle.au_types.specs.declared.parameters.Parameter.{Parameter}
 use Rattle.au_types.specs.declared.types.DeclAt.{DeclAt}
 use Rattle.au_types.specs.Types.{Meaning}
-use Rattle.au_written_types.specs.Meant.{meant}
+use Rattle.au_types.specs.Meant.{meant}
 use Rattle.au_type_texts.specs.Sizes.{depth_of, nodes_of}
 
 -- the type that a written type means is as deep as the written one, and has as many nodes

@@ -1,5 +1,12 @@
+pub mod DeclaredNames
+pub mod Tables
 pub mod Types
 pub mod Views
 pub mod Universes
 pub mod Rows
 pub mod Same
+pub mod Regions
+pub mod Senses
+pub mod Meant
+pub mod WrittenViews
+pub mod Moved

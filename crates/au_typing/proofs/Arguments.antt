@@ -14,7 +14,7 @@ use Rattle.au_matching.proofs.BindingLemmas.{extends_on}
 use Rattle.au_matching.proofs.FixedLemmas.{fixed_decides}
 use Rattle.au_matching.proofs.MatchedLemmas.{matched_makes}
 use Rattle.au_matching.proofs.SubstitutedLemmas.{fixed_stays}
-use Rattle.au_scopes.specs.Scopes.{Scope, Typed}
+use Rattle.au_typing.specs.Scopes.{Scope, Typed}
 use Rattle.au_typing.specs.Bare.{is_arithmetic, is_bare}
 use Rattle.au_typing.specs.Calls.{FirstStep, GoodCall, Passes, SecondStep, Taken, TakenBare}
 use Rattle.au_typing.specs.Good.{AllGood, AllGoodIn, AllGoodLabelled, CallFits, GoodArithmetic, GoodBinary, HaveTypes, PairedModes, items_of, shown, values_of}

@@ -5,8 +5,8 @@ use Rattle.au_types.specs.Types.{Meaning, unit, truth, integer, text, parameter,
 use Rattle.au_matching.specs.Bindings.{Bindings}
 use Rattle.au_matching.specs.Fixed.{fixed}
 use Rattle.au_matching.specs.Substituted.{substituted}
-use Rattle.au_generics.specs.Bounds.{parameters}
-use Rattle.au_scopes.specs.Scopes.{Callable, Scope, Typed}
+use Rattle.au_judged_types.specs.Bounds.{parameters}
+use Rattle.au_typing.specs.Scopes.{Callable, Scope, Typed}
 use Rattle.au_typing.specs.Bare.{is_bare}
 use Rattle.au_typing.specs.Calls.{begun, first_lacking, first_misfit, types_of_call, wanted_of, FirstStep, GoodCall, Passes, SecondStep, Taken, TakenBare}
 use Rattle.au_typing.specs.Faults.{Noting, ◌>>=◌, Why, known_or, unknown, different, unfixed}

@@ -11,7 +11,7 @@ use Rattle.au_types.specs.declared.types.Region.{Region}
 use Rattle.au_types.specs.Same.{same}
 use Rattle.au_types.specs.Types as mean
 use Rattle.au_types.specs.Types.{Meaning}
-use Rattle.au_scopes.specs.Scopes.{Scope}
+use Rattle.au_typing.specs.Scopes.{Scope}
 use Rattle.au_typing.specs.Faults.{Noting, ◌>>=◌, check, unknown, different, not_free, shape, integer_wanted, range_wanted, record_wanted, reference_wanted}
 use Rattle.au_typing.specs.Good.{GoodBinary, GoodBorrow, GoodLiteral, GoodPart, GoodPath, Kept, PairedModes}
 use Rattle.au_typing.specs.Bare.{is_bare}

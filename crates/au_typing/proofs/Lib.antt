@@ -1,3 +1,8 @@
+pub mod PlaceLemmas
+pub mod NumberLemmas
+pub mod MakerLemmas
+pub mod CaseLemmas
+pub mod OfferedLemmas
 pub mod Steps
 pub mod FoundParts
 pub mod FoundCalls
@@ -9,3 +14,12 @@ pub mod Wanted
 pub mod Refused
 pub mod Arguments
 pub mod OrderLemmas
+pub mod StepLemmas
+pub mod PartLemmas
+pub mod FoundLemmas
+pub mod SoundPartLemmas
+pub mod SoundLemmas
+pub mod ProgramLemmas
+pub mod PathLemmas
+pub mod ErasureLemmas
+pub mod RefusalLemmas

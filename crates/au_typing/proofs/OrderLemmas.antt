@@ -4,7 +4,7 @@ use Rattle.au_syntax.specs.declared.expressions.BinaryOperator.{BinaryOperator}
 use Rattle.au_syntax.specs.Expressions.{Node, parenthesized, dereference, binary, negation, typed, choice}
 use Rattle.au_syntax.specs.Plain.{PlainExpression}
 use Rattle.au_types.specs.Types.{Meaning, truth}
-use Rattle.au_scopes.specs.Scopes.{Scope}
+use Rattle.au_typing.specs.Scopes.{Scope}
 use Rattle.au_typing.specs.Bare.{is_arithmetic, is_bare}
 use Rattle.au_typing.specs.Faults.{Fault, Noting, ◌>>=◌}
 use Rattle.au_typing.specs.Lookups.{outcome_noted}

@@ -1,7 +1,7 @@
 -- The search refuses exactly what has no good noting.
 use Rattle.std.proofs.Common.{◌≡◌, ◌↔◌, refl, sym, ap, ◌∙◌, Ok, Err}
 use Rattle.au_syntax.specs.Plain.{PlainExpression}
-use Rattle.au_scopes.specs.Scopes.{Scope}
+use Rattle.au_typing.specs.Scopes.{Scope}
 use Rattle.au_typing.specs.Faults.{Fault, Noting}
 use Rattle.au_typing.specs.Notes.{Mode, NotedExpression, erase}
 use Rattle.au_typing.specs.Search.{note}

@@ -6,7 +6,7 @@ use Rattle.au_syntax.specs.Plain.{Bytes, PlainArguments, PlainExpression, PlainE
 use Rattle.au_types.specs.Types as mean
 use Rattle.au_types.specs.Types.{Meaning}
 use Rattle.au_judged_types.specs.Reasons.{means}
-use Rattle.au_scopes.specs.Scopes.{Scope}
+use Rattle.au_typing.specs.Scopes.{Scope}
 use Rattle.au_typing.specs.Bare.{is_arithmetic, is_bare}
 use Rattle.au_typing.specs.Calls.{GoodCall, by_labels, in_order}
 use Rattle.au_typing.specs.Faults.{◌>>=◌, unknown, known_or}

@@ -12,7 +12,7 @@ use Rattle.au_types.specs.Same.{same}
 use Rattle.au_types.specs.Types as mean
 use Rattle.au_types.specs.Types.{Meaning}
 use Rattle.au_judged_types.specs.Reasons.{Outcome, means, fails}
-use Rattle.au_scopes.specs.Scopes.{Scope}
+use Rattle.au_typing.specs.Scopes.{Scope}
 use Rattle.au_typing.specs.Faults.{Noting, ◌>>=◌, check, known_or, unknown, different, not_free, shape, integer_wanted, range_wanted, record_wanted, reference_wanted}
 use Rattle.au_typing.specs.Good.{AllGood, IsNoting, GoodBorrow, GoodLiteral, GoodPart, GoodPath, Kept, PairedModes}
 use Rattle.au_typing.specs.Limits.{types_noted}

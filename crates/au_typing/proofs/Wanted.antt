@@ -12,7 +12,7 @@ use Rattle.au_matching.specs.Substituted.{substituted}
 use Rattle.au_matching.proofs.BindingLemmas.{extends_on, extends_self}
 use Rattle.au_matching.proofs.MatchedLemmas.{matched_makes}
 use Rattle.au_matching.proofs.SubstitutedLemmas.{fixed_stays}
-use Rattle.au_scopes.specs.Scopes.{Scope, Typed}
+use Rattle.au_typing.specs.Scopes.{Scope, Typed}
 use Rattle.au_typing.specs.Calls.{Shown, begun, FirstStep, GoodCall, Passes, SecondStep, Taken, TakenBare}
 use Rattle.au_typing.specs.Good.{AllGood}
 use Rattle.au_typing.specs.Notes.{Mode, Note, NotedExpression, mode_of, type_of}

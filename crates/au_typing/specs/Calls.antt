@@ -14,11 +14,11 @@ use Rattle.au_matching.specs.Bindings.{Bindings, value_of}
 use Rattle.au_matching.specs.Fixed.{fixed, is_a_region, is_a_type}
 use Rattle.au_matching.specs.Matched.{matched}
 use Rattle.au_matching.specs.Substituted.{substituted}
-use Rattle.au_universes.specs.Forming.{fits}
-use Rattle.au_generics.specs.Bounds.{parameters}
+use Rattle.au_matching.specs.Forming.{fits}
+use Rattle.au_judged_types.specs.Bounds.{parameters}
 use Rattle.au_instances.specs.Instances.{Known}
 use Rattle.au_instances.specs.Pairs.{Pair, constraints_of, lacking}
-use Rattle.au_scopes.specs.Scopes.{Callable, Scope, Typed}
+use Rattle.au_typing.specs.Scopes.{Callable, Scope, Typed}
 use Rattle.au_typing.specs.Limits.{are_within, types_noted}
 use Rattle.au_typing.specs.Lookups.{parameters_in, type_of_name}
 use Rattle.au_typing.specs.Notes.{Mode, Note}

@@ -1,360 +1,378 @@
--- Expressions in a scope, and by hand the type of each or the fault.
-use Rattle.std.specs.Prelude.{ℕ, zero, suc, pos, ◌==◌, List, [], ◌∷◌, true, false, Option, Some, None, Ok}
-use Rattle.std.specs.Prelude.{Err, codes, find, option_map, if◌then◌else◌}
-use Rattle.std.specs.Str.{bytes_eq}
+-- A small program of three modules, and by hand what is seen of it in its parts.
+use Rattle.std.specs.Prelude.{ℕ, List, [], ◌∷◌, Option, None, Some, codes}
 use Rattle.au_base.specs.declared.kinds.IntKind.TheVariants as kinds
-use Rattle.au_base.specs.declared.limits.LimitKind.TheVariants.{TypeDepth}
+use Rattle.au_base.specs.declared.places.Pos.{Pos}
 use Rattle.au_syntax.specs.declared.declarations.Universe.{Universe}
 use Rattle.au_syntax.specs.declared.declarations.Universe.TheVariants as universes
-use Rattle.au_syntax.specs.declared.expressions.BinaryOperator.{BinaryOperator}
-use Rattle.au_syntax.specs.declared.expressions.BinaryOperator.TheVariants as operators
-use Rattle.au_syntax.specs.declared.expressions.BorrowMode.TheVariants as borrows
-use Rattle.au_syntax.specs.Expressions.{Node, number, negative, text, truth, nil, path, arrow, call}
-use Rattle.au_syntax.specs.Expressions.{named_call, parenthesized, dereference, borrow, borrow_part, binary}
-use Rattle.au_syntax.specs.Expressions.{negation, typed, choice, no_expressions, expressions, no_arguments}
-use Rattle.au_syntax.specs.Expressions.{arguments}
-use Rattle.au_syntax.specs.Names.{Placed}
-use Rattle.au_syntax.specs.Plain.{Bytes, PlainArguments, PlainExpression, PlainExpressions}
+use Rattle.au_syntax.specs.declared.modules.Part.{Part}
+use Rattle.au_syntax.specs.declared.modules.Part.TheVariants.{Interface, Body}
+use Rattle.au_syntax.specs.declared.types.Access.TheVariants as accesses
+use Rattle.au_syntax.specs.Expressions.{nil}
+use Rattle.au_syntax.specs.Modules.{Constrained, Header, Importing, InUniverse, Variant}
+use Rattle.au_syntax.specs.Modules.{class, constant, constant_body, function, function_body}
+use Rattle.au_syntax.specs.Modules.{opaque_type, record_type, union_type}
+use Rattle.au_syntax.specs.Names.{Placed, Renaming}
+use Rattle.au_syntax.specs.Plain.{Bytes, PlainDeclaration, PlainExpression}
+use Rattle.au_syntax.specs.Statements.{no_statements}
 use Rattle.au_syntax.specs.Types as written
-use Rattle.au_syntax.specs.Types.{WrittenType}
+use Rattle.au_syntax.specs.Types.{Labelled, WrittenType, WrittenTypes}
+use Rattle.au_types.specs.declared.types.DeclAt.{DeclAt}
+use Rattle.au_types.specs.declared.types.Region.{Region}
 use Rattle.au_types.specs.declared.types.Region.TheVariants as regions
-use Rattle.au_types.specs.Types as mean
-use Rattle.au_types.specs.Types.{Meaning}
-use Rattle.au_matching.specs.Bindings.{Bindings}
-use Rattle.au_generics.specs.Bounds.{Bounded}
-use Rattle.au_instances.specs.Examples.{bounded_by, box, declared, headed, nat8, of_one, option, place, shown}
-use Rattle.au_instances.specs.Examples.{table}
-use Rattle.au_scopes.specs.Scopes.{Callable, Outside, Scope, Typed, Variable}
-use Rattle.au_typing.specs.Faults.{Noting, Why, limit, why, unknown, different, unfixed, no_instance}
-use Rattle.au_typing.specs.Faults.{not_free, shape, record_wanted, reference_wanted, write_reference_wanted}
-use Rattle.au_typing.specs.Faults.{integer_wanted, linear_wanted, arguments_wanted, labels_wanted}
-use Rattle.au_typing.specs.Faults.{range_wanted}
-use Rattle.au_typing.specs.Notes.{Mode, NotedExpression, note_of, type_of}
-use Rattle.au_typing.specs.Rules.{int32}
+use Rattle.au_types.specs.Types.{Meaning, integer, named, parameter, reads, unit}
+use Rattle.au_types.specs.Types.{arguments, in_region, no_arguments, of_type}
+use Rattle.au_modules.specs.Programs.{Entry, ModuleParts}
+use Rattle.au_names.specs.declared.targets.Target.{Target}
+use Rattle.au_judged_types.specs.Bounds.{Bounded}
+use Rattle.au_typing.specs.Scopes.{Callable, Case, Typed}
 
--- ---- types
+-- ---- what is written
 
--- a Linear record with a number and a box as its fields
-abbrev pub kept : Meaning
-kept = mean.named (place 8 0) mean.no_arguments
+abbrev pub here : Pos
+here = record { file = 0; line = 1; column = 1 }
 
-abbrev pub boxed : Meaning
-boxed = of_one box nat8
+abbrev pub put : Bytes → Placed Bytes
+put name = record { name = name; at = here }
 
--- T behind so many `Option`
-abbrev pub options : ℕ → Meaning → Meaning
-options zero t = t
-options (suc n) t = of_one option (options n t)
+-- a type of a name alone, and one with an argument
+abbrev pub plain : Bytes → WrittenType
+plain name = written.named (put name) written.no_types
 
-abbrev pub t : Meaning
-t = mean.parameter (codes "T")
+abbrev pub over : Bytes → WrittenType → WrittenType
+over name one = written.named (put name) (written.types one written.no_types)
 
--- references in the region R
-abbrev pub read : Meaning → Meaning
-read of = mean.reads of (regions.Named (codes "R"))
+-- a reference for reading
+abbrev pub read_of : WrittenType → Bytes → WrittenType
+read_of t region = written.reference here accesses.Read t (put region)
 
-abbrev pub write : Meaning → Meaning
-write of = mean.writes of (regions.Named (codes "R"))
+abbrev pub labelled : Bytes → WrittenType → Labelled Bytes
+labelled name t = record { name = put name; of = t }
 
--- ---- what is outside
+abbrev pub in_universe : Bytes → Universe → InUniverse Bytes
+in_universe name universe = record { name = put name; universe = universe }
 
-abbrev pub typed_name : Bytes → Meaning → Typed
-typed_name name of = record { name = name; of = of }
+-- `generic [T: Type]` of a type
+abbrev pub t_type : List (InUniverse Bytes)
+t_type = in_universe (codes "T") universes.AnyType ∷ []
 
-abbrev pub kept_fields : List Typed
-kept_fields = typed_name (codes "n") nat8 ∷ typed_name (codes "l") boxed ∷ []
+abbrev pub header : Bytes → List (Labelled Bytes) → WrittenType → Header Bytes
+header name parameters result = record { name = put name; parameters = parameters; result = result }
 
--- the fields of the one record that is known
-abbrev pub fields_of : Meaning → Option (List Typed)
-fields_of (mean.named at args) = if at.«module» == 8 then Some kept_fields else None
-fields_of other = None
+abbrev pub a_case : Bytes → List (Labelled Bytes) → Variant Bytes
+a_case name fields = record { name = put name; fields = fields }
 
-abbrev pub called : List Bounded → List Typed → Meaning → Callable
-called generics params result =
-    record { generics = generics; parameters = params; result = result; class = None }
+abbrev pub item : Bytes → Renaming Bytes
+item name = record { name = put name; alias = None }
 
--- T of this universe alone
-abbrev pub over : Universe → List Bounded
-over universe = bounded_by (codes "T") universe [] ∷ []
+abbrev pub item_as : Bytes → Bytes → Renaming Bytes
+item_as name alias = record { name = put name; alias = Some (put alias) }
 
-abbrev pub x_of : Meaning → List Typed
-x_of of = typed_name (codes "x") of ∷ []
-
-abbrev pub x_and_y : Meaning → Meaning → List Typed
-x_and_y first second = typed_name (codes "x") first ∷ typed_name (codes "y") second ∷ []
-
--- generic functions of T, but for `plus`; `show` is a method
-abbrev pub callables : List (Bytes × Callable)
-callables =
-    (codes "plus", called [] (x_and_y nat8 nat8) nat8)
-    ∷ (codes "same", called (over universes.AnyType) (x_of t) t)
-    ∷ (codes "two", called (over universes.AnyType) (x_and_y t t) t)
-    ∷ (codes "free", called (over universes.Free) (x_of t) t)
-    ∷ (codes "linear", called (over universes.Linear) (x_of t) mean.unit)
-    ∷ (codes "none", called (over universes.AnyType) [] (of_one option t))
-    ∷ (codes "some", called (over universes.AnyType) (x_of t) (of_one option t))
-    ∷ (codes "from", called (over universes.AnyType) (x_of (of_one option t)) mean.unit)
-    ∷ (codes "shown", called (bounded_by (codes "T") universes.Free (shown ∷ []) ∷ []) (x_of t) mean.unit)
-    ∷ (
-      codes "show",
-      record {
-        generics = over universes.Free;
-        parameters = x_of t;
-        result = mean.unit;
-        class = Some (codes "T", shown);
-      },
-    )
-    ∷ []
-
-abbrev pub of_name : {A : Type 0} → List (Bytes × A) → Bytes → Option A
-of_name pairs name = option_map (λ p. p.1) (find (λ p. bytes_eq p.0 name) pairs)
-
-abbrev pub outside : Outside
-outside = record {
-  constant = of_name ((codes "c", mean.truth) ∷ []);
-  callable = of_name callables;
-  target = λ name. None;
-  fields = fields_of;
-  cases = λ of. None;
-  visible = [];
-  heads = (place 8 0, headed (codes "Main:Kept") universes.Linear []) ∷ declared;
-  instances = table;
+abbrev pub a_file : Part → Bytes → List (Importing Bytes) → List PlainDeclaration → Entry
+a_file part name imports declarations = record {
+  file = 0;
+  tree = record {
+    imports = imports;
+    at = here;
+    part = part;
+    name = put name ∷ [];
+    pragma = None;
+    declarations = declarations;
+  };
 }
 
--- ---- what is in scope
+abbrev pub nothing : PlainExpression
+nothing = nil (record { at = here; note = tt })
 
-abbrev pub variable : Bytes → Meaning → Variable
-variable name of = record { name = name; of = of; assignable = false }
+-- ---- the program
 
--- a, b and i are Free, k and l Linear; r and w refer to what k is, s to a number; d is as deep as a type
--- may be
-abbrev pub scope : Scope
-scope = record {
-  outside = outside;
-  generics = [];
-  result = mean.unit;
-  regions = codes "R" ∷ [];
-  variables =
-      variable (codes "a") nat8
-      ∷ variable (codes "b") mean.truth
-      ∷ variable (codes "i") int32
-      ∷ variable (codes "k") kept
-      ∷ variable (codes "l") boxed
-      ∷ variable (codes "r") (read kept)
-      ∷ variable (codes "w") (write kept)
-      ∷ variable (codes "s") (read nat8)
-      ∷ variable (codes "d") (options 23 nat8)
+-- a union over a type parameter, and a class
+abbrev pub first_interface : List PlainDeclaration
+first_interface =
+    union_type here (put (codes "Option")) t_type universes.AnyType
+    (
+    a_case (codes "None") []
+    ∷ a_case (codes "Some") (labelled (codes "value") (plain (codes "T")) ∷ [])
+    ∷ []
+    )
+    ∷ class here (put (codes "Shown")) (in_universe (codes "T") universes.Free)
+    (header (codes "show") (labelled (codes "t") (plain (codes "T")) ∷ []) (plain (codes "Unit")) ∷ [])
+    ∷ []
+
+-- a function over a type parameter with a class
+abbrev pub generics : List (Constrained Bytes)
+generics = record {
+  parameter = in_universe (codes "T") universes.Free;
+  classes = put (codes "Shown") ∷ [];
+} ∷ []
+
+abbrev pub same_header : Header Bytes
+same_header = header (codes "same") (labelled (codes "t") (plain (codes "T")) ∷ []) (plain (codes "T"))
+
+-- an opaque type, a record, a constant and the function
+abbrev pub store_interface : List PlainDeclaration
+store_interface =
+    opaque_type here (put (codes "Pair")) t_type universes.AnyType
+    ∷ record_type here (put (codes "Point")) [] universes.Free
+    (
+    labelled (codes "x") (plain (codes "Nat8"))
+    ∷ labelled (codes "y") (over (codes "Option") (plain (codes "Nat8")))
+    ∷ []
+    )
+    ∷ constant here (put (codes "least")) (plain (codes "Nat16"))
+    ∷ function here generics same_header
+    ∷ []
+
+-- what they are
+abbrev pub store_body : List PlainDeclaration
+store_body =
+    constant_body here (put (codes "least")) (plain (codes "Nat16")) nothing
+    ∷ record_type here (put (codes "Pair")) t_type universes.AnyType
+    (labelled (codes "left") (plain (codes "T")) ∷ labelled (codes "right") (plain (codes "Point")) ∷ [])
+    ∷ function_body here generics same_header no_statements here
+    ∷ []
+
+-- a module that imports them, the record under another name
+abbrev pub import_of_store : Importing Bytes
+import_of_store = record {
+  at = here;
+  from = put (codes "Store") ∷ [];
+  items =
+      item (codes "Pair")
+      ∷ item_as (codes "Point") (codes "Dot")
+      ∷ item (codes "least")
+      ∷ item (codes "same")
       ∷ [];
 }
 
--- ---- expressions
-
-abbrev pub here : Node (Unit {0})
-here = record { at = record { file = 0; line = 1; column = 1 }; note = tt }
-
-abbrev pub named : Bytes → Placed Bytes
-named name = record { name = name; at = record { file = 0; line = 1; column = 1 } }
-
-abbrev pub whole : ℕ → PlainExpression
-whole value = number here (record { value = pos value; digits = 1 })
-
-abbrev pub minus : ℕ → PlainExpression
-minus value = negative here (record { value = pos value; digits = 1 })
-
-abbrev pub mention : Bytes → PlainExpression
-mention name = path here (named name) []
-
-abbrev pub part : Bytes → Bytes → PlainExpression
-part name field = path here (named name) (named field ∷ [])
-
-abbrev pub behind : Bytes → Bytes → PlainExpression
-behind name field = arrow here (named name) (named field ∷ [])
-
-abbrev pub operation : PlainExpression → BinaryOperator → PlainExpression → PlainExpression
-operation a operator b = binary here operator a b
-
-abbrev pub one : PlainExpression → PlainExpressions
-one e = expressions e no_expressions
-
-abbrev pub both : PlainExpression → PlainExpression → PlainExpressions
-both e d = expressions e (one d)
-
-abbrev pub calls : Bytes → PlainExpressions → PlainExpression
-calls name es = call here (named name) es tt
-
-abbrev pub labels : Bytes → PlainExpression → Bytes → PlainExpression → PlainArguments
-labels first e second d =
-    arguments (named first) e (arguments (named second) d no_arguments)
-
-abbrev pub calls_named : Bytes → PlainArguments → PlainExpression
-calls_named name es = named_call here (named name) es tt
-
-abbrev pub alone : Bytes → WrittenType
-alone name = written.named (named name) written.no_types
-
--- x twice, and y
-abbrev pub twice_x : PlainArguments
-twice_x = arguments (named (codes "x")) (whole 1) (labels (codes "x") (whole 1) (codes "y") (whole 2))
-
--- ---- examples
-
--- an expression, a mode, and the type that it has in that mode or its fault
-pub record Example : Type 0 where
-  pub of : PlainExpression
-  pub mode : Mode
-  pub told : Noting Meaning
-
-abbrev pub is : PlainExpression → Mode → Meaning → Example
-is of mode type = record { of = of; mode = mode; told = Ok type }
-
-abbrev pub fails : PlainExpression → Mode → Why → Example
-fails of mode cause = record { of = of; mode = mode; told = Err (why cause) }
-
--- what is told of an expression that was noted
-abbrev pub told_of : Noting NotedExpression → Noting Meaning
-told_of (Ok a) = Ok (type_of a)
-told_of (Err fault) = Err fault
-
-abbrev pub literals : List Example
-literals =
-    is (whole 5) None int32
-    ∷ is (whole 255) (Some nat8) nat8
-    ∷ fails (whole 256) (Some nat8) (shape (range_wanted kinds.Nat8))
-    ∷ fails (whole 2147483648) None (shape (range_wanted kinds.Int32))
-    ∷ is (minus 128) (Some (mean.integer kinds.Int8)) (mean.integer kinds.Int8)
-    ∷ fails (minus 1) (Some nat8) (shape (range_wanted kinds.Nat8))
-    ∷ fails (whole 2147483648) (Some mean.truth) (different mean.truth int32)
-    ∷ is (text here (codes "t")) None mean.text
-    ∷ fails (text here (codes "t")) (Some mean.truth) (different mean.truth mean.text)
-    ∷ is (truth here true) (Some mean.truth) mean.truth
-    ∷ fails (truth here true) (Some mean.unit) (different mean.unit mean.truth)
-    ∷ is (nil here) None mean.unit
-    ∷ fails (nil here) (Some nat8) (different nat8 mean.unit)
+-- a record over a region, which has the name of the type that isn't imported under its own
+abbrev pub main_body : List PlainDeclaration
+main_body =
+    record_type here (put (codes "Point")) (in_universe (codes "R") universes.Region ∷ []) universes.Free
+    (labelled (codes "behind") (read_of (plain (codes "Dot")) (codes "R")) ∷ [])
     ∷ []
 
-abbrev pub names : List Example
-names =
-    is (mention (codes "l")) None boxed
-    ∷ is (mention (codes "c")) None mean.truth
-    ∷ fails (mention (codes "z")) None (unknown (codes "z"))
-    ∷ fails (mention (codes "a")) (Some int32) (different int32 nat8)
-    ∷ is (part (codes "k") (codes "n")) None nat8
-    ∷ fails (part (codes "k") (codes "m")) None (unknown (codes "m"))
-    ∷ fails (part (codes "k") (codes "l")) (Some nat8) (not_free boxed)
-    ∷ fails (part (codes "a") (codes "n")) None (shape record_wanted)
-    ∷ fails (path here (named (codes "k")) (named (codes "n") ∷ named (codes "n") ∷ []))
-    None (unknown (codes "n"))
-    ∷ is (behind (codes "w") (codes "n")) None nat8
-    ∷ fails (behind (codes "k") (codes "n")) None (shape reference_wanted)
-    ∷ fails (behind (codes "s") (codes "n")) None (shape record_wanted)
-    ∷ is (dereference here (mention (codes "s"))) None nat8
-    ∷ fails (dereference here (mention (codes "r"))) None (not_free kept)
-    ∷ fails (dereference here (mention (codes "a"))) None (shape reference_wanted)
-    ∷ is (borrow here borrows.Read (named (codes "l"))) None (mean.reads boxed regions.Anonymous)
-    ∷ is (borrow here borrows.Write (named (codes "l"))) None (mean.writes boxed regions.Anonymous)
-    ∷ is (borrow here borrows.Reborrow (named (codes "w"))) None (mean.writes kept regions.Anonymous)
-    ∷ fails (borrow here borrows.Reborrow (named (codes "r"))) None (shape write_reference_wanted)
-    ∷ fails (borrow here borrows.Read (named (codes "c"))) None (unknown (codes "c"))
-    ∷ is (borrow_part here (named (codes "r")) (named (codes "l") ∷ [])) None (read boxed)
-    ∷ fails (borrow_part here (named (codes "w")) (named (codes "l") ∷ [])) None (shape reference_wanted)
-    ∷ []
-
-abbrev pub operations : List Example
-operations =
-    is (parenthesized here (whole 5)) (Some nat8) nat8
-    ∷ fails (parenthesized here (whole 256)) (Some nat8) (shape (range_wanted kinds.Nat8))
-    ∷ is (operation (parenthesized here (whole 1)) operators.Add (mention (codes "a"))) None nat8
-    ∷ is (typed here (whole 5) (alone (codes "Nat8"))) None nat8
-    ∷ fails (typed here (mention (codes "z")) (alone (codes "Foo"))) None (unknown (codes "Foo"))
-    ∷ fails (typed here (whole 5) (alone (codes "Nat8"))) (Some int32) (different int32 nat8)
-    ∷ is (negation here (mention (codes "b"))) None mean.truth
-    ∷ fails (negation here (whole 5)) None (different mean.truth int32)
-    ∷ is (operation (mention (codes "a")) operators.Add (whole 1)) None nat8
-    ∷ is (operation (whole 1) operators.Add (mention (codes "a"))) None nat8
-    ∷ is (operation (whole 1) operators.Add (whole 2)) None int32
-    ∷ is (operation (whole 1) operators.Add (whole 2)) (Some nat8) nat8
-    ∷ fails (operation (whole 300) operators.Add (mention (codes "z"))) None (unknown (codes "z"))
-    ∷ fails (operation (mention (codes "a")) operators.Add (mention (codes "i"))) None (different nat8 int32)
-    ∷ fails (operation (mention (codes "b")) operators.Multiply (mention (codes "b")))
-    None (shape integer_wanted)
-    ∷ is (operation (whole 1) operators.Less (mention (codes "a"))) (Some mean.truth) mean.truth
-    ∷ is (operation (operation (whole 1) operators.Add (whole 2)) operators.Less (mention (codes "a")))
-    None mean.truth
-    ∷ fails (operation (mention (codes "a")) operators.Less (whole 256))
-    None (shape (range_wanted kinds.Nat8))
-    ∷ is (operation (mention (codes "b")) operators.Equal (mention (codes "c"))) None mean.truth
-    ∷ fails (operation (mention (codes "b")) operators.Less (mention (codes "c"))) None (shape integer_wanted)
-    ∷ is (operation (mention (codes "b")) operators.And (mention (codes "c"))) None mean.truth
-    ∷ fails (operation (mention (codes "b")) operators.Or (whole 1)) None (different mean.truth int32)
-    ∷ is (choice here (mention (codes "b")) (whole 1) (mention (codes "a"))) None nat8
-    ∷ fails (choice here (mention (codes "b")) (mention (codes "a")) (mention (codes "b")))
-    None (different nat8 mean.truth)
-    ∷ fails (choice here (mention (codes "a")) (mention (codes "z")) (mention (codes "b")))
-    None (different mean.truth nat8)
-    ∷ []
-
-abbrev pub call_examples : List Example
-call_examples =
-    is (calls (codes "plus") (both (whole 1) (mention (codes "a")))) None nat8
-    ∷ fails (calls (codes "minus") (one (mention (codes "z")))) None (unknown (codes "minus"))
-    ∷ fails (calls (codes "plus") (one (mention (codes "z")))) None (shape (arguments_wanted 2))
-    ∷ is (calls_named (codes "plus") (labels (codes "y") (whole 1) (codes "x") (whole 2))) None nat8
-    ∷ fails (calls_named (codes "plus") (labels (codes "x") (whole 1) (codes "x") (whole 2)))
-    None (shape labels_wanted)
-    ∷ fails (calls_named (codes "plus") (labels (codes "x") (whole 1) (codes "z") (whole 2)))
-    None (shape labels_wanted)
-    ∷ fails (calls_named (codes "plus") twice_x) None (shape labels_wanted)
-    ∷ fails (calls (codes "plus") (both (mention (codes "z")) (whole 1)))
-    (Some mean.truth) (different mean.truth nat8)
-    ∷ is (calls (codes "same") (one (whole 5))) None int32
-    ∷ is (calls (codes "same") (one (whole 5))) (Some nat8) nat8
-    ∷ is (calls (codes "two") (both (whole 1) (mention (codes "a")))) None nat8
-    ∷ is (calls_named (codes "two") (labels (codes "y") (whole 1) (codes "x") (mention (codes "a"))))
-    None nat8
-    ∷ fails (calls (codes "two") (both (whole 256) (mention (codes "a"))))
-    None (shape (range_wanted kinds.Nat8))
-    ∷ fails (calls (codes "two") (both (mention (codes "a")) (mention (codes "i"))))
-    None (different nat8 int32)
-    ∷ fails (calls (codes "from") (one (mention (codes "a")))) None (different (of_one option t) nat8)
-    ∷ fails (calls (codes "from") (one (whole 5))) None (different (of_one option t) int32)
-    ∷ is (calls (codes "none") no_expressions) (Some (of_one option boxed)) (of_one option boxed)
-    ∷ fails (calls (codes "none") no_expressions) None (unfixed (codes "T"))
-    ∷ fails (calls (codes "free") (one (mention (codes "l")))) None (not_free boxed)
-    ∷ is (calls (codes "linear") (one (mention (codes "l")))) None mean.unit
-    ∷ fails (calls (codes "linear") (one (mention (codes "a")))) None (shape linear_wanted)
-    ∷ is (calls (codes "shown") (one (mention (codes "a")))) None mean.unit
-    ∷ fails (calls (codes "shown") (one (mention (codes "b")))) None (no_instance shown mean.truth)
-    ∷ is (calls (codes "show") (one (calls (codes "some") (one (mention (codes "a")))))) None mean.unit
-    ∷ fails (calls (codes "show") (one (whole 5))) None (no_instance shown int32)
-    ∷ record {
-      of = calls (codes "some") (one (mention (codes "d")));
-      mode = None;
-      told = Err (limit (record { kind = TypeDepth; count = 25; most = 24 }));
-    }
-    ∷ []
-
--- ---- substitutions
-
--- a call, and what stands for its type parameters in no mode
-pub record CallExample : Type 0 where
-  pub of : PlainExpression
-  pub gives : Option Bindings
-
--- the substitution of an expression that was noted
-abbrev pub call_of : Noting NotedExpression → Option Bindings
-call_of (Ok a) = (note_of a).call
-call_of (Err fault) = None
-
-abbrev pub substitutions : List CallExample
-substitutions =
+abbrev pub program : List ModuleParts
+program =
     record {
-      of = calls (codes "two") (both (whole 1) (mention (codes "a")));
-      gives = Some ((codes "T", mean.of_type nat8) ∷ []);
+      name = codes "Austral.Pervasive";
+      interface = Some (a_file Interface (codes "Austral.Pervasive") [] first_interface);
+      body = None;
     }
     ∷ record {
-      of = calls (codes "same") (one (whole 1));
-      gives = Some ((codes "T", mean.of_type int32) ∷ []);
+      name = codes "Store";
+      interface = Some (a_file Interface (codes "Store") [] store_interface);
+      body = Some (a_file Body (codes "Store") [] store_body);
     }
-    ∷ record { of = calls (codes "plus") (both (whole 1) (whole 2)); gives = Some [] }
-    ∷ record { of = mention (codes "a"); gives = None }
+    ∷ record {
+      name = codes "Main";
+      interface = None;
+      body = Some (a_file Body (codes "Main") (import_of_store ∷ []) main_body);
+    }
+    ∷ []
+
+-- ---- what is meant
+
+abbrev pub place : ℕ → ℕ → DeclAt
+place «module» decl = record { «module» = «module»; decl = decl }
+
+-- the class, and a type
+abbrev pub shown : DeclAt
+shown = place 0 1
+
+abbrev pub some_type : DeclAt
+some_type = place 1 1
+
+abbrev pub nat8 : Meaning
+nat8 = integer kinds.Nat8
+
+abbrev pub t : Meaning
+t = parameter (codes "T")
+
+abbrev pub option_of : Meaning → Meaning
+option_of one = named (place 0 0) (arguments (of_type one) no_arguments)
+
+-- the opaque type has the number of the interface's declaration
+abbrev pub pair_of : Meaning → Meaning
+pair_of one = named (place 1 0) (arguments (of_type one) no_arguments)
+
+abbrev pub point : Meaning
+point = named (place 1 1) no_arguments
+
+abbrev pub lent_point : Region → Meaning
+lent_point region = named (place 2 0) (arguments (in_region region) no_arguments)
+
+abbrev pub typed : Bytes → Meaning → Typed
+typed name of = record { name = name; of = of }
+
+abbrev pub bounded : Universe → List DeclAt → List Bounded
+bounded universe classes = record {
+  parameter = record { name = codes "T"; universe = universe };
+  classes = classes;
+} ∷ []
+
+abbrev pub called : List Bounded → List Typed → Meaning → Option (Bytes × DeclAt) → Option Callable
+called generics given result its_class = Some (record {
+  generics = generics;
+  parameters = given;
+  result = result;
+  class = its_class;
+})
+
+-- ---- what names mean that are called
+
+pub record CallableExample : Type 0 where
+  pub place : ℕ
+  pub part : Part
+  pub name : Bytes
+  pub is : Option Callable
+
+abbrev pub call_of : ℕ → Part → Bytes → Option Callable → CallableExample
+call_of place part name is = record { place = place; part = part; name = name; is = is }
+
+abbrev pub any_type : List Bounded
+any_type = bounded universes.AnyType []
+
+-- what makes a pair
+abbrev pub pair_maker : Option Callable
+pair_maker = called any_type (typed (codes "left") t ∷ typed (codes "right") point ∷ []) (pair_of t) None
+
+abbrev pub point_maker : Option Callable
+point_maker = called [] (typed (codes "x") nat8 ∷ typed (codes "y") (option_of nat8) ∷ []) point None
+
+abbrev pub over_region : List Bounded
+over_region = record {
+  parameter = record { name = codes "R"; universe = universes.Region };
+  classes = [];
+} ∷ []
+
+-- its field
+abbrev pub behind : Region → List Typed
+behind region = typed (codes "behind") (reads point region) ∷ []
+
+abbrev pub lent_maker : Option Callable
+lent_maker =
+    called over_region (behind (regions.Named (codes "R"))) (lent_point (regions.Named (codes "R"))) None
+
+-- a parameter of the type of the type parameter
+abbrev pub one_t : List Typed
+one_t = typed (codes "t") t ∷ []
+
+-- the type parameter of the class and the class
+abbrev pub of_shown : Option (Bytes × DeclAt)
+of_shown = Some (codes "T", place 0 1)
+
+abbrev pub callable_examples : List CallableExample
+callable_examples =
+    -- the constructor of an opaque type, in both parts of its module and in none of another
+    call_of 1 Interface (codes "Pair") pair_maker
+    ∷ call_of 1 Body (codes "Pair") pair_maker
+    ∷ call_of 2 Body (codes "Pair") None
+    -- that of a record, under the name that an import gives it
+    ∷ call_of 1 Body (codes "Point") point_maker
+    ∷ call_of 2 Body (codes "Dot") point_maker
+    -- that of another record, over a region
+    ∷ call_of 2 Body (codes "Point") lent_maker
+    -- the cases of a union
+    ∷ call_of 2 Body (codes "None") (called any_type [] (option_of t) None)
+    ∷ call_of 1 Interface (codes "Some") (called any_type (typed (codes "value") t ∷ []) (option_of t) None)
+    -- a method
+    ∷ call_of 2 Body (codes "show") (called (bounded universes.Free []) one_t unit of_shown)
+    -- a function, with the class of its type parameter
+    ∷ call_of 2 Body (codes "same") (called (bounded universes.Free (place 0 1 ∷ [])) one_t t None)
+    -- a type alone, a constant, what means nothing, and a module that isn't there
+    ∷ call_of 2 Body (codes "Option") None
+    ∷ call_of 2 Body (codes "least") None
+    ∷ call_of 2 Body (codes "other") None
+    ∷ call_of 3 Body (codes "Some") None
+    ∷ []
+
+-- ---- the types of constants
+
+pub record ConstantExample : Type 0 where
+  pub place : ℕ
+  pub part : Part
+  pub name : Bytes
+  pub is : Option Meaning
+
+abbrev pub constant_of : ℕ → Part → Bytes → Option Meaning → ConstantExample
+constant_of place part name is = record { place = place; part = part; name = name; is = is }
+
+abbrev pub constant_examples : List ConstantExample
+constant_examples =
+    constant_of 1 Body (codes "least") (Some (integer kinds.Nat16))
+    ∷ constant_of 2 Body (codes "least") (Some (integer kinds.Nat16))
+    ∷ constant_of 0 Interface (codes "least") None
+    ∷ constant_of 2 Body (codes "same") None
+    ∷ []
+
+-- ---- what a name after `when` means
+
+pub record TargetExample : Type 0 where
+  pub place : ℕ
+  pub part : Part
+  pub name : Bytes
+  pub is : Option Target
+
+abbrev pub target_of : ℕ → Part → Bytes → Option Target → TargetExample
+target_of place part name is = record { place = place; part = part; name = name; is = is }
+
+abbrev pub a_target : ℕ → ℕ → Bytes → Target
+a_target «module» decl name = record { at = place «module» decl; name = name }
+
+abbrev pub target_examples : List TargetExample
+target_examples =
+    target_of 2 Body (codes "Some") (Some (a_target 0 0 (codes "Some")))
+    ∷ target_of 2 Body (codes "Dot") (Some (a_target 1 1 (codes "Point")))
+    -- the record of an opaque type stands in the body, the sixth declaration of its module
+    ∷ target_of 1 Interface (codes "Pair") (Some (a_target 1 5 (codes "Pair")))
+    ∷ target_of 2 Body (codes "Pair") None
+    ∷ []
+
+-- ---- fields and cases of types
+
+pub record FieldExample : Type 0 where
+  pub place : ℕ
+  pub of : Meaning
+  pub is : Option (List Typed)
+
+abbrev pub fields_at : ℕ → Meaning → Option (List Typed) → FieldExample
+fields_at place of is = record { place = place; of = of; is = is }
+
+abbrev pub field_examples : List FieldExample
+field_examples =
+    -- an opaque type, in its module and in another
+    fields_at 1 (pair_of nat8) (Some (typed (codes "left") nat8 ∷ typed (codes "right") point ∷ []))
+    ∷ fields_at 2 (pair_of nat8) None
+    -- a record, also where its name isn't imported
+    ∷ fields_at 2 point (Some (typed (codes "x") nat8 ∷ typed (codes "y") (option_of nat8) ∷ []))
+    ∷ fields_at 0 point (Some (typed (codes "x") nat8 ∷ typed (codes "y") (option_of nat8) ∷ []))
+    -- a record over a region
+    ∷ fields_at 1 (lent_point regions.Static) (Some (behind regions.Static))
+    -- no record
+    ∷ fields_at 2 (option_of nat8) None
+    ∷ fields_at 2 nat8 None
+    ∷ []
+
+pub record CasesExample : Type 0 where
+  pub place : ℕ
+  pub of : Meaning
+  pub is : Option (List Case)
+
+abbrev pub cases_at : ℕ → Meaning → Option (List Case) → CasesExample
+cases_at place of is = record { place = place; of = of; is = is }
+
+abbrev pub case_with : Bytes → List Typed → Case
+case_with name fields = record { target = a_target 0 0 name; fields = fields }
+
+abbrev pub cases_examples : List CasesExample
+cases_examples =
+    cases_at 2 (option_of (pair_of t)) (Some (
+    case_with (codes "None") []
+    ∷ case_with (codes "Some") (typed (codes "value") (pair_of t) ∷ [])
+    ∷ []
+    ))
+    -- no union
+    ∷ cases_at 1 (pair_of nat8) None
+    ∷ cases_at 2 point None
+    ∷ cases_at 2 unit None
     ∷ []

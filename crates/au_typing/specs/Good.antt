@@ -19,7 +19,7 @@ use Rattle.au_types.specs.Types.{Meaning}
 use Rattle.au_matching.specs.Bindings.{Bindings}
 use Rattle.au_matching.specs.Substituted.{substituted}
 use Rattle.au_judged_types.specs.Reasons.{means}
-use Rattle.au_scopes.specs.Scopes.{Callable, Scope}
+use Rattle.au_typing.specs.Scopes.{Callable, Scope}
 use Rattle.au_typing.specs.Bare.{is_arithmetic, is_bare}
 use Rattle.au_typing.specs.Calls.{Shown, GoodCall, in_order, by_labels}
 use Rattle.au_typing.specs.Limits.{are_within, types_noted}

@@ -9,11 +9,11 @@ use Rattle.au_syntax.specs.Plain.{Bytes}
 use Rattle.au_syntax.specs.Types.{WrittenType}
 use Rattle.au_types.specs.declared.parameters.Parameter.{Parameter}
 use Rattle.au_types.specs.Types.{Meaning, reads, writes}
-use Rattle.au_universes.specs.Universes.{is_free, universe_of}
-use Rattle.au_generics.specs.Bounds.{parameters}
+use Rattle.au_matching.specs.Universes.{is_free, universe_of}
+use Rattle.au_judged_types.specs.Bounds.{parameters}
 use Rattle.au_judged_types.specs.Judging.{judged}
 use Rattle.au_judged_types.specs.Reasons.{Outcome, means, fails}
-use Rattle.au_scopes.specs.Scopes.{Typed, Scope, Variable}
+use Rattle.au_typing.specs.Scopes.{Typed, Scope, Variable}
 use Rattle.au_typing.specs.Faults.{Noting, ◌>>=◌, check, known_or, reason_why, why, unknown, shape}
 use Rattle.au_typing.specs.Faults.{record_wanted}
 

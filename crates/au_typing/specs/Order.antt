@@ -6,7 +6,7 @@ use Rattle.au_syntax.specs.Plain.{PlainExpression}
 use Rattle.au_syntax.specs.Types.{WrittenType}
 use Rattle.au_types.specs.Types.{Meaning, truth}
 use Rattle.au_judged_types.specs.Reasons.{means}
-use Rattle.au_scopes.specs.Scopes.{Scope}
+use Rattle.au_typing.specs.Scopes.{Scope}
 use Rattle.au_typing.specs.Bare.{is_arithmetic, is_bare}
 use Rattle.au_typing.specs.Good.{IsNoting}
 use Rattle.au_typing.specs.Lookups.{written_means}

@@ -14,7 +14,7 @@ use Rattle.au_syntax.specs.Plain.{Bytes, PlainArguments, PlainExpression, PlainE
 use Rattle.au_types.specs.declared.types.Region.TheVariants.{Anonymous}
 use Rattle.au_types.specs.Types as mean
 use Rattle.au_types.specs.Types.{Meaning}
-use Rattle.au_scopes.specs.Scopes.{Scope, Typed}
+use Rattle.au_typing.specs.Scopes.{Scope, Typed}
 use Rattle.au_typing.specs.Bare.{is_arithmetic, is_bare}
 use Rattle.au_typing.specs.Calls.{by_labels, in_order}
 use Rattle.au_typing.specs.Faults.{Noting, ◌>>=◌, Why, why, check, known_or, unknown, not_free, shape}

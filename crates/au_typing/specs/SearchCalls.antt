@@ -9,9 +9,9 @@ use Rattle.au_matching.specs.Bindings.{Bindings, value_of}
 use Rattle.au_matching.specs.Fixed.{fixed}
 use Rattle.au_matching.specs.Matched.{matched}
 use Rattle.au_matching.specs.Substituted.{substituted}
-use Rattle.au_generics.specs.Bounds.{parameters}
+use Rattle.au_judged_types.specs.Bounds.{parameters}
 use Rattle.au_instances.specs.Pairs.{Pair}
-use Rattle.au_scopes.specs.Scopes.{Callable, Scope, Typed}
+use Rattle.au_typing.specs.Scopes.{Callable, Scope, Typed}
 use Rattle.au_typing.specs.Calls.{begun, first_lacking, first_left, first_misfit, types_of_call, wanted_of}
 use Rattle.au_typing.specs.Faults.{Noting, ◌>>=◌, Why, why, known_or, unknown, different, unfixed}
 use Rattle.au_typing.specs.Faults.{no_instance, not_free, shape, labels_wanted, linear_wanted, region_wanted}

@@ -3,10 +3,10 @@
 use crate::closing::{closed_of, noted_of};
 use crate::programs::Program;
 use au_base::{Limit, LimitKind, Memory, Pos};
-use au_closed_parts::{ClosedCase, ClosedField};
 use au_closed_programs::{CloseFault, ClosedFunction, ClosedProgram, TypeRow};
-use au_closed_types::{Closed, closed_text};
+use au_closed_trees::{ClosedCase, ClosedField};
 use au_noting_programs::NotedProgram;
+use au_type_texts::{Closed, closed_text};
 use au_types::Heads;
 use itoa::Buffer;
 use std::alloc::Global;

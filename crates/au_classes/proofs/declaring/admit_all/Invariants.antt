@@ -1,5 +1,5 @@
 use Rattle.au_modules.specs.Slots as slots
-use Rattle.au_classes.specs.Views.{known_said}
+use Rattle.au_classes.specs.ClassViews.{known_said}
 use Rattle.au_classes.proofs.FaultLemmas.{AdmittedSoFar}
 use Rattle.au_classes.proofs.declaring.admit_all.Given as goal
 

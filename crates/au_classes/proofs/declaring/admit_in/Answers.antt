@@ -1,6 +1,6 @@
 use Rattle.std.proofs.Common.{◌++◌, ◌∷◌, [], ap, ◌∙◌}
 use Rattle.au_instances.specs.Rows.{row_said}
-use Rattle.au_classes.specs.Views.{known_rows}
+use Rattle.au_classes.specs.ClassViews.{known_rows}
 use Rattle.au_classes.proofs.KnownLemmas.{known_more}
 use Rattle.au_classes.proofs.declaring.admit_in.Goals as goal
 

@@ -2,15 +2,15 @@ use Rattle.std.proofs.Common.{◌≡◌, ◌++◌, ◌<◌, None, Some, length, 
 use Rattle.std.specs.Prelude.{slice_get}
 use Rattle.std.specs.Option.{option_map}
 use Rattle.std.proofs.lemmas.Result.{IfOk-weaker}
-use Rattle.au_universes.specs.Forming.{StandsOver}
+use Rattle.au_matching.specs.Forming.{StandsOver}
 use Rattle.au_modules.specs.Programs.{ModuleParts}
 use Rattle.au_modules.specs.Slots as slots
 use Rattle.au_names.specs.HeadsOf.{heads_of}
-use Rattle.au_generics.specs.Bounds.{parameters}
-use Rattle.au_class_methods.specs.InstanceViews.{text_said}
+use Rattle.au_judged_types.specs.Bounds.{parameters}
+use Rattle.au_classes.specs.InstanceViews.{text_said}
 use Rattle.au_instances.specs.Rows.{row_said}
 use Rattle.au_classes.specs.Faults as spec
-use Rattle.au_classes.specs.Views.{known_said}
+use Rattle.au_classes.specs.ClassViews.{known_said}
 use Rattle.au_classes.proofs.FaultLemmas.{fault_there, module_there, read_stands, row_there}
 use Rattle.au_classes.proofs.declaring.admit_text.Goals as goal
 

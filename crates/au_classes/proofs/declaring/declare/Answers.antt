@@ -1,7 +1,7 @@
 use Rattle.std.proofs.Common.{◌≡◌, [], ap, ◌∙◌}
 use Rattle.au_modules.specs.Slots as slots
-use Rattle.au_class_methods.specs.InstanceViews.{texts_said}
-use Rattle.au_classes.specs.Views.{known_rows, known_said}
+use Rattle.au_classes.specs.InstanceViews.{texts_said}
+use Rattle.au_classes.specs.ClassViews.{known_rows, known_said}
 use Rattle.au_classes.proofs.FaultLemmas.{none_refused, rows_known}
 use Rattle.au_classes.proofs.GoodLemmas.{instances_good}
 use Rattle.au_classes.proofs.declaring.declare.Goals as goal

@@ -1,7 +1,7 @@
 use Rattle.std.proofs.Common.{◌≡◌, Some, drop, find}
 use Rattle.au_instances.specs.Rows.{rows_said}
 use Rattle.au_classes.specs.Faults.{is_like}
-use Rattle.au_classes.specs.Views.{known_rows}
+use Rattle.au_classes.specs.ClassViews.{known_rows}
 use Rattle.au_classes.proofs.knowing.first_place.Given as goal
 
 -- none so far is one, so those that are left decide

@@ -1,6 +1,6 @@
 use Rattle.std.proofs.Common.{◌≡◌, true, bytes_eq, sym, ◌∙◌}
 use Rattle.au_closing.specs.Bodies.{is_method}
-use Rattle.au_notes.specs.contracts.noted.NotedPhase.TheImpl.{ghosts as noted}
+use Rattle.au_sights.specs.contracts.noted.NotedPhase.TheImpl.{ghosts as noted}
 use Rattle.au_syntax.specs.Views.{method_body}
 use Rattle.au_closed_programs.proofs.FindingLemmas.{found_here, found_nowhere}
 use Rattle.au_closed_programs.proofs.bodies.method_named.Goals as goal

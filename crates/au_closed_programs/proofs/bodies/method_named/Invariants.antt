@@ -1,5 +1,5 @@
 use Rattle.au_closing.specs.Bodies.{is_method}
-use Rattle.au_notes.specs.contracts.noted.NotedPhase.TheImpl.{ghosts as noted}
+use Rattle.au_sights.specs.contracts.noted.NotedPhase.TheImpl.{ghosts as noted}
 use Rattle.au_syntax.specs.Views.{method_body}
 use Rattle.au_closed_programs.proofs.FindingLemmas.{NoneYet}
 use Rattle.au_closed_programs.proofs.bodies.method_named.Given as goal

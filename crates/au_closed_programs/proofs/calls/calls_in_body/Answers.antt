@@ -1,10 +1,10 @@
 use Rattle.std.proofs.Common.{◌≡◌, IfOk, ap, subst}
 use Rattle.au_syntax.specs.Views.{block}
-use Rattle.au_notes.specs.contracts.noted.NotedPhase.TheImpl.{ghosts as noted}
+use Rattle.au_sights.specs.contracts.noted.NotedPhase.TheImpl.{ghosts as noted}
 use Rattle.au_modules.specs.Slots as slots
-use Rattle.au_given_types.specs.Views.{given_said}
+use Rattle.au_type_texts.specs.GivenViews.{given_said}
 use Rattle.au_closed_trees.specs.Calls.{calls_in_block}
-use Rattle.au_closing.specs.Views.{instances_said}
+use Rattle.au_closing.specs.ClosingViews.{instances_said}
 use Rattle.au_closed_programs.proofs.SightLemmas.{leads_same}
 use Rattle.au_closed_programs.proofs.calls.calls_in_body.Goals as goal
 

@@ -1,8 +1,8 @@
 use Rattle.au_syntax.specs.declared.modules.Part.TheVariants.{Body}
-use Rattle.au_tables.specs.declared.spaces.Space.TheVariants.{Callables, Values}
+use Rattle.au_types.specs.declared.spaces.Space.TheVariants.{Callables, Values}
 use Rattle.au_modules.specs.Slots as slots
 use Rattle.au_names.specs.Meanings.{declared_by}
-use Rattle.au_outsides.specs.Written.{seen_in}
+use Rattle.au_typing.specs.Written.{seen_in}
 use Rattle.au_closed_programs.proofs.KnownLemmas.{known_at}
 use Rattle.au_closed_programs.proofs.calls.sight_at.Goals as goal
 

@@ -1,9 +1,9 @@
 use Rattle.std.proofs.Common.{[], ◌∷◌, ap, subst, sym, ◌∙◌}
 use Rattle.au_modules.specs.Slots as slots
 use Rattle.au_noting_programs.specs.Said.{modules_said}
-use Rattle.au_reach.specs.Reached.{Lists}
-use Rattle.au_given_types.specs.Views.{given_said}
-use Rattle.au_entries.specs.Entries.{begins}
+use Rattle.au_graphs.specs.Reached.{Lists}
+use Rattle.au_type_texts.specs.GivenViews.{given_said}
+use Rattle.au_closing.specs.Entries.{begins}
 use Rattle.au_closing.specs.Closes.{calls_of}
 use Rattle.au_closing.specs.Instances.{same_instance}
 use Rattle.au_closed_programs.specs.Views.{program_said}

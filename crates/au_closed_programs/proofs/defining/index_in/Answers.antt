@@ -1,7 +1,7 @@
 use Rattle.std.proofs.Common.{◌≡◌, IfOk, ap, subst, sym, ◌∙◌}
 use Rattle.std.specs.Prelude.{position}
 use Rattle.au_syntax.specs.Views.{declaration}
-use Rattle.au_tables.specs.Tables as tables
+use Rattle.au_types.specs.Tables as tables
 use Rattle.au_promises.specs.Promises.{defines}
 use Rattle.au_promises.specs.Written.{declared_of, sight_in}
 use Rattle.au_closed_programs.proofs.FindingLemmas.{nothing_placed}

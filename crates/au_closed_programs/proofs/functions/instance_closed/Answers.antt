@@ -2,12 +2,12 @@ use Rattle.std.proofs.Common.{◌≡◌, IfOk, Some, ap, subst, sym, ◌∙◌}
 use Rattle.std.specs.Option.{option_map}
 use Rattle.au_modules.specs.Slots as slots
 use Rattle.au_noting_programs.specs.Said.{modules_said}
-use Rattle.au_given_types.specs.Views.{given_said}
+use Rattle.au_type_texts.specs.GivenViews.{given_said}
 use Rattle.au_closed_programs.specs.Defined.{body_said}
 use Rattle.au_closed_programs.proofs.PlaceLemmas.{body_within}
 use Rattle.au_closing.specs.Bodies.{body_of}
 use Rattle.au_closing.specs.Closes as closes
-use Rattle.au_closing.specs.Views.{instance_said}
+use Rattle.au_closing.specs.ClosingViews.{instance_said}
 use Rattle.au_closed_programs.specs.FunctionViews.{function_said}
 use Rattle.au_closed_programs.proofs.KnownLemmas.{some_said}
 use Rattle.au_closed_programs.proofs.functions.instance_closed.Goals as goal

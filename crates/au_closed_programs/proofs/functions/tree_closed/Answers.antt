@@ -1,9 +1,9 @@
 use Rattle.std.proofs.Common.{◌≡◌, IfOk, ap, subst}
 use Rattle.au_syntax.specs.Views.{block}
-use Rattle.au_notes.specs.contracts.noted.NotedPhase.TheImpl.{ghosts as noted}
+use Rattle.au_sights.specs.contracts.noted.NotedPhase.TheImpl.{ghosts as noted}
 use Rattle.au_modules.specs.Slots as slots
 use Rattle.au_noting_programs.specs.Said.{modules_said}
-use Rattle.au_given_types.specs.Views.{given_said}
+use Rattle.au_type_texts.specs.GivenViews.{given_said}
 use Rattle.au_closed_trees.specs.contracts.phase.ClosedTreesPhase.TheImpl.{ghosts as closed}
 use Rattle.au_closed_trees.specs.Renoted.{block_renoted}
 use Rattle.au_closing.specs.Bodies.{value_of}

@@ -1,8 +1,8 @@
 use Rattle.std.proofs.Common.{◌≡◌, map, take}
-use Rattle.au_closed_parts.specs.Parts.{field_under}
-use Rattle.au_closed_parts.specs.Views.{fields_said}
-use Rattle.au_given_types.specs.Views.{given_said}
-use Rattle.au_notes.specs.contracts.noted.NotedPhase.TheImpl.{ghosts as noted}
+use Rattle.au_closed_trees.specs.Parts.{field_under}
+use Rattle.au_closed_trees.specs.Views.{fields_said}
+use Rattle.au_type_texts.specs.GivenViews.{given_said}
+use Rattle.au_sights.specs.contracts.noted.NotedPhase.TheImpl.{ghosts as noted}
 use Rattle.au_syntax.specs.Views.{labelled}
 use Rattle.au_closed_programs.proofs.headers.closed_fields.Given as goal
 

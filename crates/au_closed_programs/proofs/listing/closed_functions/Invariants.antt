@@ -1,6 +1,6 @@
 use Rattle.std.proofs.Common.{◌≡◌, Some, map, take}
 use Rattle.au_closing.specs.Closes as closes
-use Rattle.au_closing.specs.Views.{instances_said}
+use Rattle.au_closing.specs.ClosingViews.{instances_said}
 use Rattle.au_modules.specs.Slots as slots
 use Rattle.au_noting_programs.specs.Said.{modules_said}
 use Rattle.au_closed_programs.specs.FunctionViews.{functions_said}

@@ -1,5 +1,5 @@
 use Rattle.std.proofs.Common.{◌≡◌, map, take}
-use Rattle.au_closed_types.specs.Views.{closed_meaning}
+use Rattle.au_type_texts.specs.Views.{closed_meaning}
 use Rattle.au_modules.specs.Slots as slots
 use Rattle.au_closed_programs.specs.Programs.{row_of}
 use Rattle.au_closed_programs.specs.Views.{rows_said}

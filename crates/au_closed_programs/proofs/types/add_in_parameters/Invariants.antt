@@ -1,7 +1,7 @@
 use Rattle.std.proofs.Common.{◌≡◌, ◌++◌, drop, true, map}
-use Rattle.au_closed_types.specs.Views.{closed_meaning}
-use Rattle.au_closed_parts.specs.Occurring.{counts_in, occurring_in_fields}
-use Rattle.au_closed_parts.specs.Views.{fields_said}
+use Rattle.au_type_texts.specs.Views.{closed_meaning}
+use Rattle.au_closed_trees.specs.Occurring.{counts_in, occurring_in_fields}
+use Rattle.au_closed_trees.specs.Views.{fields_said}
 use Rattle.au_closed_programs.proofs.types.add_in_parameters.Given as goal
 
 -- what is found so far, before what is left

@@ -1,11 +1,11 @@
 use Rattle.std.proofs.Common.{IsPermutation, ap, map, subst, ◌∙◌}
 use Rattle.au_modules.specs.Slots as slots
-use Rattle.au_closed_types.specs.Same.{same}
-use Rattle.au_closed_types.specs.Views.{closed_meaning}
-use Rattle.au_reach.specs.Finding.{found_in}
-use Rattle.au_reach.specs.Reached.{Lists}
+use Rattle.au_type_texts.specs.Same.{same}
+use Rattle.au_type_texts.specs.Views.{closed_meaning}
+use Rattle.au_graphs.specs.Finding.{found_in}
+use Rattle.au_graphs.specs.Reached.{Lists}
 use Rattle.au_closed_programs.specs.FunctionViews.{functions_said}
-use Rattle.au_closed_parts.specs.Occurring.{follows}
+use Rattle.au_closed_trees.specs.Occurring.{follows}
 use Rattle.au_closed_programs.specs.Programs.{row_of, types_in_functions}
 use Rattle.au_closed_programs.specs.Views.{rows_said}
 use Rattle.au_closed_programs.proofs.types.closed_types.Goals as goal

@@ -1,5 +1,5 @@
 use Rattle.std.proofs.Common.{◌≡◌, ◌++◌, drop, map}
-use Rattle.au_closed_types.specs.Views.{closed_meaning}
+use Rattle.au_type_texts.specs.Views.{closed_meaning}
 use Rattle.au_closed_programs.specs.FunctionViews.{functions_said}
 use Rattle.au_closed_programs.specs.Programs as spec
 use Rattle.au_closed_programs.proofs.types.types_in_functions.Given as goal

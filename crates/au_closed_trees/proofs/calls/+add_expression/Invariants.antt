@@ -1,5 +1,5 @@
 use Rattle.std.proofs.Common.{◌≡◌, ◌++◌, map, take}
-use Rattle.au_notes.specs.contracts.noted.NotedPhase.TheImpl.{ghosts as noted}
+use Rattle.au_sights.specs.contracts.noted.NotedPhase.TheImpl.{ghosts as noted}
 use Rattle.au_syntax.specs.Views.{argument_all, expression_all}
 use Rattle.au_closed_trees.specs.Calls.{calls_in_all, calls_in_arguments}
 use Rattle.au_closed_trees.proofs.calls.+add_expression.Given as goal

@@ -1,7 +1,7 @@
 use Rattle.std.proofs.Common.{◌++◌, map, sym, arith}
 use Rattle.std.proofs.lemmas.Grind.{common_steps}
 use Rattle.std.proofs.lemmas.List.{append-nil}
-use Rattle.au_notes.specs.contracts.noted.NotedPhase.TheImpl.{ghosts as noted}
+use Rattle.au_sights.specs.contracts.noted.NotedPhase.TheImpl.{ghosts as noted}
 use Rattle.au_syntax.specs.Views.{arm_all, block, branch_all, expression, statement, statement_all}
 use Rattle.au_closed_trees.specs.Calls.{calls_in, calls_in_arms, calls_in_block, calls_in_branches, calls_in_statement}
 use Rattle.au_closed_trees.proofs.CallLemmas as lemmas

@@ -1,5 +1,5 @@
 use Rattle.std.proofs.Common.{◌≡◌, ◌++◌, map, take}
-use Rattle.au_notes.specs.contracts.noted.NotedPhase.TheImpl.{ghosts as noted}
+use Rattle.au_sights.specs.contracts.noted.NotedPhase.TheImpl.{ghosts as noted}
 use Rattle.au_syntax.specs.Views.{arm_all, branch_all, statement_all}
 use Rattle.au_closed_trees.specs.Calls.{calls_in_arms, calls_in_block, calls_in_branches}
 use Rattle.au_closed_trees.proofs.calls.+add_statement.Given as goal

@@ -1,5 +1,5 @@
 use Rattle.std.proofs.Common.{arith}
-use Rattle.au_notes.specs.contracts.noted.NotedPhase.TheImpl.{ghosts as noted}
+use Rattle.au_sights.specs.contracts.noted.NotedPhase.TheImpl.{ghosts as noted}
 use Rattle.au_syntax.specs.declared.expressions.Argument.{size-Argument}
 use Rattle.au_syntax.specs.Views.{argument_all, expression, expression_all}
 use Rattle.au_syntax.proofs.ExpressionLemmas as says

@@ -1,5 +1,5 @@
 use Rattle.std.proofs.Common.{ap, ◌∙◌, arith}
-use Rattle.au_notes.specs.contracts.noted.NotedPhase.TheImpl.{ghosts as noted}
+use Rattle.au_sights.specs.contracts.noted.NotedPhase.TheImpl.{ghosts as noted}
 use Rattle.au_syntax.specs.declared.statements.Arm.{size-Arm}
 use Rattle.au_syntax.specs.declared.statements.Block.{size-Block, size_is-Block}
 use Rattle.au_syntax.specs.declared.statements.Stmt.{size-Stmt}

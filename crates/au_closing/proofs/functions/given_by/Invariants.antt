@@ -1,10 +1,10 @@
 use Rattle.std.proofs.Common.{◌≡◌, [], ◌++◌, drop}
 use Rattle.std.specs.Prelude.{unwrap_or}
-use Rattle.au_generics.specs.Meanings.{written_params}
+use Rattle.au_judged_types.specs.Meanings.{written_params}
 use Rattle.au_promises.specs.Written.{generics_of}
-use Rattle.au_given_types.specs.Given as given_types
-use Rattle.au_given_types.specs.Views.{given_said}
-use Rattle.au_closed_parts.specs.TypeNames.{type_names}
+use Rattle.au_type_texts.specs.Given as given_types
+use Rattle.au_type_texts.specs.GivenViews.{given_said}
+use Rattle.au_closed_trees.specs.TypeNames.{type_names}
 use Rattle.au_closing.proofs.functions.given_by.Given as goal
 
 -- what is given so far, before what is left

@@ -4,13 +4,13 @@ use Rattle.std.proofs.lemmas.Result.{IfOk-weaker}
 use Rattle.au_syntax.specs.contracts.parsed.ParsedPhase.TheImpl.{ghosts as parsed}
 use Rattle.au_syntax.specs.Plain.{plain_variant}
 use Rattle.au_syntax.specs.Views.{variant}
-use Rattle.au_notes.specs.Views.{note as note_said}
-use Rattle.au_outsides.specs.Called.{is_case}
+use Rattle.au_sights.specs.Views.{note as note_said}
+use Rattle.au_typing.specs.Called.{is_case}
 use Rattle.au_sights.specs.Steps.{variants_of}
-use Rattle.au_given_types.specs.Views.{given_said}
+use Rattle.au_type_texts.specs.GivenViews.{given_said}
 use Rattle.au_closing.specs.Leading as spec
-use Rattle.au_closing.specs.Views.{lead_said}
-use Rattle.au_closing.proofs.PlaceLemmas.{place_seen}
+use Rattle.au_closing.specs.ClosingViews.{lead_said}
+use Rattle.au_closing.proofs.ClosingPlaceLemmas.{place_seen}
 use Rattle.au_closing.proofs.leading.case_leads.Goals as goal
 
 pub returns-in-None : goal.returns-in-None

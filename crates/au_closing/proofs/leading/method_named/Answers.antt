@@ -1,7 +1,7 @@
 use Rattle.au_syntax.specs.contracts.parsed.ParsedPhase.TheImpl.{ghosts as parsed}
 use Rattle.au_syntax.specs.Plain.{plain_header}
 use Rattle.au_syntax.specs.Views.{header}
-use Rattle.au_outsides.specs.Called.{is_method}
+use Rattle.au_typing.specs.Called.{is_method}
 use Rattle.au_sights.proofs.FollowedLemmas.{found_nowhere}
 use Rattle.au_closing.proofs.leading.method_named.Goals as goal
 

@@ -1,8 +1,8 @@
 use Rattle.std.proofs.Common.{◌≡◌, ◌++◌, drop, map}
 use Rattle.au_types.specs.Views.{argument_all}
-use Rattle.au_closed_types.specs.Views.{closed_meaning}
+use Rattle.au_type_texts.specs.Views.{closed_meaning}
 use Rattle.au_instances.specs.ClosedInstances.{types_in}
-use Rattle.au_given_types.specs.Views.{given_said}
+use Rattle.au_type_texts.specs.GivenViews.{given_said}
 use Rattle.au_closing.specs.Instances as spec
 use Rattle.au_closing.proofs.rows.paired.Given as goal
 

@@ -1,8 +1,8 @@
 use Rattle.std.proofs.Common.{drop, ◌+◌, ◌++◌, ◌∷◌, [], sym, ◌∙◌}
-use Rattle.au_given_types.specs.Given.{given_for}
-use Rattle.au_given_types.specs.Views.{given_said}
-use Rattle.au_closed_parts.specs.TypeNames.{type_names}
-use Rattle.au_closed_parts.proofs.PutLemmas.{at_get, passed, put}
+use Rattle.au_type_texts.specs.Given.{given_for}
+use Rattle.au_type_texts.specs.GivenViews.{given_said}
+use Rattle.au_closed_trees.specs.TypeNames.{type_names}
+use Rattle.au_closed_trees.proofs.PutLemmas.{at_get, passed, put}
 use Rattle.au_closing.specs.Instances as spec
 use Rattle.au_closing.proofs.GivenLemmas.{picked_region, picked_type}
 use Rattle.au_closing.proofs.rows.picked.Goals as goal

@@ -1,6 +1,6 @@
 use Rattle.std.proofs.Common.{◌≡◌, ◌++◌, drop}
-use Rattle.au_given_types.specs.Views.{given_said}
-use Rattle.au_closed_parts.specs.TypeNames.{type_names}
+use Rattle.au_type_texts.specs.GivenViews.{given_said}
+use Rattle.au_closed_trees.specs.TypeNames.{type_names}
 use Rattle.au_closing.specs.Instances as spec
 use Rattle.au_closing.proofs.rows.picked.Given as goal
 

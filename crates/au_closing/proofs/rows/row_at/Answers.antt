@@ -1,6 +1,6 @@
 use Rattle.std.proofs.Common.{None, ap, refl, sym, ◌∙◌}
 use Rattle.std.specs.Option.{option_copied, option_map}
-use Rattle.au_closed_types.specs.Views.{closed_meaning}
+use Rattle.au_type_texts.specs.Views.{closed_meaning}
 use Rattle.au_instances.specs.Rows.{row_said}
 use Rattle.au_instances.specs.Tables.{row_with}
 use Rattle.au_closing.proofs.RowLemmas.{no_row, one_row}

@@ -1,7 +1,7 @@
 use Rattle.std.proofs.Common.{ap, map, ◌∙◌, sym}
-use Rattle.au_closed_types.specs.Views.{closed_meaning}
-use Rattle.au_closed_types.proofs.ClosedLemmas.{named_means}
-use Rattle.au_closed_parts.proofs.GivenLemmas.{listed_meanings}
+use Rattle.au_type_texts.specs.Views.{closed_meaning}
+use Rattle.au_type_texts.proofs.ClosedLemmas.{named_means}
+use Rattle.au_closed_trees.proofs.GivenLemmas.{listed_meanings}
 use Rattle.au_closing.specs.Instances as spec
 use Rattle.au_closing.proofs.rows.types_within.Goals as goal
 

@@ -1,7 +1,7 @@
 use Rattle.std.proofs.Common.{ap, sym, ◌∙◌, Some}
 use Rattle.std.specs.Option.{option_map}
 use Rattle.au_shipped.specs.Calls as calls
-use Rattle.au_closed_types.specs.Views.{closed_meaning}
+use Rattle.au_type_texts.specs.Views.{closed_meaning}
 use Rattle.au_modules.specs.Slots as slots
 use Rattle.au_closing.specs.Leading as spec
 use Rattle.au_closing.proofs.shipped.shipped_method.Goals as goal

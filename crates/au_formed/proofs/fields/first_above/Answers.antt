@@ -1,13 +1,13 @@
 use Rattle.std.proofs.Common.{ap, ◌∙◌}
 use Rattle.au_formed.specs.Fields.{above_place, first_above}
 use Rattle.au_judged_types.specs.Views.{judged_in}
-use Rattle.au_mentions.specs.Said.{fields_said}
+use Rattle.au_promises.specs.Said.{fields_said}
 use Rattle.au_imports.specs.Choices.{where_so}
 use Rattle.au_imports.proofs.DeclaringLemmas.{first_more, first_none, found_here, not_here, nowhere}
 use Rattle.au_syntax.specs.contracts.parsed.ParsedPhase.TheImpl.{ghosts as parsed}
 use Rattle.au_syntax.specs.Plain.{plain_labelled}
 use Rattle.au_syntax.specs.Views.{labelled}
-use Rattle.au_universes.specs.Universes.{universe_of}
+use Rattle.au_matching.specs.Universes.{universe_of}
 use Rattle.au_formed.proofs.fields.first_above.Goals as goal
 
 pub returns-then-branch : goal.returns-then-branch

@@ -1,8 +1,8 @@
 use Rattle.std.proofs.Common.{◌≡◌, drop}
 use Rattle.au_formed.specs.Fields.{first_above}
 use Rattle.au_judged_types.specs.Views.{judged_in}
-use Rattle.au_mentions.specs.Said.{fields_said}
-use Rattle.au_universes.specs.Universes.{universe_of}
+use Rattle.au_promises.specs.Said.{fields_said}
+use Rattle.au_matching.specs.Universes.{universe_of}
 use Rattle.au_formed.proofs.fields.first_above.Given as goal
 
 -- what is first above in what is left is so in all

@@ -1,9 +1,9 @@
 use Rattle.std.proofs.Common.{ap, ◌∙◌}
 use Rattle.au_formed.specs.Fields.{case_above, cases_above}
 use Rattle.au_judged_types.specs.Views.{judged_in}
-use Rattle.au_mentions.specs.Said.{case_said, cases_said}
+use Rattle.au_promises.specs.Said.{case_said, cases_said}
 use Rattle.au_imports.proofs.DeclaringLemmas.{first_more, first_none, found_here, not_here, nowhere}
-use Rattle.au_universes.specs.Universes.{universe_of}
+use Rattle.au_matching.specs.Universes.{universe_of}
 use Rattle.au_formed.proofs.fields.first_in_cases.Goals as goal
 
 pub returns-in-Some : goal.returns-in-Some

@@ -1,8 +1,8 @@
 use Rattle.std.proofs.Common.{◌≡◌, drop}
 use Rattle.au_formed.specs.Fields.{cases_above}
 use Rattle.au_judged_types.specs.Views.{judged_in}
-use Rattle.au_mentions.specs.Said.{cases_said}
-use Rattle.au_universes.specs.Universes.{universe_of}
+use Rattle.au_promises.specs.Said.{cases_said}
+use Rattle.au_matching.specs.Universes.{universe_of}
 use Rattle.au_formed.proofs.fields.first_in_cases.Given as goal
 
 -- what is first above in what is left is so in all

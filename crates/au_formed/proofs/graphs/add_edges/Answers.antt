@@ -1,7 +1,7 @@
 use Rattle.std.proofs.Common.{◌≡◌, ◌++◌, length, get_or, set, sym, ap, ◌∙◌, arith}
 use Rattle.std.specs.Prelude.{option_to_list}
 use Rattle.std.proofs.lemmas.List.{get_or_default, length-set}
-use Rattle.au_cycles.specs.Cycles.{successors}
+use Rattle.au_graphs.specs.Cycles.{successors}
 use Rattle.au_types.specs.declared.types.DeclAt.{DeclAt}
 use Rattle.au_formed.specs.Graphs.{index_at}
 use Rattle.au_formed.proofs.DeclarerLemmas.{edges_more}

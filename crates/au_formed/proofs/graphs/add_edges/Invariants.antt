@@ -1,6 +1,6 @@
 use Rattle.std.proofs.Common.{◌≡◌, ◌++◌, ◌<◌, length, set, take}
 use Rattle.std.specs.List.{filter_map}
-use Rattle.au_cycles.specs.Cycles.{successors}
+use Rattle.au_graphs.specs.Cycles.{successors}
 use Rattle.au_formed.specs.Graphs.{index_at}
 use Rattle.au_formed.proofs.graphs.add_edges.Given as goal
 

@@ -1,6 +1,6 @@
 use Rattle.std.proofs.Common.{◌++◌, set, ap, ◌∙◌}
 use Rattle.std.specs.List.{filter_map}
-use Rattle.au_cycles.specs.Cycles.{successors}
+use Rattle.au_graphs.specs.Cycles.{successors}
 use Rattle.au_formed.specs.Graphs.{index_at}
 use Rattle.au_formed.proofs.DeclarerLemmas.{graph_more}
 use Rattle.au_formed.proofs.graphs.graph_of.Goals as goal

@@ -1,6 +1,6 @@
 use Rattle.std.proofs.Common.{◌≡◌, ℕ, ◌∙◌, subst, IfOk, None, Some}
 use Rattle.std.specs.Prelude.{◌↔◌}
-use Rattle.au_cycles.specs.Cycles.{HasNoCycle, IsFirstOnCycle}
+use Rattle.au_graphs.specs.Cycles.{HasNoCycle, IsFirstOnCycle}
 use Rattle.au_formed.specs.Graphs.{index_at}
 use Rattle.au_formed.proofs.DeclarerLemmas.{graph_same}
 use Rattle.au_formed.proofs.infinite.first_index.Goals as goal

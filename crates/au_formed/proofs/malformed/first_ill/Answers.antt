@@ -5,7 +5,7 @@ use Rattle.au_formed.specs.Writings.{place_of}
 use Rattle.au_judged_types.specs.Views.{judged_in}
 use Rattle.au_imports.specs.Choices.{where_so}
 use Rattle.au_imports.proofs.DeclaringLemmas.{first_more, first_none, found_here, not_here, nowhere}
-use Rattle.au_written_types.specs.Views.{sense_in}
+use Rattle.au_types.specs.WrittenViews.{sense_in}
 use Rattle.au_formed.proofs.malformed.first_ill.Goals as goal
 
 pub returns-then-branch : goal.returns-then-branch

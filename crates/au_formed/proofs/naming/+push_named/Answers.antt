@@ -3,7 +3,7 @@ use Rattle.std.proofs.lemmas.List.{append-nil}
 use Rattle.au_syntax.specs.Views.{written, written_all}
 use Rattle.au_formed.specs.Naming.{all_named, holder_in, types_named}
 use Rattle.au_formed.proofs.NamedLemmas.{none_named, more_named}
-use Rattle.au_written_types.specs.Views.{sense_in}
+use Rattle.au_types.specs.WrittenViews.{sense_in}
 use Rattle.au_formed.proofs.naming.+push_named.Goals as goal
 
 pub push_all-loop-one-init : goal.push_all-loop-one-init

@@ -1,7 +1,7 @@
 use Rattle.std.proofs.Common.{◌≡◌, ◌++◌, take}
 use Rattle.au_syntax.specs.Views.{written_all}
 use Rattle.au_formed.specs.Naming.{all_named, holder_in}
-use Rattle.au_written_types.specs.Views.{sense_in}
+use Rattle.au_types.specs.WrittenViews.{sense_in}
 use Rattle.au_formed.proofs.naming.+push_named.Given as goal
 
 -- what the types name that are visited

@@ -1,8 +1,8 @@
 use Rattle.std.proofs.Common.{◌≡◌, ◌++◌, take}
 use Rattle.std.specs.List.{flat_map}
 use Rattle.au_formed.specs.Naming.{case_names, holder_in}
-use Rattle.au_mentions.specs.Said.{cases_said}
-use Rattle.au_written_types.specs.Views.{sense_in}
+use Rattle.au_promises.specs.Said.{cases_said}
+use Rattle.au_types.specs.WrittenViews.{sense_in}
 use Rattle.au_formed.proofs.naming.push_cases.Given as goal
 
 -- what the cases name that are visited

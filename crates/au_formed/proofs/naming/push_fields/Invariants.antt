@@ -1,7 +1,7 @@
 use Rattle.std.proofs.Common.{◌≡◌, ◌++◌, take}
 use Rattle.au_formed.specs.Naming.{fields_name, holder_in}
-use Rattle.au_mentions.specs.Said.{fields_said}
-use Rattle.au_written_types.specs.Views.{sense_in}
+use Rattle.au_promises.specs.Said.{fields_said}
+use Rattle.au_types.specs.WrittenViews.{sense_in}
 use Rattle.au_formed.proofs.naming.push_fields.Given as goal
 
 -- what the fields name that are visited

@@ -1,7 +1,7 @@
 use Rattle.std.proofs.Common.{◌≡◌, ◌++◌, take}
 use Rattle.au_formed.specs.Said.{writings_said}
 use Rattle.au_formed.specs.Writings.{class_writings}
-use Rattle.au_mentions.specs.Said.{names_said}
+use Rattle.au_promises.specs.Said.{names_said}
 use Rattle.au_formed.proofs.pushing.push_classes.Given as goal
 
 -- what the items say that are visited

@@ -2,7 +2,7 @@ use Rattle.std.proofs.Common.{◌≡◌, ◌++◌, take}
 use Rattle.std.specs.List.{flat_map}
 use Rattle.au_formed.specs.Said.{writings_said}
 use Rattle.au_formed.specs.Writings.{generic_writings}
-use Rattle.au_mentions.specs.Said.{generics_said}
+use Rattle.au_promises.specs.Said.{generics_said}
 use Rattle.au_formed.proofs.pushing.push_generics.Given as goal
 
 -- what the items say that are visited

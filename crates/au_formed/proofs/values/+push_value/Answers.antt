@@ -5,7 +5,7 @@ use Rattle.au_syntax.specs.declared.expressions.Argument.{size-Argument}
 use Rattle.au_syntax.proofs.DepthLemmas.{item_falls}
 use Rattle.au_formed.specs.Writings.{named_values_writings, value_writings, values_writings}
 use Rattle.au_formed.specs.Said.{writings_said}
-use Rattle.au_mentions.specs.Said.{arguments_said, expression_said, expressions_said}
+use Rattle.au_promises.specs.Said.{arguments_said, expression_said, expressions_said}
 use Rattle.au_formed.proofs.ValueLemmas.{number_values, negative_values, text_values, bool_values, nil_values}
 use Rattle.au_formed.proofs.ValueLemmas.{path_values, arrow_values, borrow_values, borrow_part_values}
 use Rattle.au_formed.proofs.ValueLemmas.{call_values, named_call_values, parenthesized_values}

@@ -1,7 +1,7 @@
 use Rattle.std.proofs.Common.{◌≡◌, ◌++◌, take}
 use Rattle.au_formed.specs.Said.{writings_said}
 use Rattle.au_formed.specs.Writings.{named_values_writings, values_writings}
-use Rattle.au_mentions.specs.Said.{arguments_said, expressions_said}
+use Rattle.au_promises.specs.Said.{arguments_said, expressions_said}
 use Rattle.au_formed.proofs.values.+push_value.Given as goal
 
 -- what the values say that are visited

@@ -1,6 +1,6 @@
 use Rattle.std.proofs.Common.{◌≡◌, ap, ◌∙◌}
-use Rattle.au_tables.specs.declared.spaces.Space.TheVariants.{Values, Callables, Types}
-use Rattle.au_tables.specs.Tables.{firsts}
+use Rattle.au_types.specs.declared.spaces.Space.TheVariants.{Values, Callables, Types}
+use Rattle.au_types.specs.Tables.{firsts}
 use Rattle.au_modules.specs.Seen.{part_tree, tree_seen}
 use Rattle.au_modules.specs.Slots as slots
 use Rattle.au_names.specs.Exporting.{imports_seen}

@@ -1,6 +1,6 @@
 use Rattle.std.proofs.Common.{ap, ◌∙◌}
-use Rattle.au_tables.specs.Tables.{with_all}
-use Rattle.au_tables.proofs.TableLemmas.{with_all-firsts}
+use Rattle.au_types.specs.Tables.{with_all}
+use Rattle.au_types.proofs.TableLemmas.{with_all-firsts}
 use Rattle.au_modules.specs.Seen.{tree_seen}
 use Rattle.au_modules.specs.Slots as slots
 use Rattle.au_names.specs.Exporting.{imports_seen}

@@ -1,6 +1,6 @@
 use Rattle.std.proofs.Common.{ap, ◌∙◌}
-use Rattle.au_tables.specs.Tables.{find}
-use Rattle.au_tables.proofs.TableLemmas.{find-firsts}
+use Rattle.au_types.specs.Tables.{find}
+use Rattle.au_types.proofs.TableLemmas.{find-firsts}
 use Rattle.au_names.specs.Owned.{target}
 use Rattle.au_imports.specs.Clashing.{brought_to, is_other}
 use Rattle.au_imports.specs.Importers.{program_of}

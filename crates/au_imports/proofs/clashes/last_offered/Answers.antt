@@ -1,5 +1,5 @@
 use Rattle.std.proofs.Common.{ap, ◌∙◌}
-use Rattle.au_tables.specs.Tables.{find}
+use Rattle.au_types.specs.Tables.{find}
 use Rattle.au_imports.specs.Importers.{program_of}
 use Rattle.au_imports.proofs.OfferLemmas.{last_found}
 use Rattle.au_imports.proofs.clashes.last_offered.Goals as goal

@@ -1,6 +1,6 @@
 use Rattle.std.proofs.Common.{◌≡◌, Some, refl, ap, sym, ◌∙◌, subst}
 use Rattle.std.specs.Prelude.{IfOk}
-use Rattle.au_tables.specs.declared.spaces.Space.TheVariants.{Types}
+use Rattle.au_types.specs.declared.spaces.Space.TheVariants.{Types}
 use Rattle.au_modules.specs.Seen.{interface_tree}
 use Rattle.au_names.proofs.AlongLemmas.{along_file}
 use Rattle.au_imports.specs.Choices.{first_of}

@@ -11,7 +11,7 @@ use Rattle.au_syntax.specs.declared.declarations.Universe.{Universe}
 use Rattle.au_syntax.specs.declared.names.Ident.{Ident}
 use Rattle.au_syntax.specs.declared.parsed.Parsed.{Parsed}
 use Rattle.au_syntax.specs.Views.{declaration}
-use Rattle.au_tables.specs.DeclaredNames.{given}
+use Rattle.au_types.specs.DeclaredNames.{given}
 use Rattle.au_names.specs.Importing.{members}
 use Rattle.au_names.specs.Owned.{targets}
 use Rattle.au_imports.specs.Choices.{first_of}

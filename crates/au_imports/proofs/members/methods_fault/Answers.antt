@@ -4,7 +4,7 @@ use Rattle.au_syntax.specs.declared.declarations.Signature.{Signature}
 use Rattle.au_syntax.specs.declared.parsed.Parsed.{Parsed}
 use Rattle.au_syntax.specs.Plain.{Bytes, plain_header}
 use Rattle.au_syntax.specs.Views.{header}
-use Rattle.au_tables.specs.DeclaredNames.{given}
+use Rattle.au_types.specs.DeclaredNames.{given}
 use Rattle.au_names.specs.declared.targets.Target.{Target}
 use Rattle.au_names.specs.Owned.{target, targets}
 use Rattle.au_imports.specs.Choices.{first_of}

@@ -1,5 +1,5 @@
 use Rattle.std.proofs.Common.{◌≡◌, drop}
-use Rattle.au_tables.specs.DeclaredNames.{given}
+use Rattle.au_types.specs.DeclaredNames.{given}
 use Rattle.au_modules.specs.Programs.{ModuleParts}
 use Rattle.au_names.specs.Owned.{targets}
 use Rattle.au_imports.specs.Choices.{first_of}

@@ -2,7 +2,7 @@ use Rattle.std.proofs.Common.{◌-◌, [], arith, rules}
 use Rattle.au_syntax.specs.contracts.parsed.ParsedPhase.TheImpl.{ghosts as parsed}
 use Rattle.au_syntax.specs.Plain.{plain_declaration}
 use Rattle.au_syntax.specs.Views.{declaration}
-use Rattle.au_tables.specs.Tables.{with_all}
+use Rattle.au_types.specs.Tables.{with_all}
 use Rattle.au_imports.proofs.OfferLemmas.{back_start, back_step, back_end, names_back}
 use Rattle.au_imports.proofs.offers.last_table.Goals as goal
 

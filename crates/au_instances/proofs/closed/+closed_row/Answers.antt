@@ -7,9 +7,9 @@ use Rattle.au_types.specs.declared.types.DeclAt.{DeclAt}
 use Rattle.au_types.specs.declared.types.Ty.{Ty}
 use Rattle.au_types.specs.Types.{Meaning}
 use Rattle.au_types.specs.Views.{argument_all, meaning}
-use Rattle.au_closed_types.specs.declared.types.Closed.{Closed}
-use Rattle.au_closed_types.specs.Views.{closed_meaning, closed_meanings}
-use Rattle.au_generics.specs.Bounds.{Bounded}
+use Rattle.au_type_texts.specs.declared.types.Closed.{Closed}
+use Rattle.au_type_texts.specs.Views.{closed_meaning, closed_meanings}
+use Rattle.au_judged_types.specs.Bounds.{Bounded}
 use Rattle.au_instances.specs.ClosedInstances.{all_closed_stand, closed_stands, part_of, parts_in, parts_of, types_in}
 use Rattle.au_instances.specs.Forms.{type_name}
 use Rattle.au_instances.specs.Rows.{Row}

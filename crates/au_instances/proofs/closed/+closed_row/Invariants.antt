@@ -1,7 +1,7 @@
 use Rattle.std.proofs.Common.{◌≡◌, drop, length}
 use Rattle.std.specs.List.{list_all}
 use Rattle.au_types.specs.Views.{argument_all}
-use Rattle.au_closed_types.specs.Views.{closed_meaning, closed_meanings}
+use Rattle.au_type_texts.specs.Views.{closed_meaning, closed_meanings}
 use Rattle.au_instances.specs.ClosedInstances.{all_closed_stand, has_instance, parts_of, types_in}
 use Rattle.au_instances.proofs.closed.+closed_row.Given as goal
 

@@ -6,11 +6,11 @@ use Rattle.au_types.specs.declared.types.Ty.{Ty}
 use Rattle.au_types.specs.Types.{Meaning}
 use Rattle.au_types.specs.Views.{argument_all, meaning}
 use Rattle.au_types.proofs.TypeLemmas.{reads_means, writes_means}
-use Rattle.au_closed_types.specs.declared.types.Closed.{Closed}
-use Rattle.au_closed_types.specs.Closing.{closed}
-use Rattle.au_closed_types.specs.Types.{reads, writes}
-use Rattle.au_closed_types.specs.Views.{closed_meaning, closed_meanings}
-use Rattle.au_closed_types.proofs.ClosedLemmas.{named_means}
+use Rattle.au_type_texts.specs.declared.types.Closed.{Closed}
+use Rattle.au_type_texts.specs.Closing.{closed}
+use Rattle.au_type_texts.specs.Types.{reads, writes}
+use Rattle.au_type_texts.specs.Views.{closed_meaning, closed_meanings}
+use Rattle.au_type_texts.proofs.ClosedLemmas.{named_means}
 use Rattle.au_instances.specs.ClosedInstances.{all_close_to, closes_to, types_in}
 use Rattle.au_instances.proofs.ClosesLemmas.{named_closes, not_reads, not_writes, reads_close, writes_close}
 use Rattle.au_instances.proofs.WalkLemmas.{found_within, zip_end, zip_step, zip_unequal}

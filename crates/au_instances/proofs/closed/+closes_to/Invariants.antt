@@ -1,6 +1,6 @@
 use Rattle.std.proofs.Common.{◌≡◌, drop, length}
 use Rattle.au_types.specs.Views.{argument_all}
-use Rattle.au_closed_types.specs.Views.{closed_meanings}
+use Rattle.au_type_texts.specs.Views.{closed_meanings}
 use Rattle.au_instances.specs.ClosedInstances.{all_close_to, types_in}
 use Rattle.au_instances.proofs.closed.+closes_to.Given as goal
 

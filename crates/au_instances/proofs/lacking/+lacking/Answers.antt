@@ -6,7 +6,7 @@ use Rattle.std.specs.Borrow.{Bor}
 use Rattle.au_types.specs.declared.parameters.Parameter.{Parameter}
 use Rattle.au_types.specs.declared.types.DeclAt.{DeclAt}
 use Rattle.au_types.specs.Views.{argument, argument_all, meaning}
-use Rattle.au_generics.specs.Bounds.{classes_of, parameters}
+use Rattle.au_judged_types.specs.Bounds.{classes_of, parameters}
 use Rattle.au_instances.specs.Pairs.{named_with, wanted}
 use Rattle.au_instances.specs.Rows.{row_said}
 use Rattle.au_instances.proofs.LackingLemmas.{class_left, constraints_by, led_all, none_there, parameter_left, place_left}

@@ -1,5 +1,5 @@
 use Rattle.std.proofs.Common.{refl}
-use Rattle.au_universes.specs.Universes.{argument_universe, argument_universes, judged, universe_of}
+use Rattle.au_matching.specs.Universes.{argument_universe, argument_universes, judged, universe_of}
 use Rattle.au_instances.proofs.laws.examples_hold.Goals as goal
 
 pub returns-clause-rows : goal.returns-clause-rows

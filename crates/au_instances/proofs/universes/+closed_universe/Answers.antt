@@ -1,8 +1,8 @@
 use Rattle.std.proofs.Common.{◌+◌, drop, ap, sym, ◌∙◌}
-use Rattle.au_universes.specs.Joined.{joined}
-use Rattle.au_universes.specs.Universes.{judged}
-use Rattle.au_universes.proofs.UniverseLemmas.{joined_end, joined_joined, judged_empty, judged_first}
-use Rattle.au_closed_types.specs.Views.{closed_meaning, closed_meanings}
+use Rattle.au_matching.specs.Joined.{joined}
+use Rattle.au_matching.specs.Universes.{judged}
+use Rattle.au_matching.proofs.UniverseLemmas.{joined_end, joined_joined, judged_empty, judged_first}
+use Rattle.au_type_texts.specs.Views.{closed_meaning, closed_meanings}
 use Rattle.au_instances.specs.ClosedInstances.{closed_universe, closed_universes}
 use Rattle.au_instances.proofs.WalkLemmas.{item_left}
 use Rattle.std.proofs.lemmas.List.{drop_all}

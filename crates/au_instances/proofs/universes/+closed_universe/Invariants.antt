@@ -1,7 +1,7 @@
 use Rattle.std.proofs.Common.{◌≡◌, drop}
-use Rattle.au_universes.specs.Joined.{joined}
-use Rattle.au_universes.specs.Universes.{judged}
-use Rattle.au_closed_types.specs.Views.{closed_meanings}
+use Rattle.au_matching.specs.Joined.{joined}
+use Rattle.au_matching.specs.Universes.{judged}
+use Rattle.au_type_texts.specs.Views.{closed_meanings}
 use Rattle.au_instances.specs.ClosedInstances.{closed_universes}
 use Rattle.au_instances.proofs.universes.+closed_universe.Given as goal
 

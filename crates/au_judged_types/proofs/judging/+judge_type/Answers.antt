@@ -2,7 +2,7 @@ use Rattle.std.proofs.Common.{◌≡◌, IfOk, List, map, drop, ◌+◌, ap, sub
 use Rattle.au_types.specs.declared.types.Arg.{Arg}
 use Rattle.au_types.specs.Types as mean
 use Rattle.au_types.specs.Views.{argument, argument_all, meaning}
-use Rattle.au_written_types.proofs.MeantLemmas.{joined}
+use Rattle.au_types.proofs.MeantLemmas.{joined}
 use Rattle.au_judged_types.specs.Judging.{arguments_judged}
 use Rattle.au_judged_types.specs.Reasons.{kept, in_order}
 use Rattle.au_judged_types.specs.Views.{given_in, outcome}

@@ -1,6 +1,6 @@
 use Rattle.std.proofs.Common.{◌≡◌, drop, length, map}
 use Rattle.au_types.specs.Views.{argument_all}
-use Rattle.au_written_types.proofs.MeantLemmas.{joined}
+use Rattle.au_types.proofs.MeantLemmas.{joined}
 use Rattle.au_judged_types.specs.Judging.{arguments_judged}
 use Rattle.au_judged_types.specs.Reasons.{kept}
 use Rattle.au_judged_types.specs.Views.{given_in}

@@ -1,5 +1,5 @@
 use Rattle.std.proofs.Common.{◌≡◌, drop}
-use Rattle.au_derivations.specs.Parts.{are_borrowed_within}
+use Rattle.au_typing.specs.Parts.{are_borrowed_within}
 use Rattle.au_types.specs.Views.{argument_all}
 use Rattle.au_judgements.proofs.arms.+is_borrowed_within.Given as goal
 

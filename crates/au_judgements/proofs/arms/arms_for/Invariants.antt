@@ -1,6 +1,6 @@
 use Rattle.std.proofs.Common.{◌≡◌, ◌≤◌, ◌+◌, drop}
 use Rattle.std.specs.List.{count_by}
-use Rattle.au_derivations.specs.Parts.{is_for}
+use Rattle.au_typing.specs.Parts.{is_for}
 use Rattle.au_judgements.specs.Said.{heads_said}
 use Rattle.au_noting.specs.Scopes.{scope_said}
 use Rattle.au_sights.specs.Sights.{case_said}

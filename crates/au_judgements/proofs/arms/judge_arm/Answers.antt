@@ -1,5 +1,5 @@
 use Rattle.std.proofs.Common.{ap, subst, ◌∙◌}
-use Rattle.au_derivations.specs.Search.{judge_binds}
+use Rattle.au_typing.specs.DerivationSearch.{judge_binds}
 use Rattle.au_noting.specs.Giving.{Gives}
 use Rattle.au_noting.specs.Said.{all_typed}
 use Rattle.au_noting.specs.Scopes.{scope_said}

@@ -1,5 +1,5 @@
 use Rattle.std.proofs.Common.{◌≡◌, drop}
-use Rattle.au_derivations.specs.Search.{judge_names}
+use Rattle.au_typing.specs.DerivationSearch.{judge_names}
 use Rattle.au_judgements.specs.Said.{heads_said}
 use Rattle.au_noting.specs.Scopes.{scope_said}
 use Rattle.au_judgements.proofs.arms.judge_names.Given as goal

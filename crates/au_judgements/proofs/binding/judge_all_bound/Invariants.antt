@@ -1,5 +1,5 @@
 use Rattle.std.proofs.Common.{◌≡◌, drop}
-use Rattle.au_derivations.specs.Search.{judge_all_bound}
+use Rattle.au_typing.specs.DerivationSearch.{judge_all_bound}
 use Rattle.au_judgements.specs.Said.{binds_said}
 use Rattle.au_noting.specs.Said.{all_typed}
 use Rattle.au_noting.specs.Scopes.{scope_said}

@@ -1,5 +1,5 @@
 use Rattle.std.proofs.Common.{◌≡◌, ℕ, List, OnOk, subst}
-use Rattle.au_derivations.specs.InScope.{with_variable}
+use Rattle.au_typing.specs.InScope.{with_variable}
 use Rattle.au_noting.specs.Scopes.{scope_said}
 use Rattle.au_types.specs.Views.{meaning}
 use Rattle.au_judgements.proofs.declaring.declare.Goals as goal

@@ -1,7 +1,7 @@
 use Rattle.std.proofs.Common.{◌≡◌, OnOk, arith, ap, subst, sym, ◌∙◌}
-use Rattle.au_derivations.specs.InScope.{after, with_typed}
+use Rattle.au_typing.specs.InScope.{after, with_typed}
 use Rattle.au_noting.specs.Scopes.{scope_said}
-use Rattle.au_scopes.specs.Scopes.{Scope}
+use Rattle.au_typing.specs.Scopes.{Scope}
 use Rattle.au_syntax.specs.contracts.parsed.ParsedPhase.TheImpl.{ghosts as parsed}
 use Rattle.au_syntax.specs.Views.{statement, written}
 use Rattle.au_typing.specs.Lookups.{written_type}

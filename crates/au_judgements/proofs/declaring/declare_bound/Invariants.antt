@@ -1,5 +1,5 @@
 use Rattle.std.proofs.Common.{◌≡◌, drop}
-use Rattle.au_derivations.specs.InScope.{with_bound}
+use Rattle.au_typing.specs.InScope.{with_bound}
 use Rattle.au_judgements.specs.Said.{binds_said}
 use Rattle.au_noting.specs.Scopes.{scope_said}
 use Rattle.au_judgements.proofs.declaring.declare_bound.Given as goal

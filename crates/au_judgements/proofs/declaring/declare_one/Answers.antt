@@ -1,5 +1,5 @@
 use Rattle.std.proofs.Common.{◌≡◌, ℕ, List, false, OnOk, subst}
-use Rattle.au_derivations.specs.InScope.{with_typed}
+use Rattle.au_typing.specs.InScope.{with_typed}
 use Rattle.au_noting.specs.Scopes.{scope_said}
 use Rattle.au_syntax.specs.Views.{written}
 use Rattle.au_typing.specs.Lookups.{written_type}

@@ -1,6 +1,6 @@
 use Rattle.std.proofs.Common.{◌≡◌, OnOk, ap, option_map, subst, sym, ◌∙◌}
 use Rattle.au_noting.specs.Scopes.{scope_said}
-use Rattle.au_scopes.specs.Scopes.{Scope}
+use Rattle.au_typing.specs.Scopes.{Scope}
 use Rattle.au_syntax.specs.Views.{written}
 use Rattle.au_types.specs.Views.{meaning}
 use Rattle.au_typing.specs.Lookups.{written_type}

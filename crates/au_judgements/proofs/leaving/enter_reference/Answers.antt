@@ -1,7 +1,7 @@
 use Rattle.std.proofs.Common.{◌≡◌, OnOk, subst}
-use Rattle.au_derivations.specs.InScope.{fixed_variable, with_variable}
+use Rattle.au_typing.specs.InScope.{fixed_variable, with_variable}
 use Rattle.au_noting.specs.Scopes.{scope_said}
-use Rattle.au_scopes.specs.Scopes.{Scope}
+use Rattle.au_typing.specs.Scopes.{Scope}
 use Rattle.au_types.specs.Views.{meaning}
 use Rattle.au_judgements.proofs.leaving.enter_reference.Goals as goal
 

@@ -1,6 +1,6 @@
 use Rattle.std.proofs.Common.{arith, ap, sym, ◌∙◌}
 use Rattle.std.proofs.lemmas.List.{at_drop_all}
-use Rattle.au_derivations.specs.Returns.{arms_return, block_returns, branches_return}
+use Rattle.au_typing.specs.Returns.{arms_return, block_returns, branches_return}
 use Rattle.au_syntax.specs.Views.{arm_all, branch_all, statement_all}
 use Rattle.au_judgements.proofs.ReturnLemmas.{arm_step, branch_step, statement_step}
 use Rattle.au_syntax.proofs.StatementLemmas.{skip_says, let_says, destructure_says, assign_says, assign_through_says, if_says, if_else_says, case_says, while_says, for_says, borrow_says, borrow_typed_says, call_says, return_says}

@@ -1,5 +1,5 @@
 use Rattle.std.proofs.Common.{◌≡◌, drop}
-use Rattle.au_derivations.specs.Returns.{arms_return, block_returns, branches_return}
+use Rattle.au_typing.specs.Returns.{arms_return, block_returns, branches_return}
 use Rattle.au_syntax.specs.Views.{arm_all, branch_all, statement_all}
 use Rattle.au_judgements.proofs.returning.+returns.Given as goal
 

@@ -1,10 +1,10 @@
 use Rattle.std.proofs.Common.{◌≡◌, drop, map}
 use Rattle.std.specs.Str.{bytes_eq}
-use Rattle.au_closed_types.specs.Keys.{key_of}
+use Rattle.au_type_texts.specs.Keys.{key_of}
 use Rattle.au_lowered.specs.Programs.{texts_named, types_named}
 use Rattle.au_lowering.specs.Drafted.{all_drafts}
 use Rattle.au_lowering.specs.DraftViews.{all_said}
-use Rattle.au_reach.specs.Reached.{adds}
+use Rattle.au_graphs.specs.Reached.{adds}
 use Rattle.au_lowering.proofs.functions.collect_functions.Given as goal
 
 -- what is left makes of the tables what all makes of those at first

@@ -1,5 +1,5 @@
 use Rattle.std.proofs.Common.{◌≡◌, drop, map}
-use Rattle.au_closed_views.specs.Programs.{case_from}
+use Rattle.au_closed_meanings.specs.Programs.{case_from}
 use Rattle.au_lowering.specs.Views.{case_in}
 use Rattle.au_lowering.proofs.rows.find_case.Given as goal
 

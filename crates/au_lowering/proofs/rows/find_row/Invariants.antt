@@ -1,6 +1,6 @@
 use Rattle.std.proofs.Common.{◌≡◌, drop}
-use Rattle.au_closed_types.specs.Views.{closed_meaning}
-use Rattle.au_closed_views.specs.Programs.{row_in}
+use Rattle.au_type_texts.specs.Views.{closed_meaning}
+use Rattle.au_closed_meanings.specs.Programs.{row_in}
 use Rattle.au_lowering.specs.Views.{rows_held}
 use Rattle.au_lowering.proofs.rows.find_row.Given as goal
 

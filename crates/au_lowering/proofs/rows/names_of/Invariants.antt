@@ -1,6 +1,6 @@
 use Rattle.std.proofs.Common.{◌≡◌, ◌++◌, drop}
-use Rattle.au_closed_parts.specs.Views.{fields_said}
-use Rattle.au_closed_views.specs.Surroundings.{field_names}
+use Rattle.au_closed_trees.specs.Views.{fields_said}
+use Rattle.au_closed_meanings.specs.Surroundings.{field_names}
 use Rattle.au_lowering.specs.Closed.{fields_seen}
 use Rattle.au_lowering.proofs.rows.names_of.Given as goal
 

@@ -1,5 +1,5 @@
 use Rattle.std.proofs.Common.{◌≡◌, map, take}
-use Rattle.au_closed_parts.specs.Views.{cases_said}
+use Rattle.au_closed_trees.specs.Views.{cases_said}
 use Rattle.au_lowering.specs.Views.{case_in}
 use Rattle.au_lowering.specs.Closed.{case_seen}
 use Rattle.au_lowering.proofs.rows.see_cases.Given as goal

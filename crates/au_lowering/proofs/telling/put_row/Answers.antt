@@ -1,9 +1,9 @@
 use Rattle.std.proofs.Common.{true, false, refl, sym, ap, ◌∙◌}
 use Rattle.au_lowering.specs.Rows.{rows_in}
 use Rattle.au_lowering.proofs.RowLemmas.{told_there}
-use Rattle.au_reach.specs.Finding.{numbers}
-use Rattle.au_tables.specs.Tables.{pairs_by}
-use Rattle.au_tables.proofs.TableLemmas.{inserted-new, with_pair-old}
+use Rattle.au_graphs.specs.Finding.{numbers}
+use Rattle.au_types.specs.Tables.{pairs_by}
+use Rattle.au_types.proofs.TableLemmas.{inserted-new, with_pair-old}
 use Rattle.au_lowering.proofs.telling.put_row.Goals as goal
 
 pub returns-then-contains_key : goal.returns-then-contains_key

@@ -3,7 +3,7 @@ use Rattle.std.proofs.lemmas.Grind.{common_steps}
 use Rattle.au_closed_programs.specs.Views.{rows_said}
 use Rattle.au_lowering.specs.Rows.{rows_in, rows_told}
 use Rattle.au_lowering.proofs.RowLemmas.{no_row, row_put}
-use Rattle.au_tables.specs.Tables.{with_all}
+use Rattle.au_types.specs.Tables.{with_all}
 use Rattle.au_lowering.proofs.telling.tell_rows.Goals as goal
 
 pub loop-one-preserved : goal.loop-one-preserved

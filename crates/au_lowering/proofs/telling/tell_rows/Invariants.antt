@@ -1,7 +1,7 @@
 use Rattle.std.proofs.Common.{◌≡◌, [], drop}
 use Rattle.au_closed_programs.specs.Views.{rows_said}
 use Rattle.au_lowering.specs.Rows.{rows_in, rows_told}
-use Rattle.au_tables.specs.Tables.{with_all}
+use Rattle.au_types.specs.Tables.{with_all}
 use Rattle.au_lowering.proofs.telling.tell_rows.Given as goal
 
 -- what is left makes of the table what all makes of one with nothing

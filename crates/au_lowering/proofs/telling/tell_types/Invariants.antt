@@ -1,7 +1,7 @@
 use Rattle.std.proofs.Common.{◌≡◌, Some, map, take}
 use Rattle.au_lowering.specs.Rows.{rows_in}
-use Rattle.au_reach.specs.Finding.{numbers}
-use Rattle.au_tables.specs.Tables.{find}
+use Rattle.au_graphs.specs.Finding.{numbers}
+use Rattle.au_types.specs.Tables.{find}
 use Rattle.au_lowering.proofs.telling.tell_types.Given as goal
 
 -- what is told of the types so far

@@ -1,6 +1,6 @@
 use Rattle.std.proofs.Common.{ℕ, ap, sym, ◌∙◌}
 use Rattle.std.specs.Option.{option_map}
-use Rattle.au_closed_views.specs.Views.{called_said}
+use Rattle.au_closed_meanings.specs.Views.{called_said}
 use Rattle.au_lowered.specs.Expressions.{acts, by_position}
 use Rattle.au_lowering_expressions.specs.Views.{drafts_said}
 use Rattle.au_lowering_expressions.proofs.WroteLemmas.{none_written}

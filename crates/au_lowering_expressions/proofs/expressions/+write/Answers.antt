@@ -1,7 +1,7 @@
 use Rattle.std.proofs.Common.{false, ap, sym, ◌∙◌, arith}
 use Rattle.std.proofs.lemmas.List.{length-map}
 use Rattle.au_closed_trees.specs.contracts.phase.ClosedTreesPhase.TheImpl.{ghosts as closed}
-use Rattle.au_closed_views.specs.Surroundings.{view_in}
+use Rattle.au_closed_meanings.specs.Surroundings.{view_in}
 use Rattle.au_lowered.specs.Drafts.{does, either}
 use Rattle.au_lowered.specs.Expressions.{code_of_all, code_of_named}
 use Rattle.au_lowering_expressions.specs.Parts.{pushes_false, pushes_true}

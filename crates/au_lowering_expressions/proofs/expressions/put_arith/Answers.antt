@@ -1,5 +1,5 @@
 use Rattle.std.proofs.Common.{Some, sym, ◌∙◌}
-use Rattle.au_closed_trees.specs.Views.{closed_note}
+use Rattle.au_closed_trees.specs.TreeViews.{closed_note}
 use Rattle.au_low.specs.declared.instructions.Instr.TheVariants as instr
 use Rattle.au_lowered.specs.Drafts.{does}
 use Rattle.au_lowering_expressions.specs.Views.{drafts_said}

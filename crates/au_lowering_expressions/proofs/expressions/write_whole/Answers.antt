@@ -1,6 +1,6 @@
 use Rattle.std.proofs.Common.{ap, sym, ◌∙◌}
 use Rattle.au_closed_trees.specs.contracts.phase.ClosedTreesPhase.TheImpl.{ghosts as closed}
-use Rattle.au_closed_views.specs.Surroundings.{view_in}
+use Rattle.au_closed_meanings.specs.Surroundings.{view_in}
 use Rattle.au_lowered.specs.Expressions.{closing, code, opens}
 use Rattle.au_lowering_expressions.specs.Views.{drafts_said, scope_said}
 use Rattle.au_lowering_expressions.specs.Wrote.{wrote}

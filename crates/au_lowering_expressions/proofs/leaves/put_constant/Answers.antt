@@ -1,6 +1,6 @@
 use Rattle.std.proofs.Common.{ap, sym, ◌∙◌}
 use Rattle.std.specs.Option.{option_map}
-use Rattle.au_closed_views.specs.Surroundings.{literal_value}
+use Rattle.au_closed_meanings.specs.Surroundings.{literal_value}
 use Rattle.au_lowered.specs.Expressions.{literal}
 use Rattle.au_lowering_expressions.specs.Views.{drafts_said}
 use Rattle.au_lowering_expressions.proofs.WroteLemmas.{none_written}

@@ -1,7 +1,7 @@
 use Rattle.std.proofs.Common.{map, ap, sym, ◌∙◌}
 use Rattle.std.specs.Option.{option_map}
 use Rattle.au_closed_trees.specs.contracts.phase.ClosedTreesPhase.TheImpl.{ghosts as closed}
-use Rattle.au_closed_views.specs.Surroundings.{view_in}
+use Rattle.au_closed_meanings.specs.Surroundings.{view_in}
 use Rattle.au_lowering_expressions.specs.Parts.{Part, looks}
 use Rattle.au_lowering_expressions.specs.Views.{drafts_said, part_said, scope_said}
 use Rattle.au_lowering_expressions.specs.Wrote.{wrote}

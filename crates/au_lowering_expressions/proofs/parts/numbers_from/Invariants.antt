@@ -1,8 +1,8 @@
 use Rattle.std.proofs.Common.{◌≡◌, Some, drop, map}
 use Rattle.au_closed_trees.specs.contracts.phase.ClosedTreesPhase.TheImpl.{ghosts as closed}
-use Rattle.au_closed_types.specs.Types.{ClosedType}
-use Rattle.au_closed_types.specs.Views.{closed_meaning}
-use Rattle.au_closed_views.specs.Surroundings.{view_in}
+use Rattle.au_type_texts.specs.Types.{ClosedType}
+use Rattle.au_type_texts.specs.Views.{closed_meaning}
+use Rattle.au_closed_meanings.specs.Surroundings.{view_in}
 use Rattle.au_lowered.specs.Expressions.{numbers_along}
 use Rattle.au_lowering_expressions.proofs.PartLemmas.{behind_them}
 use Rattle.au_meaning.specs.Expressions.{names_of}

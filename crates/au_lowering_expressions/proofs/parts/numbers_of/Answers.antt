@@ -3,8 +3,8 @@ use Rattle.std.proofs.lemmas.Bool.{eqb-false}
 use Rattle.std.proofs.lemmas.List.{length-map}
 use Rattle.std.specs.Option.{option_copied, option_map}
 use Rattle.au_closed_trees.specs.contracts.phase.ClosedTreesPhase.TheImpl.{ghosts as closed}
-use Rattle.au_closed_types.specs.Views.{closed_meaning}
-use Rattle.au_closed_views.specs.Surroundings.{view_in}
+use Rattle.au_type_texts.specs.Views.{closed_meaning}
+use Rattle.au_closed_meanings.specs.Surroundings.{view_in}
 use Rattle.au_lowered.specs.Expressions.{numbers_along}
 use Rattle.au_lowering_expressions.proofs.PartLemmas.{no_numbers}
 use Rattle.au_meaning.specs.Expressions.{names_of}

@@ -1,8 +1,8 @@
 use Rattle.std.proofs.Common.{◌≡◌, ℕ, ◌+◌, Option, length, map, ap, sym, ◌∙◌, arith}
 use Rattle.au_closed_trees.specs.contracts.phase.ClosedTreesPhase.TheImpl.{ghosts as closed}
-use Rattle.au_closed_trees.specs.Views.{closed_note}
-use Rattle.au_closed_types.specs.Views.{closed_meaning}
-use Rattle.au_closed_views.specs.Surroundings.{view_in}
+use Rattle.au_closed_trees.specs.TreeViews.{closed_note}
+use Rattle.au_type_texts.specs.Views.{closed_meaning}
+use Rattle.au_closed_meanings.specs.Surroundings.{view_in}
 use Rattle.au_effects.specs.Parts.{along}
 use Rattle.au_lowered.specs.Slots.{fields_of_case, known, with_fields}
 use Rattle.au_lowering_expressions.specs.Views.{scope_said}

@@ -1,7 +1,7 @@
 use Rattle.std.proofs.Common.{ℕ, Option, length, ap, sym, ◌∙◌}
-use Rattle.au_closed_trees.specs.Views.{closed_note}
-use Rattle.au_closed_types.specs.Views.{closed_meaning}
-use Rattle.au_closed_views.specs.Surroundings.{view_in}
+use Rattle.au_closed_trees.specs.TreeViews.{closed_note}
+use Rattle.au_type_texts.specs.Views.{closed_meaning}
+use Rattle.au_closed_meanings.specs.Surroundings.{view_in}
 use Rattle.au_effects.specs.Parts.{along}
 use Rattle.au_lowered.specs.Slots.{known}
 use Rattle.au_lowering_statements.proofs.BlockLemmas.{known_same}

@@ -1,8 +1,8 @@
 use Rattle.std.proofs.Common.{map, refl, ap, sym, ◌∙◌}
 use Rattle.std.proofs.lemmas.List.{at_drop_all}
 use Rattle.au_closed_trees.specs.contracts.phase.ClosedTreesPhase.TheImpl.{ghosts as closed}
-use Rattle.au_closed_types.specs.Views.{closed_meaning}
-use Rattle.au_closed_views.specs.Surroundings.{fields_in}
+use Rattle.au_type_texts.specs.Views.{closed_meaning}
+use Rattle.au_closed_meanings.specs.Surroundings.{fields_in}
 use Rattle.au_lowered.specs.Slots.{with_fields}
 use Rattle.au_lowering_expressions.specs.Views.{scope_said}
 use Rattle.au_lowering_statements.proofs.BlockLemmas.{begins_more, begins_same, fields_step}

@@ -1,7 +1,7 @@
 use Rattle.std.proofs.Common.{◌≡◌, drop, map}
 use Rattle.au_closed_trees.specs.contracts.phase.ClosedTreesPhase.TheImpl.{ghosts as closed}
-use Rattle.au_closed_types.specs.Views.{closed_meaning}
-use Rattle.au_closed_views.specs.Surroundings.{fields_in}
+use Rattle.au_type_texts.specs.Views.{closed_meaning}
+use Rattle.au_closed_meanings.specs.Surroundings.{fields_in}
 use Rattle.au_lowered.specs.Slots.{with_fields}
 use Rattle.au_lowering_expressions.specs.Views.{scope_said}
 use Rattle.au_lowering_statements.specs.Views.{Begins}

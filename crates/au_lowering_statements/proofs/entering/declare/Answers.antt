@@ -1,7 +1,7 @@
 use Rattle.std.proofs.Common.{◌≡◌, [], ◌∷◌, ◌++◌, ap, sym, subst, ◌∙◌, arith}
 use Rattle.std.proofs.lemmas.Grind.{common_steps}
 use Rattle.std.specs.Option.{option_map}
-use Rattle.au_closed_types.specs.Views.{closed_meaning}
+use Rattle.au_type_texts.specs.Views.{closed_meaning}
 use Rattle.au_lowering_expressions.specs.declared.locals.Local.{Local}
 use Rattle.au_lowering_expressions.specs.Views.{scope_said}
 use Rattle.au_lowering_expressions.proofs.LoopLemmas.{scope_push}

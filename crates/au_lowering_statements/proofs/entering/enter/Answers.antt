@@ -1,7 +1,7 @@
 use Rattle.std.proofs.Common.{Some, map, ap, sym, ◌∙◌}
 use Rattle.au_closed_trees.specs.contracts.phase.ClosedTreesPhase.TheImpl.{ghosts as closed}
 use Rattle.au_closed_trees.specs.ClosedNotes.{ClosedNote}
-use Rattle.au_closed_views.specs.Surroundings.{fields_in, view_in}
+use Rattle.au_closed_meanings.specs.Surroundings.{fields_in, view_in}
 use Rattle.au_lowered.specs.Slots.{after, with_fields}
 use Rattle.au_lowering_expressions.specs.Views.{scope_said}
 use Rattle.au_lowering_statements.proofs.BlockLemmas.{known_same}

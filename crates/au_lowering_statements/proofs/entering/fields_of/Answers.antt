@@ -1,5 +1,5 @@
 use Rattle.std.proofs.Common.{length, ap, sym, ◌∙◌}
-use Rattle.au_closed_types.specs.Views.{closed_meaning}
+use Rattle.au_type_texts.specs.Views.{closed_meaning}
 use Rattle.au_lowering_statements.proofs.BlockLemmas.{known_same}
 use Rattle.au_lowering_statements.proofs.entering.fields_of.Goals as goal
 

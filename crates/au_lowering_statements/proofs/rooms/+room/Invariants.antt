@@ -1,7 +1,7 @@
 use Rattle.std.proofs.Common.{◌≡◌, drop, max}
 use Rattle.au_closed_trees.specs.contracts.phase.ClosedTreesPhase.TheImpl.{ghosts as closed}
-use Rattle.au_closed_trees.specs.Views.{closed_note}
-use Rattle.au_closed_views.specs.Surroundings.{view_in}
+use Rattle.au_closed_trees.specs.TreeViews.{closed_note}
+use Rattle.au_closed_meanings.specs.Surroundings.{view_in}
 use Rattle.au_lowered.specs.Slots.{room_of_arms, room_of_block, room_of_tests}
 use Rattle.au_syntax.specs.Views.{arm_all, branch_all, statement_all}
 use Rattle.au_lowering_statements.proofs.rooms.+room.Given as goal

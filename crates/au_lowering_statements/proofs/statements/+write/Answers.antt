@@ -2,9 +2,9 @@ use Rattle.std.proofs.Common.{◌≡◌, ℕ, ◌+◌, ◌-◌, ◌||◌, true, 
 use Rattle.std.proofs.lemmas.List.{length-map}
 use Rattle.au_closed_trees.specs.contracts.phase.ClosedTreesPhase.TheImpl.{ghosts as closed}
 use Rattle.au_closed_trees.specs.ClosedNotes.{ClosedNote}
-use Rattle.au_closed_trees.specs.Views.{closed_note}
-use Rattle.au_closed_views.specs.Surroundings.{view_in}
-use Rattle.au_derivations.specs.Returns.{block_returns}
+use Rattle.au_closed_trees.specs.TreeViews.{closed_note}
+use Rattle.au_closed_meanings.specs.Surroundings.{view_in}
+use Rattle.au_typing.specs.Returns.{block_returns}
 use Rattle.au_low.specs.declared.instructions.Instr.TheVariants.{Close, ForStep, Jump, Look, Store}
 use Rattle.au_lowered.specs.Drafts.{◌>>◌, does, unless}
 use Rattle.au_lowered.specs.Expressions.{whole}

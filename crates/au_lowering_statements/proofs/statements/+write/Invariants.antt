@@ -1,7 +1,7 @@
 use Rattle.std.proofs.Common.{◌≡◌, ◌+◌, ◌++◌, ℕ, List, drop, length}
 use Rattle.au_closed_trees.specs.contracts.phase.ClosedTreesPhase.TheImpl.{ghosts as closed}
-use Rattle.au_closed_trees.specs.Views.{closed_note}
-use Rattle.au_closed_views.specs.Surroundings.{view_in}
+use Rattle.au_closed_trees.specs.TreeViews.{closed_note}
+use Rattle.au_closed_meanings.specs.Surroundings.{view_in}
 use Rattle.au_lowered.specs.Drafts.{Draft}
 use Rattle.au_lowered.specs.Statements.{block}
 use Rattle.au_lowering_expressions.specs.Views.{drafts_said, scope_said}

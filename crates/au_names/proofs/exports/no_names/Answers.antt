@@ -1,5 +1,5 @@
 use Rattle.std.proofs.Common.{◌≡◌, [], ◌∙◌}
-use Rattle.au_tables.specs.declared.name_tables.NameTables.{NameTables}
+use Rattle.au_types.specs.declared.name_tables.NameTables.{NameTables}
 use Rattle.au_names.proofs.ExportLemmas.{none_named}
 use Rattle.au_names.proofs.exports.no_names.Goals as goal
 

@@ -1,5 +1,5 @@
 use Rattle.std.proofs.Common.{[], Some, sym, ap, ◌∙◌, arith}
-use Rattle.au_tables.specs.Tables.{with_all}
+use Rattle.au_types.specs.Tables.{with_all}
 use Rattle.au_modules.specs.Slots as slots
 use Rattle.au_names.specs.Placing.{places_from}
 use Rattle.au_names.proofs.ExportLemmas.{placed_step, placed_end}

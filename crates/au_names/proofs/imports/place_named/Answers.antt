@@ -1,6 +1,6 @@
 use Rattle.std.proofs.Common.{ap, sym, ◌∙◌, drop}
 use Rattle.au_modules.proofs.PartLemmas.{name_joined}
-use Rattle.au_tables.specs.Tables.{find}
+use Rattle.au_types.specs.Tables.{find}
 use Rattle.au_names.proofs.imports.place_named.Goals as goal
 
 pub returns : goal.returns

@@ -1,6 +1,6 @@
 use Rattle.std.proofs.Common.{Some, arith, refl, sym, ap, ◌∙◌}
 use Rattle.std.proofs.lemmas.Result.{on_ok_weaker}
-use Rattle.au_tables.specs.Tables.{with_all}
+use Rattle.au_types.specs.Tables.{with_all}
 use Rattle.au_modules.specs.Seen.{interface_tree}
 use Rattle.au_modules.specs.Slots as slots
 use Rattle.au_names.proofs.AlongLemmas.{along_file}

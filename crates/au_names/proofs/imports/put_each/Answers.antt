@@ -2,7 +2,7 @@ use Rattle.std.proofs.Common.{map, refl, ap, ◌∙◌}
 use Rattle.au_syntax.specs.contracts.parsed.ParsedPhase.TheImpl.{ghosts as parsed}
 use Rattle.au_syntax.specs.Plain.{plain_importing}
 use Rattle.au_syntax.specs.Views.{importing}
-use Rattle.au_tables.specs.Tables.{with_all}
+use Rattle.au_types.specs.Tables.{with_all}
 use Rattle.au_modules.specs.Slots as slots
 use Rattle.au_names.specs.Importing.{brings, imported}
 use Rattle.au_names.proofs.PutLemmas.{put_step, put_end, read_at}

@@ -5,7 +5,7 @@ use Rattle.au_syntax.specs.contracts.parsed.ParsedPhase.TheImpl.{ghosts as parse
 use Rattle.au_syntax.specs.Plain.{plain_importing}
 use Rattle.au_syntax.specs.Sizes.{joined}
 use Rattle.au_syntax.specs.Views.{importing}
-use Rattle.au_tables.specs.Tables.{with_all}
+use Rattle.au_types.specs.Tables.{with_all}
 use Rattle.au_modules.specs.Slots as slots
 use Rattle.au_names.proofs.ExportLemmas.{nothing}
 use Rattle.au_names.proofs.ImportLemmas.{brings_nothing, brings_later, brings_earlier, nothing_put}

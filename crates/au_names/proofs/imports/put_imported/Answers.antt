@@ -1,5 +1,5 @@
 use Rattle.std.proofs.Common.{arith}
-use Rattle.au_tables.proofs.TableLemmas.{with_all-none}
+use Rattle.au_types.proofs.TableLemmas.{with_all-none}
 use Rattle.au_names.proofs.imports.put_imported.Goals as goal
 
 pub returns-in-None : goal.returns-in-None

@@ -3,7 +3,7 @@ use Rattle.std.proofs.lemmas.Result.{on_ok_weaker}
 use Rattle.au_syntax.specs.contracts.parsed.ParsedPhase.TheImpl.{ghosts as parsed}
 use Rattle.au_syntax.specs.Plain.{plain_renaming}
 use Rattle.au_syntax.specs.Views.{renaming}
-use Rattle.au_tables.specs.Tables.{find}
+use Rattle.au_types.specs.Tables.{find}
 use Rattle.au_modules.specs.Slots as slots
 use Rattle.au_names.specs.Exporting.{found_as}
 use Rattle.au_names.specs.Importing.{given_name}

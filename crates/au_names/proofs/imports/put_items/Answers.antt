@@ -3,7 +3,7 @@ use Rattle.std.specs.List.{flat_map}
 use Rattle.au_syntax.specs.contracts.parsed.ParsedPhase.TheImpl.{ghosts as parsed}
 use Rattle.au_syntax.specs.Plain.{plain_renaming}
 use Rattle.au_syntax.specs.Views.{renaming}
-use Rattle.au_tables.specs.Tables.{with_all}
+use Rattle.au_types.specs.Tables.{with_all}
 use Rattle.au_names.specs.Importing.{brought}
 use Rattle.au_names.proofs.PutLemmas.{put_step, put_end, read_at}
 use Rattle.au_names.proofs.imports.put_items.Goals as goal

@@ -2,8 +2,8 @@ use Rattle.std.proofs.Common.{◌∷◌, [], map, refl, ap, ◌∙◌}
 use Rattle.au_syntax.specs.Plain.{plain_variant}
 use Rattle.au_syntax.specs.Views.{variant}
 use Rattle.au_syntax.specs.contracts.parsed.ParsedPhase.TheImpl.{ghosts as parsed}
-use Rattle.au_tables.specs.DeclaredNames.{given}
-use Rattle.au_tables.specs.Tables.{with_all}
+use Rattle.au_types.specs.DeclaredNames.{given}
+use Rattle.au_types.specs.Tables.{with_all}
 use Rattle.au_names.specs.Owned.{target, targets}
 use Rattle.au_names.proofs.PutLemmas.{put_step, put_end, read_at, target_put}
 use Rattle.au_names.proofs.members.put_cases.Goals as goal

@@ -2,8 +2,8 @@ use Rattle.std.proofs.Common.{◌≡◌, drop, map}
 use Rattle.au_syntax.specs.Plain.{plain_variant}
 use Rattle.au_syntax.specs.Views.{variant}
 use Rattle.au_syntax.specs.contracts.parsed.ParsedPhase.TheImpl.{ghosts as parsed}
-use Rattle.au_tables.specs.DeclaredNames.{given}
-use Rattle.au_tables.specs.Tables.{with_all}
+use Rattle.au_types.specs.DeclaredNames.{given}
+use Rattle.au_types.specs.Tables.{with_all}
 use Rattle.au_names.specs.Owned.{targets}
 use Rattle.au_names.proofs.members.put_cases.Given as goal
 

@@ -1,8 +1,8 @@
 use Rattle.std.proofs.Common.{arith, sym, ap, ◌∙◌}
 use Rattle.au_syntax.proofs.DeclarationLemmas.{class_says, union_says}
-use Rattle.au_tables.proofs.TableLemmas.{with_all-none}
-use Rattle.au_tables.specs.DeclaredNames.{given}
-use Rattle.au_tables.specs.Tables.{with_all}
+use Rattle.au_types.proofs.TableLemmas.{with_all-none}
+use Rattle.au_types.specs.DeclaredNames.{given}
+use Rattle.au_types.specs.Tables.{with_all}
 use Rattle.au_names.specs.Owned.{targets}
 use Rattle.au_names.proofs.OtherLemmas.{no_members}
 use Rattle.au_names.proofs.members.put_members.Goals as goal

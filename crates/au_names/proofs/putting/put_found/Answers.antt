@@ -1,7 +1,7 @@
 use Rattle.std.proofs.Common.{sym, ap, ◌∙◌}
 use Rattle.std.proofs.lemmas.Result.{on_ok_weaker}
-use Rattle.au_tables.specs.Tables.{with_all}
-use Rattle.au_tables.proofs.TableLemmas.{with_all-none, with_all-one}
+use Rattle.au_types.specs.Tables.{with_all}
+use Rattle.au_types.proofs.TableLemmas.{with_all-none, with_all-one}
 use Rattle.au_names.specs.Exporting.{found_as}
 use Rattle.au_names.specs.Owned.{target}
 use Rattle.au_names.proofs.putting.put_found.Goals as goal

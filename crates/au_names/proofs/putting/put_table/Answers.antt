@@ -1,6 +1,6 @@
 use Rattle.std.proofs.Common.{◌∷◌, [], refl, sym, ◌∙◌, arith}
-use Rattle.au_tables.specs.Tables.{with_all}
-use Rattle.au_tables.proofs.TableLemmas.{with_all-one}
+use Rattle.au_types.specs.Tables.{with_all}
+use Rattle.au_types.proofs.TableLemmas.{with_all-one}
 use Rattle.au_names.specs.Owned.{target, targets}
 use Rattle.au_names.proofs.PutLemmas.{put_step, put_end}
 use Rattle.au_names.proofs.putting.put_table.Goals as goal

@@ -1,5 +1,5 @@
 use Rattle.std.proofs.Common.{◌≡◌, drop}
-use Rattle.au_tables.specs.Tables.{with_all}
+use Rattle.au_types.specs.Tables.{with_all}
 use Rattle.au_names.specs.Owned.{targets}
 use Rattle.au_names.proofs.putting.put_table.Given as goal
 

@@ -1,7 +1,7 @@
 use Rattle.std.proofs.Common.{◌≡◌, [], ap, ◌∙◌, subst}
 use Rattle.std.specs.Prelude.{IfOk}
 use Rattle.au_modules.specs.Slots as slots
-use Rattle.au_tables.specs.Tables.{with_all}
+use Rattle.au_types.specs.Tables.{with_all}
 use Rattle.au_names.specs.Meanings.{declared_by, meanings}
 use Rattle.au_names.proofs.SeenLemmas.{declared_put}
 use Rattle.au_names.proofs.seeing.declared_seen.Goals as goal

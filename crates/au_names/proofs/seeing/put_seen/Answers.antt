@@ -5,7 +5,7 @@ use Rattle.std.proofs.lemmas.Option.{slice_get-get_or}
 use Rattle.au_modules.specs.Seen.{part_tree}
 use Rattle.au_modules.specs.Slots as slots
 use Rattle.au_names.specs.Exporting.{imports_seen}
-use Rattle.au_tables.specs.Tables.{with_all}
+use Rattle.au_types.specs.Tables.{with_all}
 use Rattle.au_names.specs.Importing.{imported}
 use Rattle.au_names.proofs.ExportLemmas.{as_many, nothing}
 use Rattle.au_names.proofs.SeenLemmas.{part_imports, seen_put, pervasive_put}

@@ -2,7 +2,7 @@ use Rattle.std.proofs.Common.{arith, ◌≡◌, pos, ◌-ℤ◌, to_z, of_z, to_
 use mir.Syntax.{w128}
 use Rattle.au_noting.specs.Giving.{Gives}
 use Rattle.au_noting.specs.Modes.{wanted}
-use Rattle.au_notes.specs.Views.{note}
+use Rattle.au_sights.specs.Views.{note}
 use Rattle.au_typing.specs.Search.{literal_note}
 use Rattle.au_noting.proofs.RangeLemmas.{minus_fits, out_of_all, zero_minus}
 use Rattle.au_noting.proofs.nodes.negative_note.Goals as goal

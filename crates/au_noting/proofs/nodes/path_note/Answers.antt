@@ -1,5 +1,5 @@
 use Rattle.std.proofs.Common.{◌∙◌, sym, subst}
-use Rattle.au_notes.specs.Views.{note}
+use Rattle.au_sights.specs.Views.{note}
 use Rattle.au_types.specs.Views.{meaning}
 use Rattle.au_noting.specs.Giving.{Gives}
 use Rattle.au_noting.specs.Modes.{wanted}

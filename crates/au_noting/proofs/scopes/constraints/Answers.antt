@@ -1,6 +1,6 @@
 use Rattle.std.proofs.Common.{◌≡◌, arith, slice_get, Some, subst}
 use Rattle.std.proofs.lemmas.List.{append_assoc}
-use Rattle.au_generics.specs.Bounds.{parameters}
+use Rattle.au_judged_types.specs.Bounds.{parameters}
 use Rattle.au_noting.proofs.WalkLemmas.{constraints_at}
 use Rattle.au_noting.proofs.scopes.constraints.Goals as goal
 

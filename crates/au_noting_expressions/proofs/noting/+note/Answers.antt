@@ -9,9 +9,9 @@ use Rattle.au_noting_expressions.proofs.FormLemmas.{parenthesized_at, dereferenc
 use Rattle.au_noting_expressions.proofs.Heights.{height_call, height_named_call, item_height}
 use Rattle.au_noting_expressions.proofs.PassLemmas.{first_ends, first_turns, second_turns}
 use Rattle.au_noting_expressions.proofs.Steps.{gives_at, seen, stops_at, stops_first, then_on}
-use Rattle.au_noting_leaves.specs.Made.{dereference_made, negation_made, parenthesized_made, typed_made}
-use Rattle.au_noting_leaves.specs.Said.{all_said, call_said}
-use Rattle.au_notes.specs.contracts.noted.NotedPhase.TheImpl.{ghosts as noted}
+use Rattle.au_noting_expressions.specs.Made.{dereference_made, negation_made, parenthesized_made, typed_made}
+use Rattle.au_noting_expressions.specs.Said.{all_said, call_said}
+use Rattle.au_sights.specs.contracts.noted.NotedPhase.TheImpl.{ghosts as noted}
 use Rattle.au_syntax.specs.contracts.parsed.ParsedPhase.TheImpl.{ghosts as parsed}
 use Rattle.au_sights.specs.Sights.{callable_said}
 use Rattle.au_syntax.specs.Views.{expression, node, written}

@@ -6,7 +6,7 @@ use Rattle.au_noting.specs.Scopes.{scope_said}
 use Rattle.au_noting_expressions.specs.Arguments.{each_operand, value_of, values}
 use Rattle.au_noting_expressions.proofs.Heights.{height, highest}
 use Rattle.au_noting_expressions.proofs.PassLemmas.{first_left, second_left}
-use Rattle.au_noting_leaves.specs.Said.{half_said}
+use Rattle.au_noting_expressions.specs.Said.{half_said}
 use Rattle.au_typing.specs.SearchCalls as search
 use Rattle.au_noting_expressions.proofs.noting.+note.Given as goal
 

@@ -1,7 +1,7 @@
 use Rattle.au_noting.specs.Modes.{wanted}
 use Rattle.au_noting.specs.Scopes.{scope_said}
 use Rattle.au_noting_expressions.proofs.RuleLemmas.{answers_good, answers_only}
-use Rattle.au_notes.specs.contracts.noted.NotedPhase.TheImpl.{ghosts as noted}
+use Rattle.au_sights.specs.contracts.noted.NotedPhase.TheImpl.{ghosts as noted}
 use Rattle.au_syntax.specs.contracts.parsed.ParsedPhase.TheImpl.{ghosts as parsed}
 use Rattle.au_syntax.specs.Views.{expression}
 use Rattle.au_noting_expressions.proofs.rules.note_well.Goals as goal

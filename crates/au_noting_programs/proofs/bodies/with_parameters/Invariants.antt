@@ -1,5 +1,5 @@
 use Rattle.std.proofs.Common.{◌≡◌, drop, map}
-use Rattle.au_derivations.specs.Bodies.{with_parameters}
+use Rattle.au_typing.specs.Bodies.{with_parameters}
 use Rattle.au_noting.specs.Scopes.{scope_said}
 use Rattle.au_syntax.specs.contracts.parsed.ParsedPhase.TheImpl.{ghosts as parsed}
 use Rattle.au_syntax.specs.Views.{labelled}

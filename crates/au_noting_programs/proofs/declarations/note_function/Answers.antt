@@ -1,5 +1,5 @@
 use Rattle.std.proofs.Common.{◌∙◌, Ok, map, sym, ap}
-use Rattle.au_notes.specs.contracts.noted.NotedPhase.TheImpl.{ghosts as noted}
+use Rattle.au_sights.specs.contracts.noted.NotedPhase.TheImpl.{ghosts as noted}
 use Rattle.au_sights.specs.Sights.{outside_seen}
 use Rattle.au_syntax.specs.contracts.parsed.ParsedPhase.TheImpl.{ghosts as parsed}
 use Rattle.au_syntax.proofs.DeclarationLemmas.{function_body_says}

@@ -1,6 +1,6 @@
 use Rattle.std.proofs.Common.{◌≡◌, drop, map}
-use Rattle.au_derivations.specs.ProgramSearch.{note_methods}
-use Rattle.au_notes.specs.contracts.noted.NotedPhase.TheImpl.{ghosts as noted}
+use Rattle.au_typing.specs.ProgramSearch.{note_methods}
+use Rattle.au_sights.specs.contracts.noted.NotedPhase.TheImpl.{ghosts as noted}
 use Rattle.au_sights.specs.Sights.{outside_seen}
 use Rattle.au_syntax.specs.contracts.parsed.ParsedPhase.TheImpl.{ghosts as parsed}
 use Rattle.au_syntax.specs.Views.{constrained, method_body}

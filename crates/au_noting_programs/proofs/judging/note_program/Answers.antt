@@ -1,8 +1,8 @@
 use Rattle.std.proofs.Common.{◌≡◌, ◌⊎◌, Some, subst}
-use Rattle.au_derivations.proofs.ProgramLemmas.{program_found}
+use Rattle.au_typing.proofs.ProgramLemmas.{program_found}
 use Rattle.au_modules.specs.Slots as slots
-use Rattle.au_notes.specs.declared.faults.TypeFault.TheVariants as fault
-use Rattle.au_outsides.specs.Outsides.{outside_of}
+use Rattle.au_sights.specs.declared.faults.TypeFault.TheVariants as fault
+use Rattle.au_typing.specs.Outsides.{outside_of}
 use Rattle.au_noting_programs.specs.Faults.{type_fault}
 use Rattle.au_noting_programs.specs.Said.{made_said}
 use Rattle.au_noting_programs.proofs.AcceptedLemmas.{found_accepted}

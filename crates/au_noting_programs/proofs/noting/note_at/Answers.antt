@@ -1,11 +1,11 @@
 use Rattle.std.proofs.Common.{◌∙◌, map, ap, subst}
 use Rattle.std.specs.Option.{option_copied, option_map}
-use Rattle.au_derivations.specs.ProgramSearch.{note_part}
+use Rattle.au_typing.specs.ProgramSearch.{note_part}
 use Rattle.au_judgements.specs.Refusing.{Judges}
 use Rattle.au_modules.specs.declared.modules.Modules.{Modules}
 use Rattle.au_modules.specs.Programs.{entry}
 use Rattle.au_modules.specs.Slots.{file_at, modules}
-use Rattle.au_outsides.specs.Outsides.{outside_of}
+use Rattle.au_typing.specs.Outsides.{outside_of}
 use Rattle.au_noting_programs.specs.Said.{part_said}
 use Rattle.au_noting_programs.proofs.noting.note_at.Goals as goal
 

@@ -1,6 +1,6 @@
 use Rattle.std.proofs.Common.{◌∙◌, Ok, ap}
 use Rattle.std.proofs.lemmas.Result.{err_from_is_err_and}
-use Rattle.au_derivations.specs.Faults.{◌then◌}
+use Rattle.au_typing.specs.DerivationFaults.{◌then◌}
 use Rattle.au_sights.specs.Sights.{outside_seen}
 use Rattle.au_syntax.specs.contracts.parsed.ParsedPhase.TheImpl.{ghosts as parsed}
 use Rattle.au_syntax.specs.Views.{module_tree}

@@ -1,8 +1,8 @@
 use Rattle.std.proofs.Common.{◌≡◌, drop, map}
-use Rattle.au_derivations.specs.ProgramSearch.{note_modules}
+use Rattle.au_typing.specs.ProgramSearch.{note_modules}
 use Rattle.au_modules.specs.Programs.{entry}
 use Rattle.au_modules.specs.Slots.{modules, parts_at}
-use Rattle.au_outsides.specs.Outsides.{outside_of}
+use Rattle.au_typing.specs.Outsides.{outside_of}
 use Rattle.au_noting_programs.specs.Faults.{noting_of}
 use Rattle.au_noting_programs.specs.Said.{modules_said}
 use Rattle.au_noting_programs.proofs.ChainLemmas.{behind}

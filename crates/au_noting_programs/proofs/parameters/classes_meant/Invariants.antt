@@ -1,6 +1,6 @@
 use Rattle.std.proofs.Common.{◌≡◌, map, take}
-use Rattle.au_generics.specs.Meanings.{classes_meant}
-use Rattle.au_generics.specs.Views.{class_within}
+use Rattle.au_judged_types.specs.Meanings.{classes_meant}
+use Rattle.au_judged_types.specs.GenericViews.{class_within}
 use Rattle.au_syntax.specs.contracts.parsed.ParsedPhase.TheImpl.{ghosts as parsed}
 use Rattle.au_syntax.specs.Views.{placed}
 use Rattle.au_noting_programs.proofs.parameters.classes_meant.Given as goal

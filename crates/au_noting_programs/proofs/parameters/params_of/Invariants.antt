@@ -1,5 +1,5 @@
 use Rattle.std.proofs.Common.{◌≡◌, map, take}
-use Rattle.au_generics.specs.Meanings.{written_params}
+use Rattle.au_judged_types.specs.Meanings.{written_params}
 use Rattle.au_syntax.specs.contracts.parsed.ParsedPhase.TheImpl.{ghosts as parsed}
 use Rattle.au_syntax.specs.Views.{constrained}
 use Rattle.au_noting_programs.proofs.parameters.params_of.Given as goal

@@ -1,16 +1,16 @@
 use Rattle.std.proofs.Common.{arith, ℕ, ◌+◌, List, Ok, ap, drop, subst, sym, ◌∙◌}
 use Rattle.std.proofs.lemmas.Result.{err_from_is_err_and}
-use Rattle.au_derivations.specs.InScope.{after, fixed_variable, with_bound}
-use Rattle.au_derivations.specs.Returns.{returns}
-use Rattle.au_derivations.specs.Search.{judge_next, note_arms, note_block, note_branches}
+use Rattle.au_typing.specs.InScope.{after, fixed_variable, with_bound}
+use Rattle.au_typing.specs.Returns.{returns}
+use Rattle.au_typing.specs.DerivationSearch.{judge_next, note_arms, note_block, note_branches}
 use Rattle.au_judgements.proofs.LeavingLemmas.{after_grown, grown_left, grown_twice}
 use Rattle.au_judgements.specs.Leaving.{IsGrown}
 use Rattle.au_judgements.specs.Said.{binds_said}
-use Rattle.au_notes.specs.contracts.noted.NotedPhase.TheImpl.{ghosts as noted}
+use Rattle.au_sights.specs.contracts.noted.NotedPhase.TheImpl.{ghosts as noted}
 use Rattle.au_noting.specs.Said.{fields_said}
 use Rattle.au_noting.specs.Scopes.{scope_said}
 use Rattle.au_noting_statements.specs.Noted.{all_boxed, boxed}
-use Rattle.au_scopes.specs.Scopes.{Scope}
+use Rattle.au_typing.specs.Scopes.{Scope}
 use Rattle.au_syntax.specs.contracts.parsed.ParsedPhase.TheImpl.{ghosts as parsed}
 use Rattle.au_syntax.specs.Names.{Placed}
 use Rattle.au_syntax.specs.Plain.{Bytes}

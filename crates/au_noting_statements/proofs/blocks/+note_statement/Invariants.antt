@@ -1,7 +1,7 @@
 -- A statement is deeper than the blocks in it; what holds a block comes above it. What the loops keep: what is
 -- noted, in front of what is still judged, is what is judged of all.
 use Rattle.std.proofs.Common.{◌≡◌, ◌+◌, ◌*◌, drop, max}
-use Rattle.au_derivations.specs.Search.{note_arms, note_block, note_branches}
+use Rattle.au_typing.specs.DerivationSearch.{note_arms, note_block, note_branches}
 use Rattle.au_judgements.specs.Leaving.{IsGrown}
 use Rattle.au_noting.specs.Scopes.{scope_said}
 use Rattle.au_noting_statements.specs.Noted.{all_boxed}

@@ -1,8 +1,8 @@
 use Rattle.std.proofs.Common.{ap, ◌∙◌}
-use Rattle.au_derivations.specs.InScope.{fixed_variable, with_variable}
-use Rattle.au_notes.specs.contracts.noted.NotedPhase.TheImpl.{ghosts as noted}
+use Rattle.au_typing.specs.InScope.{fixed_variable, with_variable}
+use Rattle.au_sights.specs.contracts.noted.NotedPhase.TheImpl.{ghosts as noted}
 use Rattle.au_noting.specs.Scopes.{scope_said}
-use Rattle.au_noting_leaves.specs.Said.{NotedCode}
+use Rattle.au_noting_expressions.specs.Said.{NotedCode}
 use Rattle.au_syntax.specs.Views.{expression}
 use Rattle.au_types.specs.Types.{Meaning}
 use Rattle.au_typing.specs.Notes.{type_of}

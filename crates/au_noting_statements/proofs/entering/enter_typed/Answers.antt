@@ -1,5 +1,5 @@
 use Rattle.std.proofs.Common.{Ok, ap, sym, ◌∙◌}
-use Rattle.au_derivations.specs.InScope.{with_reference}
+use Rattle.au_typing.specs.InScope.{with_reference}
 use Rattle.au_noting.specs.Scopes.{scope_said}
 use Rattle.au_syntax.specs.Plain.{Bytes}
 use Rattle.au_types.specs.Types.{Meaning}

@@ -3,9 +3,9 @@ use Rattle.std.proofs.lemmas.Result.{err_from_is_err_and}
 use Rattle.au_judgements.specs.Said.{cases_said, heads_said}
 use Rattle.au_noting.specs.Scopes.{scope_said}
 use Rattle.au_noting_statements.specs.Noted.{boxed}
-use Rattle.au_notes.specs.contracts.noted.NotedPhase.TheImpl.{ghosts as noted}
+use Rattle.au_sights.specs.contracts.noted.NotedPhase.TheImpl.{ghosts as noted}
 use Rattle.au_syntax.specs.contracts.parsed.ParsedPhase.TheImpl.{ghosts as parsed}
-use Rattle.au_noting_leaves.specs.Said.{NotedCode}
+use Rattle.au_noting_expressions.specs.Said.{NotedCode}
 use Rattle.au_syntax.specs.Views.{expression}
 use Rattle.au_types.specs.Views.{meaning}
 use Rattle.au_typing.specs.Notes.{type_of}

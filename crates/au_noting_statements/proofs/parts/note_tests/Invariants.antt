@@ -1,5 +1,5 @@
 use Rattle.std.proofs.Common.{◌≡◌, drop}
-use Rattle.au_derivations.specs.Search.{note_tests}
+use Rattle.au_typing.specs.DerivationSearch.{note_tests}
 use Rattle.au_noting.specs.Scopes.{scope_said}
 use Rattle.au_noting_statements.specs.Noted.{all_boxed}
 use Rattle.au_syntax.specs.contracts.parsed.ParsedPhase.TheImpl.{ghosts as parsed}

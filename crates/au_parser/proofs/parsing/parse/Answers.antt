@@ -2,9 +2,9 @@ use Rattle.std.proofs.Common.{◌≡◌, refl, sym, ap, ◌∙◌, subst, arith}
 use Rattle.au_syntax.specs.contracts.parsed.ParsedPhase.TheImpl.{ghosts as parsed}
 use Rattle.au_syntax.specs.Files.{says}
 use Rattle.au_syntax.specs.Words.{Spells}
-use Rattle.au_reading.specs.Bounds.{usual, ModulePasses}
-use Rattle.au_reading.specs.declared.faults.Fault.TheVariants.{Syntax, Passed}
-use Rattle.au_read_modules.specs.ModuleReading.{file_at}
+use Rattle.au_read_expressions.specs.Bounds.{usual, ModulePasses}
+use Rattle.au_read_expressions.specs.declared.faults.Fault.TheVariants.{Syntax, Passed}
+use Rattle.au_parser.specs.ModuleReading.{file_at}
 use Rattle.au_parser.proofs.FileLaws.{stopped, tree_spelled, tree_formed, tree_within, tree_only, none_spelled, limit_passed, none_within}
 use Rattle.au_parser.proofs.ReaderLaws.{file_sound, file_found}
 use Rattle.au_parser.proofs.PlainTrees.{ParsedModule, is_noted}

@@ -4,9 +4,9 @@ use Rattle.au_linear.specs.Telling.{sorted}
 use Rattle.au_lives.specs.Refusals.{first_refused}
 use Rattle.au_lives.specs.Scopes.{scopes_of}
 use Rattle.au_lives.proofs.RefusalLemmas.{all_good}
-use Rattle.au_mentions.specs.Said.{header_said}
+use Rattle.au_promises.specs.Said.{header_said}
 use Rattle.au_program_lives.specs.LinearFaults.{fault_told}
-use Rattle.au_program_lives.specs.Said.{body_said}
+use Rattle.au_program_lives.specs.ProgramSaid.{body_said}
 use Rattle.au_program_lives.proofs.ToldLemmas.{told_is}
 use Rattle.au_program_lives.proofs.functions.body_fault.Goals as goal
 

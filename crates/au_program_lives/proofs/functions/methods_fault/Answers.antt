@@ -1,9 +1,9 @@
 use Rattle.std.proofs.Common.{ap, ◌∙◌}
-use Rattle.au_mentions.specs.Said.{methods_said}
+use Rattle.au_promises.specs.Said.{methods_said}
 use Rattle.au_imports.specs.Choices.{first_of}
 use Rattle.au_imports.proofs.DeclaringLemmas.{first_more, first_none, found_here, not_here, nowhere}
 use Rattle.au_program_lives.specs.LinearFaults.{method_fault}
-use Rattle.au_program_lives.specs.Said.{method_said, scope_of}
+use Rattle.au_program_lives.specs.ProgramSaid.{method_said, scope_of}
 use Rattle.au_program_lives.proofs.functions.methods_fault.Goals as goal
 
 pub returns-in-Some : goal.returns-in-Some

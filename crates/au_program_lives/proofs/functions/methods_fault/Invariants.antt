@@ -1,8 +1,8 @@
 use Rattle.std.proofs.Common.{◌≡◌, drop}
-use Rattle.au_mentions.specs.Said.{methods_said}
+use Rattle.au_promises.specs.Said.{methods_said}
 use Rattle.au_imports.specs.Choices.{first_of}
 use Rattle.au_program_lives.specs.LinearFaults.{method_fault}
-use Rattle.au_program_lives.specs.Said.{scope_of}
+use Rattle.au_program_lives.specs.ProgramSaid.{scope_of}
 use Rattle.au_program_lives.proofs.functions.methods_fault.Given as goal
 
 -- what is left decides

@@ -1,6 +1,6 @@
 use Rattle.std.proofs.Common.{sym, ap, ◌∙◌}
 use Rattle.std.specs.Option.{option_copied}
-use Rattle.au_tables.specs.Tables as tables
+use Rattle.au_types.specs.Tables as tables
 use Rattle.au_promises.specs.Defining.{is_defined, table_of}
 use Rattle.au_promises.specs.Written.{declarations_of}
 use Rattle.au_promises.proofs.DefinitionLemmas.{first_of, first_there, first_missing}

@@ -3,10 +3,10 @@ use Rattle.std.proofs.lemmas.Grind.{common_steps}
 use Rattle.std.proofs.lemmas.Result.{err_from_is_err_and}
 use Rattle.au_base.specs.declared.tokens.Sign.TheVariants.{Comma}
 use Rattle.au_base.specs.declared.tokens.What.TheVariants as what
-use Rattle.au_reading.specs.Bounds.{usual}
-use Rattle.au_reading.specs.Reading as reading
-use Rattle.au_reading.proofs.Steps.{passes_on}
-use Rattle.au_reading.proofs.Loops.{with_front, map_pushed, separated_on, separated_fails, separated_ends, separated_over}
+use Rattle.au_read_expressions.specs.Bounds.{usual}
+use Rattle.au_read_expressions.specs.Reading as reading
+use Rattle.au_read_expressions.proofs.Steps.{passes_on}
+use Rattle.au_read_expressions.proofs.Loops.{with_front, map_pushed, separated_on, separated_fails, separated_ends, separated_over}
 use Rattle.au_syntax.proofs.ExpressionLemmas.{not_says, if_says, binary_says, parenthesized_says, dereference_says}
 use Rattle.au_syntax.specs.Views.{placed, expression}
 use Rattle.au_syntax.specs.contracts.parsed.ParsedPhase.TheImpl.{ghosts as parsed}

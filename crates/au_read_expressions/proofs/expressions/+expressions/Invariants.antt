@@ -3,9 +3,9 @@
 use Rattle.std.proofs.Common.{◌≡◌, map, ◌-◌, ◌+◌, ◌*◌, length}
 use Rattle.au_base.specs.declared.tokens.Sign.TheVariants.{Comma}
 use Rattle.au_base.specs.declared.tokens.What.TheVariants as what
-use Rattle.au_reading.specs.Bounds.{usual}
-use Rattle.au_reading.specs.Reading.{listed, separated_at}
-use Rattle.au_reading.proofs.Loops.{with_front}
+use Rattle.au_read_expressions.specs.Bounds.{usual}
+use Rattle.au_read_expressions.specs.Reading.{listed, separated_at}
+use Rattle.au_read_expressions.proofs.Loops.{with_front}
 use Rattle.au_syntax.specs.Views.{expression}
 use Rattle.au_syntax.specs.contracts.parsed.ParsedPhase.TheImpl.{ghosts as parsed}
 use Rattle.au_read_expressions.specs.Arguments.{argument}

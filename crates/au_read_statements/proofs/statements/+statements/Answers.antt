@@ -10,10 +10,10 @@ use Rattle.au_read_statements.specs.StatementReading.{block_at, conditional_with
 use Rattle.au_read_statements.proofs.BlockHeads.{case_said, while_said, for_said, borrow_in_said, borrow_typed_said}
 use Rattle.au_read_statements.proofs.CodeBorrows.{borrow_said, front_is, word_is}
 use Rattle.au_read_statements.proofs.CodeLists.{branches_are, arms_are, branches_on, branches_end, branches_fail}
-use Rattle.au_reading.specs.Bounds.{usual}
-use Rattle.au_reading.specs.Reading.{Gives, is_front, read_of, repeated_at}
-use Rattle.au_reading.proofs.Steps.{passes_on}
-use Rattle.au_reading.proofs.Loops.{with_front, map_pushed, repeated_on, repeated_fails, repeated_ends}
+use Rattle.au_read_expressions.specs.Bounds.{usual}
+use Rattle.au_read_expressions.specs.Reading.{Gives, is_front, read_of, repeated_at}
+use Rattle.au_read_expressions.proofs.Steps.{passes_on}
+use Rattle.au_read_expressions.proofs.Loops.{with_front, map_pushed, repeated_on, repeated_fails, repeated_ends}
 use Rattle.au_syntax.proofs.StatementLemmas.{if_says, if_else_says, case_says, while_says, for_says, borrow_says, borrow_typed_says}
 use Rattle.au_syntax.specs.contracts.parsed.ParsedPhase.TheImpl.{ghosts as parsed}
 use Rattle.au_syntax.specs.Views.{statement}

@@ -7,9 +7,9 @@ use Rattle.au_read_expressions.specs.ExpressionReading.{call_at, expression_at}
 use Rattle.au_read_statements.specs.Seen.{arm_seen, branch_seen}
 use Rattle.au_read_statements.specs.StatementReading as spec
 use Rattle.au_read_statements.specs.StatementReading.{block_at}
-use Rattle.au_reading.specs.Bounds.{usual}
-use Rattle.au_reading.specs.Reading.{is_front, repeated, repeated_at}
-use Rattle.au_reading.proofs.Loops.{with_front}
+use Rattle.au_read_expressions.specs.Bounds.{usual}
+use Rattle.au_read_expressions.specs.Reading.{is_front, repeated, repeated_at}
+use Rattle.au_read_expressions.proofs.Loops.{with_front}
 use Rattle.au_syntax.specs.contracts.parsed.ParsedPhase.TheImpl.{ghosts as parsed}
 use Rattle.au_syntax.specs.Views.{statement}
 use Rattle.au_read_statements.proofs.statements.+statements.Given as goal

@@ -1,7 +1,7 @@
 -- What is answered of a run of its code is so of the program.
 use Rattle.std.proofs.Common.{◌⊎◌, inr, false, List}
 use Rattle.std.proofs.lemmas.Result.{IfOk-weaker, on_err_weaker}
-use Rattle.au_derivations.specs.Trees.{NotedParts}
+use Rattle.au_typing.specs.Trees.{NotedParts}
 use Rattle.au_low.specs.Runs.{low_run}
 use Rattle.au_modules.specs.Slots as slots
 use Rattle.au_noting_programs.specs.Faults.{IsDerived}

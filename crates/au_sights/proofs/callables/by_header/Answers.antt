@@ -4,9 +4,9 @@ use Rattle.au_syntax.specs.Views.{written}
 use Rattle.au_types.specs.Views.{meaning}
 use Rattle.au_modules.specs.Slots as slots
 use Rattle.au_names.specs.Standing.{standing}
-use Rattle.au_generics.specs.Bounds.{parameters}
-use Rattle.au_outsides.specs.Called.{callable}
-use Rattle.au_outsides.specs.Written.{all_typed, meant_in}
+use Rattle.au_judged_types.specs.Bounds.{parameters}
+use Rattle.au_typing.specs.Called.{callable}
+use Rattle.au_typing.specs.Written.{all_typed, meant_in}
 use Rattle.au_promises.specs.Written.{labels_of}
 use Rattle.au_sights.proofs.callables.by_header.Goals as goal
 

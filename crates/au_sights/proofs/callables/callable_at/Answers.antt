@@ -2,7 +2,7 @@ use Rattle.std.proofs.Common.{◌≡◌, subst, sym}
 use Rattle.std.specs.Prelude.{IfOk}
 use Rattle.std.specs.Option.{option_map}
 use Rattle.au_modules.specs.Slots as slots
-use Rattle.au_outsides.specs.Called.{callable_standing}
+use Rattle.au_typing.specs.Called.{callable_standing}
 use Rattle.au_sights.specs.Sights.{callable_said}
 use Rattle.au_sights.proofs.callables.callable_at.Goals as goal
 

@@ -1,8 +1,8 @@
 use Rattle.std.proofs.Common.{◌≡◌, [], ◌∷◌, ◌++◌, map, ap, ◌∙◌}
 use Rattle.std.proofs.lemmas.Result.{IfOk-weaker}
 use Rattle.au_names.specs.Walks.{written_parameter}
-use Rattle.au_generics.specs.Meanings.{parameter}
-use Rattle.au_outsides.specs.Called.{unconstrained}
+use Rattle.au_judged_types.specs.Meanings.{parameter}
+use Rattle.au_typing.specs.Called.{unconstrained}
 use Rattle.au_sights.proofs.callables.class_generics.Goals as goal
 
 pub returns : goal.returns

@@ -3,9 +3,9 @@ use Rattle.std.specs.Option.{option_map}
 use Rattle.std.proofs.lemmas.Result.{IfOk-weaker}
 use Rattle.au_modules.specs.Slots as slots
 use Rattle.au_names.specs.Standing.{standing}
-use Rattle.au_generics.specs.Meanings.{generics_meant}
-use Rattle.au_outsides.specs.Called.{function_called}
-use Rattle.au_outsides.specs.Written.{types_at}
+use Rattle.au_judged_types.specs.Meanings.{generics_meant}
+use Rattle.au_typing.specs.Called.{function_called}
+use Rattle.au_typing.specs.Written.{types_at}
 use Rattle.au_names.specs.HeadsOf.{heads_of}
 use Rattle.au_promises.specs.Written.{generics_of, header_of}
 use Rattle.au_sights.specs.Sights.{callable_said}

@@ -4,8 +4,8 @@ use Rattle.std.proofs.lemmas.Result.{IfOk-weaker}
 use Rattle.au_modules.specs.Slots as slots
 use Rattle.au_names.specs.Standing.{standing}
 use Rattle.au_names.specs.Walks.{written_parameter}
-use Rattle.au_generics.specs.Meanings.{parameter}
-use Rattle.au_outsides.specs.Called.{by_header, unconstrained}
+use Rattle.au_judged_types.specs.Meanings.{parameter}
+use Rattle.au_typing.specs.Called.{by_header, unconstrained}
 use Rattle.au_promises.specs.Written.{header_of}
 use Rattle.au_sights.specs.Sights.{callable_said}
 use Rattle.au_sights.proofs.callables.method_of.Goals as goal

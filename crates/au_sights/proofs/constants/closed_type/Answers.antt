@@ -5,7 +5,7 @@ use Rattle.au_syntax.specs.Views.{written}
 use Rattle.au_types.specs.Views.{meaning}
 use Rattle.au_modules.specs.Slots as slots
 use Rattle.au_names.specs.Standing.{standing}
-use Rattle.au_outsides.specs.Written.{meant_in}
+use Rattle.au_typing.specs.Written.{meant_in}
 use Rattle.au_sights.proofs.constants.closed_type.Goals as goal
 
 pub returns : goal.returns

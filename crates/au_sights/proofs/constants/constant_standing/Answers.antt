@@ -3,7 +3,7 @@ use Rattle.std.specs.Prelude.{IfOk}
 use Rattle.std.specs.Option.{option_map}
 use Rattle.au_types.specs.Views.{meaning}
 use Rattle.au_modules.specs.Slots as slots
-use Rattle.au_outsides.specs.Outsides.{constant_standing}
+use Rattle.au_typing.specs.Outsides.{constant_standing}
 use Rattle.au_sights.proofs.constants.constant_standing.Goals as goal
 
 pub constant_declared-requires : goal.constant_declared-requires

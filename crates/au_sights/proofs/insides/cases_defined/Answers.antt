@@ -3,7 +3,7 @@ use Rattle.std.specs.Prelude.{IfOk}
 use Rattle.au_types.specs.Views.{argument_all}
 use Rattle.au_modules.specs.Slots as slots
 use Rattle.au_names.specs.Standing.{standing}
-use Rattle.au_outsides.specs.Insides.{cases_defined}
+use Rattle.au_typing.specs.Insides.{cases_defined}
 use Rattle.au_sights.specs.Steps.{cases_said}
 use Rattle.au_sights.proofs.StandingLemmas.{known_stands}
 use Rattle.au_sights.proofs.insides.cases_defined.Goals as goal

@@ -4,8 +4,8 @@ use Rattle.au_types.specs.Views.{argument_all}
 use Rattle.au_modules.specs.Slots as slots
 use Rattle.au_names.specs.Standing.{standing}
 use Rattle.au_names.specs.Walks.{written_parameters}
-use Rattle.au_generics.specs.Meanings.{parameter}
-use Rattle.au_outsides.specs.Insides.{cases_under, with_arguments}
+use Rattle.au_judged_types.specs.Meanings.{parameter}
+use Rattle.au_typing.specs.Insides.{cases_under, with_arguments}
 use Rattle.au_sights.specs.Steps.{cases_by, cases_said, variants_of}
 use Rattle.au_types.specs.declared.types.DeclAt.{DeclAt}
 use Rattle.au_sights.proofs.MakerLemmas.{cases_same}

@@ -4,8 +4,8 @@ use Rattle.au_types.specs.Views.{argument_all}
 use Rattle.au_modules.specs.Slots as slots
 use Rattle.au_names.specs.Standing.{standing}
 use Rattle.au_names.specs.Walks.{written_parameters}
-use Rattle.au_generics.specs.Meanings.{parameter}
-use Rattle.au_outsides.specs.Insides.{with_arguments}
+use Rattle.au_judged_types.specs.Meanings.{parameter}
+use Rattle.au_typing.specs.Insides.{with_arguments}
 use Rattle.au_promises.specs.Written.{labels_of}
 use Rattle.au_sights.specs.Steps.{fields_by, all_said}
 use Rattle.au_sights.proofs.insides.fields_under.Goals as goal

@@ -1,6 +1,6 @@
 use Rattle.std.proofs.Common.{◌≡◌, take}
 use Rattle.au_types.specs.Views.{argument_all}
-use Rattle.au_outsides.specs.Called.{as_arguments}
+use Rattle.au_typing.specs.Called.{as_arguments}
 use Rattle.au_sights.proofs.makers.as_arguments.Given as goal
 
 -- the type parameters so far

@@ -3,8 +3,8 @@ use Rattle.std.specs.Option.{option_map}
 use Rattle.au_types.specs.Views.{meaning}
 use Rattle.au_modules.specs.Slots as slots
 use Rattle.au_names.specs.Standing.{standing}
-use Rattle.au_outsides.specs.Called.{callable, unconstrained}
-use Rattle.au_outsides.specs.Written.{all_typed}
+use Rattle.au_typing.specs.Called.{callable, unconstrained}
+use Rattle.au_typing.specs.Written.{all_typed}
 use Rattle.au_promises.specs.Written.{labels_of}
 use Rattle.au_sights.specs.Steps.{all_said}
 use Rattle.au_sights.proofs.makers.made_of.Goals as goal

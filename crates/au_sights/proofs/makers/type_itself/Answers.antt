@@ -1,11 +1,11 @@
 use Rattle.std.proofs.Common.{Some, ap, ◌∙◌}
 use Rattle.std.specs.Option.{option_map}
-use Rattle.au_tables.specs.Tables.{find}
+use Rattle.au_types.specs.Tables.{find}
 use Rattle.au_types.specs.Types.{named}
 use Rattle.au_types.proofs.TypeLemmas.{named_means}
 use Rattle.au_modules.specs.Slots as slots
 use Rattle.au_names.specs.Standing.{standing}
-use Rattle.au_outsides.specs.Called.{as_arguments}
+use Rattle.au_typing.specs.Called.{as_arguments}
 use Rattle.au_sights.proofs.StandingLemmas.{number_seen}
 use Rattle.au_sights.proofs.makers.type_itself.Goals as goal
 

@@ -5,8 +5,8 @@ use Rattle.au_syntax.specs.Views.{written}
 use Rattle.au_types.specs.Views.{meaning}
 use Rattle.au_modules.specs.Slots as slots
 use Rattle.au_names.specs.Standing.{standing}
-use Rattle.au_outsides.specs.Written.{meant_in, types_at}
-use Rattle.au_written_types.specs.Meant.{meant}
+use Rattle.au_typing.specs.Written.{meant_in, types_at}
+use Rattle.au_types.specs.Meant.{meant}
 use Rattle.au_sights.proofs.standing.type_there.Goals as goal
 
 pub returns : goal.returns

@@ -5,7 +5,7 @@ use Rattle.au_syntax.specs.contracts.parsed.ParsedPhase.TheImpl.{ghosts as parse
 use Rattle.au_syntax.specs.Plain.{plain_labelled}
 use Rattle.au_syntax.specs.Views.{labelled}
 use Rattle.au_names.specs.Standing.{standing}
-use Rattle.au_outsides.specs.Written.{all_typed, typed}
+use Rattle.au_typing.specs.Written.{all_typed, typed}
 use Rattle.au_sights.specs.Sights.{typed_said}
 use Rattle.au_sights.proofs.FollowedLemmas.{so_far_all, so_far_next, so_far_none, so_far_stops}
 use Rattle.au_sights.proofs.typing.all_typed.Goals as goal

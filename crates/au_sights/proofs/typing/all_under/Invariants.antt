@@ -1,5 +1,5 @@
 use Rattle.std.proofs.Common.{◌≡◌, map, take}
-use Rattle.au_outsides.specs.Insides.{typed_under}
+use Rattle.au_typing.specs.Insides.{typed_under}
 use Rattle.au_sights.specs.Sights.{typed_said}
 use Rattle.au_sights.proofs.typing.all_under.Given as goal
 

@@ -3,7 +3,7 @@ use Rattle.std.proofs.Common.{Option, IfErr, IfOk, IfSome, sym, ap, refl, subst,
 use Rattle.std.specs.String.{string_bytes}
 use Rattle.au_base.specs.declared.statuses.Status.TheVariants.{Words}
 use Rattle.au_top.specs.Calls.{Pays, Fails}
-use Rattle.au_refusals.specs.Lines.{words_line}
+use Rattle.au_outcomes.specs.Lines.{words_line}
 use Rattle.au_top.specs.Dues.{due_of, Due}
 use Rattle.au_top.specs.Streams.{Streams, streams}
 use Rattle.au_top.proofs.SinkLemmas.{lives_fail, lives_pay, said_pays, said_fails}

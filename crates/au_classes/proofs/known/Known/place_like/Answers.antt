@@ -1,7 +1,7 @@
 use Rattle.std.proofs.Common.{ap, find, sym, ◌∙◌}
 use Rattle.std.specs.Option.{option_map}
 use Rattle.au_classes.specs.Faults.{is_like, place_of}
-use Rattle.au_classes.specs.Views.{known_rows}
+use Rattle.au_classes.specs.ClassViews.{known_rows}
 use Rattle.au_classes.proofs.KnownLemmas.{like_none}
 use Rattle.au_classes.proofs.known.Known.place_like.Goals as goal
 

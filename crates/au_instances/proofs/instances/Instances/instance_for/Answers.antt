@@ -1,6 +1,6 @@
 use Rattle.std.proofs.Common.{ap, refl, sym, ◌∙◌}
 use Rattle.std.specs.Option.{option_map}
-use Rattle.au_closed_types.specs.Views.{closed_meaning}
+use Rattle.au_type_texts.specs.Views.{closed_meaning}
 use Rattle.au_instances.specs.Rows.{Row, row_said}
 use Rattle.au_instances.proofs.ClosedLemmas.{closed_row_gave, closed_row_there}
 use Rattle.au_instances.proofs.instances.Instances.instance_for.Goals as goal

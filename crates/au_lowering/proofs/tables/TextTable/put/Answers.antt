@@ -1,7 +1,7 @@
 use Rattle.std.proofs.Common.{[], ◌∷◌, ap, ◌∙◌, map}
 use Rattle.std.specs.Str.{bytes_eq}
-use Rattle.au_reach.specs.Finding.{numbers}
-use Rattle.au_reach.specs.Reached.{adds}
+use Rattle.au_graphs.specs.Finding.{numbers}
+use Rattle.au_graphs.specs.Reached.{adds}
 use Rattle.au_lowering.proofs.TableLemmas.{put_key}
 use Rattle.au_lowering.proofs.tables.TextTable.put.Goals as goal
 

@@ -1,5 +1,5 @@
 use Rattle.std.proofs.Common.{◌≡◌, map, take}
-use Rattle.au_reach.specs.Finding.{numbers}
+use Rattle.au_graphs.specs.Finding.{numbers}
 use Rattle.au_lowering.proofs.tables.TextTable.texts.Given as goal
 
 -- the texts so far

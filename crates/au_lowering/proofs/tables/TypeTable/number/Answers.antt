@@ -1,7 +1,7 @@
 use Rattle.std.proofs.Common.{sym, ◌∙◌}
 use Rattle.std.specs.List.{position_or_len}
 use Rattle.std.specs.Str.{bytes_eq}
-use Rattle.au_closed_types.specs.Views.{closed_meaning}
+use Rattle.au_type_texts.specs.Views.{closed_meaning}
 use Rattle.au_lowering.specs.Keyed.{key_number}
 use Rattle.au_lowering.proofs.TableLemmas.{found_key, missing_key, ok_is}
 use Rattle.au_lowering.proofs.tables.TypeTable.number.Goals as goal

@@ -1,9 +1,9 @@
 use Rattle.std.proofs.Common.{[], ◌∷◌, ap, ◌∙◌, map}
 use Rattle.std.specs.Str.{bytes_eq}
-use Rattle.au_closed_types.specs.Keys.{key_of}
-use Rattle.au_closed_types.specs.Views.{closed_meaning}
-use Rattle.au_reach.specs.Finding.{numbers}
-use Rattle.au_reach.specs.Reached.{adds}
+use Rattle.au_type_texts.specs.Keys.{key_of}
+use Rattle.au_type_texts.specs.Views.{closed_meaning}
+use Rattle.au_graphs.specs.Finding.{numbers}
+use Rattle.au_graphs.specs.Reached.{adds}
 use Rattle.au_lowering.proofs.TableLemmas.{put_key}
 use Rattle.au_lowering.proofs.tables.TypeTable.put.Goals as goal
 

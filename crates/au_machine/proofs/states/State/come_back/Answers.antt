@@ -3,7 +3,7 @@ use Rattle.au_stores.specs.Stores.{world_of, top_frame}
 use Rattle.au_low.specs.Machines.{LowWorld}
 use Rattle.std.proofs.Common.{suc, arith, ◌++◌, ◌∷◌, []}
 use Rattle.au_stores.specs.Stores.{without_frames}
-use Rattle.au_piles.specs.Piles.{next_top}
+use Rattle.au_cells.specs.Piles.{next_top}
 use Rattle.au_cells.specs.declared.cells.Cell.{Cell}
 use Rattle.au_machine.proofs.WorldLemmas.{came_back, all_closed, next_is}
 use Rattle.au_machine.proofs.states.State.come_back.Goals as goal

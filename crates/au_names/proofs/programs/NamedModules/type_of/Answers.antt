@@ -1,9 +1,9 @@
 use Rattle.std.proofs.Common.{ap, ◌∙◌}
 use Rattle.au_modules.specs.Slots as slots
 use Rattle.au_syntax.specs.Views.{written}
-use Rattle.au_tables.specs.declared.spaces.Space.TheVariants.{Types}
+use Rattle.au_types.specs.declared.spaces.Space.TheVariants.{Types}
 use Rattle.au_names.specs.Meanings.{declared_by, seen}
-use Rattle.au_written_types.specs.Meant.{meant}
+use Rattle.au_types.specs.Meant.{meant}
 use Rattle.au_names.specs.Known.{part_if}
 use Rattle.au_names.proofs.programs.NamedModules.type_of.Goals as goal
 

@@ -2,7 +2,7 @@
 use Rattle.std.proofs.Common.{◌≡◌, ◌<◌, ◌-◌, List, Option, length, slice_get, arith, ap, sym, ◌∙◌}
 use Rattle.au_cells.specs.declared.cells.Cell.{Cell}
 use Rattle.au_stores.specs.Stores.{world_of, frames_of, top_frame, slot_count}
-use Rattle.au_piles.specs.Piles.{pile_at, with_below}
+use Rattle.au_cells.specs.Piles.{pile_at, with_below}
 use Rattle.au_stores.proofs.FrameLemmas.{count_top, count_below, name_put, name_below, not_above}
 use Rattle.au_stores.proofs.worlds.World.set_name.Goals as goal
 

@@ -1,5 +1,0 @@
-use Rattle.au_again.proofs.RuleLemmas.{exact}
-use Rattle.au_again.proofs.laws.no_doubles_exactly_where_names_are_once.Goals as goal
-
-pub returns : goal.returns
-returns c = λ program. exact program

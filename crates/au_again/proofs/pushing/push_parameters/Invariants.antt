@@ -1,9 +1,0 @@
-use Rattle.std.proofs.Common.{◌≡◌, ◌++◌, map, take}
-use Rattle.au_mentions.specs.Said.{parameters_said}
-use Rattle.au_again.specs.Marks.{parameter_mark}
-use Rattle.au_again.proofs.pushing.push_parameters.Given as goal
-
--- the marks of the items that are visited
-abbrev pub invariant-loop-one : goal.invariant-loop-one
-invariant-loop-one l = l.list.items ≡ l.fn.list.items
-    ++ map parameter_mark (parameters_said (take l.one-index l.one-items))

@@ -1,7 +1,0 @@
-use Rattle.std.proofs.Common.{take}
-use Rattle.au_class_methods.proofs.MethodLemmas.{NamedSoFar}
-use Rattle.au_class_methods.proofs.methods.methods_by_name.Given as goal
-
--- the table finds the methods that are visited, which have names of their own
-abbrev pub invariant-loop-index : goal.invariant-loop-index
-invariant-loop-index l = NamedSoFar l.one-items l.index l.table

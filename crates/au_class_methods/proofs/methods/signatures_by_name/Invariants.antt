@@ -1,8 +1,0 @@
-use Rattle.std.proofs.Common.{take}
-use Rattle.au_class_methods.specs.Indices.{FindsFirst}
-use Rattle.au_class_methods.specs.Views.{called_by, headers_of}
-use Rattle.au_class_methods.proofs.methods.signatures_by_name.Given as goal
-
--- the table finds the first of the methods that are visited
-abbrev pub invariant-loop-index : goal.invariant-loop-index
-invariant-loop-index l = FindsFirst called_by (headers_of (take l.index l.one-items)) l.table

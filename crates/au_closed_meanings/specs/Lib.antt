@@ -1,0 +1,11 @@
+pub mod Shipped
+pub mod Surroundings
+pub mod Programs
+pub mod Views
+pub mod Generic
+pub mod Numbers
+pub mod Closed
+pub mod Kept
+pub mod InRow
+pub mod Listed
+pub mod Agreement

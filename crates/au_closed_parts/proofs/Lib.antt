@@ -1,3 +1,0 @@
-pub mod PutLemmas
-pub mod GivenLemmas
-mod ListingLemmas

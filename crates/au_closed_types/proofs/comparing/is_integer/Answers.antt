@@ -1,6 +1,0 @@
-use Rattle.std.proofs.Common.{sym}
-use Rattle.au_closed_types.proofs.SameLemmas.{not_integer}
-use Rattle.au_closed_types.proofs.comparing.is_integer.Goals as goal
-
-pub returns-in_default : goal.returns-in_default
-returns-in_default c = sym (not_integer c.args.kind c.args.of.now c.in_default.not-Int)

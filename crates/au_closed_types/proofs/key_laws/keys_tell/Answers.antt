@@ -1,5 +1,0 @@
-use Rattle.au_closed_types.proofs.KeyTellLemmas.{key_one}
-use Rattle.au_closed_types.proofs.key_laws.keys_tell.Goals as goal
-
-pub returns : goal.returns
-returns c t u r s is = key_one t u r s is

@@ -1,4 +1,0 @@
-pub mod Shipped
-pub mod Surroundings
-pub mod Programs
-pub mod Views

@@ -1,5 +1,0 @@
-use Rattle.au_closing.proofs.ClosesLemmas.{instances_told}
-use Rattle.au_closing.proofs.laws.instances_are_told.Goals as goal
-
-pub returns : goal.returns
-returns c = instances_told

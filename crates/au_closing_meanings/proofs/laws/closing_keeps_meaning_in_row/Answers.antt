@@ -1,5 +1,0 @@
-use Rattle.au_closing_meanings.proofs.InRowLemmas.{kept_in_row}
-use Rattle.au_closing_meanings.proofs.laws.closing_keeps_meaning_in_row.Goals as goal
-
-pub returns : goal.returns
-returns c = kept_in_row

@@ -1,5 +1,0 @@
-use Rattle.au_closing_meanings.proofs.ListedCountLemmas.{listed_count}
-use Rattle.au_closing_meanings.proofs.laws.listed_types_count.Goals as goal
-
-pub returns : goal.returns
-returns c = listed_count

@@ -1,8 +1,0 @@
-use Rattle.au_closing_meanings.proofs.NumberLemmas.{bodies_stand, numbers_apart}
-use Rattle.au_closing_meanings.proofs.laws.numbers_are_of_declarations.Goals as goal
-
-pub returns-clause-stand : goal.returns-clause-stand
-returns-clause-stand c = bodies_stand
-
-pub returns-clause-apart : goal.returns-clause-apart
-returns-clause-apart c = numbers_apart

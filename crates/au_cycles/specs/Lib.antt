@@ -1,4 +1,0 @@
-pub mod Cycles
-pub mod Lists
-pub mod Marks
-pub mod Peeling

@@ -1,9 +1,0 @@
-pub mod StepLemmas
-pub mod PartLemmas
-pub mod FoundLemmas
-pub mod SoundPartLemmas
-pub mod SoundLemmas
-pub mod ProgramLemmas
-pub mod PathLemmas
-pub mod ErasureLemmas
-pub mod RefusalLemmas

@@ -1,5 +1,0 @@
-use Rattle.au_derivations.proofs.RefusalLemmas.{where_refused}
-use Rattle.au_derivations.proofs.laws.blocks_are_refused_at_their_first_fault.Goals as goal
-
-pub returns : goal.returns
-returns c ss sc fault h = where_refused ss sc fault h

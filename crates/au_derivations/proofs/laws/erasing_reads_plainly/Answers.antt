@@ -1,5 +1,0 @@
-use Rattle.au_derivations.proofs.ErasureLemmas.{module_plain}
-use Rattle.au_derivations.proofs.laws.erasing_reads_plainly.Goals as goal
-
-pub returns : goal.returns
-returns c m = module_plain m

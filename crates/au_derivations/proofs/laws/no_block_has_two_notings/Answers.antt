@@ -1,8 +1,0 @@
-use Rattle.au_derivations.proofs.FoundLemmas.{two_blocks, two_statements}
-use Rattle.au_derivations.proofs.laws.no_block_has_two_notings.Goals as goal
-
-pub returns-clause-statement : goal.returns-clause-statement
-returns-clause-statement c = λ a b sc g h e. two_statements a b sc g h e
-
-pub returns-clause-block : goal.returns-clause-block
-returns-clause-block c = λ a b sc g h e. two_blocks a b sc g h e

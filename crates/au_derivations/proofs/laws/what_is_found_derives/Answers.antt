@@ -1,5 +1,0 @@
-use Rattle.au_derivations.proofs.ProgramLemmas.{program_sound}
-use Rattle.au_derivations.proofs.laws.what_is_found_derives.Goals as goal
-
-pub returns : goal.returns
-returns c outside program noted h = program_sound outside program noted h

@@ -1,4 +1,0 @@
-//! Laws on the typing of statements, blocks, functions and programs.
-#![tactic(auto)]
-
-pub mod laws;

@@ -1,3 +1,0 @@
-pub mod DeclaredLemmas
-pub mod DerivedLemmas
-pub mod FunctionLemmas

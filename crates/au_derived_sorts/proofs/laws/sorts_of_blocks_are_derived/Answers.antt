@@ -1,5 +1,0 @@
-use Rattle.au_derived_sorts.proofs.DerivedLemmas.{block_derived}
-use Rattle.au_derived_sorts.proofs.laws.sorts_of_blocks_are_derived.Goals as goal
-
-pub returns : goal.returns
-returns c b sc good = block_derived b sc good

@@ -1,5 +1,0 @@
-use Rattle.au_derived_sorts.proofs.FunctionLemmas.{function_derived}
-use Rattle.au_derived_sorts.proofs.laws.sorts_of_functions_are_derived.Goals as goal
-
-pub returns : goal.returns
-returns c outside generics header body good = function_derived outside generics header body good

@@ -1,3 +1,0 @@
-mod NamingLemmas
-mod PlaceLemmas
-mod TypeLemmas

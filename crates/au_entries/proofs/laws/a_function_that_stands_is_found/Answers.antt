@@ -1,5 +1,0 @@
-use Rattle.au_entries.proofs.NamingLemmas.{stands_found}
-use Rattle.au_entries.proofs.laws.a_function_that_stands_is_found.Goals as goal
-
-pub returns : goal.returns
-returns c = stands_found

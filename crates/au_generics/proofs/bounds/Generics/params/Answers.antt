@@ -1,7 +1,0 @@
-use Rattle.std.proofs.Common.{ap, ◌∙◌, sym}
-use Rattle.au_generics.specs.Bounds.{parameters}
-use Rattle.au_generics.proofs.BoundLemmas.{parameters_of}
-use Rattle.au_generics.proofs.bounds.Generics.params.Goals as goal
-
-pub returns : goal.returns
-returns c = sym (parameters_of c.self.inside.params c.self.inside.classes.items c.self.invariant) ∙ ap parameters c.self.view_is

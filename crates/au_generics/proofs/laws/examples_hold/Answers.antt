@@ -1,5 +1,0 @@
-use Rattle.std.proofs.Common.{refl}
-use Rattle.au_generics.proofs.laws.examples_hold.Goals as goal
-
-pub returns-clause-meant : goal.returns-clause-meant
-returns-clause-meant c = (refl, (refl, (refl, (refl, (refl, (refl, (refl, (refl, tt))))))))

@@ -1,5 +1,0 @@
-use Rattle.au_generics.proofs.MeaningLemmas.{params_written}
-use Rattle.au_generics.proofs.laws.parameters_are_as_written.Goals as goal
-
-pub returns : goal.returns
-returns c = λ visible heads written generics are. params_written visible heads written generics are

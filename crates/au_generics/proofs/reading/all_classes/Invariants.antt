@@ -1,8 +1,0 @@
-use Rattle.std.proofs.Common.{◌≡◌, map, take}
-use Rattle.au_generics.specs.Meanings.{constraints}
-use Rattle.au_generics.specs.Views.{class_within, generics_said}
-use Rattle.au_generics.proofs.reading.all_classes.Given as goal
-
--- the classes of the type parameters that are visited
-abbrev pub invariant-loop-one : goal.invariant-loop-one
-invariant-loop-one l = l.all.items ≡ map (constraints (class_within l.scope)) (generics_said (take l.one-index l.written))

@@ -1,8 +1,0 @@
-use Rattle.std.proofs.Common.{◌≡◌, take}
-use Rattle.au_generics.specs.Meanings.{classes_meant}
-use Rattle.au_generics.specs.Views.{class_within, names_said}
-use Rattle.au_generics.proofs.reading.classes_meant.Given as goal
-
--- the classes of the names that are visited
-abbrev pub invariant-loop-one : goal.invariant-loop-one
-invariant-loop-one l = l.classes ≡ classes_meant (class_within l.scope) (names_said (take l.one-index l.one-items))

@@ -1,8 +1,0 @@
-use Rattle.std.proofs.Common.{◌≡◌, take}
-use Rattle.au_generics.specs.Meanings.{written_params}
-use Rattle.au_generics.specs.Views.{generics_said}
-use Rattle.au_generics.proofs.reading.params_of.Given as goal
-
--- the type parameters that are visited
-abbrev pub invariant-loop-one : goal.invariant-loop-one
-invariant-loop-one l = l.params ≡ written_params (generics_said (take l.one-index l.written))

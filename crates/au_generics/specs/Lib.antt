@@ -1,4 +1,0 @@
-pub mod Bounds
-pub mod Meanings
-pub mod Views
-pub mod Examples

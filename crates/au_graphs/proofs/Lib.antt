@@ -1,0 +1,13 @@
+pub mod HasLemmas
+pub mod OrderLemmas
+pub mod WalkLemmas
+pub mod RefusedLemmas
+pub mod FoundLemmas
+pub mod KeyLemmas
+pub mod FindingLemmas
+pub mod TestLemmas
+pub mod CycleLemmas
+pub mod GraphLemmas
+pub mod MarkLemmas
+pub mod PeelingLemmas
+pub mod SearchLemmas

@@ -1,2 +1,0 @@
-mod LoopLemmas
-pub mod WalkLemmas

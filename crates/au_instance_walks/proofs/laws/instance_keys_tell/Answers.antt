@@ -1,5 +1,0 @@
-use Rattle.au_instance_walks.specs.Telling.{instance_one}
-use Rattle.au_instance_walks.proofs.laws.instance_keys_tell.Goals as goal
-
-pub returns : goal.returns
-returns c a b is = instance_one a b is

@@ -1,9 +1,0 @@
-use Rattle.std.proofs.Common.{◌≡◌, drop}
-use Rattle.au_closed_types.specs.Sizes.{nodes_limit}
-use Rattle.au_given_types.specs.Views.{given_said}
-use Rattle.au_instance_walks.specs.Told.{first_told}
-use Rattle.au_instance_walks.proofs.told.nodes_told.Given as goal
-
--- what is left tells what all tells
-abbrev pub invariant-loop-one : goal.invariant-loop-one
-invariant-loop-one l = first_told nodes_limit (given_said (drop l.one-index l.given)) ≡ first_told nodes_limit (given_said l.given)

@@ -1,4 +1,0 @@
-pub mod Keys
-pub mod Told
-pub mod Views
-pub mod Telling

@@ -1,0 +1,13 @@
+pub mod Clauses
+pub mod NodeClauses
+pub mod CallClauses
+pub mod FirstFaults
+pub mod StatementClauses
+pub mod FirstInStatements
+pub mod FirstInPrograms
+pub mod Things
+pub mod Expressions
+pub mod Statements
+pub mod Bodies
+pub mod Rules
+pub mod Derived

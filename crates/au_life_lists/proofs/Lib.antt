@@ -1,4 +1,0 @@
-pub mod DeclarationLemmas
-pub mod TurnLemmas
-pub mod PutLemmas
-pub mod StatementLemmas

@@ -1,4 +1,0 @@
-pub mod Variables
-pub mod Programs
-pub mod Said
-pub mod Mentions

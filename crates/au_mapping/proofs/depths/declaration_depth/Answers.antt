@@ -1,0 +1,35 @@
+use Rattle.std.proofs.Common.{arith}
+use Rattle.au_syntax.proofs.DeclarationLemmas.{constant_says, opaque_says, record_says, union_says}
+use Rattle.au_syntax.proofs.DeclarationLemmas.{function_says, class_says, instance_says, constant_body_says}
+use Rattle.au_syntax.proofs.DeclarationLemmas.{function_body_says, instance_body_says}
+use Rattle.au_mapping.proofs.depths.declaration_depth.Goals as goal
+
+pub returns-in-Constant : goal.returns-in-Constant
+returns-in-Constant g c = grind (arith, constant_says)
+
+pub returns-in-Opaque : goal.returns-in-Opaque
+returns-in-Opaque g c = grind (arith, opaque_says)
+
+pub returns-in-Record : goal.returns-in-Record
+returns-in-Record g c = grind (arith, record_says)
+
+pub returns-in-Union : goal.returns-in-Union
+returns-in-Union g c = grind (arith, union_says)
+
+pub returns-in-Function : goal.returns-in-Function
+returns-in-Function g c = grind (arith, function_says)
+
+pub returns-in-Class : goal.returns-in-Class
+returns-in-Class g c = grind (arith, class_says)
+
+pub returns-in-Instance : goal.returns-in-Instance
+returns-in-Instance g c = grind (arith, instance_says)
+
+pub returns-in-ConstantBody : goal.returns-in-ConstantBody
+returns-in-ConstantBody g c = grind (arith, constant_body_says)
+
+pub returns-in-FunctionBody : goal.returns-in-FunctionBody
+returns-in-FunctionBody g c = grind (arith, function_body_says)
+
+pub returns-in-InstanceBody : goal.returns-in-InstanceBody
+returns-in-InstanceBody g c = grind (arith, instance_body_says)

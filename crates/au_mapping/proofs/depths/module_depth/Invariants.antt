@@ -1,0 +1,9 @@
+use Rattle.std.proofs.Common.{◌≡◌, take, map}
+use Rattle.au_syntax.specs.Views as view
+use Rattle.au_syntax.specs.Plain as plain
+use Rattle.au_syntax.specs.Depths as spec
+use Rattle.au_mapping.proofs.depths.module_depth.Given as goal
+
+-- the depth of what is visited
+abbrev pub invariant-loop-one : goal.invariant-loop-one
+invariant-loop-one g l = l.deepest ≡ spec.counted (spec.greatest spec.declaration_depth (map (plain.plain_declaration g.P.Phase.name_bytes) (map (view.declaration g.P.Phase) (take l.one-index l.one-items))))

@@ -1,2 +1,0 @@
-pub mod MentionLemmas
-pub mod ValueLemmas

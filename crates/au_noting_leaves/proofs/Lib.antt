@@ -1,5 +1,0 @@
-pub mod ClauseLemmas
-mod LabelLemmas
-mod MadeLemmas
-mod ParameterLemmas
-mod StopLemmas

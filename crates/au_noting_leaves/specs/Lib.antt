@@ -1,4 +1,0 @@
-pub mod Said
-pub mod Leaves
-pub mod Made
-pub mod Bare

@@ -1,4 +1,0 @@
-pub mod NumberLemmas
-pub mod MakerLemmas
-pub mod CaseLemmas
-pub mod OfferedLemmas

@@ -1,6 +1,0 @@
-use Rattle.au_outsides.proofs.OfferedLemmas.{hidden_elsewhere}
-use Rattle.au_outsides.proofs.laws.bodies_are_hidden_elsewhere.Goals as goal
-
-pub returns : goal.returns
-returns c = λ program place part space name meaning d h stands body.
-    hidden_elsewhere program place part space name meaning d h stands body

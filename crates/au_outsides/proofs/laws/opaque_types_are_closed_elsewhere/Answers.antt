@@ -1,9 +1,0 @@
-use Rattle.std.proofs.Common.{ap}
-use Rattle.au_outsides.specs.Insides.{cases_defined, fields_defined}
-use Rattle.au_outsides.proofs.CaseLemmas.{hidden}
-use Rattle.au_outsides.proofs.laws.opaque_types_are_closed_elsewhere.Goals as goal
-
-pub returns : goal.returns
-returns c = λ program place at args d name stands opaque other.
-    let none = hidden program place at d name stands opaque other in
-    (ap (fields_defined program args) none, ap (cases_defined program args) none)

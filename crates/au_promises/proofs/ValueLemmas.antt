@@ -1,0 +1,198 @@
+-- The names in the types that are written in an expression of the code, variant by variant, and in a list of
+-- them. The definitions are opaque; these equations stand for them.
+use Rattle.std.proofs.Common.{◌≡◌, ℕ, ◌+◌, ◌<◌, Bool, List, [], ◌∷◌, ◌++◌, length, take, get_or, Vec, refl}
+use Rattle.std.proofs.Common.{sym, ap, ◌∙◌, append_assoc}
+use Rattle.std.specs.Global.{Global}
+use Rattle.std.specs.List.{flat_map}
+use Rattle.std.specs.declared.boxed.Box.{Box}
+use Rattle.std.proofs.lemmas.Grind.{flat_map-append}
+use Rattle.std.proofs.lemmas.List.{append-nil, take_more}
+use Rattle.au_syntax.specs.contracts.parsed.ParsedPhase.TheImpl.{ghosts as parsed}
+use Rattle.au_syntax.specs.declared.parsed.Parsed.{Parsed}
+use Rattle.au_syntax.specs.declared.names.Ident.{Ident}
+use Rattle.au_syntax.specs.declared.types.TypeText.{TypeText}
+use Rattle.au_syntax.specs.declared.expressions.Site.{Site}
+use Rattle.au_syntax.specs.declared.expressions.Literal.{Literal}
+use Rattle.au_syntax.specs.declared.expressions.BorrowMode.{BorrowMode}
+use Rattle.au_syntax.specs.declared.expressions.BinaryOperator.{BinaryOperator}
+use Rattle.au_syntax.specs.declared.expressions.Argument.{Argument}
+use Rattle.au_syntax.specs.declared.expressions.Expr.{Expr}
+use Rattle.au_syntax.specs.declared.expressions.Expr as code
+use Rattle.au_syntax.specs.Expressions.{Expression}
+use Rattle.au_syntax.specs.Plain.{Bytes, plain_expression}
+use Rattle.au_syntax.specs.Sizes.{expression_types, expressions_types, arguments_types}
+use Rattle.au_syntax.specs.Views.{expression, written}
+use Rattle.au_syntax.proofs.ExpressionLemmas.{number_says, negative_says, text_says, bool_says, nil_says}
+use Rattle.au_syntax.proofs.ExpressionLemmas.{path_says, arrow_says, call_says, named_call_says}
+use Rattle.au_syntax.proofs.ExpressionLemmas.{parenthesized_says, dereference_says, borrow_says}
+use Rattle.au_syntax.proofs.ExpressionLemmas.{borrow_part_says, binary_says, not_says, typed_says, if_says}
+use Rattle.au_promises.specs.Mentions.{type_mentions, value_mentions, values_mentions, named_values_mentions}
+use Rattle.au_promises.specs.Said.{arguments_said, expression_said, expressions_said}
+
+abbrev TheSite : Type 0
+TheSite = Site Parsed (List ℕ) (Unit {0}) (Unit {0})
+
+abbrev TheIdent : Type 0
+TheIdent = Ident Parsed (List ℕ) (Unit {0}) (Unit {0})
+
+abbrev TheExpr : Type 0
+TheExpr = Expr Parsed (List ℕ) (Unit {0}) (Unit {0})
+
+abbrev TheArgument : Type 0
+TheArgument = Argument Parsed (List ℕ) (Unit {0}) (Unit {0})
+
+-- what an expression says decides
+said : (e : TheExpr) (says : Expression Bytes (Unit {0}) (Unit {0})) → expression parsed e ≡ says
+    → value_mentions (expression_said e) ≡ value_mentions (plain_expression parsed.name_bytes says)
+said e says is = ap (λ x. value_mentions (plain_expression parsed.name_bytes x)) is
+
+-- ---- expressions in which no other stands
+
+pub number_values : (s : TheSite) (l : Literal) → value_mentions (expression_said (code.Number s l)) ≡ []
+unfolding value_mentions
+number_values s l = said _ _ (number_says parsed s l)
+
+pub negative_values : (s : TheSite) (l : Literal) → value_mentions (expression_said (code.Negative s l)) ≡ []
+unfolding value_mentions
+negative_values s l = said _ _ (negative_says parsed s l)
+
+pub text_values : (s : TheSite) (t : List ℕ) → value_mentions (expression_said (code.Text s t)) ≡ []
+unfolding value_mentions
+text_values s t = said _ _ (text_says parsed s t)
+
+pub bool_values : (s : TheSite) (b : Bool) → value_mentions (expression_said (code.Bool s b)) ≡ []
+unfolding value_mentions
+bool_values s b = said _ _ (bool_says parsed s b)
+
+pub nil_values : (s : TheSite) → value_mentions (expression_said (code.Nil s)) ≡ []
+unfolding value_mentions
+nil_values s = said _ _ (nil_says parsed s)
+
+pub path_values : (s : TheSite) (n : TheIdent) (fields : Vec TheIdent Global)
+    → value_mentions (expression_said (code.Path s n fields)) ≡ []
+unfolding value_mentions
+path_values s n fields = said _ _ (path_says parsed s n fields)
+
+pub arrow_values : (s : TheSite) (n : TheIdent) (fields : Vec TheIdent Global)
+    → value_mentions (expression_said (code.Arrow s n fields)) ≡ []
+unfolding value_mentions
+arrow_values s n fields = said _ _ (arrow_says parsed s n fields)
+
+pub borrow_values : (s : TheSite) (m : BorrowMode) (n : TheIdent)
+    → value_mentions (expression_said (code.Borrow s m n)) ≡ []
+unfolding value_mentions
+borrow_values s m n = said _ _ (borrow_says parsed s m n)
+
+pub borrow_part_values : (s : TheSite) (n : TheIdent) (fields : Vec TheIdent Global)
+    → value_mentions (expression_said (code.BorrowPart s n fields)) ≡ []
+unfolding value_mentions
+borrow_part_values s n fields = said _ _ (borrow_part_says parsed s n fields)
+
+-- ---- those with others in them
+
+pub call_values : (s : TheSite) (n : TheIdent) (args : Vec TheExpr Global) (note : Unit {0})
+    → value_mentions (expression_said (code.Call s n args note))
+    ≡ values_mentions (expressions_said args.items)
+unfolding value_mentions values_mentions
+call_values s n args note = said _ _ (call_says parsed s n args note)
+
+pub named_call_values : (s : TheSite) (n : TheIdent) (args : Vec TheArgument Global) (note : Unit {0})
+    → value_mentions (expression_said (code.NamedCall s n args note))
+    ≡ named_values_mentions (arguments_said args.items)
+unfolding value_mentions named_values_mentions
+named_call_values s n args note = said _ _ (named_call_says parsed s n args note)
+
+pub parenthesized_values : (s : TheSite) (e : Box TheExpr Global)
+    → value_mentions (expression_said (code.Parenthesized s e)) ≡ value_mentions (expression_said e.value)
+unfolding value_mentions
+parenthesized_values s e = said _ _ (parenthesized_says parsed s e)
+
+pub dereference_values : (s : TheSite) (e : Box TheExpr Global)
+    → value_mentions (expression_said (code.Dereference s e)) ≡ value_mentions (expression_said e.value)
+unfolding value_mentions
+dereference_values s e = said _ _ (dereference_says parsed s e)
+
+pub not_values : (s : TheSite) (e : Box TheExpr Global) → value_mentions (expression_said (code.Not s e))
+    ≡ value_mentions (expression_said e.value)
+unfolding value_mentions
+not_values s e = said _ _ (not_says parsed s e)
+
+pub binary_values : (s : TheSite) (op : BinaryOperator) (a b : Box TheExpr Global)
+    → value_mentions (expression_said (code.Binary s op a b))
+    ≡ value_mentions (expression_said a.value) ++ value_mentions (expression_said b.value)
+unfolding value_mentions
+binary_values s op a b =
+    said _ _ (binary_says parsed s op a b)
+    ∙ flat_map-append type_mentions (expression_types (expression_said a.value))
+    (expression_types (expression_said b.value))
+
+pub typed_values : (s : TheSite) (e : Box TheExpr Global) (t : TypeText)
+    → value_mentions (expression_said (code.Typed s e t)) ≡ value_mentions (expression_said e.value)
+    ++ type_mentions (written t)
+unfolding value_mentions
+typed_values s e t =
+    said _ _ (typed_says parsed s e t)
+    ∙ flat_map-append type_mentions (expression_types (expression_said e.value)) (written t ∷ [])
+    ∙ ap (λ r. flat_map type_mentions (expression_types (expression_said e.value)) ++ r)
+    (append-nil (type_mentions (written t)))
+
+pub if_values : (s : TheSite) (c a b : Box TheExpr Global)
+    → value_mentions (expression_said (code.If s c a b)) ≡ value_mentions (expression_said c.value)
+    ++ value_mentions (expression_said a.value) ++ value_mentions (expression_said b.value)
+unfolding value_mentions
+if_values s c a b =
+    let test = expression_types (expression_said c.value) in
+    let one = expression_types (expression_said a.value) in
+    let other = expression_types (expression_said b.value) in
+    said _ _ (if_says parsed s c a b)
+    ∙ flat_map-append type_mentions (test ++ one) other
+    ∙ ap (λ r. r ++ flat_map type_mentions other) (flat_map-append type_mentions test one)
+
+-- ---- lists
+
+pub no_values : values_mentions (expressions_said []) ≡ []
+unfolding values_mentions
+no_values = refl
+
+pub no_named_values : named_values_mentions (arguments_said []) ≡ []
+unfolding named_values_mentions
+no_named_values = refl
+
+last_types : (es : List TheExpr) (e : TheExpr) → expressions_types (expressions_said (es ++ e ∷ []))
+    ≡ expressions_types (expressions_said es) ++ expression_types (expression_said e)
+last_types [] e = append-nil (expression_types (expression_said e))
+last_types (one ∷ rest) e =
+    ap (λ r. expression_types (expression_said one) ++ r) (last_types rest e)
+    ∙ sym (append_assoc (expression_types (expression_said one)) (expressions_types (expressions_said rest))
+    (expression_types (expression_said e)))
+
+last_named_types : (es : List TheArgument) (e : TheArgument) → arguments_types (arguments_said (es ++ e ∷ []))
+    ≡ arguments_types (arguments_said es) ++ expression_types (expression_said e.value)
+last_named_types [] e = append-nil (expression_types (expression_said e.value))
+last_named_types (one ∷ rest) e =
+    ap (λ r. expression_types (expression_said one.value) ++ r) (last_named_types rest e)
+    ∙ sym (append_assoc (expression_types (expression_said one.value)) (arguments_types (arguments_said rest))
+    (expression_types (expression_said e.value)))
+
+-- those in one more
+pub more_values : (es : List TheExpr) (i : ℕ) (e : TheExpr) → i < length es → e ≡ get_or es i e
+    → values_mentions (expressions_said (take (i + 1) es)) ≡ values_mentions (expressions_said (take i es))
+    ++ value_mentions (expression_said e)
+unfolding value_mentions values_mentions
+more_values es i e within is =
+    ap (λ r. flat_map type_mentions (expressions_types (expressions_said r)))
+    (take_more es i e within ∙ ap (λ x. take i es ++ x ∷ []) (sym is))
+    ∙ ap (flat_map type_mentions) (last_types (take i es) e)
+    ∙ flat_map-append type_mentions (expressions_types (expressions_said (take i es)))
+    (expression_types (expression_said e))
+
+pub more_named_values : (es : List TheArgument) (i : ℕ) (e : TheArgument) → i < length es → e ≡ get_or es i e
+    → named_values_mentions (arguments_said (take (i + 1) es))
+    ≡ named_values_mentions (arguments_said (take i es)) ++ value_mentions (expression_said e.value)
+unfolding value_mentions named_values_mentions
+more_named_values es i e within is =
+    ap (λ r. flat_map type_mentions (arguments_types (arguments_said r)))
+    (take_more es i e within ∙ ap (λ x. take i es ++ x ∷ []) (sym is))
+    ∙ ap (flat_map type_mentions) (last_named_types (take i es) e)
+    ∙ flat_map-append type_mentions (arguments_types (arguments_said (take i es)))
+    (expression_types (expression_said e.value))

@@ -1,9 +1,0 @@
-pub mod Known
-pub mod Lower
-pub mod PartForms
-pub mod TypedForms
-pub mod DeclarationForm
-pub mod NameForm
-pub mod ModuleForm
-pub mod FileForm
-pub mod CodeNames

@@ -1,9 +1,0 @@
-use Rattle.std.proofs.Common.{arith}
-use Rattle.std.proofs.lemmas.Grind.{common_steps}
-use Rattle.au_syntax.proofs.DeclarationLemmas.{constant_body_says}
-use Rattle.au_read_modules.specs.DeclarationReading.{constant_body_at}
-use Rattle.au_read_modules.proofs.declarations.constant_body.Goals as goal
-
-pub returns-in-Ok : goal.returns-in-Ok
-unfolding constant_body_at
-returns-in-Ok c = grind (arith, common_steps, constant_body_says)

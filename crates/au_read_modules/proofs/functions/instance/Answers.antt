@@ -1,7 +1,0 @@
-use Rattle.std.proofs.Common.{arith}
-use Rattle.std.proofs.lemmas.Grind.{common_steps}
-use Rattle.au_syntax.proofs.DeclarationLemmas.{instance_says}
-use Rattle.au_read_modules.proofs.functions.instance.Goals as goal
-
-pub returns-in-Ok : goal.returns-in-Ok
-returns-in-Ok c = grind (arith, common_steps, instance_says)

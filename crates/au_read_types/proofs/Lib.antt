@@ -1,4 +1,0 @@
-pub mod TypeNodes
-pub mod TypeForm
-pub mod TypeSteps
-pub mod TypeStops

@@ -1,2 +1,0 @@
-pub mod TypeReading
-pub mod TypeStops

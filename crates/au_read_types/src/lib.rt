@@ -1,8 +1,0 @@
-//! Reads written types.
-#![tactic(auto)]
-
-mod nodes;
-mod stops;
-pub mod types;
-
-pub use types::written_type;

@@ -1,4 +1,0 @@
-pub mod Scopes
-pub mod Codes
-pub mod Places
-pub mod Variables

@@ -1,6 +1,0 @@
-use Rattle.au_simulation.proofs.ExpressionLemmas.{expression_runs}
-use Rattle.au_simulation.proofs.laws.expressions_run.Goals as goal
-
-pub returns : goal.returns
-returns g c = λ by see invoke depth f get placed view calls wide room scope distinct e.
-    expression_runs by see invoke depth f get placed view calls wide room scope distinct e

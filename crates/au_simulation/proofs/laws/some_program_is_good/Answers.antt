@@ -1,5 +1,0 @@
-use Rattle.au_simulation.proofs.WitnessLemmas.{some_program_is_good}
-use Rattle.au_simulation.proofs.laws.some_program_is_good.Goals as goal
-
-pub returns : goal.returns
-returns c = some_program_is_good

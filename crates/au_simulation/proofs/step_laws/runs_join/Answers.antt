@@ -1,5 +1,0 @@
-use Rattle.au_simulation.proofs.LeadLemmas.{leads_on}
-use Rattle.au_simulation.proofs.step_laws.runs_join.Goals as goal
-
-pub returns : goal.returns
-returns c = λ code s t r n m l spare more first second. leads_on code first second

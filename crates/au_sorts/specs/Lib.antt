@@ -1,4 +1,0 @@
-pub mod Scopes
-pub mod Said
-pub mod Sorts
-pub mod Examples

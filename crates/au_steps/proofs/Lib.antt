@@ -1,5 +1,0 @@
-pub mod ArgumentLemmas
-pub mod FrameLemmas
-pub mod MovingLemmas
-pub mod ShipLemmas
-pub mod StepLemmas

@@ -1,3 +1,0 @@
-pub mod AbsentLemmas
-pub mod DeclaredLemmas
-pub mod TableLemmas

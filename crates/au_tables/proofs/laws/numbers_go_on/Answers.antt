@@ -1,5 +1,0 @@
-use Rattle.au_tables.proofs.DeclaredLemmas.{numbered-append}
-use Rattle.au_tables.proofs.laws.numbers_go_on.Goals as goal
-
-pub returns : goal.returns
-returns c first interface body = numbered-append first interface body

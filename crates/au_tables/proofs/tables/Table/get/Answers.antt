@@ -1,9 +1,0 @@
-use Rattle.std.proofs.Common.{ap, sym, ◌∙◌}
-use Rattle.au_tables.specs.Tables.{find}
-use Rattle.au_tables.proofs.TableLemmas.{find-pairs_by}
-use Rattle.au_tables.proofs.tables.Table.get.Goals as goal
-
-pub returns : goal.returns
-returns g c = c.get.ensures.value ∙ sym
-    (find-pairs_by (λ k. k.items) c.args.name.now c.self.inside.entries.entries)
-    ∙ ap (find c.args.name.now) c.self.view_is

@@ -1,0 +1,6 @@
+use Rattle.std.proofs.Common.{ap, ◌∙◌, arith}
+use Rattle.au_type_texts.proofs.ClosedLemmas as says
+use Rattle.au_type_texts.proofs.under.given_for.Goals as goal
+
+pub returns-in-None : goal.returns-in-None
+returns-in-None c = grind (arith, says.unit_means)

@@ -1,5 +1,0 @@
-use Rattle.au_typing_rows.proofs.RuleLemmas.{formed_rule, rule_formed}
-use Rattle.au_typing_rows.proofs.rules.written_types_are_formed.Goals as goal
-
-pub returns : goal.returns
-returns c = λ scope written t. (formed_rule scope written t, rule_formed scope written t)

@@ -1,5 +1,0 @@
-pub mod Things
-pub mod Expressions
-pub mod Statements
-pub mod Bodies
-pub mod Rules

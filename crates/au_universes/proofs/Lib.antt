@@ -1,6 +1,0 @@
-pub mod UniverseLemmas
-pub mod FormedLemmas
-pub mod LawLemmas
-pub mod ReplacedLemmas
-pub mod SubstitutingUniverseLemmas
-pub mod SubstitutingFormedLemmas

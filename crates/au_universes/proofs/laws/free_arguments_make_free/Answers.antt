@@ -1,5 +1,0 @@
-use Rattle.au_universes.proofs.LawLemmas.{free_named}
-use Rattle.au_universes.proofs.laws.free_arguments_make_free.Goals as goal
-
-pub returns : goal.returns
-returns c rows params at args head stands any all = free_named rows params at args head stands any all

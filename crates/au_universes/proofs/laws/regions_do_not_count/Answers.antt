@@ -1,5 +1,0 @@
-use Rattle.au_universes.proofs.LawLemmas.{same_universe}
-use Rattle.au_universes.proofs.laws.regions_do_not_count.Goals as goal
-
-pub returns : goal.returns
-returns c rows params t u same = same_universe rows params t u same

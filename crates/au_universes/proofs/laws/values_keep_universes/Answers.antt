@@ -1,5 +1,0 @@
-use Rattle.au_universes.proofs.ReplacedLemmas.{universe_stays}
-use Rattle.au_universes.proofs.laws.values_keep_universes.Goals as goal
-
-pub returns : goal.returns
-returns c rows params others value t fit formed = universe_stays rows params others value fit t formed

@@ -1,5 +1,0 @@
-use Rattle.au_universes.proofs.SubstitutingFormedLemmas.{formation_kept}
-use Rattle.au_universes.proofs.substituting.substituting_keeps_formation.Goals as goal
-
-pub returns : goal.returns
-returns c rows params others s t good formed = formation_kept rows params others s t good formed

@@ -1,5 +1,0 @@
-use Rattle.au_universes.proofs.SubstitutingFormedLemmas.{standing_kept}
-use Rattle.au_universes.proofs.substituting.substituting_keeps_standing.Goals as goal
-
-pub returns : goal.returns
-returns c rows params others s t stand formed = standing_kept rows params others s t stand formed

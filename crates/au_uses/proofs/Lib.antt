@@ -1,4 +1,0 @@
-pub mod CountLemmas
-pub mod StepLemmas
-pub mod ChoiceLemmas
-pub mod JudgingLemmas

@@ -1,5 +1,0 @@
-use Rattle.au_uses.proofs.StepLemmas.{step_rows}
-use Rattle.au_uses.proofs.steps.step.Goals as goal
-
-pub returns : goal.returns
-returns c = step_rows c.args.s c.args.c c.row.result c.row.ensures

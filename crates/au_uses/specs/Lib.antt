@@ -1,4 +1,0 @@
-pub mod Tallies
-pub mod Steps
-pub mod Choices
-pub mod Judging

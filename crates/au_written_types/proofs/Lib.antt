@@ -1,2 +1,0 @@
-pub mod MeantLemmas
-pub mod MovedLemmas

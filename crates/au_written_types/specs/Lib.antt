@@ -1,4 +1,0 @@
-pub mod Senses
-pub mod Meant
-pub mod Views
-pub mod Moved
