@@ -1,5 +1,6 @@
 -- What several calls of a sink add, one after another.
-use Rattle.std.proofs.Common.{◌≡◌, ◌≤◌, ◌+◌, ◌-◌, ℕ, List, [], ◌++◌, length, take, drop, Option, Some, None, ap, ◌∙◌, sym, refl, append_assoc, arith, length-drop}
+use Rattle.std.proofs.Common.{◌≡◌, ◌≤◌, ◌+◌, ◌-◌, ℕ, List, [], ◌++◌, length, take, drop, Option, Some, None}
+use Rattle.std.proofs.Common.{ap, ◌∙◌, sym, refl, append_assoc, arith, length-drop}
 use Rattle.std.proofs.lemmas.List.{append-nil, take-append-drop, take_all, length-take-le}
 use Rattle.std.proofs.Math.Seq.{take-append-add}
 use Rattle.au_base.specs.Outside.{Adds, written_more}
@@ -10,7 +11,8 @@ written_twice None x y = refl
 written_twice (Some bytes) x y = ap Some (append_assoc bytes x y)
 
 -- what two calls add
-pub adds_both : (old between new : Option (List ℕ)) (x y : List ℕ) → Adds old between x → Adds between new y → Adds old new (x ++ y)
+pub adds_both : (old between new : Option (List ℕ)) (x y : List ℕ) → Adds old between x → Adds between new y →
+    Adds old new (x ++ y)
 adds_both old between new x y first second = second ∙ ap (λ w. written_more w y) first ∙ written_twice old x y
 
 -- no byte
@@ -19,14 +21,18 @@ adds_none None = refl
 adds_none (Some bytes) = ap Some (sym (append-nil bytes))
 
 -- the front of a list, cut in two
-pub take_split : {X : Type 0} (i n : ℕ) (xs : List X) → i ≤ length xs → take (i + n) xs ≡ take i xs ++ take n (drop i xs)
+pub take_split : {X : Type 0} (i n : ℕ) (xs : List X) → i ≤ length xs → take (i + n) xs ≡ take i xs
+    ++ take n (drop i xs)
 take_split i n xs h =
     let front : length (take i xs) ≡ i = length-take-le i xs h in
-    ap (take (i + n)) (sym (take-append-drop i xs)) ∙ ap (λ k. take (k + n) (take i xs ++ drop i xs)) (sym front) ∙ take-append-add (take i xs) (drop i xs) n
+    ap (take (i + n)) (sym (take-append-drop i xs)) ∙ ap (λ k. take (k + n) (take i xs ++ drop i xs))
+    (sym front) ∙ take-append-add (take i xs) (drop i xs) n
 
 -- n more bytes behind the first i, as a slice from i on has them
-pub take_on : (i n : ℕ) (xs : List ℕ) → i ≤ length xs → n ≤ length xs - i → take i xs ++ take n (take (length xs - i) (drop i xs)) ≡ take (i + n) xs
-take_on i n xs h k = ap (λ r. take i xs ++ take n r) (take_all (length xs - i) (drop i xs) (omega (arith, length-drop i xs))) ∙ sym (take_split i n xs h)
+pub take_on : (i n : ℕ) (xs : List ℕ) → i ≤ length xs → n ≤ length xs - i → take i xs
+    ++ take n (take (length xs - i) (drop i xs)) ≡ take (i + n) xs
+take_on i n xs h k = ap (λ r. take i xs ++ take n r)
+    (take_all (length xs - i) (drop i xs) (omega (arith, length-drop i xs))) ∙ sym (take_split i n xs h)
 
 -- how long that slice is
 pub length_rest : (i : ℕ) (xs : List ℕ) → length (take (length xs - i) (drop i xs)) ≡ length xs - i

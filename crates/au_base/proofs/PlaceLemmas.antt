@@ -1,5 +1,6 @@
 -- How a place moves on by one byte.
-use Rattle.std.proofs.Common.{◌≡◌, ℕ, ◌+◌, ◌<◌, List, [], ◌∷◌, ◌++◌, Bool, not, true, false, cond, ap, ◌∙◌, sym, arith, get_or, take, length, append_assoc}
+use Rattle.std.proofs.Common.{◌≡◌, ℕ, ◌+◌, ◌<◌, List, [], ◌∷◌, ◌++◌, Bool, not, true, false, cond, ap, ◌∙◌}
+use Rattle.std.proofs.Common.{sym, arith, get_or, take, length, append_assoc}
 use Rattle.std.specs.List.{suffix_len, prefix_len, count_by}
 use Rattle.std.proofs.lemmas.List.{reverse-append, take_more}
 use Rattle.std.proofs.lemmas.List.Sums.{sum_by_push}
@@ -14,13 +15,15 @@ at_more file front ends = record {
   column = 1 + cond (not ends) (1 + suffix_len (λ x. not (is_newline x)) front) 0;
 }
 
-place_push : (file : ℕ) (front : List ℕ) (b : ℕ) → place_after file (front ++ b ∷ []) ≡ at_more file front (is_newline b)
+place_push : (file : ℕ) (front : List ℕ) (b : ℕ) → place_after file (front ++ b ∷ []) ≡ at_more file front
+    (is_newline b)
 unfolding at_more
 place_push file front b =
     let lines = sum_by_push (λ x. cond (is_newline x) 1 0) front b in
     let columns = ap (prefix_len (λ x. not (is_newline x))) (reverse-append front (b ∷ [])) in
     let make : ℕ → ℕ → Pos = λ l c. record { file = file; line = 1 + l; column = 1 + c } in
-    ap (λ l. make l (suffix_len (λ x. not (is_newline x)) (front ++ b ∷ []))) lines ∙ ap (λ c. make (count_by is_newline front + cond (is_newline b) 1 0) c) columns
+    ap (λ l. make l (suffix_len (λ x. not (is_newline x)) (front ++ b ∷ []))) lines
+    ∙ ap (λ c. make (count_by is_newline front + cond (is_newline b) 1 0) c) columns
 
 -- behind a newline the next line begins
 pub place_newline : (at : Pos) (file : ℕ) (front : List ℕ) (b : ℕ) → at ≡ place_after file front → is_newline b ≡ true →
@@ -28,7 +31,8 @@ pub place_newline : (at : Pos) (file : ℕ) (front : List ℕ) (b : ℕ) → at 
 unfolding at_more
 place_newline at file front b e ends =
     let made : Pos → Pos = λ p. record { file = p.file; line = p.line + 1; column = 1 } in
-    let moved : made (place_after file front) ≡ at_more file front true = ap (λ l. let p : Pos = record { file = file; line = l; column = 1 } in p) (omega arith) in
+    let moved : made (place_after file front) ≡ at_more file front true =
+    ap (λ l. let p : Pos = record { file = file; line = l; column = 1 } in p) (omega arith) in
     ap made e ∙ moved ∙ sym (place_push file front b ∙ ap (at_more file front) ends)
 
 -- behind another byte the line goes on
@@ -40,10 +44,14 @@ place_other at file front b e ends =
     let w : ℕ = suffix_len (λ x. not (is_newline x)) front in
     let n : ℕ = count_by is_newline front in
     let moved : made (place_after file front) ≡ at_more file front false =
-    ap (λ l. let p : Pos = record { file = file; line = l; column = 1 + w + 1 } in p) (let h : 1 + n ≡ 1 + (n + 0) = omega arith in h)
-    ∙ ap (λ c. let p : Pos = record { file = file; line = 1 + (n + 0); column = c } in p) (let h : 1 + w + 1 ≡ 1 + (1 + w) = omega arith in h) in
+    ap (λ l. let p : Pos = record { file = file; line = l; column = 1 + w + 1 } in p)
+    (let h : 1 + n ≡ 1 + (n + 0) = omega arith in h)
+    ∙ ap (λ c. let p : Pos = record { file = file; line = 1 + (n + 0); column = c } in p)
+    (let h : 1 + w + 1 ≡ 1 + (1 + w) = omega arith in h) in
     ap made e ∙ moved ∙ sym (place_push file front b ∙ ap (at_more file front) ends)
 
 -- one more byte of a text that is gone through
-pub front_more : (front bytes : List ℕ) (i : ℕ) → i < length bytes → front ++ take (i + 1) bytes ≡ (front ++ take i bytes) ++ get_or bytes i 0 ∷ []
-front_more front bytes i h = ap (λ x. front ++ x) (take_more bytes i 0 h) ∙ sym (append_assoc front (take i bytes) (get_or bytes i 0 ∷ []))
+pub front_more : (front bytes : List ℕ) (i : ℕ) → i < length bytes → front ++ take (i + 1) bytes
+    ≡ (front ++ take i bytes) ++ get_or bytes i 0 ∷ []
+front_more front bytes i h = ap (λ x. front ++ x) (take_more bytes i 0 h)
+    ∙ sym (append_assoc front (take i bytes) (get_or bytes i 0 ∷ []))

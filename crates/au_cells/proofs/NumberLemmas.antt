@@ -1,7 +1,8 @@
 -- Kinds that have one number are one kind.
 use Rattle.std.proofs.Common.{◌≡◌, ℕ, zero, suc, Option, Some, refl, sym, ap, ◌∙◌, subst, ℤ}
 use Rattle.au_base.specs.declared.kinds.IntKind.{IntKind}
-use Rattle.au_base.specs.declared.kinds.IntKind.TheVariants.{Nat8, Nat16, Nat32, Nat64, Int8, Int16, Int32, Int64, Index}
+use Rattle.au_base.specs.declared.kinds.IntKind.TheVariants.{Nat8, Nat16, Nat32, Nat64, Int8, Int16, Int32}
+use Rattle.au_base.specs.declared.kinds.IntKind.TheVariants.{Int64, Index}
 use Rattle.au_ints.specs.Ranges.{IsOfKind}
 use Rattle.au_effects.specs.Answers.{Result}
 use Rattle.au_effects.specs.Numbers.{kind_number, on_both}

@@ -1,5 +1,7 @@
 -- Fields by number, and parts that are put.
-use Rattle.std.proofs.Common.{◌≡◌, ℕ, zero, suc, ◌-◌, ◌≤◌, ◌<◌, false, ◌==◌, List, [], ◌∷◌, length, take, drop, get_or, Option, Some, None, slice_get, slice_set, refl, sym, ap, ◌∙◌, subst, arith}
+use Rattle.std.proofs.Common.{◌≡◌, ℕ, zero, suc, ◌-◌, ◌≤◌, ◌<◌, false, ◌==◌, List, [], ◌∷◌, length, take}
+use Rattle.std.proofs.Common.{drop, get_or, Option, Some, None, slice_get, slice_set, refl, sym, ap, ◌∙◌}
+use Rattle.std.proofs.Common.{subst, arith}
 use Rattle.std.specs.Option.{option_map}
 use Rattle.std.proofs.lemmas.List.{length-map, map-set, take_rest}
 use Rattle.std.proofs.lemmas.Option.{slice_get_past, slice_get_read}

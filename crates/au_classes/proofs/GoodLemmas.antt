@@ -1,5 +1,7 @@
 -- Instances are refused for nothing exactly where the rule on them holds.
-use Rattle.std.proofs.Common.{◌≡◌, ◌⊎◌, inl, inr, ℕ, Bool, true, false, ◌&&◌, List, [], ◌∷◌, ◌++◌, cond, find, map, flat_map, Option, None, Some, refl, sym, ap, ◌∙◌, subst, true≢false, append_assoc}
+use Rattle.std.proofs.Common.{◌≡◌, ◌⊎◌, inl, inr, ℕ, Bool, true, false, ◌&&◌, List, [], ◌∷◌, ◌++◌, cond, find}
+use Rattle.std.proofs.Common.{map, flat_map, Option, None, Some, refl, sym, ap, ◌∙◌, subst, true≢false}
+use Rattle.std.proofs.Common.{append_assoc}
 use Rattle.std.specs.Prelude.{◌||◌, ◌==◌, Contains, slice_get}
 use Rattle.std.specs.Option.{option_map, option_or}
 use Rattle.std.proofs.lemmas.Bool.{and_parts, and_from, eq-eqb}
@@ -36,7 +38,10 @@ use Rattle.au_classes.specs.Signatures.{given, wanted}
 use Rattle.au_classes.proofs.RuleLemmas.{methods_decide}
 use Rattle.au_classes.specs.declared.faults.ClassFault.{ClassFault}
 use Rattle.au_classes.specs.declared.faults.ClassFault.TheVariants.{BadHead, Orphan, Overlap, MethodDiffers}
-use Rattle.au_classes.specs.Faults.{Known, are_written, class_fault, fault_of, first_fault, first_like, home_of, instance_fault, is_head, is_home, is_like, known_of, methods_fault, module_fault, overlap, place_of, read_fault, row_fault, unless, with_text}
+use Rattle.au_classes.specs.Faults.{Known, are_written, class_fault, fault_of, first_fault, first_like}
+use Rattle.au_classes.specs.Faults.{home_of, instance_fault, is_head, is_home, is_like, known_of}
+use Rattle.au_classes.specs.Faults.{methods_fault, module_fault, overlap, place_of, read_fault, row_fault}
+use Rattle.au_classes.specs.Faults.{unless, with_text}
 use Rattle.au_classes.specs.Good.{InstancesAreGood, IsGood}
 use Rattle.au_classes.specs.Rows.{row_in, row_of, row_seen}
 use Rattle.au_classes.proofs.FaultLemmas.{fault_cons, fault_nil}
@@ -67,7 +72,8 @@ none_from f (Some x) h = absurd (none-some (f x) (sym h))
 home_from : (a b c : ℕ) → ((a == b) || (a == c)) ≡ true → (a ≡ b) ⊎ (a ≡ c)
 home_from a b c h = by (eqb_tells a b) (eqb_tells a c)
   where
-    by : ((eqb a b ≡ true) × (a ≡ b)) ⊎ ((eqb a b ≡ false) × (a ≡ b → ⊥)) → ((eqb a c ≡ true) × (a ≡ c)) ⊎ ((eqb a c ≡ false) × (a ≡ c → ⊥)) → (a ≡ b) ⊎ (a ≡ c)
+    by : ((eqb a b ≡ true) × (a ≡ b)) ⊎ ((eqb a b ≡ false) × (a ≡ b → ⊥)) → ((eqb a c ≡ true) × (a ≡ c))
+        ⊎ ((eqb a c ≡ false) × (a ≡ c → ⊥)) → (a ≡ b) ⊎ (a ≡ c)
     by (inl same) other = inl same.1
     by (inr differ) (inl same) = inr same.1
     by (inr differ) (inr others) =
@@ -90,12 +96,15 @@ module _ (program : List ModuleParts) where
   abbrev all_known : List InstanceText → List Known
   all_known texts = flat_map known_from texts
 
-  known_next : (before : List InstanceText) (text : InstanceText) → with_text program (all_known before) text ≡ all_known (before ++ text ∷ [])
+  known_next : (before : List InstanceText) (text : InstanceText) → with_text program (all_known before) text
+      ≡ all_known (before ++ text ∷ [])
   known_next before text =
-      sym (flat_map-append known_from before (text ∷ []) ∙ ap (λ ks. all_known before ++ ks) (append-nil (known_from text)))
+      sym (flat_map-append known_from before (text ∷ [])
+      ∙ ap (λ ks. all_known before ++ ks) (append-nil (known_from text)))
 
   -- what is known of an instance
-  in_known : (at : Pos) (o : Option Row) (row : Row) → o ≡ Some row → Among (record { at = at; row = row }) (known_of at o)
+  in_known : (at : Pos) (o : Option Row) (row : Row) → o ≡ Some row → Among (record { at = at; row = row })
+      (known_of at o)
   in_known at None row is = absurd (none-some row is)
   in_known at (Some other) row is = inl (ap (λ r. record { at = at; row = r }) (same_Some other row is))
 
@@ -123,34 +132,43 @@ nothing_passes t (y ∷ ys) h x m passes = by (t y) refl (λ rest later. nothing
     by false e later (inr behind) = later (sym (ap (λ c. cond c (Some y) (find t ys)) e) ∙ h) behind
 
 -- rows of one class and one constructor
-like_from : (class : DeclAt) (o : Option Constructor) (known : Known) → is_like class o known ≡ true → (class ≡ known.row.class) × (constructor_of known.row.head ≡ o)
+like_from : (class : DeclAt) (o : Option Constructor) (known : Known) → is_like class o known ≡ true →
+    (class ≡ known.row.class) × (constructor_of known.row.head ≡ o)
 like_from class None known h = absurd (true≢false (sym h))
 like_from class (Some one) known h =
     let both = and_parts (same_place class known.row.class) (is_constructor one (constructor_of known.row.head)) h in
     (place_is class known.row.class both.0, is_that one (constructor_of known.row.head) both.1)
 
-like_to : (class : DeclAt) (o : Option Constructor) (one : Constructor) (known : Known) → o ≡ Some one → class ≡ known.row.class → constructor_of known.row.head ≡ o → is_like class o known ≡ true
+like_to : (class : DeclAt) (o : Option Constructor) (one : Constructor) (known : Known) → o ≡ Some one →
+    class ≡ known.row.class → constructor_of known.row.head ≡ o → is_like class o known ≡ true
 like_to class o one known some same headed =
     ap (λ p. is_like class p known) some
     ∙ and_from (same_place class known.row.class) (is_constructor one (constructor_of known.row.head))
-    (subst (λ c. same_place class c ≡ true) same (place_self class)) (that_is one (constructor_of known.row.head) (headed ∙ some))
+    (subst (λ c. same_place class c ≡ true) same (place_self class))
+    (that_is one (constructor_of known.row.head) (headed ∙ some))
 
 -- ---- methods
 
 module _ (program : List ModuleParts) (names : List (Bytes × DeclAt)) (row : Row) (class : ClassText) where
   abbrev HasMethods : List PlainMethod → Type 0
-  HasMethods methods = AreMethods (wanted (heads_of program) class row.head) (given (heads_of program) names (parameters row.generics)) class.methods methods
+  HasMethods methods = AreMethods (wanted (heads_of program) class row.head)
+      (given (heads_of program) names (parameters row.generics)) class.methods methods
 
-  methods_from : (o : Option (List PlainMethod)) → are_written (heads_of program) names class row o ≡ true → (methods : List PlainMethod) → o ≡ Some methods → HasMethods methods
+  methods_from : (o : Option (List PlainMethod)) → are_written (heads_of program) names class row o ≡ true →
+      (methods : List PlainMethod) → o ≡ Some methods → HasMethods methods
   methods_from None h methods is = absurd (none-some methods is)
   methods_from (Some list) h methods is =
       subst (λ ms. HasMethods ms) (same_Some list methods is)
-      ((methods_decide (wanted (heads_of program) class row.head) (given (heads_of program) names (parameters row.generics)) class.methods list).0 h)
+      ((methods_decide (wanted (heads_of program) class row.head)
+      (given (heads_of program) names (parameters row.generics)) class.methods list).0 h)
 
-  methods_to : (o : Option (List PlainMethod)) → ((methods : List PlainMethod) → o ≡ Some methods → HasMethods methods) → are_written (heads_of program) names class row o ≡ true
+  methods_to : (o : Option (List PlainMethod)) →
+      ((methods : List PlainMethod) → o ≡ Some methods → HasMethods methods) →
+      are_written (heads_of program) names class row o ≡ true
   methods_to None h = refl
   methods_to (Some list) h =
-      (methods_decide (wanted (heads_of program) class row.head) (given (heads_of program) names (parameters row.generics)) class.methods list).1 (h list refl)
+      (methods_decide (wanted (heads_of program) class row.head)
+      (given (heads_of program) names (parameters row.generics)) class.methods list).1 (h list refl)
 
 -- ---- one instance
 
@@ -162,19 +180,27 @@ module _ (program : List ModuleParts) (before : List InstanceText) (text : Insta
   known = all_known program before
 
   good_row : (m : ModuleParts) (row : Row) (class : ClassText) → slice_get program text.number.«module» ≡ Some m
-      → row_in text (visible program text.number.«module» m text.part) heads ≡ Some row → class_at program row.class ≡ Some class
-      → row_fault heads known text (visible program text.number.«module» m Body) row class ≡ None → IsGood program before text
+      → row_in text (visible program text.number.«module» m text.part) heads ≡ Some row →
+      class_at program row.class ≡ Some class
+      → row_fault heads known text (visible program text.number.«module» m Body) row class ≡ None →
+      IsGood program before text
   good_row m row class here reads classed h =
       let own = visible program text.number.«module» m Body in
       let place = text.number.«module» in
-      let head_ok = holds_from (is_head heads class row) (BadHead text.at) (or_first (unless (is_head heads class row) (BadHead text.at)) _ h) in
+      let head_ok = holds_from (is_head heads class row) (BadHead text.at)
+      (or_first (unless (is_head heads class row) (BadHead text.at)) _ h) in
       let rest = or_second (unless (is_head heads class row) (BadHead text.at)) _ h in
-      let home_ok = holds_from (is_home place row) (Orphan text.at) (or_first (unless (is_home place row) (Orphan text.at)) _ rest) in
+      let home_ok = holds_from (is_home place row) (Orphan text.at)
+      (or_first (unless (is_home place row) (Orphan text.at)) _ rest) in
       let others = or_second (unless (is_home place row) (Orphan text.at)) _ rest in
       let apart : first_like known row ≡ None =
-      none_from place_of (first_like known row) (none_from (Overlap text.at) (option_map place_of (first_like known row)) (or_first (overlap text.at (option_map place_of (first_like known row))) _ others)) in
-      let written_ok = holds_from (are_written heads own class row text.methods) (MethodDiffers text.at) (or_second (overlap text.at (option_map place_of (first_like known row))) _ others) in
-      let both = and_parts (has_form row.generics row.head) (takes class.parameter.universe (universe_of heads (parameters row.generics) row.head)) head_ok in
+      none_from place_of (first_like known row)
+      (none_from (Overlap text.at) (option_map place_of (first_like known row))
+      (or_first (overlap text.at (option_map place_of (first_like known row))) _ others)) in
+      let written_ok = holds_from (are_written heads own class row text.methods) (MethodDiffers text.at)
+      (or_second (overlap text.at (option_map place_of (first_like known row))) _ others) in
+      let both = and_parts (has_form row.generics row.head)
+      (takes class.parameter.universe (universe_of heads (parameters row.generics) row.head)) head_ok in
       let form : HasForm row.generics row.head = (form_decides row.generics row.head).0 both.0 in
       record {
         row = row;
@@ -187,31 +213,42 @@ module _ (program : List ModuleParts) (before : List InstanceText) (text : Insta
         fits = both.1;
         home = home_from place row.class.«module» (home_of (constructor_of row.head)) home_ok;
         apart = λ other its c read same headed.
-            nothing_passes (is_like row.class (constructor_of row.head)) known apart (record { at = other.at; row = its })
-            (among-flat_map_from (known_from program) before other (record { at = other.at; row = its }) (among before other c) (in_known program other.at (row_of program other) its read))
-            (like_to row.class (constructor_of row.head) form.constructor (record { at = other.at; row = its }) form.heads (sym same) headed);
+            nothing_passes (is_like row.class (constructor_of row.head)) known apart
+            (record { at = other.at; row = its })
+            (among-flat_map_from (known_from program) before other (record { at = other.at; row = its })
+            (among before other c) (in_known program other.at (row_of program other) its read))
+            (like_to row.class (constructor_of row.head) form.constructor
+            (record { at = other.at; row = its }) form.heads (sym same) headed);
         methods = methods_from program own row class text.methods written_ok;
       }
 
-  good_class : (m : ModuleParts) (row : Row) (o : Option ClassText) → class_at program row.class ≡ o → slice_get program text.number.«module» ≡ Some m
+  good_class : (m : ModuleParts) (row : Row) (o : Option ClassText) → class_at program row.class ≡ o →
+      slice_get program text.number.«module» ≡ Some m
       → row_in text (visible program text.number.«module» m text.part) heads ≡ Some row
-      → class_fault heads known text (visible program text.number.«module» m Body) row o ≡ None → IsGood program before text
+      → class_fault heads known text (visible program text.number.«module» m Body) row o ≡ None →
+      IsGood program before text
   good_class m row None classed here reads h = absurd (none-some _ (sym h))
   good_class m row (Some class) classed here reads h = good_row m row class here reads classed h
 
-  good_read : (m : ModuleParts) (o : Option Row) → row_in text (visible program text.number.«module» m text.part) heads ≡ o → slice_get program text.number.«module» ≡ Some m
-      → read_fault heads known text program (visible program text.number.«module» m Body) o ≡ None → IsGood program before text
+  good_read : (m : ModuleParts) (o : Option Row) →
+      row_in text (visible program text.number.«module» m text.part) heads ≡ o →
+      slice_get program text.number.«module» ≡ Some m
+      → read_fault heads known text program (visible program text.number.«module» m Body) o ≡ None →
+      IsGood program before text
   good_read m None reads here h = absurd (none-some _ (sym h))
   good_read m (Some row) reads here h = good_class m row (class_at program row.class) refl here reads h
 
-  good_module : (o : Option ModuleParts) → slice_get program text.number.«module» ≡ o → module_fault program known text o ≡ None → IsGood program before text
+  good_module : (o : Option ModuleParts) → slice_get program text.number.«module» ≡ o →
+      module_fault program known text o ≡ None → IsGood program before text
   good_module None here h = absurd (none-some _ (sym h))
-  good_module (Some m) here h = good_read m (row_in text (visible program text.number.«module» m text.part) heads) refl here h
+  good_module (Some m) here h = good_read m
+      (row_in text (visible program text.number.«module» m text.part) heads) refl here h
 
   good_from : fault_of program known text ≡ None → IsGood program before text
   good_from h = good_module (slice_get program text.number.«module») refl h
 
-  accepted_row : (m : ModuleParts) (good : IsGood program before text) → good.names ≡ visible program text.number.«module» m Body
+  accepted_row : (m : ModuleParts) (good : IsGood program before text) →
+      good.names ≡ visible program text.number.«module» m Body
       → row_fault heads known text (visible program text.number.«module» m Body) good.row good.class ≡ None
   accepted_row m good seen =
       let own = visible program text.number.«module» m Body in
@@ -219,22 +256,33 @@ module _ (program : List ModuleParts) (before : List InstanceText) (text : Insta
       let class = good.class in
       let place = text.number.«module» in
       or_neither (unless (is_head heads class row) (BadHead text.at)) _
-      (ap (λ b. unless b (BadHead text.at)) (and_from (has_form row.generics row.head) (takes class.parameter.universe (universe_of heads (parameters row.generics) row.head)) ((form_decides row.generics row.head).1 good.form) good.fits))
+      (ap (λ b. unless b (BadHead text.at))
+      (and_from (has_form row.generics row.head)
+      (takes class.parameter.universe (universe_of heads (parameters row.generics) row.head))
+      ((form_decides row.generics row.head).1 good.form) good.fits))
       (or_neither (unless (is_home place row) (Orphan text.at)) _
-      (ap (λ b. unless b (Orphan text.at)) (home_to place row.class.«module» (home_of (constructor_of row.head)) good.home))
+      (ap (λ b. unless b (Orphan text.at))
+      (home_to place row.class.«module» (home_of (constructor_of row.head)) good.home))
       (or_neither (overlap text.at (option_map place_of (first_like known row))) _
-      (ap (λ o. overlap text.at (option_map place_of o)) (find_nothing (is_like row.class (constructor_of row.head)) known none_like))
+      (ap (λ o. overlap text.at (option_map place_of o))
+      (find_nothing (is_like row.class (constructor_of row.head)) known none_like))
       (ap (λ b. unless b (MethodDiffers text.at)) (methods_to program own row class text.methods
       (λ methods is. subst (λ ns. HasMethods program ns row class methods) seen (good.methods methods is))))))
     where
-      none_like : (other : Known) → Among other known → is_like good.row.class (constructor_of good.row.head) other ≡ true → ⊥
+      none_like : (other : Known) → Among other known → is_like good.row.class (constructor_of good.row.head)
+          other ≡ true → ⊥
       none_like other m passes =
-          let from : (t : InstanceText) × Among t before × Among other (known_from program t) = among-flat_map (known_from program) before other m in
+          let from : (t : InstanceText) × Among t before × Among other (known_from program t) =
+          among-flat_map (known_from program) before other m in
           let same = like_from good.row.class (constructor_of good.row.head) other passes in
-          good.apart from.0 other.row (contains before from.0 from.1) (from_known program from.0.at (row_of program from.0) other from.2) (sym same.0) same.1
+          good.apart from.0 other.row (contains before from.0 from.1)
+          (from_known program from.0.at (row_of program from.0) other from.2) (sym same.0) same.1
 
-  accepted_module : (good : IsGood program before text) (o : Option ModuleParts) → slice_get program text.number.«module» ≡ o
-      → visible_in program text.number.«module» Body o ≡ Some good.names → row_seen text heads (visible_in program text.number.«module» text.part o) ≡ Some good.row → module_fault program known text o ≡ None
+  accepted_module : (good : IsGood program before text) (o : Option ModuleParts) →
+      slice_get program text.number.«module» ≡ o
+      → visible_in program text.number.«module» Body o ≡ Some good.names →
+      row_seen text heads (visible_in program text.number.«module» text.part o) ≡ Some good.row →
+      module_fault program known text o ≡ None
   accepted_module good None here seen reads = absurd (none-some good.names seen)
   accepted_module good (Some m) here seen reads =
       ap (read_fault heads known text program (visible program text.number.«module» m Body)) reads
@@ -247,30 +295,37 @@ module _ (program : List ModuleParts) (before : List InstanceText) (text : Insta
 -- ---- all instances
 
 module _ (program : List ModuleParts) where
-  good_at : (before pre post : List InstanceText) (text : InstanceText) → first_fault program (all_known program before) (pre ++ text ∷ post) ≡ None → IsGood program (before ++ pre) text
+  good_at : (before pre post : List InstanceText) (text : InstanceText) →
+      first_fault program (all_known program before) (pre ++ text ∷ post) ≡ None →
+      IsGood program (before ++ pre) text
   good_at before [] post text h =
       subst (λ bs. IsGood program bs text) (sym (append-nil before))
       (good_from program before text
-      (or_first (fault_of program (all_known program before) text) (first_fault program (with_text program (all_known program before) text) post)
+      (or_first (fault_of program (all_known program before) text)
+      (first_fault program (with_text program (all_known program before) text) post)
       (sym (fault_cons program (all_known program before) text post) ∙ h)))
   good_at before (x ∷ pre) post text h =
       subst (λ bs. IsGood program bs text) (append_assoc before (x ∷ []) pre)
       (good_at (before ++ x ∷ []) pre post text
       (ap (λ k. first_fault program k (pre ++ text ∷ post)) (sym (known_next program before x))
-      ∙ or_second (fault_of program (all_known program before) x) (first_fault program (with_text program (all_known program before) x) (pre ++ text ∷ post))
+      ∙ or_second (fault_of program (all_known program before) x)
+      (first_fault program (with_text program (all_known program before) x) (pre ++ text ∷ post))
       (sym (fault_cons program (all_known program before) x (pre ++ text ∷ post)) ∙ h)))
 
   accepted_from : (before rest : List InstanceText)
-      → ((pre post : List InstanceText) (text : InstanceText) → rest ≡ pre ++ text ∷ post → IsGood program (before ++ pre) text)
+      → ((pre post : List InstanceText) (text : InstanceText) → rest ≡ pre ++ text ∷ post →
+      IsGood program (before ++ pre) text)
       → first_fault program (all_known program before) rest ≡ None
   accepted_from before [] good = fault_nil program (all_known program before)
   accepted_from before (t ∷ rest) good =
       fault_cons program (all_known program before) t rest
-      ∙ or_neither (fault_of program (all_known program before) t) (first_fault program (with_text program (all_known program before) t) rest)
+      ∙ or_neither (fault_of program (all_known program before) t)
+      (first_fault program (with_text program (all_known program before) t) rest)
       (good_accepted program before t (subst (λ bs. IsGood program bs t) (append-nil before) (good [] rest t refl)))
       (ap (λ k. first_fault program k rest) (known_next program before t)
       ∙ accepted_from (before ++ t ∷ []) rest (λ pre post text split.
-      subst (λ bs. IsGood program bs text) (sym (append_assoc before (t ∷ []) pre)) (good (t ∷ pre) post text (ap (λ xs. t ∷ xs) split))))
+      subst (λ bs. IsGood program bs text) (sym (append_assoc before (t ∷ []) pre))
+      (good (t ∷ pre) post text (ap (λ xs. t ∷ xs) split))))
 
   pub instances_good : instance_fault program ≡ None → InstancesAreGood program
   instances_good h before after text split = good_at [] before after text (ap (first_fault program []) (sym split) ∙ h)

@@ -1,5 +1,7 @@
 -- Where the first of some items stands that passes a test, and tables that find it by a key.
-use Rattle.std.proofs.Common.{◌≡◌, ℕ, ◌+◌, ◌<◌, ◌≤◌, zero, suc, Bool, true, false, cond, List, [], ◌∷◌, ◌++◌, length, map, take, drop, get_or, find, Option, None, Some, is_some, refl, sym, ap, ◌∙◌, subst, true≢false, add-zero, zero-add, arith}
+use Rattle.std.proofs.Common.{◌≡◌, ℕ, ◌+◌, ◌<◌, ◌≤◌, zero, suc, Bool, true, false, cond, List, [], ◌∷◌, ◌++◌}
+use Rattle.std.proofs.Common.{length, map, take, drop, get_or, find, Option, None, Some, is_some, refl, sym}
+use Rattle.std.proofs.Common.{ap, ◌∙◌, subst, true≢false, add-zero, zero-add, arith}
 use Rattle.std.specs.Prelude.{slice_get}
 use Rattle.std.specs.List.{position_from}
 use Rattle.std.specs.Option.{option_or}
@@ -27,8 +29,11 @@ index_behind : {A : Type 0} (t : A → Bool) (i : ℕ) (xs : List A) (x : A)
 index_behind t i [] x = ap (λ n. cond (t x) (Some n) None) (sym (add-zero i))
 index_behind t i (y ∷ ys) x = by (t y) (index_behind t (i + 1) ys x)
   where
-    by : (b : Bool) → position_from t (i + 1) (ys ++ x ∷ []) ≡ option_or (position_from t (i + 1) ys) (cond (t x) (Some (i + 1 + length ys)) None)
-        → cond b (Some i) (position_from t (i + 1) (ys ++ x ∷ [])) ≡ option_or (cond b (Some i) (position_from t (i + 1) ys)) (cond (t x) (Some (i + length (y ∷ ys))) None)
+    by : (b : Bool) → position_from t (i + 1) (ys ++ x ∷ []) ≡ option_or (position_from t (i + 1) ys)
+        (cond (t x) (Some (i + 1 + length ys)) None)
+        → cond b (Some i) (position_from t (i + 1) (ys ++ x ∷ []))
+        ≡ option_or (cond b (Some i) (position_from t (i + 1) ys))
+        (cond (t x) (Some (i + length (y ∷ ys))) None)
     by true rest = refl
     by false rest =
         let same : i + 1 + length ys ≡ i + suc (length ys) = omega arith in
@@ -40,8 +45,10 @@ pub none_weaker : {A : Type 0} (p q : A → Bool) → ((x : A) → q x ≡ false
 none_weaker p q weaker i [] none = refl
 none_weaker p q weaker i (x ∷ xs) none = by (q x) refl (λ rest. none_weaker p q weaker (i + 1) xs rest)
   where
-    by : (b : Bool) → q x ≡ b → (position_from q (i + 1) xs ≡ None → position_from p (i + 1) xs ≡ None) → position_from p i (x ∷ xs) ≡ None
-    by true e others = absurd (none-some i (sym (sym (ap (λ c. cond c (Some i) (position_from q (i + 1) xs)) e) ∙ none)))
+    by : (b : Bool) → q x ≡ b → (position_from q (i + 1) xs ≡ None → position_from p (i + 1) xs ≡ None) →
+        position_from p i (x ∷ xs) ≡ None
+    by true e others = absurd (none-some i
+        (sym (sym (ap (λ c. cond c (Some i) (position_from q (i + 1) xs)) e) ∙ none)))
     by false e others =
         ap (λ c. cond c (Some i) (position_from p (i + 1) xs)) (weaker x e)
         ∙ others (sym (ap (λ c. cond c (Some i) (position_from q (i + 1) xs)) e) ∙ none)
@@ -52,15 +59,19 @@ pub first_weaker : {A : Type 0} (p q : A → Bool) → ((x : A) → q x ≡ fals
 first_weaker p q weaker i k [] found passes = absurd (none-some (i + k) found)
 first_weaker p q weaker i zero (x ∷ xs) found passes =
     ap (λ b. cond b (Some i) (position_from p (i + 1) xs)) passes ∙ ap Some (sym (add-zero i))
-first_weaker p q weaker i (suc k) (x ∷ xs) found passes = by (q x) refl (λ rest. first_weaker p q weaker (i + 1) k xs rest passes)
+first_weaker p q weaker i (suc k) (x ∷ xs) found passes =
+    by (q x) refl (λ rest. first_weaker p q weaker (i + 1) k xs rest passes)
   where
-    by : (b : Bool) → q x ≡ b → (position_from q (i + 1) xs ≡ Some (i + 1 + k) → position_from p (i + 1) xs ≡ Some (i + 1 + k)) → position_from p i (x ∷ xs) ≡ Some (i + suc k)
+    by : (b : Bool) → q x ≡ b → (position_from q (i + 1) xs ≡ Some (i + 1 + k) → position_from p (i + 1) xs
+        ≡ Some (i + 1 + k)) → position_from p i (x ∷ xs) ≡ Some (i + suc k)
     by true e others =
-        let here : i ≡ i + suc k = same_Some i (i + suc k) (sym (ap (λ c. cond c (Some i) (position_from q (i + 1) xs)) e) ∙ found) in
+        let here : i ≡ i + suc k = same_Some i (i + suc k)
+        (sym (ap (λ c. cond c (Some i) (position_from q (i + 1) xs)) e) ∙ found) in
         absurd (omega (arith, here))
     by false e others =
         let same : i + 1 + k ≡ i + suc k = omega arith in
-        let later : position_from q (i + 1) xs ≡ Some (i + suc k) = sym (ap (λ c. cond c (Some i) (position_from q (i + 1) xs)) e) ∙ found in
+        let later : position_from q (i + 1) xs ≡ Some (i + suc k) =
+        sym (ap (λ c. cond c (Some i) (position_from q (i + 1) xs)) e) ∙ found in
         ap (λ c. cond c (Some i) (position_from p (i + 1) xs)) (weaker x e)
         ∙ others (later ∙ ap Some (sym same))
         ∙ ap Some same
@@ -71,7 +82,8 @@ found_none t i [] none = refl
 found_none t i (x ∷ xs) none = by (t x) refl (λ rest. found_none t (i + 1) xs rest)
   where
     by : (b : Bool) → t x ≡ b → (position_from t (i + 1) xs ≡ None → find t xs ≡ None) → find t (x ∷ xs) ≡ None
-    by true e others = absurd (none-some i (sym (sym (ap (λ c. cond c (Some i) (position_from t (i + 1) xs)) e) ∙ none)))
+    by true e others = absurd (none-some i
+        (sym (sym (ap (λ c. cond c (Some i) (position_from t (i + 1) xs)) e) ∙ none)))
     by false e others =
         ap (λ c. cond c (Some x) (find t xs)) e
         ∙ others (sym (ap (λ c. cond c (Some i) (position_from t (i + 1) xs)) e) ∙ none)
@@ -81,42 +93,50 @@ pub index_past : {A : Type 0} (t : A → Bool) (i k : ℕ) (xs : List A) → pos
 index_past t i k [] found = absurd (none-some k found)
 index_past t i k (x ∷ xs) found = by (t x) (λ rest. index_past t (i + 1) k xs rest) found
   where
-    by : (b : Bool) → (position_from t (i + 1) xs ≡ Some k → i + 1 ≤ k) → cond b (Some i) (position_from t (i + 1) xs) ≡ Some k → i ≤ k
+    by : (b : Bool) → (position_from t (i + 1) xs ≡ Some k → i + 1 ≤ k) →
+        cond b (Some i) (position_from t (i + 1) xs) ≡ Some k → i ≤ k
     by true later is = let here : i ≡ k = same_Some i k is in omega (arith, here)
     by false later is = omega (arith, later is)
 
 -- the item of the index that is found is the first that passes
-pub found_there : {A : Type 0} (t : A → Bool) (i k : ℕ) (xs : List A) → position_from t i xs ≡ Some (i + k) → slice_get xs k ≡ find t xs
+pub found_there : {A : Type 0} (t : A → Bool) (i k : ℕ) (xs : List A) → position_from t i xs ≡ Some (i + k) →
+    slice_get xs k ≡ find t xs
 found_there t i k [] found = absurd (none-some (i + k) found)
 found_there t i zero (x ∷ xs) found = by (t x) refl
   where
     by : (b : Bool) → t x ≡ b → Some x ≡ find t (x ∷ xs)
     by true e = sym (ap (λ c. cond c (Some x) (find t xs)) e)
     by false e =
-        let later : position_from t (i + 1) xs ≡ Some (i + 0) = sym (ap (λ c. cond c (Some i) (position_from t (i + 1) xs)) e) ∙ found in
+        let later : position_from t (i + 1) xs ≡ Some (i + 0) =
+        sym (ap (λ c. cond c (Some i) (position_from t (i + 1) xs)) e) ∙ found in
         let past : i + 1 ≤ i + 0 = index_past t (i + 1) (i + 0) xs later in
         absurd (omega (arith, past))
 found_there t i (suc k) (x ∷ xs) found = by (t x) refl (λ rest. found_there t (i + 1) k xs rest)
   where
-    by : (b : Bool) → t x ≡ b → (position_from t (i + 1) xs ≡ Some (i + 1 + k) → slice_get xs k ≡ find t xs) → slice_get xs k ≡ find t (x ∷ xs)
+    by : (b : Bool) → t x ≡ b → (position_from t (i + 1) xs ≡ Some (i + 1 + k) → slice_get xs k ≡ find t xs) →
+        slice_get xs k ≡ find t (x ∷ xs)
     by true e others =
-        let here : i ≡ i + suc k = same_Some i (i + suc k) (sym (ap (λ c. cond c (Some i) (position_from t (i + 1) xs)) e) ∙ found) in
+        let here : i ≡ i + suc k = same_Some i (i + suc k)
+        (sym (ap (λ c. cond c (Some i) (position_from t (i + 1) xs)) e) ∙ found) in
         absurd (omega (arith, here))
     by false e others =
         let same : i + 1 + k ≡ i + suc k = omega arith in
-        let later : position_from t (i + 1) xs ≡ Some (i + suc k) = sym (ap (λ c. cond c (Some i) (position_from t (i + 1) xs)) e) ∙ found in
+        let later : position_from t (i + 1) xs ≡ Some (i + suc k) =
+        sym (ap (λ c. cond c (Some i) (position_from t (i + 1) xs)) e) ∙ found in
         others (later ∙ ap Some (sym same))
         ∙ sym (ap (λ c. cond c (Some x) (find t xs)) e)
 
 -- ---- tables
 
 module _ {V : Type 0} where
-  find_behind : (name : Bytes) (pairs more : List (Bytes × V)) → tables.find name (pairs ++ more) ≡ option_or (tables.find name pairs) (tables.find name more)
+  find_behind : (name : Bytes) (pairs more : List (Bytes × V)) → tables.find name (pairs ++ more)
+      ≡ option_or (tables.find name pairs) (tables.find name more)
   find_behind name [] more = refl
   find_behind name (q ∷ qs) more = by (bytes_eq name q.0) (find_behind name qs more)
     where
       by : (b : Bool) → tables.find name (qs ++ more) ≡ option_or (tables.find name qs) (tables.find name more)
-          → cond b (Some q.1) (tables.find name (qs ++ more)) ≡ option_or (cond b (Some q.1) (tables.find name qs)) (tables.find name more)
+          → cond b (Some q.1) (tables.find name (qs ++ more))
+          ≡ option_or (cond b (Some q.1) (tables.find name qs)) (tables.find name more)
       by true rest = refl
       by false rest = rest
 
@@ -126,15 +146,19 @@ module _ {V : Type 0} where
 
   -- what is found once a value is put under a name
   find_put : (name : Bytes) (pairs : List (Bytes × V)) (other : Bytes) (value : V)
-      → tables.find name (with_pair pairs other value) ≡ option_or (tables.find name pairs) (cond (bytes_eq name other) (Some value) None)
+      → tables.find name (with_pair pairs other value) ≡ option_or (tables.find name pairs)
+      (cond (bytes_eq name other) (Some value) None)
   find_put name pairs other value = by (has_name other pairs) (bytes_eq name other) refl refl
     where
       by : (h b : Bool) → has_name other pairs ≡ h → bytes_eq name other ≡ b
-          → tables.find name (with_pair pairs other value) ≡ option_or (tables.find name pairs) (cond (bytes_eq name other) (Some value) None)
-      by false b e k = ap (tables.find name) (with_pair-new pairs other value e) ∙ find_behind name pairs ((other, value) ∷ [])
+          → tables.find name (with_pair pairs other value) ≡ option_or (tables.find name pairs)
+          (cond (bytes_eq name other) (Some value) None)
+      by false b e k = ap (tables.find name) (with_pair-new pairs other value e)
+          ∙ find_behind name pairs ((other, value) ∷ [])
       by true false e k =
           ap (tables.find name) (with_pair-old pairs other value e)
-          ∙ sym (ap (λ c. option_or (tables.find name pairs) (cond c (Some value) None)) k ∙ or_none (tables.find name pairs))
+          ∙ sym (ap (λ c. option_or (tables.find name pairs) (cond c (Some value) None)) k
+          ∙ or_none (tables.find name pairs))
       by true true e k =
           let has : Bytes → Type 0 = λ n. has_name n pairs ≡ true in
           let there : has_name name pairs ≡ true = subst has (sym ((bytes_eq-Decides name other).0 k)) e in
@@ -142,9 +166,12 @@ module _ {V : Type 0} where
           ∙ sym (there_stays (tables.find name pairs) (cond (bytes_eq name other) (Some value) None) there)
 
 -- a table finds the first item of each key, with one more item
-module _ {A : Type 0} (key_of : A → Option Bytes) (items : List A) (x : A) (table : List (Bytes × ℕ)) (old : FindsFirst key_of items table) where
+module _ {A : Type 0} (key_of : A → Option Bytes) (items : List A) (x : A) (table : List (Bytes × ℕ))
+    (old : FindsFirst key_of items table) where
   put_found : (name : Bytes) (key : Option Bytes)
-      → tables.find name (with_key table key (length items)) ≡ option_or (first_index (has_key key_of name) items) (cond (is_name name key) (Some (length items)) None)
+      → tables.find name (with_key table key (length items))
+      ≡ option_or (first_index (has_key key_of name) items)
+      (cond (is_name name key) (Some (length items)) None)
   put_found name None = old name ∙ sym (or_none (first_index (has_key key_of name) items))
   put_found name (Some other) =
       find_put name table other (length items)
@@ -155,11 +182,13 @@ module _ {A : Type 0} (key_of : A → Option Bytes) (items : List A) (x : A) (ta
       put_found name (key_of x)
       ∙ sym
       (index_behind (has_key key_of name) 0 items x
-      ∙ ap (λ n. option_or (first_index (has_key key_of name) items) (cond (has_key key_of name x) (Some n) None)) (zero-add (length items)))
+      ∙ ap (λ n. option_or (first_index (has_key key_of name) items)
+      (cond (has_key key_of name x) (Some n) None)) (zero-add (length items)))
 
 module _ {A B C : Type 0} (p : B → C) (v : A → B) where
   -- what is seen so far, and one more
-  pub seen_more : (xs : List A) (i : ℕ) (x : A) → i < length xs → x ≡ get_or xs i x → map p (map v (take (i + 1) xs)) ≡ map p (map v (take i xs)) ++ p (v x) ∷ []
+  pub seen_more : (xs : List A) (i : ℕ) (x : A) → i < length xs → x ≡ get_or xs i x →
+      map p (map v (take (i + 1) xs)) ≡ map p (map v (take i xs)) ++ p (v x) ∷ []
   seen_more xs i x h here =
       ap (λ r. map p (map v r)) (take_more xs i x h)
       ∙ ap (λ y. map p (map v (take i xs ++ y ∷ []))) (sym here)
@@ -172,7 +201,8 @@ module _ {A B C : Type 0} (p : B → C) (v : A → B) where
       length-map (map v (take i xs)) p ∙ length-map (take i xs) v ∙ length-take-le i xs within
 
   -- the item at an index is visited, as it is seen through two views
-  pub first_next : (key_of : C → Option Bytes) (before after : List (Bytes × ℕ)) (xs : List A) (i : ℕ) (x : A) → i < length xs → x ≡ get_or xs i x
+  pub first_next : (key_of : C → Option Bytes) (before after : List (Bytes × ℕ)) (xs : List A) (i : ℕ)
+      (x : A) → i < length xs → x ≡ get_or xs i x
       → FindsFirst key_of (map p (map v (take i xs))) before → after ≡ with_key before (key_of (p (v x))) i
       → FindsFirst key_of (map p (map v (take (i + 1) xs))) after
   first_next key_of before after xs i x h here old new name =
@@ -184,31 +214,42 @@ module _ {A B C : Type 0} (p : B → C) (v : A → B) where
   -- all are visited
   pub first_all : (key_of : C → Option Bytes) (table : List (Bytes × ℕ)) (xs : List A) (i : ℕ) → length xs ≤ i
       → FindsFirst key_of (map p (map v (take i xs))) table → FindsFirst key_of (map p (map v xs)) table
-  first_all key_of table xs i past old name = old name ∙ ap (λ r. first_index (has_key key_of name) (map p (map v r))) (take_all i xs past)
+  first_all key_of table xs i past old name = old name
+      ∙ ap (λ r. first_index (has_key key_of name) (map p (map v r))) (take_all i xs past)
 
 -- no item is visited
-pub first_none : {A : Type 0} (key_of : A → Option Bytes) (table : List (Bytes × ℕ)) → table ≡ [] → FindsFirst key_of [] table
+pub first_none : {A : Type 0} (key_of : A → Option Bytes) (table : List (Bytes × ℕ)) → table ≡ [] →
+    FindsFirst key_of [] table
 first_none key_of table none name = ap (tables.find name) none
 
 -- ---- a walk that looks for the first, over items that are seen through two views
 
 module _ {A B C : Type 0} (p : B → C) (v : A → B) (t : C → Bool) (xs : List A) (i : ℕ) where
-  left_at : (x : A) → i < length xs → x ≡ get_or xs i x → first_index t (map p (map v xs)) ≡ position_from t i (map p (map v (drop i xs)))
-      → first_index t (map p (map v xs)) ≡ cond (t (p (v x))) (Some i) (position_from t (i + 1) (map p (map v (drop (i + 1) xs))))
+  left_at : (x : A) → i < length xs → x ≡ get_or xs i x → first_index t (map p (map v xs)) ≡ position_from t i
+      (map p (map v (drop i xs)))
+      → first_index t (map p (map v xs)) ≡ cond (t (p (v x))) (Some i)
+      (position_from t (i + 1) (map p (map v (drop (i + 1) xs))))
   left_at x h here so_far = so_far ∙ ap (position_from t i) (seen_left p v xs i x h here)
 
   -- the next item is the first
-  pub among_here : (x : A) (is : Bool) → i < length xs → x ≡ get_or xs i x → first_index t (map p (map v xs)) ≡ position_from t i (map p (map v (drop i xs)))
+  pub among_here : (x : A) (is : Bool) → i < length xs → x ≡ get_or xs i x → first_index t (map p (map v xs))
+      ≡ position_from t i (map p (map v (drop i xs)))
       → is ≡ t (p (v x)) → is ≡ true → Some i ≡ first_index t (map p (map v xs))
   among_here x is h here so_far tested true_ =
-      sym (left_at x h here so_far ∙ ap (λ b. cond b (Some i) (position_from t (i + 1) (map p (map v (drop (i + 1) xs))))) (sym tested ∙ true_))
+      sym (left_at x h here so_far ∙ ap
+      (λ b. cond b (Some i) (position_from t (i + 1) (map p (map v (drop (i + 1) xs)))))
+      (sym tested ∙ true_))
 
   -- it isn't
-  pub among_next : (x : A) (is : Bool) → i < length xs → x ≡ get_or xs i x → first_index t (map p (map v xs)) ≡ position_from t i (map p (map v (drop i xs)))
-      → is ≡ t (p (v x)) → is ≡ false → first_index t (map p (map v xs)) ≡ position_from t (i + 1) (map p (map v (drop (i + 1) xs)))
+  pub among_next : (x : A) (is : Bool) → i < length xs → x ≡ get_or xs i x → first_index t (map p (map v xs))
+      ≡ position_from t i (map p (map v (drop i xs)))
+      → is ≡ t (p (v x)) → is ≡ false → first_index t (map p (map v xs)) ≡ position_from t (i + 1)
+      (map p (map v (drop (i + 1) xs)))
   among_next x is h here so_far tested false_ =
-      left_at x h here so_far ∙ ap (λ b. cond b (Some i) (position_from t (i + 1) (map p (map v (drop (i + 1) xs))))) (sym tested ∙ false_)
+      left_at x h here so_far ∙ ap (λ b. cond b (Some i)
+      (position_from t (i + 1) (map p (map v (drop (i + 1) xs))))) (sym tested ∙ false_)
 
   -- no item is left
-  pub among_end : length xs ≤ i → first_index t (map p (map v xs)) ≡ position_from t i (map p (map v (drop i xs))) → None ≡ first_index t (map p (map v xs))
+  pub among_end : length xs ≤ i → first_index t (map p (map v xs)) ≡ position_from t i
+      (map p (map v (drop i xs))) → None ≡ first_index t (map p (map v xs))
   among_end past so_far = sym (so_far ∙ ap (λ r. position_from t i (map p (map v r))) (drop_all i xs past))

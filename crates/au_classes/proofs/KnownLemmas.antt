@@ -1,5 +1,7 @@
 -- Rows with the places of their instances.
-use Rattle.std.proofs.Common.{◌≡◌, ◌⊎◌, inl, inr, arith, ℕ, ◌+◌, ◌<◌, ◌≤◌, suc, Bool, true, false, cond, List, [], ◌∷◌, ◌++◌, length, map, drop, get_or, find, Option, None, Some, refl, sym, ap, ◌∙◌, add-one, drop-cons}
+use Rattle.std.proofs.Common.{◌≡◌, ◌⊎◌, inl, inr, arith, ℕ, ◌+◌, ◌<◌, ◌≤◌, suc, Bool, true, false, cond, List}
+use Rattle.std.proofs.Common.{[], ◌∷◌, ◌++◌, length, map, drop, get_or, find, Option, None, Some, refl, sym}
+use Rattle.std.proofs.Common.{ap, ◌∙◌, add-one, drop-cons}
 use Rattle.std.specs.Prelude.{slice_get}
 use Rattle.std.specs.Option.{option_map}
 use Rattle.std.proofs.lemmas.List.{drop_all}
@@ -22,10 +24,14 @@ rows_found : (class : DeclAt) (one : Constructor) (places : List Pos) (rows : Li
 rows_found class one [] [] same = refl
 rows_found class one [] (row ∷ rows) same = absurd cc
 rows_found class one (at ∷ places) [] same = absurd cc
-rows_found class one (at ∷ places) (row ∷ rows) same = by (is_row_of class one row) (rows_found class one places rows (cc))
+rows_found class one (at ∷ places) (row ∷ rows) same =
+    by (is_row_of class one row) (rows_found class one places rows (cc))
   where
-    by : (b : Bool) → option_map row_in (find (is_like class (Some one)) (known_rows places rows)) ≡ row_of rows class one
-        → option_map row_in (cond b (Some (record { at = at; row = row })) (find (is_like class (Some one)) (known_rows places rows))) ≡ cond b (Some row) (row_of rows class one)
+    by : (b : Bool) → option_map row_in (find (is_like class (Some one)) (known_rows places rows))
+        ≡ row_of rows class one
+        → option_map row_in (cond b (Some (record { at = at; row = row }))
+        (find (is_like class (Some one)) (known_rows places rows))) ≡ cond b (Some row)
+        (row_of rows class one)
     by true rest = refl
     by false rest = rest
 
@@ -34,15 +40,20 @@ none_of f None e = refl
 none_of f (Some x) e = absurd (none-some (f x) (sym e))
 
 -- none is found where no row is
-pub none_like : (class : DeclAt) (one : Constructor) (places : List Pos) (rows : List Row) → length places ≡ length rows → row_of rows class one ≡ None
+pub none_like : (class : DeclAt) (one : Constructor) (places : List Pos) (rows : List Row) →
+    length places ≡ length rows → row_of rows class one ≡ None
     → find (is_like class (Some one)) (known_rows places rows) ≡ None
-none_like class one places rows same none = none_of row_in (find (is_like class (Some one)) (known_rows places rows)) (rows_found class one places rows same ∙ none)
+none_like class one places rows same none =
+    none_of row_in (find (is_like class (Some one)) (known_rows places rows))
+    (rows_found class one places rows same ∙ none)
 
 -- no row is found where none is
-pub none_with : (class : DeclAt) (o : Option Constructor) (places : List Pos) (rows : List Row) → length places ≡ length rows → find (is_like class o) (known_rows places rows) ≡ None
+pub none_with : (class : DeclAt) (o : Option Constructor) (places : List Pos) (rows : List Row) →
+    length places ≡ length rows → find (is_like class o) (known_rows places rows) ≡ None
     → row_with rows class o ≡ None
 none_with class None places rows same none = refl
-none_with class (Some one) places rows same none = sym (rows_found class one places rows same) ∙ ap (option_map row_in) none
+none_with class (Some one) places rows same none = sym (rows_found class one places rows same)
+    ∙ ap (option_map row_in) none
 
 -- nothing is like what has no constructor
 pub like_none : (class : DeclAt) (known : List Known) → find (is_like class None) known ≡ None
@@ -55,7 +66,8 @@ pub known_more : (places : List Pos) (rows : List Row) (at : Pos) (row : Row) �
 known_more [] [] at row same = refl
 known_more [] (first ∷ rows) at row same = absurd cc
 known_more (first ∷ places) [] at row same = absurd cc
-known_more (first ∷ places) (one ∷ rows) at row same = ap (λ rest. record { at = first; row = one } ∷ rest) (known_more places rows at row (cc))
+known_more (first ∷ places) (one ∷ rows) at row same = ap (λ rest. record { at = first; row = one } ∷ rest)
+    (known_more places rows at row (cc))
 
 -- ---- a walk through rows with their places
 
@@ -63,18 +75,24 @@ module _ (class : DeclAt) (one : Constructor) (places : List Pos) (rows : List c
   abbrev found_from : ℕ → Option Known
   found_from k = find (is_like class (Some one)) (known_rows (drop k places) (rows_said (drop k rows)))
 
-  known_left : (at : Pos) (row : code.Row) → i < length places → i < length rows → at ≡ get_or places i at → row ≡ get_or rows i row
-      → known_rows (drop i places) (rows_said (drop i rows)) ≡ record { at = at; row = row_said row } ∷ known_rows (drop (i + 1) places) (rows_said (drop (i + 1) rows))
+  known_left : (at : Pos) (row : code.Row) → i < length places → i < length rows → at ≡ get_or places i at →
+      row ≡ get_or rows i row
+      → known_rows (drop i places) (rows_said (drop i rows)) ≡ record { at = at; row = row_said row } ∷
+      known_rows (drop (i + 1) places) (rows_said (drop (i + 1) rows))
   known_left at row h k here there =
       ap (λ ps. known_rows ps (rows_said (drop i rows))) (drop-cons places i at h)
       ∙ ap (λ rs. known_rows (get_or places i at ∷ drop (suc i) places) (rows_said rs)) (drop-cons rows i row k)
       ∙ ap (λ a. known_rows (a ∷ drop (suc i) places) (rows_said (get_or rows i row ∷ drop (suc i) rows))) (sym here)
-      ∙ ap (λ r. record { at = at; row = row_said r } ∷ known_rows (drop (suc i) places) (rows_said (drop (suc i) rows))) (sym there)
-      ∙ ap (λ n. record { at = at; row = row_said row } ∷ known_rows (drop n places) (rows_said (drop n rows))) (sym (add-one i))
+      ∙ ap (λ r. record { at = at; row = row_said r } ∷ known_rows (drop (suc i) places)
+      (rows_said (drop (suc i) rows))) (sym there)
+      ∙ ap (λ n. record { at = at; row = row_said row } ∷ known_rows (drop n places)
+      (rows_said (drop n rows))) (sym (add-one i))
 
   -- the next row is the first
-  pub place_here : (at : Pos) (row : code.Row) (is : Bool) → i < length places → i < length rows → at ≡ get_or places i at → row ≡ get_or rows i row
-      → find (is_like class (Some one)) (known_rows places (rows_said rows)) ≡ found_from i → is ≡ is_row_of class one (row_said row) → is ≡ true
+  pub place_here : (at : Pos) (row : code.Row) (is : Bool) → i < length places → i < length rows →
+      at ≡ get_or places i at → row ≡ get_or rows i row
+      → find (is_like class (Some one)) (known_rows places (rows_said rows)) ≡ found_from i →
+      is ≡ is_row_of class one (row_said row) → is ≡ true
       → Some at ≡ option_map place_of (find (is_like class (Some one)) (known_rows places (rows_said rows)))
   place_here at row is h k here there so_far tested passes =
       sym
@@ -85,22 +103,27 @@ module _ (class : DeclAt) (one : Constructor) (places : List Pos) (rows : List c
 
   -- it isn't
   pub place_next : (row : code.Row) (is : Bool) → i < length places → i < length rows → row ≡ get_or rows i row
-      → find (is_like class (Some one)) (known_rows places (rows_said rows)) ≡ found_from i → is ≡ is_row_of class one (row_said row) → is ≡ false
+      → find (is_like class (Some one)) (known_rows places (rows_said rows)) ≡ found_from i →
+      is ≡ is_row_of class one (row_said row) → is ≡ false
       → find (is_like class (Some one)) (known_rows places (rows_said rows)) ≡ found_from (i + 1)
   place_next row is h k there so_far tested fails = by (slice_get_cases places i).1
     where
-      by : ((at : Pos) × (i < length places) × (slice_get places i ≡ Some at) × (get_or places i at ≡ at)) ⊎ ((length places ≤ i) × (slice_get places i ≡ None))
+      by : ((at : Pos) × (i < length places) × (slice_get places i ≡ Some at) × (get_or places i at ≡ at))
+          ⊎ ((length places ≤ i) × (slice_get places i ≡ None))
           → find (is_like class (Some one)) (known_rows places (rows_said rows)) ≡ found_from (i + 1)
       by (inl here) =
           so_far
           ∙ ap (λ known. find (is_like class (Some one)) known) (known_left here.0 row h k (sym here.3) there)
-          ∙ ap (λ b. cond b (Some (record { at = here.0; row = row_said row })) (found_from (i + 1))) (sym tested ∙ fails)
+          ∙ ap (λ b. cond b (Some (record { at = here.0; row = row_said row })) (found_from (i + 1)))
+          (sym tested ∙ fails)
       by (inr past) = absurd (omega (arith, past.0, h))
 
   -- no row is left
-  pub place_end : length places ≤ i → find (is_like class (Some one)) (known_rows places (rows_said rows)) ≡ found_from i
+  pub place_end : length places ≤ i → find (is_like class (Some one)) (known_rows places (rows_said rows))
+      ≡ found_from i
       → None ≡ option_map place_of (find (is_like class (Some one)) (known_rows places (rows_said rows)))
   place_end past so_far =
       sym
       (ap (option_map place_of)
-      (so_far ∙ ap (λ ps. find (is_like class (Some one)) (known_rows ps (rows_said (drop i rows)))) (drop_all i places past)))
+      (so_far ∙ ap (λ ps. find (is_like class (Some one)) (known_rows ps (rows_said (drop i rows))))
+      (drop_all i places past)))

@@ -1,5 +1,7 @@
 -- Tests of the items of a list.
-use Rattle.std.proofs.Common.{◌≡◌, ◌⊎◌, inl, inr, ℕ, ◌+◌, ◌<◌, ◌≤◌, Bool, true, false, cond, ◌&&◌, List, [], ◌∷◌, ◌++◌, length, map, drop, get_or, find, Option, None, Some, is_some, refl, sym, ap, ◌∙◌, subst, true≢false}
+use Rattle.std.proofs.Common.{◌≡◌, ◌⊎◌, inl, inr, ℕ, ◌+◌, ◌<◌, ◌≤◌, Bool, true, false, cond, ◌&&◌, List, []}
+use Rattle.std.proofs.Common.{◌∷◌, ◌++◌, length, map, drop, get_or, find, Option, None, Some, is_some, refl}
+use Rattle.std.proofs.Common.{sym, ap, ◌∙◌, subst, true≢false}
 use Rattle.std.specs.Prelude.{◌||◌}
 use Rattle.std.specs.List.{list_all, list_any, position_from}
 use Rattle.std.proofs.lemmas.Bool.{and_parts, and_from}
@@ -13,7 +15,8 @@ pub some_index : {A : Type 0} (t : A → Bool) (i : ℕ) (xs : List A) → is_so
 some_index t i [] = refl
 some_index t i (x ∷ xs) = by (t x) (some_index t (i + 1) xs)
   where
-    by : (b : Bool) → is_some (position_from t (i + 1) xs) ≡ list_any t xs → is_some (cond b (Some i) (position_from t (i + 1) xs)) ≡ (b || list_any t xs)
+    by : (b : Bool) → is_some (position_from t (i + 1) xs) ≡ list_any t xs →
+        is_some (cond b (Some i) (position_from t (i + 1) xs)) ≡ (b || list_any t xs)
     by true rest = refl
     by false rest = rest
 
@@ -46,7 +49,8 @@ module _ {A : Type 0} (t : A → Bool) where
   one_passes [] h = absurd (true≢false (sym h))
   one_passes (y ∷ ys) h = by (t y) refl (λ rest. one_passes ys rest)
     where
-      by : (b : Bool) → t y ≡ b → (list_any t ys ≡ true → (x : A) × Among x ys × (t x ≡ true)) → (x : A) × Among x (y ∷ ys) × (t x ≡ true)
+      by : (b : Bool) → t y ≡ b → (list_any t ys ≡ true → (x : A) × Among x ys × (t x ≡ true)) → (x : A)
+          × Among x (y ∷ ys) × (t x ≡ true)
       by true e later = (y, inl refl, e)
       by false e later =
           let found : (x : A) × Among x ys × (t x ≡ true) = later (sym (ap (λ b. b || list_any t ys) e) ∙ h) in
@@ -73,7 +77,8 @@ module _ {A : Type 0} (t : A → Bool) where
   pass_none xs h = by (list_any t xs) refl
     where
       by : (b : Bool) → list_any t xs ≡ b → list_any t xs ≡ false
-      by true e = let found : (x : A) × Among x xs × (t x ≡ true) = one_passes xs e in absurd (h found.0 found.1 found.2)
+      by true e = let found : (x : A) × Among x xs × (t x ≡ true) = one_passes xs e
+          in absurd (h found.0 found.1 found.2)
       by false e = e
 
   -- what is found is among them and passes
@@ -91,10 +96,14 @@ module _ {A : Type 0} (t : A → Bool) where
 
   -- the only one that passes is found
   pub only_found : (xs : List A) (x : A) → Among x xs → t x ≡ true
-      → ((before after : List A) (one other : A) → xs ≡ before ++ one ∷ after → Among other before → t one ≡ true → t other ≡ true → ⊥)
+      → ((before after : List A) (one other : A) → xs ≡ before ++ one ∷ after → Among other before →
+      t one ≡ true → t other ≡ true → ⊥)
       → find t xs ≡ Some x
   only_found [] x m h only = absurd m
-  only_found (y ∷ ys) x m h only = by (t y) refl m (λ later. only_found ys x later h (λ before after one other split one_of p q. only (y ∷ before) after one other (ap (λ zs. y ∷ zs) split) (inr one_of) p q))
+  only_found (y ∷ ys) x m h only =
+      by (t y) refl m (λ later. only_found ys x later h
+      (λ before after one other split one_of p q. only (y ∷ before) after one other (ap (λ zs. y ∷ zs) split)
+      (inr one_of) p q))
     where
       split_at : (zs : List A) → Among x zs → (before : List A) × (after : List A) × (zs ≡ before ++ x ∷ after)
       split_at [] none = absurd none
@@ -114,7 +123,8 @@ module _ {A : Type 0} (t : A → Bool) where
 -- ---- walks that ask each item, seen through two views
 
 module _ {A B C : Type 0} (p : B → C) (v : A → B) (t : C → Bool) (all items : List A) (i : ℕ) (x : A) (is : Bool) where
-  all_left : items ≡ all → i < length items → x ≡ get_or items i x → list_all t (map p (map v items)) ≡ list_all t (map p (map v (drop i items))) → is ≡ t (p (v x))
+  all_left : items ≡ all → i < length items → x ≡ get_or items i x → list_all t (map p (map v items))
+      ≡ list_all t (map p (map v (drop i items))) → is ≡ t (p (v x))
       → list_all t (map p (map v all)) ≡ (is && list_all t (map p (map v (drop (i + 1) items))))
   all_left same h here so_far tested =
       ap (λ xs. list_all t (map p (map v xs))) (sym same)
@@ -123,13 +133,15 @@ module _ {A B C : Type 0} (p : B → C) (v : A → B) (t : C → Bool) (all item
       ∙ ap (λ b. b && list_all t (map p (map v (drop (i + 1) items)))) (sym tested)
 
   -- the next item doesn't pass
-  pub all_not : items ≡ all → i < length items → x ≡ get_or items i x → list_all t (map p (map v items)) ≡ list_all t (map p (map v (drop i items))) → is ≡ t (p (v x)) → is ≡ false
+  pub all_not : items ≡ all → i < length items → x ≡ get_or items i x → list_all t (map p (map v items))
+      ≡ list_all t (map p (map v (drop i items))) → is ≡ t (p (v x)) → is ≡ false
       → false ≡ list_all t (map p (map v all))
   all_not same h here so_far tested fails =
       sym (all_left same h here so_far tested ∙ ap (λ b. b && list_all t (map p (map v (drop (i + 1) items)))) fails)
 
   -- it passes
-  pub all_next : items ≡ all → i < length items → x ≡ get_or items i x → list_all t (map p (map v items)) ≡ list_all t (map p (map v (drop i items))) → is ≡ t (p (v x)) → is ≡ true
+  pub all_next : items ≡ all → i < length items → x ≡ get_or items i x → list_all t (map p (map v items))
+      ≡ list_all t (map p (map v (drop i items))) → is ≡ t (p (v x)) → is ≡ true
       → list_all t (map p (map v items)) ≡ list_all t (map p (map v (drop (i + 1) items)))
   all_next same h here so_far tested passes =
       ap (λ xs. list_all t (map p (map v xs))) same
@@ -137,8 +149,10 @@ module _ {A B C : Type 0} (p : B → C) (v : A → B) (t : C → Bool) (all item
       ∙ ap (λ b. b && list_all t (map p (map v (drop (i + 1) items)))) passes
 
 -- all pass
-pub all_end : {A B C : Type 0} (p : B → C) (v : A → B) (t : C → Bool) (all items : List A) (i : ℕ) → items ≡ all → length items ≤ i
-    → list_all t (map p (map v items)) ≡ list_all t (map p (map v (drop i items))) → true ≡ list_all t (map p (map v all))
+pub all_end : {A B C : Type 0} (p : B → C) (v : A → B) (t : C → Bool) (all items : List A) (i : ℕ) →
+    items ≡ all → length items ≤ i
+    → list_all t (map p (map v items)) ≡ list_all t (map p (map v (drop i items))) →
+    true ≡ list_all t (map p (map v all))
 all_end p v t all items i same past so_far =
     sym
     (ap (λ xs. list_all t (map p (map v xs))) (sym same)

@@ -1,20 +1,33 @@
 -- What isn't mentioned isn't touched.
-use Rattle.std.proofs.Common.{◌≡◌, ℕ, ◌+◌, ◌==◌, Bool, true, false, not, ◌||◌, ◌&&◌, List, [], ◌∷◌, refl, ap, ◌∙◌, arith, if◌then◌else◌}
+use Rattle.std.proofs.Common.{◌≡◌, ℕ, ◌+◌, ◌==◌, Bool, true, false, not, ◌||◌, ◌&&◌, List, [], ◌∷◌, refl, ap}
+use Rattle.std.proofs.Common.{◌∙◌, arith, if◌then◌else◌}
 use Rattle.std.proofs.lemmas.Bool.{eqb-true}
 use Rattle.std.specs.Str.{bytes_eq}
 use Rattle.au_syntax.specs.declared.expressions.BorrowMode.{BorrowMode}
 use Rattle.au_syntax.specs.declared.expressions.BorrowMode.TheVariants as modes
 use Rattle.au_syntax.specs.declared.types.Access.{Access}
 use Rattle.au_syntax.specs.Names.{Placed}
-use Rattle.au_syntax.specs.Expressions.{number, negative, text, truth, nil, path, arrow, call, named_call, parenthesized, dereference, borrow, borrow_part, binary, negation, typed, choice, no_expressions, expressions, no_arguments, arguments}
-use Rattle.au_syntax.specs.Statements.{skip, declare, destructure, assign, assign_through, conditional, conditional_else, case_of, while_loop, for_loop, borrow_in, borrow_typed, discard, return_of, no_statements, statements, no_branches, branches, no_arms, arms}
-use Rattle.au_syntax.specs.Plain.{Bytes, PlainExpression, PlainExpressions, PlainArguments, PlainStatement, PlainStatements, PlainBranches, PlainArms}
-use Rattle.au_lives.specs.Mentions.{Counts, unmentioned, plus, one_look, borrowed_by, mentioned_with, is_variable, may_skip, counts_in, counts_in_all, counts_in_arguments}
+use Rattle.au_syntax.specs.Expressions.{number, negative, text, truth, nil, path, arrow, call, named_call}
+use Rattle.au_syntax.specs.Expressions.{parenthesized, dereference, borrow, borrow_part, binary, negation}
+use Rattle.au_syntax.specs.Expressions.{typed, choice, no_expressions, expressions, no_arguments, arguments}
+use Rattle.au_syntax.specs.Statements.{skip, declare, destructure, assign, assign_through, conditional}
+use Rattle.au_syntax.specs.Statements.{conditional_else, case_of, while_loop, for_loop, borrow_in}
+use Rattle.au_syntax.specs.Statements.{borrow_typed, discard, return_of, no_statements, statements}
+use Rattle.au_syntax.specs.Statements.{no_branches, branches, no_arms, arms}
+use Rattle.au_syntax.specs.Plain.{Bytes, PlainExpression, PlainExpressions, PlainArguments, PlainStatement}
+use Rattle.au_syntax.specs.Plain.{PlainStatements, PlainBranches, PlainArms}
+use Rattle.au_lives.specs.Mentions.{Counts, unmentioned, plus, one_look, borrowed_by, mentioned_with}
+use Rattle.au_lives.specs.Mentions.{is_variable, may_skip, counts_in, counts_in_all, counts_in_arguments}
 use Rattle.au_lives.specs.Lives.{Hold, unlent, read_lent, write_lent, hidden, held_from, is_untouched}
 use Rattle.au_lives.specs.Paths.{lent, declared, declared_by, bound_names, access_of}
-use Rattle.au_clearing.specs.Touches.{Touch, Untouched, Quiet, Written, both, worse, kept, is_consumed, behind_spent, unless_hidden, alone, borrowed, touched, touched_in_all, touched_in_arguments, touched_at}
-use Rattle.au_clearing.specs.Dealings.{Dealing, nothing, never, once, sum, chain, fork, turns, lend_by, mention, cased, deal, deal_block, deal_branches, deal_arms, returns_in_block, returns_in_branches, returns_in_arms}
-use Rattle.au_clearing.specs.Absent.{LeavesAlone, absent_in, absent, absent_block, absent_branches, absent_arms, is_other}
+use Rattle.au_clearing.specs.Touches.{Touch, Untouched, Quiet, Written, both, worse, kept, is_consumed}
+use Rattle.au_clearing.specs.Touches.{behind_spent, unless_hidden, alone, borrowed, touched, touched_in_all}
+use Rattle.au_clearing.specs.Touches.{touched_in_arguments, touched_at}
+use Rattle.au_clearing.specs.Dealings.{Dealing, nothing, never, once, sum, chain, fork, turns, lend_by}
+use Rattle.au_clearing.specs.Dealings.{mention, cased, deal, deal_block, deal_branches, deal_arms}
+use Rattle.au_clearing.specs.Dealings.{returns_in_block, returns_in_branches, returns_in_arms}
+use Rattle.au_clearing.specs.Absent.{LeavesAlone, absent_in, absent, absent_block, absent_branches}
+use Rattle.au_clearing.specs.Absent.{absent_arms, is_other}
 use Rattle.au_clearing.proofs.BooleanLemmas.{and_left, and_right}
 
 -- how often a variable is mentioned

@@ -1,5 +1,6 @@
 -- A dealing that clears a variable makes its life good.
-use Rattle.std.proofs.Common.{◌≡◌, ℕ, ◌≤◌, ◌<◌, ◌==◌, Bool, true, false, not, ◌&&◌, [], Some, None, nat_lt, refl, sym, ap, ◌∙◌, arith}
+use Rattle.std.proofs.Common.{◌≡◌, ℕ, ◌≤◌, ◌<◌, ◌==◌, Bool, true, false, not, ◌&&◌, [], Some, None, nat_lt}
+use Rattle.std.proofs.Common.{refl, sym, ap, ◌∙◌, arith}
 use Rattle.std.proofs.lemmas.Bool.{eqb-true, ltb-true}
 use Rattle.au_syntax.specs.Plain.{Bytes, PlainStatements}
 use Rattle.au_lives.specs.declared.lives.Sort.{Sort}
@@ -10,7 +11,8 @@ use Rattle.au_lives.proofs.WholeLemmas.{yes_good}
 use Rattle.au_clearing.specs.Touches.{Touch, Untouched, Quiet, Written, Consumed, Broken}
 use Rattle.au_lives.specs.Scopes.{Scope}
 use Rattle.au_clearing.specs.declared.dealings.Life.{Life}
-use Rattle.au_clearing.specs.Dealings.{Dealing, deal_block, returns_in_block, is_whole, is_spent, clears, by_type, life_of}
+use Rattle.au_clearing.specs.Dealings.{Dealing, deal_block, returns_in_block, is_whole, is_spent, clears}
+use Rattle.au_clearing.specs.Dealings.{by_type, life_of}
 use Rattle.au_clearing.proofs.BooleanLemmas.{and_left, and_right}
 use Rattle.au_clearing.proofs.TouchLemmas.{rank, parts_kept}
 use Rattle.au_clearing.proofs.DealingLemmas.{most}

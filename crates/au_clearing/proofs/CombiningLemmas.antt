@@ -1,5 +1,6 @@
 -- How two parts together deal with a variable, by what their tables have of its name.
-use Rattle.std.proofs.Common.{◌≡◌, ℕ, Bool, true, false, cond, List, [], ◌∷◌, Option, None, Some, refl, sym, ap, ◌∙◌, if◌then◌else◌}
+use Rattle.std.proofs.Common.{◌≡◌, ℕ, Bool, true, false, cond, List, [], ◌∷◌, Option, None, Some, refl, sym}
+use Rattle.std.proofs.Common.{ap, ◌∙◌, if◌then◌else◌}
 use Rattle.std.specs.Str.{bytes_eq}
 use Rattle.au_syntax.specs.declared.types.Access.{Access}
 use Rattle.au_syntax.specs.declared.types.Access.TheVariants as accesses
@@ -16,7 +17,8 @@ use Rattle.au_clearing.specs.declared.deals.Way.{Way}
 use Rattle.au_clearing.specs.declared.deals.Way.TheVariants as ways
 use Rattle.au_clearing.specs.Touches.{unless_hidden}
 use Rattle.au_clearing.specs.Dealings.{dealing, nothing, once, chain, turns, lend, lend_by, lend_named, by_type}
-use Rattle.au_clearing.specs.Deals.{or_rest, seen_at, by_touch, touch_or_none, touch_in, kept_if, by, by_both, alike, settled, or_alike, absorbed, stepped}
+use Rattle.au_clearing.specs.Deals.{or_rest, seen_at, by_touch, touch_or_none, touch_in, kept_if, by, by_both}
+use Rattle.au_clearing.specs.Deals.{alike, settled, or_alike, absorbed, stepped}
 use Rattle.au_clearing.specs.Tables.{find, Changes}
 use Rattle.au_clearing.proofs.TableLemmas.{equal_names}
 
@@ -122,7 +124,8 @@ module _ (way : Way) (rest : Dealing) (one : List (Bytes × Dealings)) where
               ◌≡◌ {A = Dealings} (record { owned = a; free = b }) (record { owned = c; free = d })
           both_same p q = cc
 
-type_by : (way : Way) (free : Bool) (d e : Dealings) → by_type free (by_both way d e) ≡ by way (by_type free d) (by_type free e)
+type_by : (way : Way) (free : Bool) (d e : Dealings) → by_type free (by_both way d e)
+    ≡ by way (by_type free d) (by_type free e)
 type_by way true d e = refl
 type_by way false d e = refl
 
@@ -131,7 +134,8 @@ type_alike true d = refl
 type_alike false d = refl
 
 together : (way : Way) (free : Bool) (p q : Option Dealings) (r s : Dealing) →
-    or_rest free (absorbed (by_both way) s p (settled way r p q)) (by way r s) ≡ by way (or_rest free p r) (or_rest free q s)
+    or_rest free (absorbed (by_both way) s p (settled way r p q)) (by way r s) ≡ by way (or_rest free p r)
+    (or_rest free q s)
 together way free None None r s = refl
 together way free None (Some e) r s =
     type_by way free (alike r) e ∙ ap (λ d. by way d (by_type free e)) (type_alike free r)
@@ -162,7 +166,8 @@ combined_seen way one other d base settles absorbs rests x free h = on h
     on hidden = rests
 
 -- the turns of a loop
-turned_rest : (free : Bool) (o : Option Dealings) (r s : Dealing) → or_rest free (settled ways.Turns r None o) (turns s) ≡ turns (or_rest free o s)
+turned_rest : (free : Bool) (o : Option Dealings) (r s : Dealing) → or_rest free (settled ways.Turns r None o)
+    (turns s) ≡ turns (or_rest free o s)
 turned_rest free None r s = refl
 turned_rest true (Some e) r s = refl
 turned_rest false (Some e) r s = refl
@@ -175,7 +180,8 @@ turned_seen body d none r empty settles rests x free h = on h
   where
     held : or_rest free (find x d.named) d.rest ≡ turns (or_rest free (find x body.named) body.rest)
     held =
-        ap (λ o. or_rest free o d.rest) (settles x ∙ ap (λ l. settled ways.Turns r (find x l) (find x body.named)) empty)
+        ap (λ o. or_rest free o d.rest)
+        (settles x ∙ ap (λ l. settled ways.Turns r (find x l) (find x body.named)) empty)
         ∙ ap (or_rest free (settled ways.Turns r None (find x body.named))) rests
         ∙ turned_rest free (find x body.named) r body.rest
 
@@ -191,7 +197,8 @@ untouched_step true n e = refl
 untouched_step false n e = refl
 
 step_rest : (loop : Bool) (n : ℕ) (free : Bool) (p : Option Touches) (q : Option Dealings) (s : Dealing) →
-    or_rest free (absorbed (stepped loop n) s p q) s ≡ chain n (once (kept_if loop (touch_or_none free p))) (or_rest free q s)
+    or_rest free (absorbed (stepped loop n) s p q) s ≡ chain n (once (kept_if loop (touch_or_none free p)))
+    (or_rest free q s)
 step_rest loop n free None q s = untouched_step loop n (or_rest free q s)
 step_rest loop n true (Some t) None s = refl
 step_rest loop n false (Some t) None s = refl
@@ -202,7 +209,8 @@ step_rest loop n false (Some t) (Some e) s = refl
 pub met_seen : (loop : Bool) (n : ℕ) (table : List (Bytes × Touches)) (other d : Deals) →
     ((x : Bytes) → find x d.named ≡ absorbed (stepped loop n) other.rest (find x table) (find x other.named)) →
     d.rest ≡ other.rest → (x : Bytes) (free : Bool) (h : Hold) →
-    seen_at d x free h ≡ chain n (once (kept_if loop (unless_hidden h (touch_in table x free)))) (seen_at other x free h)
+    seen_at d x free h ≡ chain n (once (kept_if loop (unless_hidden h (touch_in table x free))))
+    (seen_at other x free h)
 met_seen loop n table other d absorbs rests x free h = on h
   where
     held : or_rest free (find x d.named) d.rest
@@ -225,7 +233,8 @@ pub forgotten_seen : (old new : Deals) (name : Bytes) → Changes old.named new.
     seen_at new x free h ≡ seen_at old x free (held_from x (declared name ∷ []) h)
 forgotten_seen old new name gone rests x free h = on (bytes_eq name x) h refl
   where
-    other : bytes_eq name x ≡ false → or_rest free (find x new.named) new.rest ≡ or_rest free (find x old.named) old.rest
+    other : bytes_eq name x ≡ false → or_rest free (find x new.named) new.rest
+        ≡ or_rest free (find x old.named) old.rest
     other e =
         ap (λ o. or_rest free o new.rest) (found_other old.named new.named name x None gone e)
         ∙ ap (or_rest free (find x old.named)) rests
@@ -261,7 +270,8 @@ pub lent_seen : (old new : Deals) (name : Bytes) (access : Access) (value : Deal
     seen_at new x free h ≡ lend_named x name access h (seen_at old x free h)
 lent_seen old new name access value is put rests x free h = on (bytes_eq name x) h refl
   where
-    other : bytes_eq name x ≡ false → or_rest free (find x new.named) new.rest ≡ or_rest free (find x old.named) old.rest
+    other : bytes_eq name x ≡ false → or_rest free (find x new.named) new.rest
+        ≡ or_rest free (find x old.named) old.rest
     other e =
         ap (λ o. or_rest free o new.rest) (found_other old.named new.named name x (Some value) put e)
         ∙ ap (or_rest free (find x old.named)) rests

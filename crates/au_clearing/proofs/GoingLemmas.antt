@@ -1,18 +1,24 @@
 -- What a dealing says of the walk over a part, and of parts that are put together.
-use Rattle.std.proofs.Common.{◌≡◌, ℕ, ◌+◌, ◌≤◌, ◌<◌, Bool, true, false, not, ◌||◌, ◌&&◌, List, Option, None, Some, Ok, ◌⊎◌, inl, inr, refl, sym, ap, subst, ◌∙◌, arith, if◌then◌else◌}
+use Rattle.std.proofs.Common.{◌≡◌, ℕ, ◌+◌, ◌≤◌, ◌<◌, Bool, true, false, not, ◌||◌, ◌&&◌, List, Option, None}
+use Rattle.std.proofs.Common.{Some, Ok, ◌⊎◌, inl, inr, refl, sym, ap, subst, ◌∙◌, arith, if◌then◌else◌}
 use Rattle.au_syntax.specs.declared.types.Access.{Access}
 use Rattle.au_syntax.specs.declared.types.Access.TheVariants as access
 use Rattle.au_lives.specs.declared.lives.Sort.{Sort}
 use Rattle.au_lives.specs.declared.lives.Sort.TheVariants as sorts
 use Rattle.au_lives.specs.Mentions.{Counts, counts, unmentioned}
-use Rattle.au_lives.specs.Lives.{Hold, unlent, read_lent, write_lent, hidden, tighter, opening_counts, Fate, going, broken, if_live, if_spent, verdict, at_end}
+use Rattle.au_lives.specs.Lives.{Hold, unlent, read_lent, write_lent, hidden, tighter, opening_counts, Fate}
+use Rattle.au_lives.specs.Lives.{going, broken, if_live, if_spent, verdict, at_end}
 use Rattle.au_lives.specs.Lives as lives
-use Rattle.au_lives.specs.Walks.{Reach, reach, Walk, ◌>>=◌, nowhere, either, merge, push, choose, noted, only, land, landed, walk_by, walk_step, joined, finish, stop, returned, left, turned}
-use Rattle.au_clearing.specs.Touches.{Touch, Fits, Untouched, Quiet, Written, Consumed, Broken, worse, kept, is_consumed, behind_spent}
+use Rattle.au_lives.specs.Walks.{Reach, reach, Walk, ◌>>=◌, nowhere, either, merge, push, choose, noted, only}
+use Rattle.au_lives.specs.Walks.{land, landed, walk_by, walk_step, joined, finish, stop, returned, left}
+use Rattle.au_lives.specs.Walks.{turned}
+use Rattle.au_clearing.specs.Touches.{Touch, Fits, Untouched, Quiet, Written, Consumed, Broken, worse, kept}
+use Rattle.au_clearing.specs.Touches.{is_consumed, behind_spent}
 use Rattle.au_clearing.specs.Touches as touches
 use Rattle.au_clearing.specs.Dealings.{Dealing, nothing, never, once, sum, chain, fork, turns, lend, lend_by}
 use Rattle.au_clearing.proofs.TouchLemmas.{rank, rank_none, behind_none, kept_none, fits_hidden}
-use Rattle.au_clearing.proofs.DealingLemmas.{most, sum_exact, sum_small, sum_within, if_within, chain_ranks, chain_second, fork_ranks, turns_rank}
+use Rattle.au_clearing.proofs.DealingLemmas.{most, sum_exact, sum_small, sum_within, if_within, chain_ranks}
+use Rattle.au_clearing.proofs.DealingLemmas.{chain_second, fork_ranks, turns_rank}
 
 -- how bad the touches may be where a variable is held so
 abbrev pub room : Hold → ℕ

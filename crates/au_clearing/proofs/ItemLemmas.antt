@@ -1,5 +1,6 @@
 -- Items of lists, by their numbers.
-use Rattle.std.proofs.Common.{◌≡◌, ℕ, suc, ◌+◌, ◌-◌, ◌<◌, ◌≤◌, List, ◌∷◌, length, drop, get_or, sym, ap, ◌∙◌, arith, drop-cons}
+use Rattle.std.proofs.Common.{◌≡◌, ℕ, suc, ◌+◌, ◌-◌, ◌<◌, ◌≤◌, List, ◌∷◌, length, drop, get_or, sym, ap, ◌∙◌}
+use Rattle.std.proofs.Common.{arith, drop-cons}
 
 -- an item and those behind it
 pub item_here : {A : Type 0} (xs : List A) (i : ℕ) (a : A) → a ≡ get_or xs i a → i < length xs →

@@ -1,12 +1,19 @@
 -- A dealing that isn't broken keeps consumptions out of loops and of parts that may be left out.
 use Rattle.std.proofs.Common.{◌≡◌, ℕ, ◌≤◌, Bool, true, ◌&&◌, [], ◌∷◌, refl, arith}
 use Rattle.std.specs.Str.{bytes_eq}
-use Rattle.au_syntax.specs.Statements.{skip, declare, destructure, assign, assign_through, conditional, conditional_else, case_of, while_loop, for_loop, borrow_in, borrow_typed, discard, return_of, no_statements, statements, no_branches, branches, no_arms, arms}
+use Rattle.au_syntax.specs.Statements.{skip, declare, destructure, assign, assign_through, conditional}
+use Rattle.au_syntax.specs.Statements.{conditional_else, case_of, while_loop, for_loop, borrow_in}
+use Rattle.au_syntax.specs.Statements.{borrow_typed, discard, return_of, no_statements, statements}
+use Rattle.au_syntax.specs.Statements.{no_branches, branches, no_arms, arms}
 use Rattle.au_syntax.specs.Plain.{Bytes, PlainExpression, PlainStatement, PlainStatements, PlainBranches, PlainArms}
 use Rattle.au_lives.specs.Paths.{lent, declared, declared_by, bound_names, access_of}
-use Rattle.au_lives.specs.Lives.{Hold, held_from, keeps, each_in, each_in_block, each_in_branches, each_in_arms, each_loop, each_loop_of_block, each_loop_of_branches, each_loop_of_arms}
+use Rattle.au_lives.specs.Lives.{Hold, held_from, keeps, each_in, each_in_block, each_in_branches}
+use Rattle.au_lives.specs.Lives.{each_in_arms, each_loop, each_loop_of_block, each_loop_of_branches}
+use Rattle.au_lives.specs.Lives.{each_loop_of_arms}
 use Rattle.au_clearing.specs.Touches.{Written, Quiet, kept, touched_at}
-use Rattle.au_clearing.specs.Dealings.{Dealing, nothing, never, once, chain, fork, turns, sum, mention, cased, deal, deal_block, deal_branches, deal_arms, returns_in_block, returns_in_branches, returns_in_arms}
+use Rattle.au_clearing.specs.Dealings.{Dealing, nothing, never, once, chain, fork, turns, sum, mention, cased}
+use Rattle.au_clearing.specs.Dealings.{deal, deal_block, deal_branches, deal_arms, returns_in_block}
+use Rattle.au_clearing.specs.Dealings.{returns_in_branches, returns_in_arms}
 use Rattle.au_clearing.proofs.TouchLemmas.{rank, and_both, kept_above, kept_rank, step_kept}
 use Rattle.au_clearing.proofs.DealingLemmas.{chain_ranks, chain_second, fork_ranks, turns_rank, lend_rank}
 

@@ -1,5 +1,7 @@
 -- What an expression does to the names of a table, part by part.
-use Rattle.std.proofs.Common.{◌≡◌, ℕ, suc, ◌+◌, ◌<◌, ◌≤◌, Bool, true, false, cond, ◌||◌, List, [], ◌∷◌, length, drop, get_or, Option, None, Some, Result, OnOk, refl, sym, ap, subst, ◌∙◌, arith, drop-cons, if◌then◌else◌}
+use Rattle.std.proofs.Common.{◌≡◌, ℕ, suc, ◌+◌, ◌<◌, ◌≤◌, Bool, true, false, cond, ◌||◌, List, [], ◌∷◌}
+use Rattle.std.proofs.Common.{length, drop, get_or, Option, None, Some, Result, OnOk, refl, sym, ap, subst}
+use Rattle.std.proofs.Common.{◌∙◌, arith, drop-cons, if◌then◌else◌}
 use Rattle.std.proofs.lemmas.List.{drop_all}
 use Rattle.std.specs.Str.{bytes_eq}
 use Rattle.au_syntax.specs.declared.phases.Phase.{Ghosts}
@@ -141,7 +143,8 @@ mentioned old new name was more value is owned frees put x free = by (bytes_eq n
     by true e =
         ap (touch_or_none free) (found_here old new name x (Some value) put e)
         ∙ value_is free
-        ∙ ap (λ t. both t (by_touch free more)) (is free ∙ ap (λ n. touch_or_none free (find n old)) (equal_names name x e))
+        ∙ ap (λ t. both t (by_touch free more))
+        (is free ∙ ap (λ n. touch_or_none free (find n old)) (equal_names name x e))
         ∙ ap (λ b. both (touch_in old x free) (cond b (by_touch free more) Untouched)) (sym e)
     by false e =
         ap (touch_or_none free) (found_other old new name x (Some value) put e)
@@ -178,7 +181,8 @@ meets_all old new f e h x free = h x free ∙ ap (λ l. both (touch_in l x free)
 -- what is left of some parts of a step, behind those that are met
 module _ {A : Type 0} (all : List A → Bytes → Bool → Touch) (one : A → Bytes → Bool → Touch) where
   pub item_met :
-      ((a : A) (rest : List A) (x : Bytes) (free : Bool) → all (a ∷ rest) x free ≡ both (one a x free) (all rest x free)) →
+      ((a : A) (rest : List A) (x : Bytes) (free : Bool) → all (a ∷ rest) x free ≡ both (one a x free)
+      (all rest x free)) →
       (xs : List A) (i : ℕ) (a : A) → a ≡ get_or xs i a → i < length xs → (old mid new : List (Bytes × Touches)) →
       ((x : Bytes) (free : Bool) →
       both (touch_in mid x free) (all (drop i xs) x free) ≡ both (touch_in old x free) (all xs x free)) →

@@ -1,5 +1,7 @@
 -- How lists of statements, branches and arms deal with all variables, from the last to the first.
-use Rattle.std.proofs.Common.{◌≡◌, ℕ, suc, ◌+◌, ◌-◌, ◌<◌, ◌≤◌, Bool, true, false, true≢false, ◌==◌, List, [], ◌∷◌, ◌++◌, length, drop, map, reverse, get_or, append_assoc, Option, None, Some, Result, Ok, Err, IfOk, OnOk, refl, sym, ap, subst, ◌∙◌, arith, drop-cons}
+use Rattle.std.proofs.Common.{◌≡◌, ℕ, suc, ◌+◌, ◌-◌, ◌<◌, ◌≤◌, Bool, true, false, true≢false, ◌==◌, List, []}
+use Rattle.std.proofs.Common.{◌∷◌, ◌++◌, length, drop, map, reverse, get_or, append_assoc, Option, None, Some}
+use Rattle.std.proofs.Common.{Result, Ok, Err, IfOk, OnOk, refl, sym, ap, subst, ◌∙◌, arith, drop-cons}
 use Rattle.std.proofs.lemmas.List.{append-nil, drop_all, map-append, reverse-append}
 use Rattle.au_syntax.specs.Plain.{Bytes, PlainExpression, PlainStatement, PlainStatements, PlainBranches, PlainArms}
 use Rattle.au_syntax.specs.Statements.{statements, no_statements, branches, no_branches, arms, no_arms}
@@ -12,13 +14,16 @@ use Rattle.au_clearing.specs.Seen.{seen_bind, seen_binds, seen_arms}
 use Rattle.au_lives.specs.Lives.{Hold, unlent, read_lent, write_lent, hidden, held_from}
 use Rattle.au_syntax.specs.declared.types.Access.{Access}
 use Rattle.au_lives.specs.Paths.{declared, declared_by, bound_name, bound_names, lent}
-use Rattle.au_lives.specs.Scopes.{Scope, scope, scopes, scopes_after, scopes_inside, scopes_of_branches, scopes_of_arms, bound_over}
+use Rattle.au_lives.specs.Scopes.{Scope, scope, scopes, scopes_after, scopes_inside, scopes_of_branches}
+use Rattle.au_lives.specs.Scopes.{scopes_of_arms, bound_over}
 use Rattle.au_clearing.specs.declared.dealings.Dealing.{Dealing}
 use Rattle.au_clearing.specs.declared.dealings.Dealings.{Dealings}
 use Rattle.au_clearing.specs.declared.dealings.Life.{Life}
 use Rattle.au_clearing.specs.declared.deals.Deals.{Deals}
 use Rattle.au_clearing.specs.Touches.{Touch, Untouched, Quiet, Written, Consumed, Broken, touched_at}
-use Rattle.au_clearing.specs.Dealings.{nothing, once, sum, cased, chain, fork, turns, lend_named, deal, deal_block, deal_branches, deal_arms, returns_in, returns_in_block, returns_in_branches, returns_in_arms, life_of}
+use Rattle.au_clearing.specs.Dealings.{nothing, once, sum, cased, chain, fork, turns, lend_named, deal}
+use Rattle.au_clearing.specs.Dealings.{deal_block, deal_branches, deal_arms, returns_in, returns_in_block}
+use Rattle.au_clearing.specs.Dealings.{returns_in_branches, returns_in_arms, life_of}
 use Rattle.au_clearing.specs.Deals.{seen_at, or_rest, or_alike, Sums, SumsBlock, SumsStatement, Piles}
 use Rattle.au_clearing.specs.Tables.{find}
 use Rattle.au_clearing.proofs.CombiningLemmas.{loan_seen}

@@ -1,18 +1,25 @@
 -- What a touch says of the mentions of a variable in a step.
-use Rattle.std.proofs.Common.{◌≡◌, ℕ, ◌+◌, ◌≤◌, ◌==◌, Bool, true, false, ◌||◌, ◌&&◌, [], ◌∷◌, refl, sym, ap, subst, ◌∙◌, arith, List, if◌then◌else◌}
+use Rattle.std.proofs.Common.{◌≡◌, ℕ, ◌+◌, ◌≤◌, ◌==◌, Bool, true, false, ◌||◌, ◌&&◌, [], ◌∷◌, refl, sym, ap}
+use Rattle.std.proofs.Common.{subst, ◌∙◌, arith, List, if◌then◌else◌}
 use Rattle.std.specs.Str.{bytes_eq}
 use Rattle.au_syntax.specs.declared.types.Access.{Access}
 use Rattle.au_syntax.specs.declared.types.Access.TheVariants as access
 use Rattle.au_syntax.specs.declared.expressions.BorrowMode.{BorrowMode}
 use Rattle.au_syntax.specs.declared.expressions.BorrowMode.TheVariants as modes
 use Rattle.au_syntax.specs.Names.{Placed}
-use Rattle.au_syntax.specs.Expressions.{number, negative, text, truth, nil, path, arrow, call, named_call, parenthesized, dereference, borrow, borrow_part, binary, negation, typed, choice, no_expressions, expressions, no_arguments, arguments}
+use Rattle.au_syntax.specs.Expressions.{number, negative, text, truth, nil, path, arrow, call, named_call}
+use Rattle.au_syntax.specs.Expressions.{parenthesized, dereference, borrow, borrow_part, binary, negation}
+use Rattle.au_syntax.specs.Expressions.{typed, choice, no_expressions, expressions, no_arguments, arguments}
 use Rattle.au_syntax.specs.Plain.{Bytes, PlainExpression, PlainExpressions, PlainArguments}
-use Rattle.au_lives.specs.Mentions.{Counts, counts, unmentioned, plus, borrowed_by, mentioned_with, is_variable, may_skip, counts_in, counts_in_all, counts_in_arguments, is_kept, keeps_parts, keeps_parts_of_all, keeps_parts_of_arguments}
+use Rattle.au_lives.specs.Mentions.{Counts, counts, unmentioned, plus, borrowed_by, mentioned_with}
+use Rattle.au_lives.specs.Mentions.{is_variable, may_skip, counts_in, counts_in_all, counts_in_arguments}
+use Rattle.au_lives.specs.Mentions.{is_kept, keeps_parts, keeps_parts_of_all, keeps_parts_of_arguments}
 use Rattle.au_lives.specs.Mentions as mentions
 use Rattle.au_lives.specs.Lives.{Hold, unlent, read_lent, write_lent, hidden}
 use Rattle.au_lives.specs.Lives as lives
-use Rattle.au_clearing.specs.Touches.{Touch, Fits, Untouched, Quiet, Written, Consumed, Broken, both, worse, kept, behind_spent, lent, unless_hidden, alone, borrowed, touched, touched_in_all, touched_in_arguments}
+use Rattle.au_clearing.specs.Touches.{Touch, Fits, Untouched, Quiet, Written, Consumed, Broken, both, worse}
+use Rattle.au_clearing.specs.Touches.{kept, behind_spent, lent, unless_hidden, alone, borrowed, touched}
+use Rattle.au_clearing.specs.Touches.{touched_in_all, touched_in_arguments}
 
 -- touches in order, the worst last
 abbrev pub rank : Touch → ℕ

@@ -2,17 +2,27 @@
 use Rattle.std.proofs.Common.{◌≡◌, ℕ, ◌+◌, ◌≤◌, Bool, true, false, List, [], ◌∷◌, Ok, Err, refl, arith, if◌then◌else◌}
 use Rattle.std.specs.Str.{bytes_eq}
 use Rattle.au_syntax.specs.Types.{Bound}
-use Rattle.au_syntax.specs.Statements.{skip, declare, destructure, assign, assign_through, conditional, conditional_else, case_of, while_loop, for_loop, borrow_in, borrow_typed, discard, return_of, no_statements, statements, no_branches, branches, no_arms, arms}
+use Rattle.au_syntax.specs.Statements.{skip, declare, destructure, assign, assign_through, conditional}
+use Rattle.au_syntax.specs.Statements.{conditional_else, case_of, while_loop, for_loop, borrow_in}
+use Rattle.au_syntax.specs.Statements.{borrow_typed, discard, return_of, no_statements, statements}
+use Rattle.au_syntax.specs.Statements.{no_branches, branches, no_arms, arms}
 use Rattle.au_syntax.specs.Plain.{Bytes, PlainExpression, PlainStatement, PlainStatements, PlainBranches, PlainArms}
 use Rattle.au_lives.specs.declared.lives.Sort.{Sort}
 use Rattle.au_lives.specs.Mentions.{counts_in, one_write_borrow, one_look}
-use Rattle.au_lives.specs.Paths.{whole, assignment, assignment_behind, lent, declared, declared_by, bound_names, bound_name, access_of}
+use Rattle.au_lives.specs.Paths.{whole, assignment, assignment_behind, lent, declared, declared_by}
+use Rattle.au_lives.specs.Paths.{bound_names, bound_name, access_of}
 use Rattle.au_lives.specs.Lives.{Hold, hidden, held_from, is_free, Fate}
-use Rattle.au_lives.specs.Walks.{Reach, Walk, ◌>>=◌, nowhere, merge, choose, walk_step, joined, returned, turned, does, walk, walk_block, walk_branches, walk_arms}
+use Rattle.au_lives.specs.Walks.{Reach, Walk, ◌>>=◌, nowhere, merge, choose, walk_step, joined, returned}
+use Rattle.au_lives.specs.Walks.{turned, does, walk, walk_block, walk_branches, walk_arms}
 use Rattle.au_clearing.specs.Touches.{Untouched, Quiet, Written, kept, touched, touched_at}
-use Rattle.au_clearing.specs.Dealings.{Dealing, nothing, never, once, chain, fork, turns, sum, mention, deal, deal_block, deal_branches, deal_arms, returns_in, returns_in_block, returns_in_branches, returns_in_arms}
+use Rattle.au_clearing.specs.Dealings.{Dealing, nothing, never, once, chain, fork, turns, sum, mention, deal}
+use Rattle.au_clearing.specs.Dealings.{deal_block, deal_branches, deal_arms, returns_in, returns_in_block}
+use Rattle.au_clearing.specs.Dealings.{returns_in_branches, returns_in_arms}
 use Rattle.au_clearing.proofs.TouchLemmas.{fits_if, touched_fits}
-use Rattle.au_clearing.proofs.GoingLemmas.{room, room_few, Fine, Ways, weaken, fine_same, fine_nothing, fine_chain, fine_turns, fine_return, fine_met, fine_kept, ways_last, ways_fork, ways_test, fine_ways, ways_never, fine_borrow}
+use Rattle.au_clearing.proofs.GoingLemmas.{room, room_few, Fine, Ways, weaken, fine_same, fine_nothing}
+use Rattle.au_clearing.proofs.GoingLemmas.{fine_chain, fine_turns, fine_return, fine_met, fine_kept}
+use Rattle.au_clearing.proofs.GoingLemmas.{ways_last, ways_fork, ways_test, fine_ways, ways_never}
+use Rattle.au_clearing.proofs.GoingLemmas.{fine_borrow}
 
 bind_assoc : (w : Walk) (f g : Reach → Walk) → (w >>= f >>= g) ≡ (w >>= (λ q. f q >>= g))
 bind_assoc (Ok r) f g = refl

@@ -28,7 +28,8 @@ use Rattle.au_closed_trees.specs.Renoted.{block_renoted}
 use Rattle.au_closing.specs.Bodies.{constant_seen, value_of}
 use Rattle.au_closing.specs.Closes.{ClosedFunction, change_of, mention_closed, note_closed}
 use Rattle.au_closing.specs.Instances.{Instance, instance_of, numbered, place_in, same_instance}
-use Rattle.au_closing.specs.Leading.{Called, a_function, a_maker, a_method, call_leads, called_leads, case_name, method_leads, module_name, shipped_or, target_leads}
+use Rattle.au_closing.specs.Leading.{Called, a_function, a_maker, a_method, call_leads, called_leads}
+use Rattle.au_closing.specs.Leading.{case_name, method_leads, module_name, shipped_or, target_leads}
 use Rattle.au_closing.proofs.ClosesLemmas.{instances_told}
 use Rattle.au_graphs.specs.Reached.{Has}
 use Rattle.au_graphs.proofs.HasLemmas.{has_it}
@@ -39,7 +40,8 @@ use Rattle.au_meaning.specs.Names.{with_parameters}
 use Rattle.au_meaning.specs.Ticks.{Action, pure, needing, where_true, does, ◌>>=◌, ◌>>◌}
 use Rattle.au_meaning.specs.Views.{Act, Field, View, invokes, makes}
 use Rattle.au_meaning.specs.Worlds.{Value}
-use Rattle.au_closed_meanings.specs.Surroundings.{Surroundings, call_noted, constant_noted, field_names, is_free, view_in, with_parameters as with_their_names}
+use Rattle.au_closed_meanings.specs.Surroundings.{Surroundings, call_noted, constant_noted, field_names}
+use Rattle.au_closed_meanings.specs.Surroundings.{is_free, view_in, with_parameters as with_their_names}
 use Rattle.au_closed_meanings.specs.Agreement.{AgreeOnTypes, AgreeOnMention, AgreeOnCall, AgreeInBlock, FieldsCount}
 use Rattle.au_closed_meanings.proofs.CountLemmas.{parameters_count}
 use Rattle.au_closed_meanings.proofs.SameStatements.{names_same_block, one_meaning}

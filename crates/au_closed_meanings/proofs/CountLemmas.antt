@@ -5,7 +5,8 @@ use Rattle.std.specs.Str.{bytes_eq}
 use Rattle.au_closed_trees.specs.Changes.{Change}
 use Rattle.au_type_texts.specs.Types.{ClosedType}
 use Rattle.au_effects.specs.Parts.{along}
-use Rattle.au_meaning.specs.Names.{Scope, Variable, variable_of, with_name, with_bound, with_parameters, bound_name, path_numbers, field_from, field_of}
+use Rattle.au_meaning.specs.Names.{Scope, Variable, variable_of, with_name, with_bound, with_parameters}
+use Rattle.au_meaning.specs.Names.{bound_name, path_numbers, field_from, field_of}
 use Rattle.au_meaning.specs.Views.{Field, View}
 use Rattle.au_closed_meanings.specs.Agreement.{AgreeOnTypes, Counts, FieldsCount, FoundCount, ScopeCounts}
 use Rattle.au_syntax.specs.Plain.{Bytes}

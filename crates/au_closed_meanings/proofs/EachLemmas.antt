@@ -3,15 +3,24 @@ use Rattle.std.proofs.Common.{◌≡◌, Bool, true, List, [], ◌∷◌, ◌++�
 use Rattle.std.specs.Prelude.{Contains}
 use Rattle.std.proofs.lemmas.List.Elements.{Contains-append_left, Contains-append_right, Contains-push}
 use Rattle.au_type_texts.specs.Types.{ClosedType}
-use Rattle.au_closed_trees.specs.Calls.{calls_in, calls_in_all, calls_in_arguments, calls_in_statement, calls_in_block, calls_in_branches, calls_in_arms}
+use Rattle.au_closed_trees.specs.Calls.{calls_in, calls_in_all, calls_in_arguments, calls_in_statement}
+use Rattle.au_closed_trees.specs.Calls.{calls_in_block, calls_in_branches, calls_in_arms}
 use Rattle.au_meaning.specs.Expressions.{note_of}
-use Rattle.au_closed_trees.specs.Notes.{said_in, said_in_all, said_in_arguments, said_in_statement, said_in_block, said_in_branches, said_in_arms}
+use Rattle.au_closed_trees.specs.Notes.{said_in, said_in_all, said_in_arguments, said_in_statement}
+use Rattle.au_closed_trees.specs.Notes.{said_in_block, said_in_branches, said_in_arms}
 use Rattle.au_graphs.specs.Reached.{Has}
 use Rattle.au_graphs.proofs.HasLemmas.{has_front, has_back}
-use Rattle.au_closed_meanings.specs.Agreement.{EachIn, EachInAll, EachNamed, EachOf, EachOfBlock, EachOfTests, EachOfArms}
-use Rattle.au_syntax.specs.Expressions.{Expression, Expressions, Arguments, number, negative, text, truth, nil, path, arrow, call, named_call, parenthesized, dereference, borrow, borrow_part, binary, negation, typed, choice, no_expressions, expressions, no_arguments, arguments}
+use Rattle.au_closed_meanings.specs.Agreement.{EachIn, EachInAll, EachNamed, EachOf, EachOfBlock, EachOfTests}
+use Rattle.au_closed_meanings.specs.Agreement.{EachOfArms}
+use Rattle.au_syntax.specs.Expressions.{Expression, Expressions, Arguments, number, negative, text, truth}
+use Rattle.au_syntax.specs.Expressions.{nil, path, arrow, call, named_call, parenthesized, dereference}
+use Rattle.au_syntax.specs.Expressions.{borrow, borrow_part, binary, negation, typed, choice, no_expressions}
+use Rattle.au_syntax.specs.Expressions.{expressions, no_arguments, arguments}
 use Rattle.au_syntax.specs.Plain.{Bytes}
-use Rattle.au_syntax.specs.Statements.{Statement, Statements, Branches, Arms, skip, declare, destructure, assign, assign_through, conditional, conditional_else, case_of, while_loop, for_loop, borrow_in, borrow_typed, discard, return_of, no_statements, statements, no_branches, branches, no_arms, arms}
+use Rattle.au_syntax.specs.Statements.{Statement, Statements, Branches, Arms, skip, declare, destructure}
+use Rattle.au_syntax.specs.Statements.{assign, assign_through, conditional, conditional_else, case_of}
+use Rattle.au_syntax.specs.Statements.{while_loop, for_loop, borrow_in, borrow_typed, discard, return_of}
+use Rattle.au_syntax.specs.Statements.{no_statements, statements, no_branches, branches, no_arms, arms}
 
 module _ {A : Type 0} (same : A → A → Bool) (all : List A) where
   -- what some elements are, all are

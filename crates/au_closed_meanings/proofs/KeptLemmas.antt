@@ -1,5 +1,6 @@
 -- Closing keeps meaning: by induction on how deep calls go.
-use Rattle.std.proofs.Common.{◌≡◌, Bool, true, ℕ, zero, suc, ◌≤◌, List, [], ◌∷◌, length, Option, Some, None, refl, sym, ap, subst, ◌∙◌}
+use Rattle.std.proofs.Common.{◌≡◌, Bool, true, ℕ, zero, suc, ◌≤◌, List, [], ◌∷◌, length, Option, Some, None}
+use Rattle.std.proofs.Common.{refl, sym, ap, subst, ◌∙◌}
 use Rattle.std.specs.Prelude.{slice_get, if◌then◌else◌}
 use Rattle.std.specs.Option.{option_map}
 use Rattle.std.proofs.Math.Nat.{le_refl}
@@ -19,7 +20,8 @@ use Rattle.au_typing.specs.Notes.{Note}
 use Rattle.au_type_texts.specs.Given.{closed_under}
 use Rattle.au_type_texts.specs.Types.{ClosedType}
 use Rattle.au_closed_trees.specs.Notes.{said_in_block}
-use Rattle.au_closing.specs.Closes.{ClosedFunction, ClosesFunctions, body_closed, calls_in_body, change_of, instance_closed}
+use Rattle.au_closing.specs.Closes.{ClosedFunction, ClosesFunctions, body_closed, calls_in_body, change_of}
+use Rattle.au_closing.specs.Closes.{instance_closed}
 use Rattle.au_closing.specs.Instances.{Instance, instance_of, place_in, same_instance}
 use Rattle.au_closing.specs.Leading.{call_leads, module_name}
 use Rattle.au_closing.proofs.ClosesLemmas.{called_too, entry_first, instances_told, place_back}
@@ -30,7 +32,8 @@ use Rattle.au_meaning.specs.Worlds.{Value}
 use Rattle.au_closed_meanings.specs.Surroundings.{Surroundings, view_in}
 use Rattle.au_closed_meanings.specs.Agreement.{AgreeOnMention, AgreeOnCall, Counts, FieldsCount, FoundCount}
 use Rattle.au_closed_meanings.specs.Closed.{closed_functions, function_closed, names_at, parameters_seen}
-use Rattle.au_closed_meanings.specs.Generic.{fields_in, function_under, generic_functions, names_of_instance, parameters_under, view_under}
+use Rattle.au_closed_meanings.specs.Generic.{fields_in, function_under, generic_functions, names_of_instance}
+use Rattle.au_closed_meanings.specs.Generic.{parameters_under, view_under}
 use Rattle.au_closed_meanings.specs.Kept.{KeepsMeaning, NumberAlike, ProgramsSay, SaysWhatIs, TypesCount}
 use Rattle.au_closed_meanings.proofs.CallLemmas.{call_agrees, closer, enters_same, mention_agrees, types_agree}
 use Rattle.au_closed_meanings.proofs.EachLemmas.{AllKnown, Within, each_block}

@@ -1,8 +1,10 @@
 -- By a list that has them the types count that have to.
 use Rattle.std.proofs.Common.{◌≡◌, ℕ, zero, suc, Bool, true, false, List, [], ◌∷◌, map, refl, subst, ⊎_elim}
 use Rattle.std.specs.Prelude.{Contains, if◌then◌else◌}
-use Rattle.std.proofs.lemmas.List.Elements.{Contains-append_left, Contains-append_right, Contains-push, Contains-push_cases}
-use Rattle.au_closed_trees.specs.Occurring.{counts_in, follows, occurring, all_occurring, occurring_in_cases, occurring_in_fields}
+use Rattle.std.proofs.lemmas.List.Elements.{Contains-append_left, Contains-append_right, Contains-push}
+use Rattle.std.proofs.lemmas.List.Elements.{Contains-push_cases}
+use Rattle.au_closed_trees.specs.Occurring.{counts_in, follows, occurring, all_occurring, occurring_in_cases}
+use Rattle.au_closed_trees.specs.Occurring.{occurring_in_fields}
 use Rattle.au_closed_trees.specs.Parts.{ClosedCase, ClosedField, cases_of}
 use Rattle.au_closed_trees.specs.ClosedNotes.{ClosedNote}
 use Rattle.au_type_texts.specs.Same.{same}

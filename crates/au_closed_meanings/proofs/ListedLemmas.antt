@@ -1,5 +1,6 @@
 -- Rows that are made for a list of declared types say what the program itself says.
-use Rattle.std.proofs.Common.{◌≡◌, Bool, true, false, ◌⊎◌, inl, inr, ⊎_elim, List, [], ◌∷◌, map, Some, None, refl, sym, ap, ◌∙◌}
+use Rattle.std.proofs.Common.{◌≡◌, Bool, true, false, ◌⊎◌, inl, inr, ⊎_elim, List, [], ◌∷◌, map, Some, None}
+use Rattle.std.proofs.Common.{refl, sym, ap, ◌∙◌}
 use Rattle.std.specs.Prelude.{cond}
 use Rattle.au_closed_trees.specs.Parts.{ClosedCase, cases_of}
 use Rattle.au_type_texts.proofs.SameLemmas.{same_is, same_self}

@@ -1,15 +1,22 @@
 -- Names are numbered body after body, and each body stands at its place.
-use Rattle.std.proofs.Common.{◌≡◌, ℕ, zero, suc, ◌+◌, ◌<◌, ◌≤◌, Bool, true, false, cond, List, [], ◌∷◌, ◌++◌, length, map, take, Option, Some, None, refl, sym, ap, subst, ◌∙◌, arith, length-append}
+use Rattle.std.proofs.Common.{◌≡◌, ℕ, zero, suc, ◌+◌, ◌<◌, ◌≤◌, Bool, true, false, cond, List, [], ◌∷◌, ◌++◌}
+use Rattle.std.proofs.Common.{length, map, take, Option, Some, None, refl, sym, ap, subst, ◌∙◌, arith}
+use Rattle.std.proofs.Common.{length-append}
 use Rattle.std.specs.Prelude.{find, slice_get, if◌then◌else◌}
 use Rattle.std.specs.List.{flat_map}
 use Rattle.std.specs.Option.{option_and_then, option_map}
-use Rattle.au_syntax.specs.Modules.{Constrained, constant, opaque_type, record_type, union_type, function, class, instance, constant_body, function_body, instance_body}
+use Rattle.au_syntax.specs.Modules.{Constrained, constant, opaque_type, record_type, union_type, function}
+use Rattle.au_syntax.specs.Modules.{class, instance, constant_body, function_body, instance_body}
 use Rattle.au_syntax.specs.Plain.{Bytes}
 use Rattle.au_modules.specs.Programs.{ModuleParts}
 use Rattle.au_names.specs.Standing.{Standing, standing_at}
 use Rattle.au_typing.specs.Trees.{NotedDeclaration, NotedMethod, NotedParts}
-use Rattle.au_closing.specs.Bodies.{BodyOf, body_at, body_in, body_of, body_of_parts, body_standing, defining_index, is_method, method_body, noted_at}
-use Rattle.au_closed_meanings.specs.Numbers.{BodiesStand, NumbersAreApart, WrittenBody, bodies_in, bodies_of, bodies_written, method_place, method_written, names_before, names_of, names_of_all, place_behind, place_inside, place_standing}
+use Rattle.au_closing.specs.Bodies.{BodyOf, body_at, body_in, body_of, body_of_parts, body_standing}
+use Rattle.au_closing.specs.Bodies.{defining_index, is_method, method_body, noted_at}
+use Rattle.au_closed_meanings.specs.Numbers.{BodiesStand, NumbersAreApart, WrittenBody, bodies_in, bodies_of}
+use Rattle.au_closed_meanings.specs.Numbers.{bodies_written, method_place, method_written, names_before}
+use Rattle.au_closed_meanings.specs.Numbers.{names_of, names_of_all, place_behind, place_inside}
+use Rattle.au_closed_meanings.specs.Numbers.{place_standing}
 
 -- ---- lists
 

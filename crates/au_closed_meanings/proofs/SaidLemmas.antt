@@ -1,10 +1,18 @@
 -- What is said of the notes of a tree is said of what the notes become.
 use Rattle.std.proofs.Common.{◌≡◌, List, ◌++◌, refl}
 use Rattle.au_closed_trees.specs.Changes.{Change}
-use Rattle.au_closed_trees.specs.Renoted.{expression_renoted, expressions_renoted, arguments_renoted, statement_renoted, block_renoted, branches_renoted, arms_renoted}
-use Rattle.au_syntax.specs.Expressions.{Expression, Expressions, Arguments, number, negative, text, truth, nil, path, arrow, call, named_call, parenthesized, dereference, borrow, borrow_part, binary, negation, typed, choice, no_expressions, expressions, no_arguments, arguments}
-use Rattle.au_syntax.specs.Statements.{Statement, Statements, Branches, Arms, skip, declare, destructure, assign, assign_through, conditional, conditional_else, case_of, while_loop, for_loop, borrow_in, borrow_typed, discard, return_of, no_statements, statements, no_branches, branches, no_arms, arms}
-use Rattle.au_closed_trees.specs.Notes.{said_in, said_in_all, said_in_arguments, said_in_statement, said_in_block, said_in_branches, said_in_arms}
+use Rattle.au_closed_trees.specs.Renoted.{expression_renoted, expressions_renoted, arguments_renoted}
+use Rattle.au_closed_trees.specs.Renoted.{statement_renoted, block_renoted, branches_renoted, arms_renoted}
+use Rattle.au_syntax.specs.Expressions.{Expression, Expressions, Arguments, number, negative, text, truth}
+use Rattle.au_syntax.specs.Expressions.{nil, path, arrow, call, named_call, parenthesized, dereference}
+use Rattle.au_syntax.specs.Expressions.{borrow, borrow_part, binary, negation, typed, choice, no_expressions}
+use Rattle.au_syntax.specs.Expressions.{expressions, no_arguments, arguments}
+use Rattle.au_syntax.specs.Statements.{Statement, Statements, Branches, Arms, skip, declare, destructure}
+use Rattle.au_syntax.specs.Statements.{assign, assign_through, conditional, conditional_else, case_of}
+use Rattle.au_syntax.specs.Statements.{while_loop, for_loop, borrow_in, borrow_typed, discard, return_of}
+use Rattle.au_syntax.specs.Statements.{no_statements, statements, no_branches, branches, no_arms, arms}
+use Rattle.au_closed_trees.specs.Notes.{said_in, said_in_all, said_in_arguments, said_in_statement}
+use Rattle.au_closed_trees.specs.Notes.{said_in_block, said_in_branches, said_in_arms}
 
 module _ {N T C U D A : Type 0} (change : Change N T C U D) (said : T → List A) (told : U → List A)
     (notes : (n : T) → told (change.note n) ≡ said n)

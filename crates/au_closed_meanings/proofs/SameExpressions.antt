@@ -6,14 +6,20 @@ use Rattle.au_type_texts.specs.Types.{ClosedType}
 use Rattle.au_effects.specs.Numbers.{computed, compared, negated}
 use Rattle.au_effects.specs.Values as values
 use Rattle.au_meaning.specs.Acts.{looks, by_position, by_labels}
-use Rattle.au_meaning.specs.Expressions.{note_of, names_of, labels, labelled, Operation, computes, compares, is_and, is_or, operation_of, kind_in, compared_kind, literal, chosen, looks_into, operates, joins, eval, eval_all, eval_named}
+use Rattle.au_meaning.specs.Expressions.{note_of, names_of, labels, labelled, Operation, computes, compares}
+use Rattle.au_meaning.specs.Expressions.{is_and, is_or, operation_of, kind_in, compared_kind, literal, chosen}
+use Rattle.au_meaning.specs.Expressions.{looks_into, operates, joins, eval, eval_all, eval_named}
 use Rattle.au_meaning.specs.Names.{Scope, Variable, variable_of}
 use Rattle.au_meaning.specs.Ticks.{Action, pure, tick, needing, comes, ◌>>=◌}
 use Rattle.au_meaning.specs.Views.{View}
 use Rattle.au_meaning.specs.Worlds.{Value}
-use Rattle.au_closed_meanings.specs.Agreement.{EachIn, EachInAll, EachNamed, AgreeOnTypes, AgreeOnMention, AgreeOnCall, ScopeCounts}
+use Rattle.au_closed_meanings.specs.Agreement.{EachIn, EachInAll, EachNamed, AgreeOnTypes, AgreeOnMention}
+use Rattle.au_closed_meanings.specs.Agreement.{AgreeOnCall, ScopeCounts}
 use Rattle.au_closed_meanings.proofs.CountLemmas.{VariableCounts, paths_same, variable_counts}
-use Rattle.au_syntax.specs.Expressions.{Expression, Expressions, Arguments, number, negative, text, truth, nil, path, arrow, call, named_call, parenthesized, dereference, borrow, borrow_part, binary, negation, typed, choice, no_expressions, expressions, no_arguments, arguments}
+use Rattle.au_syntax.specs.Expressions.{Expression, Expressions, Arguments, number, negative, text, truth}
+use Rattle.au_syntax.specs.Expressions.{nil, path, arrow, call, named_call, parenthesized, dereference}
+use Rattle.au_syntax.specs.Expressions.{borrow, borrow_part, binary, negation, typed, choice, no_expressions}
+use Rattle.au_syntax.specs.Expressions.{expressions, no_arguments, arguments}
 use Rattle.au_syntax.specs.Plain.{Bytes}
 
 -- an operation on two values is by types alone

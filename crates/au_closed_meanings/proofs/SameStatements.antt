@@ -1,23 +1,33 @@
 -- Statements and blocks, along the equations of their parts, of the numbers of names and of what is in scope.
 use Rattle.std.proofs.Common.{◌≡◌, ℕ, suc, ◌+◌, ◌==◌, Bool, List, length, Option, Some, None, refl, ap, ◌∙◌}
 use Rattle.au_closed_trees.specs.Changes.{Change}
-use Rattle.au_closed_trees.specs.Renoted.{expression_renoted, statement_renoted, block_renoted, branches_renoted, arms_renoted}
+use Rattle.au_closed_trees.specs.Renoted.{expression_renoted, statement_renoted, block_renoted}
+use Rattle.au_closed_trees.specs.Renoted.{branches_renoted, arms_renoted}
 use Rattle.au_type_texts.specs.Types.{ClosedType}
 use Rattle.au_effects.specs.Parts.{along}
 use Rattle.au_effects.specs.Values as values
 use Rattle.au_meaning.specs.Acts.{holds, sets, apart}
 use Rattle.au_meaning.specs.Expressions.{note_of, names_of, chosen, eval}
-use Rattle.au_meaning.specs.Names.{Scope, Variable, variable_of, with_name, with_bound, names_in, names_in_block, names_in_tests, names_in_arms}
-use Rattle.au_meaning.specs.Statements.{Flow, falls, returns, and_then, within, while_turns, ranges, either, is_tag, binds_fields, fields_noted, means_case, after, assigns, takes_apart, run, run_all, run_tests, run_arms}
+use Rattle.au_meaning.specs.Names.{Scope, Variable, variable_of, with_name, with_bound, names_in}
+use Rattle.au_meaning.specs.Names.{names_in_block, names_in_tests, names_in_arms}
+use Rattle.au_meaning.specs.Statements.{Flow, falls, returns, and_then, within, while_turns, ranges, either}
+use Rattle.au_meaning.specs.Statements.{is_tag, binds_fields, fields_noted, means_case, after, assigns}
+use Rattle.au_meaning.specs.Statements.{takes_apart, run, run_all, run_tests, run_arms}
 use Rattle.au_meaning.specs.Ticks.{Action, pure, tick, needing, where_true, ◌>>=◌, ◌>>◌}
 use Rattle.au_meaning.specs.Views.{View}
 use Rattle.au_meaning.specs.Worlds.{Value}
-use Rattle.au_closed_meanings.specs.Agreement.{EachIn, EachOf, EachOfBlock, EachOfTests, EachOfArms, AgreeOnTypes, AgreeOnMention, AgreeOnCall, Counts, OneMeaning, ScopeCounts}
-use Rattle.au_closed_meanings.proofs.CountLemmas.{VariableCounts, bound_counts, fields_by, found_by, paths_same, tags_by, variable_counts}
+use Rattle.au_closed_meanings.specs.Agreement.{EachIn, EachOf, EachOfBlock, EachOfTests, EachOfArms}
+use Rattle.au_closed_meanings.specs.Agreement.{AgreeOnTypes, AgreeOnMention, AgreeOnCall, Counts, OneMeaning}
+use Rattle.au_closed_meanings.specs.Agreement.{ScopeCounts}
+use Rattle.au_closed_meanings.proofs.CountLemmas.{VariableCounts, bound_counts, fields_by, found_by}
+use Rattle.au_closed_meanings.proofs.CountLemmas.{paths_same, tags_by, variable_counts}
 use Rattle.au_closed_meanings.proofs.SameExpressions.{type_same, eval_same}
 use Rattle.au_syntax.specs.Expressions.{Expression}
 use Rattle.au_syntax.specs.Plain.{Bytes}
-use Rattle.au_syntax.specs.Statements.{Statement, Statements, Branches, Arms, skip, declare, destructure, assign, assign_through, conditional, conditional_else, case_of, while_loop, for_loop, borrow_in, borrow_typed, discard, return_of, no_statements, statements, no_branches, branches, no_arms, arms}
+use Rattle.au_syntax.specs.Statements.{Statement, Statements, Branches, Arms, skip, declare, destructure}
+use Rattle.au_syntax.specs.Statements.{assign, assign_through, conditional, conditional_else, case_of}
+use Rattle.au_syntax.specs.Statements.{while_loop, for_loop, borrow_in, borrow_typed, discard, return_of}
+use Rattle.au_syntax.specs.Statements.{no_statements, statements, no_branches, branches, no_arms, arms}
 use Rattle.au_syntax.specs.Types.{Bound}
 
 -- ---- how many names are declared

@@ -1,5 +1,6 @@
 -- There is one closed program from an entry.
-use Rattle.std.proofs.Common.{◌≡◌, Bool, List, [], ◌∷◌, map, IsPermutation, Equal, refl, sym, ap, subst, ◌∙◌, append-nil}
+use Rattle.std.proofs.Common.{◌≡◌, Bool, List, [], ◌∷◌, map, IsPermutation, Equal, refl, sym, ap, subst, ◌∙◌}
+use Rattle.std.proofs.Common.{append-nil}
 use Rattle.std.specs.Cmp.{IsTotalOrder, then_total}
 use Rattle.std.specs.Cmp.Lexicographic.{on_texts}
 use Rattle.std.specs.List.{AllByRecursion}
@@ -21,7 +22,8 @@ use Rattle.au_closed_trees.specs.Occurring.{follows}
 use Rattle.au_closing.specs.Entries.{Found, begins}
 use Rattle.au_closing.specs.Closes.{ClosedFunction, ClosesFunctions}
 use Rattle.au_closing.proofs.ClosesLemmas.{one_closing}
-use Rattle.au_closed_programs.specs.Programs.{ClosedProgram, Closes, ClosesTypes, TypeRow, plain_instance, row_cmp, row_of, types_in_functions}
+use Rattle.au_closed_programs.specs.Programs.{ClosedProgram, Closes, ClosesTypes, TypeRow, plain_instance}
+use Rattle.au_closed_programs.specs.Programs.{row_cmp, row_of, types_in_functions}
 use Rattle.au_closed_programs.proofs.OrderLemmas.{one_order, same_numbers, second_level}
 
 pub rows_total : IsTotalOrder row_cmp
@@ -60,7 +62,8 @@ module _ (program : List ModuleParts) where
       → ClosesTypes program functions rows → ClosesTypes program functions others → rows ≡ others
   one_types functions rows others one other =
       let starts = types_in_functions (heads_of program) functions in
-      let same_list = one_list same types_told (follows program) starts one.reached other.reached one.lists other.lists in
+      let same_list = one_list same types_told (follows program) starts one.reached other.reached one.lists
+      other.lists in
       let all = map (row_of program) one.reached in
       let theirs : IsPermutation all others =
       subst (λ ts. IsPermutation (map (row_of program) ts) others) (sym same_list) other.are_theirs in

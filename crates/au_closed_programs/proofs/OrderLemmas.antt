@@ -1,5 +1,7 @@
 -- Lists in an order that have the same elements are one list.
-use Rattle.std.proofs.Common.{◌≡◌, ℕ, suc, ◌+◌, ◌<◌, Bool, true, false, cond, List, [], ◌∷◌, length, map, get_or, sum_by, IsPermutation, IsSorted, Ordering, Less, Equal, Greater, is_lt, is_eq, nat_cmp, refl, sym, ap, ◌∙◌, arith}
+use Rattle.std.proofs.Common.{◌≡◌, ℕ, suc, ◌+◌, ◌<◌, Bool, true, false, cond, List, [], ◌∷◌, length, map}
+use Rattle.std.proofs.Common.{get_or, sum_by, IsPermutation, IsSorted, Ordering, Less, Equal, Greater, is_lt}
+use Rattle.std.proofs.Common.{is_eq, nat_cmp, refl, sym, ap, ◌∙◌, arith}
 use Rattle.std.specs.Cmp.{IsTotalOrder, Equal-is, tied_itself, unsigned_ties}
 use Rattle.std.specs.Cmp.Lexicographic.{bytes_decides, lists_ties, slice_cmp}
 use Rattle.std.specs.List.{AllByRecursion}

@@ -3,7 +3,8 @@ use Rattle.std.proofs.Common.{◌≡◌, ℕ, ◌<◌, List, length, refl, sym, 
 use Rattle.std.specs.Prelude.{Option, None, Some, find, slice_get}
 use Rattle.std.specs.Option.{option_and_then, option_map}
 use Rattle.std.proofs.lemmas.Option.{same_Some, slice_get_within}
-use Rattle.au_syntax.specs.Modules.{Constrained, constant, opaque_type, record_type, union_type, function, class, instance, constant_body, function_body, instance_body}
+use Rattle.au_syntax.specs.Modules.{Constrained, constant, opaque_type, record_type, union_type, function}
+use Rattle.au_syntax.specs.Modules.{class, instance, constant_body, function_body, instance_body}
 use Rattle.au_syntax.specs.Plain.{Bytes}
 use Rattle.au_types.specs.declared.types.DeclAt.{DeclAt}
 use Rattle.au_modules.specs.Programs.{ModuleParts}
@@ -28,7 +29,8 @@ standing_within program at d found = by (slice_get program at.«module») refl f
 method_placed : (place : ℕ) (generics : List (Constrained Bytes)) (o : Option NotedMethod) (b : BodyOf)
     → option_map (method_body place generics) o ≡ Some b → b.place ≡ place
 method_placed place generics None b e = absurd cc
-method_placed place generics (Some m) b e = ap (λ (x : BodyOf). x.place) (sym (same_Some (method_body place generics m) b e))
+method_placed place generics (Some m) b e =
+    ap (λ (x : BodyOf). x.place) (sym (same_Some (method_body place generics m) b e))
 
 -- the body of a declaration stands at its place
 body_placed : (place : ℕ) (name : Bytes) (decl : NotedDeclaration) (b : BodyOf)

@@ -13,15 +13,21 @@ use Rattle.au_syntax.specs.declared.statements.Stmt as stmt
 use Rattle.au_syntax.specs.declared.types.Access.{Access}
 use Rattle.au_syntax.specs.declared.types.TypeText.{TypeText}
 use Rattle.au_syntax.specs.Plain.{Bytes}
-use Rattle.au_syntax.specs.Views.{argument_all, arm_all, block, branch_all, expression, expression_all, node, placed, statement}
+use Rattle.au_syntax.specs.Views.{argument_all, arm_all, block, branch_all, expression, expression_all, node}
+use Rattle.au_syntax.specs.Views.{placed, statement}
 use Rattle.au_syntax.proofs.ExpressionLemmas as exprs
 use Rattle.au_syntax.proofs.StatementLemmas as stmts
 use Rattle.au_typing.specs.Notes.{Note}
-use Rattle.au_closed_trees.proofs.SnocLemmas.{snoc_arguments, snoc_arms, snoc_branches, snoc_expressions, snoc_statements}
-use Rattle.au_closed_trees.proofs.ClosingLemmas.{OldArgument, OldArm, OldBind, OldBlock, OldBox, OldBranch, OldExpr, OldIdent, OldNames, OldSite}
-use Rattle.au_syntax.specs.Expressions.{Expression, Expressions, Arguments, expressions, arguments, no_expressions, no_arguments}
-use Rattle.au_syntax.specs.Statements.{Statement, Statements, Branches, Arms, statements, no_statements, branches, no_branches, arms, no_arms}
-use Rattle.au_closed_trees.specs.Calls.{calls_in, calls_in_all, calls_in_arguments, calls_in_arms, calls_in_block, calls_in_branches, calls_in_statement}
+use Rattle.au_closed_trees.proofs.SnocLemmas.{snoc_arguments, snoc_arms, snoc_branches, snoc_expressions}
+use Rattle.au_closed_trees.proofs.SnocLemmas.{snoc_statements}
+use Rattle.au_closed_trees.proofs.ClosingLemmas.{OldArgument, OldArm, OldBind, OldBlock, OldBox, OldBranch}
+use Rattle.au_closed_trees.proofs.ClosingLemmas.{OldExpr, OldIdent, OldNames, OldSite}
+use Rattle.au_syntax.specs.Expressions.{Expression, Expressions, Arguments, expressions, arguments}
+use Rattle.au_syntax.specs.Expressions.{no_expressions, no_arguments}
+use Rattle.au_syntax.specs.Statements.{Statement, Statements, Branches, Arms, statements, no_statements}
+use Rattle.au_syntax.specs.Statements.{branches, no_branches, arms, no_arms}
+use Rattle.au_closed_trees.specs.Calls.{calls_in, calls_in_all, calls_in_arguments, calls_in_arms}
+use Rattle.au_closed_trees.specs.Calls.{calls_in_block, calls_in_branches, calls_in_statement}
 
 -- what stands behind others, before more
 behind : {A : Type 0} (first others last whole : List A) → whole ≡ others ++ last

@@ -24,10 +24,17 @@ use Rattle.au_syntax.specs.declared.statements.Stmt.{Stmt}
 use Rattle.au_syntax.specs.declared.statements.Stmt as code
 use Rattle.au_syntax.specs.declared.types.Access.{Access}
 use Rattle.au_syntax.specs.declared.types.TypeText.{TypeText}
-use Rattle.au_syntax.specs.Expressions.{Expression, Expressions, Arguments, expressions, arguments, no_expressions, no_arguments, number, negative, text, truth, nil, path, arrow, call, named_call, parenthesized, dereference, borrow, borrow_part, binary, negation, typed, choice}
+use Rattle.au_syntax.specs.Expressions.{Expression, Expressions, Arguments, expressions, arguments}
+use Rattle.au_syntax.specs.Expressions.{no_expressions, no_arguments, number, negative, text, truth, nil}
+use Rattle.au_syntax.specs.Expressions.{path, arrow, call, named_call, parenthesized, dereference, borrow}
+use Rattle.au_syntax.specs.Expressions.{borrow_part, binary, negation, typed, choice}
 use Rattle.au_syntax.specs.Plain.{Bytes}
-use Rattle.au_syntax.specs.Statements.{Statement, Statements, Branches, Arms, skip, declare, destructure, assign, assign_through, conditional, case_of, discard, return_of, conditional_else, while_loop, for_loop, borrow_in, borrow_typed, statements, no_statements, branches, no_branches, arms, no_arms}
-use Rattle.au_syntax.specs.Views.{argument_all, arm_all, block, bound, branch_all, expression, expression_all, node, placed, statement, written}
+use Rattle.au_syntax.specs.Statements.{Statement, Statements, Branches, Arms, skip, declare, destructure}
+use Rattle.au_syntax.specs.Statements.{assign, assign_through, conditional, case_of, discard, return_of}
+use Rattle.au_syntax.specs.Statements.{conditional_else, while_loop, for_loop, borrow_in, borrow_typed}
+use Rattle.au_syntax.specs.Statements.{statements, no_statements, branches, no_branches, arms, no_arms}
+use Rattle.au_syntax.specs.Views.{argument_all, arm_all, block, bound, branch_all, expression, expression_all}
+use Rattle.au_syntax.specs.Views.{node, placed, statement, written}
 use Rattle.au_syntax.proofs.ExpressionLemmas as exprs
 use Rattle.au_syntax.proofs.StatementLemmas as stmts
 use Rattle.au_syntax.proofs.StatementLemmas.{if_else_says, while_says, for_says, borrow_says, borrow_typed_says}
@@ -38,8 +45,11 @@ use Rattle.au_closed_trees.specs.declared.notes.ClosedNote as found
 use Rattle.au_closed_trees.specs.declared.phase.ClosedTrees.{ClosedTrees}
 use Rattle.au_closed_trees.specs.Changes.{Change}
 use Rattle.au_closed_trees.specs.ClosedNotes.{Callee, ClosedNote}
-use Rattle.au_closed_trees.proofs.SnocLemmas.{one_argument, one_arm, one_branch, snoc_arguments, snoc_arms, snoc_branches, snoc_expressions, snoc_statements}
-use Rattle.au_closed_trees.specs.Renoted.{arguments_renoted, arm_named, arms_renoted, block_renoted, branches_renoted, called, expression_renoted, expressions_renoted, mentioned, renoted, statement_renoted}
+use Rattle.au_closed_trees.proofs.SnocLemmas.{one_argument, one_arm, one_branch, snoc_arguments, snoc_arms}
+use Rattle.au_closed_trees.proofs.SnocLemmas.{snoc_branches, snoc_expressions, snoc_statements}
+use Rattle.au_closed_trees.specs.Renoted.{arguments_renoted, arm_named, arms_renoted, block_renoted}
+use Rattle.au_closed_trees.specs.Renoted.{branches_renoted, called, expression_renoted, expressions_renoted}
+use Rattle.au_closed_trees.specs.Renoted.{mentioned, renoted, statement_renoted}
 
 -- ---- one more behind others
 

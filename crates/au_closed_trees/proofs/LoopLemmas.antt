@@ -1,5 +1,6 @@
 -- Steps of the proofs of loops over the items of a tree.
-use Rattle.std.proofs.Common.{◌≡◌, ℕ, ◌+◌, ◌*◌, ◌<◌, ◌≤◌, max, List, [], ◌∷◌, ◌++◌, drop, length, take, map, get_or, ap, ◌∙◌, sym, arith}
+use Rattle.std.proofs.Common.{◌≡◌, ℕ, ◌+◌, ◌*◌, ◌<◌, ◌≤◌, max, List, [], ◌∷◌, ◌++◌, drop, length, take, map}
+use Rattle.std.proofs.Common.{get_or, ap, ◌∙◌, sym, arith}
 use Rattle.std.proofs.lemmas.List.{append_assoc, append-nil, at_drop_more, map-append, take_all, take_more}
 use denote.Param.Weighed.{most, at_most}
 use borrow.Author.Sizes.{ranked_below}

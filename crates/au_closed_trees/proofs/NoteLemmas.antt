@@ -20,7 +20,8 @@ use Rattle.au_syntax.specs.Plain.{Bytes}
 use Rattle.au_syntax.specs.Views.{argument_all, arm_all, block, branch_all, expression, expression_all, node, statement}
 use Rattle.au_syntax.proofs.ExpressionLemmas as exprs
 use Rattle.au_syntax.proofs.StatementLemmas as stmts
-use Rattle.au_closed_trees.proofs.SnocLemmas.{snoc_arguments, snoc_arms, snoc_branches, snoc_expressions, snoc_statements}
+use Rattle.au_closed_trees.proofs.SnocLemmas.{snoc_arguments, snoc_arms, snoc_branches, snoc_expressions}
+use Rattle.au_closed_trees.proofs.SnocLemmas.{snoc_statements}
 use Rattle.std.specs.declared.boxed.Box.{Box}
 use Rattle.au_syntax.specs.declared.expressions.Argument.{Argument}
 use Rattle.au_syntax.specs.declared.expressions.Expr.{Expr}
@@ -31,9 +32,12 @@ use Rattle.au_syntax.specs.declared.names.Ident.{Ident}
 use Rattle.au_syntax.specs.declared.statements.Arm.{Arm}
 use Rattle.au_syntax.specs.declared.statements.Block.{Block}
 use Rattle.au_syntax.specs.declared.statements.Branch.{Branch}
-use Rattle.au_syntax.specs.Expressions.{Expression, Expressions, Arguments, expressions, arguments, no_expressions, no_arguments}
-use Rattle.au_syntax.specs.Statements.{Statement, Statements, Branches, Arms, statements, no_statements, branches, no_branches, arms, no_arms}
-use Rattle.au_closed_trees.specs.Notes.{said_in, said_in_all, said_in_arguments, said_in_arms, said_in_block, said_in_branches, said_in_statement}
+use Rattle.au_syntax.specs.Expressions.{Expression, Expressions, Arguments, expressions, arguments}
+use Rattle.au_syntax.specs.Expressions.{no_expressions, no_arguments}
+use Rattle.au_syntax.specs.Statements.{Statement, Statements, Branches, Arms, statements, no_statements}
+use Rattle.au_syntax.specs.Statements.{branches, no_branches, arms, no_arms}
+use Rattle.au_closed_trees.specs.Notes.{said_in, said_in_all, said_in_arguments, said_in_arms, said_in_block}
+use Rattle.au_closed_trees.specs.Notes.{said_in_branches, said_in_statement}
 
 -- what stands behind others, before more
 behind : {A : Type 0} (first others last whole : List A) → whole ≡ others ++ last

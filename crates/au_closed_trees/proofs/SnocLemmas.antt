@@ -6,9 +6,12 @@ use Rattle.au_syntax.specs.declared.phases.Phase.{Ghosts}
 use Rattle.au_syntax.specs.declared.statements.Arm.{Arm}
 use Rattle.au_syntax.specs.declared.statements.Branch.{Branch}
 use Rattle.au_syntax.specs.declared.statements.Stmt.{Stmt}
-use Rattle.au_syntax.specs.Expressions.{Expression, Expressions, Arguments, expressions, arguments, no_expressions, no_arguments}
-use Rattle.au_syntax.specs.Statements.{Statement, Statements, Branches, Arms, statements, no_statements, branches, no_branches, arms, no_arms}
-use Rattle.au_syntax.specs.Views.{argument_all, arm_all, block, bound, branch_all, expression, expression_all, placed, statement, statement_all}
+use Rattle.au_syntax.specs.Expressions.{Expression, Expressions, Arguments, expressions, arguments}
+use Rattle.au_syntax.specs.Expressions.{no_expressions, no_arguments}
+use Rattle.au_syntax.specs.Statements.{Statement, Statements, Branches, Arms, statements, no_statements}
+use Rattle.au_syntax.specs.Statements.{branches, no_branches, arms, no_arms}
+use Rattle.au_syntax.specs.Views.{argument_all, arm_all, block, bound, branch_all, expression, expression_all}
+use Rattle.au_syntax.specs.Views.{placed, statement, statement_all}
 
 module _ {N T C : Type 0} where
   abbrev pub snoc_expressions : Expressions N T C → Expression N T C → Expressions N T C

@@ -1,5 +1,6 @@
 -- The name of a function that stands in the body of a module means a declaration of this module there.
-use Rattle.std.proofs.Common.{◌≡◌, ℕ, ◌+◌, Bool, true, false, cond, List, [], ◌∷◌, ◌++◌, Option, None, Some, refl, sym, ap, ◌∙◌}
+use Rattle.std.proofs.Common.{◌≡◌, ℕ, ◌+◌, Bool, true, false, cond, List, [], ◌∷◌, ◌++◌, Option, None, Some}
+use Rattle.std.proofs.Common.{refl, sym, ap, ◌∙◌}
 use Rattle.std.specs.Prelude.{slice_get}
 use Rattle.std.specs.Option.{option_or}
 use Rattle.std.specs.Str.{bytes_eq}
@@ -21,7 +22,8 @@ use Rattle.au_names.specs.Meanings.{imports_in, pervasive}
 use Rattle.au_names.specs.Owned.{declarations_in, own, target, targets}
 use Rattle.au_names.proofs.ExportLemmas.{body_seen}
 use Rattle.au_typing.specs.Written.{seen_in}
-use Rattle.au_closing.specs.Entries.{Function, entry_of, form_at, formed, found_at, found_in, function_among, function_at, function_in, meant_as, target_at}
+use Rattle.au_closing.specs.Entries.{Function, entry_of, form_at, formed, found_at, found_in, function_among}
+use Rattle.au_closing.specs.Entries.{function_at, function_in, meant_as, target_at}
 
 -- what is found before others is found first
 found_first : (name : Bytes) (xs ys : List (Bytes × Target)) (t : Target) → find name xs ≡ Some t

@@ -3,14 +3,20 @@ use Rattle.std.proofs.Common.{◌≡◌, ◌⊎◌, inl, inr, Bool, List, [], �
 use Rattle.std.specs.Prelude.{Contains}
 use Rattle.std.specs.List.{flat_map}
 use Rattle.std.proofs.lemmas.Grind.{flat_map-append}
-use Rattle.au_syntax.specs.Expressions.{Expression, Expressions, Arguments, call, named_call, parenthesized, dereference, binary, negation, typed, choice, no_expressions, expressions, no_arguments, arguments}
+use Rattle.au_syntax.specs.Expressions.{Expression, Expressions, Arguments, call, named_call, parenthesized}
+use Rattle.au_syntax.specs.Expressions.{dereference, binary, negation, typed, choice, no_expressions}
+use Rattle.au_syntax.specs.Expressions.{expressions, no_arguments, arguments}
 use Rattle.au_syntax.specs.Plain.{Bytes}
-use Rattle.au_syntax.specs.Statements.{Statement, Statements, Branches, Arms, declare, destructure, assign, assign_through, conditional, conditional_else, case_of, while_loop, for_loop, borrow_in, borrow_typed, discard, return_of, no_statements, statements, no_branches, branches, no_arms, arms}
+use Rattle.au_syntax.specs.Statements.{Statement, Statements, Branches, Arms, declare, destructure, assign}
+use Rattle.au_syntax.specs.Statements.{assign_through, conditional, conditional_else, case_of, while_loop}
+use Rattle.au_syntax.specs.Statements.{for_loop, borrow_in, borrow_typed, discard, return_of, no_statements}
+use Rattle.au_syntax.specs.Statements.{statements, no_branches, branches, no_arms, arms}
 use Rattle.au_instances.proofs.TableLemmas.{Contains-first, Contains-rest}
 use Rattle.au_typing.specs.Notes.{Note}
 use Rattle.au_graphs.specs.Reached.{Has}
 use Rattle.au_graphs.proofs.HasLemmas.{has_split}
-use Rattle.au_closed_trees.specs.Calls.{calls_in, calls_in_all, calls_in_arguments, calls_in_statement, calls_in_block, calls_in_branches, calls_in_arms}
+use Rattle.au_closed_trees.specs.Calls.{calls_in, calls_in_all, calls_in_arguments, calls_in_statement}
+use Rattle.au_closed_trees.specs.Calls.{calls_in_block, calls_in_branches, calls_in_arms}
 use Rattle.au_closing_laws.specs.Targets.{Call}
 
 -- a call as a list
@@ -40,7 +46,8 @@ module _ {A : Type 0} (leads : Note → Unit {0} → Bytes → List A) where
     in_expression (parenthesized n e) = in_expression e
     in_expression (dereference n e) = in_expression e
     in_expression (binary n op a b) =
-        two (calls_in one_call a) (calls_in one_call b) (calls_in leads a) (calls_in leads b) (in_expression a) (in_expression b)
+        two (calls_in one_call a) (calls_in one_call b) (calls_in leads a) (calls_in leads b)
+        (in_expression a) (in_expression b)
     in_expression (negation n e) = in_expression e
     in_expression (typed n e t) = in_expression e
     in_expression (choice n c a b) =
@@ -54,14 +61,16 @@ module _ {A : Type 0} (leads : Note → Unit {0} → Bytes → List A) where
         two (calls_in one_call e) (calls_in_all one_call rest) (calls_in leads e) (calls_in_all leads rest)
         (in_expression e) (in_all rest)
 
-    in_arguments : (es : Arguments Bytes Note (Unit {0})) → calls_in_arguments leads es ≡ flat (calls_in_arguments one_call es)
+    in_arguments : (es : Arguments Bytes Note (Unit {0})) → calls_in_arguments leads es
+        ≡ flat (calls_in_arguments one_call es)
     in_arguments no_arguments = refl
     in_arguments (arguments label e rest) =
         two (calls_in one_call e) (calls_in_arguments one_call rest) (calls_in leads e) (calls_in_arguments leads rest)
         (in_expression e) (in_arguments rest)
 
   mutual
-    in_statement : (s : Statement Bytes Note (Unit {0})) → calls_in_statement leads s ≡ flat (calls_in_statement one_call s)
+    in_statement : (s : Statement Bytes Note (Unit {0})) → calls_in_statement leads s
+        ≡ flat (calls_in_statement one_call s)
     in_statement (declare at b n t e) = in_expression e
     in_statement (destructure at binds e) = in_expression e
     in_statement (assign at n fields e) = in_expression e
@@ -91,7 +100,8 @@ module _ {A : Type 0} (leads : Note → Unit {0} → Bytes → List A) where
         two (calls_in_statement one_call s) (calls_in_block one_call rest) (calls_in_statement leads s)
         (calls_in_block leads rest) (in_statement s) (in_block rest)
 
-    in_branches : (all : Branches Bytes Note (Unit {0})) → calls_in_branches leads all ≡ flat (calls_in_branches one_call all)
+    in_branches : (all : Branches Bytes Note (Unit {0})) → calls_in_branches leads all
+        ≡ flat (calls_in_branches one_call all)
     in_branches no_branches = refl
     in_branches (branches e b rest) =
         three (calls_in one_call e) (calls_in_block one_call b) (calls_in_branches one_call rest) (calls_in leads e)
@@ -100,7 +110,8 @@ module _ {A : Type 0} (leads : Note → Unit {0} → Bytes → List A) where
     in_arms : (all : Arms Bytes Note (Unit {0})) → calls_in_arms leads all ≡ flat (calls_in_arms one_call all)
     in_arms no_arms = refl
     in_arms (arms at n binds b rest) =
-        two (calls_in_block one_call b) (calls_in_arms one_call rest) (calls_in_block leads b) (calls_in_arms leads rest)
+        two (calls_in_block one_call b) (calls_in_arms one_call rest) (calls_in_block leads b)
+        (calls_in_arms leads rest)
         (in_block b) (in_arms rest)
 
   -- what is found among what calls lead to, one of them leads to

@@ -34,19 +34,24 @@ use Rattle.au_closing_laws.proofs.PutStandLemmas.{put_types_stand}
 use Rattle.au_closing_laws.proofs.SoundLemmas.{call_somewhere, reached_sound}
 use Rattle.au_closing_laws.proofs.TypedLemmas.{program_typed}
 
-pub gathered_fields : (program : List ModuleParts) → IsGathered program → AllNamesAreGood program → AllFulfil program → FieldsStand program
+pub gathered_fields : (program : List ModuleParts) → IsGathered program → AllNamesAreGood program →
+    AllFulfil program → FieldsStand program
 gathered_fields program gathered named promises =
     fields_hold program (parts_hold program gathered) (record { names = named; promises = promises })
 
-pub gathered_own : (program : List ModuleParts) → IsGathered program → AllNamesAreGood program → AllDeclarationsAreGood program → AllFulfil program → OwnTypesStand program
+pub gathered_own : (program : List ModuleParts) → IsGathered program → AllNamesAreGood program →
+    AllDeclarationsAreGood program → AllFulfil program → OwnTypesStand program
 gathered_own program gathered named declared promises =
     own_types_hold program (parts_hold program gathered) (record { names = named; promises = promises }) declared.once
 
-pub gathered_seen : (program : List ModuleParts) → IsGathered program → AllNamesAreGood program → AllDeclarationsAreGood program → AllFulfil program → SeenStands program
+pub gathered_seen : (program : List ModuleParts) → IsGathered program → AllNamesAreGood program →
+    AllDeclarationsAreGood program → AllFulfil program → SeenStands program
 gathered_seen program gathered named declared promises place =
-    outside_stands program (gathered_own program gathered named declared promises) (gathered_fields program gathered named promises) place Body
+    outside_stands program (gathered_own program gathered named declared promises)
+    (gathered_fields program gathered named promises) place Body
 
-pub gathered_typed : (program : List ModuleParts) (noted : List NotedParts) → IsGathered program → IsDerived program noted → AllDeclarationsAreGood program → InstancesAreGood program → AllFulfil program
+pub gathered_typed : (program : List ModuleParts) (noted : List NotedParts) → IsGathered program →
+    IsDerived program noted → AllDeclarationsAreGood program → InstancesAreGood program → AllFulfil program
     → SeenStands program → IsTyped program noted
 gathered_typed program noted gathered derived declared instances promises seen =
     program_typed program noted derived declared instances promises (record {
@@ -56,7 +61,8 @@ gathered_typed program noted gathered derived declared instances promises seen =
       standing = put_types_stand program noted derived declared seen;
     })
 
-module _ (files : Files) (names all : List (List ℕ)) (reads : List ReadFile) (accepted : AreAcceptedAs files names all reads) where
+module _ (files : Files) (names all : List (List ℕ)) (reads : List ReadFile)
+    (accepted : AreAcceptedAs files names all reads) where
   abbrev gathered : IsGathered (program_modules reads)
   gathered = accepted_gathered files names all reads accepted
 
@@ -65,15 +71,20 @@ module _ (files : Files) (names all : List (List ℕ)) (reads : List ReadFile) (
 
   pub accepted_typed : IsTyped (program_modules reads) accepted.noted
   accepted_typed =
-      gathered_typed (program_modules reads) accepted.noted gathered accepted.derives accepted.declared accepted.instances accepted.kept accepted_seen
+      gathered_typed (program_modules reads) accepted.noted gathered accepted.derives accepted.declared
+      accepted.instances accepted.kept accepted_seen
 
   pub accepted_leads : (entry : Instance) → IsEntry (program_modules reads) accepted.noted entry
       → (one : Instance) → Reached same_instance (calls_of (program_modules reads) accepted.noted) (entry ∷ []) one
-      → (body : BodyOf) → body_of (program_modules reads) accepted.noted one.of ≡ Some body → (call : Call) → Contains (calls_listed body.block) call
-      → IsSomewhere (program_modules reads) accepted.noted (call_leads (program_modules reads) body.place one.given call.0 call.1)
+      → (body : BodyOf) → body_of (program_modules reads) accepted.noted one.of ≡ Some body → (call : Call) →
+      Contains (calls_listed body.block) call
+      → IsSomewhere (program_modules reads) accepted.noted
+      (call_leads (program_modules reads) body.place one.given call.0 call.1)
   accepted_leads entry is one reached body there call listed =
       let typed = accepted_typed in
       let sound = reached_sound (program_modules reads) accepted.noted typed entry is one reached in
       let same = same_Some sound.body body (sym sound.there ∙ there) in
-      subst (λ (b : BodyOf). IsSomewhere (program_modules reads) accepted.noted (call_leads (program_modules reads) b.place one.given call.0 call.1)) same
-      (call_somewhere (program_modules reads) accepted.noted typed one sound call (subst (λ (b : BodyOf). Contains (calls_listed b.block) call) (sym same) listed))
+      subst (λ (b : BodyOf). IsSomewhere (program_modules reads) accepted.noted
+      (call_leads (program_modules reads) b.place one.given call.0 call.1)) same
+      (call_somewhere (program_modules reads) accepted.noted typed one sound call
+      (subst (λ (b : BodyOf). Contains (calls_listed b.block) call) (sym same) listed))

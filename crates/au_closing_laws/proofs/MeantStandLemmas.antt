@@ -1,5 +1,6 @@
 -- What a written type means stands over the type parameters in scope.
-use Rattle.std.proofs.Common.{◌≡◌, Bool, true, false, ◌&&◌, cond, List, [], ◌∷◌, Option, None, Some, refl, sym, ap, ◌∙◌, subst}
+use Rattle.std.proofs.Common.{◌≡◌, Bool, true, false, ◌&&◌, cond, List, [], ◌∷◌, Option, None, Some, refl}
+use Rattle.std.proofs.Common.{sym, ap, ◌∙◌, subst}
 use Rattle.std.specs.Prelude.{is_some, if◌then◌else◌}
 use Rattle.std.specs.List.{list_any}
 use Rattle.std.specs.Option.{option_map, option_or}
@@ -24,29 +25,44 @@ use Rattle.au_types.specs.Same.{same, same_region}
 use Rattle.au_types.specs.Types as mean
 use Rattle.au_types.specs.Types.{Meaning, Argument, Arguments, of_type, in_region, parameter}
 use Rattle.au_types.specs.Universes.{universe_in}
-use Rattle.au_matching.specs.Forming.{StandsOver, all_fit, all_formed, argument_formed, fit_row, fits_in_kind, is_formed}
+use Rattle.au_matching.specs.Forming.{StandsOver, all_fit, all_formed, argument_formed, fit_row, fits_in_kind}
+use Rattle.au_matching.specs.Forming.{is_formed}
 use Rattle.au_matching.specs.Universes.{of_parameter}
-use Rattle.au_types.specs.Meant.{Given, all_given, applied, argument_meant, arguments_meant, followed, meant, refers, region_meant, region_of, span_of}
-use Rattle.au_types.specs.Senses.{Sense, a_class, a_region, a_span, a_type, built_in, declared, declared_sense, open_region, outer_sense, parameter_sense, sense_of}
+use Rattle.au_types.specs.Meant.{Given, all_given, applied, argument_meant, arguments_meant, followed, meant}
+use Rattle.au_types.specs.Meant.{refers, region_meant, region_of, span_of}
+use Rattle.au_types.specs.Senses.{Sense, a_class, a_region, a_span, a_type, built_in, declared}
+use Rattle.au_types.specs.Senses.{declared_sense, open_region, outer_sense, parameter_sense, sense_of}
 
-mapped : {A B : Type 0} (f : A → B) (o : Option A) (y : B) → option_map f o ≡ Some y → (x : A) × (o ≡ Some x) × (f x ≡ y)
+mapped : {A B : Type 0} (f : A → B) (o : Option A) (y : B) → option_map f o ≡ Some y → (x : A) × (o ≡ Some x)
+    × (f x ≡ y)
 mapped f None y e = absurd (none-some y e)
 mapped f (Some x) y e = (x, refl, same_Some (f x) y e)
 
-both : (o : Option Argument) (p : Option Arguments) (args : Arguments) → followed o p ≡ Some args → (one : Argument) × (rest : Arguments) × (o ≡ Some one) × (p ≡ Some rest) × (mean.arguments one rest ≡ args)
+both : (o : Option Argument) (p : Option Arguments) (args : Arguments) → followed o p ≡ Some args →
+    (one : Argument) × (rest : Arguments) × (o ≡ Some one) × (p ≡ Some rest) × (mean.arguments one rest ≡ args)
 both None p args e = absurd (none-some args e)
 both (Some one) None args e = absurd (none-some args e)
 both (Some one) (Some rest) args e = (one, rest, refl, refl, same_Some (mean.arguments one rest) args e)
 
-referred : (kind : Access) (o : Option Meaning) (r : Option Region) (t : Meaning) → refers kind o r ≡ Some t → (to : Meaning) × (o ≡ Some to) × ((P : Meaning → Bool) → ((q : Region) → P (mean.reads to q) ≡ true) → ((q : Region) → P (mean.writes to q) ≡ true) → P t ≡ true)
-referred access.Read (Some to) (Some region) t e = (to, refl, λ P reads writes. subst (λ x. P x ≡ true) (same_Some (mean.reads to region) t e) (reads region))
-referred access.Write (Some to) (Some region) t e = (to, refl, λ P reads writes. subst (λ x. P x ≡ true) (same_Some (mean.writes to region) t e) (writes region))
+referred : (kind : Access) (o : Option Meaning) (r : Option Region) (t : Meaning) → refers kind o r ≡ Some t →
+    (to : Meaning) × (o ≡ Some to)
+    × ((P : Meaning → Bool) → ((q : Region) → P (mean.reads to q) ≡ true) →
+    ((q : Region) → P (mean.writes to q) ≡ true) → P t ≡ true)
+referred access.Read (Some to) (Some region) t e =
+    (to, refl, λ P reads writes. subst (λ x. P x ≡ true) (same_Some (mean.reads to region) t e) (reads region))
+referred access.Write (Some to) (Some region) t e = (
+  to,
+  refl,
+  λ P reads writes. subst (λ x. P x ≡ true) (same_Some (mean.writes to region) t e)
+      (writes region),
+)
 referred access.Read None r t e = absurd (none-some t e)
 referred access.Write None r t e = absurd (none-some t e)
 referred access.Read (Some to) None t e = absurd (none-some t e)
 referred access.Write (Some to) None t e = absurd (none-some t e)
 
-module _ (opened : List Bytes) (params : List Parameter) (visible : List (Bytes × DeclAt)) (heads : List (DeclAt × Head)) where
+module _ (opened : List Bytes) (params : List Parameter) (visible : List (Bytes × DeclAt))
+    (heads : List (DeclAt × Head)) where
   abbrev Stands : Meaning → Type 0
   Stands t = StandsOver heads params t
 
@@ -72,7 +88,8 @@ module _ (opened : List Bytes) (params : List Parameter) (visible : List (Bytes 
       by true = tt
       by false = tt
 
-  type_parameter : (name : Bytes) (universe : Universe) → universe_in params name ≡ Some universe → is_some (of_parameter (Some universe)) ≡ true → Stands (parameter name)
+  type_parameter : (name : Bytes) (universe : Universe) → universe_in params name ≡ Some universe →
+      is_some (of_parameter (Some universe)) ≡ true → Stands (parameter name)
   unfolding is_formed
   type_parameter name universe is some = ap (λ o. is_some (of_parameter o)) is ∙ some
 
@@ -112,9 +129,13 @@ module _ (opened : List Bytes) (params : List Parameter) (visible : List (Bytes 
 
   fine_sense : (name : Bytes) → IsFine (sense_of opened params visible heads name)
   fine_sense name =
-      fine_or (open_region opened name) (option_or (option_map (parameter_sense name) (universe_in params name)) (outer_sense visible heads name)) (fine_open name)
-      (fine_or (option_map (parameter_sense name) (universe_in params name)) (outer_sense visible heads name) (fine_parameter name)
-      (fine_or (find name built_in) (option_map (declared_sense heads) (find name visible)) (found_fine built_in built_in_fine name) (fine_declared (find name visible))))
+      fine_or (open_region opened name)
+      (option_or (option_map (parameter_sense name) (universe_in params name))
+      (outer_sense visible heads name)) (fine_open name)
+      (fine_or (option_map (parameter_sense name) (universe_in params name)) (outer_sense visible heads name)
+      (fine_parameter name)
+      (fine_or (find name built_in) (option_map (declared_sense heads) (find name visible))
+      (found_fine built_in built_in_fine name) (fine_declared (find name visible))))
 
   -- ---- written types
 
@@ -128,39 +149,56 @@ module _ (opened : List Bytes) (params : List Parameter) (visible : List (Bytes 
       by true e = subst (λ x. is_formed fits_in_kind heads params x ≡ true) (same_Some mean.text t e) refl
       by false e = absurd (none-some t e)
 
-  type_fits : (u : Universe) → (given : Given) (one : Argument) → argument_meant u given ≡ Some one → ((t : Meaning) → given.as_type ≡ Some t → Stands t)
+  type_fits : (u : Universe) → (given : Given) (one : Argument) → argument_meant u given ≡ Some one →
+      ((t : Meaning) → given.as_type ≡ Some t → Stands t)
       → (fits_in_kind u one ≡ true) × (argument_formed fits_in_kind heads params one ≡ true)
   unfolding argument_formed
   type_fits universes.Region given one e stands =
-      let its = mapped in_region given.as_region one e in
-      (subst (λ a. fits_in_kind universes.Region a ≡ true) its.2 refl, subst (λ a. argument_formed fits_in_kind heads params a ≡ true) its.2 refl)
+      let its = mapped in_region given.as_region one e in (
+        subst (λ a. fits_in_kind universes.Region a ≡ true) its.2 refl,
+        subst (λ a. argument_formed fits_in_kind heads params a ≡ true) its.2 refl,
+      )
   type_fits universes.Free given one e stands =
-      let its = mapped of_type given.as_type one e in
-      (subst (λ a. fits_in_kind universes.Free a ≡ true) its.2 refl, subst (λ a. argument_formed fits_in_kind heads params a ≡ true) its.2 (stands its.0 its.1))
+      let its = mapped of_type given.as_type one e in (
+        subst (λ a. fits_in_kind universes.Free a ≡ true) its.2 refl,
+        subst (λ a. argument_formed fits_in_kind heads params a ≡ true) its.2 (stands its.0 its.1),
+      )
   type_fits universes.Linear given one e stands =
-      let its = mapped of_type given.as_type one e in
-      (subst (λ a. fits_in_kind universes.Linear a ≡ true) its.2 refl, subst (λ a. argument_formed fits_in_kind heads params a ≡ true) its.2 (stands its.0 its.1))
+      let its = mapped of_type given.as_type one e in (
+        subst (λ a. fits_in_kind universes.Linear a ≡ true) its.2 refl,
+        subst (λ a. argument_formed fits_in_kind heads params a ≡ true) its.2 (stands its.0 its.1),
+      )
   type_fits universes.AnyType given one e stands =
-      let its = mapped of_type given.as_type one e in
-      (subst (λ a. fits_in_kind universes.AnyType a ≡ true) its.2 refl, subst (λ a. argument_formed fits_in_kind heads params a ≡ true) its.2 (stands its.0 its.1))
+      let its = mapped of_type given.as_type one e in (
+        subst (λ a. fits_in_kind universes.AnyType a ≡ true) its.2 refl,
+        subst (λ a. argument_formed fits_in_kind heads params a ≡ true) its.2 (stands its.0 its.1),
+      )
 
   mutual
     unfolding meant all_given is_formed argument_formed all_formed
 
     pub meant_stands : (w : WrittenType) (t : Meaning) → meant opened params visible heads w ≡ Some t → Stands t
     meant_stands (reference at kind target name) t e =
-        let its = referred kind (meant opened params visible heads target) (region_of (sense_of opened params visible heads name.name)) t e in
-        its.2 (λ x. is_formed fits_in_kind heads params x) (λ q. meant_stands target its.0 its.1) (λ q. meant_stands target its.0 its.1)
-    meant_stands (named name args) t e = by args (sense_of opened params visible heads name.name) (fine_sense name.name) e (λ ps list. arguments_stand ps args list)
+        let its = referred kind (meant opened params visible heads target)
+        (region_of (sense_of opened params visible heads name.name)) t e in
+        its.2 (λ x. is_formed fits_in_kind heads params x) (λ q. meant_stands target its.0 its.1)
+        (λ q. meant_stands target its.0 its.1)
+    meant_stands (named name args) t e = by args (sense_of opened params visible heads name.name)
+        (fine_sense name.name) e (λ ps list. arguments_stand ps args list)
       where
-        by : (args : WrittenTypes) (o : Option Sense) → IsFine o → applied o (all_given opened params visible heads args) ≡ Some t
-            → ((ps : List Parameter) (list : Arguments) → arguments_meant ps (all_given opened params visible heads args) ≡ Some list → (all_fit fits_in_kind ps list ≡ true) × (all_formed fits_in_kind heads params list ≡ true))
+        by : (args : WrittenTypes) (o : Option Sense) → IsFine o →
+            applied o (all_given opened params visible heads args) ≡ Some t
+            → ((ps : List Parameter) (list : Arguments) →
+            arguments_meant ps (all_given opened params visible heads args) ≡ Some list →
+            (all_fit fits_in_kind ps list ≡ true) × (all_formed fits_in_kind heads params list ≡ true))
             → Stands t
         by args (Some (declared at ps)) fine e each =
             let its = mapped (mean.named at) (arguments_meant ps (all_given opened params visible heads args)) t e in
             let parts = each ps its.0 its.1 in
-            subst Stands its.2 (and_from (fit_row fits_in_kind (head_of heads at) its.0) (all_formed fits_in_kind heads params its.0)
-            (ap (λ o. fit_row fits_in_kind o its.0) fine.1 ∙ sym (ap (λ qs. all_fit fits_in_kind qs its.0) fine.2) ∙ parts.0) parts.1)
+            subst Stands its.2 (and_from (fit_row fits_in_kind (head_of heads at) its.0)
+            (all_formed fits_in_kind heads params its.0)
+            (ap (λ o. fit_row fits_in_kind o its.0) fine.1
+            ∙ sym (ap (λ qs. all_fit fits_in_kind qs its.0) fine.2) ∙ parts.0) parts.1)
         by no_types (Some (a_type to)) fine e each = subst Stands (same_Some to t e) fine
         by (types w rest) (Some (a_type to)) fine e each = absurd (none-some t e)
         by (types of (types region no_types)) (Some a_span) fine e each =
@@ -172,16 +210,34 @@ module _ (opened : List Bytes) (params : List Parameter) (visible : List (Bytes 
         by args (Some (a_region r)) fine e each = absurd (none-some t e)
         by args (Some (a_class at)) fine e each = absurd (none-some t e)
 
-    arguments_stand : (ps : List Parameter) (args : WrittenTypes) (list : Arguments) → arguments_meant ps (all_given opened params visible heads args) ≡ Some list
+    arguments_stand : (ps : List Parameter) (args : WrittenTypes) (list : Arguments) →
+        arguments_meant ps (all_given opened params visible heads args) ≡ Some list
         → (all_fit fits_in_kind ps list ≡ true) × (all_formed fits_in_kind heads params list ≡ true)
-    arguments_stand [] no_types list e =
-        (subst (λ l. all_fit fits_in_kind [] l ≡ true) (same_Some mean.no_arguments list e) refl, subst (λ l. all_formed fits_in_kind heads params l ≡ true) (same_Some mean.no_arguments list e) refl)
+    arguments_stand [] no_types list e = (
+      subst (λ l. all_fit fits_in_kind [] l ≡ true) (same_Some mean.no_arguments list e) refl,
+      subst (λ l. all_formed fits_in_kind heads params l ≡ true) (same_Some mean.no_arguments list e)
+          refl,
+    )
     arguments_stand [] (types w rest) list e = absurd (none-some list e)
     arguments_stand (p ∷ ps) no_types list e = absurd (none-some list e)
     arguments_stand (p ∷ ps) (types w rest) list e =
-        let its = both (argument_meant p.universe (record { as_type = meant opened params visible heads w; as_region = region_meant opened params visible heads w })) (arguments_meant ps (all_given opened params visible heads rest)) list e in
-        let one = type_fits p.universe (record { as_type = meant opened params visible heads w; as_region = region_meant opened params visible heads w }) its.0 its.2 (meant_stands w) in
+        let its = both (argument_meant p.universe
+        (record {
+          as_type = meant opened params visible heads w;
+          as_region =
+              region_meant opened params visible heads w;
+        }))
+        (arguments_meant ps (all_given opened params visible heads rest)) list e in
+        let one = type_fits p.universe
+        (record {
+          as_type = meant opened params visible heads w;
+          as_region =
+              region_meant opened params visible heads w;
+        }) its.0 its.2 (meant_stands w) in
         let others = arguments_stand ps rest its.1 its.3 in (
-          subst (λ l. all_fit fits_in_kind (p ∷ ps) l ≡ true) its.4 (and_from (fits_in_kind p.universe its.0) (all_fit fits_in_kind ps its.1) one.0 others.0),
-          subst (λ l. all_formed fits_in_kind heads params l ≡ true) its.4 (and_from (argument_formed fits_in_kind heads params its.0) (all_formed fits_in_kind heads params its.1) one.1 others.1),
+          subst (λ l. all_fit fits_in_kind (p ∷ ps) l ≡ true) its.4
+              (and_from (fits_in_kind p.universe its.0) (all_fit fits_in_kind ps its.1) one.0 others.0),
+          subst (λ l. all_formed fits_in_kind heads params l ≡ true) its.4
+              (and_from (argument_formed fits_in_kind heads params its.0)
+              (all_formed fits_in_kind heads params its.1) one.1 others.1),
         )

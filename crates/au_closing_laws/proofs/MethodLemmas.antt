@@ -1,5 +1,6 @@
 -- Each row that gives a class at a closed type has each method of the class there.
-use Rattle.std.proofs.Common.{◌≡◌, ◌⊎◌, inl, inr, ℕ, zero, suc, ◌+◌, Bool, true, false, cond, List, [], ◌∷◌, ◌++◌, length, map, find, Option, None, Some, refl, sym, ap, ◌∙◌, subst, arith}
+use Rattle.std.proofs.Common.{◌≡◌, ◌⊎◌, inl, inr, ℕ, zero, suc, ◌+◌, Bool, true, false, cond, List, [], ◌∷◌}
+use Rattle.std.proofs.Common.{◌++◌, length, map, find, Option, None, Some, refl, sym, ap, ◌∙◌, subst, arith}
 use Rattle.std.specs.Prelude.{Contains, slice_get}
 use Rattle.std.specs.List.{position, position_or_len}
 use Rattle.std.specs.Option.{option_and_then, option_map}
@@ -9,7 +10,9 @@ use Rattle.std.proofs.lemmas.Option.{none-some, same_Some}
 use Rattle.std.proofs.lemmas.Slice.Eq.{bytes_eq-Decides}
 use Rattle.au_base.specs.declared.places.Pos.{Pos}
 use Rattle.au_syntax.specs.declared.modules.Part.TheVariants.{Interface, Body}
-use Rattle.au_syntax.specs.Modules.{Constrained, Header, InUniverse, constant, opaque_type, record_type, union_type, function, class, instance, constant_body, function_body, instance_body}
+use Rattle.au_syntax.specs.Modules.{Constrained, Header, InUniverse, constant, opaque_type, record_type}
+use Rattle.au_syntax.specs.Modules.{union_type, function, class, instance, constant_body, function_body}
+use Rattle.au_syntax.specs.Modules.{instance_body}
 use Rattle.au_syntax.specs.Names.{Placed}
 use Rattle.au_syntax.specs.Plain.{Bytes, PlainDeclaration, PlainMethod}
 use Rattle.au_types.specs.declared.types.DeclAt.{DeclAt}
@@ -38,9 +41,11 @@ use Rattle.au_classes.specs.Good.{InstancesAreGood, IsGood}
 use Rattle.au_classes.specs.Rows.{row_of, rows_of}
 use Rattle.au_rules.specs.Good.{AllDeclarationsAreGood}
 use Rattle.au_typing.specs.Written.{types_at}
-use Rattle.au_typing.specs.Trees.{NotedDeclaration, NotedMethod, NotedParts, erase_declaration, erase_method, erase_program}
+use Rattle.au_typing.specs.Trees.{NotedDeclaration, NotedMethod, NotedParts, erase_declaration, erase_method}
+use Rattle.au_typing.specs.Trees.{erase_program}
 use Rattle.au_noting_programs.specs.Faults.{IsDerived}
-use Rattle.au_closing.specs.Bodies.{BodyOf, body_in, body_of, body_standing, defining_in, defining_index, is_method, method_body, noted_at}
+use Rattle.au_closing.specs.Bodies.{BodyOf, body_in, body_of, body_standing, defining_in, defining_index}
+use Rattle.au_closing.specs.Bodies.{is_method, method_body, noted_at}
 use Rattle.au_closing.specs.Leading.{kind_of, module_name}
 use Rattle.au_closing_laws.specs.Gathered.{IsGathered}
 use Rattle.au_closing_laws.specs.Premises.{MethodsAreThere}
@@ -60,28 +65,37 @@ nothing_there x c = omega arith
 -- ---- lists
 
 -- what is listed stands between others
-split : {A : Type 0} (xs : List A) (x : A) → Contains xs x → (before : List A) × (after : List A) × (xs ≡ before ++ x ∷ after)
+split : {A : Type 0} (xs : List A) (x : A) → Contains xs x → (before : List A) × (after : List A)
+    × (xs ≡ before ++ x ∷ after)
 split [] x c = absurd (nothing_there x c)
 split {A} (y ∷ xs) x c = by (Contains-cases y xs x c) (split xs x)
   where
-    by : (y ≡ x) ⊎ Contains xs x → (Contains xs x → (before : List A) × (after : List A) × (xs ≡ before ++ x ∷ after)) → (before : List A) × (after : List A) × (y ∷ xs ≡ before ++ x ∷ after)
+    by : (y ≡ x) ⊎ Contains xs x →
+        (Contains xs x → (before : List A) × (after : List A) × (xs ≡ before ++ x ∷ after)) → (before : List A)
+        × (after : List A) × (y ∷ xs ≡ before ++ x ∷ after)
     by (inl here) later = ([], xs, ap (λ z. z ∷ xs) here)
     by (inr behind) later = let its = later behind in (y ∷ its.0, its.1, ap (λ zs. y ∷ zs) its.2)
 
 -- ---- methods with notes
 
 -- a method of a name is found among those with notes, where one is written
-noted_method : (name : Bytes) (ms : List NotedMethod) (one : PlainMethod) → Contains (map erase_method ms) one → name ≡ one.header.name.name → (m : NotedMethod) × (find (is_method name) ms ≡ Some m)
+noted_method : (name : Bytes) (ms : List NotedMethod) (one : PlainMethod) →
+    Contains (map erase_method ms) one → name ≡ one.header.name.name → (m : NotedMethod)
+    × (find (is_method name) ms ≡ Some m)
 noted_method name [] one c named = absurd (nothing_there one c)
-noted_method name (m ∷ ms) one c named = by (bytes_eq name m.header.name.name) refl (Contains-cases (erase_method m) (map erase_method ms) one c) (λ behind. noted_method name ms one behind named)
+noted_method name (m ∷ ms) one c named = by (bytes_eq name m.header.name.name) refl
+    (Contains-cases (erase_method m) (map erase_method ms) one c)
+    (λ behind. noted_method name ms one behind named)
   where
     by : (b : Bool) → bytes_eq name m.header.name.name ≡ b → (erase_method m ≡ one) ⊎ Contains (map erase_method ms) one
-        → (Contains (map erase_method ms) one → (k : NotedMethod) × (find (is_method name) ms ≡ Some k)) → (k : NotedMethod) × (cond b (Some m) (find (is_method name) ms) ≡ Some k)
+        → (Contains (map erase_method ms) one → (k : NotedMethod) × (find (is_method name) ms ≡ Some k)) →
+        (k : NotedMethod) × (cond b (Some m) (find (is_method name) ms) ≡ Some k)
     by true e c later = (m, refl)
     by false e (inr behind) later = later behind
     by false e (inl here) later =
         let same : bytes_eq name m.header.name.name ≡ true =
-        (bytes_eq-Decides name m.header.name.name).1 (named ∙ sym (ap (λ (x : PlainMethod). x.header.name.name) here)) in
+        (bytes_eq-Decides name m.header.name.name).1
+        (named ∙ sym (ap (λ (x : PlainMethod). x.header.name.name) here)) in
         let both : true ≡ false = sym same ∙ e in cc
 
 -- what an instance of a body says
@@ -94,10 +108,14 @@ generics_of (instance_body at gs n t ms) = gs
 generics_of other = []
 
 -- an instance with its notes has a body under the name of each of its methods
-method_noted : (place : ℕ) (name : Bytes) (d : NotedDeclaration) (ms : List PlainMethod) → methods_written (erase_declaration d) ≡ Some ms → (one : PlainMethod) → Contains ms one → name ≡ one.header.name.name
-    → (body : BodyOf) × (body_in place name d ≡ Some body) × (body.place ≡ place) × (body.generics ≡ generics_of (erase_declaration d))
+method_noted : (place : ℕ) (name : Bytes) (d : NotedDeclaration) (ms : List PlainMethod) →
+    methods_written (erase_declaration d) ≡ Some ms → (one : PlainMethod) → Contains ms one →
+    name ≡ one.header.name.name
+    → (body : BodyOf) × (body_in place name d ≡ Some body) × (body.place ≡ place)
+    × (body.generics ≡ generics_of (erase_declaration d))
 method_noted place name (instance_body at gs n t noted) ms e one c named =
-    let its = noted_method name noted one (subst (λ xs. Contains xs one) (sym (same_Some (map erase_method noted) ms e)) c) named in
+    let its = noted_method name noted one
+    (subst (λ xs. Contains xs one) (sym (same_Some (map erase_method noted) ms e)) c) named in
     (method_body place gs its.0, ap (option_map (method_body place gs)) its.1, refl, refl)
 method_noted place name (constant at n t) ms e one c named = absurd (none-some ms e)
 method_noted place name (opaque_type at n ps u) ms e one c named = absurd (none-some ms e)
@@ -139,13 +157,18 @@ agreed sight generics (function_body at gs h b stop) agrees = absurd agrees
 -- ---- the class
 
 module _ (program : List ModuleParts) where
-  class_in_is : (o : Option (List (Bytes × DeclAt))) (place : Pos) (name : Placed Bytes) (p : InUniverse Bytes) (methods : List (Header Bytes)) (its : ClassText) → class_in o (class place name p methods) ≡ Some its → its.methods ≡ methods
+  class_in_is : (o : Option (List (Bytes × DeclAt))) (place : Pos) (name : Placed Bytes)
+      (p : InUniverse Bytes) (methods : List (Header Bytes)) (its : ClassText) →
+      class_in o (class place name p methods) ≡ Some its → its.methods ≡ methods
   class_in_is None place name p methods its e = absurd (none-some its e)
   class_in_is (Some names) place name p methods its e =
-      sym (ap (λ (x : ClassText). x.methods) (same_Some (record { visible = names; parameter = parameter p; methods = methods }) its e))
+      sym (ap (λ (x : ClassText). x.methods)
+      (same_Some (record { visible = names; parameter = parameter p; methods = methods }) its e))
 
   -- the methods of a class that is found are those that it declares
-  class_methods : (at : DeclAt) (d : Standing) → standing_at program at ≡ Some d → (place : Pos) (name : Placed Bytes) (p : InUniverse Bytes) (methods : List (Header Bytes)) → d.says ≡ class place name p methods
+  class_methods : (at : DeclAt) (d : Standing) → standing_at program at ≡ Some d →
+      (place : Pos) (name : Placed Bytes) (p : InUniverse Bytes) (methods : List (Header Bytes)) →
+      d.says ≡ class place name p methods
       → (its : ClassText) → class_at program at ≡ Some its → its.methods ≡ methods
   class_methods at d found place name p methods says its e =
       class_in_is (visible_at program d.place d.part) place name p methods its
@@ -153,8 +176,10 @@ module _ (program : List ModuleParts) where
 
 -- ---- a row has the methods of its class
 
-module _ (program : List ModuleParts) (noted : List NotedParts) (derived : IsDerived program noted) (declared : AllDeclarationsAreGood program) (promises : AllFulfil program) (gathered : IsGathered program)
-    (text : InstanceText) (before : List InstanceText) (good : IsGood program before text) (h : Header Bytes) (listed : Contains good.class.methods h)
+module _ (program : List ModuleParts) (noted : List NotedParts) (derived : IsDerived program noted)
+    (declared : AllDeclarationsAreGood program) (promises : AllFulfil program) (gathered : IsGathered program)
+    (text : InstanceText) (before : List InstanceText) (good : IsGood program before text) (h : Header Bytes)
+    (listed : Contains good.class.methods h)
     (t : ClosedType) (m : ModuleParts) (there : slice_get program text.number.«module» ≡ Some m) where
   abbrev name : Bytes
   name = h.name.name
@@ -162,28 +187,37 @@ module _ (program : List ModuleParts) (noted : List NotedParts) (derived : IsDer
   abbrev its_target : Target
   its_target = record { at = good.row.instance; name = name }
 
-  abbrev says : (names : List (Bytes × DeclAt)) × (visible_at program text.number.«module» text.part ≡ Some names) × Says text names (heads_of program) good.row
+  abbrev says : (names : List (Bytes × DeclAt))
+      × (visible_at program text.number.«module» text.part ≡ Some names) × Says text names (heads_of program)
+      good.row
   says = row_read program text good.row good.reads
 
   names_at : types_at program text.number.«module» text.part ≡ says.0
   names_at = same_Some (types_at program text.number.«module» text.part) says.0 (visible_there ∙ says.1)
     where
-      visible_there : Some (types_at program text.number.«module» text.part) ≡ visible_at program text.number.«module» text.part
+      visible_there : Some (types_at program text.number.«module» text.part) ≡ visible_at program
+          text.number.«module» text.part
       visible_there = rw there refl
 
-  means_at : generics_meant (types_at program text.number.«module» text.part) (heads_of program) text.generics ≡ Are good.row.generics
+  means_at : generics_meant (types_at program text.number.«module» text.part) (heads_of program) text.generics
+      ≡ Are good.row.generics
   means_at = ap (λ names. generics_meant names (heads_of program) text.generics) names_at ∙ says.2.generics
 
   -- the method of the name among those that are written
-  written_one : (methods : List PlainMethod) → text.methods ≡ Some methods → (one : PlainMethod) × Contains methods one × (name ≡ one.header.name.name)
+  written_one : (methods : List PlainMethod) → text.methods ≡ Some methods → (one : PlainMethod)
+      × Contains methods one × (name ≡ one.header.name.name)
   written_one methods is = let its = (good.methods methods is).defined h listed in (its.0, its.1, its.2)
 
   -- its body, by the declaration that defines the instance
-  body_there : (d : Standing) → standing_at program good.row.instance ≡ Some d → d.place ≡ text.number.«module» → (index : ℕ) → defining_index program d d.part ≡ Some index
-      → (e : PlainDeclaration) → slice_get (declarations_in m.body) index ≡ Some e → (methods : List PlainMethod) → methods_written e ≡ Some methods → text.methods ≡ Some methods
-      → (body : BodyOf) × (body_of program noted its_target ≡ Some body) × (body.place ≡ text.number.«module») × (body.generics ≡ generics_of e)
+  body_there : (d : Standing) → standing_at program good.row.instance ≡ Some d →
+      d.place ≡ text.number.«module» → (index : ℕ) → defining_index program d d.part ≡ Some index
+      → (e : PlainDeclaration) → slice_get (declarations_in m.body) index ≡ Some e →
+      (methods : List PlainMethod) → methods_written e ≡ Some methods → text.methods ≡ Some methods
+      → (body : BodyOf) × (body_of program noted its_target ≡ Some body) × (body.place ≡ text.number.«module»)
+      × (body.generics ≡ generics_of e)
   body_there d found at_place index defining e stands methods written is =
-      let its = noted_there program noted derived.erased d.place index m e (ap (slice_get program) at_place ∙ there) stands in
+      let its = noted_there program noted derived.erased d.place index m e
+      (ap (slice_get program) at_place ∙ there) stands in
       let one = written_one methods is in
       let has = method_noted d.place name its.0 methods (ap methods_written its.2 ∙ written) one.0 one.1 one.2 in (
         has.0,
@@ -199,21 +233,35 @@ module _ (program : List ModuleParts) (noted : List NotedParts) (derived : IsDer
       let number = says.2.number in
       let says_it : PlainDeclaration = instance_body its.at text.generics text.name text.of its.written in
       let stands = stands_defined program text.number m its.index says_it there its.numbered its.stands in
-      let body = body_there (record { place = text.number.«module»; part = Body; index = its.index; says = says_it }) (ap (standing_at program) number ∙ stands) refl its.index refl says_it its.stands its.written refl its.methods in
+      let body = body_there (record {
+        place = text.number.«module»;
+        part = Body;
+        index = its.index;
+        says =
+            says_it;
+      }) (ap (standing_at program) number ∙ stands) refl its.index refl says_it its.stands
+      its.written refl its.methods in
       method_has_body body.0 body.1
       (bounds_here program body.0 text.number.«module» body.2 text.generics good.row.generics body.3
-      (subst (λ p. generics_meant (types_at program text.number.«module» p) (heads_of program) text.generics ≡ Are good.row.generics) its.part means_at))
+      (subst (λ p. generics_meant (types_at program text.number.«module» p) (heads_of program) text.generics
+      ≡ Are good.row.generics) its.part means_at))
 
-  pub of_promised : (at : DeclAt) (d : Standing) → standing_at program at ≡ Some d → good.row.class ≡ at → (p : Pos) (n : Placed Bytes) (param : InUniverse Bytes) (methods : List (Header Bytes)) → d.says ≡ class p n param methods → Contains methods h
+  pub of_promised : (at : DeclAt) (d : Standing) → standing_at program at ≡ Some d → good.row.class ≡ at →
+      (p : Pos) (n : Placed Bytes) (param : InUniverse Bytes) (methods : List (Header Bytes)) →
+      d.says ≡ class p n param methods → Contains methods h
       → IsPromised program m text → MethodIsThere program noted name good.row t
   of_promised at d found of_class p n param methods says_class among its = by m.interface refl m.body refl
     where
-      by : (interface : Option Entry) → m.interface ≡ interface → (body : Option Entry) → m.body ≡ body → MethodIsThere program noted name good.row t
+      by : (interface : Option Entry) → m.interface ≡ interface → (body : Option Entry) → m.body ≡ body →
+          MethodIsThere program noted name good.row t
       by None none other same =
-          absurd (none-some (instance its.at text.generics text.name text.of) (sym (ap (λ o. slice_get (declarations_in o) text.number.decl) none) ∙ its.stands))
+          absurd (none-some (instance its.at text.generics text.name text.of)
+          (sym (ap (λ o. slice_get (declarations_in o) text.number.decl) none) ∙ its.stands))
       by (Some interface) of_interface None none =
-          let call = shipped_methods program gathered text.number.«module» m there none text.number.decl its.at text.generics text.name text.of its.stands says.0
-          (subst (λ part. visible_at program text.number.«module» part ≡ Some says.0) its.part says.1) (heads_of program) good.row.class says.2.class
+          let call = shipped_methods program gathered text.number.«module» m there none text.number.decl
+          its.at text.generics text.name text.of its.stands says.0
+          (subst (λ part. visible_at program text.number.«module» part ≡ Some says.0) its.part says.1)
+          (heads_of program) good.row.class says.2.class
           d (ap (standing_at program) of_class ∙ found) p n param methods says_class h among (kind_of t) in
           method_is_shipped call.0
           (ap (λ k. prim_of (module_name program k) name (kind_of t)) (ap (λ (x : DeclAt). x.«module») says.2.number)
@@ -222,44 +270,67 @@ module _ (program : List ModuleParts) (noted : List NotedParts) (derived : IsDer
           let promise : PlainDeclaration = instance its.at text.generics text.name text.of in
           let sight : Sight = sight_of program text.number.«module» m in
           let kept = promises text.number.«module» m interface entry there of_interface of_body promise text.name.name
-          (listed_at interface.tree.declarations text.number.decl promise (sym (ap (λ o. slice_get (declarations_in o) text.number.decl) of_interface) ∙ its.stands)) refl in
+          (listed_at interface.tree.declarations text.number.decl promise
+          (sym (ap (λ o. slice_get (declarations_in o) text.number.decl) of_interface) ∙ its.stands)) refl
+          in
           let passes = kept_passes sight promise entry.tree.declarations kept in
           let first = find_at (defines sight promise) entry.tree.declarations in
           let index = position_or_len (defines sight promise) entry.tree.declarations in
           let agrees = agreed sight text.generics passes.0 ((keeps_decides sight promise passes.0).0 passes.2) in
-          let standing : Standing = record { place = text.number.«module»; part = Interface; index = text.number.decl; says = promise } in
+          let standing : Standing = record {
+            place = text.number.«module»;
+            part = Interface;
+            index =
+                text.number.decl;
+            says = promise;
+          } in
           let defining : defining_index program standing Interface ≡ Some index =
           ap (λ o. defining_in program text.number.«module» o promise) there
-          ∙ ap (λ o. position (defines sight promise) (declarations_seen (option_map (λ (e : Entry). e.tree) o))) of_body
+          ∙ ap (λ o. position (defines sight promise)
+          (declarations_seen (option_map (λ (e : Entry). e.tree) o))) of_body
           ∙ placed (defines sight promise) entry.tree.declarations passes.0 passes.1 in
           let stands : slice_get (declarations_in m.body) index ≡ Some passes.0 =
           ap (λ o. slice_get (declarations_in o) index) of_body ∙ sym first ∙ passes.1 in
           let methods_are : text.methods ≡ Some agrees.0 =
-          its.methods ∙ ap (λ o. methods_in (find (instance_defined sight (scope_of text.generics) text.name text.of) (declarations_in o))) of_body
+          its.methods ∙ ap (λ o. methods_in
+          (find (instance_defined sight (scope_of text.generics) text.name text.of) (declarations_in o)))
+          of_body
           ∙ ap methods_in passes.1 ∙ methods_said passes.0 ∙ agrees.1 in
-          let body = body_there standing (ap (standing_at program) says.2.number ∙ stands_promised program text.number m promise there its.stands) refl index defining passes.0 stands agrees.0 agrees.1 methods_are in
+          let body = body_there standing
+          (ap (standing_at program) says.2.number ∙ stands_promised program text.number m promise there
+          its.stands) refl index defining passes.0 stands agrees.0 agrees.1 methods_are in
           method_has_body body.0 body.1
-          (bounds_promised program body.0 text.number.«module» body.2 m text.generics (generics_of passes.0) good.row.generics there body.3 agrees.2
-          (subst (λ part. generics_meant (types_at program text.number.«module» part) (heads_of program) text.generics ≡ Are good.row.generics) its.part means_at)
+          (bounds_promised program body.0 text.number.«module» body.2 m text.generics (generics_of passes.0)
+          good.row.generics there body.3 agrees.2
+          (subst (λ part. generics_meant (types_at program text.number.«module» part) (heads_of program)
+          text.generics ≡ Are good.row.generics) its.part means_at)
           (misfit_none program noted declared derived its_target body.0 body.1))
 
 -- ---- of each row
 
-pub methods_hold : (program : List ModuleParts) (noted : List NotedParts) → IsDerived program noted → AllDeclarationsAreGood program → InstancesAreGood program → AllFulfil program → IsGathered program → MethodsAreThere program noted
-methods_hold program noted derived declared instances promises gathered at d found place name p methods says h listed row t (by_row its_class u one s there of_class becomes held) =
+pub methods_hold : (program : List ModuleParts) (noted : List NotedParts) → IsDerived program noted →
+    AllDeclarationsAreGood program → InstancesAreGood program → AllFulfil program → IsGathered program →
+    MethodsAreThere program noted
+methods_hold program noted derived declared instances promises gathered at d found place name p methods says h
+    listed row t (by_row its_class u one s there of_class becomes held) =
     let read = read_of program (instances_of program) row there in
     let parts = split (instances_of program) read.0 read.1 in
     let good = instances parts.0 parts.1 read.0 parts.2 in
     let same : good.row ≡ row = same_Some good.row row (sym good.reads ∙ read.2) in
     let class_is : good.row.class ≡ at = ap (λ (r : Row). r.class) same ∙ of_class in
-    let its_methods = class_methods program at d found place name p methods says good.class (ap (class_at program) (sym class_is) ∙ good.of_class) in
+    let its_methods = class_methods program at d found place name p methods says good.class
+    (ap (class_at program) (sym class_is) ∙ good.of_class) in
     let among = subst (λ hs. Contains hs h) (sym its_methods) listed in
     let stands = text_stands program read.0 read.1 in
     subst (λ r. MethodIsThere program noted h.name.name r t) same (by good class_is among stands)
   where
-    by : {text : InstanceText} {before : List InstanceText} (good : IsGood program before text) → good.row.class ≡ at → Contains good.class.methods h
-        → (m : ModuleParts) × (slice_get program text.number.«module» ≡ Some m) × (IsPromised program m text ⊎ IsDefined m text) → MethodIsThere program noted h.name.name good.row t
+    by : {text : InstanceText} {before : List InstanceText} (good : IsGood program before text) →
+        good.row.class ≡ at → Contains good.class.methods h
+        → (m : ModuleParts) × (slice_get program text.number.«module» ≡ Some m)
+        × (IsPromised program m text ⊎ IsDefined m text) → MethodIsThere program noted h.name.name good.row
+        t
     by {text} {before} good class_is among (m, is, inl its) =
-        of_promised program noted derived declared promises gathered text before good h among t m is at d found class_is place name p methods says listed its
+        of_promised program noted derived declared promises gathered text before good h among t m is at d
+        found class_is place name p methods says listed its
     by {text} {before} good class_is among (m, is, inr its) =
         of_defined program noted derived declared promises gathered text before good h among t m is its

@@ -1,5 +1,7 @@
 -- In an accepted program that holds nothing that isn't built, each shipped call that a call leads to is plain.
-use Rattle.std.proofs.Common.{◌≡◌, ◌⊎◌, inl, inr, ℕ, suc, ◌+◌, ◌<◌, Bool, true, false, true≢false, not, ◌&&◌, ◌||◌, List, [], ◌∷◌, ◌++◌, length, map, Option, None, Some, refl, sym, ap, ◌∙◌, subst, arith}
+use Rattle.std.proofs.Common.{◌≡◌, ◌⊎◌, inl, inr, ℕ, suc, ◌+◌, ◌<◌, Bool, true, false, true≢false, not, ◌&&◌}
+use Rattle.std.proofs.Common.{◌||◌, List, [], ◌∷◌, ◌++◌, length, map, Option, None, Some, refl, sym, ap, ◌∙◌}
+use Rattle.std.proofs.Common.{subst, arith}
 use Rattle.std.specs.Prelude.{Contains, if◌then◌else◌, slice_get, unwrap_or}
 use Rattle.std.specs.List.{list_all, list_any}
 use Rattle.std.specs.Option.{option_map}
@@ -25,13 +27,15 @@ use Rattle.au_matching.specs.Substituted.{substituted}
 use Rattle.au_type_texts.specs.Types.{ClosedType, truth}
 use Rattle.au_modules.specs.Accepted.{IsOwn, IsProgram}
 use Rattle.au_modules.specs.Accepted as files
-use Rattle.au_modules.specs.Programs.{Entry, ModuleParts, first_shipped, is_interface, is_shipped, module_of, shipped_module}
+use Rattle.au_modules.specs.Programs.{Entry, ModuleParts, first_shipped, is_interface, is_shipped, module_of}
+use Rattle.au_modules.specs.Programs.{shipped_module}
 use Rattle.au_names.specs.declared.targets.Target.{Target}
 use Rattle.au_names.specs.HeadsOf.{heads_of}
 use Rattle.au_names.specs.Owned.{declarations_in}
 use Rattle.au_names.specs.Standing.{Standing, standing_at}
 use Rattle.au_names.proofs.AmongLemmas.{Among, contains}
-use Rattle.au_unbuilt.specs.Names.{built_calls, has_shipped, is_built, is_shipped_at, is_shipped_file, is_unbuilt_target}
+use Rattle.au_unbuilt.specs.Names.{built_calls, has_shipped, is_built, is_shipped_at, is_shipped_file}
+use Rattle.au_unbuilt.specs.Names.{is_unbuilt_target}
 use Rattle.au_unbuilt.specs.Unbuilt.{unbuilt_of, unbuilt_places}
 use Rattle.au_unbuilt.proofs.OrderLemmas.{none_is_none}
 use Rattle.au_instances.specs.ClosedInstances.{ClosedInstance, by_row, closed_row}
@@ -52,7 +56,9 @@ use Rattle.au_closed_trees.specs.ClosedNotes.{shipped}
 use Rattle.au_type_texts.specs.Given.{Given, closed_under, given_by}
 use Rattle.au_closing.specs.Bodies.{BodyOf, body_of}
 use Rattle.au_closing.specs.Instances.{Instance}
-use Rattle.au_closing.specs.Leading.{Called, a_function, a_maker, a_method, at_truth, at_type, call_leads, called_leads, called_of, called_standing, kind_of, method_by_row, method_leads, module_name, shipped_or, target_leads}
+use Rattle.au_closing.specs.Leading.{Called, a_function, a_maker, a_method, at_truth, at_type, call_leads}
+use Rattle.au_closing.specs.Leading.{called_leads, called_of, called_standing, kind_of, method_by_row}
+use Rattle.au_closing.specs.Leading.{method_leads, module_name, shipped_or, target_leads}
 use Rattle.au_closing_laws.specs.Gathered.{IsGathered, entry_of}
 use Rattle.au_closing_laws.specs.Targets.{Call, calls_listed}
 use Rattle.au_closing_laws.proofs.AcceptedLemmas.{accepted_whole}
@@ -79,12 +85,15 @@ built_are_plain : (of : Option IntKind) → list_all (plain_in (calls of)) built
 built_are_plain None = refl
 built_are_plain (Some kind) = refl
 
-module_plain : (modules : List (Bytes × List (Bytes × ShippedCall))) (home name : Bytes) → plain_in modules name ≡ true → plain_if (call_in (found modules home) name) ≡ true
+module_plain : (modules : List (Bytes × List (Bytes × ShippedCall))) (home name : Bytes) →
+    plain_in modules name ≡ true → plain_if (call_in (found modules home) name) ≡ true
 module_plain [] home name h = refl
 module_plain (row ∷ modules) home name h =
-    by (bytes_eq row.0 home) (module_plain modules home name (and_parts (plain_if (found row.1 name)) (plain_in modules name) h).1)
+    by (bytes_eq row.0 home) (module_plain modules home name
+    (and_parts (plain_if (found row.1 name)) (plain_in modules name) h).1)
   where
-    by : (b : Bool) → plain_if (call_in (found modules home) name) ≡ true → plain_if (call_in (if b then Some row.1 else found modules home) name) ≡ true
+    by : (b : Bool) → plain_if (call_in (found modules home) name) ≡ true →
+        plain_if (call_in (if b then Some row.1 else found modules home) name) ≡ true
     by true rest = (and_parts (plain_if (found row.1 name)) (plain_in modules name) h).0
     by false rest = rest
 
@@ -92,16 +101,20 @@ any_among : (name : Bytes) (names : List Bytes) → list_any (bytes_eq name) nam
 any_among name [] h = cc
 any_among name (other ∷ names) h = by (bytes_eq name other) refl h (any_among name names)
   where
-    by : (b : Bool) → bytes_eq name other ≡ b → (b || list_any (bytes_eq name) names) ≡ true → (list_any (bytes_eq name) names ≡ true → Among name names) → Among name (other ∷ names)
+    by : (b : Bool) → bytes_eq name other ≡ b → (b || list_any (bytes_eq name) names) ≡ true →
+        (list_any (bytes_eq name) names ≡ true → Among name names) → Among name (other ∷ names)
     by true is h later = inl (sym ((bytes_eq-Decides name other).0 is))
     by false is h later = inr (later h)
 
 -- the shipped call of a name that is built is plain
-built_plain : (home name : Bytes) (of : Option IntKind) (call : ShippedCall) → is_built name ≡ true → prim_of home name of ≡ Some call → is_plain call ≡ true
+built_plain : (home name : Bytes) (of : Option IntKind) (call : ShippedCall) → is_built name ≡ true →
+    prim_of home name of ≡ Some call → is_plain call ≡ true
 unfolding is_built
 built_plain home name of call built is =
     sym (ap plain_if is)
-    ∙ module_plain (calls of) home name (all_among (plain_in (calls of)) name built_calls (built_are_plain of) (any_among name built_calls built))
+    ∙ module_plain (calls of) home name
+    (all_among (plain_in (calls of)) name built_calls (built_are_plain of)
+    (any_among name built_calls built))
 
 truth_plain : (call : ShippedCall) → is_plain call ≡ true → is_plain (at_truth call) ≡ true
 truth_plain prim.PrintText e = refl
@@ -115,7 +128,8 @@ type_plain other call e = e
 
 -- ---- what leads to a shipped call
 
-leads_shipped : (o : Option ShippedCall) (one : Instance) (call : ShippedCall) → shipped_or o one ≡ shipped call → o ≡ Some call
+leads_shipped : (o : Option ShippedCall) (one : Instance) (call : ShippedCall) →
+    shipped_or o one ≡ shipped call → o ≡ Some call
 leads_shipped None one call e = absurd cc
 leads_shipped (Some other) one call e = let same : other ≡ call = cc in ap Some same
 
@@ -126,29 +140,36 @@ at_among [] x m = absurd m
 at_among (y ∷ xs) x (inl here) = (0, ap Some here)
 at_among (y ∷ xs) x (inr later) = let its = at_among xs x later in (suc its.0, its.1)
 
-found_name : {A : Type 0} (name : Bytes) (modules : List (Bytes × A)) (one : A) → found modules name ≡ Some one → Among name (map (λ (row : Bytes × A). row.0) modules)
+found_name : {A : Type 0} (name : Bytes) (modules : List (Bytes × A)) (one : A) → found modules name
+    ≡ Some one → Among name (map (λ (row : Bytes × A). row.0) modules)
 found_name name [] one e = absurd (none-some one e)
 found_name {A} name (row ∷ modules) one e = by (bytes_eq row.0 name) refl e (found_name name modules one)
   where
-    by : (b : Bool) → bytes_eq row.0 name ≡ b → (if b then Some row.1 else found modules name) ≡ Some one → (found modules name ≡ Some one → Among name (map (λ (x : Bytes × A). x.0) modules))
+    by : (b : Bool) → bytes_eq row.0 name ≡ b → (if b then Some row.1 else found modules name) ≡ Some one →
+        (found modules name ≡ Some one → Among name (map (λ (x : Bytes × A). x.0) modules))
         → Among name (map (λ (x : Bytes × A). x.0) (row ∷ modules))
     by true is e later = inl ((bytes_eq-Decides row.0 name).0 is)
     by false is e later = inr (later e)
 
 -- the modules of shipped calls are those that are shipped
-homes_are : (of : Option IntKind) → map (λ (row : Bytes × List (Bytes × ShippedCall)). row.0) (calls of) ≡ map files.module_name (map entry_of shipped_files)
+homes_are : (of : Option IntKind) → map (λ (row : Bytes × List (Bytes × ShippedCall)). row.0) (calls of)
+    ≡ map files.module_name (map entry_of shipped_files)
 homes_are of = refl
 
 -- a module that has a shipped call has the name of a shipped file
-home_known : (home name : Bytes) (of : Option IntKind) (call : ShippedCall) → prim_of home name of ≡ Some call → (e : Entry) × Among e (map entry_of shipped_files) × (home ≡ files.module_name e)
+home_known : (home name : Bytes) (of : Option IntKind) (call : ShippedCall) → prim_of home name of
+    ≡ Some call → (e : Entry) × Among e (map entry_of shipped_files) × (home ≡ files.module_name e)
 home_known home name of call is = by (found (calls of) home) refl is
   where
-    by : (o : Option (List (Bytes × ShippedCall))) → found (calls of) home ≡ o → call_in o name ≡ Some call → (e : Entry) × Among e (map entry_of shipped_files) × (home ≡ files.module_name e)
+    by : (o : Option (List (Bytes × ShippedCall))) → found (calls of) home ≡ o → call_in o name ≡ Some call →
+        (e : Entry) × Among e (map entry_of shipped_files) × (home ≡ files.module_name e)
     by None e is = absurd (none-some call is)
     by (Some table) e is =
-        among_map files.module_name home (map entry_of shipped_files) (subst (Among home) (homes_are of) (found_name home (calls of) table e))
+        among_map files.module_name home (map entry_of shipped_files)
+        (subst (Among home) (homes_are of) (found_name home (calls of) table e))
 
-module _ (program : List ModuleParts) (is : IsGathered program) (whole : IsProgram (map entry_of shipped_files ++ is.own)) where
+module _ (program : List ModuleParts) (is : IsGathered program)
+    (whole : IsProgram (map entry_of shipped_files ++ is.own)) where
   abbrev ships_here : List Entry
   ships_here = map entry_of shipped_files
 
@@ -159,7 +180,8 @@ module _ (program : List ModuleParts) (is : IsGathered program) (whole : IsProgr
       let late = at_among is.own x b in
       let inside : early.0 < length ships_here = slice_get_within ships_here early.0 e early.1 in
       let once = whole.once early.0 (length ships_here + late.0) e x (before early.0 (length ships_here) late.0 inside)
-      (get_left ships_here is.own early.0 e early.1) (get_right ships_here is.own late.0 ∙ late.1) (is.parsed x (contains is.own x b)).own same in
+      (get_left ships_here is.own early.0 e early.1) (get_right ships_here is.own late.0 ∙ late.1)
+      (is.parsed x (contains is.own x b)).own same in
       true≢false (sym (ships e a) ∙ not_shipped e once.0)
     where
       before : (i n j : ℕ) → i < n → i < n + j
@@ -169,11 +191,14 @@ module _ (program : List ModuleParts) (is : IsGathered program) (whole : IsProgr
       not_shipped y own = lt-leb first_shipped y.file own
 
   -- a module of which a shipped call is known is that of a shipped file
-  pub is_ships : (m : ModuleParts) (place : ℕ) → slice_get program place ≡ Some m → (name : Bytes) (of : Option IntKind) (call : ShippedCall) → prim_of m.name name of ≡ Some call
+  pub is_ships : (m : ModuleParts) (place : ℕ) → slice_get program place ≡ Some m →
+      (name : Bytes) (of : Option IntKind) (call : ShippedCall) → prim_of m.name name of ≡ Some call
       → (x : Entry) × Among x ships_here × (m ≡ shipped_module x)
   is_ships m place there name of call known = by (module_is program is m place there)
     where
-      by : ((x : Entry) × Among x ships_here × (m ≡ shipped_module x)) ⊎ ((x : Entry) × Among x is.own × (is_interface x.tree.part ≡ false) × (m ≡ module_of (ships_here ++ is.own) x))
+      by : ((x : Entry) × Among x ships_here × (m ≡ shipped_module x))
+          ⊎ ((x : Entry) × Among x is.own × (is_interface x.tree.part ≡ false)
+          × (m ≡ module_of (ships_here ++ is.own) x))
           → (x : Entry) × Among x ships_here × (m ≡ shipped_module x)
       by (inl here) = here
       by (inr (x, b, isnt, same)) =
@@ -181,107 +206,147 @@ module _ (program : List ModuleParts) (is : IsGathered program) (whole : IsProgr
           absurd (other_name its.0 x its.1 b (sym its.2 ∙ ap (λ (y : ModuleParts). y.name) same))
 
   -- and so it is shipped
-  place_ships : (place : ℕ) (name : Bytes) (of : Option IntKind) (call : ShippedCall) → prim_of (module_name program place) name of ≡ Some call → is_shipped_at program place ≡ true
+  place_ships : (place : ℕ) (name : Bytes) (of : Option IntKind) (call : ShippedCall) →
+      prim_of (module_name program place) name of ≡ Some call → is_shipped_at program place ≡ true
   unfolding is_shipped_at
   place_ships place name of call known = by (slice_get program place) refl
     where
       by : (o : Option ModuleParts) → slice_get program place ≡ o → has_shipped (slice_get program place) ≡ true
       by None there =
-          let nothing : prim_of [] name of ≡ Some call = sym (ap (λ (o : Option ModuleParts). prim_of (unwrap_or (option_map (λ (m : ModuleParts). m.name) o) []) name of) there) ∙ known in
+          let nothing : prim_of [] name of ≡ Some call =
+          sym (ap (λ (o : Option ModuleParts). prim_of
+          (unwrap_or (option_map (λ (m : ModuleParts). m.name) o) []) name of) there) ∙ known in
           absurd (none-some call nothing)
       by (Some m) there =
-          let its = is_ships m place there name of call (ap (λ home. prim_of home name of) (sym (name_there program place m there)) ∙ known) in
+          let its = is_ships m place there name of call
+          (ap (λ home. prim_of home name of) (sym (name_there program place m there)) ∙ known) in
           ap has_shipped there ∙ ap (λ (y : ModuleParts). is_shipped_file y.interface) its.2 ∙ ships its.0 its.1
 
   -- ---- classes
 
   -- the class of a row whose module has a shipped call is of that module
-  row_here : (at : DeclAt) (t : ClosedType) (row : Row) → ClosedInstance (rows_of program) (heads_of program) at t row → (name : Bytes) (of : Option IntKind) (call : ShippedCall)
+  row_here : (at : DeclAt) (t : ClosedType) (row : Row) → ClosedInstance (rows_of program) (heads_of program)
+      at t row → (name : Bytes) (of : Option IntKind) (call : ShippedCall)
       → prim_of (module_name program row.instance.«module») name of ≡ Some call → at.«module» ≡ row.instance.«module»
   row_here at t row (by_row its_class u one s there of_class becomes held) name of call known =
       let read = read_of program (instances_of program) row there in
       let its = row_read program read.0 row read.2 in
       let stands = text_stands program read.0 read.1 in
       let place = ap (λ (x : DeclAt). x.«module») its.2.number in
-      let home = sym (name_there program read.0.number.«module» stands.0 stands.1) ∙ ap (module_name program) (sym place) in
-      let ships_it = is_ships stands.0 read.0.number.«module» stands.1 name of call (ap (λ h. prim_of h name of) home ∙ known) in
+      let home = sym (name_there program read.0.number.«module» stands.0 stands.1)
+      ∙ ap (module_name program) (sym place) in
+      let ships_it = is_ships stands.0 read.0.number.«module» stands.1 name of call
+      (ap (λ h. prim_of h name of) home ∙ known) in
       ap (λ (x : DeclAt). x.«module») (sym of_class)
       ∙ by read.0 its.0 its.1 stands.0 stands.1 (ap (λ (y : ModuleParts). y.body) ships_it.2) its.2 stands.2
       ∙ sym place
     where
-      by : (txt : InstanceText) (names : List (Bytes × DeclAt)) → visible_at program txt.number.«module» txt.part ≡ Some names → (m : ModuleParts) → slice_get program txt.number.«module» ≡ Some m → m.body ≡ None
-          → Says txt names (heads_of program) row → IsPromised program m txt ⊎ IsDefined m txt → row.class.«module» ≡ txt.number.«module»
+      by : (txt : InstanceText) (names : List (Bytes × DeclAt)) → visible_at program txt.number.«module»
+          txt.part ≡ Some names → (m : ModuleParts) → slice_get program txt.number.«module» ≡ Some m →
+          m.body ≡ None
+          → Says txt names (heads_of program) row → IsPromised program m txt ⊎ IsDefined m txt →
+          row.class.«module» ≡ txt.number.«module»
       by txt names sees m there none says (inl its) =
-          class_is_here program is txt.number.«module» m there none txt.number.decl its.at txt.generics txt.name txt.of its.stands names
-          (subst (λ part. visible_at program txt.number.«module» part ≡ Some names) its.part sees) (heads_of program) row.class says.class
+          class_is_here program is txt.number.«module» m there none txt.number.decl its.at txt.generics
+          txt.name txt.of its.stands names
+          (subst (λ part. visible_at program txt.number.«module» part ≡ Some names) its.part sees)
+          (heads_of program) row.class says.class
       by txt names sees m there none says (inr its) =
-          absurd (none-some (instance_body its.at txt.generics txt.name txt.of its.written) (sym (ap (λ o. slice_get (declarations_in o) its.index) none) ∙ its.stands))
+          absurd (none-some (instance_body its.at txt.generics txt.name txt.of its.written)
+          (sym (ap (λ o. slice_get (declarations_in o) its.index) none) ∙ its.stands))
 
   -- ---- what a call leads to
 
   module _ (table : IsTable (rows_of program)) where
     -- a name that isn't one of what isn't built, where its module is shipped
-    name_built : (target : Target) → is_unbuilt_target program (Some target) ≡ false → is_shipped_at program target.at.«module» ≡ true → is_built target.name ≡ true
+    name_built : (target : Target) → is_unbuilt_target program (Some target) ≡ false →
+        is_shipped_at program target.at.«module» ≡ true → is_built target.name ≡ true
     name_built target e here = by (is_built target.name) (sym (ap (λ b. b && not (is_built target.name)) here) ∙ e)
       where
         by : (b : Bool) → (true && not b) ≡ false → b ≡ true
         by true e = refl
         by false e = cc
 
-    module _ (given : Given) (note : Note) (target : Target) (built : is_unbuilt_target program (Some target) ≡ false) (call : ShippedCall) where
-      function_plain : (name : Bytes) → name ≡ target.name → (one : Instance) → shipped_or (prim_of (module_name program target.at.«module») name None) one ≡ shipped call → is_plain call ≡ true
+    module _ (given : Given) (note : Note) (target : Target)
+        (built : is_unbuilt_target program (Some target) ≡ false) (call : ShippedCall) where
+      function_plain : (name : Bytes) → name ≡ target.name → (one : Instance) →
+          shipped_or (prim_of (module_name program target.at.«module») name None) one ≡ shipped call →
+          is_plain call ≡ true
       function_plain name same one e =
           let known = leads_shipped (prim_of (module_name program target.at.«module») name None) one call e in
           let here = place_ships target.at.«module» name None call known in
-          built_plain (module_name program target.at.«module») name None call (ap is_built same ∙ name_built target built here) known
+          built_plain (module_name program target.at.«module») name None call
+          (ap is_built same ∙ name_built target built here) known
 
-      row_plain : (name : Bytes) → name ≡ target.name → (t : ClosedType) (row : Row) → closed_row (rows_of program) (heads_of program) t target.at ≡ Some row → method_by_row program name t row ≡ shipped call
+      row_plain : (name : Bytes) → name ≡ target.name → (t : ClosedType) (row : Row) →
+          closed_row (rows_of program) (heads_of program) t target.at ≡ Some row →
+          method_by_row program name t row ≡ shipped call
           → is_plain call ≡ true
       row_plain name same t row is_row e =
           let home = module_name program row.instance.«module» in
-          let its = mapped (at_type t) (prim_of home name (kind_of t)) call (leads_shipped (option_map (at_type t) (prim_of home name (kind_of t))) _ call e) in
-          let of_class = row_here target.at t row (closed_row_gave (rows_of program) (heads_of program) table target.at t row is_row) name (kind_of t) its.0 its.1 in
-          let here = ap (is_shipped_at program) of_class ∙ place_ships row.instance.«module» name (kind_of t) its.0 its.1 in
+          let its = mapped (at_type t) (prim_of home name (kind_of t)) call
+          (leads_shipped (option_map (at_type t) (prim_of home name (kind_of t))) _ call e) in
+          let of_class = row_here target.at t row
+          (closed_row_gave (rows_of program) (heads_of program) table target.at t row is_row) name
+          (kind_of t) its.0 its.1 in
+          let here = ap (is_shipped_at program) of_class ∙ place_ships row.instance.«module» name (kind_of t)
+          its.0 its.1 in
           let plain = built_plain home name (kind_of t) its.0 (ap is_built same ∙ name_built target built here) its.1 in
           subst (λ c. is_plain c ≡ true) its.2 (type_plain t its.0 plain)
 
-      method_plain : (name : Bytes) → name ≡ target.name → (t : ClosedType) (o : Option Row) → closed_row (rows_of program) (heads_of program) t target.at ≡ o
+      method_plain : (name : Bytes) → name ≡ target.name → (t : ClosedType) (o : Option Row) →
+          closed_row (rows_of program) (heads_of program) t target.at ≡ o
           → method_leads program (rows_of program) name t o ≡ shipped call → is_plain call ≡ true
       method_plain name same t None is_row e = absurd cc
       method_plain name same t (Some row) is_row e = row_plain name same t row is_row e
 
-      called_plain : (o : Option Called) → ((c : Called) → o ≡ Some c → name_in c target.name ≡ target.name) → called_leads program (rows_of program) given note target o ≡ shipped call → is_plain call ≡ true
+      called_plain : (o : Option Called) → ((c : Called) → o ≡ Some c → name_in c target.name ≡ target.name) →
+          called_leads program (rows_of program) given note target o ≡ shipped call → is_plain call ≡ true
       called_plain None has_name e = absurd cc
       called_plain (Some (a_function name names)) has_name e =
-          function_plain name (has_name (a_function name names) refl) (record { of = target; given = given_by given (unwrap_or note.call []) names }) e
+          function_plain name (has_name (a_function name names) refl)
+          (record { of = target; given = given_by given (unwrap_or note.call []) names }) e
       called_plain (Some (a_method name param)) has_name e =
           let t = closed_under given (substituted (unwrap_or note.call []) (parameter param)) in
-          method_plain name (has_name (a_method name param) refl) t (closed_row (rows_of program) (heads_of program) t target.at) refl e
+          method_plain name (has_name (a_method name param) refl) t
+          (closed_row (rows_of program) (heads_of program) t target.at) refl e
       called_plain (Some (a_maker place)) has_name e = absurd cc
 
-      standing_plain : IsNamed program target → (o : Option Standing) → standing_at program target.at ≡ o → called_leads program (rows_of program) given note target (called_standing target.name o) ≡ shipped call
+      standing_plain : IsNamed program target → (o : Option Standing) → standing_at program target.at ≡ o →
+          called_leads program (rows_of program) given note target (called_standing target.name o)
+          ≡ shipped call
           → is_plain call ≡ true
       standing_plain has_name None there e = absurd cc
-      standing_plain has_name (Some d) there e = called_plain (called_of target.name d.says) (λ c is_called. called_named target.name d.says c is_called (has_name d there)) e
+      standing_plain has_name (Some d) there e = called_plain (called_of target.name d.says)
+          (λ c is_called. called_named target.name d.says c is_called (has_name d there)) e
 
     -- what a call of a name leads to that means nothing that isn't built is plain, if it is shipped
-    pub leads_plain : (place : ℕ) (given : Given) (note : Note) (name : Bytes) → is_unbuilt_target program (tables.find name (seen_at Callables program place Body)) ≡ false
+    pub leads_plain : (place : ℕ) (given : Given) (note : Note) (name : Bytes) →
+        is_unbuilt_target program (tables.find name (seen_at Callables program place Body)) ≡ false
         → (call : ShippedCall) → call_leads program place given note name ≡ shipped call → is_plain call ≡ true
-    leads_plain place given note name built call e = by (tables.find name (seen_at Callables program place Body)) refl built e
+    leads_plain place given note name built call e =
+        by (tables.find name (seen_at Callables program place Body)) refl built e
       where
-        by : (o : Option Target) → tables.find name (seen_at Callables program place Body) ≡ o → is_unbuilt_target program o ≡ false → target_leads program (rows_of program) given note o ≡ shipped call → is_plain call ≡ true
+        by : (o : Option Target) → tables.find name (seen_at Callables program place Body) ≡ o →
+            is_unbuilt_target program o ≡ false → target_leads program (rows_of program) given note o
+            ≡ shipped call → is_plain call ≡ true
         by None means built e = absurd cc
         by (Some target) means built e =
-            standing_plain given note target built call (seen_named program place Body name target means) (standing_at program target.at) refl e
+            standing_plain given note target built call (seen_named program place Body name target means)
+            (standing_at program target.at) refl e
 
 -- ---- accepted programs
 
 -- the calls of an accepted program of which no place holds what isn't built
-pub accepted_plain : (files_there : Files) (names all : List (List ℕ)) (read : List ReadFile) → AreAcceptedAs files_there names all read → unbuilt_of (program_modules read) ≡ None
-    → (noted : List NotedParts) → IsDerived (program_modules read) noted → (target : Target) (body : BodyOf) → body_of (program_modules read) noted target ≡ Some body
-    → (call : Call) → Contains (calls_listed body.block) call → (given : Given) (to : ShippedCall) → call_leads (program_modules read) body.place given call.0 call.1 ≡ shipped to → is_plain to ≡ true
+pub accepted_plain : (files_there : Files) (names all : List (List ℕ)) (read : List ReadFile) →
+    AreAcceptedAs files_there names all read → unbuilt_of (program_modules read) ≡ None
+    → (noted : List NotedParts) → IsDerived (program_modules read) noted → (target : Target) (body : BodyOf) →
+    body_of (program_modules read) noted target ≡ Some body
+    → (call : Call) → Contains (calls_listed body.block) call → (given : Given) (to : ShippedCall) →
+    call_leads (program_modules read) body.place given call.0 call.1 ≡ shipped to → is_plain to ≡ true
 accepted_plain files_there names all read accepted none noted derived target body there call listed given to leads =
     let program = program_modules read in
     let whole = accepted_whole files_there names all read accepted in
     leads_plain program whole.0 whole.1 (good_table program accepted.instances) body.place given call.0 call.1
-    (calls_built program noted derived.erased whole.0 (none_is_none (unbuilt_places program) none) target body there call listed) to leads
+    (calls_built program noted derived.erased whole.0 (none_is_none (unbuilt_places program) none) target body
+    there call listed) to leads

@@ -42,46 +42,75 @@ abbrev kept : {A : Type 0} → Noting A → Option A
 kept (Ok x) = Some x
 kept (Err why) = None
 
-then_ok : {A B : Type 0} (o : Noting A) (f : A → Noting B) (y : B) → (o >>= f) ≡ Ok y → (x : A) × (o ≡ Ok x) × (f x ≡ Ok y)
+then_ok : {A B : Type 0} (o : Noting A) (f : A → Noting B) (y : B) → (o >>= f) ≡ Ok y → (x : A) × (o ≡ Ok x)
+    × (f x ≡ Ok y)
 then_ok (Ok x) f y e = (x, refl, e)
 then_ok (Err why) f y e = absurd (none-some y (ap kept e))
 
 module _ (outside : Outside) (generics : List Bounded) (known : OutsideStands outside) where
   outer_stands : ScopeStands outside generics known (outer_scope outside generics)
   unfolding is_formed
-  outer_stands = record { of_outside = refl; of_generics = refl; variables = λ name v e. absurd (none-some v e); result = refl }
+  outer_stands = record {
+    of_outside = refl;
+    of_generics = refl;
+    variables =
+        λ name v e. absurd (none-some v e);
+    result = refl;
+  }
 
-  parameters_stand : (ps : List (Labelled Bytes)) (sc scope : Scope) → ScopeStands outside generics known sc → with_parameters ps sc ≡ Ok scope → ScopeStands outside generics known scope
-  parameters_stand [] sc scope stands e = subst (ScopeStands outside generics known) (same_Some sc scope (ap kept e)) stands
+  parameters_stand : (ps : List (Labelled Bytes)) (sc scope : Scope) → ScopeStands outside generics known sc →
+      with_parameters ps sc ≡ Ok scope → ScopeStands outside generics known scope
+  parameters_stand [] sc scope stands e = subst (ScopeStands outside generics known)
+      (same_Some sc scope (ap kept e)) stands
   parameters_stand (p ∷ rest) sc scope stands e =
-      let its = then_ok (written_type sc p.of) (λ of. with_parameters rest (with_variable (fixed_variable p.name.name of) sc)) scope e in
+      let its = then_ok (written_type sc p.of)
+      (λ of. with_parameters rest (with_variable (fixed_variable p.name.name of) sc)) scope e in
       parameters_stand rest (with_variable (fixed_variable p.name.name its.0) sc) scope
-      (variable_added outside generics known (fixed_variable p.name.name its.0) sc stands (written_stands outside generics known sc stands p.of its.0 its.1)) its.2
+      (variable_added outside generics known (fixed_variable p.name.name its.0) sc stands
+      (written_stands outside generics known sc stands p.of its.0 its.1)) its.2
 
-  result_stands : (t : WrittenType) (sc scope : Scope) → ScopeStands outside generics known sc → with_result t sc ≡ Ok scope → ScopeStands outside generics known scope
+  result_stands : (t : WrittenType) (sc scope : Scope) → ScopeStands outside generics known sc →
+      with_result t sc ≡ Ok scope → ScopeStands outside generics known scope
   result_stands t sc scope stands e =
       let its = then_ok (written_type sc t) (λ of. Ok (record sc { result = of })) scope e in
       subst (ScopeStands outside generics known) (same_Some (record sc { result = its.0 }) scope (ap kept its.2))
-      (record { of_outside = stands.of_outside; of_generics = stands.of_generics; variables = stands.variables; result = written_stands outside generics known sc stands t its.0 its.1 })
+      (record {
+        of_outside = stands.of_outside;
+        of_generics = stands.of_generics;
+        variables =
+            stands.variables;
+        result = written_stands outside generics known sc stands t its.0 its.1;
+      })
 
 -- what a good body has in scope stands
-body_stands : (outside : Outside) (generics : List (Constrained Bytes)) (header : Header Bytes) (known : OutsideStands outside) (scope : Scope) → body_scope outside generics header ≡ Ok scope
+body_stands : (outside : Outside) (generics : List (Constrained Bytes)) (header : Header Bytes)
+    (known : OutsideStands outside) (scope : Scope) → body_scope outside generics header ≡ Ok scope
     → ScopeStands outside (generics_in outside generics) known scope
 body_stands outside generics header known scope e =
-    let its = then_ok (with_parameters header.parameters (outer_scope outside (generics_in outside generics))) (λ sc. with_result header.result sc) scope e in
+    let its = then_ok (with_parameters header.parameters (outer_scope outside (generics_in outside generics)))
+    (λ sc. with_result header.result sc) scope e in
     result_stands outside (generics_in outside generics) known header.result its.0 scope
-    (parameters_stand outside (generics_in outside generics) known header.parameters (outer_scope outside (generics_in outside generics)) its.0 (outer_stands outside (generics_in outside generics) known) its.1) its.2
+    (parameters_stand outside (generics_in outside generics) known header.parameters
+    (outer_scope outside (generics_in outside generics)) its.0
+    (outer_stands outside (generics_in outside generics) known) its.1) its.2
 
 -- ---- programs
 
-pub put_types_stand : (program : List ModuleParts) (noted : List NotedParts) → IsDerived program noted → AllDeclarationsAreGood program → ((place : ℕ) → OutsideStands (outside_of program place Body)) → PutTypesStand program noted
+pub put_types_stand : (program : List ModuleParts) (noted : List NotedParts) → IsDerived program noted →
+    AllDeclarationsAreGood program → ((place : ℕ) → OutsideStands (outside_of program place Body)) →
+    PutTypesStand program noted
 put_types_stand program noted derived declared known target body there call listed one p universe is =
     let outside = outside_at program body in
     let generics = generics_in outside body.generics in
-    let good = good_standing (outside_of program) noted derived.good program target.name (standing_at program target.at) body there in
-    let fine = in_block outside generics (known body.place) body.block good.scope (body_stands outside body.generics body.header (known body.place) good.scope good.formed) good.good call listed in
+    let good = good_standing (outside_of program) noted derived.good program target.name
+    (standing_at program target.at) body there in
+    let fine = in_block outside generics (known body.place) body.block good.scope
+    (body_stands outside body.generics body.header (known body.place) good.scope good.formed) good.good call
+    listed in
     let gives = stands_for one.scope call.0 call.1 one.takes one.args one.good p universe is.declared is.is_type in
     let noted_so = ap (λ (n : Note). unwrap_or n.call []) one.good.is_noted in
     let value = ap (value_of p) noted_so ∙ gives.1 in
-    subst (λ bs. StandsOver (heads_of program) (parameters bs) (put_for call.0 p)) (sym (bounds_meant program noted declared derived target body there))
-    (subst (StandsOver (heads_of program) (parameters generics)) (sym (ap (λ o. type_for o p) value)) (fine p (of_type gives.0) value))
+    subst (λ bs. StandsOver (heads_of program) (parameters bs) (put_for call.0 p))
+    (sym (bounds_meant program noted declared derived target body there))
+    (subst (StandsOver (heads_of program) (parameters generics)) (sym (ap (λ o. type_for o p) value))
+    (fine p (of_type gives.0) value))

@@ -1,5 +1,6 @@
 -- What calls and rows give for type parameters.
-use Rattle.std.proofs.Common.{◌≡◌, ◌⊎◌, inl, inr, ◌||◌, Bool, true, false, cond, List, [], ◌∷◌, Option, None, Some, map, refl, sym, ap, subst, ◌∙◌, true≢false, arith}
+use Rattle.std.proofs.Common.{◌≡◌, ◌⊎◌, inl, inr, ◌||◌, Bool, true, false, cond, List, [], ◌∷◌, Option, None}
+use Rattle.std.proofs.Common.{Some, map, refl, sym, ap, subst, ◌∙◌, true≢false, arith}
 use Rattle.std.specs.Prelude.{Contains, if◌then◌else◌}
 use Rattle.std.specs.List.{list_any}
 use Rattle.std.specs.Map.{lookup}
@@ -20,11 +21,14 @@ use Rattle.au_types.specs.Universes.{universe_in}
 use Rattle.au_matching.specs.Bindings.{Bindings}
 use Rattle.au_matching.specs.Substituted.{substituted}
 use Rattle.au_matching.specs.Forming.{wants_region}
-use Rattle.au_type_texts.specs.Types.{ClosedType, ClosedTypes, unit, truth, integer, text, named, reads, writes, no_types, types}
+use Rattle.au_type_texts.specs.Types.{ClosedType, ClosedTypes, unit, truth, integer, text, named, reads}
+use Rattle.au_type_texts.specs.Types.{writes, no_types, types}
 use Rattle.au_judged_types.specs.Bounds.{Bounded, parameters}
-use Rattle.au_instances.specs.ClosedInstances.{ClosedInstance, by_row, all_closed_stand, closed_stands, gives, part_of, parts_in, parts_of, types_in}
+use Rattle.au_instances.specs.ClosedInstances.{ClosedInstance, by_row, all_closed_stand, closed_stands, gives}
+use Rattle.au_instances.specs.ClosedInstances.{part_of, parts_in, parts_of, types_in}
 use Rattle.au_instances.specs.Constructors.{closed_constructor}
-use Rattle.au_instances.specs.Forms.{HasForm, are_parameters, arguments_of, is_called, is_one_of, of_kind, region_name, stands_in, type_name}
+use Rattle.au_instances.specs.Forms.{HasForm, are_parameters, arguments_of, is_called, is_one_of, of_kind}
+use Rattle.au_instances.specs.Forms.{region_name, stands_in, type_name}
 use Rattle.au_instances.specs.Rows.{Row}
 use Rattle.au_instances.specs.Tables.{IsTable, row_with}
 use Rattle.au_instances.proofs.BecomingLemmas.{parameter_stands}
@@ -43,7 +47,8 @@ pub nothing_there : {A : Type 0} (x : A) → Contains [] x → ⊥
 nothing_there x c = omega arith
 
 -- a type parameter that isn't a region is named
-pub type_named : (params : List Parameter) (name : Bytes) (universe : Universe) → universe_in params name ≡ Some universe
+pub type_named : (params : List Parameter) (name : Bytes) (universe : Universe) → universe_in params name
+    ≡ Some universe
     → is_region universe ≡ false → Contains (type_names params) name
 type_named [] name universe e is = absurd cc
 type_named (p ∷ params) name universe e is =
@@ -82,7 +87,8 @@ given_found all s (first ∷ names) name c =
     found_next (λ n. closed_under all (substituted s (parameter n))) (given_by all s names) first name
     (by (given_found all s names name) (Contains-cases first names name c))
   where
-    by : (Contains names name → given_for (given_by all s names) name ≡ closed_under all (substituted s (parameter name)))
+    by : (Contains names name → given_for (given_by all s names) name ≡ closed_under all
+        (substituted s (parameter name)))
         → (first ≡ name) ⊎ Contains names name
         → (first ≡ name) ⊎ (given_for (given_by all s names) name ≡ closed_under all (substituted s (parameter name)))
     by later (inl same) = inl same
@@ -128,7 +134,8 @@ among params (arguments (in_region region) rest) name universe e is own stands =
     let parts = and_parts (is_one_of params (region_name region) (in_region region)) (are_parameters params rest) own in
     by region parts.0 (among params rest name universe e is parts.1) stands
   where
-    here : (other : Bytes) (b : Bool) → bytes_eq name other ≡ b → of_kind (universe_in params other) (in_region region) ≡ true
+    here : (other : Bytes) (b : Bool) → bytes_eq name other ≡ b →
+        of_kind (universe_in params other) (in_region region) ≡ true
         → (stands_in name rest ≡ true → list_any (λ t. is_called name (type_name t)) (types_in rest) ≡ true)
         → (b || stands_in name rest) ≡ true
         → list_any (λ t. is_called name (type_name t)) (types_in rest) ≡ true
@@ -196,7 +203,8 @@ module _ (rows : List Row) (heads : List (DeclAt × Head)) where
         by (Some other) stands later h = at other (bytes_eq name other) refl stands later h
 
   module _ (table : IsTable rows) where
-    is_listed : (class : DeclAt) (t : ClosedType) (row : Row) → ClosedInstance rows heads class t row → Contains rows row
+    is_listed : (class : DeclAt) (t : ClosedType) (row : Row) → ClosedInstance rows heads class t row →
+        Contains rows row
     is_listed class t row (by_row one u r s there of_class becomes held) = there
 
     -- what a row gives for a type parameter that isn't a region suits it
@@ -222,7 +230,8 @@ module _ (rows : List Row) (heads : List (DeclAt × Head)) where
             let params = parameters (first ∷ others) in
             let over = form_over first others row.head form in
             let args_are : arguments_of row.head ≡ over.args = ap arguments_of over.is in
-            let stands = parameter_stands heads [] params [] params (arguments_of row.head) name universe form.stand is.declared in
+            let stands = parameter_stands heads [] params [] params (arguments_of row.head) name universe
+            form.stand is.declared in
             let own = subst (λ args. are_parameters params args ≡ true) (sym args_are) over.own in
             pairs_suit (first ∷ others) name (types_in (arguments_of row.head)) (types_within t)
             (subst (λ parts. gives heads (first ∷ others) row.head t parts ≡ true) (parts_within t) e)

@@ -1,6 +1,7 @@
 -- What is given for the type parameters in scope as a substitution, by which what holds in a body holds of what
 -- its types close to.
-use Rattle.std.proofs.Common.{◌≡◌, ◌⊎◌, inl, inr, ◌&&◌, arith, Bool, true, false, cond, List, [], ◌∷◌, Option, None, Some, refl, sym, ap, subst, ◌∙◌, true≢false}
+use Rattle.std.proofs.Common.{◌≡◌, ◌⊎◌, inl, inr, ◌&&◌, arith, Bool, true, false, cond, List, [], ◌∷◌, Option}
+use Rattle.std.proofs.Common.{None, Some, refl, sym, ap, subst, ◌∙◌, true≢false}
 use Rattle.std.specs.Prelude.{is_some, unwrap_or, Contains}
 use Rattle.std.specs.List.{list_all}
 use Rattle.std.specs.Str.{bytes_eq}
@@ -17,7 +18,8 @@ use Rattle.au_types.specs.declared.types.Region.{Region}
 use Rattle.au_types.specs.declared.types.Region.TheVariants.{Static, Named, Anonymous}
 use Rattle.au_types.specs.Rows.{same_place}
 use Rattle.au_types.proofs.SameLemmas.{place_is}
-use Rattle.au_types.specs.Types.{Meaning, Argument, Arguments, unit, truth, integer, text, parameter, named, reads, writes, of_type, in_region, no_arguments, arguments}
+use Rattle.au_types.specs.Types.{Meaning, Argument, Arguments, unit, truth, integer, text, parameter, named}
+use Rattle.au_types.specs.Types.{reads, writes, of_type, in_region, no_arguments, arguments}
 use Rattle.au_types.specs.Universes.{universe_in}
 use Rattle.au_matching.specs.Bindings.{Bindings, value_of}
 use Rattle.au_matching.specs.Substituted.{substituted, type_for, EachNameOfAll, OfRegion}
@@ -31,7 +33,8 @@ use Rattle.au_matching.specs.Universes.{of_parameter, universe_of}
 use Rattle.au_type_texts.specs.Closing.{closed}
 use Rattle.au_type_texts.specs.Types.{ClosedType}
 use Rattle.au_judged_types.specs.Bounds.{Bounded, classes_of, constrains, is_among, parameters}
-use Rattle.au_instances.specs.ClosedInstances.{ClosedHolds, given, closed_row, closed_stands, closed_taken, closed_universe, has_instance, part_of}
+use Rattle.au_instances.specs.ClosedInstances.{ClosedHolds, given, closed_row, closed_stands, closed_taken}
+use Rattle.au_instances.specs.ClosedInstances.{closed_universe, has_instance, part_of}
 use Rattle.au_instances.specs.Instances.{Holds, Known, is_known}
 use Rattle.au_instances.specs.Laws.{ValuesMeet}
 use Rattle.au_instances.specs.Pairs.{constraints_of}
@@ -49,7 +52,8 @@ use Rattle.au_closing_laws.specs.Targets.{IsTypeOf}
 
 -- ---- tests of lists
 
-each_passes : (test : DeclAt → Bool) (classes : List DeclAt) (class : DeclAt) → Contains classes class → list_all test classes ≡ true → test class ≡ true
+each_passes : (test : DeclAt → Bool) (classes : List DeclAt) (class : DeclAt) → Contains classes class →
+    list_all test classes ≡ true → test class ≡ true
 each_passes test [] class c all = absurd (nothing c)
   where
     nothing : Contains [] class → ⊥
@@ -58,21 +62,25 @@ each_passes test (one ∷ rest) class c all =
     let both = and_parts (test one) (list_all test rest) all in
     by both.0 (λ h. each_passes test rest class h both.1) (Contains-cases one rest class c)
   where
-    by : test one ≡ true → (Contains rest class → test class ≡ true) → (one ≡ class) ⊎ Contains rest class → test class ≡ true
+    by : test one ≡ true → (Contains rest class → test class ≡ true) → (one ≡ class) ⊎ Contains rest class →
+        test class ≡ true
     by mine others (inl is) = subst (λ k. test k ≡ true) is mine
     by mine others (inr h) = others h
 
-all_pass : (test : DeclAt → Bool) (classes : List DeclAt) → ((class : DeclAt) → Contains classes class → test class ≡ true) → list_all test classes ≡ true
+all_pass : (test : DeclAt → Bool) (classes : List DeclAt) →
+    ((class : DeclAt) → Contains classes class → test class ≡ true) → list_all test classes ≡ true
 all_pass test [] each = refl
 all_pass test (one ∷ rest) each =
     and_from (test one) (list_all test rest) (each one (Contains-first one rest))
     (all_pass test rest (λ class c. each class (Contains-rest one rest class c)))
 
 -- a class that is known to constrain a name is listed so
-known_listed : (known : Known) (name : Bytes) (class : DeclAt) → is_known known name class ≡ true → Contains known (name, class)
+known_listed : (known : Known) (name : Bytes) (class : DeclAt) → is_known known name class ≡ true →
+    Contains known (name, class)
 known_listed [] name class e = absurd cc
 known_listed (one ∷ rest) name class e =
-    by (known_listed rest name class) (or_cases (bytes_eq name one.0 && same_place class one.1) (is_known rest name class) e)
+    by (known_listed rest name class)
+    (or_cases (bytes_eq name one.0 && same_place class one.1) (is_known rest name class) e)
   where
     by : (is_known rest name class ≡ true → Contains rest (name, class))
         → ((bytes_eq name one.0 && same_place class one.1) ≡ true) ⊎ (is_known rest name class ≡ true)
@@ -92,7 +100,8 @@ differ a b fails = by (bytes_eq b a) refl
     by false e = refl
 
 -- what takes a universe takes each that a type of it may have
-takes_after : (wanted : Universe) (u v : TypeUniverse) → may_be u v ≡ true → takes wanted u ≡ true → takes wanted v ≡ true
+takes_after : (wanted : Universe) (u v : TypeUniverse) → may_be u v ≡ true → takes wanted u ≡ true →
+    takes wanted v ≡ true
 takes_after universes.Free Free v may taken = may
 takes_after universes.Free Linear v may taken = absurd cc
 takes_after universes.Free AnyUniverse v may taken = absurd cc
@@ -144,14 +153,16 @@ module _ (all : Given) where
           ((bytes_eq-Decides name p.name).1 (sym same))
           ∙ (λ i. Some (stand_for (sort i) (same i)))
       by false is later e =
-          ap (λ b. cond b (Some (stand_for p.universe p.name)) (value_of name (bindings params))) (differ p.name name is)
+          ap (λ b. cond b (Some (stand_for p.universe p.name)) (value_of name (bindings params)))
+          (differ p.name name is)
           ∙ later e
 
   -- a type that stands for a name is the one that is given for a type parameter
   abbrev Found : List Parameter → Bytes → Meaning → Type 0
   Found params name v = (universe : Universe) × IsTypeOf params name universe × (opened (given_for all name) ≡ v)
 
-  type_found : (params : List Parameter) (name : Bytes) (v : Meaning) → value_of name (bindings params) ≡ Some (of_type v)
+  type_found : (params : List Parameter) (name : Bytes) (v : Meaning) → value_of name (bindings params)
+      ≡ Some (of_type v)
       → Found params name v
   type_found [] name v e = absurd cc
   type_found (p ∷ params) name v e = by (bytes_eq name p.name) refl (type_found params name v) e
@@ -181,7 +192,8 @@ module _ (all : Given) where
             found.0,
             record {
               declared =
-                  ap (λ b. cond b (Some p.universe) (universe_in params name)) (differ name p.name is) ∙ found.1.declared;
+                  ap (λ b. cond b (Some p.universe) (universe_in params name)) (differ name p.name is)
+                  ∙ found.1.declared;
               is_type = found.1.is_type;
             },
             found.2,
@@ -190,10 +202,12 @@ module _ (all : Given) where
 -- ---- a class that holds of a closed type is found to
 
 module _ (rows : List Row) (heads : List (DeclAt × Head)) (table : IsTable rows) where
-  holds_found : (class : DeclAt) (t : ClosedType) → ClosedHolds rows heads class t → has_instance rows heads t class ≡ true
+  holds_found : (class : DeclAt) (t : ClosedType) → ClosedHolds rows heads class t →
+      has_instance rows heads t class ≡ true
   holds_found class t (given one u row instance) = ap is_some (closed_row_there rows heads table one u row instance)
 
-  found_holds : (class : DeclAt) (t : ClosedType) → has_instance rows heads t class ≡ true → ClosedHolds rows heads class t
+  found_holds : (class : DeclAt) (t : ClosedType) → has_instance rows heads t class ≡ true →
+      ClosedHolds rows heads class t
   found_holds class t e = by (closed_row rows heads t class) refl e
     where
       by : (o : Option Row) → closed_row rows heads t class ≡ o → is_some o ≡ true → ClosedHolds rows heads class t
@@ -222,7 +236,8 @@ module _ (rows : List Row) (heads : List (DeclAt × Head)) (table : IsTable rows
 
     fit : BindingsFit heads scope [] s
     fit name universe e =
-        subst (λ o. fits heads [] universe (stand_in o universe name) ≡ true) (sym (value_found all scope name universe e))
+        subst (λ o. fits heads [] universe (stand_in o universe name) ≡ true)
+        (sym (value_found all scope name universe e))
         (by (is_region universe) refl)
       where
         by : (r : Bool) → is_region universe ≡ r
@@ -230,7 +245,8 @@ module _ (rows : List Row) (heads : List (DeclAt × Head)) (table : IsTable rows
         by true is = region_wanted universe is
         by false is =
             ap (takes universe)
-            (universe_closed heads [] (opened (given_for all name)) (given_for all name) (opened_closes (given_for all name)))
+            (universe_closed heads [] (opened (given_for all name)) (given_for all name)
+            (opened_closes (given_for all name)))
             ∙ (both name universe (record { declared = e; is_type = is })).0
 
     held : (name : Bytes) (wanted : DeclAt) (t : ClosedType) → constrains generics name wanted ≡ true
@@ -242,7 +258,8 @@ module _ (rows : List Row) (heads : List (DeclAt × Head)) (table : IsTable rows
             → list_all (has_instance rows heads t) (unwrap_or o []) ≡ true → ClosedHolds rows heads wanted t
         by None c every = absurd cc
         by (Some classes) c every =
-            found_holds wanted t (each_passes (has_instance rows heads t) classes wanted (in_classes wanted classes c) every)
+            found_holds wanted t (each_passes (has_instance rows heads t) classes wanted
+            (in_classes wanted classes c) every)
 
     meets : ValuesMeet rows heads (constraints_of generics) s
     meets name wanted value part known v closes =
@@ -258,7 +275,8 @@ module _ (rows : List Row) (heads : List (DeclAt × Head)) (table : IsTable rows
     any_region (Named name) = tt
     any_region Anonymous = tt
 
-    parameter_closes : (name : Bytes) (o : Option Universe) → universe_in scope name ≡ o → is_some (of_parameter o) ≡ true
+    parameter_closes : (name : Bytes) (o : Option Universe) → universe_in scope name ≡ o →
+        is_some (of_parameter o) ≡ true
         → closed (substituted s (parameter name)) ≡ Some (given_for all name)
     parameter_closes name None is h = absurd cc
     parameter_closes name (Some universe) is h =
@@ -281,7 +299,8 @@ module _ (rows : List Row) (heads : List (DeclAt × Head)) (table : IsTable rows
       each_closes (writes to region) h = (each_closes to h, any_region region)
 
       all_close : (args : Arguments) → all_formed fits_in_kind heads scope args ≡ true
-          → EachNameOfAll (λ name. closed (substituted s (parameter name)) ≡ Some (given_for all name)) (λ name. Unit {0}) args
+          → EachNameOfAll (λ name. closed (substituted s (parameter name)) ≡ Some (given_for all name))
+          (λ name. Unit {0}) args
       all_close no_arguments h = tt
       all_close (arguments (of_type t) rest) h =
           let stand = first_stands heads scope (of_type t) rest h in
@@ -298,7 +317,8 @@ module _ (rows : List Row) (heads : List (DeclAt × Head)) (table : IsTable rows
         → Holds rows heads scope (constraints_of generics) class t
         → ClosedHolds rows heads class (closed_under all t)
     holds_given class t stands holds =
-        holds_closed heads scope s fit rows (constraints_of generics) table meets class t holds (closed_under all t) stands
+        holds_closed heads scope s fit rows (constraints_of generics) table meets class t holds
+        (closed_under all t) stands
         (closes t stands)
 
     taken_given : (universe : Universe) (t : Meaning) → StandsOver heads scope t
@@ -315,7 +335,8 @@ module _ (rows : List Row) (heads : List (DeclAt × Head)) (table : IsTable rows
         → IsTypeOf (parameters others) name universe
         → StandsOver heads scope t
         → takes universe (universe_of heads scope t) ≡ true
-        → ((class : DeclAt) → constrains others name class ≡ true → Holds rows heads scope (constraints_of generics) class t)
+        → ((class : DeclAt) → constrains others name class ≡ true →
+        Holds rows heads scope (constraints_of generics) class t)
         → closed_stands heads others (Some name) (part_of rows heads (closed_under all t)) ≡ true
     suited others name universe t is stands taken holds =
         and_from (closed_taken heads (universe_in (parameters others) name) (closed_under all t))

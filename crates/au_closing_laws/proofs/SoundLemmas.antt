@@ -1,5 +1,6 @@
 -- Reached instances are sound, and each of their calls leads somewhere.
-use Rattle.std.proofs.Common.{◌≡◌, ◌⊎◌, inl, inr, true, false, List, [], ◌∷◌, Option, None, Some, map, refl, sym, ap, subst}
+use Rattle.std.proofs.Common.{◌≡◌, ◌⊎◌, inl, inr, true, false, List, [], ◌∷◌, Option, None, Some, map, refl}
+use Rattle.std.proofs.Common.{sym, ap, subst}
 use Rattle.std.specs.Prelude.{Contains, unwrap_or}
 use Rattle.std.specs.Option.{option_map}
 use Rattle.std.proofs.lemmas.Bool.{or_cases, or_left, or_right}
@@ -26,11 +27,17 @@ use Rattle.au_graphs.specs.Reached.{Has, Lists, Reached, follows, has, start}
 use Rattle.au_closed_trees.specs.ClosedNotes.{Callee, constructor, instance, shipped}
 use Rattle.au_type_texts.specs.Given.{closed_under, given_by, given_for}
 use Rattle.au_closing.proofs.ClosesLemmas.{instances_told}
-use Rattle.au_closing.specs.Closes.{ClosedFunction, ClosesFunctions, body_closed, calls_in_body, calls_of, instance_closed}
+use Rattle.au_closing.specs.Closes.{ClosedFunction, ClosesFunctions, body_closed, calls_in_body, calls_of}
+use Rattle.au_closing.specs.Closes.{instance_closed}
 use Rattle.au_closing.specs.Instances.{Instance, given_of_row, instance_of, method_at, same_instance}
-use Rattle.au_closing.specs.Leading.{Called, a_function, a_maker, a_method, at_type, call_leads, called_leads, kind_of, method_by_row, method_leads, module_name, shipped_or, target_leads}
+use Rattle.au_closing.specs.Leading.{Called, a_function, a_maker, a_method, at_type, call_leads, called_leads}
+use Rattle.au_closing.specs.Leading.{kind_of, method_by_row, method_leads, module_name, shipped_or}
+use Rattle.au_closing.specs.Leading.{target_leads}
 use Rattle.au_closing_laws.specs.Sound.{IsSomewhere, IsSound}
-use Rattle.au_closing_laws.specs.Targets.{Call, CallIsTyped, FunctionIsTyped, IsEntry, IsTyped, IsTypeOf, MethodIsThere, MethodIsTyped, bounds_of, calls_listed, function_has_body, function_is_shipped, method_has_body, method_is_shipped, scope_of}
+use Rattle.au_closing_laws.specs.Targets.{Call, CallIsTyped, FunctionIsTyped, IsEntry, IsTyped, IsTypeOf}
+use Rattle.au_closing_laws.specs.Targets.{MethodIsThere, MethodIsTyped, bounds_of, calls_listed}
+use Rattle.au_closing_laws.specs.Targets.{function_has_body, function_is_shipped, method_has_body}
+use Rattle.au_closing_laws.specs.Targets.{method_is_shipped, scope_of}
 use Rattle.au_closing_laws.proofs.CallLemmas.{in_block, some_call}
 use Rattle.au_closing_laws.proofs.RowLemmas.{given_found, nothing_there, row_suits, type_named}
 use Rattle.au_closing_laws.proofs.ScopeLemmas.{holds_given, suited}
@@ -60,7 +67,8 @@ module _ (program : List ModuleParts) (noted : List NotedParts) (typed : IsTyped
         → FunctionIsTyped program noted sound.body note target name names
         → Somewhere (called_leads program rows one.given note target (Some (a_function name names)))
     function_somewhere target name names (function_is_shipped call e) =
-        subst (λ o. Somewhere (shipped_or o (record { of = target; given = given_by one.given (unwrap_or note.call []) names })))
+        subst (λ o. Somewhere (shipped_or o
+        (record { of = target; given = given_by one.given (unwrap_or note.call []) names })))
         (sym e) tt
     function_somewhere target name names (function_has_body callee there same each) =
         somewhere (prim_of (module_name program target.at.«module») name None)
@@ -101,11 +109,13 @@ module _ (program : List ModuleParts) (noted : List NotedParts) (typed : IsTyped
         → Somewhere (called_leads program rows one.given note target (Some (a_method name param)))
     method_somewhere target name param m =
         by target.at (closed_under one.given (put_for param)) m.there
-        (holds_given rows heads typed.table (bounds_of program sound.body) one.given sound.suits target.at (put_for param)
+        (holds_given rows heads typed.table (bounds_of program sound.body) one.given sound.suits target.at
+        (put_for param)
         m.stands m.holds)
       where
         by : (class : DeclAt) (t : ClosedType)
-            → ((row : Row) (u : ClosedType) → ClosedInstance rows heads class u row → MethodIsThere program noted name row u)
+            → ((row : Row) (u : ClosedType) → ClosedInstance rows heads class u row →
+            MethodIsThere program noted name row u)
             → ClosedHolds rows heads class t
             → Somewhere (method_leads program rows name t (closed_row rows heads t class))
         by class t each (given c u row given_so) =

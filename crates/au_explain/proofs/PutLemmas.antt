@@ -1,11 +1,13 @@
 -- What is put behind others, item by item.
-use Rattle.std.proofs.Common.{◌≡◌, Bool, true, false, ◌||◌, ℕ, suc, ◌+◌, ◌<◌, ◌≤◌, List, [], ◌∷◌, ◌++◌, append_assoc, length, drop, drop-cons, get_or, sym, ap, subst, ◌∙◌, arith}
+use Rattle.std.proofs.Common.{◌≡◌, Bool, true, false, ◌||◌, ℕ, suc, ◌+◌, ◌<◌, ◌≤◌, List, [], ◌∷◌, ◌++◌}
+use Rattle.std.proofs.Common.{append_assoc, length, drop, drop-cons, get_or, sym, ap, subst, ◌∙◌, arith}
 use Rattle.std.proofs.lemmas.List.{append-nil, drop_all}
 use Rattle.std.specs.Prelude.{OnOk, Result}
 use Rattle.au_base.specs.declared.faults.Memory.{Memory}
 
 -- an item of a list and those behind it
-pub next_item : {A : Type 0} (xs : List A) (i : ℕ) (a : A) → a ≡ get_or xs i a → i < length xs → drop i xs ≡ a ∷ drop (i + 1) xs
+pub next_item : {A : Type 0} (xs : List A) (i : ℕ) (a : A) → a ≡ get_or xs i a → i < length xs →
+    drop i xs ≡ a ∷ drop (i + 1) xs
 next_item xs i a is lt =
     let e : suc i ≡ i + 1 = omega arith in
     drop-cons xs i a lt ∙ ap (λ one. one ∷ drop (suc i) xs) (sym is) ∙ ap (λ n. a ∷ drop n xs) e
@@ -33,31 +35,38 @@ module _ {A B : Type 0} (all : List A → List B) (xs : List A) (i : ℕ) where
       sym (append-nil made) ∙ ap (λ l. made ++ l) (sym (ap all (drop_all i xs past) ∙ none)) ∙ before
 
 -- an item of which something holds is found
-pub found_here : {A : Type 0} (holds : A → Bool) (any : List A → Bool) → ((a : A) (rest : List A) → any (a ∷ rest) ≡ holds a || any rest) →
-    (xs : List A) (i : ℕ) (a : A) → a ≡ get_or xs i a → i < length xs → (whole : Bool) → true ≡ holds a → any (drop i xs) ≡ whole → true ≡ whole
+pub found_here : {A : Type 0} (holds : A → Bool) (any : List A → Bool) →
+    ((a : A) (rest : List A) → any (a ∷ rest) ≡ holds a || any rest) →
+    (xs : List A) (i : ℕ) (a : A) → a ≡ get_or xs i a → i < length xs → (whole : Bool) → true ≡ holds a →
+    any (drop i xs) ≡ whole → true ≡ whole
 found_here holds any step xs i a is lt whole h before =
     ap (λ b. b || any (drop (i + 1) xs)) h ∙ sym (ap any (next_item xs i a is lt) ∙ step a (drop (i + 1) xs)) ∙ before
 
 -- an item of which it doesn't hold is passed
-pub not_here : {A : Type 0} (holds : A → Bool) (any : List A → Bool) → ((a : A) (rest : List A) → any (a ∷ rest) ≡ holds a || any rest) →
-    (xs : List A) (i : ℕ) (a : A) → a ≡ get_or xs i a → i < length xs → (whole : Bool) → false ≡ holds a → any (drop i xs) ≡ whole →
+pub not_here : {A : Type 0} (holds : A → Bool) (any : List A → Bool) →
+    ((a : A) (rest : List A) → any (a ∷ rest) ≡ holds a || any rest) →
+    (xs : List A) (i : ℕ) (a : A) → a ≡ get_or xs i a → i < length xs → (whole : Bool) → false ≡ holds a →
+    any (drop i xs) ≡ whole →
     any (drop (i + 1) xs) ≡ whole
 not_here holds any step xs i a is lt whole h before =
     ap (λ b. b || any (drop (i + 1) xs)) h ∙ sym (ap any (next_item xs i a is lt) ∙ step a (drop (i + 1) xs)) ∙ before
 
 -- two are put, one behind the other
-pub both_put : {B : Type 0} (old one two made next : List B) → made ≡ old ++ one → next ≡ made ++ two → next ≡ old ++ (one ++ two)
+pub both_put : {B : Type 0} (old one two made next : List B) → made ≡ old ++ one → next ≡ made ++ two →
+    next ≡ old ++ (one ++ two)
 both_put old one two made next first second =
     second ∙ ap (λ l. l ++ two) first ∙ append_assoc old one two
 
 -- the same where the last call may have failed
-pub then_put : {B : Type 0} (r : Result (Unit {0}) Memory) (old one two made new : List B) → made ≡ old ++ one → OnOk r (new ≡ made ++ two) →
+pub then_put : {B : Type 0} (r : Result (Unit {0}) Memory) (old one two made new : List B) → made ≡ old
+    ++ one → OnOk r (new ≡ made ++ two) →
     OnOk r (new ≡ old ++ (one ++ two))
 then_put r old one two made new first h =
     subst (λ l. OnOk r (new ≡ l)) (ap (λ l. l ++ two) first ∙ append_assoc old one two) h
 
 -- what is put is told otherwise
-pub put_as : {B : Type 0} (r : Result (Unit {0}) Memory) (old new one other : List B) → other ≡ one → OnOk r (new ≡ old ++ one) → OnOk r (new ≡ old ++ other)
+pub put_as : {B : Type 0} (r : Result (Unit {0}) Memory) (old new one other : List B) → other ≡ one →
+    OnOk r (new ≡ old ++ one) → OnOk r (new ≡ old ++ other)
 put_as r old new one other e h = subst (λ l. OnOk r (new ≡ old ++ l)) (sym e) h
 
 -- nothing is put

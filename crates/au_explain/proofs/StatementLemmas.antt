@@ -1,5 +1,6 @@
 -- The mentions in a block whose first statement may hide the variable, and which paths are a variable alone.
-use Rattle.std.proofs.Common.{◌≡◌, ℕ, suc, ◌==◌, Bool, true, false, arith, List, [], ◌∷◌, ◌++◌, ap, length, map, refl, sym, ◌∙◌}
+use Rattle.std.proofs.Common.{◌≡◌, ℕ, suc, ◌==◌, Bool, true, false, arith, List, [], ◌∷◌, ◌++◌, ap, length}
+use Rattle.std.proofs.Common.{map, refl, sym, ◌∙◌}
 use Rattle.std.proofs.lemmas.Bool.{eqb-true}
 use Rattle.std.proofs.lemmas.List.{append-nil}
 use Rattle.au_explain.specs.Mentions.{is_declared_by, mentions_of, mentions_of_block, unless}

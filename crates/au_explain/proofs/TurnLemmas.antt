@@ -29,7 +29,8 @@ block_turn xs i x is lt rest here within next made one two whole left same befor
     puts.both_put made (listed_inside s here) (listed_after s (statements_said more) behind) one two first two_is in
     ap (λ (sc : Scope). two ++ listed_in (statements_said more) sc) (is_next ∙ ap (λ (sc : Scope). after s sc) same)
     ∙ ap (λ (l : List VariableLives). l ++ listed_in (statements_said more) behind) both
-    ∙ append_assoc made (listed_inside s here ++ listed_after s (statements_said more) behind) (listed_in (statements_said more) behind)
+    ∙ append_assoc made (listed_inside s here ++ listed_after s (statements_said more) behind)
+    (listed_in (statements_said more) behind)
     ∙ ap (λ (l : List VariableLives). made ++ l)
     (sym (ap (λ (zs : List ParsedStmt). listed_in (statements_said zs) here) (puts.next_item xs i x is lt)))
     ∙ before

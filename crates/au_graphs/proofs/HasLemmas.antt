@@ -1,5 +1,6 @@
 -- What stands in lists to which elements are added.
-use Rattle.std.proofs.Common.{◌≡◌, Bool, true, false, ◌||◌, ◌⊎◌, List, [], ◌∷◌, ◌++◌, refl, sym, ◌∙◌, subst, inl, inr, ⊎_elim, append_assoc, append-nil}
+use Rattle.std.proofs.Common.{◌≡◌, Bool, true, false, ◌||◌, ◌⊎◌, List, [], ◌∷◌, ◌++◌, refl, sym, ◌∙◌, subst}
+use Rattle.std.proofs.Common.{inl, inr, ⊎_elim, append_assoc, append-nil}
 use Rattle.au_graphs.specs.Reached.{TellsSame, has, Has, put_new, adds}
 
 -- ---- the two forms of a test
@@ -22,7 +23,9 @@ module _ {A : Type 0} (same : A → A → Bool) where
   pub has_front : (us vs : List A) (x : A) → Has same us x → Has same (us ++ vs) x
   has_front [] vs x h = absurd cc
   has_front (a ∷ us) vs x h =
-      ⊎_elim (or_left (same x a) (has same (us ++ vs) x)) (λ rest. or_right (same x a) (has same (us ++ vs) x) (has_front us vs x rest)) (or_split (same x a) (has same us x) h)
+      ⊎_elim (or_left (same x a) (has same (us ++ vs) x))
+      (λ rest. or_right (same x a) (has same (us ++ vs) x) (has_front us vs x rest))
+      (or_split (same x a) (has same us x) h)
 
   pub has_back : (us vs : List A) (x : A) → Has same vs x → Has same (us ++ vs) x
   has_back [] vs x h = h
@@ -31,7 +34,9 @@ module _ {A : Type 0} (same : A → A → Bool) where
   pub has_split : (us vs : List A) (x : A) → Has same (us ++ vs) x → Has same us x ⊎ Has same vs x
   has_split [] vs x h = inr h
   has_split (a ∷ us) vs x h =
-      ⊎_elim (λ here. inl (or_left (same x a) (has same us x) here)) (λ rest. ⊎_elim (λ front. inl (or_right (same x a) (has same us x) front)) inr (has_split us vs x rest)) (or_split (same x a) (has same (us ++ vs) x) h)
+      ⊎_elim (λ here. inl (or_left (same x a) (has same us x) here))
+      (λ rest. ⊎_elim (λ front. inl (or_right (same x a) (has same us x) front)) inr
+      (has_split us vs x rest)) (or_split (same x a) (has same (us ++ vs) x) h)
 
   -- ---- elements that are added
 
@@ -43,21 +48,25 @@ module _ {A : Type 0} (same : A → A → Bool) where
   adds_keeps ks [] x h = h
   adds_keeps ks (y ∷ xs) x h = adds_keeps (put_new same (has same ks y) ks y) xs x (put_keeps (has same ks y) ks y x h)
 
-  put_split : (b : Bool) (ks : List A) (y x : A) → Has same (put_new same b ks y) x → Has same ks x ⊎ Has same (y ∷ []) x
+  put_split : (b : Bool) (ks : List A) (y x : A) → Has same (put_new same b ks y) x → Has same ks x
+      ⊎ Has same (y ∷ []) x
   put_split true ks y x h = inl h
   put_split false ks y x h = has_split ks (y ∷ []) x h
 
   pub adds_split : (ks xs : List A) (x : A) → Has same (adds same ks xs) x → Has same ks x ⊎ Has same xs x
   adds_split ks [] x h = inl h
   adds_split ks (y ∷ xs) x h =
-      ⊎_elim (λ put. ⊎_elim inl (λ one. inr (has_front (y ∷ []) xs x one)) (put_split (has same ks y) ks y x put)) (λ rest. inr (has_back (y ∷ []) xs x rest)) (adds_split (put_new same (has same ks y) ks y) xs x h)
+      ⊎_elim (λ put. ⊎_elim inl (λ one. inr (has_front (y ∷ []) xs x one))
+      (put_split (has same ks y) ks y x put)) (λ rest. inr (has_back (y ∷ []) xs x rest))
+      (adds_split (put_new same (has same ks y) ks y) xs x h)
 
   -- what is added stands behind what was there
   pub adds_more : (ks xs : List A) → (r : List A) × (adds same ks xs ≡ ks ++ r)
   adds_more ks [] = ([], sym (append-nil ks))
   adds_more ks (y ∷ xs) = by (has same ks y) (adds_more ks xs) (adds_more (ks ++ y ∷ []) xs)
     where
-      by : (b : Bool) → (r : List A) × (adds same ks xs ≡ ks ++ r) → (r : List A) × (adds same (ks ++ y ∷ []) xs ≡ (ks ++ y ∷ []) ++ r)
+      by : (b : Bool) → (r : List A) × (adds same ks xs ≡ ks ++ r) → (r : List A)
+          × (adds same (ks ++ y ∷ []) xs ≡ (ks ++ y ∷ []) ++ r)
           → (r : List A) × (adds same (put_new same b ks y) xs ≡ ks ++ r)
       by true kept more = kept
       by false kept more = (y ∷ more.0, more.1 ∙ append_assoc ks (y ∷ []) more.0)
@@ -79,4 +88,7 @@ module _ {A : Type 0} (same : A → A → Bool) where
     pub adds_takes : (ks xs : List A) (x : A) → Has same xs x → Has same (adds same ks xs) x
     adds_takes ks [] x h = absurd cc
     adds_takes ks (y ∷ xs) x h =
-        ⊎_elim (λ here. adds_keeps (put_new same (has same ks y) ks y) xs x (subst (λ z. Has same (put_new same (has same ks y) ks y) z) (sym (tells.agrees x y here)) (put_takes (has same ks y) ks y refl))) (adds_takes (put_new same (has same ks y) ks y) xs x) (or_split (same x y) (has same xs x) h)
+        ⊎_elim (λ here. adds_keeps (put_new same (has same ks y) ks y) xs x
+        (subst (λ z. Has same (put_new same (has same ks y) ks y) z) (sym (tells.agrees x y here))
+        (put_takes (has same ks y) ks y refl))) (adds_takes (put_new same (has same ks y) ks y) xs x)
+        (or_split (same x y) (has same xs x) h)

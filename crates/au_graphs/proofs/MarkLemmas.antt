@@ -1,5 +1,7 @@
 -- Marks that are set.
-use Rattle.std.proofs.Common.{◌≡◌, ℕ, zero, suc, ◌+◌, ◌<◌, ◌≤◌, Bool, true, false, List, [], ◌∷◌, length, get_or, cond, set, replicate, refl, sym, ap, ◌∙◌, subst, inl, inr, ⊎_elim, arith}
+use Rattle.std.proofs.Common.{◌≡◌, ℕ, zero, suc, ◌+◌, ◌<◌, ◌≤◌, Bool, true, false, List, [], ◌∷◌, length}
+use Rattle.std.proofs.Common.{get_or, cond, set, replicate, refl, sym, ap, ◌∙◌, subst, inl, inr, ⊎_elim}
+use Rattle.std.proofs.Common.{arith}
 use Rattle.std.specs.Prelude.{◌⊎◌, not}
 use Rattle.std.proofs.lemmas.Bool.{cases_eq, cases_lt, both_ways}
 use Rattle.std.proofs.lemmas.List.{get_or_past, get_or-set_other, get_or-replicate}
@@ -27,10 +29,12 @@ set_only marks a b marked =
 -- what isn't marked is a node
 pub within : (marks : List Bool) (a : ℕ) → get_or marks a true ≡ false → a < length marks
 within marks a off =
-    ⊎_elim (λ below. below) (λ past. absurd (both_ways (get_or marks a true) off (get_or_past marks a true past))) (cases_lt a (length marks))
+    ⊎_elim (λ below. below) (λ past. absurd
+    (both_ways (get_or marks a true) off (get_or_past marks a true past))) (cases_lt a (length marks))
 
 -- one less is left
-pub set_left : (marks : List Bool) (a : ℕ) → get_or marks a true ≡ false → unmarked (set marks a true) + 1 ≡ unmarked marks
+pub set_left : (marks : List Bool) (a : ℕ) → get_or marks a true ≡ false → unmarked (set marks a true) + 1
+    ≡ unmarked marks
 set_left marks a off =
     let f : Bool → ℕ = λ x. cond (not x) 1 0 in
     let now = sum_by-set f marks a true true (within marks a off) in
@@ -41,21 +45,26 @@ set_left marks a off =
 pub peeled_none : (graph : List (List ℕ)) (n : ℕ) → n ≡ length graph → IsPeeled graph (replicate n false)
 peeled_none graph n size =
     let past : (a : ℕ) → IsMarked (replicate n false) a → length graph ≤ a =
-    λ a marked. ⊎_elim (λ below. absurd (both_ways (get_or (replicate n false) a true) (get_or-replicate n a false true below) marked)) (λ above. omega arith) (cases_lt a n) in
+    λ a marked. ⊎_elim (λ below. absurd
+    (both_ways (get_or (replicate n false) a true) (get_or-replicate n a false true below) marked))
+    (λ above. omega arith) (cases_lt a n) in
     record {
       closed = λ a b marked names. absurd (past_names graph a b (past a marked) names);
       free = λ a marked leads. past_leads graph a a (past a marked) leads;
     }
 
 -- where all successors of a node are marked, a path from it leads to a marked node
-pub led_to : (graph : List (List ℕ)) (marks : List Bool) (a c : ℕ) → IsClosed graph marks → ((b : ℕ) → Names graph a b → IsMarked marks b) → Leads graph a c → IsMarked marks c
+pub led_to : (graph : List (List ℕ)) (marks : List Bool) (a c : ℕ) → IsClosed graph marks →
+    ((b : ℕ) → Names graph a b → IsMarked marks b) → Leads graph a c → IsMarked marks c
 led_to graph marks a c closed named (directly x y names) = named y names
 led_to graph marks a c closed named (onward x b y names rest) = closed_leads graph marks b y closed rest (named b names)
 
 -- such a node is peeled
-pub peeled_more : (graph : List (List ℕ)) (marks : List Bool) (a : ℕ) → IsPeeled graph marks → ((b : ℕ) → Names graph a b → IsMarked marks b) → IsPeeled graph (set marks a true)
+pub peeled_more : (graph : List (List ℕ)) (marks : List Bool) (a : ℕ) → IsPeeled graph marks →
+    ((b : ℕ) → Names graph a b → IsMarked marks b) → IsPeeled graph (set marks a true)
 peeled_more graph marks a peeled named =
-    let free : IsOnCycle graph a → ⊥ = λ leads. peeled.free a (led_to graph marks a a peeled.closed named leads) leads in
+    let free : IsOnCycle graph a → ⊥ =
+    λ leads. peeled.free a (led_to graph marks a a peeled.closed named leads) leads in
     record {
       closed = λ x b marked names.
           set_stays marks a b

@@ -1,5 +1,7 @@
 -- Lists in which no element stands twice, and the list of what is reached while it is being found.
-use Rattle.std.proofs.Common.{◌≡◌, ◌<◌, ◌+◌, ℕ, Bool, true, false, List, [], ◌∷◌, ◌++◌, length, take, drop, refl, sym, ap, ◌∙◌, subst, ⊎_elim, append_assoc, append-nil, length-drop, take_all, take-append-drop, arith}
+use Rattle.std.proofs.Common.{◌≡◌, ◌<◌, ◌+◌, ℕ, Bool, true, false, List, [], ◌∷◌, ◌++◌, length, take, drop}
+use Rattle.std.proofs.Common.{refl, sym, ap, ◌∙◌, subst, ⊎_elim, append_assoc, append-nil, length-drop}
+use Rattle.std.proofs.Common.{take_all, take-append-drop, arith}
 use Rattle.std.proofs.lemmas.List.{take_more, drop_more, take-append-le}
 use Rattle.au_graphs.specs.Reached.{TellsSame, has, Has, put_new, adds, all_next, Reached, follows}
 use Rattle.au_graphs.proofs.HasLemmas.{or_split, has_front, has_back, has_it, adds_split, adds_more, adds_both}
@@ -10,11 +12,15 @@ module _ {A : Type 0} (same : A → A → Bool) where
   OnceAfter seen [] = Unit {0}
   OnceAfter seen (k ∷ ks) = (has same seen k ≡ false) × OnceAfter (seen ++ k ∷ []) ks
 
-  once_put : (seen ks : List A) (y : A) → OnceAfter seen ks → has same (seen ++ ks) y ≡ false → OnceAfter seen (ks ++ y ∷ [])
+  once_put : (seen ks : List A) (y : A) → OnceAfter seen ks → has same (seen ++ ks) y ≡ false →
+      OnceAfter seen (ks ++ y ∷ [])
   unfolding OnceAfter
   once_put seen [] y once h = (subst (λ (l : List A). has same l y ≡ false) (append-nil seen) h, tt)
-  once_put seen (k ∷ ks) y once h =
-      (once.0, once_put (seen ++ k ∷ []) ks y once.1 (subst (λ (l : List A). has same l y ≡ false) (sym (append_assoc seen (k ∷ []) ks)) h))
+  once_put seen (k ∷ ks) y once h = (
+    once.0,
+    once_put (seen ++ k ∷ []) ks y once.1
+        (subst (λ (l : List A). has same l y ≡ false) (sym (append_assoc seen (k ∷ []) ks)) h),
+  )
 
   once_adds : (ks xs : List A) → OnceAfter [] ks → OnceAfter [] (adds same ks xs)
   once_adds ks [] once = once
@@ -28,7 +34,8 @@ module _ {A : Type 0} (same : A → A → Bool) where
   unfolding OnceAfter
   once_split seen [] vs x once = subst (λ (l : List A). has same l x ≡ false) (sym (append-nil seen)) once.0
   once_split seen (u ∷ us) vs x once =
-      subst (λ (l : List A). has same l x ≡ false) (append_assoc seen (u ∷ []) us) (once_split (seen ++ u ∷ []) us vs x once.1)
+      subst (λ (l : List A). has same l x ≡ false) (append_assoc seen (u ∷ []) us)
+      (once_split (seen ++ u ∷ []) us vs x once.1)
 
   -- what is added to no list stands there once
   pub added_once : (xs us vs : List A) (x : A) → adds same [] xs ≡ us ++ x ∷ vs → has same us x ≡ false
@@ -38,7 +45,8 @@ module _ {A : Type 0} (same : A → A → Bool) where
 module _ {A : Type 0} (next : A → List A) where
   pub all_next_both : (us vs : List A) → all_next next (us ++ vs) ≡ all_next next us ++ all_next next vs
   all_next_both [] vs = refl
-  all_next_both (u ∷ us) vs = ap (λ (l : List A). next u ++ l) (all_next_both us vs) ∙ sym (append_assoc (next u) (all_next next us) (all_next next vs))
+  all_next_both (u ∷ us) vs = ap (λ (l : List A). next u ++ l) (all_next_both us vs)
+      ∙ sym (append_assoc (next u) (all_next next us) (all_next next vs))
 
   pub all_next_one : (us : List A) (k : A) → all_next next (us ++ k ∷ []) ≡ all_next next us ++ next k
   all_next_one us k = all_next_both us (k ∷ []) ∙ ap (λ (l : List A). all_next next us ++ l) (append-nil (next k))
@@ -47,7 +55,8 @@ module _ {A : Type 0} (next : A → List A) where
     pub has_next : (ks : List A) (k x : A) → Has same ks k → Has same (next k) x → Has same (all_next next ks) x
     has_next [] k x h there = absurd cc
     has_next (j ∷ ks) k x h there =
-        ⊎_elim (λ here. has_front same (next j) (all_next next ks) x (subst (λ z. Has same (next z) x) (tells.agrees k j here) there))
+        ⊎_elim (λ here. has_front same (next j) (all_next next ks) x
+        (subst (λ z. Has same (next z) x) (tells.agrees k j here) there))
         (λ rest. has_back same (next j) (all_next next ks) x (has_next ks k x rest there))
         (or_split (same k j) (has same ks k) h)
 
@@ -72,10 +81,13 @@ module _ {A : Type 0} where
       let size : length (drop i ks) ≡ 0 = ap length is in
       take_all i ks (omega (arith, length-drop i ks))
 
-pub at_has : {A : Type 0} (same : A → A → Bool) → TellsSame same → (ks : List A) (i : ℕ) (k : A) → At ks i k → Has same ks k
+pub at_has : {A : Type 0} (same : A → A → Bool) → TellsSame same → (ks : List A) (i : ℕ) (k : A) → At ks i k →
+    Has same ks k
 at_has {A} same tells ks i k here =
-    let front : Has same (take (i + 1) ks) k = subst (λ (l : List A). Has same l k) (sym here.taken) (has_it same tells (take i ks) [] k) in
-    subst (λ (l : List A). Has same l k) (take-append-drop (i + 1) ks) (has_front same (take (i + 1) ks) (drop (i + 1) ks) k front)
+    let front : Has same (take (i + 1) ks) k = subst (λ (l : List A). Has same l k) (sym here.taken)
+    (has_it same tells (take i ks) [] k) in
+    subst (λ (l : List A). Has same l k) (take-append-drop (i + 1) ks)
+    (has_front same (take (i + 1) ks) (drop (i + 1) ks) k front)
 
 -- ---- the list while it is found
 
@@ -93,14 +105,18 @@ module _ {A : Type 0} (same : A → A → Bool) (next : A → List A) (starts : 
       ap (λ (l : List A). adds same l (next k)) order
       ∙ sym (adds_both same [] (starts ++ before) (next k))
       ∙ ap (adds same []) (append_assoc starts before (next k))
-      ∙ ap (λ (l : List A). adds same [] (starts ++ l)) (sym (all_next_one next (take i ks) k) ∙ ap (all_next next) (sym here.taken))
+      ∙ ap (λ (l : List A). adds same [] (starts ++ l))
+      (sym (all_next_one next (take i ks) k) ∙ ap (all_next next) (sym here.taken))
 
-  pub goes_on : TellsSame same → (ks : List A) (i : ℕ) (k : A) → At ks i k → Begun ks i → Begun (adds same ks (next k)) (i + 1)
+  pub goes_on : TellsSame same → (ks : List A) (i : ℕ) (k : A) → At ks i k → Begun ks i →
+      Begun (adds same ks (next k)) (i + 1)
   goes_on tells ks i k here begun =
       let more = adds_more same ks (next k) in
-      let front : take (i + 1) (adds same ks (next k)) ≡ take (i + 1) ks = ap (take (i + 1)) more.1 ∙ take-append-le (i + 1) ks more.0 (omega (arith, here.within)) in
+      let front : take (i + 1) (adds same ks (next k)) ≡ take (i + 1) ks = ap (take (i + 1)) more.1
+      ∙ take-append-le (i + 1) ks more.0 (omega (arith, here.within)) in
       let itself : Reached same next starts k = begun.reached k (at_has same tells ks i k here) in
       record {
-        order = found_more ks i k here begun.order ∙ ap (λ (l : List A). adds same [] (starts ++ all_next next l)) (sym front);
+        order = found_more ks i k here begun.order
+            ∙ ap (λ (l : List A). adds same [] (starts ++ all_next next l)) (sym front);
         reached = λ x h. ⊎_elim (begun.reached x) (follows k x itself) (adds_split same ks (next k) x h);
       }

@@ -1,9 +1,11 @@
 -- The steps of a search.
-use Rattle.std.proofs.Common.{◌≡◌, ℕ, Bool, true, false, List, [], ◌∷◌, ◌++◌, get_or, set, refl, sym, ◌∙◌, subst, inl, inr, ⊎_elim, arith}
+use Rattle.std.proofs.Common.{◌≡◌, ℕ, Bool, true, false, List, [], ◌∷◌, ◌++◌, get_or, set, refl, sym, ◌∙◌}
+use Rattle.std.proofs.Common.{subst, inl, inr, ⊎_elim, arith}
 use Rattle.std.specs.Prelude.{◌⊎◌, ◌↔◌, Contains}
 use Rattle.std.proofs.lemmas.Bool.{both_ways}
 use Rattle.std.proofs.lemmas.List.{length_push}
-use Rattle.std.proofs.lemmas.List.Elements.{Contains-append_left, Contains-append_right, Contains-append_cases, Contains-push, Contains-push_cases}
+use Rattle.std.proofs.lemmas.List.Elements.{Contains-append_left, Contains-append_right}
+use Rattle.std.proofs.lemmas.List.Elements.{Contains-append_cases, Contains-push, Contains-push_cases}
 use Rattle.au_graphs.specs.Cycles.{successors, Names, Leads, directly, onward, IsOnCycle}
 use Rattle.au_graphs.specs.Marks.{IsMarked, IsClosed, Entered}
 use Rattle.au_graphs.proofs.CycleLemmas.{one_more}
@@ -27,7 +29,8 @@ entered_none seen work = record {
   left = refl;
 }
 
-pub entered_seen : (seen : List Bool) (work : List ℕ) (node : ℕ) → IsMarked seen node → Entered (node ∷ []) seen work seen work
+pub entered_seen : (seen : List Bool) (work : List ℕ) (node : ℕ) → IsMarked seen node →
+    Entered (node ∷ []) seen work seen work
 entered_seen seen work node known = record {
   stay = λ a marked. marked;
   enters = λ a is. subst (IsMarked seen) (sym (contains_one node a is)) known;
@@ -38,25 +41,31 @@ entered_seen seen work node known = record {
   left = refl;
 }
 
-pub entered_new : (seen : List Bool) (work : List ℕ) (node : ℕ) → get_or seen node true ≡ false → Entered (node ∷ []) seen work (set seen node true) (work ++ node ∷ [])
+pub entered_new : (seen : List Bool) (work : List ℕ) (node : ℕ) → get_or seen node true ≡ false →
+    Entered (node ∷ []) seen work (set seen node true) (work ++ node ∷ [])
 entered_new seen work node new = record {
   stay = λ a marked. set_stays seen node a marked;
   enters = λ a is. subst (IsMarked (set seen node true)) (sym (contains_one node a is)) (set_here seen node);
   only = λ a marked.
-      ⊎_elim (λ same. inr (subst (Contains (node ∷ [])) (sym same) (Contains-push [] node))) (λ before. inl before) (set_only seen node a marked);
+      ⊎_elim (λ same. inr (subst (Contains (node ∷ [])) (sym same) (Contains-push [] node)))
+      (λ before. inl before) (set_only seen node a marked);
   kept = λ a is. Contains-append_left work (node ∷ []) a is;
   added = λ a is. Contains-append_cases work (node ∷ []) a is;
   waits = λ a marked.
-      ⊎_elim (λ same. inr (subst (Contains (work ++ node ∷ [])) (sym same) (Contains-push work node))) (λ before. inl before) (set_only seen node a marked);
+      ⊎_elim (λ same. inr (subst (Contains (work ++ node ∷ [])) (sym same) (Contains-push work node)))
+      (λ before. inl before) (set_only seen node a marked);
   left = let less = set_left seen node new in let more = length_push work node in omega (arith, less, more);
 }
 
-module _ (xs ys : List ℕ) (seen : List Bool) (work : List ℕ) (between : List Bool) (middle : List ℕ) (now : List Bool) (list : List ℕ) where
-  pub entered_both : Entered xs seen work between middle → Entered ys between middle now list → Entered (xs ++ ys) seen work now list
+module _ (xs ys : List ℕ) (seen : List Bool) (work : List ℕ) (between : List Bool) (middle : List ℕ)
+    (now : List Bool) (list : List ℕ) where
+  pub entered_both : Entered xs seen work between middle → Entered ys between middle now list →
+      Entered (xs ++ ys) seen work now list
   entered_both first second = record {
     stay = λ a marked. second.stay a (first.stay a marked);
     enters = λ a is.
-        ⊎_elim (λ one. second.stay a (first.enters a one)) (λ other. second.enters a other) (Contains-append_cases xs ys a is);
+        ⊎_elim (λ one. second.stay a (first.enters a one)) (λ other. second.enters a other)
+        (Contains-append_cases xs ys a is);
     only = λ a marked.
         ⊎_elim
         (λ before. ⊎_elim (λ old. inl old) (λ one. inr (Contains-append_left xs ys a one)) (first.only a before))
@@ -83,15 +92,18 @@ pub record Searched (graph : List (List ℕ)) (done : List Bool) (k : ℕ) (seen
   pub waits : (a : ℕ) → Contains work a → (a ≡ k) ⊎ Leads graph k a
   pub closed : (a : ℕ) → (a ≡ k) ⊎ IsMarked seen a → Contains work a ⊎ ((b : ℕ) → Names graph a b → IsMarked seen b)
 
-pub searched_start : (graph : List (List ℕ)) (done : List Bool) (k : ℕ) → IsClosed graph done → Searched graph done k done (k ∷ [])
+pub searched_start : (graph : List (List ℕ)) (done : List Bool) (k : ℕ) → IsClosed graph done →
+    Searched graph done k done (k ∷ [])
 searched_start graph done k closed = record {
   led = λ a marked. inl marked;
   waits = λ a is. inl (contains_one k a is);
   closed = λ a met.
-      ⊎_elim (λ same. inl (subst (Contains (k ∷ [])) (sym same) (Contains-push [] k))) (λ marked. inr (λ b names. closed a b marked names)) met;
+      ⊎_elim (λ same. inl (subst (Contains (k ∷ [])) (sym same) (Contains-push [] k)))
+      (λ marked. inr (λ b names. closed a b marked names)) met;
 }
 
-module _ (graph : List (List ℕ)) (done : List Bool) (k : ℕ) (seen : List Bool) (rest : List ℕ) (node : ℕ) (now : List Bool) (list : List ℕ) where
+module _ (graph : List (List ℕ)) (done : List Bool) (k : ℕ) (seen : List Bool) (rest : List ℕ) (node : ℕ)
+    (now : List Bool) (list : List ℕ) where
   -- an edge from a node that waited
   edge : Searched graph done k seen (rest ++ node ∷ []) → (a : ℕ) → Names graph node a → Leads graph k a
   edge before a names =
@@ -100,11 +112,13 @@ module _ (graph : List (List ℕ)) (done : List Bool) (k : ℕ) (seen : List Boo
       (λ leads. one_more graph k node a leads names)
       (before.waits node (Contains-push rest node))
 
-  pub searched_more : Searched graph done k seen (rest ++ node ∷ []) → Entered (successors graph node) seen rest now list → Searched graph done k now list
+  pub searched_more : Searched graph done k seen (rest ++ node ∷ []) → Entered (successors graph node) seen
+      rest now list → Searched graph done k now list
   searched_more before step = record {
     led = λ a marked. ⊎_elim (λ old. before.led a old) (λ names. inr (edge before a names)) (step.only a marked);
     waits = λ a is.
-        ⊎_elim (λ old. before.waits a (Contains-append_left rest (node ∷ []) a old)) (λ names. inr (edge before a names)) (step.added a is);
+        ⊎_elim (λ old. before.waits a (Contains-append_left rest (node ∷ []) a old))
+        (λ names. inr (edge before a names)) (step.added a is);
     closed = λ a met.
         let old : (a ≡ k) ⊎ IsMarked seen a → Contains list a ⊎ ((b : ℕ) → Names graph a b → IsMarked now b) =
         λ met. ⊎_elim
@@ -114,11 +128,13 @@ module _ (graph : List (List ℕ)) (done : List Bool) (k : ℕ) (seen : List Boo
         (Contains-push_cases rest node a waited))
         (λ all. inr (λ b names. step.stay b (all b names)))
         (before.closed a met) in
-        ⊎_elim (λ same. old (inl same)) (λ marked. ⊎_elim (λ before. old (inr before)) (λ waits. inl waits) (step.waits a marked)) met;
+        ⊎_elim (λ same. old (inl same))
+        (λ marked. ⊎_elim (λ before. old (inr before)) (λ waits. inl waits) (step.waits a marked)) met;
   }
 
 -- where nothing waits, all that k leads to was met
-all_met : (graph : List (List ℕ)) (done : List Bool) (k : ℕ) (seen : List Bool) (a c : ℕ) → Searched graph done k seen [] → (a ≡ k) ⊎ IsMarked seen a → Leads graph a c → IsMarked seen c
+all_met : (graph : List (List ℕ)) (done : List Bool) (k : ℕ) (seen : List Bool) (a c : ℕ) →
+    Searched graph done k seen [] → (a ≡ k) ⊎ IsMarked seen a → Leads graph a c → IsMarked seen c
 all_met graph done k seen a c searched met (directly x y names) =
     ⊎_elim (λ waits. absurd (contains_none x waits)) (λ all. all y names) (searched.closed x met)
 all_met graph done k seen a c searched met (onward x b y names rest) =
@@ -127,9 +143,12 @@ all_met graph done k seen a c searched met (onward x b y names rest) =
     (λ all. all_met graph done k seen b y searched (inr (all b names)) rest)
     (searched.closed x met)
 
-pub searched_end : (graph : List (List ℕ)) (done : List Bool) (k : ℕ) (seen : List Bool) (work : List ℕ) (found : Bool) → Searched graph done k seen work → work ≡ [] → get_or done k true ≡ false → found ≡ get_or seen k true → (found ≡ true) ↔ IsOnCycle graph k
+pub searched_end : (graph : List (List ℕ)) (done : List Bool) (k : ℕ) (seen : List Bool) (work : List ℕ)
+    (found : Bool) → Searched graph done k seen work → work ≡ [] → get_or done k true ≡ false →
+    found ≡ get_or seen k true → (found ≡ true) ↔ IsOnCycle graph k
 searched_end graph done k seen work found searched none new is =
     let all = subst (Searched graph done k seen) none searched in (
-      λ yes. ⊎_elim (λ known. absurd (both_ways (get_or done k true) new known)) (λ leads. leads) (all.led k (sym is ∙ yes)),
+      λ yes. ⊎_elim (λ known. absurd (both_ways (get_or done k true) new known)) (λ leads. leads)
+          (all.led k (sym is ∙ yes)),
       λ leads. is ∙ all_met graph done k seen k k all (inl refl) leads,
     )

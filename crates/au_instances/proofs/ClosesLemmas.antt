@@ -6,7 +6,8 @@ use Rattle.std.specs.declared.boxed.Box.{Box}
 use Rattle.std.proofs.lemmas.Bool.{and_right}
 use Rattle.au_types.specs.declared.types.DeclAt.{DeclAt}
 use Rattle.au_types.specs.declared.types.Region.{Region}
-use Rattle.au_types.specs.declared.types.Ty.{Ty, Unit, Bool as Bool', Int, Text, Param, Named', Read, Read', Write, Write'}
+use Rattle.au_types.specs.declared.types.Ty.{Ty, Unit, Bool as Bool', Int, Text, Param, Named', Read, Read'}
+use Rattle.au_types.specs.declared.types.Ty.{Write, Write'}
 use Rattle.au_types.specs.Rows.{same_place}
 use Rattle.au_types.specs.Types as whole
 use Rattle.au_types.specs.Types.{Meaning, Argument, Arguments, of_type, in_region, no_arguments, arguments}
@@ -25,7 +26,8 @@ closes_all : Option ClosedTypes → ClosedTypes → Bool
 closes_all None list = false
 closes_all (Some other) list = same_all other list
 
-front_closes : (o : Option ClosedType) (rest : Option ClosedTypes) (t : ClosedType) (list : ClosedTypes) → closes_all (in_front o rest) (types t list) ≡ (closes_to o t && closes_all rest list)
+front_closes : (o : Option ClosedType) (rest : Option ClosedTypes) (t : ClosedType) (list : ClosedTypes) →
+    closes_all (in_front o rest) (types t list) ≡ (closes_to o t && closes_all rest list)
 unfolding closes_all
 front_closes None rest t list = refl
 front_closes (Some one) None t list = sym (and_right (same one t) false refl)
@@ -38,27 +40,34 @@ none_in_front (Some one) None = refl
 none_in_front (Some one) (Some others) = refl
 
 -- the types among arguments close to closed types exactly where the arguments do
-all_close : (args : Arguments) (list : ClosedTypes) → closes_all (all_closed args) list ≡ all_close_to (types_in args) list
+all_close : (args : Arguments) (list : ClosedTypes) → closes_all (all_closed args) list
+    ≡ all_close_to (types_in args) list
 unfolding closes_all
 all_close no_arguments no_types = refl
 all_close no_arguments (types t list) = refl
 all_close (arguments (of_type t) rest) no_types = none_in_front (closed t) (all_closed rest)
-all_close (arguments (of_type t) rest) (types one list) = front_closes (closed t) (all_closed rest) one list ∙ ap (λ b. closes_to (closed t) one && b) (all_close rest list)
+all_close (arguments (of_type t) rest) (types one list) = front_closes (closed t) (all_closed rest) one list
+    ∙ ap (λ b. closes_to (closed t) one && b) (all_close rest list)
 all_close (arguments (in_region region) rest) list = all_close rest list
 
-named_option : (other at : DeclAt) (o : Option ClosedTypes) (list : ClosedTypes) → other ≡ at → closes_to (option_map (named other) o) (named at list) ≡ closes_all o list
+named_option : (other at : DeclAt) (o : Option ClosedTypes) (list : ClosedTypes) → other ≡ at →
+    closes_to (option_map (named other) o) (named at list) ≡ closes_all o list
 unfolding closes_all
 named_option other at None list is = refl
-named_option other at (Some all) list is = ap (λ b. b && same_all all list) (subst (λ p. same_place other p ≡ true) is (place_self other))
+named_option other at (Some all) list is =
+    ap (λ b. b && same_all all list) (subst (λ p. same_place other p ≡ true) is (place_self other))
 
 -- a declared type
-pub named_closes : (t : Meaning) (at : DeclAt) (list : ClosedTypes) → is_constructor (constructors.Declared at) (constructor_of t) ≡ true → closes_to (closed t) (named at list) ≡ all_close_to (types_in (arguments_of t)) list
+pub named_closes : (t : Meaning) (at : DeclAt) (list : ClosedTypes) →
+    is_constructor (constructors.Declared at) (constructor_of t) ≡ true → closes_to (closed t) (named at list)
+    ≡ all_close_to (types_in (arguments_of t)) list
 named_closes whole.unit at list e = absurd cc
 named_closes whole.truth at list e = absurd cc
 named_closes (whole.integer kind) at list e = absurd cc
 named_closes whole.text at list e = absurd cc
 named_closes (whole.parameter name) at list e = absurd cc
-named_closes (whole.named other args) at list e = named_option other at (all_closed args) list (sym (place_is at other e)) ∙ all_close args list
+named_closes (whole.named other args) at list e = named_option other at (all_closed args) list
+    (sym (place_is at other e)) ∙ all_close args list
 named_closes (whole.reads to region) at list e = absurd cc
 named_closes (whole.writes to region) at list e = absurd cc
 
@@ -71,15 +80,19 @@ pub writes_close : (o : Option ClosedType) (t : ClosedType) → closes_to (optio
 writes_close None t = refl
 writes_close (Some other) t = refl
 
-named_no_reference : (at : DeclAt) (o : Option ClosedTypes) (t : ClosedType) → (closes_to (option_map (named at) o) (reads t) ≡ false) × (closes_to (option_map (named at) o) (writes t) ≡ false)
+named_no_reference : (at : DeclAt) (o : Option ClosedTypes) (t : ClosedType) →
+    (closes_to (option_map (named at) o) (reads t) ≡ false)
+    × (closes_to (option_map (named at) o) (writes t) ≡ false)
 named_no_reference at None t = (refl, refl)
 named_no_reference at (Some all) t = (refl, refl)
 
-reads_no_writes : (o : Option ClosedType) (t : ClosedType) → (closes_to (option_map writes o) (reads t) ≡ false) × (closes_to (option_map reads o) (writes t) ≡ false)
+reads_no_writes : (o : Option ClosedType) (t : ClosedType) →
+    (closes_to (option_map writes o) (reads t) ≡ false) × (closes_to (option_map reads o) (writes t) ≡ false)
 reads_no_writes None t = (refl, refl)
 reads_no_writes (Some other) t = (refl, refl)
 
-pub not_reads : (of : Ty) (t : ClosedType) → ((x : Box Ty Global) (r : Region) → of ≡ Read x r → ⊥) → closes_to (closed (meaning of)) (reads t) ≡ false
+pub not_reads : (of : Ty) (t : ClosedType) → ((x : Box Ty Global) (r : Region) → of ≡ Read x r → ⊥) →
+    closes_to (closed (meaning of)) (reads t) ≡ false
 unfolding meaning
 not_reads Unit t differs = refl
 not_reads Bool' t differs = refl
@@ -90,7 +103,8 @@ not_reads (Named' at shape args) t differs = (named_no_reference at _ t).0
 not_reads (Read' p to r) t differs = absurd (differs (record { ptr = p.ptr; alloc = p.alloc; value = to }) r refl)
 not_reads (Write' p to r) t differs = (reads_no_writes _ t).0
 
-pub not_writes : (of : Ty) (t : ClosedType) → ((x : Box Ty Global) (r : Region) → of ≡ Write x r → ⊥) → closes_to (closed (meaning of)) (writes t) ≡ false
+pub not_writes : (of : Ty) (t : ClosedType) → ((x : Box Ty Global) (r : Region) → of ≡ Write x r → ⊥) →
+    closes_to (closed (meaning of)) (writes t) ≡ false
 unfolding meaning
 not_writes Unit t differs = refl
 not_writes Bool' t differs = refl

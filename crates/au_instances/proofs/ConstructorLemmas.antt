@@ -34,7 +34,8 @@ pub that_is : (one : Constructor) (o : Option Constructor) → o ≡ Some one �
 that_is one o e = subst (λ p. is_constructor one p ≡ true) (sym e) (constructor_self one)
 
 -- what has a constructor keeps it under each substitution
-pub constructor_stays : (s : Bindings) (t : Meaning) (one : Constructor) → constructor_of t ≡ Some one → constructor_of (substituted s t) ≡ Some one
+pub constructor_stays : (s : Bindings) (t : Meaning) (one : Constructor) → constructor_of t ≡ Some one →
+    constructor_of (substituted s t) ≡ Some one
 constructor_stays s unit one e = e
 constructor_stays s truth one e = e
 constructor_stays s (integer of) one e = e

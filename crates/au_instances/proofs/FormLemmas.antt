@@ -1,5 +1,6 @@
 -- Heads of instances: the test of their form, and what is known of a head that has it.
-use Rattle.std.proofs.Common.{◌≡◌, ◌⊎◌, ◌&&◌, ◌||◌, true, false, List, [], ◌∷◌, Option, None, Some, refl, sym, ap, ◌∙◌, inl, inr, true≢false}
+use Rattle.std.proofs.Common.{◌≡◌, ◌⊎◌, ◌&&◌, ◌||◌, true, false, List, [], ◌∷◌, Option, None, Some, refl, sym}
+use Rattle.std.proofs.Common.{ap, ◌∙◌, inl, inr, true≢false}
 use Rattle.std.specs.Prelude.{is_some, IsTrue}
 use Rattle.std.specs.Bool.{Decides}
 use Rattle.std.proofs.lemmas.Bool.{and_parts, and_from, or_cases, or_left, or_right}
@@ -8,12 +9,15 @@ use Rattle.au_types.specs.declared.parameters.Parameter.{Parameter}
 use Rattle.au_types.specs.declared.types.DeclAt.{DeclAt}
 use Rattle.au_types.specs.declared.types.Region.{Region}
 use Rattle.au_types.specs.declared.types.Region.TheVariants.{Static, Named, Anonymous}
-use Rattle.au_types.specs.Types.{Meaning, Argument, Arguments, unit, truth, integer, text, parameter, named, reads, writes, of_type, in_region, no_arguments, arguments}
+use Rattle.au_types.specs.Types.{Meaning, Argument, Arguments, unit, truth, integer, text, parameter, named}
+use Rattle.au_types.specs.Types.{reads, writes, of_type, in_region, no_arguments, arguments}
 use Rattle.au_matching.specs.Substituted.{EachName, EachNameOf, EachNameOfAll, OfRegion}
 use Rattle.au_judged_types.specs.Bounds.{Bounded, parameters}
 use Rattle.au_instances.specs.declared.constructors.Constructor.{Constructor}
 use Rattle.au_instances.specs.Constructors.{constructor_of}
-use Rattle.au_instances.specs.Forms.{HasForm, has_form, is_closed, is_closed_argument, are_closed, is_static, arguments_of, are_parameters, are_distinct, all_stand, stands_in, is_called, name_of, type_name, is_one_of}
+use Rattle.au_instances.specs.Forms.{HasForm, has_form, is_closed, is_closed_argument, are_closed, is_static}
+use Rattle.au_instances.specs.Forms.{arguments_of, are_parameters, are_distinct, all_stand, stands_in}
+use Rattle.au_instances.specs.Forms.{is_called, name_of, type_name, is_one_of}
 
 -- ---- the test decides
 
@@ -26,28 +30,50 @@ module _ (generics : List Bounded) (head : Meaning) where
   formed e =
       let params = parameters generics in
       let args = arguments_of head in
-      let both = and_parts (is_some (constructor_of head)) ((is_closed head || (are_parameters params args && are_distinct args)) && all_stand params args) e in
-      let rest = and_parts (is_closed head || (are_parameters params args && are_distinct args)) (all_stand params args) both.1 in
+      let both = and_parts (is_some (constructor_of head))
+      ((is_closed head || (are_parameters params args && are_distinct args)) && all_stand params args) e in
+      let rest = and_parts (is_closed head || (are_parameters params args && are_distinct args))
+      (all_stand params args) both.1 in
       let there = there_is (constructor_of head) both.0 in
-      record { constructor = there.0; heads = there.1; over = by (or_cases (is_closed head) (are_parameters params args && are_distinct args) rest.0); stand = rest.1 }
+      record {
+        constructor = there.0;
+        heads = there.1;
+        over =
+            by (or_cases (is_closed head) (are_parameters params args && are_distinct args) rest.0);
+        stand =
+            rest.1;
+      }
     where
-      by : (is_closed head ≡ true) ⊎ ((are_parameters (parameters generics) (arguments_of head) && are_distinct (arguments_of head)) ≡ true) → IsTrue (is_closed head) ⊎ (IsTrue (are_parameters (parameters generics) (arguments_of head)) × IsTrue (are_distinct (arguments_of head)))
+      by : (is_closed head ≡ true) ⊎
+          ((are_parameters (parameters generics) (arguments_of head) && are_distinct (arguments_of head))
+          ≡ true) → IsTrue (is_closed head)
+          ⊎ (IsTrue (are_parameters (parameters generics) (arguments_of head))
+          × IsTrue (are_distinct (arguments_of head)))
       by (inl h) = inl h
-      by (inr h) = inr (and_parts (are_parameters (parameters generics) (arguments_of head)) (are_distinct (arguments_of head)) h)
+      by (inr h) = inr (and_parts (are_parameters (parameters generics) (arguments_of head))
+          (are_distinct (arguments_of head)) h)
 
   holds : HasForm generics head → has_form generics head ≡ true
   holds form =
       let params = parameters generics in
       let args = arguments_of head in
-      and_from (is_some (constructor_of head)) ((is_closed head || (are_parameters params args && are_distinct args)) && all_stand params args)
+      and_from (is_some (constructor_of head))
+      ((is_closed head || (are_parameters params args && are_distinct args)) && all_stand params args)
       (ap is_some form.heads)
-      (and_from (is_closed head || (are_parameters params args && are_distinct args)) (all_stand params args) (by form.over) form.stand)
+      (and_from (is_closed head || (are_parameters params args && are_distinct args)) (all_stand params args)
+      (by form.over) form.stand)
     where
-      by : IsTrue (is_closed head) ⊎ (IsTrue (are_parameters (parameters generics) (arguments_of head)) × IsTrue (are_distinct (arguments_of head))) → (is_closed head || (are_parameters (parameters generics) (arguments_of head) && are_distinct (arguments_of head))) ≡ true
-      by (inl h) = or_left (is_closed head) (are_parameters (parameters generics) (arguments_of head) && are_distinct (arguments_of head)) h
+      by : IsTrue (is_closed head) ⊎ (IsTrue (are_parameters (parameters generics) (arguments_of head))
+          × IsTrue (are_distinct (arguments_of head))) →
+          (is_closed head || (are_parameters (parameters generics) (arguments_of head) && are_distinct
+          (arguments_of head))) ≡ true
+      by (inl h) = or_left (is_closed head)
+          (are_parameters (parameters generics) (arguments_of head) && are_distinct (arguments_of head)) h
       by (inr h) =
-          or_right (is_closed head) (are_parameters (parameters generics) (arguments_of head) && are_distinct (arguments_of head))
-          (and_from (are_parameters (parameters generics) (arguments_of head)) (are_distinct (arguments_of head)) h.0 h.1)
+          or_right (is_closed head) (are_parameters (parameters generics) (arguments_of head) && are_distinct
+          (arguments_of head))
+          (and_from (are_parameters (parameters generics) (arguments_of head))
+          (are_distinct (arguments_of head)) h.0 h.1)
 
   pub form_decides : Decides (has_form generics head) (HasForm generics head)
   form_decides = (formed, holds)
@@ -68,8 +94,10 @@ module _ (P R : Bytes → Type 0) where
     closed_each text e = tt
     closed_each (parameter name) e = absurd cc
     closed_each (named at args) e = closed_each_of_all args e
-    closed_each (reads to region) e = let both = and_parts (is_closed to) (is_static region) e in (closed_each to both.0, closed_region region both.1)
-    closed_each (writes to region) e = let both = and_parts (is_closed to) (is_static region) e in (closed_each to both.0, closed_region region both.1)
+    closed_each (reads to region) e = let both = and_parts (is_closed to) (is_static region) e
+        in (closed_each to both.0, closed_region region both.1)
+    closed_each (writes to region) e = let both = and_parts (is_closed to) (is_static region) e
+        in (closed_each to both.0, closed_region region both.1)
 
     closed_each_of : (one : Argument) → is_closed_argument one ≡ true → EachNameOf P R one
     closed_each_of (of_type t) e = closed_each t e
@@ -77,7 +105,9 @@ module _ (P R : Bytes → Type 0) where
 
     closed_each_of_all : (args : Arguments) → are_closed args ≡ true → EachNameOfAll P R args
     closed_each_of_all no_arguments e = tt
-    closed_each_of_all (arguments one rest) e = let both = and_parts (is_closed_argument one) (are_closed rest) e in (closed_each_of one both.0, closed_each_of_all rest both.1)
+    closed_each_of_all (arguments one rest) e = let both =
+        and_parts (is_closed_argument one) (are_closed rest) e
+        in (closed_each_of one both.0, closed_each_of_all rest both.1)
 
 closed_type_name : (t : Meaning) → is_closed t ≡ true → type_name t ≡ None
 closed_type_name unit e = refl
@@ -117,13 +147,16 @@ closed_arguments (writes to region) e = refl
 -- arguments that are parameters of nothing are none
 parameters_of_none : (args : Arguments) → are_parameters [] args ≡ true → args ≡ no_arguments
 parameters_of_none no_arguments e = refl
-parameters_of_none (arguments one rest) e = absurd (true≢false (sym (and_parts (is_one_of [] (name_of one) one) (are_parameters [] rest) e).0 ∙ by (name_of one)))
+parameters_of_none (arguments one rest) e =
+    absurd (true≢false (sym (and_parts (is_one_of [] (name_of one) one) (are_parameters [] rest) e).0
+    ∙ by (name_of one)))
   where
     by : (o : Option Bytes) → is_one_of [] o one ≡ false
     by None = refl
     by (Some name) = refl
 
-closed_alone : (t : Meaning) (one : Constructor) → constructor_of t ≡ Some one → arguments_of t ≡ no_arguments → is_closed t ≡ true
+closed_alone : (t : Meaning) (one : Constructor) → constructor_of t ≡ Some one →
+    arguments_of t ≡ no_arguments → is_closed t ≡ true
 closed_alone unit one e none = refl
 closed_alone truth one e none = refl
 closed_alone (integer kind) one e none = refl
@@ -137,7 +170,9 @@ closed_alone (writes to region) one e none = absurd cc
 pub form_closed : (head : Meaning) → HasForm [] head → is_closed head ≡ true
 form_closed head form = by form.over
   where
-    by : IsTrue (is_closed head) ⊎ (IsTrue (are_parameters [] (arguments_of head)) × IsTrue (are_distinct (arguments_of head))) → is_closed head ≡ true
+    by : IsTrue (is_closed head) ⊎
+        (IsTrue (are_parameters [] (arguments_of head)) × IsTrue (are_distinct (arguments_of head))) →
+        is_closed head ≡ true
     by (inl h) = h
     by (inr h) = closed_alone head form.constructor form.heads (parameters_of_none (arguments_of head) h.0)
 
@@ -151,28 +186,38 @@ pub record OverParameters (params : List Parameter) (head : Meaning) : Type 0 wh
   pub stand : all_stand params args ≡ true
 
 -- a type with an argument is a declared one
-declared_with : (params : List Parameter) (head : Meaning) (first : Argument) (rest : Arguments) → arguments_of head ≡ arguments first rest
-    → are_parameters params (arguments_of head) ≡ true → are_distinct (arguments_of head) ≡ true → all_stand params (arguments_of head) ≡ true → OverParameters params head
+declared_with : (params : List Parameter) (head : Meaning) (first : Argument) (rest : Arguments) →
+    arguments_of head ≡ arguments first rest
+    → are_parameters params (arguments_of head) ≡ true → are_distinct (arguments_of head) ≡ true →
+    all_stand params (arguments_of head) ≡ true → OverParameters params head
 declared_with params unit first rest e own distinct stand = absurd cc
 declared_with params truth first rest e own distinct stand = absurd cc
 declared_with params (integer kind) first rest e own distinct stand = absurd cc
 declared_with params text first rest e own distinct stand = absurd cc
 declared_with params (parameter name) first rest e own distinct stand = absurd cc
-declared_with params (named at args) first rest e own distinct stand = record { at = at; args = args; is = refl; own = own; distinct = distinct; stand = stand }
+declared_with params (named at args) first rest e own distinct stand =
+    record { at = at; args = args; is = refl; own = own; distinct = distinct; stand = stand }
 declared_with params (reads to region) first rest e own distinct stand = absurd cc
 declared_with params (writes to region) first rest e own distinct stand = absurd cc
 
 -- with type parameters the head is over them
-pub form_over : (first : Bounded) (others : List Bounded) (head : Meaning) → HasForm (first ∷ others) head → OverParameters (parameters (first ∷ others)) head
+pub form_over : (first : Bounded) (others : List Bounded) (head : Meaning) → HasForm (first ∷ others) head →
+    OverParameters (parameters (first ∷ others)) head
 form_over first others head form = by form.over
   where
     stands : stands_in first.parameter.name (arguments_of head) ≡ true
-    stands = (and_parts (stands_in first.parameter.name (arguments_of head)) (all_stand (parameters others) (arguments_of head)) form.stand).0
+    stands = (and_parts (stands_in first.parameter.name (arguments_of head))
+        (all_stand (parameters others) (arguments_of head)) form.stand).0
 
-    by_arguments : (args : Arguments) → arguments_of head ≡ args → are_parameters (parameters (first ∷ others)) (arguments_of head) ≡ true → are_distinct (arguments_of head) ≡ true → OverParameters (parameters (first ∷ others)) head
+    by_arguments : (args : Arguments) → arguments_of head ≡ args →
+        are_parameters (parameters (first ∷ others)) (arguments_of head) ≡ true →
+        are_distinct (arguments_of head) ≡ true → OverParameters (parameters (first ∷ others)) head
     by_arguments no_arguments e own distinct = absurd (true≢false (sym stands ∙ ap (stands_in first.parameter.name) e))
-    by_arguments (arguments one rest) e own distinct = declared_with (parameters (first ∷ others)) head one rest e own distinct form.stand
+    by_arguments (arguments one rest) e own distinct = declared_with (parameters (first ∷ others)) head one
+        rest e own distinct form.stand
 
-    by : IsTrue (is_closed head) ⊎ (IsTrue (are_parameters (parameters (first ∷ others)) (arguments_of head)) × IsTrue (are_distinct (arguments_of head))) → OverParameters (parameters (first ∷ others)) head
-    by (inl h) = absurd (true≢false (sym stands ∙ closed_stand first.parameter.name (arguments_of head) (closed_arguments head h)))
+    by : IsTrue (is_closed head) ⊎ (IsTrue (are_parameters (parameters (first ∷ others)) (arguments_of head))
+        × IsTrue (are_distinct (arguments_of head))) → OverParameters (parameters (first ∷ others)) head
+    by (inl h) = absurd (true≢false
+        (sym stands ∙ closed_stand first.parameter.name (arguments_of head) (closed_arguments head h)))
     by (inr h) = by_arguments (arguments_of head) refl h.0 h.1

@@ -1,5 +1,6 @@
 -- Walks through two lists at once, and through arguments for the types among them.
-use Rattle.std.proofs.Common.{◌≡◌, ℕ, suc, ◌+◌, ◌-◌, ◌<◌, ◌≤◌, ◌&&◌, Bool, true, false, List, [], ◌∷◌, ◌++◌, length, drop, get_or, Option, None, Some, refl, sym, ap, subst, ◌∙◌, arith}
+use Rattle.std.proofs.Common.{◌≡◌, ℕ, suc, ◌+◌, ◌-◌, ◌<◌, ◌≤◌, ◌&&◌, Bool, true, false, List, [], ◌∷◌, ◌++◌}
+use Rattle.std.proofs.Common.{length, drop, get_or, Option, None, Some, refl, sym, ap, subst, ◌∙◌, arith}
 use Prim.Native.Nat.{zero}
 use Rattle.std.specs.Prelude.{slice_get}
 use Rattle.std.proofs.lemmas.List.{drop_more, drop_all}
@@ -13,17 +14,23 @@ use Rattle.au_instances.proofs.StandingLemmas.{arguments_left}
 
 -- an element, and those behind it
 pub dropped : {X : Type 0} (xs : List X) (i : ℕ) (x : X) → slice_get xs i ≡ Some x → drop i xs ≡ x ∷ drop (i + 1) xs
-dropped xs i x is = drop_more xs i x (slice_get_within xs i x is) ∙ ap (λ y. y ∷ drop (i + 1) xs) (get_or_from_slice_get xs i x x is)
+dropped xs i x is = drop_more xs i x (slice_get_within xs i x is)
+    ∙ ap (λ y. y ∷ drop (i + 1) xs) (get_or_from_slice_get xs i x x is)
 
-pub item_left : {X : Type 0} (xs items : List X) (i : ℕ) (x : X) → items ≡ xs → i < length items → x ≡ get_or items i x → drop i xs ≡ x ∷ drop (i + 1) xs
+pub item_left : {X : Type 0} (xs items : List X) (i : ℕ) (x : X) → items ≡ xs → i < length items →
+    x ≡ get_or items i x → drop i xs ≡ x ∷ drop (i + 1) xs
 item_left xs items i x same inside is =
-    drop_more xs i x (subst (λ ys. i < length ys) same inside) ∙ ap (λ y. y ∷ drop (i + 1) xs) (sym (is ∙ ap (λ ys. get_or ys i x) same))
+    drop_more xs i x (subst (λ ys. i < length ys) same inside)
+    ∙ ap (λ y. y ∷ drop (i + 1) xs) (sym (is ∙ ap (λ ys. get_or ys i x) same))
 
 -- ---- two lists
 
-module _ {A B : Type 0} (F : List A → List B → Bool) (G : A → B → Bool) (both : (a : A) (xs : List A) (b : B) (ys : List B) → F (a ∷ xs) (b ∷ ys) ≡ (G a b && F xs ys)) where
+module _ {A B : Type 0} (F : List A → List B → Bool) (G : A → B → Bool)
+    (both : (a : A) (xs : List A) (b : B) (ys : List B) → F (a ∷ xs) (b ∷ ys) ≡ (G a b && F xs ys)) where
   -- the first of both lists that are left, and the others
-  pub zip_step : (xs : List A) (ys items : List B) (i : ℕ) (a : A) (b : B) → F xs ys ≡ F (drop i xs) (drop i ys) → slice_get xs i ≡ Some a → items ≡ ys → i < length items → b ≡ get_or items i b
+  pub zip_step : (xs : List A) (ys items : List B) (i : ℕ) (a : A) (b : B) →
+      F xs ys ≡ F (drop i xs) (drop i ys) → slice_get xs i ≡ Some a → items ≡ ys → i < length items →
+      b ≡ get_or items i b
       → F xs ys ≡ (G a b && F (drop (i + 1) xs) (drop (i + 1) ys))
   zip_step xs ys items i a b rest here same inside is =
       rest
@@ -32,18 +39,22 @@ module _ {A B : Type 0} (F : List A → List B → Bool) (G : A → B → Bool) 
       ∙ both a (drop (i + 1) xs) b (drop (i + 1) ys)
 
   -- none are left
-  pub zip_end : F [] [] ≡ true → (xs : List A) (ys items : List B) (i : ℕ) → length xs ≡ length ys → F xs ys ≡ F (drop i xs) (drop i ys) → items ≡ ys → length items ≤ i → true ≡ F xs ys
+  pub zip_end : F [] [] ≡ true → (xs : List A) (ys items : List B) (i : ℕ) → length xs ≡ length ys →
+      F xs ys ≡ F (drop i xs) (drop i ys) → items ≡ ys → length items ≤ i → true ≡ F xs ys
   zip_end none xs ys items i lengths rest same past =
       let done : length ys ≤ i = subst (λ zs. length zs ≤ i) same past in
       let done_too : length xs ≤ i = subst (λ n. n ≤ i) (sym lengths) done in
       sym (rest ∙ ap (λ zs. F zs (drop i ys)) (drop_all i xs done_too) ∙ ap (F []) (drop_all i ys done) ∙ none)
 
   -- lists of two lengths
-  pub zip_unequal : ((b : B) (ys : List B) → F [] (b ∷ ys) ≡ false) → ((a : A) (xs : List A) → F (a ∷ xs) [] ≡ false) → (xs : List A) (ys : List B) → (length xs ≡ length ys → ⊥) → F xs ys ≡ false
+  pub zip_unequal : ((b : B) (ys : List B) → F [] (b ∷ ys) ≡ false) →
+      ((a : A) (xs : List A) → F (a ∷ xs) [] ≡ false) → (xs : List A) (ys : List B) →
+      (length xs ≡ length ys → ⊥) → F xs ys ≡ false
   zip_unequal more less [] [] other = absurd (other refl)
   zip_unequal more less [] (b ∷ ys) other = more b ys
   zip_unequal more less (a ∷ xs) [] other = less a xs
-  zip_unequal more less (a ∷ xs) (b ∷ ys) other = both a xs b ys ∙ only (G a b) (zip_unequal more less xs ys (λ e. other (ap suc e)))
+  zip_unequal more less (a ∷ xs) (b ∷ ys) other = both a xs b ys
+      ∙ only (G a b) (zip_unequal more less xs ys (λ e. other (ap suc e)))
     where
       only : (x : Bool) → F xs ys ≡ false → (x && F xs ys) ≡ false
       only true e = e
@@ -53,21 +64,29 @@ module _ {A B : Type 0} (F : List A → List B → Bool) (G : A → B → Bool) 
 pub found_within : {X : Type 0} (xs : List X) (i : ℕ) → i < length xs → slice_get xs i ≡ None → ⊥
 found_within {X} [] i inside none = absurd (omega arith)
 found_within {X} (x ∷ xs) i inside none =
-    let both : ◌≡◌ {A = Option X} (Some (get_or (x ∷ xs) i x)) None = sym (slice_get-get_or (x ∷ xs) i x inside) ∙ none in
+    let both : ◌≡◌ {A = Option X} (Some (get_or (x ∷ xs) i x)) None =
+    sym (slice_get-get_or (x ∷ xs) i x inside) ∙ none in
     absurd cc
 
 -- ---- the types among arguments
 
-types_left : (xs : List Arg) (i : ℕ) (x : Arg) → i < length xs → x ≡ get_or xs i x → types_in (argument_all (drop i xs)) ≡ type_in (argument x) ++ types_in (argument_all (drop (i + 1) xs))
+types_left : (xs : List Arg) (i : ℕ) (x : Arg) → i < length xs → x ≡ get_or xs i x →
+    types_in (argument_all (drop i xs)) ≡ type_in (argument x) ++ types_in (argument_all (drop (i + 1) xs))
 types_left xs i x inside is =
-    ap types_in (arguments_left xs i x inside) ∙ ap (λ y. type_in (argument y) ++ types_in (argument_all (drop (i + 1) xs))) (sym is)
+    ap types_in (arguments_left xs i x inside)
+    ∙ ap (λ y. type_in (argument y) ++ types_in (argument_all (drop (i + 1) xs))) (sym is)
 
 -- where the first argument that is left is a region, and where it is a type
-pub region_left : (xs : List Arg) (i : ℕ) (x : Arg) (region : Region) → i < length xs → x ≡ get_or xs i x → argument x ≡ in_region region → types_in (argument_all (drop i xs)) ≡ types_in (argument_all (drop (i + 1) xs))
-region_left xs i x region inside is what = types_left xs i x inside is ∙ ap (λ one. type_in one ++ types_in (argument_all (drop (i + 1) xs))) what
+pub region_left : (xs : List Arg) (i : ℕ) (x : Arg) (region : Region) → i < length xs → x ≡ get_or xs i x →
+    argument x ≡ in_region region → types_in (argument_all (drop i xs))
+    ≡ types_in (argument_all (drop (i + 1) xs))
+region_left xs i x region inside is what = types_left xs i x inside is
+    ∙ ap (λ one. type_in one ++ types_in (argument_all (drop (i + 1) xs))) what
 
-pub type_left : (xs : List Arg) (i : ℕ) (x : Arg) (t : Meaning) → i < length xs → x ≡ get_or xs i x → argument x ≡ of_type t → types_in (argument_all (drop i xs)) ≡ t ∷ types_in (argument_all (drop (i + 1) xs))
-type_left xs i x t inside is what = types_left xs i x inside is ∙ ap (λ one. type_in one ++ types_in (argument_all (drop (i + 1) xs))) what
+pub type_left : (xs : List Arg) (i : ℕ) (x : Arg) (t : Meaning) → i < length xs → x ≡ get_or xs i x →
+    argument x ≡ of_type t → types_in (argument_all (drop i xs)) ≡ t ∷ types_in (argument_all (drop (i + 1) xs))
+type_left xs i x t inside is what = types_left xs i x inside is
+    ∙ ap (λ one. type_in one ++ types_in (argument_all (drop (i + 1) xs))) what
 
 -- what stands behind the first of a list
 pub later_nth : {X : Type 0} (x : X) (xs : List X) (n : ℕ) → (n ≡ 0 → ⊥) → slice_get (x ∷ xs) n ≡ slice_get xs (n - 1)

@@ -1,5 +1,7 @@
 -- When a result lies in the range.
-use Rattle.std.proofs.Common.{◌≡◌, ◌↔◌, ℕ, zero, suc, Bool, true, false, ◌&&◌, if◌then◌else◌, IsTrue, Option, Some, None, SomeIff, FitsSigned, ap, subst, sym, ◌∙◌, refl, arith, rules, ℤ, pos, negsuc}
+use Rattle.std.proofs.Common.{◌≡◌, ◌↔◌, ℕ, zero, suc, Bool, true, false, ◌&&◌, if◌then◌else◌, IsTrue, Option}
+use Rattle.std.proofs.Common.{Some, None, SomeIff, FitsSigned, ap, subst, sym, ◌∙◌, refl, arith, rules, ℤ}
+use Rattle.std.proofs.Common.{pos, negsuc}
 use Rattle.std.proofs.lemmas.Bool.Decides.{nat_tests}
 use Rattle.std.proofs.lemmas.Int.{ints}
 use Rattle.au_base.specs.declared.kinds.IntKind.{IntKind}
@@ -11,15 +13,20 @@ use Rattle.au_ints.specs.Ranges.{IsShape, IsWithin, is_within, IsOfKind, is_of_k
 use Rattle.au_ints.proofs.Turns.{within_fits}
 
 -- a number that is the exact result, tested against the range
-pub trapped_by : (op : IntOp) (bits sign : ℕ) (a b z : ℤ) (r : Option ℤ) → HasResult op b → z ≡ exact op a b → SomeIff r (IsWithin bits sign z) z → SomeIff r (HasResult op b × IsWithin bits sign (exact op a b)) (exact op a b)
+pub trapped_by : (op : IntOp) (bits sign : ℕ) (a b z : ℤ) (r : Option ℤ) → HasResult op b → z ≡ exact op a b →
+    SomeIff r (IsWithin bits sign z) z → SomeIff r (HasResult op b × IsWithin bits sign (exact op a b))
+    (exact op a b)
 trapped_by op bits sign a b z (Some x) some same kept = ((some, subst (IsWithin bits sign) same kept.0), kept.1 ∙ same)
 trapped_by op bits sign a b z None some same kept = λ both. kept (subst (IsWithin bits sign) (sym same) both.1)
 
 -- no number of a range passes an `i128`
-pub trapped_wide : (op : IntOp) (bits sign : ℕ) (a b z : ℤ) (r : Option ℤ) → IsShape bits sign → z ≡ exact op a b → ¬ (FitsSigned w128 z) → r ≡ None → SomeIff r (HasResult op b × IsWithin bits sign (exact op a b)) (exact op a b)
+pub trapped_wide : (op : IntOp) (bits sign : ℕ) (a b z : ℤ) (r : Option ℤ) → IsShape bits sign →
+    z ≡ exact op a b → ¬ (FitsSigned w128 z) → r ≡ None →
+    SomeIff r (HasResult op b × IsWithin bits sign (exact op a b)) (exact op a b)
 trapped_wide op bits sign a b z r shape same wide none =
     let Kept : Option ℤ → Type 0 = λ o. SomeIff o (HasResult op b × IsWithin bits sign (exact op a b)) (exact op a b) in
-    let gone : Kept None = λ both. wide (within_fits bits sign z shape (subst (IsWithin bits sign) (sym same) both.1)) in
+    let gone : Kept None = λ both. wide
+    (within_fits bits sign z shape (subst (IsWithin bits sign) (sym same) both.1)) in
     subst Kept (sym none) gone
 
 -- two choices by one fact are the same
@@ -34,7 +41,8 @@ untrue : IsTrue false → ⊥
 untrue e = cc
 
 -- a choice by two tests, and by one
-chosen_by : (P Q : Type 0) (s t : Bool) (v : ℤ) → (IsTrue s ↔ P) → (IsTrue t ↔ Q) → SomeIff (if s && t then Some v else None) (P × Q) v
+chosen_by : (P Q : Type 0) (s t : Bool) (v : ℤ) → (IsTrue s ↔ P) → (IsTrue t ↔ Q) →
+    SomeIff (if s && t then Some v else None) (P × Q) v
 chosen_by P Q true true v p q = ((p.0 refl, q.0 refl), refl)
 chosen_by P Q true false v p q = λ both. untrue (q.1 both.1)
 chosen_by P Q false t v p q = λ both. untrue (p.1 both.0)
@@ -56,13 +64,18 @@ has_result_means int_op.Divide (negsuc n) = (λ t e. absurd (omega (arith, ints,
 is_within_means : (bits sign : ℕ) (z : ℤ) → IsTrue (is_within bits sign z) ↔ IsWithin bits sign z
 is_within_means bits sign z = search rules
 
-pub trapped_chosen : (op : IntOp) (kind : IntKind) (a b : ℤ) → SomeIff (trapped op kind a b) (HasResult op b × IsOfKind kind (exact op a b)) (exact op a b)
+pub trapped_chosen : (op : IntOp) (kind : IntKind) (a b : ℤ) →
+    SomeIff (trapped op kind a b) (HasResult op b × IsOfKind kind (exact op a b)) (exact op a b)
 unfolding trapped
-trapped_chosen op kind a b = chosen_by (HasResult op b) (IsOfKind kind (exact op a b)) (has_result op b) (is_of_kind kind (exact op a b)) (exact op a b) (has_result_means op b) (is_within_means (bits_of kind) (sign_of kind) (exact op a b))
+trapped_chosen op kind a b = chosen_by (HasResult op b) (IsOfKind kind (exact op a b)) (has_result op b)
+    (is_of_kind kind (exact op a b)) (exact op a b) (has_result_means op b)
+    (is_within_means (bits_of kind) (sign_of kind) (exact op a b))
 
 -- so a result that is chosen by these facts is the trapped one
-pub trapped_is : (op : IntOp) (kind : IntKind) (a b : ℤ) (r : Option ℤ) → SomeIff r (HasResult op b × IsOfKind kind (exact op a b)) (exact op a b) → r ≡ trapped op kind a b
-trapped_is op kind a b r kept = chosen_once (HasResult op b × IsOfKind kind (exact op a b)) (exact op a b) r (trapped op kind a b) kept (trapped_chosen op kind a b)
+pub trapped_is : (op : IntOp) (kind : IntKind) (a b : ℤ) (r : Option ℤ) →
+    SomeIff r (HasResult op b × IsOfKind kind (exact op a b)) (exact op a b) → r ≡ trapped op kind a b
+trapped_is op kind a b r kept = chosen_once (HasResult op b × IsOfKind kind (exact op a b)) (exact op a b) r
+    (trapped op kind a b) kept (trapped_chosen op kind a b)
 
 -- a number at another kind
 pub converted_chosen : (to : IntKind) (z : ℤ) → SomeIff (converted to z) (IsOfKind to z) z

@@ -1,16 +1,21 @@
 -- A statement and a block are refused for just what their first fault tells.
-use Rattle.std.proofs.Common.{◌≡◌, ◌⊎◌, inl, inr, Bool, true, false, List, [], ◌∷◌, refl, sym, ap, subst, ◌∙◌, Some, None}
+use Rattle.std.proofs.Common.{◌≡◌, ◌⊎◌, inl, inr, Bool, true, false, List, [], ◌∷◌, refl, sym, ap, subst, ◌∙◌}
+use Rattle.std.proofs.Common.{Some, None}
 use Rattle.std.specs.Prelude.{Ok, Err}
 use Rattle.au_base.specs.declared.places.Pos.{Pos}
 use Rattle.au_syntax.specs.Names.{Placed}
 use Rattle.au_syntax.specs.Types.{Bound}
 use Rattle.au_syntax.specs.Plain.{Bytes, PlainArms, PlainBranches, PlainExpression, PlainStatement, PlainStatements}
-use Rattle.au_syntax.specs.Statements.{skip, declare, destructure, assign, assign_through, conditional, conditional_else, case_of, while_loop, for_loop, borrow_in, borrow_typed, discard, return_of, no_statements, statements, no_branches, branches, no_arms, arms}
+use Rattle.au_syntax.specs.Statements.{skip, declare, destructure, assign, assign_through, conditional}
+use Rattle.au_syntax.specs.Statements.{conditional_else, case_of, while_loop, for_loop, borrow_in}
+use Rattle.au_syntax.specs.Statements.{borrow_typed, discard, return_of, no_statements, statements}
+use Rattle.au_syntax.specs.Statements.{no_branches, branches, no_arms, arms}
 use Rattle.au_types.specs.Types as mean
 use Rattle.au_types.specs.Types.{Meaning}
 use Rattle.au_typing.specs.Scopes.{Scope}
 use Rattle.au_typing.specs.Bare.{is_bare}
-use Rattle.au_typing.specs.Faults.{Fault, Noting, ◌>>=◌, after_return, check, known_or, shape, integer_wanted, not_free, record_wanted}
+use Rattle.au_typing.specs.Faults.{Fault, Noting, ◌>>=◌, after_return, check, known_or, shape, integer_wanted}
+use Rattle.au_typing.specs.Faults.{not_free, record_wanted}
 use Rattle.au_typing.specs.Good.{IsNoting}
 use Rattle.au_typing.specs.Lookups.{is_free_in, outcome_noted, written_means, written_type}
 use Rattle.au_typing.specs.Notes.{Mode, NotedExpression, erase, type_of}
@@ -24,7 +29,11 @@ use Rattle.au_typing.specs.DerivationFaults.{Judged, ◌then◌, StatementFault,
 use Rattle.au_typing.specs.InScope.{after, fixed_variable, with_bound, with_reference, with_variable}
 use Rattle.au_typing.specs.Parts.{borrow_type, heads_of, mode_for}
 use Rattle.au_typing.specs.Returns.{returns}
-use Rattle.au_typing.specs.DerivationSearch.{judge_assigned, judge_binds, judge_borrow, judge_heads, judge_lent, judge_next, judge_put, judge_union, note_arms, note_assigned, note_block, note_bounds, note_branches, note_case, note_declared, note_discarded, note_put, note_statement, note_taken, note_test, note_tests, place_of}
+use Rattle.au_typing.specs.DerivationSearch.{judge_assigned, judge_binds, judge_borrow, judge_heads}
+use Rattle.au_typing.specs.DerivationSearch.{judge_lent, judge_next, judge_put, judge_union, note_arms}
+use Rattle.au_typing.specs.DerivationSearch.{note_assigned, note_block, note_bounds, note_branches, note_case}
+use Rattle.au_typing.specs.DerivationSearch.{note_declared, note_discarded, note_put, note_statement}
+use Rattle.au_typing.specs.DerivationSearch.{note_taken, note_test, note_tests, place_of}
 use Rattle.au_typing.specs.Trees.{NotedArms, NotedBranches, NotedStatement, NotedStatements}
 use Rattle.au_typing.proofs.FoundLemmas.{block_found, statement_found}
 use Rattle.au_typing.proofs.PartLemmas.{borrow_found, bounds_found, case_found, lent_found}
@@ -32,12 +41,27 @@ use Rattle.au_typing.proofs.SoundLemmas.{block_sound, statement_sound}
 use Rattle.au_typing.proofs.SoundPartLemmas.{borrow_sound, bounds_sound, case_sound, lent_sound}
 use Rattle.au_typing.proofs.StepLemmas.{placed_gave, then_gave}
 use Rattle.au_laws.specs.FirstFaults.{FirstFault}
-use Rattle.au_laws.specs.FirstInStatements.{BehindTest, BlockNext, BlockNoted, BlocksNoted, ExpressionNext, FaultIn, FaultOf, InArm, OwnFault, StatementBreaks, StatementNoted, TestNext, TestsNoted, a_borrow, a_case, a_declared_type, a_destructuring, a_place_behind, a_result, a_typed_borrow, an_assigned_place, behind_a_later_test, behind_a_test, behind_a_test_with_else, behind_else, behind_return, behind_this_test, bounds, in_a_borrow, in_a_for, in_a_later_arm, in_a_typed_borrow, in_a_while, in_an_arm, in_this_arm, its_own, of_a_block, of_an_expression, of_assignment, of_assignment_through, of_call, of_case_of, of_declared, of_destructured, of_for, of_return, of_tests, of_tests_with_else, of_the_first, of_the_rest, of_the_statement, of_while}
-use Rattle.au_laws.specs.StatementClauses.{of_assigned, of_borrow_into, of_bounds, of_case, of_free, of_lent, of_put, of_taken}
+use Rattle.au_laws.specs.FirstInStatements.{BehindTest, BlockNext, BlockNoted, BlocksNoted, ExpressionNext}
+use Rattle.au_laws.specs.FirstInStatements.{FaultIn, FaultOf, InArm, OwnFault, StatementBreaks}
+use Rattle.au_laws.specs.FirstInStatements.{StatementNoted, TestNext, TestsNoted, a_borrow, a_case}
+use Rattle.au_laws.specs.FirstInStatements.{a_declared_type, a_destructuring, a_place_behind, a_result}
+use Rattle.au_laws.specs.FirstInStatements.{a_typed_borrow, an_assigned_place, behind_a_later_test}
+use Rattle.au_laws.specs.FirstInStatements.{behind_a_test, behind_a_test_with_else, behind_else}
+use Rattle.au_laws.specs.FirstInStatements.{behind_return, behind_this_test, bounds, in_a_borrow, in_a_for}
+use Rattle.au_laws.specs.FirstInStatements.{in_a_later_arm, in_a_typed_borrow, in_a_while, in_an_arm}
+use Rattle.au_laws.specs.FirstInStatements.{in_this_arm, its_own, of_a_block, of_an_expression, of_assignment}
+use Rattle.au_laws.specs.FirstInStatements.{of_assignment_through, of_call, of_case_of, of_declared}
+use Rattle.au_laws.specs.FirstInStatements.{of_destructured, of_for, of_return, of_tests, of_tests_with_else}
+use Rattle.au_laws.specs.FirstInStatements.{of_the_first, of_the_rest, of_the_statement, of_while}
+use Rattle.au_laws.specs.StatementClauses.{of_assigned, of_borrow_into, of_bounds, of_case, of_free, of_lent}
+use Rattle.au_laws.specs.StatementClauses.{of_put, of_taken}
 use Rattle.au_laws.proofs.ClauseLemmas.{bind_fails, fails_first, first_fails}
 use Rattle.au_laws.proofs.NodeLemmas.{pair_fails, pair_given}
-use Rattle.au_laws.proofs.OwnLemmas.{assigned_failed, assigned_given, bounds_failed, case_failed, declared_failed, put_failed, put_given, result_failed, taken_failed, test_fails, tests_are, tests_failed, tests_given, then_statement}
-use Rattle.au_laws.proofs.StatementClauseLemmas.{assigned_tells, borrow_tells, bounds_tell, case_tells, only_lent_tells, put_tells, result_tells, taken_tells}
+use Rattle.au_laws.proofs.OwnLemmas.{assigned_failed, assigned_given, bounds_failed, case_failed}
+use Rattle.au_laws.proofs.OwnLemmas.{declared_failed, put_failed, put_given, result_failed, taken_failed}
+use Rattle.au_laws.proofs.OwnLemmas.{test_fails, tests_are, tests_failed, tests_given, then_statement}
+use Rattle.au_laws.proofs.StatementClauseLemmas.{assigned_tells, borrow_tells, bounds_tell, case_tells}
+use Rattle.au_laws.proofs.StatementClauseLemmas.{only_lent_tells, put_tells, result_tells, taken_tells}
 use Rattle.au_laws.proofs.TellLemmas.{fault_fails}
 
 -- ---- steps
@@ -116,7 +140,8 @@ expression_fails sc s e mode f (of_for at name first last block d own pairs) h =
     (λ y. note_block block (with_variable (fixed_variable name.name (type_of y.0)) sc)
     then λ b. Ok (for_loop at name y.0 y.1 b))
     (bind_fails
-    (λ (y : NotedExpression × NotedExpression). of_one_type y.0 y.1 (check (is_integer (type_of y.0)) (shape integer_wanted) (Ok y)))
+    (λ (y : NotedExpression × NotedExpression). of_one_type y.0 y.1
+    (check (is_integer (type_of y.0)) (shape integer_wanted) (Ok y)))
     (pair_fails sc first last d None own f pairs h))
 expression_fails sc s e mode f (of_call at d) h =
     own_fails at (λ a. Ok (discard at a))
@@ -157,7 +182,8 @@ breaks_fail sc s f (bounds at name first last block g x y pair h) =
     (λ w. note_block block (with_variable (fixed_variable name.name (type_of w.0)) sc)
     then λ b. Ok (for_loop at name w.0 w.1 b))
     (bind_found
-    (λ (w : NotedExpression × NotedExpression). of_one_type w.0 w.1 (check (is_integer (type_of w.0)) (shape integer_wanted) (Ok w)))
+    (λ (w : NotedExpression × NotedExpression). of_one_type w.0 w.1
+    (check (is_integer (type_of w.0)) (shape integer_wanted) (Ok w)))
     (pair_given sc first last None x y pair)
     ∙ first_fails (of_one_type x y (check (is_integer (type_of x)) (shape integer_wanted) (Ok z))) (of_bounds x y) g
     (bounds_tell sc z) h)

@@ -1,9 +1,11 @@
 -- A body, a constant and a declaration are refused for just what their first fault tells.
-use Rattle.std.proofs.Common.{◌≡◌, ◌⊎◌, inl, inr, ℕ, Bool, true, false, List, [], ◌∷◌, refl, sym, ap, subst, ◌∙◌, Option, Some, None, map, get_or}
+use Rattle.std.proofs.Common.{◌≡◌, ◌⊎◌, inl, inr, ℕ, Bool, true, false, List, [], ◌∷◌, refl, sym, ap, subst}
+use Rattle.std.proofs.Common.{◌∙◌, Option, Some, None, map, get_or}
 use Rattle.std.specs.Prelude.{Ok, Err}
 use Rattle.au_base.specs.declared.places.Pos.{Pos}
 use Rattle.au_syntax.specs.declared.modules.Part.{Part}
-use Rattle.au_syntax.specs.Modules.{Constrained, Header, constant, opaque_type, record_type, union_type, function, class, instance, constant_body, function_body, instance_body}
+use Rattle.au_syntax.specs.Modules.{Constrained, Header, constant, opaque_type, record_type, union_type}
+use Rattle.au_syntax.specs.Modules.{function, class, instance, constant_body, function_body, instance_body}
 use Rattle.au_syntax.specs.Names.{Placed}
 use Rattle.au_syntax.specs.Plain.{Bytes, PlainDeclaration, PlainExpression, PlainMethod, PlainStatements}
 use Rattle.au_syntax.specs.Types.{Labelled, WrittenType}
@@ -28,9 +30,14 @@ use Rattle.au_typing.specs.DerivationSearch.{note_block}
 use Rattle.au_typing.specs.Trees.{NotedDeclaration, NotedMethod, NotedStatements, erase_block, erase_declaration}
 use Rattle.au_typing.proofs.StepLemmas.{placed_gave, then_gave}
 use Rattle.au_laws.specs.Clauses.{Clause, TellsFirst}
-use Rattle.au_laws.specs.FirstInPrograms.{BodyFault, ConstantFault, DeclarationFault, DeclarationNoted, FirstAmong, MethodFault, MethodNoted, at_its_end, in_its_block, in_its_header, its_type, its_value, no_literal, of_a_constant, of_a_function, of_an_instance, of_header, of_parameters}
+use Rattle.au_laws.specs.FirstInPrograms.{BodyFault, ConstantFault, DeclarationFault, DeclarationNoted}
+use Rattle.au_laws.specs.FirstInPrograms.{FirstAmong, MethodFault, MethodNoted, at_its_end, in_its_block}
+use Rattle.au_laws.specs.FirstInPrograms.{in_its_header, its_type, its_value, no_literal, of_a_constant}
+use Rattle.au_laws.specs.FirstInPrograms.{of_a_function, of_an_instance, of_header, of_parameters}
 use Rattle.au_laws.specs.StatementClauses.{formed}
-use Rattle.au_laws.proofs.BlockLemmas.{block_given, block_tells, fault_in_fails, only_then, own_fails, own_found, placed_failed, same_judged, then_failed, then_fails, then_found}
+use Rattle.au_laws.proofs.BlockLemmas.{block_given, block_tells, fault_in_fails, only_then, own_fails}
+use Rattle.au_laws.proofs.BlockLemmas.{own_found, placed_failed, same_judged, then_failed, then_fails}
+use Rattle.au_laws.proofs.BlockLemmas.{then_found}
 use Rattle.au_laws.proofs.ClauseLemmas.{Tells, bind_failed, bind_fails, fails_first, fault_of, first_fails, in_turn}
 use Rattle.au_laws.proofs.PassLemmas.{same_fault}
 use Rattle.au_laws.proofs.StatementClauseLemmas.{formed_tells}

@@ -1,5 +1,6 @@
 -- What stops the noting of a call, both ways.
-use Rattle.std.proofs.Common.{◌≡◌, ◌⊎◌, inl, inr, ℕ, zero, suc, Bool, true, false, List, [], ◌∷◌, refl, sym, ap, subst, ◌∙◌, Option, Some, None, Ok, Err, length}
+use Rattle.std.proofs.Common.{◌≡◌, ◌⊎◌, inl, inr, ℕ, zero, suc, Bool, true, false, List, [], ◌∷◌, refl, sym}
+use Rattle.std.proofs.Common.{ap, subst, ◌∙◌, Option, Some, None, Ok, Err, length}
 use Rattle.au_syntax.specs.Plain.{Bytes, PlainExpression}
 use Rattle.au_types.specs.Types.{Meaning}
 use Rattle.au_matching.specs.Bindings.{Bindings}
@@ -12,12 +13,16 @@ use Rattle.au_typing.specs.Notes.{Mode, NotedExpression, note_of}
 use Rattle.au_typing.specs.Calls.{Taken, TakenBare}
 use Rattle.au_typing.specs.Operands.{Noter}
 use Rattle.au_typing.specs.Search.{note_expression}
-use Rattle.au_typing.specs.SearchCalls.{Half, Operand, first, first_step, half_of, put_before, second, second_step, taken, taken_bare}
+use Rattle.au_typing.specs.SearchCalls.{Half, Operand, first, first_step, half_of, put_before, second}
+use Rattle.au_typing.specs.SearchCalls.{second_step, taken, taken_bare}
 use Rattle.au_typing.proofs.Steps.{bind_found, bind_ok, ok_same}
-use Rattle.au_laws.specs.CallClauses.{ComesTo, FirstTaken, GoesOver, SecondTaken, at_first, behind_one, is_taken, is_taken_bare, waits, was_taken}
+use Rattle.au_laws.specs.CallClauses.{ComesTo, FirstTaken, GoesOver, SecondTaken, at_first, behind_one}
+use Rattle.au_laws.specs.CallClauses.{is_taken, is_taken_bare, waits, was_taken}
 use Rattle.au_laws.specs.FirstFaults.{FirstFault}
 use Rattle.au_laws.proofs.ClauseLemmas.{bind_failed, bind_fails}
-use Rattle.au_laws.proofs.PassLemmas.{EachTells, FailsFirst, FailsSecond, none_left, ops_of, same_fault, suc_is, taken_bare_failed, taken_bare_gave, taken_bare_goes, taken_failed, taken_gave, taken_goes}
+use Rattle.au_laws.proofs.PassLemmas.{EachTells, FailsFirst, FailsSecond, none_left, ops_of, same_fault}
+use Rattle.au_laws.proofs.PassLemmas.{suc_is, taken_bare_failed, taken_bare_gave, taken_bare_goes}
+use Rattle.au_laws.proofs.PassLemmas.{taken_failed, taken_gave, taken_goes}
 
 module _ (scope : Scope) where
   -- what the first pass leaves of an argument fits whether it is bare

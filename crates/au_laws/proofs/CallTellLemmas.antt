@@ -1,5 +1,6 @@
 -- A call that is refused has a first fault.
-use Rattle.std.proofs.Common.{◌≡◌, ◌⊎◌, inl, inr, Bool, true, false, List, [], ◌∷◌, refl, sym, ap, subst, ◌∙◌, Option, Some, None, Ok, Err, length}
+use Rattle.std.proofs.Common.{◌≡◌, ◌⊎◌, inl, inr, Bool, true, false, List, [], ◌∷◌, refl, sym, ap, subst, ◌∙◌}
+use Rattle.std.proofs.Common.{Option, Some, None, Ok, Err, length}
 use Rattle.au_syntax.specs.Plain.{PlainExpression}
 use Rattle.au_types.specs.Types.{Meaning}
 use Rattle.au_matching.specs.Bindings.{Bindings}
@@ -13,13 +14,17 @@ use Rattle.au_typing.specs.Rules.{int32}
 use Rattle.au_typing.specs.Search.{note_expression}
 use Rattle.au_typing.specs.SearchCalls.{Half, first, result_differs, second, with_arguments}
 use Rattle.au_typing.proofs.Steps.{known_ok}
-use Rattle.au_laws.specs.CallClauses.{Begins, Call, ComesTo, FirstTaken, GoesOver, IsCall, SecondTaken, of_called, of_callee, wanted_under}
+use Rattle.au_laws.specs.CallClauses.{Begins, Call, ComesTo, FirstTaken, GoesOver, IsCall, SecondTaken}
+use Rattle.au_laws.specs.CallClauses.{of_called, of_callee, wanted_under}
 use Rattle.au_laws.specs.Clauses.{Clause, TellsFirst, must_be}
-use Rattle.au_laws.specs.FirstFaults.{FirstFault, a_call, a_callee, another_type, in_first_pass, in_second_pass, no_int32, no_parameter, of_an_argument, of_the_node}
-use Rattle.au_laws.proofs.CallLemmas.{AreHalves, FailsInFirst, FailsInSecond, first_failed, first_gave, second_failed, second_gave}
+use Rattle.au_laws.specs.FirstFaults.{FirstFault, a_call, a_callee, another_type, in_first_pass}
+use Rattle.au_laws.specs.FirstFaults.{in_second_pass, no_int32, no_parameter, of_an_argument, of_the_node}
+use Rattle.au_laws.proofs.CallLemmas.{AreHalves, FailsInFirst, FailsInSecond, first_failed, first_gave}
+use Rattle.au_laws.proofs.CallLemmas.{second_failed, second_gave}
 use Rattle.au_laws.proofs.ClauseLemmas.{bind_failed, fails_first}
 use Rattle.au_laws.proofs.PassLemmas.{EachTells, FailsFirst, FailsSecond, known_failed, ops_of}
-use Rattle.au_laws.proofs.WholeCallLemmas.{called_tells, even_args, from_called, from_name, from_types, noted_call, where_none, where_some}
+use Rattle.au_laws.proofs.WholeCallLemmas.{called_tells, even_args, from_called, from_name, from_types}
+use Rattle.au_laws.proofs.WholeCallLemmas.{noted_call, where_none, where_some}
 
 module _ (scope : Scope) where
   -- ---- an argument that fails

@@ -1,5 +1,6 @@
 -- Steps of the search tell what the first clause tells that doesn't hold.
-use Rattle.std.proofs.Common.{◌≡◌, ◌⊎◌, inl, inr, ℤ, Bool, true, false, List, [], ◌∷◌, refl, sym, ap, subst, ◌∙◌, Option, Some, None, Ok, Err, if◌then◌else◌}
+use Rattle.std.proofs.Common.{◌≡◌, ◌⊎◌, inl, inr, ℤ, Bool, true, false, List, [], ◌∷◌, refl, sym, ap, subst}
+use Rattle.std.proofs.Common.{◌∙◌, Option, Some, None, Ok, Err, if◌then◌else◌}
 use Rattle.au_base.specs.declared.limits.Limit.{Limit}
 use Rattle.au_ints.specs.Ranges.{is_of_kind}
 use Rattle.au_syntax.specs.declared.expressions.BinaryOperator.{BinaryOperator}
@@ -12,16 +13,20 @@ use Rattle.au_types.specs.Same.{same}
 use Rattle.au_types.specs.Types as mean
 use Rattle.au_types.specs.Types.{Meaning}
 use Rattle.au_typing.specs.Scopes.{Scope}
-use Rattle.au_typing.specs.Faults.{Fault, Noting, ◌>>=◌, Why, why, limit, check, known_or, unknown, different, not_free, shape, integer_wanted, range_wanted, record_wanted, reference_wanted, write_reference_wanted}
+use Rattle.au_typing.specs.Faults.{Fault, Noting, ◌>>=◌, Why, why, limit, check, known_or, unknown, different}
+use Rattle.au_typing.specs.Faults.{not_free, shape, integer_wanted, range_wanted, record_wanted}
+use Rattle.au_typing.specs.Faults.{reference_wanted, write_reference_wanted}
 use Rattle.au_typing.specs.Limits.{limit_among, types_noted, unless_limit, within}
 use Rattle.au_typing.specs.Lookups.{behind, field_type, is_free_in, is_record, part_type, record_part}
 use Rattle.au_typing.specs.Notes.{Mode, Note, NotedExpression, plain_note, type_of}
 use Rattle.au_typing.specs.Operands.{of_one_type}
 use Rattle.au_typing.specs.Rules.{is_compared, is_integer, literal_kind, noted, wanted_note}
-use Rattle.au_typing.specs.Search.{arithmetic_note, arrow_note, borrow_part_note, borrowed, comparison_note, dereference_note, literal_note, part_note, path_note, read_note}
+use Rattle.au_typing.specs.Search.{arithmetic_note, arrow_note, borrow_part_note, borrowed, comparison_note}
+use Rattle.au_typing.specs.Search.{dereference_note, literal_note, part_note, path_note, read_note}
 use Rattle.au_typing.specs.SearchCalls.{unless_why}
 use Rattle.au_laws.specs.Clauses.{Clause, TellsFirst, as_wanted, broken, has_type, in_limits, must, must_be, must_lack}
-use Rattle.au_laws.specs.NodeClauses.{of_arithmetic, of_arrow, of_borrow, of_borrowed_part, of_comparison, of_dereference, of_fields, of_literal, of_part, of_path, of_read}
+use Rattle.au_laws.specs.NodeClauses.{of_arithmetic, of_arrow, of_borrow, of_borrowed_part, of_comparison}
+use Rattle.au_laws.specs.NodeClauses.{of_dereference, of_fields, of_literal, of_part, of_path, of_read}
 
 -- ---- what is told
 

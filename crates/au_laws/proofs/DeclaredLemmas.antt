@@ -1,5 +1,6 @@
 -- The variables that a scope has beyond another, and what they ask.
-use Rattle.std.proofs.Common.{◌≡◌, true, false, ℕ, ◌-◌, List, [], ◌∷◌, ◌++◌, append_assoc, length, length-append, reverse, take, refl, sym, ap, subst, ◌∙◌, arith, Ok}
+use Rattle.std.proofs.Common.{◌≡◌, true, false, ℕ, ◌-◌, List, [], ◌∷◌, ◌++◌, append_assoc, length}
+use Rattle.std.proofs.Common.{length-append, reverse, take, refl, sym, ap, subst, ◌∙◌, arith, Ok}
 use Rattle.std.proofs.lemmas.List.{reverse-append}
 use Rattle.au_judged_types.specs.Judging.{refers}
 use Rattle.au_lives.specs.declared.lives.Sort.{Sort}
@@ -9,7 +10,9 @@ use Rattle.au_typing.specs.Scopes.{Scope, Typed, Variable}
 use Rattle.au_syntax.specs.declared.types.Access.{Access}
 use Rattle.au_syntax.specs.declared.types.Access.TheVariants as access
 use Rattle.au_syntax.specs.Plain.{Bytes}
-use Rattle.au_syntax.specs.Statements.{skip, declare, destructure, assign, assign_through, conditional, conditional_else, case_of, while_loop, for_loop, borrow_in, borrow_typed, discard, return_of}
+use Rattle.au_syntax.specs.Statements.{skip, declare, destructure, assign, assign_through, conditional}
+use Rattle.au_syntax.specs.Statements.{conditional_else, case_of, while_loop, for_loop, borrow_in}
+use Rattle.au_syntax.specs.Statements.{borrow_typed, discard, return_of}
 use Rattle.au_syntax.specs.Types.{Bound}
 use Rattle.au_types.specs.declared.types.Region.{Region}
 use Rattle.au_types.specs.Types as mean
@@ -18,7 +21,8 @@ use Rattle.au_typing.specs.Faults.{Noting}
 use Rattle.au_typing.specs.Lookups.{outcome_noted, written_means, written_type}
 use Rattle.au_typing.specs.Rules.{is_integer}
 use Rattle.au_matching.specs.Universes.{universe_of}
-use Rattle.au_typing.specs.InScope.{after, fixed_variable, is_var, with_bound, with_reference, with_typed, with_variable}
+use Rattle.au_typing.specs.InScope.{after, fixed_variable, is_var, with_bound, with_reference, with_typed}
+use Rattle.au_typing.specs.InScope.{with_variable}
 use Rattle.au_typing.specs.Statements.{AreBound, GoodStatement}
 use Rattle.au_typing.specs.Trees.{NotedStatement, erase_statement}
 use Rattle.au_laws.specs.Derived.{asked_in, sorts_beyond, sorts_of_types, types_in}
@@ -53,12 +57,14 @@ beyond sc inner ss d =
 
 -- ---- written types
 
-outcome_asks : (sc : Scope) (o : Outcome Meaning) (of : Meaning) → outcome_noted o ≡ Ok of → judged_sort (types_in sc) o ≡ asked_in sc of
+outcome_asks : (sc : Scope) (o : Outcome Meaning) (of : Meaning) → outcome_noted o ≡ Ok of →
+    judged_sort (types_in sc) o ≡ asked_in sc of
 outcome_asks sc (means t) of h = ap (asked_in sc) (ok_same t of h)
 outcome_asks sc (fails why) of h = absurd (cc)
 
 -- a type that is well formed asks what it means
-pub written_asks : (sc : Scope) (t : WrittenType) (of : Meaning) → written_type sc t ≡ Ok of → written_sort (types_in sc) t ≡ asked_in sc of
+pub written_asks : (sc : Scope) (t : WrittenType) (of : Meaning) → written_type sc t ≡ Ok of →
+    written_sort (types_in sc) t ≡ asked_in sc of
 written_asks sc t of h = outcome_asks sc (written_means sc t) of h
 
 -- ---- what is declared
@@ -68,7 +74,8 @@ pub nothing : (sc : Scope) → Declares sc sc.variables sc []
 nothing sc = record { new = []; is = refl; asks = refl }
 
 -- one variable is declared
-pub one_more : (sc : Scope) (one : Variable) (s : Sort) → s ≡ asked_in sc one.of → Declares sc sc.variables (with_variable one sc) (s ∷ [])
+pub one_more : (sc : Scope) (one : Variable) (s : Sort) → s ≡ asked_in sc one.of →
+    Declares sc sc.variables (with_variable one sc) (s ∷ [])
 one_more sc one s e = record { new = one ∷ []; is = refl; asks = ap (λ l. l ∷ []) e }
 
 -- the variables alone count of a scope that is beyond another
@@ -84,7 +91,8 @@ reference_beyond sc name region of s e =
     ∙ beyond sc (with_variable (fixed_variable name of) sc) (s ∷ []) (one_more sc (fixed_variable name of) s e)
 
 -- one before others
-pub before : (sc : Scope) (vs : List Variable) (one : Variable) (inner : Scope) (ss : List Sort) → Declares sc (one ∷ vs) inner ss →
+pub before : (sc : Scope) (vs : List Variable) (one : Variable) (inner : Scope) (ss : List Sort) →
+    Declares sc (one ∷ vs) inner ss →
     Declares sc vs inner (asked_in sc one.of ∷ ss)
 before sc vs one inner ss d = record {
   new = d.new ++ (one ∷ []);
@@ -92,24 +100,29 @@ before sc vs one inner ss d = record {
   asks = ap (λ l. asked_in sc one.of ∷ l) d.asks ∙ ap (sorts_of_types sc) (sym (reverse-append d.new (one ∷ [])));
 }
 
-pub bound_declares : (sc : Scope) (fields : List Typed) (binds : List (Bound Bytes)) → AreBound sc fields binds → (vs : List Variable) →
+pub bound_declares : (sc : Scope) (fields : List Typed) (binds : List (Bound Bytes)) →
+    AreBound sc fields binds → (vs : List Variable) →
     Declares sc vs (with_bound binds (beside vs sc)) (bound_sorts binds (types_in sc))
 bound_declares sc fields [] good vs = record { new = []; is = refl; asks = refl }
 bound_declares sc fields (b ∷ rest) good vs =
     let one : Variable = record { name = given_name b.name; of = good.0.of; assignable = false } in
     let others : List Sort = bound_sorts rest (types_in sc) in
-    subst (λ (n : Noting Meaning). Declares sc vs (with_bound rest (with_typed (given_name b.name) false n (beside vs sc))) (written_sort (types_in sc) b.of ∷ others))
+    subst (λ (n : Noting Meaning). Declares sc vs
+    (with_bound rest (with_typed (given_name b.name) false n (beside vs sc)))
+    (written_sort (types_in sc) b.of ∷ others))
     (sym good.0.formed)
     (subst (λ (s : Sort). Declares sc vs (with_bound rest (beside (one ∷ vs) sc)) (s ∷ others))
     (sym (written_asks sc b.of good.0.of good.0.formed))
-    (before sc vs one (with_bound rest (beside (one ∷ vs) sc)) others (bound_declares sc fields rest good.1 (one ∷ vs))))
+    (before sc vs one (with_bound rest (beside (one ∷ vs) sc)) others
+    (bound_declares sc fields rest good.1 (one ∷ vs))))
 
 pub after_declares : (s : NotedStatement) (sc : Scope) → GoodStatement s sc →
     Declares sc sc.variables (after s sc) (sorts_after (erase_statement s) (types_in sc))
 after_declares (skip at) sc good = nothing sc
 after_declares (declare at binding name t e) sc good =
     let one : Variable = record { name = name.name; of = good.of; assignable = is_var binding } in
-    subst (λ (n : Noting Meaning). Declares sc sc.variables (with_typed name.name (is_var binding) n sc) (written_sort (types_in sc) t ∷ []))
+    subst (λ (n : Noting Meaning). Declares sc sc.variables (with_typed name.name (is_var binding) n sc)
+    (written_sort (types_in sc) t ∷ []))
     (sym good.formed) (one_more sc one (written_sort (types_in sc) t) (written_asks sc t good.of good.formed))
 after_declares (destructure at binds e) sc good = bound_declares sc good.fields binds good.bound sc.variables
 after_declares (assign at x path e) sc good = nothing sc
@@ -137,7 +150,8 @@ integer_asks sc (mean.reads t region) e = absurd (cc)
 integer_asks sc (mean.writes t region) e = absurd (cc)
 
 -- a reference that reads is Free, and one that writes isn't
-pub reference_asks : (sc : Scope) (kind : Access) (t : Meaning) (region : Region) → reference_sort kind ≡ asked_in sc (refers kind t region)
+pub reference_asks : (sc : Scope) (kind : Access) (t : Meaning) (region : Region) → reference_sort kind
+    ≡ asked_in sc (refers kind t region)
 unfolding universe_of
 reference_asks sc access.Read t region = refl
 reference_asks sc access.Write t region = refl

@@ -35,15 +35,20 @@ use Rattle.au_laws.proofs.DerivedLemmas.{block_derived}
 
 -- ---- parameters
 
-parameters_declare : (ps : List (Labelled Bytes)) (sc : Scope) (vs : List Variable) (inner : Scope) → with_parameters ps (beside vs sc) ≡ Ok inner →
+parameters_declare : (ps : List (Labelled Bytes)) (sc : Scope) (vs : List Variable) (inner : Scope) →
+    with_parameters ps (beside vs sc) ≡ Ok inner →
     Declares sc vs inner (parameter_sorts ps (types_in sc))
 parameters_declare [] sc vs inner h = record { new = []; is = sym (ok_same (beside vs sc) inner h); asks = refl }
 parameters_declare (p ∷ rest) sc vs inner h =
-    let found : (of : Meaning) × (written_type sc p.of ≡ Ok of) × (with_parameters rest (with_variable (fixed_variable p.name.name of) (beside vs sc)) ≡ Ok inner) =
-    bind_ok (written_type sc p.of) (λ (of : Meaning). with_parameters rest (with_variable (fixed_variable p.name.name of) (beside vs sc))) inner h
+    let found : (of : Meaning) × (written_type sc p.of ≡ Ok of)
+    × (with_parameters rest (with_variable (fixed_variable p.name.name of) (beside vs sc)) ≡ Ok inner) =
+    bind_ok (written_type sc p.of)
+    (λ (of : Meaning). with_parameters rest (with_variable (fixed_variable p.name.name of) (beside vs sc)))
+    inner h
     in
     let one : Variable = fixed_variable p.name.name found.0 in
-    subst (λ (s : Sort). Declares sc vs inner (s ∷ parameter_sorts rest (types_in sc))) (sym (written_asks sc p.of found.0 found.1))
+    subst (λ (s : Sort). Declares sc vs inner (s ∷ parameter_sorts rest (types_in sc)))
+    (sym (written_asks sc p.of found.0 found.1))
     (before sc vs one inner (parameter_sorts rest (types_in sc)) (parameters_declare rest sc (one ∷ vs) inner found.2))
 
 both : {A : Type 0} (a b c d : List A) → a ≡ c → b ≡ d → a ++ b ≡ c ++ d
@@ -59,11 +64,14 @@ in_body : (outside : Outside) (generics : List (Constrained Bytes)) (header : He
     ≡ sorts_of_types (outer_scope outside (generics_in outside generics)) (reverse vs))
 in_body outside generics header scope h =
     let outer : Scope = outer_scope outside (generics_in outside generics) in
-    let found : (sc : Scope) × (with_parameters header.parameters outer ≡ Ok sc) × (with_result header.result sc ≡ Ok scope) =
+    let found : (sc : Scope) × (with_parameters header.parameters outer ≡ Ok sc)
+    × (with_result header.result sc ≡ Ok scope) =
     bind_ok (with_parameters header.parameters outer) (with_result header.result) scope h
     in
-    let d : Declares outer [] found.0 (parameter_sorts header.parameters (types_in outer)) = parameters_declare header.parameters outer [] found.0 found.1 in
-    let last : (of : Meaning) × (written_type found.0 header.result ≡ Ok of) × ◌≡◌ {A = Noting Scope} (Ok (record found.0 { result = of })) (Ok scope) =
+    let d : Declares outer [] found.0 (parameter_sorts header.parameters (types_in outer)) =
+    parameters_declare header.parameters outer [] found.0 found.1 in
+    let last : (of : Meaning) × (written_type found.0 header.result ≡ Ok of)
+    × ◌≡◌ {A = Noting Scope} (Ok (record found.0 { result = of })) (Ok scope) =
     bind_ok (written_type found.0 header.result) (λ (of : Meaning). Ok (record found.0 { result = of })) scope found.2
     in (
       d.new,
@@ -73,7 +81,8 @@ in_body outside generics header scope h =
       d.asks,
     )
 
-pub function_derived : (outside : Outside) (generics : List (Constrained Bytes)) (header : Header Bytes) (body : NotedStatements)
+pub function_derived : (outside : Outside) (generics : List (Constrained Bytes)) (header : Header Bytes)
+    (body : NotedStatements)
     (good : GoodBody outside generics header body) →
     sorts_of header.parameters (erase_block body) (types_in (outer_scope outside (generics_in outside generics)))
     ≡ function_sorts outside generics header body good
@@ -106,6 +115,8 @@ pub same_types : (program : List ModuleParts) (s : Spot) (generics : List (Const
 same_types program s generics h =
     let outside = outside_of program s.at.«module» s.part in
     let class_of = class_meant (written_params generics) outside.visible outside.heads in
-    ap (λ (ps : List Parameter). lives.types_in ps (visible_at program s) (heads_of program)) (h ∙ same_params class_of generics)
-    ∙ ap (λ (v : List (Bytes × DeclAt)). lives.types_in (parameters (map (with_classes class_of) generics)) v (heads_of program))
+    ap (λ (ps : List Parameter). lives.types_in ps (visible_at program s) (heads_of program))
+    (h ∙ same_params class_of generics)
+    ∙ ap (λ (v : List (Bytes × DeclAt)). lives.types_in (parameters (map (with_classes class_of) generics)) v
+    (heads_of program))
     (same_visible program s (slice_get program s.at.«module»))

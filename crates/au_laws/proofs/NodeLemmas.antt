@@ -1,8 +1,11 @@
 -- What single steps of the search over noted operands tell, and which operand fails of two.
-use Rattle.std.proofs.Common.{◌≡◌, ◌⊎◌, inl, inr, Bool, true, false, List, [], ◌∷◌, refl, sym, ap, subst, ◌∙◌, Some, None, Ok, Err, neg_ℤ, if◌then◌else◌}
+use Rattle.std.proofs.Common.{◌≡◌, ◌⊎◌, inl, inr, Bool, true, false, List, [], ◌∷◌, refl, sym, ap, subst, ◌∙◌}
+use Rattle.std.proofs.Common.{Some, None, Ok, Err, neg_ℤ, if◌then◌else◌}
 use Rattle.au_syntax.specs.declared.expressions.BinaryOperator.{BinaryOperator}
 use Rattle.au_syntax.specs.declared.expressions.BinaryOperator.TheVariants.{And, Or}
-use Rattle.au_syntax.specs.Expressions.{Node, number, negative, text, truth, nil, path, arrow, call, named_call, parenthesized, dereference, borrow, borrow_part, binary, negation, typed, choice}
+use Rattle.au_syntax.specs.Expressions.{Node, number, negative, text, truth, nil, path, arrow, call}
+use Rattle.au_syntax.specs.Expressions.{named_call, parenthesized, dereference, borrow, borrow_part, binary}
+use Rattle.au_syntax.specs.Expressions.{negation, typed, choice}
 use Rattle.au_syntax.specs.Plain.{PlainExpression}
 use Rattle.au_types.specs.Types as mean
 use Rattle.au_types.specs.Types.{Meaning}
@@ -13,7 +16,8 @@ use Rattle.au_typing.specs.Good.{IsNoting}
 use Rattle.au_typing.specs.Lookups.{value_type, variable_type}
 use Rattle.au_typing.specs.Notes.{Mode, Note, NotedExpression, mode_of, noted_at, type_of}
 use Rattle.au_typing.specs.Operands.{before, behind_it, of_one_type, paired}
-use Rattle.au_typing.specs.Order.{JudgedNext, Paired, both_bare_first, none_bare_first, left_first, right_first, both_bare_next, none_bare_next, right_next, left_next}
+use Rattle.au_typing.specs.Order.{JudgedNext, Paired, both_bare_first, none_bare_first, left_first}
+use Rattle.au_typing.specs.Order.{right_first, both_bare_next, none_bare_next, right_next, left_next}
 use Rattle.au_typing.specs.Rules.{is_logical, noted}
 use Rattle.au_typing.specs.Search.{arrow_note, borrow_part_note, borrowed, literal_note, note_expression, path_note}
 use Rattle.au_typing.proofs.FoundParts.{paired_found}
@@ -24,7 +28,9 @@ use Rattle.au_typing.proofs.Steps.{bind_found}
 use Rattle.au_laws.specs.Clauses.{Clause, TellsFirst, has_type}
 use Rattle.au_laws.specs.FirstFaults.{FirstFault, PairNoted, a_leaf, of_a_part, of_the_node}
 use Rattle.au_laws.specs.NodeClauses.{of_arrow, of_borrow, of_borrowed_part, of_leaf, of_path}
-use Rattle.au_laws.proofs.ClauseLemmas.{Tells, arrow_tells, bind_failed, bind_fails, borrow_part_tells, borrow_tells, fails_first, first_fails, known_tells, literal_tells, noted_tells, path_tells}
+use Rattle.au_laws.proofs.ClauseLemmas.{Tells, arrow_tells, bind_failed, bind_fails, borrow_part_tells}
+use Rattle.au_laws.proofs.ClauseLemmas.{borrow_tells, fails_first, first_fails, known_tells, literal_tells}
+use Rattle.au_laws.proofs.ClauseLemmas.{noted_tells, path_tells}
 
 pub not_logical : (op : BinaryOperator) → is_arithmetic op ≡ true → is_logical op ≡ false
 not_logical And h = absurd cc

@@ -1,10 +1,13 @@
 -- A statement's own notes are refused for just what its first fault tells.
-use Rattle.std.proofs.Common.{◌≡◌, ◌⊎◌, inl, inr, Bool, true, false, List, [], ◌∷◌, refl, sym, ap, subst, ◌∙◌, Option, Some, None, Ok, Err, is_some}
+use Rattle.std.proofs.Common.{◌≡◌, ◌⊎◌, inl, inr, Bool, true, false, List, [], ◌∷◌, refl, sym, ap, subst, ◌∙◌}
+use Rattle.std.proofs.Common.{Option, Some, None, Ok, Err, is_some}
 use Rattle.au_base.specs.declared.places.Pos.{Pos}
 use Rattle.au_syntax.specs.declared.statements.Binding.{Binding}
 use Rattle.au_syntax.specs.Names.{Placed}
 use Rattle.au_syntax.specs.Plain.{Bytes, PlainArms, PlainBranches, PlainExpression, PlainStatement, PlainStatements}
-use Rattle.au_syntax.specs.Statements.{skip, declare, destructure, assign, assign_through, conditional, conditional_else, case_of, while_loop, for_loop, borrow_in, borrow_typed, discard, return_of, no_branches, branches}
+use Rattle.au_syntax.specs.Statements.{skip, declare, destructure, assign, assign_through, conditional}
+use Rattle.au_syntax.specs.Statements.{conditional_else, case_of, while_loop, for_loop, borrow_in}
+use Rattle.au_syntax.specs.Statements.{borrow_typed, discard, return_of, no_branches, branches}
 use Rattle.au_syntax.specs.Types.{Bound, WrittenType}
 use Rattle.au_types.specs.declared.types.Region.{Region}
 use Rattle.au_types.specs.Types as mean
@@ -12,9 +15,12 @@ use Rattle.au_types.specs.Types.{Meaning}
 use Rattle.au_judged_types.specs.Reasons.{means}
 use Rattle.au_typing.specs.Scopes.{Scope, Typed, Variable}
 use Rattle.au_typing.specs.Bare.{is_bare}
-use Rattle.au_typing.specs.Faults.{Fault, Noting, ◌>>=◌, check, known_or, why, reason_why, shape, not_free, integer_wanted, record_wanted, write_reference_wanted, assignable_wanted, unknown}
+use Rattle.au_typing.specs.Faults.{Fault, Noting, ◌>>=◌, check, known_or, why, reason_why, shape, not_free}
+use Rattle.au_typing.specs.Faults.{integer_wanted, record_wanted, write_reference_wanted, assignable_wanted}
+use Rattle.au_typing.specs.Faults.{unknown}
 use Rattle.au_typing.specs.Good.{IsNoting}
-use Rattle.au_typing.specs.Lookups.{IsPart, field_type, is_free_in, is_record, outcome_noted, part_type, record_part, value_type, variable_of, written_means, written_type}
+use Rattle.au_typing.specs.Lookups.{IsPart, field_type, is_free_in, is_record, outcome_noted, part_type}
+use Rattle.au_typing.specs.Lookups.{record_part, value_type, variable_of, written_means, written_type}
 use Rattle.au_typing.specs.Notes.{Mode, NotedExpression, type_of}
 use Rattle.au_typing.specs.Operands.{of_one_type, paired}
 use Rattle.au_typing.specs.Order.{Paired}
@@ -26,15 +32,25 @@ use Rattle.au_typing.proofs.Sound.{sound}
 use Rattle.au_typing.proofs.SoundParts.{outcome_sound}
 use Rattle.au_typing.proofs.Steps.{bind_found, bind_ok, check_found, check_ok, known_found, known_ok, ok_same}
 use Rattle.au_typing.specs.Parts.{heads_of}
-use Rattle.au_typing.specs.DerivationSearch.{free_place, judge_assigned, judge_binds, judge_heads, judge_put, judge_union, not_assignable, not_writing, note_assigned, note_bounds, note_case, note_declared, note_discarded, note_put, note_taken, note_test, note_tests, place_type, written_through}
+use Rattle.au_typing.specs.DerivationSearch.{free_place, judge_assigned, judge_binds, judge_heads, judge_put}
+use Rattle.au_typing.specs.DerivationSearch.{judge_union, not_assignable, not_writing, note_assigned}
+use Rattle.au_typing.specs.DerivationSearch.{note_bounds, note_case, note_declared, note_discarded, note_put}
+use Rattle.au_typing.specs.DerivationSearch.{note_taken, note_test, note_tests, place_type, written_through}
 use Rattle.au_typing.proofs.PartLemmas.{place_found}
 use Rattle.au_laws.specs.FirstFaults.{FirstFault, PairNoted}
-use Rattle.au_laws.specs.FirstInStatements.{AssignsTo, ExpressionNext, OwnFault, PutsTo, StatementBreaks, TestNext, TestsNoted, a_case, a_declared_type, a_destructuring, a_later_test, a_place_behind, a_result, an_assigned_place, bounds, of_an_expression, of_assignment, of_assignment_through, of_call, of_case_of, of_declared, of_destructured, of_for, of_return, of_tests, of_tests_with_else, of_the_statement, of_while, this_test}
+use Rattle.au_laws.specs.FirstInStatements.{AssignsTo, ExpressionNext, OwnFault, PutsTo, StatementBreaks}
+use Rattle.au_laws.specs.FirstInStatements.{TestNext, TestsNoted, a_case, a_declared_type, a_destructuring}
+use Rattle.au_laws.specs.FirstInStatements.{a_later_test, a_place_behind, a_result, an_assigned_place, bounds}
+use Rattle.au_laws.specs.FirstInStatements.{of_an_expression, of_assignment, of_assignment_through, of_call}
+use Rattle.au_laws.specs.FirstInStatements.{of_case_of, of_declared, of_destructured, of_for, of_return}
+use Rattle.au_laws.specs.FirstInStatements.{of_tests, of_tests_with_else, of_the_statement, of_while}
+use Rattle.au_laws.specs.FirstInStatements.{this_test}
 use Rattle.au_laws.specs.StatementClauses.{of_assigned, of_bounds, of_case, of_free, of_put, of_taken}
 use Rattle.au_laws.proofs.ClauseLemmas.{bind_failed, bind_fails, fails_first, first_fails}
 use Rattle.au_laws.proofs.NodeLemmas.{pair_failed, pair_given, pair_made}
 use Rattle.au_laws.proofs.PassLemmas.{same_fault}
-use Rattle.au_laws.proofs.StatementClauseLemmas.{assigned_tells, bounds_tell, case_tells, put_tells, result_tells, taken_tells}
+use Rattle.au_laws.proofs.StatementClauseLemmas.{assigned_tells, bounds_tell, case_tells, put_tells}
+use Rattle.au_laws.proofs.StatementClauseLemmas.{result_tells, taken_tells}
 use Rattle.au_laws.proofs.TellLemmas.{fault_fails, not_meant, tells}
 
 known_some : {A : Type 0} (o : Option A) → is_some o ≡ true → (x : A) × (o ≡ Some x)
@@ -115,7 +131,8 @@ module _ (sc : Scope) where
       ∙ (bind_found (λ (to : Meaning). record_part sc to path >>= λ (t : Meaning). free_place sc t)
       (known_found (shape write_reference_wanted) (ap written_through g.writes))
       ∙ (bind_found (λ (t : Meaning). free_place sc t)
-      (check_found (shape record_wanted) (part_type sc g.to path) (some_known (sc.outside.fields g.to) g.fields g.is_record)
+      (check_found (shape record_wanted) (part_type sc g.to path)
+      (some_known (sc.outside.fields g.to) g.fields g.is_record)
       ∙ part_found sc g.to path of g.part)
       ∙ free_given of g.free))
 
@@ -333,7 +350,9 @@ module _ (sc : Scope) where
       → TestsNoted sc tests
   tests_are no_branches noted h = tt
   tests_are (branches e block rest) noted h =
-      let one = bind_ok (note_test sc e) (λ (a : NotedExpression). note_tests sc rest >>= λ (all : List NotedExpression). Ok (a ∷ all)) noted h in
+      let one = bind_ok (note_test sc e)
+      (λ (a : NotedExpression). note_tests sc rest >>= λ (all : List NotedExpression). Ok (a ∷ all)) noted h
+      in
       let more = bind_ok (note_tests sc rest) (λ (all : List NotedExpression). Ok (one.0 ∷ all)) noted one.2 in
       ((one.0, sound sc e (Some mean.truth) one.0 one.1), tests_are rest more.0 more.1)
 

@@ -1,5 +1,7 @@
 -- The two passes over the arguments of a call: what they go over, and where they fail.
-use Rattle.std.proofs.Common.{◌≡◌, ◌⊎◌, inl, inr, ℕ, suc, ◌==◌, Bool, true, false, List, [], ◌∷◌, refl, sym, ap, subst, ◌∙◌, Option, Some, None, Ok, Err, length, map, option_map, option_and_then, if◌then◌else◌}
+use Rattle.std.proofs.Common.{◌≡◌, ◌⊎◌, inl, inr, ℕ, suc, ◌==◌, Bool, true, false, List, [], ◌∷◌, refl, sym}
+use Rattle.std.proofs.Common.{ap, subst, ◌∙◌, Option, Some, None, Ok, Err, length, map, option_map}
+use Rattle.std.proofs.Common.{option_and_then, if◌then◌else◌}
 use borrow.Author.Tests.{eqb-true}
 use Rattle.std.proofs.lemmas.List.{length-map}
 use Rattle.au_syntax.specs.Expressions.{no_expressions, expressions, no_arguments, arguments}
@@ -18,11 +20,13 @@ use Rattle.au_typing.specs.Lookups.{type_of_name}
 use Rattle.au_typing.specs.Notes.{Mode, NotedExpression, erase, mode_of, note_of, type_of}
 use Rattle.au_typing.specs.Rules.{int32}
 use Rattle.au_typing.specs.Search.{labelled_operands, note_expression, operands}
-use Rattle.au_typing.specs.SearchCalls.{Half, Operand, beside, first, first_step, half_of, put_before, second, second_step, taken, taken_as, taken_bare}
+use Rattle.au_typing.specs.SearchCalls.{Half, Operand, beside, first, first_step, half_of, put_before, second}
+use Rattle.au_typing.specs.SearchCalls.{second_step, taken, taken_as, taken_bare}
 use Rattle.au_typing.proofs.Refused.{noting_is_given}
 use Rattle.au_typing.proofs.Sound.{sound}
 use Rattle.au_typing.proofs.Steps.{bind_found, bind_ok, known_found, known_ok, ok_same}
-use Rattle.au_laws.specs.CallClauses.{ComesTo, FirstTaken, GoesOver, SecondTaken, at_first, behind_one, is_taken, is_taken_bare, waits, wanted_under, was_taken}
+use Rattle.au_laws.specs.CallClauses.{ComesTo, FirstTaken, GoesOver, SecondTaken, at_first, behind_one}
+use Rattle.au_laws.specs.CallClauses.{is_taken, is_taken_bare, waits, wanted_under, was_taken}
 use Rattle.au_laws.specs.FirstFaults.{BareWants, FirstFault, is_parameter, its_type, nothing}
 use Rattle.au_laws.proofs.ClauseLemmas.{bind_failed, bind_fails, fault_of}
 

@@ -4,7 +4,8 @@ use Rattle.std.specs.Prelude.{Ok, Err}
 use Rattle.au_base.specs.declared.places.Pos.{Pos}
 use Rattle.au_syntax.specs.declared.modules.Part.{Part}
 use Rattle.au_syntax.specs.declared.modules.Part.TheVariants.{Interface, Body}
-use Rattle.au_syntax.specs.Modules.{Constrained, Header, constant, opaque_type, record_type, union_type, function, class, instance, constant_body, function_body, instance_body}
+use Rattle.au_syntax.specs.Modules.{Constrained, Header, constant, opaque_type, record_type, union_type}
+use Rattle.au_syntax.specs.Modules.{function, class, instance, constant_body, function_body, instance_body}
 use Rattle.au_syntax.specs.Plain.{Bytes, PlainDeclaration, PlainMethod, PlainStatements}
 use Rattle.au_modules.specs.Programs.{Entry, ModuleParts}
 use Rattle.au_typing.specs.Scopes.{Outside}
@@ -12,11 +13,16 @@ use Rattle.au_typing.specs.Faults.{Fault}
 use Rattle.au_typing.specs.Bodies.{GoodBody}
 use Rattle.au_typing.specs.Derivations.{Derives, GoodDeclaration}
 use Rattle.au_typing.specs.DerivationFaults.{Judged, ◌then◌, StatementFault, fault_at, placed}
-use Rattle.au_typing.specs.ProgramSearch.{note_body, note_constant, note_declaration, note_declarations, note_methods, note_module, note_modules, note_part, note_program, noted_entry}
-use Rattle.au_typing.specs.Trees.{NotedDeclaration, NotedEntry, NotedMethod, NotedParts, NotedStatements, erase_block, erase_declaration, erase_program}
+use Rattle.au_typing.specs.ProgramSearch.{note_body, note_constant, note_declaration, note_declarations}
+use Rattle.au_typing.specs.ProgramSearch.{note_methods, note_module, note_modules, note_part, note_program}
+use Rattle.au_typing.specs.ProgramSearch.{noted_entry}
+use Rattle.au_typing.specs.Trees.{NotedDeclaration, NotedEntry, NotedMethod, NotedParts, NotedStatements}
+use Rattle.au_typing.specs.Trees.{erase_block, erase_declaration, erase_program}
 use Rattle.au_typing.proofs.ProgramLemmas.{program_found, program_sound}
 use Rattle.au_typing.proofs.StepLemmas.{then_gave}
-use Rattle.au_laws.specs.FirstInPrograms.{DeclarationFault, DeclarationNoted, EachNoted, FirstAmong, MethodFault, MethodNoted, ModulesFault, PartFault, PartNoted, ProgramFault, of_a_constant, of_a_function, of_an_instance}
+use Rattle.au_laws.specs.FirstInPrograms.{DeclarationFault, DeclarationNoted, EachNoted, FirstAmong}
+use Rattle.au_laws.specs.FirstInPrograms.{MethodFault, MethodNoted, ModulesFault, PartFault, PartNoted}
+use Rattle.au_laws.specs.FirstInPrograms.{ProgramFault, of_a_constant, of_a_function, of_an_instance}
 use Rattle.au_laws.proofs.BlockLemmas.{only_then, own_fails, placed_failed, then_failed, then_fails, then_found}
 use Rattle.au_laws.proofs.BodyLemmas.{body_fails, body_tells, constant_fails, constant_tells}
 

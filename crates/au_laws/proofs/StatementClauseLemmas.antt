@@ -1,5 +1,6 @@
 -- Steps of the search over statements tell what the first clause tells that doesn't hold.
-use Rattle.std.proofs.Common.{◌≡◌, ◌⊎◌, inl, inr, Bool, true, false, List, [], ◌∷◌, refl, sym, ap, subst, ◌∙◌, Option, Some, None, Ok, Err, not, is_some}
+use Rattle.std.proofs.Common.{◌≡◌, ◌⊎◌, inl, inr, Bool, true, false, List, [], ◌∷◌, refl, sym, ap, subst, ◌∙◌}
+use Rattle.std.proofs.Common.{Option, Some, None, Ok, Err, not, is_some}
 use Rattle.au_syntax.specs.declared.expressions.BorrowMode.{BorrowMode}
 use Rattle.au_syntax.specs.Names.{Placed}
 use Rattle.au_syntax.specs.Plain.{Bytes}
@@ -12,17 +13,27 @@ use Rattle.au_types.specs.Types.{Meaning}
 use Rattle.au_judged_types.specs.Judging.{refers}
 use Rattle.au_judged_types.specs.Reasons.{Outcome, means, fails}
 use Rattle.au_typing.specs.Scopes.{Case, Scope, Typed, Variable}
-use Rattle.au_typing.specs.Faults.{Fault, Noting, ◌>>=◌, Why, why, check, known_or, reason_why, unknown, different, not_free, shape, record_wanted, union_wanted, reference_wanted, write_reference_wanted, integer_wanted, assignable_wanted, labels_wanted, arms_wanted}
-use Rattle.au_typing.specs.Lookups.{IsPart, is_free_in, is_record, outcome_noted, part_type, record_part, type_of_name, value_type, variable_of, written_means, written_type}
+use Rattle.au_typing.specs.Faults.{Fault, Noting, ◌>>=◌, Why, why, check, known_or, reason_why, unknown}
+use Rattle.au_typing.specs.Faults.{different, not_free, shape, record_wanted, union_wanted, reference_wanted}
+use Rattle.au_typing.specs.Faults.{write_reference_wanted, integer_wanted, assignable_wanted, labels_wanted}
+use Rattle.au_typing.specs.Faults.{arms_wanted}
+use Rattle.au_typing.specs.Lookups.{IsPart, is_free_in, is_record, outcome_noted, part_type, record_part}
+use Rattle.au_typing.specs.Lookups.{type_of_name, value_type, variable_of, written_means, written_type}
 use Rattle.au_typing.specs.Notes.{NotedExpression, type_of}
 use Rattle.au_typing.specs.Operands.{of_one_type}
 use Rattle.au_typing.specs.Rules.{is_integer}
 use Rattle.au_typing.specs.Parts.{ArmHead, arms_fit, binds_each, borrow_type, case_of_arm, is_borrowed_within, lent}
-use Rattle.au_typing.specs.DerivationSearch.{free_place, is_of_borrow, judge_all_bound, judge_arm, judge_arms, judge_assigned, judge_binds, judge_borrow, judge_bound, judge_heads, judge_lent, judge_names, judge_put, judge_reference, judge_union, not_assignable, not_writing, place_type, written_through}
+use Rattle.au_typing.specs.DerivationSearch.{free_place, is_of_borrow, judge_all_bound, judge_arm, judge_arms}
+use Rattle.au_typing.specs.DerivationSearch.{judge_assigned, judge_binds, judge_borrow, judge_bound}
+use Rattle.au_typing.specs.DerivationSearch.{judge_heads, judge_lent, judge_names, judge_put, judge_reference}
+use Rattle.au_typing.specs.DerivationSearch.{judge_union, not_assignable, not_writing, place_type}
+use Rattle.au_typing.specs.DerivationSearch.{written_through}
 use Rattle.au_laws.specs.Clauses.{Clause, broken, must, must_be}
 use Rattle.au_laws.specs.NodeClauses as nodes
 use Rattle.au_laws.specs.NodeClauses.{of_part}
-use Rattle.au_laws.specs.StatementClauses.{formed, of_all_bound, of_arm, of_arms, of_assigned, of_binds, of_borrow_into, of_bound, of_bounds, of_case, of_free, of_lent, of_names, of_place, of_put, of_reference, of_taken}
+use Rattle.au_laws.specs.StatementClauses.{formed, of_all_bound, of_arm, of_arms, of_assigned, of_binds}
+use Rattle.au_laws.specs.StatementClauses.{of_borrow_into, of_bound, of_bounds, of_case, of_free, of_lent}
+use Rattle.au_laws.specs.StatementClauses.{of_names, of_place, of_put, of_reference, of_taken}
 use Rattle.au_laws.proofs.ClauseLemmas.{Silent, Tells, check_tells, fault_of, in_turn, known_tells, part_tells}
 
 -- a step alone

@@ -1,7 +1,11 @@
 -- An expression is refused for just what its first node tells that fails.
-use Rattle.std.proofs.Common.{◌≡◌, ◌⊎◌, inl, inr, Bool, true, false, List, [], refl, sym, ap, subst, ◌∙◌, Some, None, Ok, Err, neg_ℤ, if◌then◌else◌}
+use Rattle.std.proofs.Common.{◌≡◌, ◌⊎◌, inl, inr, Bool, true, false, List, [], refl, sym, ap, subst, ◌∙◌}
+use Rattle.std.proofs.Common.{Some, None, Ok, Err, neg_ℤ, if◌then◌else◌}
 use Rattle.au_syntax.specs.declared.expressions.BinaryOperator.{BinaryOperator}
-use Rattle.au_syntax.specs.Expressions.{Node, number, negative, text, truth, nil, path, arrow, call, named_call, parenthesized, dereference, borrow, borrow_part, binary, negation, typed, choice, no_expressions, expressions, no_arguments, arguments}
+use Rattle.au_syntax.specs.Expressions.{Node, number, negative, text, truth, nil, path, arrow, call}
+use Rattle.au_syntax.specs.Expressions.{named_call, parenthesized, dereference, borrow, borrow_part, binary}
+use Rattle.au_syntax.specs.Expressions.{negation, typed, choice, no_expressions, expressions, no_arguments}
+use Rattle.au_syntax.specs.Expressions.{arguments}
 use Rattle.au_syntax.specs.Plain.{PlainArguments, PlainExpression, PlainExpressions}
 use Rattle.au_syntax.specs.Types.{WrittenType}
 use Rattle.au_types.specs.Types as mean
@@ -15,9 +19,13 @@ use Rattle.au_typing.specs.Good.{IsNoting, count_of, items_of, labels_of, values
 use Rattle.au_typing.specs.Lookups.{outcome_noted, written_means, written_type}
 use Rattle.au_typing.specs.Notes.{Mode, Note, NotedExpression, noted_at, type_of}
 use Rattle.au_typing.specs.Operands.{of_one_type, paired}
-use Rattle.au_typing.specs.Order.{JudgedNext, Paired, pair_mode, in_parentheses, what_is_read, what_is_negated, what_is_typed, left_of_logical, right_of_logical, of_pair, test_of_choice, of_choice}
+use Rattle.au_typing.specs.Order.{JudgedNext, Paired, pair_mode, in_parentheses, what_is_read}
+use Rattle.au_typing.specs.Order.{what_is_negated, what_is_typed, left_of_logical, right_of_logical, of_pair}
+use Rattle.au_typing.specs.Order.{test_of_choice, of_choice}
 use Rattle.au_typing.specs.Rules.{is_logical, noted}
-use Rattle.au_typing.specs.Search.{another_number, arithmetic_note, binary_noted, comparison_note, dereference_note, labelled, labelled_operands, listed, note_expression, operands, other_labels}
+use Rattle.au_typing.specs.Search.{another_number, arithmetic_note, binary_noted, comparison_note}
+use Rattle.au_typing.specs.Search.{dereference_note, labelled, labelled_operands, listed, note_expression}
+use Rattle.au_typing.specs.Search.{operands, other_labels}
 use Rattle.au_typing.specs.SearchCalls.{call_noted}
 use Rattle.au_typing.proofs.OrderLemmas.{next_fails}
 use Rattle.au_typing.proofs.Refused.{noting_is_given}
@@ -27,14 +35,21 @@ use Rattle.au_typing.proofs.Steps.{bind_found}
 use Rattle.au_laws.specs.CallClauses.{Call, IsCall, by_label, by_position}
 use Rattle.au_laws.specs.Clauses.{Clause, TellsFirst, has_type, must}
 use Rattle.au_laws.specs.FirstFaults as first
-use Rattle.au_laws.specs.FirstFaults.{FirstFault, Breaks, PairNoted, a_call, a_callee, a_choice, a_comparison, a_copy, a_leaf, a_logical, a_negation, a_typed_one, a_written_type, an_arithmetic, another_type, no_int32, no_parameter, of_a_part, of_an_argument, of_the_node, parentheses}
+use Rattle.au_laws.specs.FirstFaults.{FirstFault, Breaks, PairNoted, a_call, a_callee, a_choice, a_comparison}
+use Rattle.au_laws.specs.FirstFaults.{a_copy, a_leaf, a_logical, a_negation, a_typed_one, a_written_type}
+use Rattle.au_laws.specs.FirstFaults.{an_arithmetic, another_type, no_int32, no_parameter, of_a_part}
+use Rattle.au_laws.specs.FirstFaults.{of_an_argument, of_the_node, parentheses}
 use Rattle.au_laws.specs.NodeClauses as clauses
 use Rattle.au_laws.specs.NodeClauses.{of_arithmetic, of_comparison, of_dereference}
 use Rattle.au_laws.proofs.CallTellLemmas.{call_tells}
-use Rattle.au_laws.proofs.ClauseLemmas.{Tells, arithmetic_tells, bind_failed, bind_fails, check_tells, comparison_tells, dereference_tells, fails_first, first_fails, noted_tells}
-use Rattle.au_laws.proofs.NodeLemmas.{Telling, leaf_failed, leaf_fails, not_logical, one_operand, pair_given, two_operands}
+use Rattle.au_laws.proofs.ClauseLemmas.{Tells, arithmetic_tells, bind_failed, bind_fails, check_tells}
+use Rattle.au_laws.proofs.ClauseLemmas.{comparison_tells, dereference_tells, fails_first, first_fails}
+use Rattle.au_laws.proofs.ClauseLemmas.{noted_tells}
+use Rattle.au_laws.proofs.NodeLemmas.{Telling, leaf_failed, leaf_fails, not_logical, one_operand, pair_given}
+use Rattle.au_laws.proofs.NodeLemmas.{two_operands}
 use Rattle.au_laws.proofs.PassLemmas.{EachTells, labelled_are, operands_are, ops_of, same_fault}
-use Rattle.au_laws.proofs.WholeCallLemmas.{argument_fails, callee_fails, no_int32_fails, noted_call, other_type_fails, rest_fails, type_fails}
+use Rattle.au_laws.proofs.WholeCallLemmas.{argument_fails, callee_fails, no_int32_fails, noted_call}
+use Rattle.au_laws.proofs.WholeCallLemmas.{other_type_fails, rest_fails, type_fails}
 use Rattle.au_types.specs.Same.{same}
 use Rattle.au_typing.specs.Faults.{different}
 
@@ -61,8 +76,10 @@ module _ (scope : Scope) where
       → note_expression scope (binary u op a b) mode
       ≡ binary_noted scope x y u op (is_bare a) (is_bare b) (note_expression scope a) (note_expression scope b) mode
   settled u op a b mode x y arithmetic logical =
-      ap (λ (t : Bool). binary_noted scope t (is_logical op) u op (is_bare a) (is_bare b) (note_expression scope a) (note_expression scope b) mode) arithmetic
-      ∙ ap (λ (t : Bool). binary_noted scope x t u op (is_bare a) (is_bare b) (note_expression scope a) (note_expression scope b) mode) logical
+      ap (λ (t : Bool). binary_noted scope t (is_logical op) u op (is_bare a) (is_bare b)
+      (note_expression scope a) (note_expression scope b) mode) arithmetic
+      ∙ ap (λ (t : Bool). binary_noted scope x t u op (is_bare a) (is_bare b) (note_expression scope a)
+      (note_expression scope b) mode) logical
 
   -- ---- from the first fault to the search
 
@@ -77,7 +94,8 @@ module _ (scope : Scope) where
       (noted_tells m (type_of x) next [] (λ n. refl)) h
   breaks_fail e mode f (a_copy u d m g x is h) =
       let next = λ (n : Note). Ok (dereference (noted_at u n) x) in
-      bind_found (λ (a : NotedExpression). dereference_note scope m (type_of a) >>= λ (n : Note). Ok (dereference (noted_at u n) a))
+      bind_found (λ (a : NotedExpression). dereference_note scope m (type_of a) >>=
+      λ (n : Note). Ok (dereference (noted_at u n) a))
       (noting_is_given scope d None x is)
       ∙ first_fails (dereference_note scope m (type_of x) >>= next) (of_dereference scope m (type_of x)) g
       (dereference_tells scope m (type_of x) next (λ n. refl)) h
@@ -88,11 +106,13 @@ module _ (scope : Scope) where
       ∙ first_fails (noted m mean.truth >>= next) (has_type m mean.truth []) g
       (noted_tells m mean.truth next [] (λ n. refl)) h
   breaks_fail e mode f (a_written_type u d t m reason is) =
-      bind_fails (λ (of : Meaning). note_expression scope d (Some of) >>= λ (a : NotedExpression). noted m of >>= λ (n : Note). Ok (typed (noted_at u n) a t))
+      bind_fails (λ (of : Meaning). note_expression scope d (Some of) >>=
+      λ (a : NotedExpression). noted m of >>= λ (n : Note). Ok (typed (noted_at u n) a t))
       (ap outcome_noted is)
   breaks_fail e mode f (a_typed_one u d t m g of x is noting h) =
       let next = λ (n : Note). Ok (typed (noted_at u n) x t) in
-      bind_found (λ (w : Meaning). note_expression scope d (Some w) >>= λ (a : NotedExpression). noted m w >>= λ (n : Note). Ok (typed (noted_at u n) a t))
+      bind_found (λ (w : Meaning). note_expression scope d (Some w) >>= λ (a : NotedExpression). noted m w >>=
+      λ (n : Note). Ok (typed (noted_at u n) a t))
       (ap outcome_noted is)
       ∙ (bind_found (λ (a : NotedExpression). noted m of >>= λ (n : Note). Ok (typed (noted_at u n) a t))
       (noting_is_given scope d (Some of) x noting)
@@ -100,14 +120,16 @@ module _ (scope : Scope) where
   breaks_fail e mode f (an_arithmetic u op a b m g x y arithmetic pair h) =
       let next = λ (n : Note). Ok (binary (noted_at u n) op x y) in
       settled u op a b m true false arithmetic (not_logical op arithmetic)
-      ∙ (bind_found (λ (z : NotedExpression × NotedExpression). of_one_type z.0 z.1 (arithmetic_note m (type_of z.0)) >>= λ (n : Note). Ok (binary (noted_at u n) op z.0 z.1))
+      ∙ (bind_found (λ (z : NotedExpression × NotedExpression). of_one_type z.0 z.1
+      (arithmetic_note m (type_of z.0)) >>= λ (n : Note). Ok (binary (noted_at u n) op z.0 z.1))
       (pair_given scope a b m x y pair)
       ∙ first_fails (of_one_type x y (arithmetic_note m (type_of x)) >>= next) (of_arithmetic m x y) g
       (arithmetic_tells m x y next (λ n. refl)) h)
   breaks_fail e mode f (a_logical u op a b m g x y arithmetic logical left right h) =
       let next = λ (n : Note). Ok (binary (noted_at u n) op x y) in
       settled u op a b m false true arithmetic logical
-      ∙ (bind_found (λ (l : NotedExpression). note_expression scope b (Some mean.truth) >>= λ (r : NotedExpression). noted m mean.truth >>= λ (n : Note). Ok (binary (noted_at u n) op l r))
+      ∙ (bind_found (λ (l : NotedExpression). note_expression scope b (Some mean.truth) >>=
+      λ (r : NotedExpression). noted m mean.truth >>= λ (n : Note). Ok (binary (noted_at u n) op l r))
       (noting_is_given scope a (Some mean.truth) x left)
       ∙ (bind_found (λ (r : NotedExpression). noted m mean.truth >>= λ (n : Note). Ok (binary (noted_at u n) op x r))
       (noting_is_given scope b (Some mean.truth) y right)
@@ -116,15 +138,19 @@ module _ (scope : Scope) where
   breaks_fail e mode f (a_comparison u op a b m g x y arithmetic logical pair h) =
       let next = λ (n : Note). Ok (binary (noted_at u n) op x y) in
       settled u op a b m false false arithmetic logical
-      ∙ (bind_found (λ (z : NotedExpression × NotedExpression). comparison_note op m z.0 z.1 >>= λ (n : Note). Ok (binary (noted_at u n) op z.0 z.1))
+      ∙ (bind_found (λ (z : NotedExpression × NotedExpression). comparison_note op m z.0 z.1 >>=
+      λ (n : Note). Ok (binary (noted_at u n) op z.0 z.1))
       (pair_given scope a b None x y pair)
       ∙ first_fails (comparison_note op m x y >>= next) (of_comparison op m x y) g
       (comparison_tells op m x y next (λ n. refl)) h)
   breaks_fail e mode f (a_choice u c a b m g z x y test pair h) =
       let next = λ (n : Note). Ok (choice (noted_at u n) z x y) in
-      bind_found (λ (t : NotedExpression). paired (is_bare a) (is_bare b) (note_expression scope a) (note_expression scope b) m >>= λ (w : NotedExpression × NotedExpression). of_one_type w.0 w.1 (noted m (type_of w.0)) >>= λ (n : Note). Ok (choice (noted_at u n) t w.0 w.1))
+      bind_found (λ (t : NotedExpression). paired (is_bare a) (is_bare b) (note_expression scope a)
+      (note_expression scope b) m >>= λ (w : NotedExpression × NotedExpression). of_one_type w.0 w.1
+      (noted m (type_of w.0)) >>= λ (n : Note). Ok (choice (noted_at u n) t w.0 w.1))
       (noting_is_given scope c (Some mean.truth) z test)
-      ∙ (bind_found (λ (w : NotedExpression × NotedExpression). of_one_type w.0 w.1 (noted m (type_of w.0)) >>= λ (n : Note). Ok (choice (noted_at u n) z w.0 w.1))
+      ∙ (bind_found (λ (w : NotedExpression × NotedExpression). of_one_type w.0 w.1 (noted m (type_of w.0))
+      >>= λ (n : Note). Ok (choice (noted_at u n) z w.0 w.1))
       (pair_given scope a b m x y pair)
       ∙ first_fails (of_one_type x y (noted m (type_of x)) >>= next) (clauses.of_choice m x y) g
       (choice_tells m x y next (λ n. refl)) h)
@@ -163,7 +189,8 @@ module _ (scope : Scope) where
       tells_a tells_b
       (λ z p failed. of_the_node (binary u op a b) mode f
       (an_arithmetic u op a b mode f z.0 z.1 is p
-      (fails_first (of_one_type z.0 z.1 (arithmetic_note mode (type_of z.0)) >>= λ n. Ok (binary (noted_at u n) op z.0 z.1))
+      (fails_first (of_one_type z.0 z.1 (arithmetic_note mode (type_of z.0)) >>=
+      λ n. Ok (binary (noted_at u n) op z.0 z.1))
       (of_arithmetic mode z.0 z.1) f
       (arithmetic_tells mode z.0 z.1 (λ n. Ok (binary (noted_at u n) op z.0 z.1)) (λ n. refl)) failed)))
       h

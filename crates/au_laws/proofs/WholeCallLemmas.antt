@@ -1,5 +1,6 @@
 -- What stops the noting of a whole call, both ways.
-use Rattle.std.proofs.Common.{◌≡◌, ◌⊎◌, inl, inr, Bool, true, false, List, [], ◌∷◌, refl, sym, ap, subst, ◌∙◌, Option, Some, None, Ok, Err, length, if◌then◌else◌}
+use Rattle.std.proofs.Common.{◌≡◌, ◌⊎◌, inl, inr, Bool, true, false, List, [], ◌∷◌, refl, sym, ap, subst, ◌∙◌}
+use Rattle.std.proofs.Common.{Option, Some, None, Ok, Err, length, if◌then◌else◌}
 use Rattle.au_syntax.specs.Expressions.{call, named_call}
 use Rattle.au_syntax.specs.Plain.{PlainExpression}
 use Rattle.au_types.specs.Types.{Meaning, parameter, unit, truth, integer, text, named, reads, writes}
@@ -10,22 +11,32 @@ use Rattle.au_matching.specs.Substituted.{substituted}
 use Rattle.au_judged_types.specs.Bounds.{parameters}
 use Rattle.au_typing.specs.Scopes.{Callable, Scope}
 use Rattle.au_typing.specs.Bare.{is_bare}
-use Rattle.au_typing.specs.Calls.{begun, by_labels, first_lacking, first_left, first_misfit, in_order, types_of_call, wanted_of}
+use Rattle.au_typing.specs.Calls.{begun, by_labels, first_lacking, first_left, first_misfit, in_order}
+use Rattle.au_typing.specs.Calls.{types_of_call, wanted_of}
 use Rattle.au_typing.specs.Faults.{Fault, Noting, ◌>>=◌, Why, why, known_or, unknown, unfixed, different}
 use Rattle.au_typing.specs.Good.{IsNoting, count_of, labels_of}
 use Rattle.au_typing.specs.Limits.{within}
 use Rattle.au_typing.specs.Notes.{Mode, Note, NotedExpression, noted_at, type_of}
 use Rattle.au_typing.specs.Rules.{int32}
 use Rattle.au_typing.specs.Search.{another_number, labelled, listed, note_expression, other_labels}
-use Rattle.au_typing.specs.SearchCalls.{Half, beside, call_note, call_noted, called_note, first, lacks, misfit, result_differs, second, taken, taken_as, taken_bare, unless_why, with_arguments}
+use Rattle.au_typing.specs.SearchCalls.{Half, beside, call_note, call_noted, called_note, first, lacks}
+use Rattle.au_typing.specs.SearchCalls.{misfit, result_differs, second, taken, taken_as, taken_bare}
+use Rattle.au_typing.specs.SearchCalls.{unless_why, with_arguments}
 use Rattle.au_typing.proofs.Refused.{noting_is_given}
 use Rattle.au_typing.proofs.Steps.{bind_found, known_found, known_ok}
-use Rattle.au_laws.specs.CallClauses.{Begins, Call, ComesTo, FirstTaken, GoesOver, IsCall, SecondTaken, by_label, by_position, of_called, of_callee, wanted_under}
+use Rattle.au_laws.specs.CallClauses.{Begins, Call, ComesTo, FirstTaken, GoesOver, IsCall, SecondTaken}
+use Rattle.au_laws.specs.CallClauses.{by_label, by_position, of_called, of_callee, wanted_under}
 use Rattle.au_laws.specs.Clauses.{Clause, TellsFirst, broken, in_limits, must_be, must_lack}
-use Rattle.au_laws.specs.FirstFaults.{ArgumentNext, BareWants, FirstFault, a_call, a_callee, another_type, in_first_pass, in_second_pass, is_parameter, its_type, no_int32, no_parameter, nothing, of_an_argument, of_the_node}
-use Rattle.au_laws.proofs.CallLemmas.{AreHalves, FailsInFirst, FailsInSecond, first_failed, first_fails_at, first_gave, first_goes, second_failed, second_fails_at, second_gave, second_goes}
-use Rattle.au_laws.proofs.ClauseLemmas.{Tells, bind_failed, bind_fails, fails_first, first_fails, unless_tells, within_tells}
-use Rattle.au_laws.proofs.PassLemmas.{EachTells, by_labels_length, in_order_length, known_failed, labelled_are, operands_are, ops_of, wants_it}
+use Rattle.au_laws.specs.FirstFaults.{ArgumentNext, BareWants, FirstFault, a_call, a_callee, another_type}
+use Rattle.au_laws.specs.FirstFaults.{in_first_pass, in_second_pass, is_parameter, its_type, no_int32}
+use Rattle.au_laws.specs.FirstFaults.{no_parameter, nothing, of_an_argument, of_the_node}
+use Rattle.au_laws.proofs.CallLemmas.{AreHalves, FailsInFirst, FailsInSecond, first_failed, first_fails_at}
+use Rattle.au_laws.proofs.CallLemmas.{first_gave, first_goes, second_failed, second_fails_at, second_gave}
+use Rattle.au_laws.proofs.CallLemmas.{second_goes}
+use Rattle.au_laws.proofs.ClauseLemmas.{Tells, bind_failed, bind_fails, fails_first, first_fails}
+use Rattle.au_laws.proofs.ClauseLemmas.{unless_tells, within_tells}
+use Rattle.au_laws.proofs.PassLemmas.{EachTells, by_labels_length, in_order_length, known_failed}
+use Rattle.au_laws.proofs.PassLemmas.{labelled_are, operands_are, ops_of, wants_it}
 
 -- ---- something that must be there
 

@@ -1,5 +1,7 @@
 -- How far a file is cut.
-use Rattle.std.proofs.Common.{◌≡◌, ℕ, ◌+◌, ◌<◌, ◌≤◌, true, not, IsTrue, List, [], ◌∷◌, ◌++◌, length, take, drop, Option, Err, ap, ◌∙◌, sym, refl, subst, arith, append_assoc, length-append, length-drop}
+use Rattle.std.proofs.Common.{◌≡◌, ℕ, ◌+◌, ◌<◌, ◌≤◌, true, not, IsTrue, List, [], ◌∷◌, ◌++◌, length, take}
+use Rattle.std.proofs.Common.{drop, Option, Err, ap, ◌∙◌, sym, refl, subst, arith, append_assoc}
+use Rattle.std.proofs.Common.{length-append, length-drop}
 use Rattle.std.specs.List.{flat_map}
 use Rattle.std.proofs.lemmas.List.{append-nil, take_at, drop-drop}
 use Rattle.std.proofs.lemmas.Grind.{flat_map-append}
@@ -34,17 +36,25 @@ pub record HasCut (file : ℕ) (bytes : List ℕ) (done : ℕ) (at : Pos) (token
   pub place : at ≡ place_after file (take done bytes)
 
 -- one more piece
-cuts_more : (pieces : List Piece) (bytes rest : List ℕ) (piece : Piece) → CutsFront pieces bytes rest → Stands piece rest → CutsFront (pieces ++ piece ∷ []) bytes (drop (length (spelling piece)) rest)
-cuts_more [] bytes rest piece cuts stands = (subst (Stands piece) (sym cuts) stands, ap (drop (length (spelling piece))) cuts)
-cuts_more (one ∷ pieces) bytes rest piece cuts stands = (cuts.0, cuts_more pieces (drop (length (spelling one)) bytes) rest piece cuts.1 stands)
+cuts_more : (pieces : List Piece) (bytes rest : List ℕ) (piece : Piece) → CutsFront pieces bytes rest →
+    Stands piece rest → CutsFront (pieces ++ piece ∷ []) bytes (drop (length (spelling piece)) rest)
+cuts_more [] bytes rest piece cuts stands =
+    (subst (Stands piece) (sym cuts) stands, ap (drop (length (spelling piece))) cuts)
+cuts_more (one ∷ pieces) bytes rest piece cuts stands =
+    (cuts.0, cuts_more pieces (drop (length (spelling one)) bytes) rest piece cuts.1 stands)
 
 -- its token
 tokens_more : (file : ℕ) (front : List ℕ) (pieces : List Piece) (piece : Piece) →
-    tokens_among file front (pieces ++ piece ∷ []) ≡ tokens_among file front pieces ++ token_at (place_after file (front ++ flat_map spelling pieces)) (what_of piece)
-tokens_more file front [] piece = append-nil _ ∙ ap (λ f. token_at (place_after file f) (what_of piece)) (sym (append-nil front))
+    tokens_among file front (pieces ++ piece ∷ []) ≡ tokens_among file front pieces
+    ++ token_at (place_after file (front ++ flat_map spelling pieces)) (what_of piece)
+tokens_more file front [] piece = append-nil _ ∙ ap (λ f. token_at (place_after file f) (what_of piece))
+    (sym (append-nil front))
 tokens_more file front (one ∷ pieces) piece =
     let here : List Token = token_at (place_after file front) (what_of one) in
-    ap (λ ts. here ++ ts) (tokens_more file (front ++ spelling one) pieces piece ∙ ap (λ f. tokens_among file (front ++ spelling one) pieces ++ token_at (place_after file f) (what_of piece)) (append_assoc front (spelling one) (flat_map spelling pieces)))
+    ap (λ ts. here ++ ts) (tokens_more file (front ++ spelling one) pieces piece
+    ∙ ap (λ f. tokens_among file (front ++ spelling one) pieces
+    ++ token_at (place_after file f) (what_of piece))
+    (append_assoc front (spelling one) (flat_map spelling pieces)))
     ∙ sym (append_assoc here (tokens_among file (front ++ spelling one) pieces) _)
 
 -- how the longest piece lies in the bytes
@@ -56,7 +66,8 @@ longest_within bytes size what longest =
     let sized = longest.sized in
     omega arith
 
-longest_spelled : (bytes : List ℕ) (size : ℕ) (what : Option What) (longest : IsLongest bytes size what) → spelling longest.found ≡ take size bytes
+longest_spelled : (bytes : List ℕ) (size : ℕ) (what : Option What) (longest : IsLongest bytes size what) →
+    spelling longest.found ≡ take size bytes
 longest_spelled bytes size what longest =
     let front = longest.stands.begins.front in
     sym (ap (take size) front.1 ∙ take_at (spelling longest.found) front.0 size longest.sized)
@@ -79,11 +90,14 @@ spelling_some (token (Name name)) h = word_some name h.0
 spelling_some (token (Text text)) h = omega arith
 
 pub longest_some : (bytes : List ℕ) (size : ℕ) (what : Option What) → IsLongest bytes size what → 0 < size
-longest_some bytes size what longest = let sized = longest.sized in omega (arith, spelling_some longest.found longest.stands.begins.known)
+longest_some bytes size what longest = let sized = longest.sized
+    in omega (arith, spelling_some longest.found longest.stands.begins.known)
 
 -- the file is cut one piece further
-pub has_more : (file : ℕ) (bytes : List ℕ) (done : ℕ) (at after : Pos) (tokens : List Token) (size : ℕ) (what : Option What) →
-    HasCut file bytes done at tokens → IsLongest (drop done bytes) size what → is_within (length tokens) what ≡ true → after ≡ place_after file (take done bytes ++ take size (drop done bytes)) →
+pub has_more : (file : ℕ) (bytes : List ℕ) (done : ℕ) (at after : Pos) (tokens : List Token) (size : ℕ)
+    (what : Option What) →
+    HasCut file bytes done at tokens → IsLongest (drop done bytes) size what → is_within (length tokens) what
+    ≡ true → after ≡ place_after file (take done bytes ++ take size (drop done bytes)) →
     HasCut file bytes (done + size) after (tokens ++ token_at at what)
 has_more file bytes done at after tokens size what cut longest kept is =
     let rest : List ℕ = drop done bytes in
@@ -95,23 +109,36 @@ has_more file bytes done at after tokens size what cut longest kept is =
     record {
       within = omega (arith, length-drop done bytes);
       pieces = cut.pieces ++ found ∷ [];
-      cuts = subst (CutsFront (cut.pieces ++ found ∷ []) bytes) (ap (λ n. drop n rest) longest.sized ∙ drop-drop size done bytes) (cuts_more cut.pieces bytes rest found cut.cuts longest.stands);
-      kept = within_more 0 cut.pieces found cut.kept (ap (λ n. is_within n (what_of found)) from_none ∙ ap (is_within (count_among cut.pieces)) longest.meant ∙ ap (λ n. is_within n what) (sym counted) ∙ kept);
-      spelled = flat_map-append spelling cut.pieces (found ∷ []) ∙ ap (λ s. flat_map spelling cut.pieces ++ s) (append-nil (spelling found)) ∙ ap (λ s. s ++ spelling found) cut.spelled ∙ ap (λ s. take done bytes ++ s) (longest_spelled rest size what longest) ∙ sym seam;
+      cuts = subst (CutsFront (cut.pieces ++ found ∷ []) bytes)
+          (ap (λ n. drop n rest) longest.sized ∙ drop-drop size done bytes)
+          (cuts_more cut.pieces bytes rest found cut.cuts longest.stands);
+      kept = within_more 0 cut.pieces found cut.kept
+          (ap (λ n. is_within n (what_of found)) from_none ∙ ap (is_within (count_among cut.pieces))
+          longest.meant ∙ ap (λ n. is_within n what) (sym counted) ∙ kept);
+      spelled = flat_map-append spelling cut.pieces (found ∷ []) ∙ ap (λ s. flat_map spelling cut.pieces ++ s)
+          (append-nil (spelling found)) ∙ ap (λ s. s ++ spelling found) cut.spelled
+          ∙ ap (λ s. take done bytes ++ s) (longest_spelled rest size what longest) ∙ sym seam;
       listed =
           ap (λ ts. ts ++ token_at at what) cut.listed
-          ∙ ap (λ p. tokens_among file [] cut.pieces ++ token_at p what) (cut.place ∙ ap (place_after file) (sym cut.spelled))
-          ∙ ap (λ w. tokens_among file [] cut.pieces ++ token_at (place_after file (flat_map spelling cut.pieces)) w) (sym longest.meant)
+          ∙ ap (λ p. tokens_among file [] cut.pieces ++ token_at p what)
+          (cut.place ∙ ap (place_after file) (sym cut.spelled))
+          ∙ ap (λ w. tokens_among file [] cut.pieces
+          ++ token_at (place_after file (flat_map spelling cut.pieces)) w) (sym longest.meant)
           ∙ sym (tokens_more file [] cut.pieces found);
       place = is ∙ ap (place_after file) (sym seam);
     }
 
 -- a place lies within the file's bytes
-pub place_bounds : (file : ℕ) (front : List ℕ) → ((place_after file front).line ≤ length front + 1) × ((place_after file front).column ≤ length front + 1)
-place_bounds file front = (omega (arith, count_by-le-length is_newline front), omega (arith, suffix_len-le-length (λ b. not (is_newline b)) front))
+pub place_bounds : (file : ℕ) (front : List ℕ) → ((place_after file front).line ≤ length front + 1)
+    × ((place_after file front).column ≤ length front + 1)
+place_bounds file front = (
+  omega (arith, count_by-le-length is_newline front),
+  omega (arith, suffix_len-le-length (λ b. not (is_newline b)) front),
+)
 
 -- where a file is cut no further
-pub stops_at : (file : ℕ) (bytes : List ℕ) (done : ℕ) (at : Pos) (tokens : List Token) → HasCut file bytes done at tokens → StopsAt file bytes (drop done bytes) at
+pub stops_at : (file : ℕ) (bytes : List ℕ) (done : ℕ) (at : Pos) (tokens : List Token) →
+    HasCut file bytes done at tokens → StopsAt file bytes (drop done bytes) at
 stops_at file bytes done at tokens cut = record {
   pieces = cut.pieces;
   cuts = cut.cuts;
@@ -120,7 +147,9 @@ stops_at file bytes done at tokens cut = record {
 }
 
 -- where a token passes a limit
-passing : (file : ℕ) (bytes : List ℕ) (done : ℕ) (at : Pos) (tokens : List Token) (limit : Limit) → HasCut file bytes done at tokens → BeginsPassing (length tokens) (drop done bytes) limit → PassesLimit file bytes limit
+passing : (file : ℕ) (bytes : List ℕ) (done : ℕ) (at : Pos) (tokens : List Token) (limit : Limit) →
+    HasCut file bytes done at tokens → BeginsPassing (length tokens) (drop done bytes) limit →
+    PassesLimit file bytes limit
 unfolding stops_at
 passing file bytes done at tokens limit cut begins =
     let counted : length tokens ≡ count_among cut.pieces = ap length cut.listed ∙ count_is file [] cut.pieces in
@@ -136,9 +165,12 @@ passing file bytes done at tokens limit cut begins =
     }
 
 -- when the limit is the cause
-pub limit_so : (file : ℕ) (bytes : List ℕ) (done : ℕ) (at : Pos) (tokens : List Token) (stop : Stop) (limit : Limit) → HasCut file bytes done at tokens →
-    FindsPiece (length tokens) (Err stop) (drop done bytes) → fault_of stop at ≡ fault.Limit limit → PassesLimit file bytes limit
+pub limit_so : (file : ℕ) (bytes : List ℕ) (done : ℕ) (at : Pos) (tokens : List Token) (stop : Stop)
+    (limit : Limit) → HasCut file bytes done at tokens →
+    FindsPiece (length tokens) (Err stop) (drop done bytes) → fault_of stop at ≡ fault.Limit limit →
+    PassesLimit file bytes limit
 limit_so file bytes done at tokens Stray limit cut finds e = cc
 limit_so file bytes done at tokens (Passes one) limit cut finds e =
-    let same : one ≡ limit = cc in passing file bytes done at tokens limit cut (subst (BeginsPassing (length tokens) (drop done bytes)) same finds)
+    let same : one ≡ limit = cc in passing file bytes done at tokens limit cut
+    (subst (BeginsPassing (length tokens) (drop done bytes)) same finds)
 limit_so file bytes done at tokens Memory limit cut finds e = cc

@@ -1,5 +1,6 @@
 -- Numbers.
-use Rattle.std.proofs.Common.{◌≡◌, ℕ, ◌+◌, ◌-◌, ◌*◌, ◌^◌, ◌<◌, ◌≤◌, suc, true, nat_lt, nat_le, List, [], ◌∷◌, length, drop, get_or, ap, ◌∙◌, sym, arith, drop-cons, inl, inr}
+use Rattle.std.proofs.Common.{◌≡◌, ℕ, ◌+◌, ◌-◌, ◌*◌, ◌^◌, ◌<◌, ◌≤◌, suc, true, nat_lt, nat_le, List, [], ◌∷◌}
+use Rattle.std.proofs.Common.{length, drop, get_or, ap, ◌∙◌, sym, arith, drop-cons, inl, inr}
 use Rattle.std.specs.Char.{digit_value}
 use Rattle.std.specs.List.{list_all}
 use Rattle.std.specs.Str.Parse.{AllDigits, digits_value, digits_value_after}
@@ -30,7 +31,8 @@ all_digits (byte ∷ digits) h =
     (digit_below byte parts.0, all_digits digits parts.1)
 
 -- a number of at most 38 digits is small
-pub value_fits : (digits : List ℕ) → list_all is_digit digits ≡ true → length digits ≤ 38 → digits_value 10 digits < 2 ^ 127
+pub value_fits : (digits : List ℕ) → list_all is_digit digits ≡ true → length digits ≤ 38 →
+    digits_value 10 digits < 2 ^ 127
 value_fits digits h few =
     let bound = digits_value-lt 10 digits (all_digits digits h) in
     let most : 10 ^ length digits ≤ 10 ^ 38 = pow-le-pow_right (let ten : 0 < 10 = omega arith in ten) few in
@@ -42,12 +44,20 @@ grows value [] = omega arith
 grows value (byte ∷ digits) = omega (arith, grows (value * 10 + digit_value byte) digits)
 
 -- the value with one digit more
-pub one_more : (value index whole : ℕ) (digits : List ℕ) → list_all is_digit digits ≡ true → index < length digits → digits_value_after 10 value (drop index digits) ≡ whole →
-    (value * 10 + (get_or digits index 0 - 48) ≤ whole) × (digits_value_after 10 (value * 10 + (get_or digits index 0 - 48)) (drop (suc index) digits) ≡ whole)
+pub one_more : (value index whole : ℕ) (digits : List ℕ) → list_all is_digit digits ≡ true →
+    index < length digits → digits_value_after 10 value (drop index digits) ≡ whole →
+    (value * 10 + (get_or digits index 0 - 48) ≤ whole)
+    × (digits_value_after 10 (value * 10 + (get_or digits index 0 - 48)) (drop (suc index) digits) ≡ whole)
 one_more value index whole digits h within e =
     let byte : ℕ = get_or digits index 0 in
     let split : drop index digits ≡ byte ∷ drop (suc index) digits = drop-cons digits index 0 within in
-    let digit : is_digit byte ≡ true = elim (cases_Bool (is_digit byte)) [ inl is ↦ is | inr not_one ↦ absurd (both_ways _ (list_all_at is_digit digits index 0 within not_one) h) ] in
+    let digit : is_digit byte ≡ true =
+    elim (cases_Bool (is_digit byte)) [
+      | inl is ↦ is
+      | inr not_one ↦ absurd
+          (both_ways _ (list_all_at is_digit digits index 0 within not_one) h)
+    ] in
     let same : digits_value_after 10 (value * 10 + (byte - 48)) (drop (suc index) digits) ≡ whole =
-    ap (λ d. digits_value_after 10 (value * 10 + d) (drop (suc index) digits)) (sym (digit_worth byte digit)) ∙ ap (digits_value_after 10 value) (sym split) ∙ e in
+    ap (λ d. digits_value_after 10 (value * 10 + d) (drop (suc index) digits)) (sym (digit_worth byte digit))
+    ∙ ap (digits_value_after 10 value) (sym split) ∙ e in
     (omega (arith, same, grows (value * 10 + (byte - 48)) (drop (suc index) digits)), same)

@@ -1,5 +1,6 @@
 -- The longest front of a list that passes a test.
-use Rattle.std.proofs.Common.{◌≡◌, ℕ, suc, ◌+◌, ◌≤◌, Bool, true, false, cond, List, [], ◌∷◌, ◌++◌, length, take, ap, ◌∙◌, refl, subst, arith, ◌⊎◌, inl, inr}
+use Rattle.std.proofs.Common.{◌≡◌, ℕ, suc, ◌+◌, ◌≤◌, Bool, true, false, cond, List, [], ◌∷◌, ◌++◌, length}
+use Rattle.std.proofs.Common.{take, ap, ◌∙◌, refl, subst, arith, ◌⊎◌, inl, inr}
 use Rattle.std.specs.List.{prefix_len, list_all}
 use Rattle.std.proofs.lemmas.Bool.{and_parts, and_from}
 
@@ -20,7 +21,9 @@ module _ {X : Type 0} (p : X → Bool) where
   prefix_pass [] ys h = omega arith
   prefix_pass (x ∷ xs) ys h =
       let parts = and_parts (p x) (list_all p xs) h in
-      when_true (p x) (1 + prefix_len p (xs ++ ys)) 0 parts.0 ∙ (let e = prefix_pass xs ys parts.1 in let r : 1 + prefix_len p (xs ++ ys) ≡ length (x ∷ xs) + prefix_len p ys = omega (arith, e) in r)
+      when_true (p x) (1 + prefix_len p (xs ++ ys)) 0 parts.0
+      ∙ (let e = prefix_pass xs ys parts.1 in let r : 1 + prefix_len p (xs ++ ys)
+      ≡ length (x ∷ xs) + prefix_len p ys = omega (arith, e) in r)
 
   -- the front that passes passes
   pub prefix_all : (xs : List X) → list_all p (take (prefix_len p xs) xs) ≡ true
@@ -28,7 +31,8 @@ module _ {X : Type 0} (p : X → Bool) where
   prefix_all (x ∷ xs) =
       let P : ℕ → Type 0 = λ n. list_all p (take n (x ∷ xs)) ≡ true in
       elim (chosen (p x) (1 + prefix_len p xs) 0 (prefix_len p (x ∷ xs)) refl) [
-        | inl w ↦ subst P w.1 (subst P (let e : suc (prefix_len p xs) ≡ 1 + prefix_len p xs = omega arith in e) (and_from (p x) _ w.0 (prefix_all xs)))
+        | inl w ↦ subst P w.1 (subst P (let e : suc (prefix_len p xs) ≡ 1 + prefix_len p xs = omega arith
+            in e) (and_from (p x) _ w.0 (prefix_all xs)))
         | inr w ↦ subst P w.1 refl
       ]
 

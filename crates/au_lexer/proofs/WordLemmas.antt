@@ -3,28 +3,40 @@ use Rattle.std.proofs.Common.{◌≡◌, ◌≢◌, ℕ, List, [], ◌∷◌, So
 use Rattle.std.specs.Str.{bytes_eq}
 use Rattle.std.proofs.lemmas.Slice.Eq.{bytes_eq-Decides}
 use Rattle.au_base.specs.declared.tokens.Keyword.{Keyword}
-use Rattle.au_base.specs.declared.tokens.Keyword.TheVariants.{KwModule, KwBody, KwIs, KwEnd, KwImport, KwAs, KwPragma, KwConstant, KwType, KwRecord, KwUnion, KwCase, KwWhen, KwOf, KwDo, KwFunction, KwGeneric, KwTypeclass, KwInstance, KwMethod, KwLet, KwVar, KwIf, KwThen, KwElse, KwWhile, KwFor, KwFrom, KwTo, KwBorrow, KwIn, KwReturn, KwSkip, KwNil, KwTrue, KwFalse, KwAnd, KwOr, KwNot, KwFree, KwLinear, KwAnyUniverse, KwRegion}
+use Rattle.au_base.specs.declared.tokens.Keyword.TheVariants.{KwModule, KwBody, KwIs, KwEnd, KwImport, KwAs}
+use Rattle.au_base.specs.declared.tokens.Keyword.TheVariants.{KwPragma, KwConstant, KwType, KwRecord, KwUnion}
+use Rattle.au_base.specs.declared.tokens.Keyword.TheVariants.{KwCase, KwWhen, KwOf, KwDo, KwFunction}
+use Rattle.au_base.specs.declared.tokens.Keyword.TheVariants.{KwGeneric, KwTypeclass, KwInstance, KwMethod}
+use Rattle.au_base.specs.declared.tokens.Keyword.TheVariants.{KwLet, KwVar, KwIf, KwThen, KwElse, KwWhile}
+use Rattle.au_base.specs.declared.tokens.Keyword.TheVariants.{KwFor, KwFrom, KwTo, KwBorrow, KwIn, KwReturn}
+use Rattle.au_base.specs.declared.tokens.Keyword.TheVariants.{KwSkip, KwNil, KwTrue, KwFalse, KwAnd, KwOr}
+use Rattle.au_base.specs.declared.tokens.Keyword.TheVariants.{KwNot, KwFree, KwLinear, KwAnyUniverse}
+use Rattle.au_base.specs.declared.tokens.Keyword.TheVariants.{KwRegion}
 use Rattle.au_base.specs.Tokens.{keywords, keyword_spelling}
 use Rattle.au_lexer.specs.Pieces.{IsWord}
 use Rattle.au_lexer.specs.Reading.{first_spelled, keyword_of}
 use Rattle.au_lexer.proofs.RunLemmas.{chosen}
 
 -- the keyword that is found is spelled so
-first_spelled_is : (table : List Keyword) (word : List ℕ) (keyword : Keyword) → first_spelled table word ≡ Some keyword → keyword_spelling keyword ≡ word
+first_spelled_is : (table : List Keyword) (word : List ℕ) (keyword : Keyword) → first_spelled table word
+    ≡ Some keyword → keyword_spelling keyword ≡ word
 first_spelled_is [] word keyword h = cc
 first_spelled_is (one ∷ table) word keyword h =
     elim (chosen (bytes_eq (keyword_spelling one) word) (Some one) (first_spelled table word) (Some keyword) h) [
-      | inl w ↦ let same : one ≡ keyword = (let e = w.1 in cc) in subst (λ k. keyword_spelling k ≡ word) same ((bytes_eq-Decides (keyword_spelling one) word).0 w.0)
+      | inl w ↦ let same : one ≡ keyword = (let e = w.1 in cc) in subst (λ k. keyword_spelling k ≡ word) same
+          ((bytes_eq-Decides (keyword_spelling one) word).0 w.0)
       | inr w ↦ first_spelled_is table word keyword w.1
     ]
 
-pub keyword_found : (word : List ℕ) (keyword : Keyword) → keyword_of word ≡ Some keyword → keyword_spelling keyword ≡ word
+pub keyword_found : (word : List ℕ) (keyword : Keyword) → keyword_of word ≡ Some keyword →
+    keyword_spelling keyword ≡ word
 unfolding keyword_of
 keyword_found word keyword h = first_spelled_is keywords word keyword h
 
 -- a word that no keyword is spelled as is none
 pub keyword_none : (word : List ℕ) → ((keyword : Keyword) → keyword_spelling keyword ≢ word) → keyword_of word ≡ None
-keyword_none word none = elim (keyword_of word) as (λ o. keyword_of word ≡ o → keyword_of word ≡ None) [ None ↦ λ e. e | Some k ↦ λ e. absurd (none k (keyword_found word k e)) ] refl
+keyword_none word none = elim (keyword_of word) as (λ o. keyword_of word ≡ o → keyword_of word ≡ None)
+    [ None ↦ λ e. e | Some k ↦ λ e. absurd (none k (keyword_found word k e)) ] refl
 
 -- each keyword is found by its spelling
 pub keyword_again : (keyword : Keyword) → keyword_of (keyword_spelling keyword) ≡ Some keyword

@@ -13,8 +13,10 @@ use Rattle.au_syntax.specs.declared.statements.Arm.{Arm}
 use Rattle.au_syntax.specs.Plain.{PlainStatements, plain_statement}
 use Rattle.au_syntax.proofs.StatementLemmas.{if_else_says}
 use Rattle.au_lives.specs.Paths.{bound_name}
-use Rattle.au_lives.specs.Scopes.{scope, bound_over, scopes, scopes_after, scopes_inside, scopes_of_branches, scopes_of_arms}
-use Rattle.au_paths.specs.Seen.{seen_name, seen_bind, seen_binds, seen_parameters, seen_statement, seen_statements, seen_block, seen_branches, seen_arms}
+use Rattle.au_lives.specs.Scopes.{scope, bound_over, scopes, scopes_after, scopes_inside, scopes_of_branches}
+use Rattle.au_lives.specs.Scopes.{scopes_of_arms}
+use Rattle.au_paths.specs.Seen.{seen_name, seen_bind, seen_binds, seen_parameters, seen_statement}
+use Rattle.au_paths.specs.Seen.{seen_statements, seen_block, seen_branches, seen_arms}
 use Rattle.au_linear.proofs.TellingLemmas.{Declaring}
 
 module _ {X N T C : Type 0} (g : Ghosts X N T C) where
@@ -38,7 +40,8 @@ module _ {X N T C : Type 0} (g : Ghosts X N T C) where
   statements_declare = record {
     all = λ ss. scopes (seen_statements g ss);
     one = λ s rest. scopes_after (seen_statement g s) (seen_statements g rest) ++ scopes_inside (seen_statement g s);
-    step = λ s rest. sym (append_assoc (scopes_after (seen_statement g s) (seen_statements g rest)) (scopes_inside (seen_statement g s))
+    step = λ s rest. sym (append_assoc (scopes_after (seen_statement g s) (seen_statements g rest))
+        (scopes_inside (seen_statement g s))
         (scopes (seen_statements g rest)));
     none = refl;
   }
@@ -55,13 +58,15 @@ module _ {X N T C : Type 0} (g : Ghosts X N T C) where
   arms_declare = record {
     all = λ rest. scopes_of_arms (seen_arms g rest);
     one = λ a rest. bound_over (seen_binds g a.binds.items) (seen_block g a.block) ++ scopes (seen_block g a.block);
-    step = λ a rest. sym (append_assoc (bound_over (seen_binds g a.binds.items) (seen_block g a.block)) (scopes (seen_block g a.block))
+    step = λ a rest. sym (append_assoc (bound_over (seen_binds g a.binds.items) (seen_block g a.block))
+        (scopes (seen_block g a.block))
         (scopes_of_arms (seen_arms g rest)));
     none = refl;
   }
 
   -- a conditional with an else declares what its branches and its else declare
-  pub else_declares : (stmt : Stmt X N T C) (at : Pos) (bs : Vec (Branch X N T C) Global) (b : Block X N T C) → stmt ≡ code.IfElse at bs b →
+  pub else_declares : (stmt : Stmt X N T C) (at : Pos) (bs : Vec (Branch X N T C) Global) (b : Block X N T C)
+      → stmt ≡ code.IfElse at bs b →
       scopes_inside (seen_statement g stmt) ≡ scopes_of_branches (seen_branches g bs.items) ++ scopes (seen_block g b)
   else_declares stmt at bs b is =
       ap (λ s. scopes_inside (seen_statement g s)) is

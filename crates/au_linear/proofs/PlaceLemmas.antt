@@ -10,8 +10,12 @@ use Rattle.au_syntax.specs.declared.statements.Arm.{Arm}
 use Rattle.au_syntax.specs.Plain.{Bytes, PlainExpression}
 use Rattle.au_lives.specs.Lives.{Hold, held_from}
 use Rattle.au_lives.specs.Paths.{declared_by, bound_names}
-use Rattle.au_lives.specs.Places.{consumed_at, consumed_at_all, consumed_at_arguments, parted_at, parted_at_all, parted_at_arguments, gathered, gathered_in_block, gathered_in_branches, gathered_in_arms, looped, looped_in_block, looped_in_branches, looped_in_arms}
-use Rattle.au_paths.specs.Seen.{seen_expression, seen_expressions, seen_arguments, seen_statement, seen_statements, seen_binds, seen_block, seen_branches, seen_arms}
+use Rattle.au_lives.specs.Places.{consumed_at, consumed_at_all, consumed_at_arguments, parted_at}
+use Rattle.au_lives.specs.Places.{parted_at_all, parted_at_arguments, gathered, gathered_in_block}
+use Rattle.au_lives.specs.Places.{gathered_in_branches, gathered_in_arms, looped, looped_in_block}
+use Rattle.au_lives.specs.Places.{looped_in_branches, looped_in_arms}
+use Rattle.au_paths.specs.Seen.{seen_expression, seen_expressions, seen_arguments, seen_statement}
+use Rattle.au_paths.specs.Seen.{seen_statements, seen_binds, seen_block, seen_branches, seen_arms}
 use Rattle.au_linear.proofs.FirstLemmas as firsts
 
 abbrev stay : {A : Type 0} → Unit {0} → A → Unit {0}
@@ -69,7 +73,8 @@ module _ {X N T C : Type 0} (g : Ghosts X N T C) (x : Bytes) (f : Hold → Plain
     places = λ s bs. gathered_in_branches x f (seen_branches g bs) h;
     one = λ s b. f h (seen_expression g b.test.value) ++ gathered_in_block x f (seen_block g b.block) h;
     after = stay;
-    step = λ s b rest. sym (append_assoc (f h (seen_expression g b.test.value)) (gathered_in_block x f (seen_block g b.block) h)
+    step = λ s b rest. sym (append_assoc (f h (seen_expression g b.test.value))
+        (gathered_in_block x f (seen_block g b.block) h)
         (gathered_in_branches x f (seen_branches g rest) h));
     none = λ s. refl;
   }
@@ -77,7 +82,8 @@ module _ {X N T C : Type 0} (g : Ghosts X N T C) (x : Bytes) (f : Hold → Plain
   abbrev pub gathered_arms : Hold → firsts.Listing (Arm X N T C) (Unit {0})
   gathered_arms h = record {
     places = λ s rest. gathered_in_arms x f (seen_arms g rest) h;
-    one = λ s a. gathered_in_block x f (seen_block g a.block) (held_from x (bound_names (seen_binds g a.binds.items)) h);
+    one = λ s a. gathered_in_block x f (seen_block g a.block)
+        (held_from x (bound_names (seen_binds g a.binds.items)) h);
     after = stay;
     step = λ s a rest. refl;
     none = λ s. refl;

@@ -1,5 +1,6 @@
 -- What is told of one variable, by first places and a trimmed path.
-use Rattle.std.proofs.Common.{◌≡◌, ◌≢◌, ℕ, zero, suc, ◌+◌, ◌-◌, ◌<◌, ◌≤◌, List, [], ◌∷◌, ◌++◌, length, take, get_or, refl, sym, ap, ◌∙◌, arith, Option, None, Some}
+use Rattle.std.proofs.Common.{◌≡◌, ◌≢◌, ℕ, zero, suc, ◌+◌, ◌-◌, ◌<◌, ◌≤◌, List, [], ◌∷◌, ◌++◌, length, take}
+use Rattle.std.proofs.Common.{get_or, refl, sym, ap, ◌∙◌, arith, Option, None, Some}
 use Rattle.std.proofs.lemmas.List.{take_more}
 use Rattle.au_base.specs.declared.places.Pos.{Pos}
 use Rattle.au_syntax.specs.Plain.{Bytes, PlainStatements}
@@ -26,7 +27,8 @@ pub by_firsts : (x : Bytes) (sort : Sort) (b : PlainStatements) →
     (first_tells (first_of (part_places x sort b)) in_part (by_walk (checked x sort b)))
 by_firsts x sort b =
     told_first (loop_places x sort b) in_loop (at_first (part_places x sort b) in_part (by_walk (checked x sort b)))
-    ∙ ap (first_tells (first_of (loop_places x sort b)) in_loop) (told_first (part_places x sort b) in_part (by_walk (checked x sort b)))
+    ∙ ap (first_tells (first_of (loop_places x sort b)) in_loop)
+    (told_first (part_places x sort b) in_part (by_walk (checked x sort b)))
 
 zero_end : (ns : List ℕ) → without_zeros (ns ++ 0 ∷ []) ≡ without_zeros ns
 zero_end [] = refl

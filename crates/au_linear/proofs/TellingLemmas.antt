@@ -1,5 +1,7 @@
 -- What is told of variables, part by part.
-use Rattle.std.proofs.Common.{◌≡◌, ℕ, suc, ◌+◌, ◌<◌, ◌≤◌, List, [], ◌∷◌, ◌++◌, length, drop, map, append_assoc, get_or, refl, sym, ap, subst, ◌∙◌, arith, Option, None, Some, Result, Ok, Err}
+use Rattle.std.proofs.Common.{◌≡◌, ℕ, suc, ◌+◌, ◌<◌, ◌≤◌, List, [], ◌∷◌, ◌++◌, length, drop, map}
+use Rattle.std.proofs.Common.{append_assoc, get_or, refl, sym, ap, subst, ◌∙◌, arith, Option, None, Some}
+use Rattle.std.proofs.Common.{Result, Ok, Err}
 use Rattle.std.proofs.lemmas.List.{drop_all}
 use Rattle.au_lives.specs.declared.lives.Sort.{Sort}
 use Rattle.au_lives.specs.Scopes.{Scope}
@@ -21,10 +23,12 @@ drop_one_more : {A : Type 0} (n : ℕ) (xs : List A) → drop n (drop 1 xs) ≡ 
 drop_one_more n [] = drop_all n [] (omega arith)
 drop_one_more n (x ∷ xs) = refl
 
-drop_both : {A : Type 0} (a b : List Scope) (xs : List A) → drop (length b) (drop (length a) xs) ≡ drop (length (a ++ b)) xs
+drop_both : {A : Type 0} (a b : List Scope) (xs : List A) → drop (length b) (drop (length a) xs)
+    ≡ drop (length (a ++ b)) xs
 drop_both [] b xs = refl
 drop_both (s ∷ a) b xs =
-    ap (drop (length b)) (sym (drop_one_more (length a) xs)) ∙ drop_both a b (drop 1 xs) ∙ drop_one_more (length (a ++ b)) xs
+    ap (drop (length b)) (sym (drop_one_more (length a) xs)) ∙ drop_both a b (drop 1 xs)
+    ∙ drop_one_more (length (a ++ b)) xs
 
 later_none : (v : Variable) (o : Option Refusal) (l m : Option Refused) → or_later v o l ≡ None → or_later v o m ≡ m
 later_none v None l m h = refl
@@ -34,7 +38,8 @@ later_left : (v : Variable) (o : Option Refusal) (l : Option Refused) → or_lat
 later_left v None l h = h
 later_left v (Some why) l h = absurd (cc)
 
-later_some : (v : Variable) (o : Option Refusal) (l m : Option Refused) (r : Refused) → (l ≡ Some r → m ≡ Some r) → or_later v o l ≡ Some r →
+later_some : (v : Variable) (o : Option Refusal) (l m : Option Refused) (r : Refused) →
+    (l ≡ Some r → m ≡ Some r) → or_later v o l ≡ Some r →
     or_later v o m ≡ Some r
 later_some v None l m r more h = more h
 later_some v (Some why) l m r more h = h
@@ -73,7 +78,8 @@ some_before (s ∷ a) b ts r h =
     told_some s (asked_task ts) (first_told a (drop 1 ts)) (first_told (a ++ b) (drop 1 ts)) r
     (some_before a b (drop 1 ts) r) h
 
-tells_more : (f : LinearFault) (o p : Option Refused) → ((r : Refused) → o ≡ Some r → p ≡ Some r) → Tells f o → Tells f p
+tells_more : (f : LinearFault) (o p : Option Refused) → ((r : Refused) → o ≡ Some r → p ≡ Some r) →
+    Tells f o → Tells f p
 tells_more (faults.Refused f) o p more h = (h.0, (more h.0 h.1.0, h.1.1))
 tells_more faults.Memory o p more h = tt
 
@@ -111,7 +117,8 @@ rest_first : (a b : List Scope) (ts : List Task) (m n : ℕ) → Sees (Ok m) a t
 rest_first a b ts m n h = none_before a b (drop n ts) h.0 ∙ ap (first_told b) (sym h.1)
 
 -- some variables and then others
-pub sees_both : (a b : List Scope) (ts : List Task) (m n : ℕ) (r : Result ℕ LinearFault) → Sees (Ok m) a ts n → Sees r b ts m →
+pub sees_both : (a b : List Scope) (ts : List Task) (m n : ℕ) (r : Result ℕ LinearFault) →
+    Sees (Ok m) a ts n → Sees r b ts m →
     Sees r (a ++ b) ts n
 sees_both a b ts m n (Ok k) h more = (
   rest_first a b ts m n h ∙ more.0,
@@ -122,7 +129,8 @@ sees_both a b ts m n (Err f) h more =
     (λ r e. rest_first a b ts m n h ∙ e) more
 
 -- what is told of some is told of them with others behind
-pub sees_stop : (a b : List Scope) (ts : List Task) (n : ℕ) (f : LinearFault) → Sees (Err f) a ts n → Sees (Err f) (a ++ b) ts n
+pub sees_stop : (a b : List Scope) (ts : List Task) (n : ℕ) (f : LinearFault) → Sees (Err f) a ts n →
+    Sees (Err f) (a ++ b) ts n
 sees_stop a b ts n f h =
     tells_more f (first_told a (drop n ts)) (first_told (a ++ b) (drop n ts))
     (λ r e. some_before a b (drop n ts) r e) h
@@ -143,7 +151,8 @@ module _ {A : Type 0} (d : Declaring A) (xs : List A) (i : ℕ) (a : A) (is : a 
   split : d.all (drop i xs) ≡ d.one a (drop (i + 1) xs) ++ d.all (drop (i + 1) xs)
   split = ap d.all (next_item xs i a is lt) ∙ d.step a (drop (i + 1) xs)
 
-  pub item_goes : (k : ℕ) → Sees (Ok k) (d.one a (drop (i + 1) xs)) ts m → Settles (d.all (drop (i + 1) xs)) whole ts k n
+  pub item_goes : (k : ℕ) → Sees (Ok k) (d.one a (drop (i + 1) xs)) ts m →
+      Settles (d.all (drop (i + 1) xs)) whole ts k n
   item_goes k h r more =
       before r (subst (λ l. Sees r l ts m) (sym split)
       (sees_both (d.one a (drop (i + 1) xs)) (d.all (drop (i + 1) xs)) ts k m r h more))
@@ -153,7 +162,8 @@ module _ {A : Type 0} (d : Declaring A) (xs : List A) (i : ℕ) (a : A) (is : a 
       before (Err f) (subst (λ l. Sees (Err f) l ts m) (sym split)
       (sees_stop (d.one a (drop (i + 1) xs)) (d.all (drop (i + 1) xs)) ts m f h))
 
-pub items_done : {A : Type 0} (d : Declaring A) (xs : List A) (i : ℕ) → length xs ≤ i → (whole : List Scope) (ts : List Task) (m n : ℕ) →
+pub items_done : {A : Type 0} (d : Declaring A) (xs : List A) (i : ℕ) → length xs ≤ i →
+    (whole : List Scope) (ts : List Task) (m n : ℕ) →
     Settles (d.all (drop i xs)) whole ts m n → Sees (Ok m) whole ts n
 items_done d xs i past whole ts m n before =
     before (Ok m) (subst (λ l. Sees (Ok m) l ts m) (sym (ap d.all (drop_all i xs past) ∙ d.none)) (sees_none ts m))
@@ -167,15 +177,18 @@ told_all (s ∷ rest) sorts (t ∷ ts) h =
     by t h.0 ∙ ap (or_later (variable s (asked sorts)) (refused s (asked sorts))) (told_all rest (drop 1 sorts) ts h.1)
   where
     by : (t : Task) → Allots (life_of s) (asked sorts) t →
-        told_by s t (first_told rest ts) ≡ or_later (variable s (asked sorts)) (refused s (asked sorts)) (first_told rest ts)
+        told_by s t (first_told rest ts) ≡ or_later (variable s (asked sorts)) (refused s (asked sorts))
+        (first_told rest ts)
     by tasks.Cleared good =
         sym (ap (λ o. or_later (variable s (asked sorts)) o (first_told rest ts))
         (good_none s.name.name (asked sorts) s.block (good s refl)))
     by (tasks.Judge sort) is = ap (λ sort. told_by s (tasks.Judge sort) (first_told rest ts)) is
 
 -- one task more is allotted
-pub allots_more : (life : Life) (rest : List Life) (sorts : List Sort) (ts more : List Task) (t : Task) (all : List Life) (from : List Sort) →
-    ((more : List Task) → Allotted (life ∷ rest) sorts more → Allotted all from (ts ++ more)) → Allots life (asked sorts) t →
+pub allots_more : (life : Life) (rest : List Life) (sorts : List Sort) (ts more : List Task) (t : Task)
+    (all : List Life) (from : List Sort) →
+    ((more : List Task) → Allotted (life ∷ rest) sorts more → Allotted all from (ts ++ more)) →
+    Allots life (asked sorts) t →
     Allotted rest (drop 1 sorts) more → Allotted all from ((ts ++ t ∷ []) ++ more)
 allots_more life rest sorts ts more t all from before one h =
     subst (Allotted all from) (sym (append_assoc ts (t ∷ []) more)) (before (t ∷ more) (one, h))

@@ -1,12 +1,14 @@
 -- A broken fate tells the first breach.
-use Rattle.std.proofs.Common.{◌≡◌, Bool, true, false, not, List, [], ◌∷◌, ◌++◌, ◌⊎◌, inl, inr, refl, sym, ap, subst, ◌∙◌, if◌then◌else◌}
+use Rattle.std.proofs.Common.{◌≡◌, Bool, true, false, not, List, [], ◌∷◌, ◌++◌, ◌⊎◌, inl, inr, refl, sym, ap}
+use Rattle.std.proofs.Common.{subst, ◌∙◌, if◌then◌else◌}
 use Rattle.au_syntax.specs.Plain.{Bytes}
 use Rattle.au_lives.specs.declared.lives.LifeKind.{LifeKind}
 use Rattle.au_lives.specs.declared.lives.LifeKind.TheVariants as kinds
 use Rattle.au_lives.specs.declared.lives.Sort.{Sort}
 use Rattle.au_lives.specs.declared.lives.Sort.TheVariants as sorts
 use Rattle.au_lives.specs.Paths.{Step}
-use Rattle.au_lives.specs.Lives.{is_untouched, is_ordinary, is_allowed, held, counts_at, consumptions, Fate, going, broken, verdict, onward, at_end, judge, fate}
+use Rattle.au_lives.specs.Lives.{is_untouched, is_ordinary, is_allowed, held, counts_at, consumptions, Fate}
+use Rattle.au_lives.specs.Lives.{going, broken, verdict, onward, at_end, judge, fate}
 use Rattle.au_lives.specs.Breaches.{KeepsRules, Breaks, BreaksAtStep, BreaksFirst}
 use Rattle.au_lives.proofs.TurnLemmas.{broken_going}
 use Rattle.au_lives.proofs.GoodLemmas.{times, Rules, rules, judge_broken}

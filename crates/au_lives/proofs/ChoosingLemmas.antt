@@ -1,11 +1,16 @@
 -- What a walk says of arms, of which the number that is read picks one.
-use Rattle.std.proofs.Common.{◌≡◌, ℕ, zero, suc, ◌+◌, ◌≤◌, Bool, List, [], ◌∷◌, ◌++◌, drop, min, Ok, Err, ◌⊎◌, inl, inr, refl, ap, ◌∙◌, arith, append-nil, zero-add}
+use Rattle.std.proofs.Common.{◌≡◌, ℕ, zero, suc, ◌+◌, ◌≤◌, Bool, List, [], ◌∷◌, ◌++◌, drop, min, Ok, Err, ◌⊎◌}
+use Rattle.std.proofs.Common.{inl, inr, refl, ap, ◌∙◌, arith, append-nil, zero-add}
 use Rattle.std.proofs.lemmas.List.{append_assoc}
 use Rattle.au_lives.specs.declared.lives.LifeKind.{LifeKind}
 use Rattle.au_lives.specs.Lives.{Fate, going}
 use Rattle.au_lives.specs.Paths.{first}
-use Rattle.au_lives.specs.Walks.{Reach, Walk, Breach, ◌>>=◌, nowhere, merge, choose, noted, joined, Machine, step_by, armed, chosen}
-use Rattle.au_lives.proofs.Summaries.{Has, Falls, Passes, Comes, Broken, Breaks, Sums, Summed, Absorbs, fine_onto, falls_onto, later_onto, has_either, has_left, has_right, nowhere_has, choose_is, choose_has, step_comes, step_falls, nothing_before, pick_falls, pick_breaks, pick_fine, wider}
+use Rattle.au_lives.specs.Walks.{Reach, Walk, Breach, ◌>>=◌, nowhere, merge, choose, noted, joined, Machine}
+use Rattle.au_lives.specs.Walks.{step_by, armed, chosen}
+use Rattle.au_lives.proofs.Summaries.{Has, Falls, Passes, Comes, Broken, Breaks, Sums, Summed, Absorbs}
+use Rattle.au_lives.proofs.Summaries.{fine_onto, falls_onto, later_onto, has_either, has_left, has_right}
+use Rattle.au_lives.proofs.Summaries.{nowhere_has, choose_is, choose_has, step_comes, step_falls}
+use Rattle.au_lives.proofs.Summaries.{nothing_before, pick_falls, pick_breaks, pick_fine, wider}
 
 pub record ArmComes (ms : ℕ → Machine) (last i : ℕ) (r : Reach) (s : Bool) (path : List ℕ) : Type 0 where
   pub from : Bool

@@ -1,5 +1,7 @@
 -- Counts up to two, part by part.
-use Rattle.std.proofs.Common.{◌≡◌, ℕ, zero, suc, ◌+◌, ◌<◌, ◌≤◌, ◌==◌, Bool, true, false, ◌||◌, List, [], ◌∷◌, length, drop, map, ap, ◌∙◌, sym, refl, get_or, arith, add-one, drop-cons, not, if◌then◌else◌}
+use Rattle.std.proofs.Common.{◌≡◌, ℕ, zero, suc, ◌+◌, ◌<◌, ◌≤◌, ◌==◌, Bool, true, false, ◌||◌, List, [], ◌∷◌}
+use Rattle.std.proofs.Common.{length, drop, map, ap, ◌∙◌, sym, refl, get_or, arith, add-one, drop-cons, not}
+use Rattle.std.proofs.Common.{if◌then◌else◌}
 use Rattle.std.proofs.lemmas.Bool.{eqb-true}
 use Rattle.std.proofs.lemmas.List.{drop_all}
 use Rattle.std.specs.Str.{bytes_eq}
@@ -10,7 +12,9 @@ use Rattle.au_syntax.specs.Names.{Placed}
 use Rattle.au_syntax.specs.Expressions.{Node, path}
 use Rattle.au_syntax.specs.Views.{expression, expression_all, argument_all}
 use Rattle.au_syntax.specs.Plain.{Bytes, plain_expression, plain_expressions, plain_arguments}
-use Rattle.au_lives.specs.Mentions.{Counts, plus, unmentioned, one_look, one_consumption, is_variable, mentioned_with, where_named, counts_in, counts_in_all, counts_in_arguments}
+use Rattle.au_lives.specs.Mentions.{Counts, plus, unmentioned, one_look, one_consumption, is_variable}
+use Rattle.au_lives.specs.Mentions.{mentioned_with, where_named, counts_in, counts_in_all}
+use Rattle.au_lives.specs.Mentions.{counts_in_arguments}
 use Rattle.au_lives.specs.declared.tallies.Few.{Few}
 use Rattle.au_lives.specs.declared.tallies.Few.TheVariants.{Zero, One, More}
 use Rattle.au_lives.specs.declared.tallies.Tally.{Tally}

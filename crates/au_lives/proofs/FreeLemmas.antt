@@ -6,12 +6,16 @@ use Rattle.au_syntax.specs.declared.expressions.BorrowMode.TheVariants as modes
 use Rattle.au_syntax.specs.declared.types.Access.{Access}
 use Rattle.au_syntax.specs.declared.types.Access.TheVariants as access
 use Rattle.au_syntax.specs.Names.{Placed}
-use Rattle.au_syntax.specs.Expressions.{number, negative, text, truth, nil, path, arrow, call, named_call, parenthesized, dereference, borrow, borrow_part, binary, negation, typed, choice, no_expressions, expressions, no_arguments, arguments}
+use Rattle.au_syntax.specs.Expressions.{number, negative, text, truth, nil, path, arrow, call, named_call}
+use Rattle.au_syntax.specs.Expressions.{parenthesized, dereference, borrow, borrow_part, binary, negation}
+use Rattle.au_syntax.specs.Expressions.{typed, choice, no_expressions, expressions, no_arguments, arguments}
 use Rattle.au_syntax.specs.Plain.{Bytes, PlainExpression, PlainExpressions, PlainArguments}
 use Rattle.au_lives.specs.declared.lives.Sort.TheVariants as sorts
-use Rattle.au_lives.specs.Mentions.{Counts, unmentioned, one_look, one_write_borrow, mentioned_with, borrowed_by, counts_in, counts_in_all, counts_in_arguments}
+use Rattle.au_lives.specs.Mentions.{Counts, unmentioned, one_look, one_write_borrow, mentioned_with}
+use Rattle.au_lives.specs.Mentions.{borrowed_by, counts_in, counts_in_all, counts_in_arguments}
 use Rattle.au_lives.specs.Paths.{Met, whole, opening, assignment, assignment_behind, Step}
-use Rattle.au_lives.specs.Lives.{Hold, unlent, read_lent, write_lent, hidden, unless_hidden, opening_counts, met_counts, held, consumptions}
+use Rattle.au_lives.specs.Lives.{Hold, unlent, read_lent, write_lent, hidden, unless_hidden, opening_counts}
+use Rattle.au_lives.specs.Lives.{met_counts, held, consumptions}
 
 none_named : (b : Bool) (k : Counts) → k.consumed ≡ 0 → (if b then k else unmentioned).consumed ≡ 0
 none_named true k h = h

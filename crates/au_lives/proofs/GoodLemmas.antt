@@ -1,5 +1,6 @@
 -- A path keeps the rules exactly where it isn't broken.
-use Rattle.std.proofs.Common.{◌≡◌, ◌≢◌, ℕ, ◌+◌, ◌==◌, Bool, true, false, not, ◌||◌, ◌&&◌, List, [], ◌∷◌, ◌⊎◌, inl, inr, IsTrue, refl, sym, ap, ◌∙◌, arith, if◌then◌else◌}
+use Rattle.std.proofs.Common.{◌≡◌, ◌≢◌, ℕ, ◌+◌, ◌==◌, Bool, true, false, not, ◌||◌, ◌&&◌, List, [], ◌∷◌, ◌⊎◌}
+use Rattle.std.proofs.Common.{inl, inr, IsTrue, refl, sym, ap, ◌∙◌, arith, if◌then◌else◌}
 use Rattle.std.specs.List.{All}
 use Rattle.std.proofs.lemmas.Bool.{eqb-true}
 use Rattle.std.proofs.lemmas.List.Elements.{All-nil, All-cons, All-head, All-tail}
@@ -10,7 +11,10 @@ use Rattle.au_lives.specs.declared.lives.Sort.{Sort}
 use Rattle.au_lives.specs.declared.lives.Sort.TheVariants as sorts
 use Rattle.au_lives.specs.Mentions.{Counts, counts}
 use Rattle.au_lives.specs.Paths.{Step}
-use Rattle.au_lives.specs.Lives.{Hold, unlent, read_lent, write_lent, hidden, held, is_quiet, is_exactly, is_untouched, is_ordinary, is_allowed, IsSpent, counts_at, UntouchedAfterwards, consumptions, GoodPath, Fate, going, broken, onward, at_end, judge, fate}
+use Rattle.au_lives.specs.Lives.{Hold, unlent, read_lent, write_lent, hidden, held, is_quiet, is_exactly}
+use Rattle.au_lives.specs.Lives.{is_untouched, is_ordinary, is_allowed, IsSpent, counts_at}
+use Rattle.au_lives.specs.Lives.{UntouchedAfterwards, consumptions, GoodPath, Fate, going, broken, onward}
+use Rattle.au_lives.specs.Lives.{at_end, judge, fate}
 use Rattle.au_lives.proofs.TurnLemmas.{going_same, broken_going}
 use Rattle.au_lives.proofs.KeepingLemmas.{and_true}
 use Rattle.au_lives.proofs.FreeLemmas.{none_consumed}

@@ -1,12 +1,22 @@
 -- What drives a fate is what judges the steps of the path that is followed.
-use Rattle.std.proofs.Common.{◌≡◌, ℕ, zero, suc, ◌==◌, Bool, true, false, List, [], ◌∷◌, ◌++◌, length, drop, min, refl, sym, ap, ◌∙◌, arith, if◌then◌else◌}
+use Rattle.std.proofs.Common.{◌≡◌, ℕ, zero, suc, ◌==◌, Bool, true, false, List, [], ◌∷◌, ◌++◌, length, drop}
+use Rattle.std.proofs.Common.{min, refl, sym, ap, ◌∙◌, arith, if◌then◌else◌}
 use Rattle.std.specs.Str.{bytes_eq}
-use Rattle.au_syntax.specs.Statements.{skip, declare, destructure, assign, assign_through, conditional, conditional_else, case_of, while_loop, for_loop, borrow_in, borrow_typed, discard, return_of, no_statements, statements, no_branches, branches, no_arms, arms}
+use Rattle.au_syntax.specs.Statements.{skip, declare, destructure, assign, assign_through, conditional}
+use Rattle.au_syntax.specs.Statements.{conditional_else, case_of, while_loop, for_loop, borrow_in}
+use Rattle.au_syntax.specs.Statements.{borrow_typed, discard, return_of, no_statements, statements}
+use Rattle.au_syntax.specs.Statements.{no_branches, branches, no_arms, arms}
 use Rattle.au_syntax.specs.Plain.{Bytes, PlainStatement, PlainStatements, PlainBranches, PlainArms}
 use Rattle.au_lives.specs.declared.lives.Sort.{Sort}
-use Rattle.au_lives.specs.Paths.{Met, whole, opening, Around, lent, declared, Step, step, says, Run, first, met, with_steps, chose, and_then, turns, count_of_branches, count_of_arms, declared_by, bound_names, access_of, follow, follow_block, follow_branches, follow_arms}
-use Rattle.au_lives.specs.Lives.{Hold, unlent, tighter, hidden, held, held_from, counts_at, Fate, going, broken, verdict, onward, at_end, judge}
-use Rattle.au_lives.specs.Walks.{Drive, drives, Machine, taking, picking, onto, step_by, in_turn, leave, turning, turns_by, looping, chosen, does, drive, drive_block, drive_branches, drive_arms}
+use Rattle.au_lives.specs.Paths.{Met, whole, opening, Around, lent, declared, Step, step, says, Run, first}
+use Rattle.au_lives.specs.Paths.{met, with_steps, chose, and_then, turns, count_of_branches, count_of_arms}
+use Rattle.au_lives.specs.Paths.{declared_by, bound_names, access_of, follow, follow_block, follow_branches}
+use Rattle.au_lives.specs.Paths.{follow_arms}
+use Rattle.au_lives.specs.Lives.{Hold, unlent, tighter, hidden, held, held_from, counts_at, Fate, going}
+use Rattle.au_lives.specs.Lives.{broken, verdict, onward, at_end, judge}
+use Rattle.au_lives.specs.Walks.{Drive, drives, Machine, taking, picking, onto, step_by, in_turn, leave}
+use Rattle.au_lives.specs.Walks.{turning, turns_by, looping, chosen, does, drive, drive_block, drive_branches}
+use Rattle.au_lives.specs.Walks.{drive_arms}
 
 least_none : (n : ℕ) → min n 0 ≡ 0
 least_none n = omega arith

@@ -3,17 +3,28 @@ use Rattle.std.proofs.Common.{◌≡◌, ℕ, ◌==◌, Bool, true, false, not, 
 use Rattle.std.specs.Str.{bytes_eq}
 use Rattle.au_syntax.specs.declared.types.Access.{Access}
 use Rattle.au_syntax.specs.declared.types.Access.TheVariants as access
-use Rattle.au_syntax.specs.Statements.{skip, declare, destructure, assign, assign_through, conditional, conditional_else, case_of, while_loop, for_loop, borrow_in, borrow_typed, discard, return_of, no_statements, statements, no_branches, branches, no_arms, arms}
+use Rattle.au_syntax.specs.Statements.{skip, declare, destructure, assign, assign_through, conditional}
+use Rattle.au_syntax.specs.Statements.{conditional_else, case_of, while_loop, for_loop, borrow_in}
+use Rattle.au_syntax.specs.Statements.{borrow_typed, discard, return_of, no_statements, statements}
+use Rattle.au_syntax.specs.Statements.{no_branches, branches, no_arms, arms}
 use Rattle.au_syntax.specs.Plain.{Bytes, PlainExpression, PlainStatement, PlainStatements, PlainBranches, PlainArms}
 use Rattle.au_lives.specs.declared.lives.LifeKind.TheVariants as kinds
 use Rattle.au_lives.specs.declared.lives.Sort.{Sort}
 use Rattle.au_lives.specs.declared.lives.Sort.TheVariants as sorts
 use Rattle.au_lives.specs.Mentions.{Counts, unmentioned, one_write_borrow, one_look, counts_in}
-use Rattle.au_lives.specs.Paths.{whole, opening, assignment, assignment_behind, lent, declared, count_of_branches, count_of_arms, declared_by, bound_names, access_of}
-use Rattle.au_lives.specs.Lives.{is_free, Hold, unlent, read_lent, write_lent, hidden, unless_hidden, opening_counts, held_from, is_untouched, is_ordinary, is_allowed, keeps, each_in, each_in_block, each_in_branches, each_in_arms, going, broken, verdict, at_end, each_loop, each_loop_of_block, each_loop_of_branches, each_loop_of_arms}
-use Rattle.au_lives.specs.Walks.{Machine, step_by, in_turn, ending, looping, chosen, does, drive, drive_block, drive_branches, drive_arms}
+use Rattle.au_lives.specs.Paths.{whole, opening, assignment, assignment_behind, lent, declared}
+use Rattle.au_lives.specs.Paths.{count_of_branches, count_of_arms, declared_by, bound_names, access_of}
+use Rattle.au_lives.specs.Lives.{is_free, Hold, unlent, read_lent, write_lent, hidden, unless_hidden}
+use Rattle.au_lives.specs.Lives.{opening_counts, held_from, is_untouched, is_ordinary, is_allowed, keeps}
+use Rattle.au_lives.specs.Lives.{each_in, each_in_block, each_in_branches, each_in_arms, going, broken}
+use Rattle.au_lives.specs.Lives.{verdict, at_end, each_loop, each_loop_of_block, each_loop_of_branches}
+use Rattle.au_lives.specs.Lives.{each_loop_of_arms}
+use Rattle.au_lives.specs.Walks.{Machine, step_by, in_turn, ending, looping, chosen, does, drive, drive_block}
+use Rattle.au_lives.specs.Walks.{drive_branches, drive_arms}
 use Rattle.au_lives.proofs.Summaries.{Absorbs}
-use Rattle.au_lives.proofs.TurnLemmas.{Keeps, going_same, broken_going, absorbs_onto, absorbs_step, absorbs_looping, absorbs_armed, absorbs_chosen, keeps_onto, keeps_going, keeps_looping, keeps_armed, keeps_chosen}
+use Rattle.au_lives.proofs.TurnLemmas.{Keeps, going_same, broken_going, absorbs_onto, absorbs_step}
+use Rattle.au_lives.proofs.TurnLemmas.{absorbs_looping, absorbs_armed, absorbs_chosen, keeps_onto}
+use Rattle.au_lives.proofs.TurnLemmas.{keeps_going, keeps_looping, keeps_armed, keeps_chosen}
 
 pub and_true : (a b : Bool) → (a && b) ≡ true → (a ≡ true) × (b ≡ true)
 and_true true b h = (refl, h)

@@ -1,19 +1,35 @@
 -- No consumption stands somewhere exactly where it has no place there.
-use Rattle.std.proofs.Common.{◌≡◌, ℕ, suc, ◌+◌, ◌==◌, Bool, true, false, ◌||◌, ◌&&◌, List, [], ◌∷◌, ◌++◌, length, refl, sym, ap, ◌∙◌, arith, if◌then◌else◌}
+use Rattle.std.proofs.Common.{◌≡◌, ℕ, suc, ◌+◌, ◌==◌, Bool, true, false, ◌||◌, ◌&&◌, List, [], ◌∷◌, ◌++◌}
+use Rattle.std.proofs.Common.{length, refl, sym, ap, ◌∙◌, arith, if◌then◌else◌}
 use Rattle.std.specs.Str.{bytes_eq}
 use Rattle.std.proofs.lemmas.Bool.{eqb-true}
 use Rattle.au_base.specs.declared.places.Pos.{Pos}
 use Rattle.au_syntax.specs.declared.expressions.BorrowMode.{BorrowMode}
 use Rattle.au_syntax.specs.declared.expressions.BorrowMode.TheVariants as modes
 use Rattle.au_syntax.specs.Names.{Placed}
-use Rattle.au_syntax.specs.Expressions.{number, negative, text, truth, nil, path, arrow, call, named_call, parenthesized, dereference, borrow, borrow_part, binary, negation, typed, choice, no_expressions, expressions, no_arguments, arguments}
-use Rattle.au_syntax.specs.Statements.{skip, declare, destructure, assign, assign_through, conditional, conditional_else, case_of, while_loop, for_loop, borrow_in, borrow_typed, discard, return_of, no_statements, statements, no_branches, branches, no_arms, arms}
-use Rattle.au_syntax.specs.Plain.{Bytes, PlainExpression, PlainExpressions, PlainArguments, PlainStatement, PlainStatements, PlainBranches, PlainArms}
+use Rattle.au_syntax.specs.Expressions.{number, negative, text, truth, nil, path, arrow, call, named_call}
+use Rattle.au_syntax.specs.Expressions.{parenthesized, dereference, borrow, borrow_part, binary, negation}
+use Rattle.au_syntax.specs.Expressions.{typed, choice, no_expressions, expressions, no_arguments, arguments}
+use Rattle.au_syntax.specs.Statements.{skip, declare, destructure, assign, assign_through, conditional}
+use Rattle.au_syntax.specs.Statements.{conditional_else, case_of, while_loop, for_loop, borrow_in}
+use Rattle.au_syntax.specs.Statements.{borrow_typed, discard, return_of, no_statements, statements}
+use Rattle.au_syntax.specs.Statements.{no_branches, branches, no_arms, arms}
+use Rattle.au_syntax.specs.Plain.{Bytes, PlainExpression, PlainExpressions, PlainArguments, PlainStatement}
+use Rattle.au_syntax.specs.Plain.{PlainStatements, PlainBranches, PlainArms}
 use Rattle.au_lives.specs.declared.lives.Sort.{Sort}
-use Rattle.au_lives.specs.Mentions.{Counts, unmentioned, one_look, mentioned_with, borrowed_by, is_variable, may_skip, counts_in, counts_in_all, counts_in_arguments, is_kept, keeps_parts, keeps_parts_of_all, keeps_parts_of_arguments}
+use Rattle.au_lives.specs.Mentions.{Counts, unmentioned, one_look, mentioned_with, borrowed_by, is_variable}
+use Rattle.au_lives.specs.Mentions.{may_skip, counts_in, counts_in_all, counts_in_arguments, is_kept}
+use Rattle.au_lives.specs.Mentions.{keeps_parts, keeps_parts_of_all, keeps_parts_of_arguments}
 use Rattle.au_lives.specs.Paths.{lent, declared, declared_by, bound_names, access_of}
-use Rattle.au_lives.specs.Lives.{Hold, unlent, read_lent, write_lent, hidden, held_from, is_free, keeps, keeps_in_parts, each_in, each_in_block, each_in_branches, each_in_arms, each_loop, each_loop_of_block, each_loop_of_branches, each_loop_of_arms, keeps_loops, keeps_all_parts}
-use Rattle.au_lives.specs.Places.{place_of, consumed_at, consumed_at_all, consumed_at_arguments, parted_at, parted_at_all, parted_at_arguments, gathered, gathered_in_block, gathered_in_branches, gathered_in_arms, looped, looped_in_block, looped_in_branches, looped_in_arms, consumptions_at, partings_at, loop_places, part_places}
+use Rattle.au_lives.specs.Lives.{Hold, unlent, read_lent, write_lent, hidden, held_from, is_free, keeps}
+use Rattle.au_lives.specs.Lives.{keeps_in_parts, each_in, each_in_block, each_in_branches, each_in_arms}
+use Rattle.au_lives.specs.Lives.{each_loop, each_loop_of_block, each_loop_of_branches, each_loop_of_arms}
+use Rattle.au_lives.specs.Lives.{keeps_loops, keeps_all_parts}
+use Rattle.au_lives.specs.Places.{place_of, consumed_at, consumed_at_all, consumed_at_arguments, parted_at}
+use Rattle.au_lives.specs.Places.{parted_at_all, parted_at_arguments, gathered, gathered_in_block}
+use Rattle.au_lives.specs.Places.{gathered_in_branches, gathered_in_arms, looped, looped_in_block}
+use Rattle.au_lives.specs.Places.{looped_in_branches, looped_in_arms, consumptions_at, partings_at}
+use Rattle.au_lives.specs.Places.{loop_places, part_places}
 
 abbrev is_none : List Pos → Bool
 is_none [] = true

@@ -6,7 +6,9 @@ use Rattle.au_lives.specs.declared.lives.Sort.{Sort}
 use Rattle.au_lives.specs.Lives.{GoodLife}
 use Rattle.au_lives.specs.Places.{loop_places, part_places}
 use Rattle.au_lives.specs.Walks.{Walk, checked}
-use Rattle.au_lives.specs.Refusals.{Refusal, in_loop, in_part, on_path, Refuses, at_first, by_walk, refusal, Variable, HasGoodLife, GoodLives, Refused, or_later, first_refused, IsFirstRefused}
+use Rattle.au_lives.specs.Refusals.{Refusal, in_loop, in_part, on_path, Refuses, at_first, by_walk, refusal}
+use Rattle.au_lives.specs.Refusals.{Variable, HasGoodLife, GoodLives, Refused, or_later, first_refused}
+use Rattle.au_lives.specs.Refusals.{IsFirstRefused}
 use Rattle.au_lives.proofs.PlaceLemmas.{no_loop_place, no_part_place, loops_kept, parts_kept}
 use Rattle.au_lives.proofs.WholeLemmas.{yes_good, trimmed_bad, bad_not_good}
 

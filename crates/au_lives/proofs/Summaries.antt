@@ -1,9 +1,12 @@
 -- What a walk says of a machine, and that it says so of one machine after another.
-use Rattle.std.proofs.Common.{◌≡◌, ℕ, Bool, true, false, List, [], ◌∷◌, ◌++◌, length, Option, None, Some, Ok, Err, ◌⊎◌, inl, inr, refl, sym, ap, subst, ◌∙◌, arith, append-nil}
+use Rattle.std.proofs.Common.{◌≡◌, ℕ, Bool, true, false, List, [], ◌∷◌, ◌++◌, length, Option, None, Some, Ok}
+use Rattle.std.proofs.Common.{Err, ◌⊎◌, inl, inr, refl, sym, ap, subst, ◌∙◌, arith, append-nil}
 use Rattle.std.proofs.lemmas.List.{append_assoc}
 use Rattle.au_lives.specs.declared.lives.LifeKind.{LifeKind}
 use Rattle.au_lives.specs.Lives.{Fate, going, broken}
-use Rattle.au_lives.specs.Walks.{Reach, at_state, Walk, ◌>>=◌, nowhere, either, merge, push, choose, only, land, landed, walk_by, walk_step, stop, Drive, drives, Machine, picking, onto, step_by, in_turn, ending}
+use Rattle.au_lives.specs.Walks.{Reach, at_state, Walk, ◌>>=◌, nowhere, either, merge, push, choose, only}
+use Rattle.au_lives.specs.Walks.{land, landed, walk_by, walk_step, stop, Drive, drives, Machine, picking}
+use Rattle.au_lives.specs.Walks.{onto, step_by, in_turn, ending}
 
 abbrev pub Has : Reach → Bool → List ℕ → Type 0
 Has r s p = at_state r s ≡ Some p

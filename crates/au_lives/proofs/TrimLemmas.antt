@@ -1,8 +1,15 @@
 -- Zeros at the end of the choices change nothing.
-use Rattle.std.proofs.Common.{◌≡◌, ℕ, zero, suc, ◌≤◌, ◌==◌, Bool, true, false, List, [], ◌∷◌, ◌++◌, length, drop, min, get_or, refl, sym, ap, subst, ◌∙◌, arith, if◌then◌else◌}
-use Rattle.au_syntax.specs.Statements.{skip, declare, destructure, assign, assign_through, conditional, conditional_else, case_of, while_loop, for_loop, borrow_in, borrow_typed, discard, return_of, no_statements, statements, no_branches, branches, no_arms, arms}
+use Rattle.std.proofs.Common.{◌≡◌, ℕ, zero, suc, ◌≤◌, ◌==◌, Bool, true, false, List, [], ◌∷◌, ◌++◌, length}
+use Rattle.std.proofs.Common.{drop, min, get_or, refl, sym, ap, subst, ◌∙◌, arith, if◌then◌else◌}
+use Rattle.au_syntax.specs.Statements.{skip, declare, destructure, assign, assign_through, conditional}
+use Rattle.au_syntax.specs.Statements.{conditional_else, case_of, while_loop, for_loop, borrow_in}
+use Rattle.au_syntax.specs.Statements.{borrow_typed, discard, return_of, no_statements, statements}
+use Rattle.au_syntax.specs.Statements.{no_branches, branches, no_arms, arms}
 use Rattle.au_syntax.specs.Plain.{PlainStatement, PlainStatements, PlainBranches, PlainArms}
-use Rattle.au_lives.specs.Paths.{opening, Around, lent, declared, Step, step, says, Run, first, met, with_steps, chose, and_then, turns, count_of_branches, count_of_arms, declared_by, bound_names, access_of, follow, follow_block, follow_branches, follow_arms}
+use Rattle.au_lives.specs.Paths.{opening, Around, lent, declared, Step, step, says, Run, first, met}
+use Rattle.au_lives.specs.Paths.{with_steps, chose, and_then, turns, count_of_branches, count_of_arms}
+use Rattle.au_lives.specs.Paths.{declared_by, bound_names, access_of, follow, follow_block, follow_branches}
+use Rattle.au_lives.specs.Paths.{follow_arms}
 use Rattle.au_lives.specs.Lives.{EndsWell}
 use Rattle.au_lives.specs.Trimming.{before, without_zeros}
 

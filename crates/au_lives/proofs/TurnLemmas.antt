@@ -1,11 +1,14 @@
 -- What a walk says of the turns of a loop whose parts leave the state as it is.
-use Rattle.std.proofs.Common.{◌≡◌, ℕ, zero, suc, ◌==◌, Bool, true, false, List, [], ◌∷◌, ◌++◌, length, drop, Ok, Err, refl, sym, ap, subst, ◌∙◌, if◌then◌else◌}
+use Rattle.std.proofs.Common.{◌≡◌, ℕ, zero, suc, ◌==◌, Bool, true, false, List, [], ◌∷◌, ◌++◌, length, drop}
+use Rattle.std.proofs.Common.{Ok, Err, refl, sym, ap, subst, ◌∙◌, if◌then◌else◌}
 use Rattle.std.proofs.lemmas.List.{append_assoc}
 use Rattle.au_lives.specs.declared.lives.LifeKind.{LifeKind}
 use Rattle.au_lives.specs.Lives.{Fate, going, broken}
 use Rattle.au_lives.specs.Paths.{first}
-use Rattle.au_lives.specs.Walks.{Reach, Walk, ◌>>=◌, choose, left, Drive, drives, Machine, picking, onto, step_by, in_turn, leave, turning, turns_by, looping, armed, chosen}
-use Rattle.au_lives.proofs.Summaries.{Has, Fine, Passes, Comes, Broken, Breaks, Sums, Summed, Absorbs, fine_onto, breaks_onto, choose_is, choose_has, step_comes, pick_breaks}
+use Rattle.au_lives.specs.Walks.{Reach, Walk, ◌>>=◌, choose, left, Drive, drives, Machine, picking, onto}
+use Rattle.au_lives.specs.Walks.{step_by, in_turn, leave, turning, turns_by, looping, armed, chosen}
+use Rattle.au_lives.proofs.Summaries.{Has, Fine, Passes, Comes, Broken, Breaks, Sums, Summed, Absorbs}
+use Rattle.au_lives.proofs.Summaries.{fine_onto, breaks_onto, choose_is, choose_has, step_comes, pick_breaks}
 
 -- where it goes on, it is in the state in which it began
 abbrev pub Keeps : Machine → Type 0

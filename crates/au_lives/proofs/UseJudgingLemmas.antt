@@ -1,7 +1,8 @@
 -- What the table says of a step, and what the step does to a fate.
 use Rattle.std.proofs.Common.{◌≡◌, ◌==◌, Bool, true, false, not, ◌||◌, ◌&&◌, refl, ap, ◌∙◌, if◌then◌else◌}
 use Rattle.au_lives.specs.declared.lives.LifeKind.TheVariants as kinds
-use Rattle.au_lives.specs.Lives.{Hold, unlent, read_lent, write_lent, hidden, is_quiet, is_exactly, is_untouched, is_ordinary, going, broken, verdict}
+use Rattle.au_lives.specs.Lives.{Hold, unlent, read_lent, write_lent, hidden, is_quiet, is_exactly}
+use Rattle.au_lives.specs.Lives.{is_untouched, is_ordinary, going, broken, verdict}
 use Rattle.au_lives.specs.Mentions.{Counts, counts}
 use Rattle.au_lives.specs.declared.steps.Verdict.TheVariants.{Stay, Spend, Bad}
 use Rattle.au_lives.specs.Judging.{state_of, Leads}

@@ -1,16 +1,26 @@
 -- What the walk says of each block.
 use Rattle.std.proofs.Common.{◌≡◌, ℕ, ◌+◌, Bool, true, [], ◌∷◌, Ok, refl}
-use Rattle.au_syntax.specs.Statements.{skip, declare, destructure, assign, assign_through, conditional, conditional_else, case_of, while_loop, for_loop, borrow_in, borrow_typed, discard, return_of, no_statements, statements, no_branches, branches, no_arms, arms}
+use Rattle.au_syntax.specs.Statements.{skip, declare, destructure, assign, assign_through, conditional}
+use Rattle.au_syntax.specs.Statements.{conditional_else, case_of, while_loop, for_loop, borrow_in}
+use Rattle.au_syntax.specs.Statements.{borrow_typed, discard, return_of, no_statements, statements}
+use Rattle.au_syntax.specs.Statements.{no_branches, branches, no_arms, arms}
 use Rattle.au_syntax.specs.Plain.{Bytes, PlainExpression, PlainStatement, PlainStatements, PlainBranches, PlainArms}
 use Rattle.au_lives.specs.declared.lives.Sort.{Sort}
 use Rattle.au_lives.specs.Mentions.{counts_in}
-use Rattle.au_lives.specs.Paths.{whole, opening, assignment, assignment_behind, lent, declared, count_of_branches, count_of_arms, declared_by, bound_names, access_of}
-use Rattle.au_lives.specs.Lives.{is_free, Hold, unless_hidden, held_from, keeps, each_in_block, each_loop, each_loop_of_block, each_loop_of_branches, each_loop_of_arms, Fate, going, at_end}
-use Rattle.au_lives.specs.Walks.{Reach, Walk, ◌>>=◌, nowhere, merge, choose, walk_step, joined, returned, turned, Machine, step_by, in_turn, ending, looping, chosen, does, drive, drive_block, drive_branches, drive_arms, walk, walk_block, walk_branches, walk_arms}
+use Rattle.au_lives.specs.Paths.{whole, opening, assignment, assignment_behind, lent, declared}
+use Rattle.au_lives.specs.Paths.{count_of_branches, count_of_arms, declared_by, bound_names, access_of}
+use Rattle.au_lives.specs.Lives.{is_free, Hold, unless_hidden, held_from, keeps, each_in_block, each_loop}
+use Rattle.au_lives.specs.Lives.{each_loop_of_block, each_loop_of_branches, each_loop_of_arms, Fate, going}
+use Rattle.au_lives.specs.Lives.{at_end}
+use Rattle.au_lives.specs.Walks.{Reach, Walk, ◌>>=◌, nowhere, merge, choose, walk_step, joined, returned}
+use Rattle.au_lives.specs.Walks.{turned, Machine, step_by, in_turn, ending, looping, chosen, does, drive}
+use Rattle.au_lives.specs.Walks.{drive_block, drive_branches, drive_arms, walk, walk_block, walk_branches}
+use Rattle.au_lives.specs.Walks.{walk_arms}
 use Rattle.au_lives.proofs.Summaries.{Summed, Absorbs, seq_sum, step_sum, end_sum, going_sums}
 use Rattle.au_lives.proofs.ChoosingLemmas.{ArmsSummed, arms_base, arms_step, chosen_sum}
 use Rattle.au_lives.proofs.TurnLemmas.{keeps_going, absorbs_step, absorbs_chosen, absorbs_looping, loop_sum, test_sum}
-use Rattle.au_lives.proofs.KeepingLemmas.{and_true, verdict_kept, absorbs_block, absorbs_arms, keeps_block, loops_of_block}
+use Rattle.au_lives.proofs.KeepingLemmas.{and_true, verdict_kept, absorbs_block, absorbs_arms, keeps_block}
+use Rattle.au_lives.proofs.KeepingLemmas.{loops_of_block}
 
 module _ (x : Bytes) (sort : Sort) where
   abbrev kept : Hold → PlainExpression → Bool

@@ -1,12 +1,15 @@
 -- What the walk over a whole scope says of the life.
-use Rattle.std.proofs.Common.{◌≡◌, ℕ, Bool, true, false, List, [], ◌++◌, None, Some, Ok, Err, refl, sym, ap, subst, ◌∙◌, append-nil}
+use Rattle.std.proofs.Common.{◌≡◌, ℕ, Bool, true, false, List, [], ◌++◌, None, Some, Ok, Err, refl, sym, ap}
+use Rattle.std.proofs.Common.{subst, ◌∙◌, append-nil}
 use Rattle.std.proofs.lemmas.List.{append_assoc}
 use Rattle.au_syntax.specs.Plain.{Bytes, PlainStatements}
 use Rattle.au_lives.specs.declared.lives.LifeKind.{LifeKind}
 use Rattle.au_lives.specs.declared.lives.Sort.{Sort}
 use Rattle.au_lives.specs.Paths.{Step, follow_block}
-use Rattle.au_lives.specs.Lives.{unlent, GoodPaths, BadPath, keeps_loops, Fate, going, broken, onward, at_end, judge, fate}
-use Rattle.au_lives.specs.Walks.{Reach, reach, Walk, Breach, finish, Machine, onto, step_by, in_turn, drive_block, walk_block, checked}
+use Rattle.au_lives.specs.Lives.{unlent, GoodPaths, BadPath, keeps_loops, Fate, going, broken, onward, at_end}
+use Rattle.au_lives.specs.Lives.{judge, fate}
+use Rattle.au_lives.specs.Walks.{Reach, reach, Walk, Breach, finish, Machine, onto, step_by, in_turn}
+use Rattle.au_lives.specs.Walks.{drive_block, walk_block, checked}
 use Rattle.au_lives.specs.Trimming.{without_zeros}
 use Rattle.au_lives.proofs.Summaries.{Has, Broken, Breaks, Sums, Summed, none_some, some_same, seq_sum, step_sum}
 use Rattle.au_lives.proofs.TurnLemmas.{broken_going, absorbs_step}

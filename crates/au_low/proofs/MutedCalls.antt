@@ -1,5 +1,6 @@
 -- Shipped calls in a world whose deeds aren't kept.
-use Rattle.std.proofs.Common.{◌≡◌, ℕ, ◌-◌, List, [], ◌∷◌, ◌++◌, length, pos, Option, Some, None, slice_get, refl, ap, ◌∙◌}
+use Rattle.std.proofs.Common.{◌≡◌, ℕ, ◌-◌, List, [], ◌∷◌, ◌++◌, length, pos, Option, Some, None, slice_get}
+use Rattle.std.proofs.Common.{refl, ap, ◌∙◌}
 use Rattle.std.specs.Option.{option_map}
 use Rattle.au_base.specs.declared.kinds.IntKind.TheVariants.{Nat8, Index}
 use Rattle.au_shipped.specs.declared.prims.ShippedCall.{ShippedCall}
@@ -10,7 +11,10 @@ use Rattle.au_effects.specs.Worlds.{World, used, tells}
 use Rattle.au_effects.specs.Places.{at, content_in, exchanged}
 use Rattle.au_effects.specs.Numbers.{number_in, number_of, truth_in, text_in, number_bytes, truth_bytes}
 use Rattle.au_effects.specs.Answers.{Answer, gives, writes, waits, aborts, none}
-use Rattle.au_effects.specs.Calls.{reference_in, root_in, box_in, buffer_in, terminal_in, elements_in, natural_in, index_in, untyped, given, of_none, of_one, of_two, of_three, use_of, buffer_use, with_elements, last_taken, element_copied, element_replaced, buffer_ended, swap_call, byte_read, shipped}
+use Rattle.au_effects.specs.Calls.{reference_in, root_in, box_in, buffer_in, terminal_in, elements_in}
+use Rattle.au_effects.specs.Calls.{natural_in, index_in, untyped, given, of_none, of_one, of_two, of_three}
+use Rattle.au_effects.specs.Calls.{use_of, buffer_use, with_elements, last_taken, element_copied}
+use Rattle.au_effects.specs.Calls.{element_replaced, buffer_ended, swap_call, byte_read, shipped}
 use Rattle.au_low.proofs.MutedWorlds.{hushed, pair_hushed, hushed_at, hushed_exchanged}
 
 -- the same answer with a world without deeds

@@ -1,5 +1,6 @@
 -- Runs whose events aren't kept.
-use Rattle.std.proofs.Common.{◌≡◌, ℕ, zero, suc, Bool, true, false, List, ◌++◌, ◌+◌, length, Option, Some, None, slice_get, refl, ap, ◌∙◌}
+use Rattle.std.proofs.Common.{◌≡◌, ℕ, zero, suc, Bool, true, false, List, ◌++◌, ◌+◌, length, Option, Some}
+use Rattle.std.proofs.Common.{None, slice_get, refl, ap, ◌∙◌}
 use Rattle.std.specs.Option.{option_map}
 use Rattle.au_effects.specs.Parts.{along}
 use Rattle.au_effects.specs.Answers as answer
@@ -11,7 +12,8 @@ use Rattle.au_low.specs.declared.instructions.Instr.TheVariants.{Shipped}
 use Rattle.au_low.specs.Machines.{ordered_if, Machine, Next, goes, writes, waits, exits, aborts, stuck}
 use Rattle.au_low.specs.Instructions.{answered}
 use Rattle.au_low.specs.Kept.{without_events}
-use Rattle.au_low.specs.Runs.{Outcome, Run, fetched, next_if, next, heard_if, heard, after, on_next, byte_taken, rest_of, stepped, exec, entry_begins, first, run_from, low_run}
+use Rattle.au_low.specs.Runs.{Outcome, Run, fetched, next_if, next, heard_if, heard, after, on_next}
+use Rattle.au_low.specs.Runs.{byte_taken, rest_of, stepped, exec, entry_begins, first, run_from, low_run}
 use Rattle.au_low.proofs.MutedCalls.{still_one, still_read}
 use Rattle.au_low.proofs.MutedActs.{muted, muted_next, muted_having, muted_all, muted_answered, muted_act, muted_choice}
 

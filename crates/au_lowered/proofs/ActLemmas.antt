@@ -1,5 +1,6 @@
 -- What calls do with their arguments.
-use Rattle.std.proofs.Common.{◌≡◌, ℕ, zero, suc, ◌+◌, ◌≤◌, true, List, [], ◌∷◌, ◌++◌, length, reverse, Option, Some, None, refl, sym, ap, subst, ◌∙◌, arith, true≢false}
+use Rattle.std.proofs.Common.{◌≡◌, ℕ, zero, suc, ◌+◌, ◌≤◌, true, List, [], ◌∷◌, ◌++◌, length, reverse, Option}
+use Rattle.std.proofs.Common.{Some, None, refl, sym, ap, subst, ◌∙◌, arith, true≢false}
 use Rattle.std.proofs.lemmas.List.{length-map}
 use Rattle.std.specs.List.{position_or_len}
 use Rattle.std.specs.Str.{bytes_eq}
@@ -25,7 +26,8 @@ use Rattle.au_shipped.specs.declared.prims.ShippedCall.{ShippedCall}
 use Rattle.au_shipped.specs.declared.prims.ShippedCall.TheVariants as prim
 use Rattle.au_syntax.specs.Plain.{Bytes}
 use Rattle.au_lowered.specs.Scopes.{Entry, Agree}
-use Rattle.au_lowered.specs.Sides.{Coding, Word, Both, Names, Slots, Common, Frame, machine, spot, world, meant, ran, all_meant, all_ran}
+use Rattle.au_lowered.specs.Sides.{Coding, Word, Both, Names, Slots, Common, Frame, machine, spot, world}
+use Rattle.au_lowered.specs.Sides.{meant, ran, all_meant, all_ran}
 use Rattle.au_lowered.specs.Runs.{at, aim_at, Sim}
 use Rattle.au_lowered.proofs.CallLemmas.{popped_all, make_runs}
 use Rattle.au_lowered.proofs.LeadLemmas.{leads_to}
@@ -34,8 +36,11 @@ use Rattle.au_lowered.proofs.SimLemmas.{sim_spare, sim_stuck, sim_aim, sim_needi
 use Rattle.au_lowered.proofs.StepLemmas.{comes_runs}
 use Rattle.au_lowered.specs.Premises.{GoodView, Placed, GoodCalls, Once, is_plain}
 use Rattle.au_lowered.specs.Rows.{value_aim, OnAll}
-use Rattle.au_lowered.proofs.OrderLemmas.{numbers_length, positions_ordered, position_found, labels_ordered, declared_or_not}
-use Rattle.au_lowered.proofs.ShippedLemmas.{PlainCall, shipped_runs, print_text_plain, print_int_plain, print_bool_plain, print_line_text_plain, print_line_int_plain, print_line_bool_plain, surrender_plain, abort_plain, span_plain}
+use Rattle.au_lowered.proofs.OrderLemmas.{numbers_length, positions_ordered, position_found, labels_ordered}
+use Rattle.au_lowered.proofs.OrderLemmas.{declared_or_not}
+use Rattle.au_lowered.proofs.ShippedLemmas.{PlainCall, shipped_runs, print_text_plain, print_int_plain}
+use Rattle.au_lowered.proofs.ShippedLemmas.{print_bool_plain, print_line_text_plain, print_line_int_plain}
+use Rattle.au_lowered.proofs.ShippedLemmas.{print_line_bool_plain, surrender_plain, abort_plain, span_plain}
 
 module _ (by : Coding) (f : Frame) (get : ℕ → Option Draft) (placed : Placed by f.function get)
     (depth wide room : ℕ) (scope : List (Entry by)) where

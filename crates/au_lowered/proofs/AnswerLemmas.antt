@@ -1,15 +1,21 @@
 -- A shipped call tells more, and unsays nothing.
-use Rattle.std.proofs.Common.{ℕ, ◌-◌, Bool, true, false, if◌then◌else◌, List, [], ◌∷◌, ◌++◌, length, Option, Some, None, slice_get, set, refl, sym, ap, ◌∙◌, append-nil, append_assoc, codes, pos}
+use Rattle.std.proofs.Common.{ℕ, ◌-◌, Bool, true, false, if◌then◌else◌, List, [], ◌∷◌, ◌++◌, length, Option}
+use Rattle.std.proofs.Common.{Some, None, slice_get, set, refl, sym, ap, ◌∙◌, append-nil, append_assoc, codes}
+use Rattle.std.proofs.Common.{pos}
 use Rattle.au_shipped.specs.declared.prims.ShippedCall.{ShippedCall}
 use Rattle.au_shipped.specs.declared.prims.ShippedCall.TheVariants as prim
 use Rattle.au_effects.specs.Answers.{Answer, gives, writes, waits, aborts, none}
-use Rattle.au_effects.specs.Calls.{untyped, of_one, of_two, of_three, of_none, given, use_of, buffer_use, shipped, reference_in, buffer_in, elements_in, last_taken, element_copied, element_replaced, buffer_ended, byte_read, index_in, natural_in, root_in, box_in, terminal_in, with_elements}
+use Rattle.au_effects.specs.Calls.{untyped, of_one, of_two, of_three, of_none, given, use_of, buffer_use}
+use Rattle.au_effects.specs.Calls.{shipped, reference_in, buffer_in, elements_in, last_taken, element_copied}
+use Rattle.au_effects.specs.Calls.{element_replaced, buffer_ended, byte_read, index_in, natural_in, root_in}
+use Rattle.au_effects.specs.Calls.{box_in, terminal_in, with_elements}
 use Rattle.au_base.specs.declared.kinds.IntKind.TheVariants.{Nat8, Index}
 use Rattle.au_effects.specs.Numbers.{number_in, number_of, truth_in, text_in, number_bytes, truth_bytes}
 use Rattle.au_effects.specs.Parts.{along, part, with_part}
 use Rattle.au_effects.specs.Places.{at, base_at, base_set, set_over, exchanged, content_in}
 use Rattle.au_effects.specs.Values.{Value, Place, name_of, content_of, unit, number}
-use Rattle.au_effects.specs.Worlds.{World, Held, Deed, tells, bears, ends, spends, born, consumed, used, nothing, content, elements}
+use Rattle.au_effects.specs.Worlds.{World, Held, Deed, tells, bears, ends, spends, born, consumed, used}
+use Rattle.au_effects.specs.Worlds.{nothing, content, elements}
 use Rattle.au_meaning.specs.Laws.{Begins}
 
 pub begins_refl : {A : Type 0} (xs : List A) → Begins xs xs

@@ -1,5 +1,7 @@
 -- A run that is cut off lies between two runs of the meaning.
-use Rattle.std.proofs.Common.{◌≡◌, ℕ, ◌+◌, ◌-◌, ◌*◌, ◌/◌, ◌≤◌, Bool, true, false, ◌==◌, if◌then◌else◌, List, map, refl, sym, ap, subst, ◌∙◌, arith, slice_get, nat_lt, leb-true, ltb-true, ltb-false, true≢false}
+use Rattle.std.proofs.Common.{◌≡◌, ℕ, ◌+◌, ◌-◌, ◌*◌, ◌/◌, ◌≤◌, Bool, true, false, ◌==◌, if◌then◌else◌, List}
+use Rattle.std.proofs.Common.{map, refl, sym, ap, subst, ◌∙◌, arith, slice_get, nat_lt, leb-true, ltb-true}
+use Rattle.std.proofs.Common.{ltb-false, true≢false}
 use Rattle.std.proofs.Math.Nat.{le_refl}
 use Rattle.au_type_texts.specs.Types.{ClosedType}
 use Rattle.au_effects.specs.Values as values

@@ -1,5 +1,7 @@
 -- The code of statements and blocks does what they mean.
-use Rattle.std.proofs.Common.{◌≡◌, ℕ, suc, ◌+◌, ◌<◌, ◌≤◌, Bool, true, false, ◌&&◌, ◌||◌, List, [], ◌∷◌, ◌++◌, Option, Some, None, refl, sym, ap, subst, ◌∙◌, arith, unwrap_or, ℤ, length, slice_get, nat_lt, if◌then◌else◌, ltb-true, ltb-false}
+use Rattle.std.proofs.Common.{◌≡◌, ℕ, suc, ◌+◌, ◌<◌, ◌≤◌, Bool, true, false, ◌&&◌, ◌||◌, List, [], ◌∷◌, ◌++◌}
+use Rattle.std.proofs.Common.{Option, Some, None, refl, sym, ap, subst, ◌∙◌, arith, unwrap_or, ℤ, length}
+use Rattle.std.proofs.Common.{slice_get, nat_lt, if◌then◌else◌, ltb-true, ltb-false}
 use Rattle.std.proofs.lemmas.List.{length-map}
 use Rattle.au_base.specs.declared.kinds.IntKind.{IntKind}
 use Rattle.au_type_texts.specs.Types.{ClosedType}
@@ -14,7 +16,8 @@ use Rattle.au_lowered.specs.Drafts.{Draft, Written, plain, nothing, count_unless
 use Rattle.au_lowered.specs.Drafts as drafts
 use Rattle.au_lowered.specs.Expressions as code
 use Rattle.au_lowered.specs.Slots as slots_of
-use Rattle.au_lowered.specs.Slots.{kept, known, tag_in, fields_of_case, with_fields, room, room_of_block, room_of_tests, room_of_arms}
+use Rattle.au_lowered.specs.Slots.{kept, known, tag_in, fields_of_case, with_fields, room, room_of_block}
+use Rattle.au_lowered.specs.Slots.{room_of_tests, room_of_arms}
 use Rattle.au_lowered.specs.Standing.{Stands, ArmsStand, InCases, PartsStandIn}
 use Rattle.au_lowered.specs.Statements.{start_of, count_of_cases, is_last}
 use Rattle.au_lowered.specs.Statements as written
@@ -29,14 +32,18 @@ use Rattle.au_meaning.specs.Ticks.{Action, pure, tick, follows, needing, does, n
 use Rattle.au_meaning.specs.Views.{View, Field}
 use Rattle.au_meaning.specs.Worlds.{Value, World}
 use Rattle.au_syntax.specs.Expressions.{Expression}
-use Rattle.au_syntax.specs.Statements.{Statement, Statements, Branches, Arms, skip, declare, destructure, assign, assign_through, conditional, conditional_else, case_of, while_loop, for_loop, borrow_in, borrow_typed, discard, return_of, no_statements, statements, no_branches, branches, no_arms, arms}
+use Rattle.au_syntax.specs.Statements.{Statement, Statements, Branches, Arms, skip, declare, destructure}
+use Rattle.au_syntax.specs.Statements.{assign, assign_through, conditional, conditional_else, case_of}
+use Rattle.au_syntax.specs.Statements.{while_loop, for_loop, borrow_in, borrow_typed, discard, return_of}
+use Rattle.au_syntax.specs.Statements.{no_statements, statements, no_branches, branches, no_arms, arms}
 use Rattle.au_base.specs.declared.places.Pos.{Pos}
 use Rattle.au_syntax.specs.Names.{Placed as Placed_name}
 use Rattle.au_syntax.specs.Plain.{Bytes}
 use Rattle.au_syntax.specs.Types.{Bound}
 use Rattle.au_lowered.specs.Scopes.{Entry, variable, kept as keeps, numbers_in, slots_in, Held, Scoped, Agree}
 use Rattle.au_lowered.specs.Maps.{fields_to}
-use Rattle.au_lowered.specs.Sides.{Coding, Word, Both, Names, Slots, Common, Frame, Spot, machine, spot, world, meant, all_meant, all_ran}
+use Rattle.au_lowered.specs.Sides.{Coding, Word, Both, Names, Slots, Common, Frame, Spot, machine, spot}
+use Rattle.au_lowered.specs.Sides.{world, meant, all_meant, all_ran}
 use Rattle.au_lowered.specs.Runs as reach
 use Rattle.au_lowered.specs.Runs.{reached, Leads, Aim, Sim}
 use Rattle.au_lowered.proofs.LeadLemmas.{leads_to, leads_tick}
@@ -59,7 +66,8 @@ use Rattle.au_lowered.proofs.TakeRowLemmas.{consumed, consumed_meant, taken_low,
 use Rattle.au_lowered.proofs.ExpressionLemmas.{expression_runs}
 use Rattle.au_lowered.proofs.FlowLemmas.{flow_holds, then_runs, leaves_run, agree_emptied, whole_runs}
 use Rattle.au_lowered.proofs.LoopLemmas.{and_false, branch_does, while_does}
-use Rattle.au_lowered.proofs.StatementLemmas.{stuck_does, skip_does, none_declared, declare_does, discard_does, return_does, assign_does}
+use Rattle.au_lowered.proofs.StatementLemmas.{stuck_does, skip_does, none_declared, declare_does}
+use Rattle.au_lowered.proofs.StatementLemmas.{discard_does, return_does, assign_does}
 
 or_false : (a b : Bool) → a ≡ false → b ≡ false → (a || b) ≡ false
 or_false a b p q = ap (λ x. x || b) p ∙ q

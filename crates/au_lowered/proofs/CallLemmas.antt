@@ -1,6 +1,9 @@
 -- Arguments that are popped, values with births, and shipped calls.
-use Rattle.std.proofs.Common.{◌≡◌, ℕ, suc, ◌+◌, ◌<◌, Bool, true, false, if◌then◌else◌, List, [], ◌∷◌, ◌++◌, length, map, take, drop, reverse, Option, Some, None, refl, sym, ap, ap₂, subst, ◌∙◌, arith, slice_get, set, nat_lt, lt-ltb, append_assoc}
-use Rattle.std.proofs.lemmas.List.{length-append, length-map, length-reverse, map-append, map-set, reverse-append, reverse-reverse, take_at, drop_at}
+use Rattle.std.proofs.Common.{◌≡◌, ℕ, suc, ◌+◌, ◌<◌, Bool, true, false, if◌then◌else◌, List, [], ◌∷◌, ◌++◌}
+use Rattle.std.proofs.Common.{length, map, take, drop, reverse, Option, Some, None, refl, sym, ap, ap₂, subst}
+use Rattle.std.proofs.Common.{◌∙◌, arith, slice_get, set, nat_lt, lt-ltb, append_assoc}
+use Rattle.std.proofs.lemmas.List.{length-append, length-map, length-reverse, map-append, map-set}
+use Rattle.std.proofs.lemmas.List.{reverse-append, reverse-reverse, take_at, drop_at}
 use Rattle.au_type_texts.specs.Types.{ClosedType}
 use Rattle.au_low.specs.declared.code.LowType.{LowType}
 use Rattle.au_low.specs.declared.instructions.Instr.TheVariants as instr
@@ -14,7 +17,8 @@ use Rattle.au_effects.specs.Worlds.{World, Held, Deed, nothing, tells, bears, en
 use Rattle.au_meaning.specs.Acts as acts
 use Rattle.au_meaning.specs.Ticks.{gives, follows}
 use Rattle.au_lowered.specs.Maps.{held_to, deed_to, world_to}
-use Rattle.au_lowered.specs.Sides.{Coding, Word, Both, Names, Slots, Common, Frame, machine, spot, world, meant, ran, all_meant, all_ran}
+use Rattle.au_lowered.specs.Sides.{Coding, Word, Both, Names, Slots, Common, Frame, machine, spot, world}
+use Rattle.au_lowered.specs.Sides.{meant, ran, all_meant, all_ran}
 use Rattle.au_lowered.proofs.MapLemmas.{fields_of_to}
 use Rattle.au_lowered.proofs.StepLemmas.{Is, Pushes, push_runs}
 

@@ -1,5 +1,7 @@
 -- The labels of a case, and the end of an arm.
-use Rattle.std.proofs.Common.{◌≡◌, ℕ, zero, suc, ◌<◌, ◌≤◌, Bool, true, false, ◌==◌, ◌||◌, List, [], ◌∷◌, ◌++◌, length, Option, Some, None, refl, sym, ap, subst, ◌∙◌, arith, slice_get, nat_lt, eqb-true, true≢false, ltb-true, ltb-false}
+use Rattle.std.proofs.Common.{◌≡◌, ℕ, zero, suc, ◌<◌, ◌≤◌, Bool, true, false, ◌==◌, ◌||◌, List, [], ◌∷◌, ◌++◌}
+use Rattle.std.proofs.Common.{length, Option, Some, None, refl, sym, ap, subst, ◌∙◌, arith, slice_get, nat_lt}
+use Rattle.std.proofs.Common.{eqb-true, true≢false, ltb-true, ltb-false}
 use Rattle.std.proofs.lemmas.List.{length-append}
 use Rattle.au_low.specs.declared.instructions.Instr.TheVariants as instr
 use Rattle.au_lowered.specs.Drafts.{Draft, unless}

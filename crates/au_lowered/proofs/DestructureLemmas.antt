@@ -1,5 +1,6 @@
 -- A record is taken apart by a statement.
-use Rattle.std.proofs.Common.{◌≡◌, ℕ, suc, ◌+◌, ◌≤◌, Bool, true, false, ◌==◌, List, [], ◌∷◌, length, Option, Some, None, refl, sym, ap, subst, ◌∙◌, arith}
+use Rattle.std.proofs.Common.{◌≡◌, ℕ, suc, ◌+◌, ◌≤◌, Bool, true, false, ◌==◌, List, [], ◌∷◌, length, Option}
+use Rattle.std.proofs.Common.{Some, None, refl, sym, ap, subst, ◌∙◌, arith}
 use Rattle.std.proofs.lemmas.List.{length-map}
 use Rattle.au_effects.specs.Parts.{along}
 use Rattle.au_effects.specs.Values as values
@@ -24,7 +25,8 @@ use Rattle.au_syntax.specs.Plain.{Bytes}
 use Rattle.au_syntax.specs.Types.{Bound}
 use Rattle.au_lowered.specs.Maps.{fields_to}
 use Rattle.au_lowered.specs.Scopes.{Entry, numbers_in, slots_in, Scoped, Agree}
-use Rattle.au_lowered.specs.Sides.{Coding, Word, Both, Names, Slots, Common, Frame, machine, spot, world, meant, all_meant, all_ran}
+use Rattle.au_lowered.specs.Sides.{Coding, Word, Both, Names, Slots, Common, Frame, machine, spot, world}
+use Rattle.au_lowered.specs.Sides.{meant, all_meant, all_ran}
 use Rattle.au_lowered.specs.Runs.{at, reached, Sim}
 use Rattle.au_lowered.proofs.LeadLemmas.{leads_spare, leads_to, leads_tick}
 use Rattle.au_lowered.proofs.MapLemmas.{listed_to}

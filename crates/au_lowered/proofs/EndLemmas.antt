@@ -1,11 +1,14 @@
 -- A run of code that has ended is one of the meaning that has ended.
-use Rattle.std.proofs.Common.{◌≡◌, ℕ, zero, suc, ◌+◌, ◌-◌, ◌≤◌, Bool, true, false, List, [], ◌++◌, Option, Some, None, refl, sym, ap, subst, ◌∙◌, arith, slice_get, nat_lt, leb-true, ltb-true, ltb-false}
+use Rattle.std.proofs.Common.{◌≡◌, ℕ, zero, suc, ◌+◌, ◌-◌, ◌≤◌, Bool, true, false, List, [], ◌++◌, Option}
+use Rattle.std.proofs.Common.{Some, None, refl, sym, ap, subst, ◌∙◌, arith, slice_get, nat_lt, leb-true}
+use Rattle.std.proofs.Common.{ltb-true, ltb-false}
 use Rattle.au_type_texts.specs.Types.{ClosedType}
 use Rattle.au_low.specs.declared.code.Code.{Code}
 use Rattle.au_low.specs.declared.code.LowType.{LowType}
 use Rattle.au_low.specs.declared.endings.Ending.TheVariants.{Steps}
 use Rattle.au_low.specs.Machines.{Machine, Next, goes, writes, waits, exits, aborts, stuck}
-use Rattle.au_low.specs.Runs.{Outcome, Run, exec, next, heard, after, on_next, byte_taken, rest_of, stepped, run_from, not_begun, low_run, first}
+use Rattle.au_low.specs.Runs.{Outcome, Run, exec, next, heard, after, on_next, byte_taken, rest_of, stepped}
+use Rattle.au_low.specs.Runs.{run_from, not_begun, low_run, first}
 use Rattle.au_lowered.specs.Agreeing.{Agrees, InStep, ending_numbered}
 use Rattle.au_lowered.specs.Programs.{lowered, texts_in}
 use Rattle.au_meaning.specs.Laws.{is_over}

@@ -1,15 +1,21 @@
 -- The code of an expression does what the expression means: one row for each form.
-use Rattle.std.proofs.Common.{◌≡◌, ℕ, suc, List, [], ◌∷◌, ◌++◌, length, reverse, Option, refl, ap, arith, le_trans, neg_ℤ}
+use Rattle.std.proofs.Common.{◌≡◌, ℕ, suc, List, [], ◌∷◌, ◌++◌, length, reverse, Option, refl, ap, arith}
+use Rattle.std.proofs.Common.{le_trans, neg_ℤ}
 use Rattle.au_lowered.specs.Drafts.{Draft, Written, ◌>>◌, nothing}
 use Rattle.au_lowered.specs.Expressions as code
 use Rattle.au_lowered.specs.Standing.{PartsStandIn}
 use Rattle.au_lowered.proofs.StandLemmas.{parts_stand}
 use Rattle.au_meaning.specs.Expressions as meaning
-use Rattle.au_meaning.specs.Expressions.{eval, eval_all, eval_named, note_of, names_of, labels, labelled, Operation, computes, compares, is_and, is_or, operation_of, kind_in, compared_kind}
+use Rattle.au_meaning.specs.Expressions.{eval, eval_all, eval_named, note_of, names_of, labels, labelled}
+use Rattle.au_meaning.specs.Expressions.{Operation, computes, compares, is_and, is_or, operation_of, kind_in}
+use Rattle.au_meaning.specs.Expressions.{compared_kind}
 use Rattle.au_meaning.specs.Ticks.{Action, pure, stuck, tick, ◌>>=◌}
 use Rattle.au_meaning.specs.Views.{View}
 use Rattle.au_meaning.specs.Worlds.{Value}
-use Rattle.au_syntax.specs.Expressions.{Expression, Expressions, Arguments, number, negative, text, truth, nil, path, arrow, call, named_call, parenthesized, dereference, borrow, borrow_part, binary, negation, typed, choice, no_expressions, expressions, no_arguments, arguments}
+use Rattle.au_syntax.specs.Expressions.{Expression, Expressions, Arguments, number, negative, text, truth}
+use Rattle.au_syntax.specs.Expressions.{nil, path, arrow, call, named_call, parenthesized, dereference}
+use Rattle.au_syntax.specs.Expressions.{borrow, borrow_part, binary, negation, typed, choice, no_expressions}
+use Rattle.au_syntax.specs.Expressions.{expressions, no_arguments, arguments}
 use Rattle.au_syntax.specs.Plain.{Bytes}
 use Rattle.au_lowered.specs.Scopes.{Entry, numbers_in, slots_in, Agree, Distinct}
 use Rattle.au_lowered.specs.Sides.{Coding, Frame, spot, world, meant, all_meant}
@@ -21,7 +27,8 @@ use Rattle.au_lowered.proofs.StepLemmas.{ticks_at}
 use Rattle.au_lowered.specs.Premises.{GoodView, Placed, GoodCalls}
 use Rattle.au_lowered.specs.Rows.{values_aim, Gives, GivesAll, OnAll}
 use Rattle.au_lowered.proofs.BranchLemmas.{choice_runs, and_runs, or_runs}
-use Rattle.au_lowered.proofs.RowLemmas.{truth_runs, nil_runs, text_runs, number_runs, mention_runs, part_runs, one_runs, two_runs, not_runs, computes_runs, compares_runs}
+use Rattle.au_lowered.proofs.RowLemmas.{truth_runs, nil_runs, text_runs, number_runs, mention_runs, part_runs}
+use Rattle.au_lowered.proofs.RowLemmas.{one_runs, two_runs, not_runs, computes_runs, compares_runs}
 use Rattle.au_lowered.proofs.ActLemmas.{calls_run, named_run}
 
 -- how many arguments there are

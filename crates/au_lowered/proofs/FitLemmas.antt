@@ -1,9 +1,11 @@
 -- How many instructions the pieces of code have, and where their labels lead.
-use Rattle.std.proofs.Common.{◌≡◌, ℕ, zero, suc, ◌+◌, ◌≤◌, Bool, true, false, List, [], ◌∷◌, ◌++◌, length, length-append, Option, Some, None, refl, sym, subst, arith, if◌then◌else◌}
+use Rattle.std.proofs.Common.{◌≡◌, ℕ, zero, suc, ◌+◌, ◌≤◌, Bool, true, false, List, [], ◌∷◌, ◌++◌, length}
+use Rattle.std.proofs.Common.{length-append, Option, Some, None, refl, sym, subst, arith, if◌then◌else◌}
 use Rattle.au_low.specs.declared.instructions.Instr.{Instr}
 use Rattle.au_low.specs.declared.instructions.Instr.TheVariants as instr
 use Rattle.au_meaning.specs.Statements.{is_tag}
-use Rattle.au_lowered.specs.Drafts.{Draft, plain, Written, ◌>>◌, nothing, one, does, given, unless, count_unless, when, either, loop}
+use Rattle.au_lowered.specs.Drafts.{Draft, plain, Written, ◌>>◌, nothing, one, does, given, unless}
+use Rattle.au_lowered.specs.Drafts.{count_unless, when, either, loop}
 use Rattle.au_lowered.specs.Laws.{labels_of, EachBefore, LabelsBefore, Fits}
 use Rattle.au_lowered.specs.Statements as lower
 use Rattle.au_lowered.specs.Statements.{ArmsWritten, arm_then, start_of, cases, turns}
@@ -247,7 +249,8 @@ fits_turns r slot {body} fb = record {
       let step = instr.ForStep slot (slot + 1) t in
       let back = both_before 0 body (unless r step) (t + 1 + 1) (fb.before (t + 1 + 1)) (omega arith)
       (unless_before r step (t + 1 + 1 + length (body (t + 1 + 1))) (omega arith, tt)) in
-      let third = both_before 0 (does (instr.Store (slot + 2))) (body >> unless r step) (t + 1) (tt, tt) (omega arith) back in
+      let third = both_before 0 (does (instr.Store (slot + 2))) (body >> unless r step) (t + 1) (tt, tt)
+      (omega arith) back in
       let second = both_before 0 (does (instr.Look slot [])) (does (instr.Store (slot + 2)) >> body >> unless r step) t
       (tt, tt) (omega arith) third in (
         (omega arith, tt),
@@ -265,7 +268,8 @@ fits_turns r slot {body} fb = record {
     whole : (p : ℕ) → length (turns r slot body p) ≡ length (body (inside p)) + count_unless r + 3
     whole p =
         let step = instr.ForStep slot (slot + 1) (p + 1) in
-        let first = length_both (does (instr.Look slot [])) (does (instr.Store (slot + 2)) >> body >> unless r step) (p + 1) in
+        let first = length_both (does (instr.Look slot []))
+        (does (instr.Store (slot + 2)) >> body >> unless r step) (p + 1) in
         let second = length_both (does (instr.Store (slot + 2))) (body >> unless r step) (p + 1 + 1) in
         let third = length_both body (unless r step) (inside p) in
         let last = length_unless r step (inside p + length (body (inside p))) in

@@ -1,5 +1,6 @@
 -- Statements one after another, blocks that end, and jumps behind them.
-use Rattle.std.proofs.Common.{◌≡◌, ℕ, zero, suc, ◌+◌, ◌*◌, ◌≤◌, Bool, true, false, List, [], ◌∷◌, Option, Some, None, refl, sym, ap, subst, ◌∙◌, arith, set, true≢false}
+use Rattle.std.proofs.Common.{◌≡◌, ℕ, zero, suc, ◌+◌, ◌*◌, ◌≤◌, Bool, true, false, List, [], ◌∷◌, Option}
+use Rattle.std.proofs.Common.{Some, None, refl, sym, ap, subst, ◌∙◌, arith, set, true≢false}
 use Rattle.std.proofs.lemmas.List.{length-set}
 use Rattle.au_low.specs.declared.instructions.Instr.{Instr}
 use Rattle.au_low.specs.declared.instructions.Instr.TheVariants as instr

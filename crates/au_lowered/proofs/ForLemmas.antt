@@ -1,5 +1,7 @@
 -- `for`.
-use Rattle.std.proofs.Common.{◌≡◌, ℕ, zero, suc, ◌+◌, ◌<◌, ◌≤◌, Bool, true, false, not, if◌then◌else◌, List, [], ◌∷◌, Option, Some, None, refl, sym, ap, ap₂, subst, subst₂, ◌∙◌, arith, set, ℤ, pos, ◌+ℤ◌, int_lt, le_trans}
+use Rattle.std.proofs.Common.{◌≡◌, ℕ, zero, suc, ◌+◌, ◌<◌, ◌≤◌, Bool, true, false, not, if◌then◌else◌, List}
+use Rattle.std.proofs.Common.{[], ◌∷◌, Option, Some, None, refl, sym, ap, ap₂, subst, subst₂, ◌∙◌, arith, set}
+use Rattle.std.proofs.Common.{ℤ, pos, ◌+ℤ◌, int_lt, le_trans}
 use Rattle.std.proofs.lemmas.List.{length-set}
 use Rattle.au_base.specs.declared.kinds.IntKind.{IntKind}
 use Rattle.au_type_texts.specs.Types.{ClosedType}
@@ -23,9 +25,11 @@ use Rattle.au_meaning.specs.Ticks.{Out, Action, gives, pure, tick, ticked, follo
 use Rattle.au_meaning.specs.Worlds.{Value}
 use Rattle.au_syntax.specs.Plain.{Bytes}
 use Rattle.au_lowered.specs.Scopes.{Entry, variable, kept, Scoped, Agree, SlotFree}
-use Rattle.au_lowered.specs.Sides.{Coding, Word, Both, Names, Slots, Common, Frame, Spot, machine, spot, world, meant, ran}
+use Rattle.au_lowered.specs.Sides.{Coding, Word, Both, Names, Slots, Common, Frame, Spot, machine, spot}
+use Rattle.au_lowered.specs.Sides.{world, meant, ran}
 use Rattle.au_lowered.specs.Runs.{at, reached, Leads, aim_at, Sim}
-use Rattle.au_lowered.proofs.FrameLemmas.{set_same, set_other, held_other, held_slot, number_free, slot_free, under_more}
+use Rattle.au_lowered.proofs.FrameLemmas.{set_same, set_other, held_other, held_slot, number_free, slot_free}
+use Rattle.au_lowered.proofs.FrameLemmas.{under_more}
 use Rattle.au_lowered.proofs.LeadLemmas.{leads_spare, leads_more, leads_to, leads_tick}
 use Rattle.au_lowered.proofs.MapLemmas.{number_in_to}
 use Rattle.au_lowered.proofs.SimLemmas.{sim_on, sim_spare, sim_given, sim_stuck, sim_bind, sim_where}

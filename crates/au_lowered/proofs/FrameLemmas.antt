@@ -1,5 +1,7 @@
 -- What names and slots hold, and how it changes.
-use Rattle.std.proofs.Common.{◌≡◌, ◌≢◌, ◌⊎◌, inl, inr, ℕ, zero, suc, ◌<◌, ◌≤◌, Bool, true, false, cond, List, [], ◌∷◌, ◌++◌, length, Option, Some, None, refl, sym, ap, ◌∙◌, arith, slice_get, set, le_trans}
+use Rattle.std.proofs.Common.{◌≡◌, ◌≢◌, ◌⊎◌, inl, inr, ℕ, zero, suc, ◌<◌, ◌≤◌, Bool, true, false, cond, List}
+use Rattle.std.proofs.Common.{[], ◌∷◌, ◌++◌, length, Option, Some, None, refl, sym, ap, ◌∙◌, arith, slice_get}
+use Rattle.std.proofs.Common.{set, le_trans}
 use Rattle.std.specs.Prelude.{option_map}
 use Rattle.std.specs.Str.{bytes_eq}
 use Rattle.std.proofs.lemmas.Option.{slice_get_within}
@@ -12,7 +14,8 @@ use Rattle.au_effects.specs.Places.{name_at, name_set, with_name}
 use Rattle.au_meaning.specs.Names.{variable_of}
 use Rattle.au_syntax.specs.Plain.{Bytes}
 use Rattle.au_lowered.specs.Sides.{Coding, Names, Slots, Both, meant, ran}
-use Rattle.au_lowered.specs.Scopes.{Entry, variable, kept, numbers_in, slots_in, Same, Held, NumberFree, SlotFree, Distinct, Under}
+use Rattle.au_lowered.specs.Scopes.{Entry, variable, kept, numbers_in, slots_in, Same, Held, NumberFree}
+use Rattle.au_lowered.specs.Scopes.{SlotFree, Distinct, Under}
 
 -- ---- lists
 

@@ -1,5 +1,7 @@
 -- A call does what the function means.
-use Rattle.std.proofs.Common.{◌≡◌, ℕ, zero, suc, ◌+◌, ◌-◌, ◌<◌, ◌≤◌, ◌==◌, List, [], ◌∷◌, ◌++◌, length, map, reverse, replicate, Option, Some, None, refl, sym, ap, subst, subst₂, ◌∙◌, arith, slice_get, lt-ltb, eq-eqb, eqb-true, append_assoc}
+use Rattle.std.proofs.Common.{◌≡◌, ℕ, zero, suc, ◌+◌, ◌-◌, ◌<◌, ◌≤◌, ◌==◌, List, [], ◌∷◌, ◌++◌, length, map}
+use Rattle.std.proofs.Common.{reverse, replicate, Option, Some, None, refl, sym, ap, subst, subst₂, ◌∙◌}
+use Rattle.std.proofs.Common.{arith, slice_get, lt-ltb, eq-eqb, eqb-true, append_assoc}
 use Rattle.std.proofs.Math.Nat.{le_refl}
 use Rattle.std.proofs.lemmas.List.{length-append, length-map, length-replicate, take_at}
 use Rattle.au_low.specs.declared.instructions.Instr.TheVariants as instr
@@ -20,7 +22,8 @@ use Rattle.au_meaning.specs.Ticks.{Out, gives, aborts, cut, no_rule, follows}
 use Rattle.au_meaning.specs.Views.{Field, Function}
 use Rattle.au_meaning.specs.Worlds.{Value}
 use Rattle.au_lowered.specs.Scopes.{Entry, variable, numbers_in, slots_in, Held, Same, Scoped, Agree}
-use Rattle.au_lowered.specs.Sides.{Coding, Both, Names, Slots, Common, Frame, Spot, machine, spot, world, meant, ran, all_meant, all_ran}
+use Rattle.au_lowered.specs.Sides.{Coding, Both, Names, Slots, Common, Frame, Spot, machine, spot, world}
+use Rattle.au_lowered.specs.Sides.{meant, ran, all_meant, all_ran}
 use Rattle.au_lowered.specs.Runs.{at, reached, Leads, Aim, aim_at, Sim}
 use Rattle.au_lowered.proofs.CallLemmas.{popped_all}
 use Rattle.au_lowered.proofs.FrameLemmas.{get_at, number_free, slot_free, under_more}

@@ -1,5 +1,7 @@
 -- The code that a program is lowered to has its functions.
-use Rattle.std.proofs.Common.{◌≡◌, ⊎_elim, true≢false, ℕ, zero, suc, ◌+◌, Bool, true, false, not, cond, List, [], ◌∷◌, ◌++◌, length, map, Option, Some, None, refl, sym, ap, subst, ◌∙◌, arith, slice_get, lt-ltb}
+use Rattle.std.proofs.Common.{◌≡◌, ⊎_elim, true≢false, ℕ, zero, suc, ◌+◌, Bool, true, false, not, cond, List}
+use Rattle.std.proofs.Common.{[], ◌∷◌, ◌++◌, length, map, Option, Some, None, refl, sym, ap, subst, ◌∙◌}
+use Rattle.std.proofs.Common.{arith, slice_get, lt-ltb}
 use Rattle.std.specs.Prelude.{option_map}
 use Rattle.std.specs.List.{position_or_len}
 use Rattle.std.specs.Str.{bytes_eq}
@@ -18,7 +20,8 @@ use Rattle.au_lowered.specs.Drafts.{Draft, plain, pushes_text, makes_case, ships
 use Rattle.au_lowered.specs.Laws.{LabelsBefore, EachBefore, labels_in}
 use Rattle.au_lowered.specs.Laws as laws
 use Rattle.au_lowered.specs.Programs as programs
-use Rattle.au_lowered.specs.Programs.{body_of, slots_of, bodies, texts_named, types_named, entry_types, texts_in, types_in, text_number, type_number, function_code, lowered}
+use Rattle.au_lowered.specs.Programs.{body_of, slots_of, bodies, texts_named, types_named, entry_types}
+use Rattle.au_lowered.specs.Programs.{texts_in, types_in, text_number, type_number, function_code, lowered}
 use Rattle.au_lowered.proofs.ReturnLemmas.{bodies_keep_labels}
 use Rattle.au_meaning.specs.Views.{Function}
 use Rattle.au_syntax.specs.Plain.{Bytes}

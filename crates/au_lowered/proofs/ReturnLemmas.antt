@@ -1,5 +1,6 @@
 -- The labels of what returns on every path lead to places before its end.
-use Rattle.std.proofs.Common.{◌≡◌, ℕ, ◌+◌, Bool, true, false, not, ◌&&◌, ◌||◌, IsTrue, [], length, Option, Some, None, refl, subst, arith, unwrap_or}
+use Rattle.std.proofs.Common.{◌≡◌, ℕ, ◌+◌, Bool, true, false, not, ◌&&◌, ◌||◌, IsTrue, [], length, Option}
+use Rattle.std.proofs.Common.{Some, None, refl, subst, arith, unwrap_or}
 use Rattle.au_typing.specs.Returns.{returns, block_returns, branches_return, arms_return}
 use Rattle.au_low.specs.declared.instructions.Instr.TheVariants as instr
 use Rattle.au_meaning.specs.Expressions.{note_of}
@@ -7,13 +8,17 @@ use Rattle.au_meaning.specs.Names.{Scope, Variable, variable_of, with_parameters
 use Rattle.au_meaning.specs.Views.{View}
 use Rattle.au_syntax.specs.declared.expressions.BorrowMode.{BorrowMode}
 use Rattle.au_syntax.specs.Plain.{Bytes}
-use Rattle.au_syntax.specs.Statements.{Statement, Statements, Branches, Arms, skip, declare, destructure, assign, assign_through, conditional, conditional_else, case_of, while_loop, for_loop, borrow_in, borrow_typed, discard, return_of, no_statements, statements, no_branches, branches, no_arms, arms}
+use Rattle.au_syntax.specs.Statements.{Statement, Statements, Branches, Arms, skip, declare, destructure}
+use Rattle.au_syntax.specs.Statements.{assign, assign_through, conditional, conditional_else, case_of}
+use Rattle.au_syntax.specs.Statements.{while_loop, for_loop, borrow_in, borrow_typed, discard, return_of}
+use Rattle.au_syntax.specs.Statements.{no_statements, statements, no_branches, branches, no_arms, arms}
 use Rattle.au_lowered.specs.Drafts.{plain, Written, nothing, branch}
 use Rattle.au_lowered.specs.Laws.{Fits, LabelsBefore, Tidy, BlockTidy, TestsTidy, ArmsTidy, BodiesKeepLabels}
 use Rattle.au_lowered.specs.Programs.{body_of}
 use Rattle.au_lowered.specs.Slots.{mode_of, tag_in}
 use Rattle.au_lowered.specs.Statements.{ArmsWritten, arm_then, lends, is_last, statement, block, tests_of, arms_of}
-use Rattle.au_lowered.proofs.FitLemmas.{fits_both, fits_last, fits_one, fits_given, fits_returning, ArmsFit, arms_end, arms_returning, fits_cases}
+use Rattle.au_lowered.proofs.FitLemmas.{fits_both, fits_last, fits_one, fits_given, fits_returning, ArmsFit}
+use Rattle.au_lowered.proofs.FitLemmas.{arms_end, arms_returning, fits_cases}
 use Rattle.au_lowered.proofs.TreeLemmas.{fits_expression, fits_whole, fits_statement}
 
 -- ---- truth values

@@ -4,7 +4,10 @@ use Rattle.std.proofs.Math.Nat.{le_refl}
 use Rattle.au_lowered.specs.Slots.{room, room_of_block, room_of_tests, room_of_arms}
 use Rattle.au_meaning.specs.Expressions.{note_of}
 use Rattle.au_meaning.specs.Views.{View}
-use Rattle.au_syntax.specs.Statements.{Statement, Statements, Branches, Arms, skip, declare, destructure, assign, assign_through, conditional, conditional_else, case_of, while_loop, for_loop, borrow_in, borrow_typed, discard, return_of, no_statements, statements, no_branches, branches, no_arms, arms}
+use Rattle.au_syntax.specs.Statements.{Statement, Statements, Branches, Arms, skip, declare, destructure}
+use Rattle.au_syntax.specs.Statements.{assign, assign_through, conditional, conditional_else, case_of}
+use Rattle.au_syntax.specs.Statements.{while_loop, for_loop, borrow_in, borrow_typed, discard, return_of}
+use Rattle.au_syntax.specs.Statements.{no_statements, statements, no_branches, branches, no_arms, arms}
 use Rattle.au_syntax.specs.Plain.{Bytes}
 
 module _ {I T C : Type 0} (see : View I T C) where

@@ -1,5 +1,6 @@
 -- The rows of expressions: each does what its clause of the meaning does, where its parts do.
-use Rattle.std.proofs.Common.{◌≡◌, inl, inr, ℕ, suc, ◌+◌, Bool, true, false, List, [], ◌∷◌, Option, Some, None, refl, sym, ap, subst, subst₂, ◌∙◌, arith, ℤ, le_trans}
+use Rattle.std.proofs.Common.{◌≡◌, inl, inr, ℕ, suc, ◌+◌, Bool, true, false, List, [], ◌∷◌, Option, Some}
+use Rattle.std.proofs.Common.{None, refl, sym, ap, subst, subst₂, ◌∙◌, arith, ℤ, le_trans}
 use Rattle.std.proofs.lemmas.List.{length-set}
 use Rattle.au_base.specs.declared.kinds.IntKind.{IntKind}
 use Rattle.au_ints.specs.Ranges.{is_of_kind}
@@ -19,7 +20,8 @@ use Rattle.au_lowered.specs.Standing.{PartsStandIn}
 use Rattle.au_lowered.proofs.StandLemmas.{parts_stand}
 use Rattle.au_meaning.specs.Acts.{looks}
 use Rattle.au_meaning.specs.Expressions as meaning
-use Rattle.au_meaning.specs.Expressions.{literal, chosen, Operation, computes, compares, is_and, is_or, kind_in, compared_kind}
+use Rattle.au_meaning.specs.Expressions.{literal, chosen, Operation, computes, compares, is_and, is_or}
+use Rattle.au_meaning.specs.Expressions.{kind_in, compared_kind}
 use Rattle.au_meaning.specs.Names.{variable_of, path_numbers}
 use Rattle.au_meaning.specs.Ticks.{Action, pure, stuck, tick, ticked, needing, comes, ◌>>=◌}
 use Rattle.au_meaning.specs.Views.{View}

@@ -1,5 +1,8 @@
 -- A run of the code of a program, from its beginning.
-use Rattle.std.proofs.Common.{◌≡◌, ℕ, suc, ◌+◌, ◌-◌, ◌*◌, ◌<◌, ◌≤◌, true, false, not, cond, ◌==◌, ◌&&◌, if◌then◌else◌, List, [], ◌∷◌, ◌++◌, length, map, replicate, Option, Some, None, refl, sym, ap, ap₂, subst, ◌∙◌, arith, slice_get, nat_lt, lt-ltb, eq-eqb, codes, le-leb}
+use Rattle.std.proofs.Common.{◌≡◌, ℕ, suc, ◌+◌, ◌-◌, ◌*◌, ◌<◌, ◌≤◌, true, false, not, cond, ◌==◌, ◌&&◌}
+use Rattle.std.proofs.Common.{if◌then◌else◌, List, [], ◌∷◌, ◌++◌, length, map, replicate, Option, Some, None}
+use Rattle.std.proofs.Common.{refl, sym, ap, ap₂, subst, ◌∙◌, arith, slice_get, nat_lt, lt-ltb, eq-eqb, codes}
+use Rattle.std.proofs.Common.{le-leb}
 use Rattle.std.specs.List.{position_or_len}
 use Rattle.au_type_texts.specs.Same.{same}
 use Rattle.au_type_texts.specs.Types.{ClosedType}
@@ -14,7 +17,8 @@ use Rattle.au_low.specs.Machines.{Low, new_slots}
 use Rattle.au_low.specs.Runs as runs
 use Rattle.au_low.specs.Runs.{abort_kind, exec, low_run, run_from, first, entry_begins, first_machine, root_slots}
 use Rattle.au_lowered.specs.Agreeing.{event_numbered, fault_numbered, ending_numbered}
-use Rattle.au_lowered.specs.Programs.{slots_of, texts_in, types_in, type_number, lowered, takes_root, bodies, types_named, function_code}
+use Rattle.au_lowered.specs.Programs.{slots_of, texts_in, types_in, type_number, lowered, takes_root, bodies}
+use Rattle.au_lowered.specs.Programs.{types_named, function_code}
 use Rattle.au_lowered.specs.Programs as programs
 use Rattle.au_meaning.specs.Meanings.{call_at, seen, first_world, root_born, begun, mean}
 use Rattle.au_meaning.specs.Ticks.{Action, follows}

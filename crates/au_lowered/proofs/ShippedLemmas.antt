@@ -1,5 +1,6 @@
 -- Shipped calls that have to do with no reference, box, buffer or terminal.
-use Rattle.std.proofs.Common.{◌≡◌, ℕ, suc, ◌+◌, Bool, true, false, List, [], ◌∷◌, ◌++◌, length, reverse, Option, Some, None, refl, sym, ap, subst, ◌∙◌, arith, pos}
+use Rattle.std.proofs.Common.{◌≡◌, ℕ, suc, ◌+◌, Bool, true, false, List, [], ◌∷◌, ◌++◌, length, reverse}
+use Rattle.std.proofs.Common.{Option, Some, None, refl, sym, ap, subst, ◌∙◌, arith, pos}
 use Rattle.std.specs.Prelude.{option_map}
 use Rattle.au_base.specs.declared.kinds.IntKind.TheVariants.{Index}
 use Rattle.au_type_texts.specs.Types.{ClosedType}
@@ -20,7 +21,8 @@ use Rattle.au_shipped.specs.declared.prims.ShippedCall.{ShippedCall}
 use Rattle.au_shipped.specs.declared.prims.ShippedCall.TheVariants as prim
 use Rattle.au_syntax.specs.Plain.{Bytes}
 use Rattle.au_lowered.specs.Maps.{value_to, world_to, answer_to}
-use Rattle.au_lowered.specs.Sides.{Coding, Word, Both, Names, Slots, Common, Frame, machine, spot, world, meant, all_meant, all_ran}
+use Rattle.au_lowered.specs.Sides.{Coding, Word, Both, Names, Slots, Common, Frame, machine, spot, world}
+use Rattle.au_lowered.specs.Sides.{meant, all_meant, all_ran}
 use Rattle.au_lowered.specs.Runs.{at, reached}
 use Rattle.au_lowered.proofs.CallLemmas.{popped_all, spends_to}
 use Rattle.au_lowered.proofs.LeadLemmas.{leads_to, leads_tick, leads_spare}

@@ -1,9 +1,11 @@
 -- Where what is written stands, its parts stand in a row.
-use Rattle.std.proofs.Common.{◌≡◌, ℕ, ◌+◌, Bool, true, false, List, [], ◌∷◌, ◌++◌, length, Option, Some, refl, sym, subst, arith}
+use Rattle.std.proofs.Common.{◌≡◌, ℕ, ◌+◌, Bool, true, false, List, [], ◌∷◌, ◌++◌, length, Option, Some, refl}
+use Rattle.std.proofs.Common.{sym, subst, arith}
 use Rattle.au_low.specs.declared.instructions.Instr.{Instr}
 use Rattle.au_low.specs.declared.instructions.Instr.TheVariants.{Jump, JumpNot, ForTest, ForStep, Look, Store}
 use Rattle.au_lowered.specs.Drafts.{Draft, plain, Written, ◌>>◌, one, does, unless, count_unless, when, either, loop}
-use Rattle.au_lowered.specs.Standing.{HasAt, Stands, ArmsStand, InOne, InRow, InWhen, InBranches, InLoop, InTurns, InArm, InCases, PartsStand}
+use Rattle.au_lowered.specs.Standing.{HasAt, Stands, ArmsStand, InOne, InRow, InWhen, InBranches, InLoop}
+use Rattle.au_lowered.specs.Standing.{InTurns, InArm, InCases, PartsStand}
 use Rattle.au_lowered.specs.Statements.{ArmsWritten, arm_then, cases, turns}
 use Rattle.au_lowered.proofs.FitLemmas.{length_both, length_unless, either_length, arm_length}
 

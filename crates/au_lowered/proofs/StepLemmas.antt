@@ -1,5 +1,6 @@
 -- One instruction for each action that makes a tick: constants, variables and operations on values.
-use Rattle.std.proofs.Common.{◌≡◌, ℕ, suc, ◌+◌, ◌-◌, List, [], ◌∷◌, ◌++◌, length, map, Option, Some, None, refl, sym, ap, ap₂, subst, ◌∙◌, arith, slice_get, set}
+use Rattle.std.proofs.Common.{◌≡◌, ℕ, suc, ◌+◌, ◌-◌, List, [], ◌∷◌, ◌++◌, length, map, Option, Some, None}
+use Rattle.std.proofs.Common.{refl, sym, ap, ap₂, subst, ◌∙◌, arith, slice_get, set}
 use Rattle.std.specs.Prelude.{option_map}
 use Rattle.std.proofs.lemmas.List.{length-append}
 use Rattle.au_low.specs.declared.instructions.Instr.{Instr}
@@ -20,7 +21,8 @@ use Rattle.au_meaning.specs.Acts.{looks, moves, holds, sets, place_of, with_valu
 use Rattle.au_meaning.specs.Worlds.{Value}
 use Rattle.au_lowered.specs.Maps.{value_to, deed_to, fault_to, result_to}
 use Rattle.au_lowered.specs.Scopes.{Same}
-use Rattle.au_lowered.specs.Sides.{Coding, Word, Both, Names, Slots, Common, Frame, Spot, machine, spot, world, meant, ran}
+use Rattle.au_lowered.specs.Sides.{Coding, Word, Both, Names, Slots, Common, Frame, Spot, machine, spot}
+use Rattle.au_lowered.specs.Sides.{world, meant, ran}
 use Rattle.au_lowered.specs.Runs.{at, reached, Aim, aim_at, Sim, aborted}
 use Rattle.au_lowered.proofs.FrameLemmas.{last_name, last_set, get_at}
 use Rattle.au_lowered.proofs.LeadLemmas.{leads_spare, leads_tick, leads_to}

@@ -1,5 +1,6 @@
 -- A value is taken apart, and names hold its fields.
-use Rattle.std.proofs.Common.{◌≡◌, ℕ, ◌+◌, ◌<◌, ◌≤◌, Bool, true, false, ◌==◌, List, [], ◌∷◌, ◌++◌, length, Option, Some, None, refl, sym, ap, ◌∙◌, arith, eqb-true, if◌then◌else◌}
+use Rattle.std.proofs.Common.{◌≡◌, ℕ, ◌+◌, ◌<◌, ◌≤◌, Bool, true, false, ◌==◌, List, [], ◌∷◌, ◌++◌, length}
+use Rattle.std.proofs.Common.{Option, Some, None, refl, sym, ap, ◌∙◌, arith, eqb-true, if◌then◌else◌}
 use Rattle.std.specs.Prelude.{option_map}
 use Rattle.std.proofs.lemmas.List.{length-map}
 use Rattle.std.proofs.lemmas.Option.{slice_get-map}
@@ -19,14 +20,16 @@ use Rattle.au_syntax.specs.Plain.{Bytes}
 use Rattle.au_syntax.specs.Types.{Bound}
 use Rattle.au_lowered.specs.Maps.{fields_to}
 use Rattle.au_lowered.specs.Scopes.{Entry, numbers_in, slots_in, Scoped, Agree}
-use Rattle.au_lowered.specs.Sides.{Coding, Word, Both, Names, Slots, Common, Frame, machine, world, ran, all_meant, all_ran}
+use Rattle.au_lowered.specs.Sides.{Coding, Word, Both, Names, Slots, Common, Frame, machine, world, ran}
+use Rattle.au_lowered.specs.Sides.{all_meant, all_ran}
 use Rattle.au_lowered.proofs.CallLemmas.{spends_to}
 use Rattle.au_lowered.proofs.FrameLemmas.{under_more}
 use Rattle.au_lowered.proofs.MapLemmas.{listed_to}
 use Rattle.au_meaning.specs.Acts.{bound_counted}
 use Rattle.au_lowered.specs.Binds.{fields_bound}
 use Rattle.au_lowered.specs.Premises.{Once}
-use Rattle.au_lowered.proofs.TakeLemmas.{filled, filled_is, filled_length, filled_at, held_filled, named, free_first, take_all}
+use Rattle.au_lowered.proofs.TakeLemmas.{filled, filled_is, filled_length, filled_at, held_filled, named}
+use Rattle.au_lowered.proofs.TakeLemmas.{free_first, take_all}
 
 module _ (by : Coding) (f : Frame) where
   -- a value with a birth is consumed

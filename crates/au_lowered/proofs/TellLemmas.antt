@@ -1,12 +1,15 @@
 -- An instruction tells more, and unsays nothing.
-use Rattle.std.proofs.Common.{ℕ, ◌+◌, ◌-◌, ◌==◌, nat_lt, Bool, true, false, not, if◌then◌else◌, List, [], ◌∷◌, length, reverse, take, drop, Option, Some, None, slice_get, ℤ, pos, ◌+ℤ◌, int_lt}
+use Rattle.std.proofs.Common.{ℕ, ◌+◌, ◌-◌, ◌==◌, nat_lt, Bool, true, false, not, if◌then◌else◌, List, [], ◌∷◌}
+use Rattle.std.proofs.Common.{length, reverse, take, drop, Option, Some, None, slice_get, ℤ, pos, ◌+ℤ◌}
+use Rattle.std.proofs.Common.{int_lt}
 use Rattle.au_base.specs.declared.kinds.IntKind.{IntKind}
 use Rattle.au_ints.specs.Ranges.{is_of_kind}
 use Rattle.au_effects.specs.Values.{Place, name_of, content_of, number, made, listed}
 use Rattle.au_effects.specs.Parts.{along, part, with_part}
 use Rattle.au_effects.specs.Worlds.{Deed, tells, bears, spends, closes, closed, used, opened, nothing}
 use Rattle.au_effects.specs.Places.{at, base_at, base_set, set_over}
-use Rattle.au_effects.specs.Numbers.{number_in, same_kind, truth_in, computed, wrapped_around, compared, negated, converted_value}
+use Rattle.au_effects.specs.Numbers.{number_in, same_kind, truth_in, computed, wrapped_around, compared}
+use Rattle.au_effects.specs.Numbers.{negated, converted_value}
 use Rattle.au_effects.specs.Answers as answer
 use Rattle.au_effects.specs.Calls.{reference_in, arity, shipped}
 use Rattle.au_low.specs.declared.code.Code.{Code}
@@ -15,11 +18,24 @@ use Rattle.au_low.specs.declared.code.LowType.{LowType}
 use Rattle.au_low.specs.declared.instructions.Mode.{Mode}
 use Rattle.au_low.specs.declared.instructions.Mode.TheVariants as mode
 use Rattle.au_low.specs.declared.instructions.Instr.{Instr}
-use Rattle.au_low.specs.declared.instructions.Instr.TheVariants.{Push, PushBool, PushUnit, PushText, Look, Move, Store, Set, Discard, Arith, Wrap, Compare, Not, Convert, Jump, JumpNot, ForTest, ForStep, Make, Take, Case, Call, Shipped, Return, Read, Put, Deref, Open, Again, Part, Bind, Close}
-use Rattle.au_low.specs.Machines.{Low, LowWorld, Machine, Waiting, Next, goes, writes, waits, exits, aborts, stuck, having, where_true, onward, in_world, popping, popping_two, popping_all, in_slot, has_slot, slot_set, slots_filled, ordered, ordered_if, begins, frame_ended, pushes}
-use Rattle.au_low.specs.Instructions.{act, instructions, jumps, jumps_unless, comes, stores, puts, slot_part, behind, reference_at, uses, reads_at, both_numbers, slot_numbers, makes, apart, calls, answered, text_bytes, is_type, new_reference, borrowed, borrowed_place, is_of_slot, exit_in, returns, on_pair, takes_record, goes_to_case}
+use Rattle.au_low.specs.declared.instructions.Instr.TheVariants.{Push, PushBool, PushUnit, PushText, Look}
+use Rattle.au_low.specs.declared.instructions.Instr.TheVariants.{Move, Store, Set, Discard, Arith, Wrap}
+use Rattle.au_low.specs.declared.instructions.Instr.TheVariants.{Compare, Not, Convert, Jump, JumpNot}
+use Rattle.au_low.specs.declared.instructions.Instr.TheVariants.{ForTest, ForStep, Make, Take, Case, Call}
+use Rattle.au_low.specs.declared.instructions.Instr.TheVariants.{Shipped, Return, Read, Put, Deref, Open}
+use Rattle.au_low.specs.declared.instructions.Instr.TheVariants.{Again, Part, Bind, Close}
+use Rattle.au_low.specs.Machines.{Low, LowWorld, Machine, Waiting, Next, goes, writes, waits, exits, aborts}
+use Rattle.au_low.specs.Machines.{stuck, having, where_true, onward, in_world, popping, popping_two}
+use Rattle.au_low.specs.Machines.{popping_all, in_slot, has_slot, slot_set, slots_filled, ordered, ordered_if}
+use Rattle.au_low.specs.Machines.{begins, frame_ended, pushes}
+use Rattle.au_low.specs.Instructions.{act, instructions, jumps, jumps_unless, comes, stores, puts, slot_part}
+use Rattle.au_low.specs.Instructions.{behind, reference_at, uses, reads_at, both_numbers, slot_numbers, makes}
+use Rattle.au_low.specs.Instructions.{apart, calls, answered, text_bytes, is_type, new_reference, borrowed}
+use Rattle.au_low.specs.Instructions.{borrowed_place, is_of_slot, exit_in, returns, on_pair, takes_record}
+use Rattle.au_low.specs.Instructions.{goes_to_case}
 use Rattle.au_meaning.specs.Laws.{Begins}
-use Rattle.au_lowered.proofs.AnswerLemmas.{begins_refl, begins_trans, begins_told, begins_bears, begins_spends, AnswerTells, shipped_tells}
+use Rattle.au_lowered.proofs.AnswerLemmas.{begins_refl, begins_trans, begins_told, begins_bears}
+use Rattle.au_lowered.proofs.AnswerLemmas.{begins_spends, AnswerTells, shipped_tells}
 
 -- what comes of an instruction tells more than these
 abbrev pub Tells : List (Deed ℕ) → Next → Type 0

@@ -1,5 +1,6 @@
 -- A run of the code of a program does what the program means.
-use Rattle.std.proofs.Common.{◌≡◌, ℕ, ◌+◌, ◌-◌, ◌*◌, ◌≤◌, Bool, true, false, ◌==◌, if◌then◌else◌, List, [], length, Option, Some, None, refl, sym, ap, subst, ◌∙◌, arith, eqb-true}
+use Rattle.std.proofs.Common.{◌≡◌, ℕ, ◌+◌, ◌-◌, ◌*◌, ◌≤◌, Bool, true, false, ◌==◌, if◌then◌else◌, List, []}
+use Rattle.std.proofs.Common.{length, Option, Some, None, refl, sym, ap, subst, ◌∙◌, arith, eqb-true}
 use Rattle.std.proofs.Math.Nat.{le_refl}
 use Rattle.std.proofs.lemmas.List.{length-map}
 use Rattle.au_effects.specs.Values as values
@@ -21,7 +22,8 @@ use Rattle.au_meaning.specs.Worlds as source
 use Rattle.au_meaning.specs.Worlds.{Value, World, Outcome, exit, abort, running, stuck}
 use Rattle.au_lowered.specs.Maps.{fault_to}
 use Rattle.au_lowered.specs.Sides.{source as source_world}
-use Rattle.au_lowered.specs.Sides.{Coding, Both, Names, Slots, Common, Frame, Spot, spot, machine, world, told, meant, ran, all_meant, all_ran}
+use Rattle.au_lowered.specs.Sides.{Coding, Both, Names, Slots, Common, Frame, Spot, spot, machine, world}
+use Rattle.au_lowered.specs.Sides.{told, meant, ran, all_meant, all_ran}
 use Rattle.au_lowered.specs.Runs.{ended, reached, run_at, Leads, Sim}
 use Rattle.au_lowered.proofs.LeadLemmas.{leads_to}
 use Rattle.au_lowered.proofs.StepLemmas.{deeds_both}

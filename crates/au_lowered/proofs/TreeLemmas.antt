@@ -1,10 +1,12 @@
 -- All that is lowered fits: each clause of its definition is made of pieces that do.
-use Rattle.std.proofs.Common.{ℕ, ◌+◌, Bool, true, false, ◌||◌, List, [], ◌∷◌, Option, Some, None, refl, arith, unwrap_or}
+use Rattle.std.proofs.Common.{ℕ, ◌+◌, Bool, true, false, ◌||◌, List, [], ◌∷◌, Option, Some, None, refl, arith}
+use Rattle.std.proofs.Common.{unwrap_or}
 use Rattle.au_type_texts.specs.Types.{ClosedType}
 use Rattle.au_typing.specs.Returns.{block_returns}
 use Rattle.au_effects.specs.Values as values
 use Rattle.au_low.specs.declared.instructions.Instr.TheVariants as instr
-use Rattle.au_meaning.specs.Expressions.{Operation, computes, compares, is_and, is_or, operation_of, kind_in, note_of, names_of}
+use Rattle.au_meaning.specs.Expressions.{Operation, computes, compares, is_and, is_or, operation_of, kind_in}
+use Rattle.au_meaning.specs.Expressions.{note_of, names_of}
 use Rattle.au_meaning.specs.Names.{Scope, Variable, variable_of}
 use Rattle.au_meaning.specs.Views.{View, Callee, Act, invokes, makes, ships}
 use Rattle.au_meaning.specs.Worlds.{Value}
@@ -12,15 +14,25 @@ use Rattle.au_shipped.specs.declared.prims.ShippedCall.{ShippedCall}
 use Rattle.au_shipped.specs.declared.prims.ShippedCall.TheVariants as prim
 use Rattle.au_syntax.specs.declared.expressions.BorrowMode.{BorrowMode}
 use Rattle.au_syntax.specs.declared.expressions.BorrowMode.TheVariants as borrowing
-use Rattle.au_syntax.specs.Expressions.{Expression, Expressions, Arguments, number, negative, text, truth, nil, path, arrow, call, named_call, parenthesized, dereference, borrow, borrow_part, binary, negation, typed, choice, no_expressions, expressions, no_arguments, arguments}
+use Rattle.au_syntax.specs.Expressions.{Expression, Expressions, Arguments, number, negative, text, truth}
+use Rattle.au_syntax.specs.Expressions.{nil, path, arrow, call, named_call, parenthesized, dereference}
+use Rattle.au_syntax.specs.Expressions.{borrow, borrow_part, binary, negation, typed, choice, no_expressions}
+use Rattle.au_syntax.specs.Expressions.{expressions, no_arguments, arguments}
 use Rattle.au_syntax.specs.Plain.{Bytes}
-use Rattle.au_syntax.specs.Statements.{Statement, Statements, Branches, Arms, skip, declare, destructure, assign, assign_through, conditional, conditional_else, case_of, while_loop, for_loop, borrow_in, borrow_typed, discard, return_of, no_statements, statements, no_branches, branches, no_arms, arms}
+use Rattle.au_syntax.specs.Statements.{Statement, Statements, Branches, Arms, skip, declare, destructure}
+use Rattle.au_syntax.specs.Statements.{assign, assign_through, conditional, conditional_else, case_of}
+use Rattle.au_syntax.specs.Statements.{while_loop, for_loop, borrow_in, borrow_typed, discard, return_of}
+use Rattle.au_syntax.specs.Statements.{no_statements, statements, no_branches, branches, no_arms, arms}
 use Rattle.au_lowered.specs.Drafts.{plain, pushes_text, Written, nothing, one, branch}
-use Rattle.au_lowered.specs.Expressions.{code, code_of_all, code_of_named, whole, opens, closing, literal, taken, looked_at, operand, borrows, ships_call, acts, calls, mention, part_of, part_behind, joins}
+use Rattle.au_lowered.specs.Expressions.{code, code_of_all, code_of_named, whole, opens, closing, literal}
+use Rattle.au_lowered.specs.Expressions.{taken, looked_at, operand, borrows, ships_call, acts, calls, mention}
+use Rattle.au_lowered.specs.Expressions.{part_of, part_behind, joins}
 use Rattle.au_lowered.specs.Laws.{Fits}
 use Rattle.au_lowered.specs.Slots.{mode_of, tag_in}
 use Rattle.au_lowered.specs.Statements.{lends, is_last, statement, block, tests_of, arms_of}
-use Rattle.au_lowered.proofs.FitLemmas.{fits_both, fits_nothing, fits_one, fits_given, fits_when, fits_either, fits_loop, fits_turns, ArmsFit, arms_end, arms_fit, fits_cases, fits_unless}
+use Rattle.au_lowered.proofs.FitLemmas.{fits_both, fits_nothing, fits_one, fits_given, fits_when, fits_either}
+use Rattle.au_lowered.proofs.FitLemmas.{fits_loop, fits_turns, ArmsFit, arms_end, arms_fit, fits_cases}
+use Rattle.au_lowered.proofs.FitLemmas.{fits_unless}
 
 -- what may be written fits, where something is
 abbrev FitsIf : ℕ → Option Written → Type 0
@@ -274,17 +286,20 @@ module _ {T C : Type 0} (see : View ℕ T C) where
     fits_statement around slot scope (return_of at e) =
         fits_both (fits_expression scope e) (fits_one 0 (plain instr.Return) (omega arith) refl)
 
-    pub fits_block : (around slot : ℕ) (scope : Scope) (b : Statements Bytes T C) → Fits 0 (block see around slot scope b)
+    pub fits_block : (around slot : ℕ) (scope : Scope) (b : Statements Bytes T C) →
+        Fits 0 (block see around slot scope b)
     fits_block around slot scope no_statements = fits_nothing
     fits_block around slot scope (statements s rest) =
         fits_both (fits_statement around slot scope s) (fits_block around _ _ rest)
 
-    fits_tests : (around slot : ℕ) (scope : Scope) (tests : Branches Bytes T C) (other : Option Written) → FitsIf 0 other
+    fits_tests : (around slot : ℕ) (scope : Scope) (tests : Branches Bytes T C) (other : Option Written) →
+        FitsIf 0 other
         → FitsIf 0 (tests_of see around slot scope tests other)
     fits_tests around slot scope no_branches other fo = fo
     fits_tests around slot scope (branches e body rest) other fo =
         fits_both (fits_whole around scope e)
-        (fits_branch (block_returns body) (tests_of see around slot scope rest other) (fits_block around slot scope body)
+        (fits_branch (block_returns body) (tests_of see around slot scope rest other)
+        (fits_block around slot scope body)
         (fits_tests around slot scope rest other fo))
 
     fits_arms : (around slot : ℕ) (scope : Scope) (note : T) (all : Arms Bytes T C)

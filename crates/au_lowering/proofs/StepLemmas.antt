@@ -1,5 +1,6 @@
 -- The steps of a loop that asks whether all items pass a test.
-use Rattle.std.proofs.Common.{◌≡◌, ◌&&◌, ◌<◌, ◌≤◌, Bool, true, false, get_or, ℕ, ◌+◌, drop, length, List, [], ◌∷◌, ap, sym, ◌∙◌}
+use Rattle.std.proofs.Common.{◌≡◌, ◌&&◌, ◌<◌, ◌≤◌, Bool, true, false, get_or, ℕ, ◌+◌, drop, length, List, []}
+use Rattle.std.proofs.Common.{◌∷◌, ap, sym, ◌∙◌}
 use Rattle.std.proofs.lemmas.List.{at_drop_all, at_drop_more}
 
 module _ {A : Type 0} (whole : List A → Bool) (test : A → Bool)

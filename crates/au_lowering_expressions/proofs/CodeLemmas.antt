@@ -1,5 +1,6 @@
 -- The code of what the code's expressions say, variant by variant.
-use Rattle.std.proofs.Common.{◌≡◌, ℕ, Bool, true, false, List, [], ◌∷◌, Vec, Option, Some, None, map, neg_ℤ, refl, sym, ap, ◌∙◌}
+use Rattle.std.proofs.Common.{◌≡◌, ℕ, Bool, true, false, List, [], ◌∷◌, Vec, Option, Some, None, map, neg_ℤ}
+use Rattle.std.proofs.Common.{refl, sym, ap, ◌∙◌}
 use Rattle.std.specs.Global.{Global}
 use Rattle.std.specs.declared.boxed.Box.{Box}
 use Rattle.au_closed_trees.specs.contracts.phase.ClosedTreesPhase.TheImpl.{ghosts as closed}
@@ -13,11 +14,14 @@ use Rattle.au_ints.specs.declared.operations.IntOp.{IntOp}
 use Rattle.au_ints.specs.declared.operations.Order.{Order}
 use Rattle.au_low.specs.declared.instructions.Instr.TheVariants as instr
 use Rattle.au_lowered.specs.Drafts.{Draft, Written, ◌>>◌, does, either, given, one, pushes_text}
-use Rattle.au_lowered.specs.Expressions.{borrows, by_labels, by_position, calls, code, code_of_all, code_of_named, integer, joins, operand, part_behind}
-use Rattle.au_lowering_expressions.specs.Parts.{arith, compare, path_code, pushes_false, pushes_true, reads, refers, second_of}
+use Rattle.au_lowered.specs.Expressions.{borrows, by_labels, by_position, calls, code, code_of_all}
+use Rattle.au_lowered.specs.Expressions.{code_of_named, integer, joins, operand, part_behind}
+use Rattle.au_lowering_expressions.specs.Parts.{arith, compare, path_code, pushes_false, pushes_true, reads}
+use Rattle.au_lowering_expressions.specs.Parts.{refers, second_of}
 use Rattle.au_lowering_expressions.specs.Wrote.{wrote}
 use Rattle.au_lowering_expressions.proofs.WroteLemmas.{wrote_row}
-use Rattle.au_meaning.specs.Expressions.{Operation, compares, computes, is_and, is_or, labels, names_of, note_of, operation_of}
+use Rattle.au_meaning.specs.Expressions.{Operation, compares, computes, is_and, is_or, labels, names_of}
+use Rattle.au_meaning.specs.Expressions.{note_of, operation_of}
 use Rattle.au_meaning.specs.Names.{Scope, variable_of}
 use Rattle.au_syntax.specs.declared.expressions.Argument.{Argument}
 use Rattle.au_syntax.specs.declared.expressions.BinaryOperator.{BinaryOperator}

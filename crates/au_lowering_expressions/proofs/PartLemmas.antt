@@ -1,5 +1,6 @@
 -- Parts of variables.
-use Rattle.std.proofs.Common.{◌≡◌, ◌≢◌, ℕ, true, false, is_some, List, [], ◌∷◌, ◌++◌, length, Option, Some, None, refl, sym, ap, ◌∙◌, append_assoc, arith}
+use Rattle.std.proofs.Common.{◌≡◌, ◌≢◌, ℕ, true, false, is_some, List, [], ◌∷◌, ◌++◌, length, Option, Some}
+use Rattle.std.proofs.Common.{None, refl, sym, ap, ◌∙◌, append_assoc, arith}
 use Rattle.std.specs.Option.{option_map}
 use Rattle.au_type_texts.specs.Types.{ClosedType}
 use Rattle.au_effects.specs.Parts.{along}
@@ -12,7 +13,9 @@ use Rattle.au_lowering_expressions.proofs.WroteLemmas.{wrote_nothing}
 use Rattle.au_meaning.specs.Expressions.{names_of}
 use Rattle.au_meaning.specs.Names.{Scope, Variable, field_of, path_numbers, variable_of}
 use Rattle.au_meaning.specs.Views.{Field, View}
-use Rattle.au_syntax.specs.Expressions.{Expression, Node, number, negative, text, truth, nil, path, arrow, call, named_call, parenthesized, dereference, borrow, borrow_part, binary, negation, typed, choice}
+use Rattle.au_syntax.specs.Expressions.{Expression, Node, number, negative, text, truth, nil, path, arrow}
+use Rattle.au_syntax.specs.Expressions.{call, named_call, parenthesized, dereference, borrow, borrow_part}
+use Rattle.au_syntax.specs.Expressions.{binary, negation, typed, choice}
 use Rattle.au_syntax.specs.Names.{Placed}
 use Rattle.au_syntax.specs.Plain.{Bytes}
 

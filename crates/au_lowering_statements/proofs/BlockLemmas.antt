@@ -1,5 +1,7 @@
 -- Steps of loops over the items of blocks, conditionals and cases, and what is kept of a scope.
-use Rattle.std.proofs.Common.{◌≡◌, ℕ, ◌+◌, ◌-◌, ◌<◌, ◌≤◌, min, Bool, true, false, ◌||◌, nat_lt, List, [], ◌∷◌, ◌++◌, drop, take, get_or, length, map, Option, Some, None, refl, sym, ap, subst, ◌∙◌, arith}
+use Rattle.std.proofs.Common.{◌≡◌, ℕ, ◌+◌, ◌-◌, ◌<◌, ◌≤◌, min, Bool, true, false, ◌||◌, nat_lt, List, [], ◌∷◌}
+use Rattle.std.proofs.Common.{◌++◌, drop, take, get_or, length, map, Option, Some, None, refl, sym, ap, subst}
+use Rattle.std.proofs.Common.{◌∙◌, arith}
 use Rattle.std.proofs.lemmas.List.{at_drop_all, at_drop_more, length-take, take-take, take_all, take_at}
 use Rattle.au_closed_trees.specs.contracts.phase.ClosedTreesPhase.TheImpl.{ghosts as closed}
 use Rattle.au_closed_trees.specs.ClosedNotes.{ClosedNote}
@@ -15,10 +17,12 @@ use Rattle.au_lowered.specs.Statements.{is_last}
 use Rattle.au_lowering_expressions.specs.declared.locals.Local.{Local}
 use Rattle.au_lowering_expressions.specs.Wrote.{wrote}
 use Rattle.au_lowering_expressions.proofs.WroteLemmas.{wrote_nothing, wrote_row}
-use Rattle.au_lowering_statements.specs.Ends.{AllBelow, Holed, arm_block, arms_upto, branch_upto, has_tests, tests_upto, with_jumps}
+use Rattle.au_lowering_statements.specs.Ends.{AllBelow, Holed, arm_block, arms_upto, branch_upto, has_tests}
+use Rattle.au_lowering_statements.specs.Ends.{tests_upto, with_jumps}
 use Rattle.au_lowering_statements.specs.Views.{Begins}
 use Rattle.au_lowering_statements.proofs.ArmLemmas.{arms_row}
-use Rattle.au_lowering_statements.proofs.CodeLemmas.{ClosedArm, ClosedBind, ClosedBranch, ClosedStmt, said_block, said_statement, said_whole}
+use Rattle.au_lowering_statements.proofs.CodeLemmas.{ClosedArm, ClosedBind, ClosedBranch, ClosedStmt}
+use Rattle.au_lowering_statements.proofs.CodeLemmas.{said_block, said_statement, said_whole}
 use Rattle.au_lowering_statements.proofs.JumpLemmas.{holed_row}
 use Rattle.au_meaning.specs.Names.{Scope, bound_name, field_of}
 use Rattle.au_meaning.specs.Views.{Field}

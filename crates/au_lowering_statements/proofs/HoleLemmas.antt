@@ -1,5 +1,6 @@
 -- Code that is written with a hole in front, which is filled when the rest is there.
-use Rattle.std.proofs.Common.{◌≡◌, ℕ, ◌+◌, Bool, true, false, List, [], ◌∷◌, ◌++◌, length, set, Option, Some, None, refl, sym, ap, ◌∙◌, arith}
+use Rattle.std.proofs.Common.{◌≡◌, ℕ, ◌+◌, Bool, true, false, List, [], ◌∷◌, ◌++◌, length, set, Option, Some}
+use Rattle.std.proofs.Common.{None, refl, sym, ap, ◌∙◌, arith}
 use Rattle.std.proofs.lemmas.List.{append-nil, append_assoc, length-append, length_push, set_at}
 use Rattle.au_low.specs.declared.instructions.Instr.{Instr}
 use Rattle.au_low.specs.declared.instructions.Instr.TheVariants.{ForStep, ForTest, Jump, JumpNot, Look, Store}

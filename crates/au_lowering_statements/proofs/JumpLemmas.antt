@@ -1,6 +1,8 @@
 -- Jumps to an end that is found later.
-use Rattle.std.proofs.Common.{◌≡◌, ◌≢◌, ℕ, ◌+◌, ◌<◌, ◌≤◌, Bool, true, false, ◌||◌, not, List, [], ◌∷◌, ◌++◌, drop, get_or, length, set, Option, Some, None, refl, sym, ap, subst, ◌∙◌, arith}
-use Rattle.std.proofs.lemmas.List.{append-nil, at_drop_more, append_assoc, length-append, length-set, length_push, set_at, set_comm, set-append_left}
+use Rattle.std.proofs.Common.{◌≡◌, ◌≢◌, ℕ, ◌+◌, ◌<◌, ◌≤◌, Bool, true, false, ◌||◌, not, List, [], ◌∷◌, ◌++◌}
+use Rattle.std.proofs.Common.{drop, get_or, length, set, Option, Some, None, refl, sym, ap, subst, ◌∙◌, arith}
+use Rattle.std.proofs.lemmas.List.{append-nil, at_drop_more, append_assoc, length-append, length-set}
+use Rattle.std.proofs.lemmas.List.{length_push, set_at, set_comm, set-append_left}
 use Rattle.au_low.specs.declared.instructions.Instr.TheVariants.{Jump, JumpNot}
 use Rattle.au_lowered.specs.Drafts.{Draft, plain, Written, ◌>>◌, nothing, one, does, unless, count_unless, when}
 use Rattle.au_lowering_expressions.specs.Wrote.{wrote}

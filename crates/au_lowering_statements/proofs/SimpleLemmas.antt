@@ -14,13 +14,15 @@ use Rattle.au_lowering_expressions.proofs.CodeLemmas.{ClosedBox, ClosedIdent, sa
 use Rattle.au_lowering_expressions.proofs.WroteLemmas.{wrote_row}
 use Rattle.au_lowering_statements.specs.Ends.{puts, sets}
 use Rattle.au_lowering_statements.specs.Pieces.{simple}
-use Rattle.au_lowering_statements.proofs.CodeLemmas.{ClosedArm, ClosedBind, ClosedBlock, ClosedBranch, ClosedNames, ClosedStmt, said_statement, said_whole}
+use Rattle.au_lowering_statements.proofs.CodeLemmas.{ClosedArm, ClosedBind, ClosedBlock, ClosedBranch}
+use Rattle.au_lowering_statements.proofs.CodeLemmas.{ClosedNames, ClosedStmt, said_statement, said_whole}
 use Rattle.au_meaning.specs.Expressions.{names_of}
 use Rattle.au_meaning.specs.Names.{Scope, variable_of}
 use Rattle.au_syntax.specs.declared.expressions.BorrowMode.{BorrowMode}
 use Rattle.au_syntax.specs.declared.statements.Binding.{Binding}
 use Rattle.au_syntax.specs.declared.statements.Stmt as stmt
-use Rattle.au_syntax.specs.declared.statements.Stmt.TheBlock.{backs-Stmt, shown-the_row-Arm-2, shown-the_row-Branch-1, shown-the_row-Stmt-0}
+use Rattle.au_syntax.specs.declared.statements.Stmt.TheBlock.{backs-Stmt, shown-the_row-Arm-2}
+use Rattle.au_syntax.specs.declared.statements.Stmt.TheBlock.{shown-the_row-Branch-1, shown-the_row-Stmt-0}
 use Rattle.au_syntax.specs.declared.types.Access.{Access}
 use Rattle.au_syntax.specs.declared.types.TypeText.{TypeText}
 use Rattle.au_syntax.specs.Views.{placed, statement}

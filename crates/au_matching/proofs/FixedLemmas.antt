@@ -5,7 +5,8 @@ use Rattle.std.specs.Bool.{Decides}
 use Rattle.std.proofs.lemmas.Bool.{and_parts, and_from}
 use Rattle.au_types.specs.declared.types.Region.{Region}
 use Rattle.au_types.specs.declared.types.Region.TheVariants.{Static, Named, Anonymous}
-use Rattle.au_types.specs.Types.{Meaning, Argument, Arguments, unit, truth, integer, text, parameter, named, reads, writes, of_type, in_region, no_arguments, arguments}
+use Rattle.au_types.specs.Types.{Meaning, Argument, Arguments, unit, truth, integer, text, parameter, named}
+use Rattle.au_types.specs.Types.{reads, writes, of_type, in_region, no_arguments, arguments}
 use Rattle.au_matching.specs.Bindings.{Bindings, value_of, GivesType, GivesRegion}
 use Rattle.au_matching.specs.Fixed.{is_a_type, is_a_region, region_fixed, fixed, argument_fixed, all_fixed}
 use Rattle.au_matching.specs.Substituted.{OfRegion, EachNameOf, EachNameOfAll, Fixes}

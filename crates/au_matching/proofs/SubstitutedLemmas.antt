@@ -3,16 +3,20 @@ use Rattle.std.proofs.Common.{◌≡◌, ℕ, ◌+◌, ◌<◌, List, [], ◌∷
 use Rattle.std.specs.Prelude.{Option, Some}
 use Rattle.au_types.specs.declared.types.Region.{Region}
 use Rattle.au_types.specs.declared.types.Region.TheVariants.{Static, Named, Anonymous}
-use Rattle.au_types.specs.Types.{Meaning, Argument, Arguments, unit, truth, integer, text, parameter, named, reads, writes, of_type, in_region, no_arguments, arguments}
+use Rattle.au_types.specs.Types.{Meaning, Argument, Arguments, unit, truth, integer, text, parameter, named}
+use Rattle.au_types.specs.Types.{reads, writes, of_type, in_region, no_arguments, arguments}
 use Rattle.std.proofs.lemmas.List.{take_more}
 use Rattle.au_types.specs.declared.types.Arg.{Arg}
 use Rattle.au_types.specs.Views.{argument, argument_all}
 use Rattle.au_matching.specs.Bindings.{Bindings, value_of, Extends, GivesType, GivesRegion}
-use Rattle.au_matching.specs.Substituted.{type_for, region_for, region_substituted, substituted, argument_substituted, all_substituted, OfRegion, EachName, EachNameOf, EachNameOfAll, Fixes, SaysNothingOf, Suits}
+use Rattle.au_matching.specs.Substituted.{type_for, region_for, region_substituted, substituted}
+use Rattle.au_matching.specs.Substituted.{argument_substituted, all_substituted, OfRegion, EachName}
+use Rattle.au_matching.specs.Substituted.{EachNameOf, EachNameOfAll, Fixes, SaysNothingOf, Suits}
 
 -- ---- what holds of each name holds in other words too
 
-module _ (P P' R R' : List ℕ → Type 0) (types : (name : List ℕ) → P name → P' name) (regions : (name : List ℕ) → R name → R' name) where
+module _ (P P' R R' : List ℕ → Type 0) (types : (name : List ℕ) → P name → P' name)
+    (regions : (name : List ℕ) → R name → R' name) where
   region_so : (region : Region) → OfRegion R region → OfRegion R' region
   region_so Static h = tt
   region_so (Named name) h = regions name h
@@ -46,7 +50,8 @@ module _ (s r : Bindings) where
   abbrev pub SameRegion : List ℕ → Type 0
   SameRegion name = region_for (value_of name s) name ≡ region_for (value_of name r) name
 
-  pub region_agrees : (region : Region) → OfRegion SameRegion region → region_substituted s region ≡ region_substituted r region
+  pub region_agrees : (region : Region) → OfRegion SameRegion region → region_substituted s region
+      ≡ region_substituted r region
   region_agrees Static h = refl
   region_agrees (Named name) h = h
   region_agrees Anonymous h = refl
@@ -62,11 +67,13 @@ module _ (s r : Bindings) where
     agrees (reads to region) h = λ i. reads (agrees to h.0 i) (region_agrees region h.1 i)
     agrees (writes to region) h = λ i. writes (agrees to h.0 i) (region_agrees region h.1 i)
 
-    pub argument_agrees : (one : Argument) → EachNameOf SameType SameRegion one → argument_substituted s one ≡ argument_substituted r one
+    pub argument_agrees : (one : Argument) → EachNameOf SameType SameRegion one → argument_substituted s one
+        ≡ argument_substituted r one
     argument_agrees (of_type t) h = ap of_type (agrees t h)
     argument_agrees (in_region region) h = ap in_region (region_agrees region h)
 
-    pub all_agree : (args : Arguments) → EachNameOfAll SameType SameRegion args → all_substituted s args ≡ all_substituted r args
+    pub all_agree : (args : Arguments) → EachNameOfAll SameType SameRegion args → all_substituted s args
+        ≡ all_substituted r args
     all_agree no_arguments h = refl
     all_agree (arguments one rest) h = λ i. arguments (argument_agrees one h.0 i) (all_agree rest h.1 i)
 
@@ -98,7 +105,8 @@ mutual
 
 pub untouched : (s : Bindings) (t : Meaning) → SaysNothingOf s t → substituted s t ≡ t
 untouched s t h =
-    agrees s [] t (each_so _ _ _ _ (λ name e. ap (λ o. type_for o name) e) (λ name e. ap (λ o. region_for o name) e) t h) ∙ stays t
+    agrees s [] t (each_so _ _ _ _ (λ name e. ap (λ o. type_for o name) e)
+    (λ name e. ap (λ o. region_for o name) e) t h) ∙ stays t
 
 -- ---- what is fixed stays as it is in each list that goes on
 
@@ -121,10 +129,12 @@ module _ (s r : Bindings) (goes_on : Extends s r) where
   pub fixed_stays : (t : Meaning) → Fixes s t → substituted s t ≡ substituted r t
   fixed_stays t h = agrees s r t (each_so _ _ _ _ type_same region_same t h)
 
-  pub fixes_on_of : (one : Argument) → EachNameOf (GivesType s) (GivesRegion s) one → EachNameOf (GivesType r) (GivesRegion r) one
+  pub fixes_on_of : (one : Argument) → EachNameOf (GivesType s) (GivesRegion s) one →
+      EachNameOf (GivesType r) (GivesRegion r) one
   fixes_on_of one h = each_of_so _ _ _ _ type_kept region_kept one h
 
-  pub fixed_stays_of : (one : Argument) → EachNameOf (GivesType s) (GivesRegion s) one → argument_substituted s one ≡ argument_substituted r one
+  pub fixed_stays_of : (one : Argument) → EachNameOf (GivesType s) (GivesRegion s) one →
+      argument_substituted s one ≡ argument_substituted r one
   fixed_stays_of one h = argument_agrees s r one (each_of_so _ _ _ _ type_same region_same one h)
 
 -- ---- what fixes all names of a type suits it
@@ -146,7 +156,8 @@ module _ (s : Bindings) where
 -- ---- one argument more
 
 module _ (s : Bindings) (x y : Arg) (one : argument y ≡ argument_substituted s (argument x)) where
-  pub all_substituted_push : (xs ys : List Arg) → argument_all ys ≡ all_substituted s (argument_all xs) → argument_all (ys ++ y ∷ []) ≡ all_substituted s (argument_all (xs ++ x ∷ []))
+  pub all_substituted_push : (xs ys : List Arg) → argument_all ys ≡ all_substituted s (argument_all xs) →
+      argument_all (ys ++ y ∷ []) ≡ all_substituted s (argument_all (xs ++ x ∷ []))
   all_substituted_push [] [] e = ap (λ a. arguments a no_arguments) one
   all_substituted_push [] (b ∷ ys) e = absurd cc
   all_substituted_push (a ∷ xs) [] e = absurd cc
@@ -156,7 +167,10 @@ module _ (s : Bindings) (x y : Arg) (one : argument y ≡ argument_substituted s
       λ i. arguments (first i) (all_substituted_push xs ys rest i)
 
 -- what the first arguments have become, with one more
-pub all_substituted_more : (s : Bindings) (xs ys : List Arg) (i : ℕ) (x y : Arg) → i < length xs → x ≡ get_or xs i x → argument y ≡ argument_substituted s (argument x) → argument_all ys ≡ all_substituted s (argument_all (take i xs)) → argument_all (ys ++ y ∷ []) ≡ all_substituted s (argument_all (take (i + 1) xs))
+pub all_substituted_more : (s : Bindings) (xs ys : List Arg) (i : ℕ) (x y : Arg) → i < length xs →
+    x ≡ get_or xs i x → argument y ≡ argument_substituted s (argument x) →
+    argument_all ys ≡ all_substituted s (argument_all (take i xs)) → argument_all (ys ++ y ∷ [])
+    ≡ all_substituted s (argument_all (take (i + 1) xs))
 all_substituted_more s xs ys i x y h here one before =
     all_substituted_push s x y one (take i xs) ys before
     ∙ ap (λ zs. all_substituted s (argument_all zs)) (ap (λ z. take i xs ++ z ∷ []) here ∙ sym (take_more xs i x h))

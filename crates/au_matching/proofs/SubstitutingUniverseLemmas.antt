@@ -6,7 +6,8 @@ use Rattle.au_types.specs.declared.headings.Head.{Head}
 use Rattle.au_types.specs.declared.parameters.Parameter.{Parameter}
 use Rattle.au_types.specs.declared.types.DeclAt.{DeclAt}
 use Rattle.au_types.specs.declared.types.Region.TheVariants.{Static}
-use Rattle.au_types.specs.Types.{Meaning, Argument, Arguments, unit, truth, integer, text, parameter, named, reads, writes, of_type, in_region, no_arguments, arguments}
+use Rattle.au_types.specs.Types.{Meaning, Argument, Arguments, unit, truth, integer, text, parameter, named}
+use Rattle.au_types.specs.Types.{reads, writes, of_type, in_region, no_arguments, arguments}
 use Rattle.au_types.specs.Universes.{universe_in}
 use Rattle.au_matching.specs.Bindings.{Bindings, value_of}
 use Rattle.au_matching.specs.Substituted.{type_for, substituted, argument_substituted, all_substituted}
@@ -40,19 +41,24 @@ module _ (s : Bindings) where
     alike (reads t region) = ap (λ u. reads u Static) (alike t)
     alike (writes t region) = ap (λ u. writes u Static) (alike t)
 
-    argument_alike : (one : Argument) → erased_argument (replaced_argument (given s) one) ≡ erased_argument (argument_substituted s one)
+    argument_alike : (one : Argument) → erased_argument (replaced_argument (given s) one) ≡ erased_argument
+        (argument_substituted s one)
     argument_alike (of_type t) = ap of_type (alike t)
     argument_alike (in_region region) = refl
 
-    all_alike : (args : Arguments) → erased_arguments (replaced_arguments (given s) args) ≡ erased_arguments (all_substituted s args)
+    all_alike : (args : Arguments) → erased_arguments (replaced_arguments (given s) args) ≡ erased_arguments
+        (all_substituted s args)
     all_alike no_arguments = refl
     all_alike (arguments one rest) = λ i. arguments (argument_alike one i) (all_alike rest i)
 
 -- ---- the values of bindings that fit
 
-module _ (rows : List (DeclAt × Head)) (params others : List Parameter) (s : Bindings) (fit : BindingsFit rows params others s) where
-  value_fits : (declared : Universe) (known : TypeUniverse) (value : Option Argument) (name : List ℕ) → of_parameter (Some declared) ≡ Some known
-      → fits rows others declared (stand_in value declared name) ≡ true → may_be known (universe_of rows others (type_for value name)) ≡ true
+module _ (rows : List (DeclAt × Head)) (params others : List Parameter) (s : Bindings)
+    (fit : BindingsFit rows params others s) where
+  value_fits : (declared : Universe) (known : TypeUniverse) (value : Option Argument) (name : List ℕ) →
+      of_parameter (Some declared) ≡ Some known
+      → fits rows others declared (stand_in value declared name) ≡ true →
+      may_be known (universe_of rows others (type_for value name)) ≡ true
   value_fits universes.Free Free None name is h = h
   value_fits universes.Free Free (Some (of_type t)) name is h = h
   value_fits universes.Free Free (Some (in_region region)) name is h = absurd cc
@@ -65,13 +71,16 @@ module _ (rows : List (DeclAt × Head)) (params others : List Parameter) (s : Bi
   values_fit : ValuesFit rows params others (given s)
   values_fit name known is = by (universe_in params name) refl is
     where
-      by : (o : Option Universe) → universe_in params name ≡ o → of_parameter o ≡ Some known → may_be known (universe_of rows others (given s name)) ≡ true
+      by : (o : Option Universe) → universe_in params name ≡ o → of_parameter o ≡ Some known →
+          may_be known (universe_of rows others (given s name)) ≡ true
       by None e is = absurd cc
       by (Some declared) e is = value_fits declared known (value_of name s) name is (fit name declared e)
 
-  pub universe_kept : (t : Meaning) → StandsOver rows params t → may_be (universe_of rows params t) (universe_of rows others (substituted s t)) ≡ true
+  pub universe_kept : (t : Meaning) → StandsOver rows params t →
+      may_be (universe_of rows params t) (universe_of rows others (substituted s t)) ≡ true
   universe_kept t stands =
-      ap (may_be (universe_of rows params t)) (sym (same_universe rows others (replaced (given s) t) (substituted s t) (alike s t)))
+      ap (may_be (universe_of rows params t))
+      (sym (same_universe rows others (replaced (given s) t) (substituted s t) (alike s t)))
       ∙ universe_stays rows params others (given s) values_fit t stands
 
 free_only : (u : TypeUniverse) → may_be Free u ≡ true → u ≡ Free

@@ -1,6 +1,7 @@
 -- The universes of types, case by case. The definition is opaque; these equations stand for it, and
 -- `steps` names them.
-use Rattle.std.proofs.Common.{◌≡◌, ℕ, ◌+◌, ◌<◌, List, [], ◌∷◌, ◌++◌, length, take, get_or, Bool, true, false, refl, sym, ap, ◌∙◌, append_assoc}
+use Rattle.std.proofs.Common.{◌≡◌, ℕ, ◌+◌, ◌<◌, List, [], ◌∷◌, ◌++◌, length, take, get_or, Bool, true, false}
+use Rattle.std.proofs.Common.{refl, sym, ap, ◌∙◌, append_assoc}
 use Rattle.std.specs.Prelude.{if◌then◌else◌, unwrap_or}
 use Rattle.std.specs.List.{list_all, list_any}
 use Rattle.std.proofs.lemmas.List.{append-nil, take_more}
@@ -11,13 +12,15 @@ use Rattle.au_types.specs.declared.types.Arg.{Arg}
 use Rattle.au_types.specs.declared.types.DeclAt.{DeclAt}
 use Rattle.au_types.specs.declared.types.Region.{Region}
 use Rattle.au_types.specs.Rows.{head_of}
-use Rattle.au_types.specs.Types.{Meaning, Arguments, unit, truth, integer, text, parameter, named, reads, writes, of_type, in_region, no_arguments}
+use Rattle.au_types.specs.Types.{Meaning, Arguments, unit, truth, integer, text, parameter, named, reads}
+use Rattle.au_types.specs.Types.{writes, of_type, in_region, no_arguments}
 use Rattle.au_types.specs.Universes.{universe_in}
 use Rattle.au_types.specs.Views.{argument, argument_all}
 use Rattle.au_matching.specs.declared.universes.TypeUniverse.{TypeUniverse}
 use Rattle.au_matching.specs.declared.universes.TypeUniverse.TheVariants.{Free, Linear, AnyUniverse}
 use Rattle.au_matching.specs.Joined.{joined}
-use Rattle.au_matching.specs.Universes.{is_free, is_linear, judged, of_parameter, of_row, universe_of, argument_universe, argument_universes}
+use Rattle.au_matching.specs.Universes.{is_free, is_linear, judged, of_parameter, of_row, universe_of}
+use Rattle.au_matching.specs.Universes.{argument_universe, argument_universes}
 
 -- ---- what universes of arguments come to
 
@@ -35,7 +38,8 @@ joined_joined AnyUniverse AnyUniverse Free = refl
 joined_joined AnyUniverse AnyUniverse Linear = refl
 joined_joined AnyUniverse AnyUniverse AnyUniverse = refl
 
-any_first : (linear free : Bool) → (if linear then Linear else AnyUniverse) ≡ joined AnyUniverse (if linear then Linear else (if free then Free else AnyUniverse))
+any_first : (linear free : Bool) → (if linear then Linear else AnyUniverse) ≡ joined AnyUniverse
+    (if linear then Linear else (if free then Free else AnyUniverse))
 any_first true free = refl
 any_first false true = refl
 any_first false false = refl
@@ -82,11 +86,13 @@ module _ (rows : List (DeclAt × Head)) (params : List Parameter) where
   unfolding universe_of
   text_universe = refl
 
-  pub parameter_universe : (name : List ℕ) → universe_of rows params (parameter name) ≡ unwrap_or (of_parameter (universe_in params name)) AnyUniverse
+  pub parameter_universe : (name : List ℕ) → universe_of rows params (parameter name)
+      ≡ unwrap_or (of_parameter (universe_in params name)) AnyUniverse
   unfolding universe_of
   parameter_universe name = refl
 
-  pub named_universe : (at : DeclAt) (args : Arguments) → universe_of rows params (named at args) ≡ of_row (head_of rows at) (judged (argument_universes rows params args))
+  pub named_universe : (at : DeclAt) (args : Arguments) → universe_of rows params (named at args)
+      ≡ of_row (head_of rows at) (judged (argument_universes rows params args))
   unfolding universe_of
   named_universe at args = refl
 
@@ -112,19 +118,36 @@ module _ (rows : List (DeclAt × Head)) (params : List Parameter) where
   unfolding argument_universes
   none_come = judged_empty
 
-  universes_push : (xs : List Arg) (x : Arg) → argument_universes rows params (argument_all (xs ++ x ∷ [])) ≡ argument_universes rows params (argument_all xs) ++ argument_universe rows params (argument x)
+  universes_push : (xs : List Arg) (x : Arg) → argument_universes rows params (argument_all (xs ++ x ∷ []))
+      ≡ argument_universes rows params (argument_all xs) ++ argument_universe rows params (argument x)
   unfolding argument_universes
   universes_push [] x = append-nil (argument_universe rows params (argument x))
   universes_push (y ∷ ys) x =
       ap (λ rest. argument_universe rows params (argument y) ++ rest) (universes_push ys x)
-      ∙ sym (append_assoc (argument_universe rows params (argument y)) (argument_universes rows params (argument_all ys)) (argument_universe rows params (argument x)))
+      ∙ sym (append_assoc (argument_universe rows params (argument y))
+      (argument_universes rows params (argument_all ys)) (argument_universe rows params (argument x)))
 
-  pub more_come : (xs : List Arg) (i : ℕ) (d : Arg) → i < length xs → judged (argument_universes rows params (argument_all (take (i + 1) xs))) ≡ joined (judged (argument_universes rows params (argument_all (take i xs)))) (judged (argument_universe rows params (argument (get_or xs i d))))
+  pub more_come : (xs : List Arg) (i : ℕ) (d : Arg) → i < length xs →
+      judged (argument_universes rows params (argument_all (take (i + 1) xs)))
+      ≡ joined (judged (argument_universes rows params (argument_all (take i xs))))
+      (judged (argument_universe rows params (argument (get_or xs i d))))
   more_come xs i d inside =
       ap (λ ys. judged (argument_universes rows params (argument_all ys))) (take_more xs i d inside)
       ∙ ap judged (universes_push (take i xs) (get_or xs i d))
-      ∙ judged_both (argument_universes rows params (argument_all (take i xs))) (argument_universe rows params (argument (get_or xs i d)))
+      ∙ judged_both (argument_universes rows params (argument_all (take i xs)))
+      (argument_universe rows params (argument (get_or xs i d)))
 
-pub ruleset steps = (unit_universe, truth_universe, integer_universe, text_universe, parameter_universe, named_universe, reads_universe, writes_universe, type_comes, region_comes)
+pub ruleset steps = (
+  unit_universe,
+  truth_universe,
+  integer_universe,
+  text_universe,
+  parameter_universe,
+  named_universe,
+  reads_universe,
+  writes_universe,
+  type_comes,
+  region_comes,
+)
 
 pub ruleset judged_steps = (none_come, more_come)

@@ -4,10 +4,13 @@ use Rattle.au_type_texts.specs.Types.{ClosedType}
 use Rattle.au_effects.specs.Values.{made}
 use Rattle.au_effects.specs.Worlds.{nothing, bears, spends}
 use Rattle.au_syntax.specs.Plain.{Bytes}
-use Rattle.au_meaning.specs.Acts.{in_store, with_value, with_values, place_of, looks, moves, holds, stored, sets, emptied, begins, ends_frame, makes_value, apart}
+use Rattle.au_meaning.specs.Acts.{in_store, with_value, with_values, place_of, looks, moves, holds, stored}
+use Rattle.au_meaning.specs.Acts.{sets, emptied, begins, ends_frame, makes_value, apart}
 use Rattle.au_meaning.specs.Laws.{Continues}
 use Rattle.au_meaning.specs.Worlds.{Value, Store, World}
-use Rattle.au_meaning.proofs.Growing.{begins_refl, continues_refl, continues_trans, Found, Grows, grows_bind, grows_then, grows_pure, grows_stuck, grows_asks, grows_does, grows_takes}
+use Rattle.au_meaning.proofs.Growing.{begins_refl, continues_refl, continues_trans, Found, Grows, grows_bind}
+use Rattle.au_meaning.proofs.Growing.{grows_then, grows_pure, grows_stuck, grows_asks, grows_does}
+use Rattle.au_meaning.proofs.Growing.{grows_takes}
 use Rattle.au_meaning.proofs.CallGrowth.{Kept, PairKept, exchanged_kept, kept_bears, kept_spends}
 
 -- a store whose events go on

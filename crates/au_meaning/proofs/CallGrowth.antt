@@ -1,10 +1,18 @@
 -- Shipped calls go on from the events that were told before them.
-use Rattle.std.proofs.Common.{ℕ, ◌+◌, ◌≤◌, Bool, true, false, List, [], ◌∷◌, ◌++◌, Option, Some, None, refl, if◌then◌else◌}
+use Rattle.std.proofs.Common.{ℕ, ◌+◌, ◌≤◌, Bool, true, false, List, [], ◌∷◌, ◌++◌, Option, Some, None, refl}
+use Rattle.std.proofs.Common.{if◌then◌else◌}
 use Rattle.std.proofs.Math.Nat.{le_refl}
 use Rattle.au_type_texts.specs.Types.{ClosedType}
 use Rattle.au_effects.specs.Answers as answer
 use Rattle.au_effects.specs.Answers.{Answer}
-use Rattle.au_effects.specs.Calls.{with_elements, reference_in, root_in, box_in, buffer_in, terminal_in, elements_in, natural_in, index_in, untyped, given, of_none, of_one, of_two, of_three, use_of, buffer_use, last_taken, element_copied, element_replaced, buffer_ended, print_text, print_number, print_truth, span_length, abort_call, surrender_root, release_terminal, swap_call, make_box, unbox_call, box_get, destroy_empty, length_call, insert_back, remove_back, nth_call, replace_nth, acquire_terminal, write_byte, read_byte, byte_read, shipped}
+use Rattle.au_effects.specs.Calls.{with_elements, reference_in, root_in, box_in, buffer_in, terminal_in}
+use Rattle.au_effects.specs.Calls.{elements_in, natural_in, index_in, untyped, given, of_none, of_one, of_two}
+use Rattle.au_effects.specs.Calls.{of_three, use_of, buffer_use, last_taken, element_copied, element_replaced}
+use Rattle.au_effects.specs.Calls.{buffer_ended, print_text, print_number, print_truth, span_length}
+use Rattle.au_effects.specs.Calls.{abort_call, surrender_root, release_terminal, swap_call, make_box}
+use Rattle.au_effects.specs.Calls.{unbox_call, box_get, destroy_empty, length_call, insert_back, remove_back}
+use Rattle.au_effects.specs.Calls.{nth_call, replace_nth, acquire_terminal, write_byte, read_byte, byte_read}
+use Rattle.au_effects.specs.Calls.{shipped}
 use Rattle.au_effects.specs.Numbers.{number_in, number_of, truth_in, text_in, number_bytes, truth_bytes}
 use Rattle.au_base.specs.declared.kinds.IntKind.TheVariants.{Nat8, Index}
 use Rattle.std.specs.Prelude.{◌-◌, length, pos, codes, slice_get}
@@ -18,7 +26,8 @@ use Rattle.au_syntax.specs.Plain.{Bytes}
 use Rattle.au_meaning.specs.Acts.{answered, heard, told, next_byte, other_bytes, shipped_by, operation, ships_call}
 use Rattle.au_meaning.specs.Laws.{Begins, Ends, Continues, left_in}
 use Rattle.au_meaning.specs.Worlds.{Value, Event, Fault, Store, World}
-use Rattle.au_meaning.proofs.Growing.{begins_refl, begins_trans, continues_refl, continues_trans, world_in, More, Grows, grows_comes}
+use Rattle.au_meaning.proofs.Growing.{begins_refl, begins_trans, continues_refl, continues_trans, world_in}
+use Rattle.au_meaning.proofs.Growing.{More, Grows, grows_comes}
 
 -- ---- stores
 

@@ -3,17 +3,24 @@ use Rattle.std.proofs.Common.{ℕ, Bool, true, false, List, [], ◌∷◌, Optio
 use Rattle.au_base.specs.declared.kinds.IntKind.{IntKind}
 use Rattle.au_effects.specs.Numbers.{computed, compared, negated}
 use Rattle.au_ints.specs.Ranges.{is_of_kind}
-use Rattle.au_syntax.specs.Expressions.{Expression, Expressions, Arguments, number, negative, text, truth, nil, path, arrow, call, named_call, parenthesized, dereference, borrow, borrow_part, binary, negation, typed, choice, no_expressions, expressions, no_arguments, arguments}
+use Rattle.au_syntax.specs.Expressions.{Expression, Expressions, Arguments, number, negative, text, truth}
+use Rattle.au_syntax.specs.Expressions.{nil, path, arrow, call, named_call, parenthesized, dereference}
+use Rattle.au_syntax.specs.Expressions.{borrow, borrow_part, binary, negation, typed, choice, no_expressions}
+use Rattle.au_syntax.specs.Expressions.{expressions, no_arguments, arguments}
 use Rattle.au_syntax.specs.Plain.{Bytes}
 use Rattle.au_meaning.specs.Acts.{by_position, by_labels}
-use Rattle.au_meaning.specs.Expressions.{Operation, computes, compares, is_and, is_or, operation_of, kind_in, compared_kind, note_of, names_of, labels, labelled, literal, copies, mentions, looks_into, operates, acts, calls, joins, eval, eval_all, eval_named}
+use Rattle.au_meaning.specs.Expressions.{Operation, computes, compares, is_and, is_or, operation_of, kind_in}
+use Rattle.au_meaning.specs.Expressions.{compared_kind, note_of, names_of, labels, labelled, literal, copies}
+use Rattle.au_meaning.specs.Expressions.{mentions, looks_into, operates, acts, calls, joins, eval, eval_all}
+use Rattle.au_meaning.specs.Expressions.{eval_named}
 use Rattle.au_meaning.specs.Names.{Scope, Variable, variable_of, path_numbers}
 use Rattle.au_meaning.specs.Ticks.{Action}
 use Rattle.au_meaning.specs.Views.{View, Callee, Act, invokes, makes, ships}
 use Rattle.au_meaning.specs.Worlds.{Value}
 use Rattle.au_meaning.proofs.ActGrowth.{looks_grows, moves_grows, makes_grows}
 use Rattle.au_meaning.proofs.CallGrowth.{ships_grows}
-use Rattle.au_meaning.proofs.Growing.{Grows, grows_bind, grows_pure, grows_stuck, grows_tick, grows_needing, grows_where, grows_chosen, grows_comes}
+use Rattle.au_meaning.proofs.Growing.{Grows, grows_bind, grows_pure, grows_stuck, grows_tick, grows_needing}
+use Rattle.au_meaning.proofs.Growing.{grows_where, grows_chosen, grows_comes}
 
 literal_grows : (kind : Option IntKind) (z : ℤ) → Grows (literal kind z) (literal kind z)
 literal_grows kind z = grows_needing kind (λ one. grows_where (is_of_kind one z) grows_pure)

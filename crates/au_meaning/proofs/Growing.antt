@@ -1,6 +1,7 @@
 -- More ticks tell more of an action: this is said of two actions, of which the second goes deeper than the
 -- first, and holds of all that is joined of such actions.
-use Rattle.std.proofs.Common.{◌≡◌, ℕ, zero, suc, ◌+◌, ◌≤◌, Bool, true, false, List, [], ◌++◌, Option, Some, None, refl, sym, ap, subst, ◌∙◌, append_assoc, append-nil, if◌then◌else◌}
+use Rattle.std.proofs.Common.{◌≡◌, ℕ, zero, suc, ◌+◌, ◌≤◌, Bool, true, false, List, [], ◌++◌, Option, Some}
+use Rattle.std.proofs.Common.{None, refl, sym, ap, subst, ◌∙◌, append_assoc, append-nil, if◌then◌else◌}
 use Rattle.std.proofs.Math.Nat.{le_refl, le_trans}
 use Rattle.std.proofs.Common.{arith}
 use Rattle.au_syntax.specs.Plain.{Bytes}
@@ -8,7 +9,9 @@ use Rattle.au_effects.specs.Answers as answer
 use Rattle.au_effects.specs.Numbers.{truth_in}
 use Rattle.au_meaning.specs.Expressions.{chosen}
 use Rattle.au_meaning.specs.Laws.{Begins, Ends, Continues, left_in}
-use Rattle.au_meaning.specs.Ticks.{Out, Action, gives, aborts, cut, no_rule, pure, stuck, over, follows, ◌>>=◌, ◌>>◌, ticked, tick, needing, where_true, by_truth, asks, does, found_in, takes, comes}
+use Rattle.au_meaning.specs.Ticks.{Out, Action, gives, aborts, cut, no_rule, pure, stuck, over, follows}
+use Rattle.au_meaning.specs.Ticks.{◌>>=◌, ◌>>◌, ticked, tick, needing, where_true, by_truth, asks, does}
+use Rattle.au_meaning.specs.Ticks.{found_in, takes, comes}
 use Rattle.au_meaning.specs.Worlds.{Value, World}
 
 -- ---- worlds

@@ -1,19 +1,23 @@
 -- Programs: a call that may go deeper, and what is seen of a run with more ticks.
 use Rattle.std.specs.Prelude.{codes}
-use Rattle.std.proofs.Common.{◌≡◌, ℕ, zero, suc, ◌+◌, ◌-◌, ◌==◌, ◌≤◌, true, List, [], ◌∷◌, length, Option, Some, None, refl, sym, ap, subst, ◌∙◌, arith}
+use Rattle.std.proofs.Common.{◌≡◌, ℕ, zero, suc, ◌+◌, ◌-◌, ◌==◌, ◌≤◌, true, List, [], ◌∷◌, length, Option}
+use Rattle.std.proofs.Common.{Some, None, refl, sym, ap, subst, ◌∙◌, arith}
 use Rattle.au_effects.specs.Values.{root}
 use Rattle.au_effects.specs.Worlds.{nothing}
 use Rattle.au_meaning.specs.Acts.{new_names}
 use Rattle.au_meaning.specs.Names.{names_in_block}
 use Rattle.au_meaning.specs.Laws.{Continues, MoreTicksTellMore, EndingsStay, TicksAreSpent, is_over}
-use Rattle.au_meaning.specs.Meanings.{scope_of, leaves_frame, enters, call_at, exit_in, seen, first_world, root_born, begun, parameters_of}
+use Rattle.au_meaning.specs.Meanings.{scope_of, leaves_frame, enters, call_at, exit_in, seen, first_world}
+use Rattle.au_meaning.specs.Meanings.{root_born, begun, parameters_of}
 use Rattle.au_meaning.specs.Statements.{Flow, falls, returns}
 use Rattle.au_meaning.specs.Ticks.{Out, Action, gives, aborts, cut, no_rule}
 use Rattle.au_meaning.specs.Views.{Field, Function}
 use Rattle.au_meaning.specs.Worlds.{Value, World, Ending, Outcome, abort, stuck}
 use Rattle.au_meaning.proofs.ActGrowth.{store_continues, begins_continues, ends_continues}
 use Rattle.au_meaning.proofs.CallGrowth.{kept_bears}
-use Rattle.au_meaning.proofs.Growing.{world_in, continues_refl, proper_over, More, Grows, grows_bind, grows_then, grows_pure, grows_stuck, grows_over, grows_where, grows_does}
+use Rattle.au_meaning.proofs.Growing.{world_in, continues_refl, proper_over, More, Grows, grows_bind}
+use Rattle.au_meaning.proofs.Growing.{grows_then, grows_pure, grows_stuck, grows_over, grows_where}
+use Rattle.au_meaning.proofs.Growing.{grows_does}
 use Rattle.au_meaning.proofs.StatementGrowth.{block_grows}
 
 leaves_grows : (flow : Flow) → Grows (leaves_frame flow) (leaves_frame flow)

@@ -1,22 +1,33 @@
 -- Statements and blocks, where the second run may go deeper into calls and turns.
-use Rattle.std.proofs.Common.{ℕ, zero, suc, ◌+◌, ◌==◌, ◌≤◌, Bool, true, false, List, length, Option, Some, None, ℤ, pos, ◌+ℤ◌, int_lt, arith}
+use Rattle.std.proofs.Common.{ℕ, zero, suc, ◌+◌, ◌==◌, ◌≤◌, Bool, true, false, List, length, Option, Some}
+use Rattle.std.proofs.Common.{None, ℤ, pos, ◌+ℤ◌, int_lt, arith}
 use Rattle.au_base.specs.declared.kinds.IntKind.{IntKind}
 use Rattle.au_effects.specs.Numbers.{number_in, same_kind}
 use Rattle.au_effects.specs.Parts.{along}
 use Rattle.au_effects.specs.Values as values
 use Rattle.au_syntax.specs.Plain.{Bytes}
-use Rattle.au_syntax.specs.Statements.{Statement, Statements, Branches, Arms, skip, declare, destructure, assign, assign_through, conditional, conditional_else, case_of, while_loop, for_loop, borrow_in, borrow_typed, discard, return_of, no_statements, statements, no_branches, branches, no_arms, arms}
+use Rattle.au_syntax.specs.Statements.{Statement, Statements, Branches, Arms, skip, declare, destructure}
+use Rattle.au_syntax.specs.Statements.{assign, assign_through, conditional, conditional_else, case_of}
+use Rattle.au_syntax.specs.Statements.{while_loop, for_loop, borrow_in, borrow_typed, discard, return_of}
+use Rattle.au_syntax.specs.Statements.{no_statements, statements, no_branches, branches, no_arms, arms}
 use Rattle.au_syntax.specs.Types.{Bound}
 use Rattle.au_meaning.specs.Acts.{bound_counted}
 use Rattle.au_meaning.specs.Expressions.{names_of, note_of}
-use Rattle.au_meaning.specs.Names.{Scope, Variable, variable_of, with_bound, path_numbers, names_in, names_in_block, names_in_tests}
-use Rattle.au_meaning.specs.Statements.{Flow, falls, returns, and_then, leaves, within, while_turns, for_turns, both_numbers, ranges, either, binds_fields, fields_noted, means_case, after, with_counter, assigns, takes_apart, run, run_all, run_tests, run_arms, run_block}
+use Rattle.au_meaning.specs.Names.{Scope, Variable, variable_of, with_bound, path_numbers, names_in}
+use Rattle.au_meaning.specs.Names.{names_in_block, names_in_tests}
+use Rattle.au_meaning.specs.Statements.{Flow, falls, returns, and_then, leaves, within, while_turns}
+use Rattle.au_meaning.specs.Statements.{for_turns, both_numbers, ranges, either, binds_fields, fields_noted}
+use Rattle.au_meaning.specs.Statements.{means_case, after, with_counter, assigns, takes_apart, run, run_all}
+use Rattle.au_meaning.specs.Statements.{run_tests, run_arms, run_block}
 use Rattle.au_meaning.specs.Ticks.{Action}
 use Rattle.au_meaning.specs.Views.{Field, View}
 use Rattle.au_meaning.specs.Worlds.{Value}
 use Rattle.au_meaning.proofs.ActGrowth.{values_continue, emptied_continues, holds_grows, sets_grows, apart_grows}
 use Rattle.au_meaning.proofs.ExpressionGrowth.{eval_grows}
-use Rattle.au_meaning.proofs.Growing.{Proper, proper_bind, proper_pure, proper_over, proper_tick, proper_chosen, proper_if, Grows, grows_bind, grows_then, grows_pure, grows_stuck, grows_over, grows_tick, grows_needing, grows_where, grows_chosen, grows_if, grows_does}
+use Rattle.au_meaning.proofs.Growing.{Proper, proper_bind, proper_pure, proper_over, proper_tick}
+use Rattle.au_meaning.proofs.Growing.{proper_chosen, proper_if, Grows, grows_bind, grows_then, grows_pure}
+use Rattle.au_meaning.proofs.Growing.{grows_stuck, grows_over, grows_tick, grows_needing, grows_where}
+use Rattle.au_meaning.proofs.Growing.{grows_chosen, grows_if, grows_does}
 
 and_grows : {m m2 : Action Flow} (flow : Flow) → Grows m m2 → Grows (and_then m flow) (and_then m2 flow)
 and_grows falls g = g

@@ -1,5 +1,7 @@
 -- Numbers that no kind of integers has.
-use Rattle.std.proofs.Common.{arith, ◌<◌, zero, suc, subst, sym, FitsSigned, of_z, ◌≡◌, ◌-◌, ◌^◌, ℤ, pos, negsuc, neg_ℤ, ◌-ℤ◌, Bool, true, false, Some, None, is_some, if◌then◌else◌, Ok, refl, ap, ◌∙◌}
+use Rattle.std.proofs.Common.{arith, ◌<◌, zero, suc, subst, sym, FitsSigned, of_z, ◌≡◌, ◌-◌, ◌^◌, ℤ, pos}
+use Rattle.std.proofs.Common.{negsuc, neg_ℤ, ◌-ℤ◌, Bool, true, false, Some, None, is_some, if◌then◌else◌, Ok}
+use Rattle.std.proofs.Common.{refl, ap, ◌∙◌}
 use lib.IntN.{+ℤ_idl}
 use mir.Syntax.{w128}
 use Rattle.au_base.specs.declared.kinds.IntKind.{IntKind}
@@ -24,10 +26,12 @@ out_of_each kinds.Int64 = refl
 out_of_each kinds.Index = refl
 
 -- the notes of literals with two numbers that no kind has are those of either
-pub out_of_all : (mode : Mode) (value : ℤ) → value ≡ negsuc (2 ^ 127 - 1) → literal_note mode (neg_ℤ value) ≡ literal_note mode (pos (2 ^ 127 - 1))
+pub out_of_all : (mode : Mode) (value : ℤ) → value ≡ negsuc (2 ^ 127 - 1) → literal_note mode (neg_ℤ value)
+    ≡ literal_note mode (pos (2 ^ 127 - 1))
 out_of_all mode value least =
     ap (λ z. literal_note mode (neg_ℤ z)) least
-    ∙ ap (λ b. noted mode (integer (literal_kind mode)) >>= λ n. check b (shape (range_wanted (literal_kind mode))) (Ok n)) (out_of_each (literal_kind mode))
+    ∙ ap (λ b. noted mode (integer (literal_kind mode)) >>=
+    λ n. check b (shape (range_wanted (literal_kind mode))) (Ok n)) (out_of_each (literal_kind mode))
 
 pub zero_minus : (value : ℤ) → pos 0 -ℤ value ≡ neg_ℤ value
 zero_minus value = +ℤ_idl (neg_ℤ value)
@@ -41,7 +45,8 @@ unfolding converted
 is_converted kind z = is_some_if (is_of_kind kind z) z
 
 -- the negative of a number of 128 bits that isn't the least is one
-negative_fits : (v : ℤ) → FitsSigned w128 v → (of_z w128 v ≡ 170141183460469231731687303715884105728 → ⊥) → FitsSigned w128 (neg_ℤ v)
+negative_fits : (v : ℤ) → FitsSigned w128 v → (of_z w128 v ≡ 170141183460469231731687303715884105728 → ⊥) →
+    FitsSigned w128 (neg_ℤ v)
 negative_fits (pos zero) fits other = record { sfits = omega arith }
 negative_fits (pos (suc n)) fits other =
     let small : suc n < 170141183460469231731687303715884105728 = fits.sfits in
@@ -49,9 +54,11 @@ negative_fits (pos (suc n)) fits other =
     record { sfits = less }
 negative_fits (negsuc n) fits other =
     let small : n < 170141183460469231731687303715884105728 = fits.sfits in
-    let apart : (340282366920938463463374607431768211456 - suc n ≡ 170141183460469231731687303715884105728) → ⊥ = other in
+    let apart : (340282366920938463463374607431768211456 - suc n ≡ 170141183460469231731687303715884105728) →
+    ⊥ = other in
     let less : suc n < 170141183460469231731687303715884105728 = omega (arith, small, apart) in
     record { sfits = less }
 
-pub minus_fits : (v : ℤ) → FitsSigned w128 v → (of_z w128 v ≡ 170141183460469231731687303715884105728 → ⊥) → FitsSigned w128 (pos 0 -ℤ v)
+pub minus_fits : (v : ℤ) → FitsSigned w128 v → (of_z w128 v ≡ 170141183460469231731687303715884105728 → ⊥) →
+    FitsSigned w128 (pos 0 -ℤ v)
 minus_fits v fits other = subst (FitsSigned w128) (sym (zero_minus v)) (negative_fits v fits other)

@@ -1,5 +1,6 @@
 -- One step of each walk over parameters.
-use Rattle.std.proofs.Common.{◌≡◌, ℕ, ◌+◌, drop, slice_get, List, ◌∷◌, ◌++◌, Option, None, Some, option_to_list, if◌then◌else◌, refl, ◌∙◌}
+use Rattle.std.proofs.Common.{◌≡◌, ℕ, ◌+◌, drop, slice_get, List, ◌∷◌, ◌++◌, Option, None, Some}
+use Rattle.std.proofs.Common.{option_to_list, if◌then◌else◌, refl, ◌∙◌}
 use Rattle.au_types.specs.declared.parameters.Parameter.{Parameter}
 use Rattle.au_types.specs.Types.{Argument, Meaning, of_type, in_region}
 use Rattle.au_matching.specs.Bindings.{Bindings, value_of}
@@ -12,8 +13,11 @@ pub left_step : (s : Bindings) (ps : List Parameter) (i : ℕ) (p : Parameter) �
     first_left s (drop i ps) ≡ (if is_given s p then first_left s (drop (i + 1) ps) else Some p.name)
 left_step s ps i p is = walked (first_left s) ps i p is
 
-pub misfit_step : (scope : Scope) (s : Bindings) (ps : List Parameter) (i : ℕ) (p : Parameter) → slice_get ps i ≡ Some p →
-    first_misfit scope s (drop i ps) ≡ (if value_fits scope p.universe (value_of p.name s) then first_misfit scope s (drop (i + 1) ps) else Some p)
+pub misfit_step : (scope : Scope) (s : Bindings) (ps : List Parameter) (i : ℕ) (p : Parameter) →
+    slice_get ps i ≡ Some p →
+    first_misfit scope s (drop i ps)
+    ≡ (if value_fits scope p.universe (value_of p.name s) then first_misfit scope s (drop (i + 1) ps) else
+    Some p)
 misfit_step scope s ps i p is = walked (first_misfit scope s) ps i p is
 
 values_of_one : (s : Bindings) (p : Parameter) (rest : List Parameter) (v : Option Argument) → value_of p.name s ≡ v →
@@ -24,4 +28,5 @@ values_of_one s p rest (Some (in_region r)) e = rw e
 
 pub values_step : (s : Bindings) (ps : List Parameter) (i : ℕ) (p : Parameter) → slice_get ps i ≡ Some p →
     type_values s (drop i ps) ≡ option_to_list (type_in (value_of p.name s)) ++ type_values s (drop (i + 1) ps)
-values_step s ps i p is = walked (type_values s) ps i p is ∙ values_of_one s p (drop (i + 1) ps) (value_of p.name s) refl
+values_step s ps i p is = walked (type_values s) ps i p is ∙ values_of_one s p (drop (i + 1) ps)
+    (value_of p.name s) refl

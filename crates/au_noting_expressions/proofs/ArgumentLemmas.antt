@@ -1,5 +1,7 @@
 -- The arguments of a call as a list, and a call in three steps.
-use Rattle.std.proofs.Common.{◌≡◌, ◌==◌, ℕ, suc, List, [], ◌∷◌, Bool, true, false, Option, Some, None, Ok, Err, refl, sym, ap, subst, ◌∙◌, length, map, option_map, option_and_then, if◌then◌else◌, Result, IfOk, Vec}
+use Rattle.std.proofs.Common.{◌≡◌, ◌==◌, ℕ, suc, List, [], ◌∷◌, Bool, true, false, Option, Some, None, Ok}
+use Rattle.std.proofs.Common.{Err, refl, sym, ap, subst, ◌∙◌, length, map, option_map, option_and_then}
+use Rattle.std.proofs.Common.{if◌then◌else◌, Result, IfOk, Vec}
 use Rattle.std.specs.Borrow.{Bor}
 use Rattle.std.specs.Global.{Global}
 use borrow.Author.Tests.{eqb-true}
@@ -10,7 +12,8 @@ use Rattle.au_noting.specs.Giving.{Gives, Stops}
 use Rattle.au_noting.specs.Said.{meanings}
 use Rattle.au_noting_expressions.specs.declared.noted_operands.Operands as code
 use Rattle.au_noting_expressions.specs.declared.noted_operands.Operands.TheVariants as form
-use Rattle.au_noting_expressions.specs.Arguments.{ReadArgument, ReadCode, each_operand, mistaken, operands_of, takes, value_of, values}
+use Rattle.au_noting_expressions.specs.Arguments.{ReadArgument, ReadCode, each_operand, mistaken, operands_of}
+use Rattle.au_noting_expressions.specs.Arguments.{takes, value_of, values}
 use Rattle.au_noting_expressions.specs.Passing.{both_passes, call_begun}
 use Rattle.au_noting_expressions.proofs.Steps.{gives_at, step_after, stops_at, stops_first}
 use Rattle.au_typing.specs.Scopes.{Callable, Scope, Typed}
@@ -44,12 +47,19 @@ module _ (scope : Scope) where
   operands_are : (es : List ReadCode) → operands scope (expression_all parsed es) ≡ each_operand scope es
   operands_are [] = refl
   operands_are (e ∷ es) =
-      ap (λ (ops : List Operand). record { bare = is_bare (expression parsed e); noter = note_expression scope (expression parsed e) } ∷ ops) (operands_are es)
+      ap (λ (ops : List Operand). record
+      { bare = is_bare (expression parsed e); noter = note_expression scope (expression parsed e) } ∷ ops)
+      (operands_are es)
 
-  labelled_are : (args : List ReadArgument) → labelled_operands scope (argument_all parsed args) ≡ each_operand scope (map value_of args)
+  labelled_are : (args : List ReadArgument) → labelled_operands scope (argument_all parsed args)
+      ≡ each_operand scope (map value_of args)
   labelled_are [] = refl
   labelled_are (one ∷ args) =
-      ap (λ (ops : List Operand). record { bare = is_bare (expression parsed one.value); noter = note_expression scope (expression parsed one.value) } ∷ ops) (labelled_are args)
+      ap (λ (ops : List Operand). record {
+        bare = is_bare (expression parsed one.value);
+        noter =
+            note_expression scope (expression parsed one.value);
+      } ∷ ops) (labelled_are args)
 
   pub each_of : (ops : code.Operands) → operands_of scope ops ≡ each_operand scope (values ops)
   each_of (form.Positional args) = operands_are args.now.items
@@ -57,59 +67,78 @@ module _ (scope : Scope) where
 
 -- ---- there are as many types as arguments
 
-ordered : (b : Bool) (n : ℕ) (params : List Typed) (types : List Meaning) → (length params == n) ≡ b → (if b then Some (map (λ (one : Typed). one.of) params) else None) ≡ Some types → length types ≡ n
+ordered : (b : Bool) (n : ℕ) (params : List Typed) (types : List Meaning) → (length params == n) ≡ b →
+    (if b then Some (map (λ (one : Typed). one.of) params) else None) ≡ Some types → length types ≡ n
 ordered true n params types is h =
     let made : map (λ (one : Typed). one.of) params ≡ types = cc in
     sym (ap length made) ∙ (length-map params (λ (one : Typed). one.of) ∙ eqb-true (length params) n is)
 ordered false n params types is h = absurd cc
 
-one_more : (o : Option Meaning) (r : Option (List Meaning)) (n : ℕ) (types : List Meaning) → ((ts : List Meaning) → r ≡ Some ts → length ts ≡ n) →
-    option_and_then (λ (t : Meaning). option_map (λ (ts : List Meaning). t ∷ ts) r) o ≡ Some types → length types ≡ suc n
+one_more : (o : Option Meaning) (r : Option (List Meaning)) (n : ℕ) (types : List Meaning) →
+    ((ts : List Meaning) → r ≡ Some ts → length ts ≡ n) →
+    option_and_then (λ (t : Meaning). option_map (λ (ts : List Meaning). t ∷ ts) r) o ≡ Some types →
+    length types ≡ suc n
 one_more None r n types k h = absurd cc
 one_more (Some t) None n types k h = absurd cc
 one_more (Some t) (Some ts) n types k h =
     let made : t ∷ ts ≡ types = cc in
     sym (ap length made) ∙ ap suc (k ts refl)
 
-labelled_length : (labels : List Bytes) (params : List Typed) (types : List Meaning) → labelled_types labels params ≡ Some types → length types ≡ length labels
+labelled_length : (labels : List Bytes) (params : List Typed) (types : List Meaning) →
+    labelled_types labels params ≡ Some types → length types ≡ length labels
 labelled_length [] params types h =
     let none : [] ≡ types = cc in
     sym (ap length none)
 labelled_length (label ∷ labels) params types h =
-    one_more (type_of_name label params) (labelled_types labels params) (length labels) types (λ ts is. labelled_length labels params ts is) h
+    one_more (type_of_name label params) (labelled_types labels params) (length labels) types
+    (λ ts is. labelled_length labels params ts is) h
 
-where_named : (b : Bool) (r : Option (List Meaning)) (n : ℕ) (types : List Meaning) → ((ts : List Meaning) → r ≡ Some ts → length ts ≡ n) → (if b then r else None) ≡ Some types → length types ≡ n
+where_named : (b : Bool) (r : Option (List Meaning)) (n : ℕ) (types : List Meaning) →
+    ((ts : List Meaning) → r ≡ Some ts → length ts ≡ n) → (if b then r else None) ≡ Some types →
+    length types ≡ n
 where_named true r n types k h = k types h
 where_named false r n types k h = absurd cc
 
-takes_length : (ops : code.Operands) (params : List Typed) (types : List Meaning) → takes ops params ≡ Some types → length types ≡ length (values ops)
+takes_length : (ops : code.Operands) (params : List Typed) (types : List Meaning) →
+    takes ops params ≡ Some types → length types ≡ length (values ops)
 takes_length (form.Positional args) params types h =
-    ordered (length params == count_of (expression_all parsed args.now.items)) (count_of (expression_all parsed args.now.items)) params types refl h ∙ count_is args.now.items
+    ordered (length params == count_of (expression_all parsed args.now.items))
+    (count_of (expression_all parsed args.now.items)) params types refl h ∙ count_is args.now.items
 takes_length (form.Labelled args) params types h =
     let labels = labels_of (argument_all parsed args.now.items) in
-    where_named (each_is_named_once labels params) (labelled_types labels params) (length labels) types (λ ts is. labelled_length labels params ts is) h
+    where_named (each_is_named_once labels params) (labelled_types labels params) (length labels) types
+    (λ ts is. labelled_length labels params ts is) h
     ∙ (labels_are args.now.items ∙ sym (length-map args.now.items value_of))
 
-types_length : (ops : code.Operands) (params : List Typed) (r : Result (Vec Ty Global) told.Fault) → Gives (λ (types : Vec Ty Global). meanings types.items) r (known_or (mistaken ops params) (takes ops params)) → IfOk r (λ (types : Vec Ty Global). length types.items ≡ length (values ops))
+types_length : (ops : code.Operands) (params : List Typed) (r : Result (Vec Ty Global) told.Fault) →
+    Gives (λ (types : Vec Ty Global). meanings types.items) r
+    (known_or (mistaken ops params) (takes ops params)) →
+    IfOk r (λ (types : Vec Ty Global). length types.items ≡ length (values ops))
 types_length ops params (Ok types) h =
-    sym (length-map types.items meaning) ∙ takes_length ops params (meanings types.items) (known_ok (mistaken ops params) (takes ops params) (meanings types.items) h)
+    sym (length-map types.items meaning) ∙ takes_length ops params (meanings types.items)
+    (known_ok (mistaken ops params) (takes ops params) (meanings types.items) h)
 types_length ops params (Err e) h = tt
 
-pub ordered_types : (ops : code.Operands) (args : Bor (Vec ReadCode Global)) → ops ≡ form.Positional args → (n : ℕ) → n ≡ length args.now.items → (params : List Typed) →
+pub ordered_types : (ops : code.Operands) (args : Bor (Vec ReadCode Global)) → ops ≡ form.Positional args →
+    (n : ℕ) → n ≡ length args.now.items → (params : List Typed) →
     known_or (another_number params) (in_order n params) ≡ known_or (mistaken ops params) (takes ops params)
 ordered_types ops args is n n_is params =
     ap (λ (k : ℕ). known_or (another_number params) (in_order k params)) (n_is ∙ sym (count_is args.now.items))
     ∙ ap (λ (o : code.Operands). known_or (mistaken o params) (takes o params)) (sym is)
 
-pub labelled_types_length : (ops : code.Operands) (args : Bor (Vec ReadArgument Global)) → ops ≡ form.Labelled args → (xs : List ReadArgument) → xs ≡ args.now.items → (params : List Typed) (r : Result (Vec Ty Global) told.Fault) →
-    Gives (λ (types : Vec Ty Global). meanings types.items) r (known_or (other_labels params) (by_labels (labels_of (argument_all parsed xs)) params)) →
+pub labelled_types_length : (ops : code.Operands) (args : Bor (Vec ReadArgument Global)) →
+    ops ≡ form.Labelled args → (xs : List ReadArgument) → xs ≡ args.now.items →
+    (params : List Typed) (r : Result (Vec Ty Global) told.Fault) →
+    Gives (λ (types : Vec Ty Global). meanings types.items) r
+    (known_or (other_labels params) (by_labels (labels_of (argument_all parsed xs)) params)) →
     IfOk r (λ (types : Vec Ty Global). length types.items ≡ length (values ops))
 labelled_types_length ops args is xs xs_is params r h =
     types_length ops params r
     (gives_at (λ (types : Vec Ty Global). meanings types.items) r
     (known_or (other_labels params) (by_labels (labels_of (argument_all parsed xs)) params))
     (known_or (mistaken ops params) (takes ops params))
-    (ap (λ (l : List ReadArgument). known_or (other_labels params) (by_labels (labels_of (argument_all parsed l)) params)) xs_is
+    (ap (λ (l : List ReadArgument). known_or (other_labels params)
+    (by_labels (labels_of (argument_all parsed l)) params)) xs_is
     ∙ ap (λ (o : code.Operands). known_or (mistaken o params) (takes o params)) (sym is))
     h)
 
@@ -120,19 +149,23 @@ module _ (scope : Scope) (mode : Mode) (ops : List Operand) where
   goes_on b = both_passes ops b.1 b.2 >>= with_arguments scope mode b.0
 
   begins : (called : Callable) (types : List Meaning) (r : Noting Bindings) →
-      (r >>= λ s. first ops types s >>= λ halves. second ops halves.0 types halves.1 >>= with_arguments scope mode called)
+      (r >>= λ s. first ops types s >>= λ halves. second ops halves.0 types halves.1 >>=
+      with_arguments scope mode called)
       ≡ ((r >>= λ s. Ok (called, types, s)) >>= goes_on)
-  begins called types (Ok s) = step_after (first ops types s) (λ halves. second ops halves.0 types halves.1) (with_arguments scope mode called)
+  begins called types (Ok s) = step_after (first ops types s) (λ halves. second ops halves.0 types halves.1)
+      (with_arguments scope mode called)
   begins called types (Err e) = refl
 
   typed_so : (called : Callable) (r : Noting (List Meaning)) (begun : Noting Bindings) →
-      (r >>= λ types. begun >>= λ s. first ops types s >>= λ halves. second ops halves.0 types halves.1 >>= with_arguments scope mode called)
+      (r >>= λ types. begun >>= λ s. first ops types s >>= λ halves. second ops halves.0 types halves.1 >>=
+      with_arguments scope mode called)
       ≡ ((r >>= λ types. begun >>= λ s. Ok (called, types, s)) >>= goes_on)
   typed_so called (Ok types) begun = begins called types begun
   typed_so called (Err e) begun = refl
 
   in_parts : (r : Noting Callable) (typed : Callable → Noting (List Meaning)) (begun : Callable → Noting Bindings) →
-      (r >>= λ called. typed called >>= λ types. begun called >>= λ s. first ops types s >>= λ halves. second ops halves.0 types halves.1 >>= with_arguments scope mode called)
+      (r >>= λ called. typed called >>= λ types. begun called >>= λ s. first ops types s >>=
+      λ halves. second ops halves.0 types halves.1 >>= with_arguments scope mode called)
       ≡ ((r >>= λ called. typed called >>= λ types. begun called >>= λ s. Ok (called, types, s)) >>= goes_on)
   in_parts (Ok called) typed begun = typed_so called (typed called) (begun called)
   in_parts (Err e) typed begun = refl
@@ -162,22 +195,26 @@ module _ (scope : Scope) (mode : Mode) (ops : code.Operands) (name : Bytes) wher
       (sym (call_in_steps scope mode (operands_of scope ops) name (takes ops) (mistaken ops)))
       (stops_first f begins_as (goes_on scope mode (operands_of scope ops)) h)
 
-  after_begun : (called : Callable) (types : List Meaning) (s : Bindings) → begins_as ≡ Ok (called, types, s) → whole ≡ (passes types s >>= with_arguments scope mode called)
+  after_begun : (called : Callable) (types : List Meaning) (s : Bindings) →
+      begins_as ≡ Ok (called, types, s) → whole ≡ (passes types s >>= with_arguments scope mode called)
   after_begun called types s h =
       call_in_steps scope mode (operands_of scope ops) name (takes ops) (mistaken ops)
       ∙ (ap (λ (r : Noting (Callable × List Meaning × Bindings)). r >>= goes_on scope mode (operands_of scope ops)) h
       ∙ ap (λ (l : List Operand). both_passes l types s >>= with_arguments scope mode called) (each_of scope ops))
 
-  module _ (called : Callable) (all xs : List Ty) (s : Bindings) (begun_so : begins_as ≡ Ok (called, meanings all, s)) (same : xs ≡ all) where
+  module _ (called : Callable) (all xs : List Ty) (s : Bindings)
+      (begun_so : begins_as ≡ Ok (called, meanings all, s)) (same : xs ≡ all) where
     -- what stops the passes over its arguments stops it
     pub passes_stop : (f : told.Fault) → Stops f (passes (meanings xs) s) → Stops f whole
     passes_stop f h =
         stops_at f (passes (meanings all) s >>= with_arguments scope mode called) whole
         (sym (after_begun called (meanings all) s begun_so))
-        (stops_first f (passes (meanings all) s) (with_arguments scope mode called) (subst (λ (l : List Ty). Stops f (passes (meanings l) s)) same h))
+        (stops_first f (passes (meanings all) s) (with_arguments scope mode called)
+        (subst (λ (l : List Ty). Stops f (passes (meanings l) s)) same h))
 
     -- the rest of it is judged after them
-    pub passes_end : (args : List NotedExpression) (q : Bindings) → passes (meanings xs) s ≡ Ok (args, q) → with_arguments scope mode called (args, q) ≡ whole
+    pub passes_end : (args : List NotedExpression) (q : Bindings) → passes (meanings xs) s ≡ Ok (args, q) →
+        with_arguments scope mode called (args, q) ≡ whole
     passes_end args q h =
         sym (after_begun called (meanings all) s begun_so
         ∙ (ap (λ (l : List Ty). passes (meanings l) s >>= with_arguments scope mode called) (sym same)

@@ -7,7 +7,8 @@ use Rattle.au_typing.specs.Operands.{Noter}
 use Rattle.au_typing.specs.SearchCalls.{taken_bare}
 use Rattle.au_noting_expressions.specs.Bare.{is_parameter, taken_unfixed}
 
-pub unfixed_clause : (e : Noter) (p : Meaning) (s : Bindings) → taken_bare false e p s ≡ taken_unfixed (is_parameter p) e p s
+pub unfixed_clause : (e : Noter) (p : Meaning) (s : Bindings) → taken_bare false e p s
+    ≡ taken_unfixed (is_parameter p) e p s
 unfixed_clause e (mean.parameter name) s = refl
 unfixed_clause e mean.unit s = refl
 unfixed_clause e mean.truth s = refl

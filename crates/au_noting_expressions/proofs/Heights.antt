@@ -1,11 +1,15 @@
 -- How high expressions of the code are, which is what the recursion goes down by.
-use Rattle.std.proofs.Common.{◌≡◌, ℕ, zero, suc, ◌+◌, ◌<◌, ◌≤◌, List, [], ◌∷◌, Vec, ap, ◌∙◌, refl, arith, get_or, length, map, max}
+use Rattle.std.proofs.Common.{◌≡◌, ℕ, zero, suc, ◌+◌, ◌<◌, ◌≤◌, List, [], ◌∷◌, Vec, ap, ◌∙◌, refl, arith}
+use Rattle.std.proofs.Common.{get_or, length, map, max}
 use Rattle.std.specs.Global.{Global}
 use mathlib.Core.Former.{Count}
 use Rattle.au_syntax.specs.declared.names.Ident.{Ident}
 use Rattle.au_syntax.specs.declared.expressions.Site.{Site}
 use Rattle.au_syntax.specs.declared.expressions.Argument.{Argument}
-use Rattle.au_syntax.specs.declared.expressions.Expr.{Expr, Row_of-Expr, end_of-Expr, more_of-Expr, items-the_row-Expr, items_hidden-the_row-Expr-0, Row_of-Argument, end_of-Argument, more_of-Argument, items-the_row-Argument, items_hidden-the_row-Argument-1}
+use Rattle.au_syntax.specs.declared.expressions.Expr.{Expr, Row_of-Expr, end_of-Expr, more_of-Expr}
+use Rattle.au_syntax.specs.declared.expressions.Expr.{items-the_row-Expr, items_hidden-the_row-Expr-0}
+use Rattle.au_syntax.specs.declared.expressions.Expr.{Row_of-Argument, end_of-Argument, more_of-Argument}
+use Rattle.au_syntax.specs.declared.expressions.Expr.{items-the_row-Argument, items_hidden-the_row-Argument-1}
 use Rattle.au_syntax.specs.declared.expressions.Expr as code
 use Rattle.au_syntax.specs.declared.expressions.Expr.TheBlock.{hidden-the_row-Expr-0, hidden-the_row-Argument-1}
 
@@ -47,26 +51,38 @@ module _ {X N T C : Type 0} where
   abbrev pub value : Argument X N T C → Expr X N T C
   value one = one.value
 
-  row_height_is : (n : Count) (row : Row_of-Expr X N T C n) → row_height row ≡ highest (items-the_row-Expr X N T C n row)
+  row_height_is : (n : Count) (row : Row_of-Expr X N T C n) →
+      row_height row ≡ highest (items-the_row-Expr X N T C n row)
   row_height_is n end_of-Expr = refl
   row_height_is n (more_of-Expr e rest) = ap (max (height e)) (row_height_is _ rest)
 
-  row_argument_height_is : (n : Count) (row : Row_of-Argument X N T C n) → row_argument_height row ≡ highest (map value (items-the_row-Argument X N T C n row))
+  row_argument_height_is : (n : Count) (row : Row_of-Argument X N T C n) → row_argument_height row
+      ≡ highest (map value (items-the_row-Argument X N T C n row))
   row_argument_height_is n end_of-Argument = refl
   row_argument_height_is n (more_of-Argument label e rest) = ap (max (height e)) (row_argument_height_is _ rest)
 
   -- a call is higher than its arguments
-  pub height_call : (e : Expr X N T C) (s : Site X N T C) (n : Ident X N T C) (args : Vec (Expr X N T C) Global) (note : C) → e ≡ code.Call s n args note → height e ≡ 1 + highest args.items
-  height_call e s n args note is = ap height is ∙ ap (λ k. 1 + k) (row_height_is _ (hidden-the_row-Expr-0 X N T C args) ∙ ap highest (items_hidden-the_row-Expr-0 X N T C args))
+  pub height_call : (e : Expr X N T C) (s : Site X N T C) (n : Ident X N T C)
+      (args : Vec (Expr X N T C) Global) (note : C) → e ≡ code.Call s n args note →
+      height e ≡ 1 + highest args.items
+  height_call e s n args note is = ap height is
+      ∙ ap (λ k. 1 + k) (row_height_is _ (hidden-the_row-Expr-0 X N T C args)
+      ∙ ap highest (items_hidden-the_row-Expr-0 X N T C args))
 
-  pub height_named_call : (e : Expr X N T C) (s : Site X N T C) (n : Ident X N T C) (args : Vec (Argument X N T C) Global) (note : C) → e ≡ code.NamedCall s n args note → height e ≡ 1 + highest (map value args.items)
-  height_named_call e s n args note is = ap height is ∙ ap (λ k. 1 + k) (row_argument_height_is _ (hidden-the_row-Argument-1 X N T C args) ∙ ap (λ rows. highest (map value rows)) (items_hidden-the_row-Argument-1 X N T C args))
+  pub height_named_call : (e : Expr X N T C) (s : Site X N T C) (n : Ident X N T C)
+      (args : Vec (Argument X N T C) Global) (note : C) → e ≡ code.NamedCall s n args note →
+      height e ≡ 1 + highest (map value args.items)
+  height_named_call e s n args note is = ap height is
+      ∙ ap (λ k. 1 + k) (row_argument_height_is _ (hidden-the_row-Argument-1 X N T C args)
+      ∙ ap (λ rows. highest (map value rows)) (items_hidden-the_row-Argument-1 X N T C args))
 
-  height_at : (es : List (Expr X N T C)) (i : ℕ) (d : Expr X N T C) → i < length es → height (get_or es i d) ≤ highest es
+  height_at : (es : List (Expr X N T C)) (i : ℕ) (d : Expr X N T C) → i < length es → height (get_or es i d)
+      ≤ highest es
   height_at [] i d h = absurd (omega (arith, h))
   height_at (e ∷ es) zero d h = omega arith
   height_at (e ∷ es) (suc i) d h = omega (arith, height_at es i d (omega (arith, h)))
 
   -- an item is no higher than the highest
-  pub item_height : (es : List (Expr X N T C)) (i : ℕ) (e : Expr X N T C) → i < length es → e ≡ get_or es i e → height e ≤ highest es
+  pub item_height : (es : List (Expr X N T C)) (i : ℕ) (e : Expr X N T C) → i < length es →
+      e ≡ get_or es i e → height e ≤ highest es
   item_height es i e h is = omega (arith, ap height is, height_at es i e h)

@@ -12,8 +12,10 @@ stops_more (fault.Limit passed) one g is = rw is refl
 stops_more fault.Memory one g is = tt
 
 -- a step behind one that gives something
-pub stops_behind : {X A B D : Type 0} (view : X → D) (result : Result X told.Fault) (e : told.Fault) (found : Noting A) (x : A) (f : A → Noting B) (g : B → Noting D) →
-    (y : told.Fault) × (result ≡ Err y) × (y ≡ e) → found ≡ Ok x → Stops e (f x) → Gives view result (found >>= λ a. f a >>= g)
+pub stops_behind : {X A B D : Type 0} (view : X → D) (result : Result X told.Fault) (e : told.Fault)
+    (found : Noting A) (x : A) (f : A → Noting B) (g : B → Noting D) →
+    (y : told.Fault) × (result ≡ Err y) × (y ≡ e) → found ≡ Ok x → Stops e (f x) →
+    Gives view result (found >>= λ a. f a >>= g)
 stops_behind {X = X} view result e found x f g is gives stops =
     subst (λ (r : Result X told.Fault). Gives view r (found >>= λ a. f a >>= g)) (sym is.1)
     (subst (λ (y : told.Fault). Stops y (found >>= λ a. f a >>= g)) (sym is.2)

@@ -1,5 +1,6 @@
 -- Lists that are judged item by item, in order.
-use Rattle.std.proofs.Common.{◌≡◌, ℕ, ◌+◌, ◌<◌, List, [], ◌∷◌, ◌++◌, length, map, drop, get_or, Result, Ok, Err, refl, sym, ap, subst, ◌∙◌}
+use Rattle.std.proofs.Common.{◌≡◌, ℕ, ◌+◌, ◌<◌, List, [], ◌∷◌, ◌++◌, length, map, drop, get_or, Result, Ok}
+use Rattle.std.proofs.Common.{Err, refl, sym, ap, subst, ◌∙◌}
 use Rattle.std.proofs.lemmas.List.{append_assoc, drop_more, map-append}
 use Rattle.au_typing.specs.DerivationFaults.{Judged, StatementFault, ◌then◌, refused, too_large}
 use Rattle.au_judgements.specs.declared.refusals.Refused.{Refused}
@@ -23,16 +24,19 @@ abbrev pub behind : {B : Type 0} → List B → Judged (List B) → Judged (List
 behind made rest = rest then λ all. Ok (made ++ all)
 
 module _ {B : Type 0} where
-  behind_more : (made : List B) (y : B) (rest : Judged (List B)) → behind made (followed (Ok y) rest) ≡ behind (made ++ y ∷ []) rest
+  behind_more : (made : List B) (y : B) (rest : Judged (List B)) → behind made (followed (Ok y) rest)
+      ≡ behind (made ++ y ∷ []) rest
   behind_more made y (Ok all) = ap Ok (sym (append_assoc made (y ∷ []) all))
   behind_more made y (Err fault) = refl
 
   -- one more is made
-  pub more : (made : List B) (first : Judged B) (y : B) (rest : Judged (List B)) → first ≡ Ok y → behind made (followed first rest) ≡ behind (made ++ y ∷ []) rest
+  pub more : (made : List B) (first : Judged B) (y : B) (rest : Judged (List B)) → first ≡ Ok y →
+      behind made (followed first rest) ≡ behind (made ++ y ∷ []) rest
   more made first y rest is = ap (λ r. behind made (followed r rest)) is ∙ behind_more made y rest
 
   -- the next one stops
-  pub stops : (made : List B) (first : Judged B) (fault : StatementFault) (rest : Judged (List B)) → first ≡ Err fault → behind made (followed first rest) ≡ Err fault
+  pub stops : (made : List B) (first : Judged B) (fault : StatementFault) (rest : Judged (List B)) →
+      first ≡ Err fault → behind made (followed first rest) ≡ Err fault
   stops made first fault rest is = ap (λ r. behind made (followed r rest)) is
 
   -- nothing is made yet
@@ -41,7 +45,8 @@ module _ {B : Type 0} where
   begins (Err fault) = refl
 
 -- what is left of a list, at an item that is read
-pub at_item : {X : Type 0} (xs : List X) (i : ℕ) (x : X) → i < length xs → x ≡ get_or xs i x → drop i xs ≡ x ∷ drop (i + 1) xs
+pub at_item : {X : Type 0} (xs : List X) (i : ℕ) (x : X) → i < length xs → x ≡ get_or xs i x →
+    drop i xs ≡ x ∷ drop (i + 1) xs
 at_item xs i x within is = drop_more xs i x within ∙ ap (λ y. y ∷ drop (i + 1) xs) (sym is)
 
 -- items of the code, each seen
@@ -50,7 +55,8 @@ module _ {A B X Y : Type 0} (f : A → Judged B) (see : X → A) (seen : Y → B
   left xs = each f (map see xs)
 
   module _ (whole : Judged (List B)) (made : List Y) (xs : List X) (i : ℕ) where
-    pub loop_more : (x : X) (y : Y) → whole ≡ behind (map seen made) (left (drop i xs)) → i < length xs → x ≡ get_or xs i x → f (see x) ≡ Ok (seen y)
+    pub loop_more : (x : X) (y : Y) → whole ≡ behind (map seen made) (left (drop i xs)) → i < length xs →
+        x ≡ get_or xs i x → f (see x) ≡ Ok (seen y)
         → whole ≡ behind (map seen (made ++ y ∷ [])) (left (drop (i + 1) xs))
     loop_more x y so_far within is judged =
         so_far
@@ -58,7 +64,8 @@ module _ {A B X Y : Type 0} (f : A → Judged B) (see : X → A) (seen : Y → B
         ∙ more (map seen made) (f (see x)) (seen y) (left (drop (i + 1) xs)) judged
         ∙ ap (λ all. behind all (left (drop (i + 1) xs))) (sym (map-append seen made (y ∷ [])))
 
-    pub loop_stops : (x : X) (fault : StatementFault) → whole ≡ behind (map seen made) (left (drop i xs)) → i < length xs → x ≡ get_or xs i x → f (see x) ≡ Err fault
+    pub loop_stops : (x : X) (fault : StatementFault) → whole ≡ behind (map seen made) (left (drop i xs)) →
+        i < length xs → x ≡ get_or xs i x → f (see x) ≡ Err fault
         → whole ≡ Err fault
     loop_stops x fault so_far within is judged =
         so_far
@@ -66,15 +73,18 @@ module _ {A B X Y : Type 0} (f : A → Judged B) (see : X → A) (seen : Y → B
         ∙ stops (map seen made) (f (see x)) fault (left (drop (i + 1) xs)) judged
 
 -- What a call is refused for is that for which the search refuses the whole.
-pub refuses_whole : {A B : Type 0} (e : Refused) (part : Judged A) (whole : Judged B) → ((fault : StatementFault) → part ≡ Err fault → whole ≡ Err fault) → Refuses e part → Refuses e whole
+pub refuses_whole : {A B : Type 0} (e : Refused) (part : Judged A) (whole : Judged B) →
+    ((fault : StatementFault) → part ≡ Err fault → whole ≡ Err fault) → Refuses e part → Refuses e whole
 refuses_whole (told.Statement at cause) part whole h r = h (refused at (cause_said cause)) r
 refuses_whole (told.Limit passed) part whole h r = h (too_large passed) r
 refuses_whole told.Memory part whole h r = tt
 
 -- what a call hands on that it was refused for
-pub judged_err : {X A : Type 0} (view : X → A) (r : Result X Refused) (e : Refused) (whole : Judged A) → (y : Refused) × (r ≡ Err y) × (y ≡ e) → Refuses e whole → Judges view r whole
+pub judged_err : {X A : Type 0} (view : X → A) (r : Result X Refused) (e : Refused) (whole : Judged A) →
+    (y : Refused) × (r ≡ Err y) × (y ≡ e) → Refuses e whole → Judges view r whole
 judged_err view r e whole p h = subst (λ q. Judges view q whole) (sym p.1) (subst (λ y. Refuses y whole) (sym p.2) h)
 
 -- what a call hands on that stopped it
-pub given_err : {X A : Type 0} (view : X → A) (r : Result X Fault) (e : Fault) (whole : Noting A) → (y : Fault) × (r ≡ Err y) × (y ≡ e) → Stops e whole → Gives view r whole
+pub given_err : {X A : Type 0} (view : X → A) (r : Result X Fault) (e : Fault) (whole : Noting A) →
+    (y : Fault) × (r ≡ Err y) × (y ≡ e) → Stops e whole → Gives view r whole
 given_err view r e whole p h = subst (λ q. Gives view q whole) (sym p.1) (subst (λ y. Stops y whole) (sym p.2) h)

@@ -18,21 +18,26 @@ use Rattle.au_noting_programs.proofs.AcceptedLemmas.{good_accepted, refused_for}
 
 -- ---- what is found
 
-pub found_derived : (program : List ModuleParts) (noted : List NotedParts) → noting_of program ≡ Ok noted → IsDerived program noted
+pub found_derived : (program : List ModuleParts) (noted : List NotedParts) → noting_of program ≡ Ok noted →
+    IsDerived program noted
 found_derived program noted h = program_sound (outside_of program) program noted h
 
 -- ---- what is told
 
-told_of : (program : List ModuleParts) (found : StatementFault) (e : TypeFault) → noting_of program ≡ Err found → (e ≡ fault.Memory) ⊎ (e ≡ fault_told program found) → (e ≡ fault.Memory) ⊎ (type_fault program ≡ Some e)
+told_of : (program : List ModuleParts) (found : StatementFault) (e : TypeFault) →
+    noting_of program ≡ Err found → (e ≡ fault.Memory) ⊎ (e ≡ fault_told program found) → (e ≡ fault.Memory)
+    ⊎ (type_fault program ≡ Some e)
 told_of program found e h (inl none) = inl none
 told_of program found e h (inr is) = inr (refused_for program found h ∙ ap Some (sym is))
 
-pub told_refused : (program : List ModuleParts) (one : Refused) (e : TypeFault) → Refuses one (noting_of program) → IsTold program one e → (e ≡ fault.Memory) ⊎ (type_fault program ≡ Some e)
+pub told_refused : (program : List ModuleParts) (one : Refused) (e : TypeFault) →
+    Refuses one (noting_of program) → IsTold program one e → (e ≡ fault.Memory) ⊎ (type_fault program ≡ Some e)
 told_refused program (code.Statement at cause) e h is = told_of program (refused at (cause_said cause)) e h is
 told_refused program (code.Limit passed) e h is = told_of program (too_large passed) e h is
 told_refused program code.Memory e h is = inl is
 
 -- what has a derivation isn't refused
-pub told_only : (program : List ModuleParts) (noted : List NotedParts) (e : TypeFault) → IsDerived program noted → (e ≡ fault.Memory) ⊎ (type_fault program ≡ Some e) → e ≡ fault.Memory
+pub told_only : (program : List ModuleParts) (noted : List NotedParts) (e : TypeFault) →
+    IsDerived program noted → (e ≡ fault.Memory) ⊎ (type_fault program ≡ Some e) → e ≡ fault.Memory
 told_only program noted e g (inl none) = none
 told_only program noted e g (inr is) = absurd (none-some e (sym (good_accepted program (noted, g)) ∙ is))

@@ -21,16 +21,22 @@ abbrev pub with_number : FileTree → NotedModule → NotedEntry
 with_number f tree = record { file = f.file; tree = tree }
 
 -- what a file says is noted as what its tree says
-entry_noted : (outside : Outside) (f : FileTree) → note_entry outside (entry f) ≡ (note_tree outside (module_tree parsed f.tree.tree) then λ tree. Ok (with_number f tree))
+entry_noted : (outside : Outside) (f : FileTree) → note_entry outside (entry f)
+    ≡ (note_tree outside (module_tree parsed f.tree.tree) then λ tree. Ok (with_number f tree))
 entry_noted outside f =
     ap (λ tree. note_entry outside (numbered f tree)) (module_kept (module_tree parsed f.tree.tree))
     ∙ by (note_declarations outside (module_tree parsed f.tree.tree).declarations)
   where
     by : (r : Judged (List NotedDeclaration))
-        → (r then λ ds. Ok (noted_entry (numbered f (module_tree parsed f.tree.tree)) ds)) ≡ ((r then λ ds. Ok (tree_with (module_tree parsed f.tree.tree) ds)) then λ tree. Ok (with_number f tree))
+        → (r then λ ds. Ok (noted_entry (numbered f (module_tree parsed f.tree.tree)) ds))
+        ≡ ((r then λ ds. Ok (tree_with (module_tree parsed f.tree.tree) ds)) then λ tree. Ok
+        (with_number f tree))
     by (Ok ds) = refl
     by (Err fault) = refl
 
 -- the same, by what is read of it
-pub read_noted : (outside : Outside) (f : FileTree) (said : PlainModule) → said ≡ module_tree parsed f.tree.tree → note_entry outside (entry f) ≡ (note_tree outside said then λ tree. Ok (with_number f tree))
-read_noted outside f said is = entry_noted outside f ∙ ap (λ tree. note_tree outside tree then λ noted. Ok (with_number f noted)) (sym is)
+pub read_noted : (outside : Outside) (f : FileTree) (said : PlainModule) →
+    said ≡ module_tree parsed f.tree.tree → note_entry outside (entry f)
+    ≡ (note_tree outside said then λ tree. Ok (with_number f tree))
+read_noted outside f said is = entry_noted outside f
+    ∙ ap (λ tree. note_tree outside tree then λ noted. Ok (with_number f noted)) (sym is)

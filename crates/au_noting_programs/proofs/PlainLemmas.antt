@@ -2,12 +2,25 @@
 use Rattle.std.proofs.Common.{◌≡◌, List, [], ◌∷◌, map, refl, ap}
 use Rattle.std.specs.Prelude.{Option, Some, None}
 use Rattle.std.specs.Option.{option_map}
-use Rattle.au_syntax.specs.Expressions.{path, arrow, call, named_call, parenthesized, dereference, borrow_part, binary, negation, typed, choice, no_expressions, expressions, no_arguments, arguments}
-use Rattle.au_syntax.specs.Modules.{Constrained, Header, Importing, Variant, constant, opaque_type, record_type, union_type, function, class, instance, constant_body, function_body, instance_body}
+use Rattle.au_syntax.specs.Expressions.{path, arrow, call, named_call, parenthesized, dereference}
+use Rattle.au_syntax.specs.Expressions.{borrow_part, binary, negation, typed, choice, no_expressions}
+use Rattle.au_syntax.specs.Expressions.{expressions, no_arguments, arguments}
+use Rattle.au_syntax.specs.Modules.{Constrained, Header, Importing, Variant, constant, opaque_type}
+use Rattle.au_syntax.specs.Modules.{record_type, union_type, function, class, instance, constant_body}
+use Rattle.au_syntax.specs.Modules.{function_body, instance_body}
 use Rattle.au_syntax.specs.Names.{Placed, Renaming}
-use Rattle.au_syntax.specs.Plain.{Bytes, PlainArguments, PlainArms, PlainBranches, PlainDeclaration, PlainExpression, PlainExpressions, PlainMethod, PlainModule, PlainStatement, PlainStatements}
-use Rattle.au_syntax.specs.Plain.{plain_arguments, plain_arms, plain_bound, plain_branches, plain_constrained, plain_declaration, plain_expression, plain_expressions, plain_header, plain_importing, plain_in_universe, plain_labelled, plain_method, plain_module, plain_name, plain_renaming, plain_statement, plain_statements, plain_variant}
-use Rattle.au_syntax.specs.Statements.{skip, declare, destructure, assign, assign_through, conditional, conditional_else, case_of, while_loop, for_loop, borrow_in, borrow_typed, discard, return_of, no_statements, statements, no_branches, branches, no_arms, arms}
+use Rattle.au_syntax.specs.Plain.{Bytes, PlainArguments, PlainArms, PlainBranches, PlainDeclaration}
+use Rattle.au_syntax.specs.Plain.{PlainExpression, PlainExpressions, PlainMethod, PlainModule, PlainStatement}
+use Rattle.au_syntax.specs.Plain.{PlainStatements}
+use Rattle.au_syntax.specs.Plain.{plain_arguments, plain_arms, plain_bound, plain_branches, plain_constrained}
+use Rattle.au_syntax.specs.Plain.{plain_declaration, plain_expression, plain_expressions, plain_header}
+use Rattle.au_syntax.specs.Plain.{plain_importing, plain_in_universe, plain_labelled, plain_method}
+use Rattle.au_syntax.specs.Plain.{plain_module, plain_name, plain_renaming, plain_statement, plain_statements}
+use Rattle.au_syntax.specs.Plain.{plain_variant}
+use Rattle.au_syntax.specs.Statements.{skip, declare, destructure, assign, assign_through, conditional}
+use Rattle.au_syntax.specs.Statements.{conditional_else, case_of, while_loop, for_loop, borrow_in}
+use Rattle.au_syntax.specs.Statements.{borrow_typed, discard, return_of, no_statements, statements}
+use Rattle.au_syntax.specs.Statements.{no_branches, branches, no_arms, arms}
 use Rattle.au_syntax.specs.Types.{Bound, Labelled}
 
 -- names stay as they are
@@ -77,7 +90,8 @@ mutual
   statement_kept (case_of at e all) = λ i. case_of at (expression_kept e i) (arms_kept all i)
   statement_kept (while_loop at e b) = λ i. while_loop at (expression_kept e i) (block_kept b i)
   statement_kept (for_loop at n a z b) = λ i. for_loop at n (expression_kept a i) (expression_kept z i) (block_kept b i)
-  statement_kept (borrow_in at access x r region b stop) = ap (λ c. borrow_in at access x r region c stop) (block_kept b)
+  statement_kept (borrow_in at access x r region b stop) = ap (λ c. borrow_in at access x r region c stop)
+      (block_kept b)
   statement_kept (borrow_typed at r t mode x b stop) = ap (λ c. borrow_typed at r t mode x c stop) (block_kept b)
   statement_kept (discard at e) = ap (discard at) (expression_kept e)
   statement_kept (return_of at e) = ap (return_of at) (expression_kept e)
@@ -113,17 +127,21 @@ method_kept m = λ i. record { header = header_kept m.header i; body = block_kep
 
 declaration_kept : (d : PlainDeclaration) → plain_declaration same_name d ≡ d
 declaration_kept (constant at n t) = refl
-declaration_kept (opaque_type at n ps u) = ap (λ qs. opaque_type at n qs u) (as_is (plain_in_universe same_name) (λ p. refl) ps)
+declaration_kept (opaque_type at n ps u) =
+    ap (λ qs. opaque_type at n qs u) (as_is (plain_in_universe same_name) (λ p. refl) ps)
 declaration_kept (record_type at n ps u fields) =
     λ i. record_type at n (as_is (plain_in_universe same_name) (λ p. refl) ps i) u (labels_kept fields i)
 declaration_kept (union_type at n ps u cases) =
-    λ i. union_type at n (as_is (plain_in_universe same_name) (λ p. refl) ps i) u (as_is (plain_variant same_name) variant_kept cases i)
+    λ i. union_type at n (as_is (plain_in_universe same_name) (λ p. refl) ps i) u
+    (as_is (plain_variant same_name) variant_kept cases i)
 declaration_kept (function at gs h) = λ i. function at (generics_kept gs i) (header_kept h i)
 declaration_kept (class at n p hs) = ap (class at n p) (as_is (plain_header same_name) header_kept hs)
 declaration_kept (instance at gs n t) = ap (λ all. instance at all n t) (generics_kept gs)
 declaration_kept (constant_body at n t e) = ap (constant_body at n t) (expression_kept e)
-declaration_kept (function_body at gs h b stop) = λ i. function_body at (generics_kept gs i) (header_kept h i) (block_kept b i) stop
-declaration_kept (instance_body at gs n t ms) = λ i. instance_body at (generics_kept gs i) n t (as_is (plain_method same_name) method_kept ms i)
+declaration_kept (function_body at gs h b stop) = λ i. function_body at (generics_kept gs i) (header_kept h i)
+    (block_kept b i) stop
+declaration_kept (instance_body at gs n t ms) = λ i. instance_body at (generics_kept gs i) n t
+    (as_is (plain_method same_name) method_kept ms i)
 
 -- ---- a file
 

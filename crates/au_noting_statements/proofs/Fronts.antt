@@ -1,5 +1,6 @@
 -- Noted parts in front of what is still judged.
-use Rattle.std.proofs.Common.{◌≡◌, ◌++◌, ◌∷◌, ◌<◌, ◌+◌, [], ℕ, List, Err, Ok, Result, ap, subst, sym, ◌∙◌, drop, get_or, length, map, refl}
+use Rattle.std.proofs.Common.{◌≡◌, ◌++◌, ◌∷◌, ◌<◌, ◌+◌, [], ℕ, List, Err, Ok, Result, ap, subst, sym, ◌∙◌}
+use Rattle.std.proofs.Common.{drop, get_or, length, map, refl}
 use Rattle.std.proofs.lemmas.List.{at_drop_more}
 use Rattle.au_typing.specs.DerivationFaults.{Judged, ◌then◌, StatementFault, refused, too_large}
 use Rattle.au_typing.specs.Trees.{NotedArms, NotedBranches, NotedStatements}
@@ -38,7 +39,8 @@ refuses_on (told.Limit passed) one whole h on = on (too_large passed) h
 refuses_on told.Memory one whole h on = tt
 
 -- what a call answers that stops where a part of it is refused
-pub stops_by : {X A B : Type 0} (view : X → A) (result : Result X Refused) (e : Refused) (one : Judged B) (whole : Judged A) →
+pub stops_by : {X A B : Type 0} (view : X → A) (result : Result X Refused) (e : Refused) (one : Judged B)
+    (whole : Judged A) →
     (y : Refused) × (result ≡ Err y) × (y ≡ e) → Refuses e one → ((f : StatementFault) → one ≡ Err f → whole ≡ Err f) →
     Judges view result whole
 stops_by {X = X} view result e one whole is refuses on =
@@ -62,7 +64,8 @@ front_none (Ok rest) = refl
 front_none (Err f) = refl
 
 -- what is added to what is left stands behind the front
-pub front_grows : {A B : Type 0} (add : A → A) (front grown : A → B) (left : Judged A) → ((rest : A) → grown rest ≡ front (add rest)) →
+pub front_grows : {A B : Type 0} (add : A → A) (front grown : A → B) (left : Judged A) →
+    ((rest : A) → grown rest ≡ front (add rest)) →
     fronted grown left ≡ fronted front (left then λ rest. Ok (add rest))
 front_grows add front grown (Ok rest) same = ap Ok (same rest)
 front_grows add front grown (Err f) same = refl
@@ -98,13 +101,19 @@ branches_whole (x ∷ xs) = ap (branches (boxed x.test) (block noted x.block)) (
 -- noted arms before others
 abbrev pub arms_before : List NotedArm → NotedArms → NotedArms
 arms_before [] rest = rest
-arms_before (a ∷ all) rest = arms a.at (placed noted a.case) (map (bound noted) a.binds.items) (block noted a.block) (arms_before all rest)
+arms_before (a ∷ all) rest = arms a.at (placed noted a.case) (map (bound noted) a.binds.items)
+    (block noted a.block) (arms_before all rest)
 
 pub arms_pushed : (all : List NotedArm) (a : NotedArm) (rest : NotedArms) →
-    arms_before (all ++ a ∷ []) rest ≡ arms_before all (arms a.at (placed noted a.case) (map (bound noted) a.binds.items) (block noted a.block) rest)
+    arms_before (all ++ a ∷ []) rest
+    ≡ arms_before all (arms a.at (placed noted a.case) (map (bound noted) a.binds.items)
+    (block noted a.block) rest)
 arms_pushed [] a rest = refl
-arms_pushed (x ∷ xs) a rest = ap (arms x.at (placed noted x.case) (map (bound noted) x.binds.items) (block noted x.block)) (arms_pushed xs a rest)
+arms_pushed (x ∷ xs) a rest = ap
+    (arms x.at (placed noted x.case) (map (bound noted) x.binds.items) (block noted x.block))
+    (arms_pushed xs a rest)
 
 pub arms_whole : (all : List NotedArm) → arms_before all no_arms ≡ arm_all noted all
 arms_whole [] = refl
-arms_whole (x ∷ xs) = ap (arms x.at (placed noted x.case) (map (bound noted) x.binds.items) (block noted x.block)) (arms_whole xs)
+arms_whole (x ∷ xs) = ap (arms x.at (placed noted x.case) (map (bound noted) x.binds.items)
+    (block noted x.block)) (arms_whole xs)

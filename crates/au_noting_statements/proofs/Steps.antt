@@ -21,20 +21,25 @@ stops_on (fault.Limit passed) one whole h on = on (limit passed) h
 stops_on fault.Memory one whole h on = tt
 
 -- what a call answers that stops where a part of it does
-pub stopped_by : {X A B : Type 0} (view : X → A) (result : Result X told.Fault) (e : told.Fault) (one : Noting B) (whole : Noting A) →
-    (y : told.Fault) × (result ≡ Err y) × (y ≡ e) → Stops e one → ((f : Fault) → one ≡ Err f → whole ≡ Err f) → Gives view result whole
+pub stopped_by : {X A B : Type 0} (view : X → A) (result : Result X told.Fault) (e : told.Fault)
+    (one : Noting B) (whole : Noting A) →
+    (y : told.Fault) × (result ≡ Err y) × (y ≡ e) → Stops e one →
+    ((f : Fault) → one ≡ Err f → whole ≡ Err f) → Gives view result whole
 stopped_by {X = X} view result e one whole is stops on =
     subst (λ (r : Result X told.Fault). Gives view r whole) (sym is.1)
     (subst (λ (y : told.Fault). Stops y whole) (sym is.2) (stops_on e one whole stops on))
 
-module _ (sc : Scope) (e : PlainExpression) (a : NotedExpression) (noted : note sc e None ≡ Ok a) (t : Meaning) (is : t ≡ type_of a) where
+module _ (sc : Scope) (e : PlainExpression) (a : NotedExpression) (noted : note sc e None ≡ Ok a)
+    (t : Meaning) (is : t ≡ type_of a) where
   -- the arms of a `case` with these cases
   abbrev pub heads_behind : List ArmHead → List Case → Noting NotedExpression
   heads_behind heads cases = judge_heads sc cases heads >>= λ judged. Ok a
 
-  case_at_heads : (heads : List ArmHead) (cases : List Case) → judge_union sc t ≡ Ok cases → note_case sc e heads ≡ heads_behind heads cases
+  case_at_heads : (heads : List ArmHead) (cases : List Case) → judge_union sc t ≡ Ok cases →
+      note_case sc e heads ≡ heads_behind heads cases
   case_at_heads heads cases union =
-      ap (λ (n : Noting NotedExpression). n >>= λ b. judge_union sc (type_of b) >>= λ all. judge_heads sc all heads >>= λ judged. Ok b) noted
+      ap (λ (n : Noting NotedExpression). n >>= λ b. judge_union sc (type_of b) >>=
+      λ all. judge_heads sc all heads >>= λ judged. Ok b) noted
       ∙ ap (λ (n : Noting (List Case)). n >>= heads_behind heads) (ap (judge_union sc) (sym is) ∙ union)
 
   -- the arms stop the noting of a `case`
@@ -50,10 +55,13 @@ module _ (sc : Scope) (e : PlainExpression) (a : NotedExpression) (noted : note 
       case_at_heads heads cases union ∙ ap (λ (n : Noting (Unit {0})). n >>= λ judged. Ok a) h
 
   -- what binds the fields of a record stops the noting
-  pub taken_binds_stop : (binds : List (Bound Bytes)) (fields : List Typed) (f : Fault) → known_or (shape record_wanted) (sc.outside.fields t) ≡ Ok fields →
+  pub taken_binds_stop : (binds : List (Bound Bytes)) (fields : List Typed) (f : Fault) →
+      known_or (shape record_wanted) (sc.outside.fields t) ≡ Ok fields →
       judge_binds sc fields binds ≡ Err f → note_taken sc binds e ≡ Err f
   taken_binds_stop binds fields f known h =
-      ap (λ (n : Noting NotedExpression). n >>= λ b. known_or (shape record_wanted) (sc.outside.fields (type_of b)) >>= λ all. judge_binds sc all binds >>= λ bound. Ok b) noted
+      ap (λ (n : Noting NotedExpression). n >>=
+      λ b. known_or (shape record_wanted) (sc.outside.fields (type_of b)) >>=
+      λ all. judge_binds sc all binds >>= λ bound. Ok b) noted
       ∙ ap (λ (n : Noting (List Typed)). n >>= λ all. judge_binds sc all binds >>= λ bound. Ok a)
       (ap (λ (of : Meaning). known_or (shape record_wanted) (sc.outside.fields of)) (sym is) ∙ known)
       ∙ ap (λ (n : Noting (Unit {0})). n >>= λ bound. Ok a) h

@@ -1,5 +1,6 @@
 -- Files come to something behind the steps that judge whether they are accepted exactly where they are.
-use Rattle.std.proofs.Common.{◌≡◌, ℕ, ◌+◌, Bool, true, false, List, [], ◌∷◌, ◌++◌, length, map, Option, Some, None, ap, ◌∙◌, sym, refl, subst, inl, inr}
+use Rattle.std.proofs.Common.{◌≡◌, ℕ, ◌+◌, Bool, true, false, List, [], ◌∷◌, ◌++◌, length, map, Option, Some}
+use Rattle.std.proofs.Common.{None, ap, ◌∙◌, sym, refl, subst, inl, inr}
 use Rattle.std.specs.Prelude.{if◌then◌else◌}
 use Rattle.std.specs.Option.{option_map, option_or}
 use Rattle.au_base.specs.declared.limits.Limit.{Limit as Passed}
@@ -19,7 +20,9 @@ use Rattle.au_modules.specs.declared.faults.ModuleFault.{ModuleFault}
 use Rattle.au_modules.specs.declared.faults.ModuleFault.TheVariants as modules
 use Rattle.au_modules.specs.declared.parts.Given.{Given}
 use Rattle.au_modules.specs.Programs as programs
-use Rattle.au_modules.specs.Programs.{Entry, ModuleParts, body_fault, fault_in, first_again, first_bodiless, first_fault, given, is_again, is_shipped, lacks_body, modules_of, pragma_fault}
+use Rattle.au_modules.specs.Programs.{Entry, ModuleParts, body_fault, fault_in, first_again, first_bodiless}
+use Rattle.au_modules.specs.Programs.{first_fault, given, is_again, is_shipped, lacks_body, modules_of}
+use Rattle.au_modules.specs.Programs.{pragma_fault}
 use Rattle.au_modules.proofs.ProgramLemmas.{program_accepted, program_from}
 use Rattle.au_imports.specs.declared.name_faults.NameFault.{NameFault}
 use Rattle.au_imports.specs.declared.name_faults.NameFault.TheVariants as names
@@ -64,7 +67,8 @@ use Rattle.au_outcomes.proofs.BytesLemmas.{bytes_found}
 
 -- ---- files and modules are never refused for want of memory
 
-alone_unwanted : (shipped : Bool) (pragma : Option Pos) (limit : Option Passed) → option_or (pragma_fault shipped pragma) (option_map modules.Limit limit) ≡ Some modules.Memory → ⊥
+alone_unwanted : (shipped : Bool) (pragma : Option Pos) (limit : Option Passed) →
+    option_or (pragma_fault shipped pragma) (option_map modules.Limit limit) ≡ Some modules.Memory → ⊥
 alone_unwanted true pragma None h = cc
 alone_unwanted true pragma (Some limit) h = cc
 alone_unwanted false None None h = cc
@@ -78,13 +82,15 @@ first_unwanted (e ∷ files) h = elim (or_some (fault_in e) (first_fault files) 
   | inr p ↦ first_unwanted files p
 ]
 
-given_twice : (b : Bool) (name : Bytes) (o : Option ModuleFault) → (if b then Some (modules.TwiceGiven name) else o) ≡ Some modules.Memory → o ≡ Some modules.Memory
+given_twice : (b : Bool) (name : Bytes) (o : Option ModuleFault) →
+    (if b then Some (modules.TwiceGiven name) else o) ≡ Some modules.Memory → o ≡ Some modules.Memory
 given_twice true name o h = cc
 given_twice false name o h = h
 
 again_unwanted : (before rest : List Given) → first_again before rest ≡ Some modules.Memory → ⊥
 again_unwanted before [] h = cc
-again_unwanted before (g ∷ rest) h = again_unwanted (before ++ g ∷ []) rest (given_twice (is_again before g) g.name (first_again (before ++ g ∷ []) rest) h)
+again_unwanted before (g ∷ rest) h = again_unwanted (before ++ g ∷ []) rest
+    (given_twice (is_again before g) g.name (first_again (before ++ g ∷ []) rest) h)
 
 bodiless_unwanted : (found : Option Given) → option_map body_fault found ≡ Some modules.Memory → ⊥
 bodiless_unwanted None h = cc
@@ -99,7 +105,8 @@ modules_unwanted files h = elim (or_some (first_fault files) _ modules.Memory h)
   ]
 ]
 
-names_unwanted : (n : Option NameFault) (p : Option PromiseFault) → option_or (option_map of_names n) (option_map of_promises p) ≡ Some imports.Memory → ⊥
+names_unwanted : (n : Option NameFault) (p : Option PromiseFault) →
+    option_or (option_map of_names n) (option_map of_promises p) ≡ Some imports.Memory → ⊥
 names_unwanted None None h = cc
 names_unwanted None (Some (promises.NotDefined at name)) h = cc
 names_unwanted None (Some (promises.Differs at other name)) h = cc
@@ -167,7 +174,8 @@ unfolding program_outcome
 good_judged files h =
     let first = or_first (judged_by module_outcome (programs.refusal_of files)) _ h in
     let second = or_second (judged_by module_outcome (programs.refusal_of files)) _ h in (
-      program_from files (judged_none module_outcome modules.Memory of_modules (programs.refusal_of files) (modules_unwanted files) first),
+      program_from files (judged_none module_outcome modules.Memory of_modules (programs.refusal_of files)
+          (modules_unwanted files) first),
       modules_judged (modules_of files) second,
     )
 
@@ -208,7 +216,8 @@ unhad_before files name (outcome.Missing other) h = refl
 unhad_before files name (outcome.Passes limit) h = refl
 unhad_before files name other h = absurd h
 
-first_unhad_before : (files : Files) (names : List (List ℕ)) (x : Outcome) → IsFirst (λ one. IsUnhad files one x) files names → is_behind x ≡ false
+first_unhad_before : (files : Files) (names : List (List ℕ)) (x : Outcome) →
+    IsFirst (λ one. IsUnhad files one x) files names → is_behind x ≡ false
 first_unhad_before files [] x h = absurd h
 first_unhad_before files (name ∷ names) x h = elim h [
   | inl p ↦ unhad_before files name x p
@@ -256,7 +265,8 @@ accepted_come_behind aims.Explain reads x h = ap is_behind h
 -- ---- accepted files
 
 -- nothing is refused of them before it is seen what is asked
-accepted_none : (files : Files) (names all : List (List ℕ)) (reads : List ReadFile) → AreAcceptedAs files names all reads → program_outcome (program_files reads) ≡ None
+accepted_none : (files : Files) (names all : List (List ℕ)) (reads : List ReadFile) →
+    AreAcceptedAs files names all reads → program_outcome (program_files reads) ≡ None
 accepted_none files names all reads good =
     judged_accepted (program_files reads) good.program (record {
       names = record { names = good.named; promises = good.kept };

@@ -27,7 +27,8 @@ use Rattle.au_outcomes.specs.declared.outcomes.Outcome.TheVariants as outcome
 use Rattle.au_outcomes.specs.declared.refusals.Refusal.TheVariants as refusal
 use Rattle.au_outcomes.proofs.FaultLemmas.{judged_found, of_declarations, of_imports, of_instances, of_lives}
 use Rattle.au_outcomes.proofs.FaultLemmas.{of_modules, of_types, or_some}
-use Rattle.au_outcomes.proofs.HaltLemmas.{is_of_files, are_read_same, first_found, first_halts_or_read, first_halts_same}
+use Rattle.au_outcomes.proofs.HaltLemmas.{is_of_files, are_read_same, first_found, first_halts_or_read}
+use Rattle.au_outcomes.proofs.HaltLemmas.{first_halts_same}
 
 -- ---- two outcomes are one
 

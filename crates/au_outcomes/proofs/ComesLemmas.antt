@@ -1,5 +1,6 @@
 -- What steps say, from what the steps in them say.
-use Rattle.std.proofs.Common.{◌≡◌, ℕ, ◌<◌, ◌≤◌, true, false, List, length, Option, Result, Ok, Err, ap, ◌∙◌, sym, refl, subst, arith, inl, inr}
+use Rattle.std.proofs.Common.{◌≡◌, ℕ, ◌<◌, ◌≤◌, true, false, List, length, Option, Result, Ok, Err, ap, ◌∙◌}
+use Rattle.std.proofs.Common.{sym, refl, subst, arith, inl, inr}
 use Rattle.au_base.specs.declared.places.Pos.{Pos}
 use Rattle.au_base.specs.declared.tokens.Token.{Token}
 use Rattle.au_base.specs.Outside.{Files, Counts}
@@ -20,13 +21,15 @@ use Rattle.au_outcomes.proofs.HaltLemmas.{halts_so, not_missing}
 use Rattle.au_outcomes.proofs.BytesLemmas.{bytes_found}
 
 -- what a step says, said of other things
-pub says_map : {T : Type 0} (r : Result T Halt) (G H : T → Type 0) (K L : Outcome → Type 0) → ((x : T) → G x → H x) → ((o : Outcome) → K o → L o) → Says r G K → Says r H L
+pub says_map : {T : Type 0} (r : Result T Halt) (G H : T → Type 0) (K L : Outcome → Type 0) →
+    ((x : T) → G x → H x) → ((o : Outcome) → K o → L o) → Says r G K → Says r H L
 says_map (Ok x) G H K L gave known h = gave x h
 says_map (Err (halt.Known arisen)) G H K L gave known h = known arisen h
 says_map (Err (halt.Unknown e)) G H K L gave known h = tt
 
 -- what is said of a halt alone
-pub halts_with : {T U : Type 0} (e : Halt) (G : T → Type 0) (H : U → Type 0) (K L : Outcome → Type 0) → ((o : Outcome) → K o → L o) → Says {T = T} (Err e) G K → Says {T = U} (Err e) H L
+pub halts_with : {T U : Type 0} (e : Halt) (G : T → Type 0) (H : U → Type 0) (K L : Outcome → Type 0) →
+    ((o : Outcome) → K o → L o) → Says {T = T} (Err e) G K → Says {T = U} (Err e) H L
 halts_with (halt.Known arisen) G H K L known h = known arisen h
 halts_with (halt.Unknown e) G H K L known h = tt
 
@@ -38,9 +41,13 @@ read_with T U (halt.Unknown e) h = h
 -- ---- one file
 
 -- what its tokens halt with, a file halts with
-pub halts_from : (file : ℕ) (bytes : List ℕ) (list read : List Token) (end : Pos) (x : Outcome) → Cut file bytes list → IsWithinLimits list → read ≡ list → end ≡ place_after file bytes → TokensHalt read end x → Halts file bytes x
+pub halts_from : (file : ℕ) (bytes : List ℕ) (list read : List Token) (end : Pos) (x : Outcome) →
+    Cut file bytes list → IsWithinLimits list → read ≡ list → end ≡ place_after file bytes →
+    TokensHalt read end x → Halts file bytes x
 halts_from file bytes list read end x cut within same behind h =
-    halts_so file bytes list x cut within (subst (λ ts. TokensHalt ts (place_after file bytes) x) same (subst (λ p. TokensHalt read p x) behind h))
+    halts_so file bytes list x cut within
+    (subst (λ ts. TokensHalt ts (place_after file bytes) x) same
+    (subst (λ p. TokensHalt read p x) behind h))
 
 -- ---- the files of names
 

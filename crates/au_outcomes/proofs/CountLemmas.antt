@@ -1,5 +1,6 @@
 -- Files that were read are as few as those of a program, and the declarations in each too.
-use Rattle.std.proofs.Common.{◌≡◌, ◌≤◌, ◌+◌, ℕ, suc, true, ◌&&◌, List, [], ◌∷◌, ◌++◌, Vec, length, map, refl, ap, sym, ◌∙◌, arith}
+use Rattle.std.proofs.Common.{◌≡◌, ◌≤◌, ◌+◌, ℕ, suc, true, ◌&&◌, List, [], ◌∷◌, ◌++◌, Vec, length, map, refl}
+use Rattle.std.proofs.Common.{ap, sym, ◌∙◌, arith}
 use Rattle.std.specs.Global.{Global}
 use Rattle.std.specs.List.{flat_map, list_all}
 use Rattle.std.proofs.lemmas.Bool.{le-leb}
@@ -11,9 +12,11 @@ use Rattle.au_base.specs.declared.tokens.Keyword.TheVariants.{KwEnd, KwIs}
 use Rattle.au_base.specs.declared.tokens.Token.{Token}
 use Rattle.au_base.specs.Limits.{most_tokens}
 use Rattle.au_syntax.specs.declared.wholes.FileTree.{FileTree}
-use Rattle.au_syntax.specs.Modules.{constant, opaque_type, record_type, union_type, function, class, instance, constant_body, function_body, instance_body}
+use Rattle.au_syntax.specs.Modules.{constant, opaque_type, record_type, union_type, function, class, instance}
+use Rattle.au_syntax.specs.Modules.{constant_body, function_body, instance_body}
 use Rattle.au_syntax.specs.Plain.{PlainDeclaration, PlainModule}
-use Rattle.au_syntax.specs.Words.{AreWords, Words, begun, declaration_words, dotted, import_words, mark, part_words, pragma_words, word, words}
+use Rattle.au_syntax.specs.Words.{AreWords, Words, begun, declaration_words, dotted, import_words, mark}
+use Rattle.au_syntax.specs.Words.{part_words, pragma_words, word, words}
 use Rattle.au_modules.specs.Counts as counts
 use Rattle.au_modules.specs.Counts.{are_few, has_few}
 use Rattle.au_modules.specs.Programs.{Entry, entry}

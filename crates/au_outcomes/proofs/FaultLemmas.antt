@@ -209,7 +209,8 @@ module _ {F : Type 0} (outcome_of : F → Option Outcome) (memory : F) (causes :
   judged_found (Some e) x h = causes.found e x h
 
   -- a fault that is found is known to be what the program comes to, unless it is want of memory
-  caused : (e : F) (r : Option F) (x : Outcome) → (e ≡ memory) ⊎ (r ≡ Some e) → outcome_of e ≡ Some x → judged_by outcome_of r ≡ Some x
+  caused : (e : F) (r : Option F) (x : Outcome) → (e ≡ memory) ⊎ (r ≡ Some e) → outcome_of e ≡ Some x →
+      judged_by outcome_of r ≡ Some x
   caused e r x (inl p) h =
       let never : None ≡ Some x = sym (ap outcome_of p ∙ causes.unknown) ∙ h in cc
   caused e r x (inr p) h = ap (judged_by outcome_of) p ∙ h

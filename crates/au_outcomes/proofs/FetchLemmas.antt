@@ -1,5 +1,7 @@
 -- Files that are fetched in order.
-use Rattle.std.proofs.Common.{◌≡◌, ℕ, zero, suc, ◌+◌, ◌<◌, ◌≤◌, Bool, true, false, cond, List, [], ◌∷◌, ◌++◌, length, get_or, take, drop, map, Option, Some, None, IfSome, Vec, String, ap, ◌∙◌, sym, refl, subst, arith, rules, ◌⊎◌, inl, inr, length-append}
+use Rattle.std.proofs.Common.{◌≡◌, ℕ, zero, suc, ◌+◌, ◌<◌, ◌≤◌, Bool, true, false, cond, List, [], ◌∷◌, ◌++◌}
+use Rattle.std.proofs.Common.{length, get_or, take, drop, map, Option, Some, None, IfSome, Vec, String, ap}
+use Rattle.std.proofs.Common.{◌∙◌, sym, refl, subst, arith, rules, ◌⊎◌, inl, inr, length-append}
 use Rattle.std.specs.Prelude.{position}
 use Rattle.std.specs.Global.{Global}
 use Rattle.std.specs.List.{All, position_or_len}
@@ -13,7 +15,8 @@ use Rattle.std.proofs.lemmas.Slice.Eq.{bytes_eq-Decides}
 use Rattle.au_base.specs.Limits.{most_file_bytes}
 use Rattle.au_base.specs.Outside.{Files}
 use Rattle.au_outcomes.specs.Halts.{AreFilesOf, AreTold, Extends, FirstUnhad, IsUnhad, StopsIn, Tells, bytes_in}
-use Rattle.au_outcomes.specs.Outcomes.{AreFiles, BytesCome, FewCome, FilesCome, IsFile, IsFirst, IsTooLarge, file_limit, most_files}
+use Rattle.au_outcomes.specs.Outcomes.{AreFiles, BytesCome, FewCome, FilesCome, IsFile, IsFirst, IsTooLarge}
+use Rattle.au_outcomes.specs.Outcomes.{file_limit, most_files}
 use Rattle.au_outcomes.specs.declared.outcomes.Aim.{Aim}
 use Rattle.au_outcomes.specs.declared.outcomes.Outcome.{Outcome}
 use Rattle.au_outcomes.specs.declared.outcomes.Outcome.TheVariants as outcome
@@ -26,14 +29,16 @@ told_files (Some known) = (known, refl)
 
 -- ---- the first file that can't be had
 
-first_map : (P Q : List ℕ → Type 0) (files : Files) (names : List (List ℕ)) → ((name : List ℕ) → P name → Q name) → IsFirst P files names → IsFirst Q files names
+first_map : (P Q : List ℕ → Type 0) (files : Files) (names : List (List ℕ)) →
+    ((name : List ℕ) → P name → Q name) → IsFirst P files names → IsFirst Q files names
 first_map P Q files [] f h = h
 first_map P Q files (name ∷ names) f h = elim h [
   | inl p ↦ inl (f name p)
   | inr p ↦ inr (p.0, first_map P Q files names f p.1)
 ]
 
-first_any : (P : List ℕ → Type 0) (files : Files) (names : List (List ℕ)) → IsFirst P files names → (name : List ℕ) × P name
+first_any : (P : List ℕ → Type 0) (files : Files) (names : List (List ℕ)) → IsFirst P files names →
+    (name : List ℕ) × P name
 first_any P files [] h = absurd h
 first_any P files (name ∷ names) h = elim h [
   | inl p ↦ (name, p)
@@ -83,25 +88,32 @@ module _ (aim : Aim) (files : Files) (names : List (List ℕ)) where
   files_few all (outcome.Runs program) are h proper = (all, are, h)
 
 -- a file behind those that can be had
-is_first : (P : List ℕ → Type 0) (files : Files) (before all : List (List ℕ)) (name : List ℕ) (after : List (List ℕ)) → AreFiles files before all → P name → IsFirst P files (before ++ name ∷ after)
+is_first : (P : List ℕ → Type 0) (files : Files) (before all : List (List ℕ)) (name : List ℕ)
+    (after : List (List ℕ)) → AreFiles files before all → P name → IsFirst P files (before ++ name ∷ after)
 is_first P files [] [] name after are p = inl p
 is_first P files [] (bytes ∷ all) name after are p = absurd are
 is_first P files (one ∷ before) [] name after are p = absurd are
-is_first P files (one ∷ before) (bytes ∷ all) name after are p = inr ((bytes, are.0), is_first P files before all name after are.1 p)
+is_first P files (one ∷ before) (bytes ∷ all) name after are p =
+    inr ((bytes, are.0), is_first P files before all name after are.1 p)
 
 -- one more file
-are_more : (files : Files) (before all : List (List ℕ)) (name bytes : List ℕ) → AreFiles files before all → IsFile files name bytes → AreFiles files (before ++ name ∷ []) (all ++ bytes ∷ [])
+are_more : (files : Files) (before all : List (List ℕ)) (name bytes : List ℕ) → AreFiles files before all →
+    IsFile files name bytes → AreFiles files (before ++ name ∷ []) (all ++ bytes ∷ [])
 are_more files [] [] name bytes are file = (file, tt)
 are_more files [] (b ∷ all) name bytes are file = absurd are
 are_more files (one ∷ before) [] name bytes are file = absurd are
 are_more files (one ∷ before) (b ∷ all) name bytes are file = (are.0, are_more files before all name bytes are.1 file)
 
-pub files_more : (told : Option Files) (before all : List (List ℕ)) (name bytes : List ℕ) → AreFilesOf told before all → Extends told before all (λ files. IsFile files name bytes) → AreFilesOf told (before ++ name ∷ []) (all ++ bytes ∷ [])
+pub files_more : (told : Option Files) (before all : List (List ℕ)) (name bytes : List ℕ) →
+    AreFilesOf told before all → Extends told before all (λ files. IsFile files name bytes) →
+    AreFilesOf told (before ++ name ∷ []) (all ++ bytes ∷ [])
 files_more told before all name bytes are more =
     let h = more are.0 are.1 are.2 in
     (h.0, h.1, are_more h.0 before all name bytes h.2 h.3)
 
-pub files_end : (told : Option Files) (before all : List (List ℕ)) (name : List ℕ) (after : List (List ℕ)) (x : Outcome) → AreFilesOf told before all → Extends told before all (λ files. IsUnhad files name x) → FirstUnhad told (before ++ name ∷ after) x
+pub files_end : (told : Option Files) (before all : List (List ℕ)) (name : List ℕ) (after : List (List ℕ))
+    (x : Outcome) → AreFilesOf told before all → Extends told before all (λ files. IsUnhad files name x) →
+    FirstUnhad told (before ++ name ∷ after) x
 files_end told before all name after x are more =
     let h = more are.0 are.1 are.2 in
     (h.0, h.1, is_first (λ one. IsUnhad h.0 one x) h.0 before all name after h.2 h.3)
@@ -114,7 +126,9 @@ are_as_many files [] (bytes ∷ all) are = absurd are
 are_as_many files (name ∷ names) [] are = absurd are
 are_as_many files (name ∷ names) (bytes ∷ all) are = ap suc (are_as_many files names all are.1)
 
-file_at : (files : Files) (names : List (String Global)) (all : List (Vec ℕ Global)) (i : ℕ) (d : String Global) (e : Vec ℕ Global) → AreFiles files (map string_bytes names) (map bytes_in all) → i < length names
+file_at : (files : Files) (names : List (String Global)) (all : List (Vec ℕ Global)) (i : ℕ)
+    (d : String Global) (e : Vec ℕ Global) → AreFiles files (map string_bytes names) (map bytes_in all) →
+    i < length names
     → IsFile files (string_bytes (get_or names i d)) (get_or all i e).items
 file_at files [] all i d e are h = absurd (omega arith)
 file_at files (name ∷ names) [] i d e are h = absurd are
@@ -131,21 +145,33 @@ own_bytes a = search (rules, bytes_eq-Decides)
 abbrev is_name : List ℕ → String Global → Bool
 is_name name = λ one. bytes_eq name (string_bytes one)
 
-pub found_before : (told : Option Files) (before : List (String Global)) (all : List (Vec ℕ Global)) (name bytes : List ℕ) (i : ℕ) (e : Vec ℕ Global) → position (λ one. bytes_eq name (string_bytes one)) before ≡ Some i → bytes ≡ (get_or all i e).items
+pub found_before : (told : Option Files) (before : List (String Global)) (all : List (Vec ℕ Global))
+    (name bytes : List ℕ) (i : ℕ) (e : Vec ℕ Global) → position (λ one. bytes_eq name (string_bytes one)) before
+    ≡ Some i → bytes ≡ (get_or all i e).items
     → Extends told (map string_bytes before) (map bytes_in all) (λ files. IsFile files name bytes)
 found_before told [] all name bytes i e is same = λ files known are. cc
 found_before told (first ∷ before) all name bytes i e is same = λ files known are.
     let at = position-Some (is_name name) (first ∷ before) i first is in
-    let named : name ≡ string_bytes (get_or (first ∷ before) i first) = same_bytes name (string_bytes (get_or (first ∷ before) i first)) at.1 in
-    let file = file_at files (first ∷ before) all i first e are at.0 in
-    (files, known, are, subst (λ n. IsFile files n bytes) (sym named) (subst (λ b. IsFile files (string_bytes (get_or (first ∷ before) i first)) b) (sym same) file))
+    let named : name ≡ string_bytes (get_or (first ∷ before) i first) =
+    same_bytes name (string_bytes (get_or (first ∷ before) i first)) at.1 in
+    let file = file_at files (first ∷ before) all i first e are at.0 in (
+      files,
+      known,
+      are,
+      subst (λ n. IsFile files n bytes) (sym named)
+          (subst (λ b. IsFile files (string_bytes (get_or (first ∷ before) i first)) b) (sym same) file),
+    )
 
-none_before : (p : String Global → Bool) (names : List (String Global)) → position p names ≡ None → All (λ one. p one ≡ false) names
+none_before : (p : String Global → Bool) (names : List (String Global)) → position p names ≡ None →
+    All (λ one. p one ≡ false) names
 none_before p names none = λ k d h. past k d h (cases_lt (position_or_len p names) (length names))
   where
-    past : (k : ℕ) (d : String Global) → k < length names → (position_or_len p names < length names) ⊎ (length names ≤ position_or_len p names) → p (get_or names k d) ≡ false
+    past : (k : ℕ) (d : String Global) → k < length names → (position_or_len p names < length names)
+        ⊎ (length names ≤ position_or_len p names) → p (get_or names k d) ≡ false
     past k d h (inl less) =
-        let found : position p names ≡ Some (position_or_len p names) = ap (λ b. cond b (Some (position_or_len p names)) None) (lt-ltb (position_or_len p names) (length names) less) in
+        let found : position p names ≡ Some (position_or_len p names) =
+        ap (λ b. cond b (Some (position_or_len p names)) None)
+        (lt-ltb (position_or_len p names) (length names) less) in
         let e : Some (position_or_len p names) ≡ None = sym found ∙ none in
         cc
     past k d h (inr more) = let low : k < position_or_len p names = omega arith in fails_before_first p names k d low
@@ -158,7 +184,9 @@ put_same : (files : Files) (name : List ℕ) (found : Option (List ℕ)) → put
 unfolding put
 put_same files name found = ap (λ b. cond b found (files name)) (own_bytes name)
 
-put_kept : (files : Files) (name : List ℕ) (found : Option (List ℕ)) (before : List (String Global)) (all : List (Vec ℕ Global)) → All (λ one. is_name name one ≡ false) before → AreFiles files (map string_bytes before) (map bytes_in all)
+put_kept : (files : Files) (name : List ℕ) (found : Option (List ℕ)) (before : List (String Global))
+    (all : List (Vec ℕ Global)) → All (λ one. is_name name one ≡ false) before →
+    AreFiles files (map string_bytes before) (map bytes_in all)
     → AreFiles (put files name found) (map string_bytes before) (map bytes_in all)
 unfolding put
 put_kept files name found [] [] none are = tt
@@ -166,57 +194,85 @@ put_kept files name found [] (bytes ∷ all) none are = absurd are
 put_kept files name found (one ∷ before) [] none are = absurd are
 put_kept files name found (one ∷ before) (bytes ∷ all) none are =
     let first : is_name name one ≡ false = none 0 one (omega arith) in
-    let rest : All (λ other. is_name name other ≡ false) before = λ k d h. none (suc k) d (omega arith) in
-    ((ap (λ b. cond b found (files (string_bytes one))) first ∙ are.0.0, are.0.1), put_kept files name found before all rest are.1)
+    let rest : All (λ other. is_name name other ≡ false) before = λ k d h. none (suc k) d (omega arith) in (
+      (ap (λ b. cond b found (files (string_bytes one))) first ∙ are.0.0, are.0.1),
+      put_kept files name found before all rest are.1,
+    )
 
-pub found_new : (told : Option Files) (before : List (String Global)) (all : List (Vec ℕ Global)) (name : List ℕ) (Q : Files → Type 0) → position (λ one. bytes_eq name (string_bytes one)) before ≡ None → Tells told name Q
+pub found_new : (told : Option Files) (before : List (String Global)) (all : List (Vec ℕ Global))
+    (name : List ℕ) (Q : Files → Type 0) → position (λ one. bytes_eq name (string_bytes one)) before ≡ None →
+    Tells told name Q
     → Extends told (map string_bytes before) (map bytes_in all) Q
-found_new None before all name Q new tells = λ files known are.
-    (put files name tells.0, tt, put_kept files name tells.0 before all (none_before (is_name name) before new) are, tells.2 (put files name tells.0) (put_same files name tells.0))
+found_new None before all name Q new tells = λ files known are. (
+  put files name tells.0,
+  tt,
+  put_kept files name tells.0 before all
+      (none_before (is_name name) before new) are,
+  tells.2 (put files name tells.0) (put_same files name tells.0),
+)
 found_new (Some known) before all name Q new tells = λ files same are.
     (files, same, are, tells.2 files (ap (λ (f : Files). f name) same ∙ tells.1))
 
 -- ---- what the shelf says of one file
 
-pub tells_whole : (told : Option Files) (name bytes : List ℕ) → IfSome told (λ known. known name ≡ Some bytes) → length bytes ≤ most_file_bytes → Tells told name (λ files. IsFile files name bytes)
+pub tells_whole : (told : Option Files) (name bytes : List ℕ) →
+    IfSome told (λ known. known name ≡ Some bytes) → length bytes ≤ most_file_bytes →
+    Tells told name (λ files. IsFile files name bytes)
 tells_whole told name bytes known small = (Some bytes, known, λ files is. (is, small))
 
-pub tells_missing : (told : Option Files) (name copied : List ℕ) → IfSome told (λ known. known name ≡ None) → copied ≡ name → Tells told name (λ files. IsUnhad files name (outcome.Missing copied))
+pub tells_missing : (told : Option Files) (name copied : List ℕ) → IfSome told (λ known. known name ≡ None) →
+    copied ≡ name → Tells told name (λ files. IsUnhad files name (outcome.Missing copied))
 tells_missing told name copied known same = (None, known, λ files is. (sym same, is))
 
-pub tells_large : (told : Option Files) (name room : List ℕ) → IfSome told (λ known. (rest : List ℕ) × (known name ≡ Some (room ++ rest))) → length room ≡ most_file_bytes + 1 → Tells told name (λ files. IsUnhad files name (outcome.Passes file_limit))
+pub tells_large : (told : Option Files) (name room : List ℕ) →
+    IfSome told (λ known. (rest : List ℕ) × (known name ≡ Some (room ++ rest))) →
+    length room ≡ most_file_bytes + 1 →
+    Tells told name (λ files. IsUnhad files name (outcome.Passes file_limit))
 tells_large None name room known large = (Some room, tt, λ files is. (refl, (room, is, omega arith)))
-tells_large (Some files) name room known large =
-    (Some (room ++ known.0), known.1, λ files is. (refl, (room ++ known.0, is, omega (arith, length-append room known.0))))
+tells_large (Some files) name room known large = (
+  Some (room ++ known.0),
+  known.1,
+  λ files is. (refl, (room ++ known.0, is, omega (arith, length-append room known.0))),
+)
 
 -- ---- the files of names in the code
 
 -- none of the files that can be had is too large
-small_at : (files : Files) (names : List (List ℕ)) (all : List (Vec ℕ Global)) (k : ℕ) (d : Vec ℕ Global) → AreFiles files names (map bytes_in all) → k < length all → length (get_or all k d).items ≤ most_file_bytes
+small_at : (files : Files) (names : List (List ℕ)) (all : List (Vec ℕ Global)) (k : ℕ) (d : Vec ℕ Global) →
+    AreFiles files names (map bytes_in all) → k < length all → length (get_or all k d).items ≤ most_file_bytes
 small_at files names [] k d are h = absurd (omega arith)
 small_at files [] (bytes ∷ all) k d are h = absurd are
 small_at files (name ∷ names) (bytes ∷ all) zero d are h = are.0.1
 small_at files (name ∷ names) (bytes ∷ all) (suc k) d are h = small_at files names all k d are.1 (omega arith)
 
-pub are_small : (files : Files) (names : List (List ℕ)) (all : List (Vec ℕ Global)) → AreFiles files names (map bytes_in all) → All (λ (bytes : Vec ℕ Global). length bytes.items ≤ most_file_bytes) all
+pub are_small : (files : Files) (names : List (List ℕ)) (all : List (Vec ℕ Global)) →
+    AreFiles files names (map bytes_in all) →
+    All (λ (bytes : Vec ℕ Global). length bytes.items ≤ most_file_bytes) all
 are_small files names all are = λ k d h. small_at files names all k d are h
 
 -- the names before an index and the one there
-names_to : (names : List (String Global)) (i : ℕ) (name : String Global) → i < length names → name ≡ get_or names i name → map string_bytes (take (i + 1) names) ≡ map string_bytes (take i names) ++ string_bytes name ∷ []
+names_to : (names : List (String Global)) (i : ℕ) (name : String Global) → i < length names →
+    name ≡ get_or names i name → map string_bytes (take (i + 1) names) ≡ map string_bytes (take i names)
+    ++ string_bytes name ∷ []
 names_to names i name h is =
     ap (map string_bytes) (take_more names i name h) ∙ map-append string_bytes (take i names) (get_or names i name ∷ [])
     ∙ ap (λ (n : String Global). map string_bytes (take i names) ++ string_bytes n ∷ []) (sym is)
 
 -- the names before an index, the one there, and those behind it
-names_at : (names : List (String Global)) (i : ℕ) (name : String Global) → i < length names → name ≡ get_or names i name → map string_bytes names ≡ map string_bytes (take i names) ++ string_bytes name ∷ map string_bytes (drop (i + 1) names)
+names_at : (names : List (String Global)) (i : ℕ) (name : String Global) → i < length names →
+    name ≡ get_or names i name → map string_bytes names ≡ map string_bytes (take i names)
+    ++ string_bytes name ∷ map string_bytes (drop (i + 1) names)
 names_at names i name h is =
     ap (map string_bytes) (sym (take-append-drop i names)) ∙ map-append string_bytes (take i names) (drop i names)
     ∙ ap (λ l. map string_bytes (take i names) ++ map string_bytes l) (drop_more names i name h)
-    ∙ ap (λ (n : String Global). map string_bytes (take i names) ++ string_bytes n ∷ map string_bytes (drop (i + 1) names)) (sym is)
+    ∙ ap (λ (n : String Global). map string_bytes (take i names) ++ string_bytes n ∷ map string_bytes
+    (drop (i + 1) names)) (sym is)
 
 -- what is said of the files before an index, in other words for them
-extends_same : (told given : Option Files) (names before : List (String Global)) (all had : List (Vec ℕ Global)) (Q R : Files → Type 0) → given ≡ told → before ≡ names → had ≡ all → Q ≡ R
-    → Extends given (map string_bytes before) (map bytes_in had) Q → Extends told (map string_bytes names) (map bytes_in all) R
+extends_same : (told given : Option Files) (names before : List (String Global))
+    (all had : List (Vec ℕ Global)) (Q R : Files → Type 0) → given ≡ told → before ≡ names → had ≡ all → Q ≡ R
+    → Extends given (map string_bytes before) (map bytes_in had) Q → Extends told (map string_bytes names)
+    (map bytes_in all) R
 extends_same told given names before all had Q R shelf list bytes same h =
     subst (λ t. Extends t (map string_bytes names) (map bytes_in all) R) shelf
     (subst (λ (l : List (String Global)). Extends given (map string_bytes l) (map bytes_in all) R) list
@@ -224,38 +280,62 @@ extends_same told given names before all had Q R shelf list bytes same h =
     (subst (λ P. Extends given (map string_bytes before) (map bytes_in had) P) same h)))
 
 -- one more file is fetched
-pub fetched_more : (told given : Option Files) (names before : List (String Global)) (i : ℕ) (name : String Global) (text : List ℕ) (all had more : List (Vec ℕ Global)) (bytes : Vec ℕ Global) →
-    given ≡ told → i < length names → name ≡ get_or names i name → before ≡ take i names → had ≡ all → text ≡ string_bytes name → more ≡ all ++ bytes ∷ [] →
-    AreFilesOf told (map string_bytes (take i names)) (map bytes_in all) → Extends given (map string_bytes before) (map bytes_in had) (λ files. IsFile files text bytes.items) →
+pub fetched_more : (told given : Option Files) (names before : List (String Global)) (i : ℕ)
+    (name : String Global) (text : List ℕ) (all had more : List (Vec ℕ Global)) (bytes : Vec ℕ Global) →
+    given ≡ told → i < length names → name ≡ get_or names i name → before ≡ take i names → had ≡ all →
+    text ≡ string_bytes name → more ≡ all ++ bytes ∷ [] →
+    AreFilesOf told (map string_bytes (take i names)) (map bytes_in all) →
+    Extends given (map string_bytes before) (map bytes_in had) (λ files. IsFile files text bytes.items) →
     AreFilesOf told (map string_bytes (take (i + 1) names)) (map bytes_in more)
 fetched_more told given names before i name text all had more bytes shelf h is list same spelled pushed are next =
-    let e = extends_same told given (take i names) before all had (λ files. IsFile files text bytes.items) (λ files. IsFile files (string_bytes name) bytes.items) shelf list same (ap (λ t files. IsFile files t bytes.items) spelled) next in
-    let both = files_more told (map string_bytes (take i names)) (map bytes_in all) (string_bytes name) bytes.items are e in
-    let items : map bytes_in more ≡ map bytes_in all ++ bytes.items ∷ [] = ap (map bytes_in) pushed ∙ map-append bytes_in all (bytes ∷ []) in
+    let e = extends_same told given (take i names) before all had (λ files. IsFile files text bytes.items)
+    (λ files. IsFile files (string_bytes name) bytes.items) shelf list same
+    (ap (λ t files. IsFile files t bytes.items) spelled) next in
+    let both = files_more told (map string_bytes (take i names)) (map bytes_in all) (string_bytes name)
+    bytes.items are e in
+    let items : map bytes_in more ≡ map bytes_in all ++ bytes.items ∷ [] = ap (map bytes_in) pushed
+    ∙ map-append bytes_in all (bytes ∷ []) in
     subst (λ ns. AreFilesOf told ns (map bytes_in more)) (sym (names_to names i name h is))
     (subst (λ l. AreFilesOf told (map string_bytes (take i names) ++ string_bytes name ∷ []) l) (sym items) both)
 
 -- a file can't be had
-pub fetched_end : (told given : Option Files) (names before : List (String Global)) (i : ℕ) (name : String Global) (text : List ℕ) (all had : List (Vec ℕ Global)) (x : Outcome) →
-    given ≡ told → i < length names → name ≡ get_or names i name → before ≡ take i names → had ≡ all → text ≡ string_bytes name →
-    AreFilesOf told (map string_bytes (take i names)) (map bytes_in all) → Extends given (map string_bytes before) (map bytes_in had) (λ files. IsUnhad files text x) →
+pub fetched_end : (told given : Option Files) (names before : List (String Global)) (i : ℕ)
+    (name : String Global) (text : List ℕ) (all had : List (Vec ℕ Global)) (x : Outcome) →
+    given ≡ told → i < length names → name ≡ get_or names i name → before ≡ take i names → had ≡ all →
+    text ≡ string_bytes name →
+    AreFilesOf told (map string_bytes (take i names)) (map bytes_in all) →
+    Extends given (map string_bytes before) (map bytes_in had) (λ files. IsUnhad files text x) →
     FirstUnhad told (map string_bytes names) x
 fetched_end told given names before i name text all had x shelf h is list same spelled are next =
-    let e = extends_same told given (take i names) before all had (λ files. IsUnhad files text x) (λ files. IsUnhad files (string_bytes name) x) shelf list same (ap (λ t files. IsUnhad files t x) spelled) next in
-    subst (λ ns. FirstUnhad told ns x) (sym (names_at names i name h is)) (files_end told (map string_bytes (take i names)) (map bytes_in all) (string_bytes name) (map string_bytes (drop (i + 1) names)) x are e)
+    let e = extends_same told given (take i names) before all had (λ files. IsUnhad files text x)
+    (λ files. IsUnhad files (string_bytes name) x) shelf list same
+    (ap (λ t files. IsUnhad files t x) spelled) next in
+    subst (λ ns. FirstUnhad told ns x) (sym (names_at names i name h is))
+    (files_end told (map string_bytes (take i names)) (map bytes_in all) (string_bytes name)
+    (map string_bytes (drop (i + 1) names)) x are e)
 
 -- a file behind others that can be had, where the shelf failed
-pub fetched_stop : (told : Option Files) (names : List (String Global)) (i : ℕ) (name : String Global) (all : List (Vec ℕ Global)) → length names ≤ most_files → i < length names → name ≡ get_or names i name →
+pub fetched_stop : (told : Option Files) (names : List (String Global)) (i : ℕ) (name : String Global)
+    (all : List (Vec ℕ Global)) → length names ≤ most_files → i < length names → name ≡ get_or names i name →
     AreFilesOf told (map string_bytes (take i names)) (map bytes_in all) → StopsIn told (map string_bytes names)
 fetched_stop told names i name all few h is are =
-    let same = length-map names string_bytes in
-    (omega (arith, few), map string_bytes (take i names), string_bytes name, map string_bytes (drop (i + 1) names), names_at names i name h is, map bytes_in all, are)
+    let same = length-map names string_bytes in (
+      omega (arith, few),
+      map string_bytes (take i names),
+      string_bytes name,
+      map string_bytes (drop (i + 1) names),
+      names_at names i name h is,
+      map bytes_in all,
+      are,
+    )
 
 -- nothing is fetched yet
 pub none_fetched : (told : Option Files) → AreFilesOf told [] []
 none_fetched told = let h = told_files told in (h.0, h.1, tt)
 
 -- as many are fetched as there are names
-pub fetched_length : (told : Option Files) (names : List (String Global)) (all : List (Vec ℕ Global)) → AreFilesOf told (map string_bytes names) (map bytes_in all) → length names ≡ length all
+pub fetched_length : (told : Option Files) (names : List (String Global)) (all : List (Vec ℕ Global)) →
+    AreFilesOf told (map string_bytes names) (map bytes_in all) → length names ≡ length all
 fetched_length told names all are =
-    sym (length-map names string_bytes) ∙ are_as_many are.0 (map string_bytes names) (map bytes_in all) are.2 ∙ length-map all bytes_in
+    sym (length-map names string_bytes) ∙ are_as_many are.0 (map string_bytes names) (map bytes_in all) are.2
+    ∙ length-map all bytes_in

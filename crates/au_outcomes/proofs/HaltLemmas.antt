@@ -1,5 +1,6 @@
 -- A file halts with one thing, or it is read as one thing, and not both.
-use Rattle.std.proofs.Common.{◌≡◌, ℕ, zero, suc, ◌+◌, ◌-◌, Err, Bool, true, false, List, [], ◌∷◌, length, Some, ap, ◌∙◌, sym, refl, subst, arith, ◌⊎◌, inl, inr, slice_get}
+use Rattle.std.proofs.Common.{◌≡◌, ℕ, zero, suc, ◌+◌, ◌-◌, Err, Bool, true, false, List, [], ◌∷◌, length}
+use Rattle.std.proofs.Common.{Some, ap, ◌∙◌, sym, refl, subst, arith, ◌⊎◌, inl, inr, slice_get}
 use Rattle.au_base.specs.declared.limits.Limit.{Limit}
 use Rattle.au_base.specs.declared.places.Pos.{Pos}
 use Rattle.au_base.specs.declared.tokens.Token.{Token}
@@ -17,7 +18,8 @@ use Rattle.au_syntax.specs.Plain.{PlainModule}
 use Rattle.au_syntax.specs.Words.{Spells}
 use Rattle.au_outcomes.specs.Halts.{is_missing}
 use Rattle.au_outcomes.specs.Reading.{TokensHalt}
-use Rattle.au_outcomes.specs.Trees.{AreRead, FirstHalts, Halts, HasNoTree, HasTokens, HasTree, IsRead, ReadFile, place_or}
+use Rattle.au_outcomes.specs.Trees.{AreRead, FirstHalts, Halts, HasNoTree, HasTokens, HasTree, IsRead}
+use Rattle.au_outcomes.specs.Trees.{ReadFile, place_or}
 use Rattle.au_outcomes.specs.declared.outcomes.Outcome.{Outcome}
 use Rattle.au_outcomes.specs.declared.outcomes.Outcome.TheVariants as outcome
 use Rattle.au_outcomes.specs.Refusals.{is_refusal}
@@ -31,7 +33,8 @@ Shape file bytes (tokens list) arisen = TokensHalt list (place_after file bytes)
 Shape file bytes (stray at) arisen = arisen ≡ outcome.Refused (Byte at)
 Shape file bytes (passes limit) arisen = arisen ≡ outcome.Passes limit
 
-shape : (file : ℕ) (bytes : List ℕ) (arisen : Outcome) → Halts file bytes arisen → (lexed : Lexed) × Lexes file bytes lexed × Shape file bytes lexed arisen
+shape : (file : ℕ) (bytes : List ℕ) (arisen : Outcome) → Halts file bytes arisen → (lexed : Lexed)
+    × Lexes file bytes lexed × Shape file bytes lexed arisen
 shape file bytes (outcome.Passes limit) h = elim h [
   | inl lexed ↦ (passes limit, lexed, refl)
   | inr read ↦ (tokens read.0, (read.1, read.2), read.3)
@@ -41,7 +44,8 @@ shape file bytes (outcome.Refused (Syntax at)) h = (tokens h.0, (h.1, h.2), h.3)
 shape file bytes other h = absurd h
 
 -- what tokens halt with, a file halts with that is cut into them
-pub halts_so : (file : ℕ) (bytes : List ℕ) (list : List Token) (arisen : Outcome) → Cut file bytes list → IsWithinLimits list → TokensHalt list (place_after file bytes) arisen → Halts file bytes arisen
+pub halts_so : (file : ℕ) (bytes : List ℕ) (list : List Token) (arisen : Outcome) → Cut file bytes list →
+    IsWithinLimits list → TokensHalt list (place_after file bytes) arisen → Halts file bytes arisen
 halts_so file bytes list (outcome.Passes limit) cut within h = inr (list, cut, within, h)
 halts_so file bytes list (outcome.Refused (Syntax at)) cut within h = (list, cut, within, h)
 halts_so file bytes list other cut within h = absurd h
@@ -53,9 +57,11 @@ fault_outcome list end (reading.Passed limit left) = outcome.Passes limit
 
 -- tokens that have no tree within the limits come to the fault of the reader
 abbrev IsFaultOutcome : List Token → Pos → Outcome → Type 0
-IsFaultOutcome list end arisen = (HasTree list → ⊥) × ((f : Fault) × (file_at usual list ≡ Err f) × (arisen ≡ fault_outcome list end f))
+IsFaultOutcome list end arisen = (HasTree list → ⊥)
+    × ((f : Fault) × (file_at usual list ≡ Err f) × (arisen ≡ fault_outcome list end f))
 
-fault_of : (list : List Token) (end : Pos) (arisen : Outcome) → TokensHalt list end arisen → IsFaultOutcome list end arisen
+fault_of : (list : List Token) (end : Pos) (arisen : Outcome) → TokensHalt list end arisen →
+    IsFaultOutcome list end arisen
 fault_of list end (outcome.Passes limit) h = (
   λ tree. fits_none tree.0 limit tree.3 (h.0 tree.0 tree.1 tree.2),
   (reading.Passed limit h.1.0, h.1.1, refl),
@@ -77,7 +83,8 @@ tokens_same list end x y a b =
     let q = (fault_of list end y b).1 in
     p.2 ∙ ap (fault_outcome list end) (one_fault (file_at usual list) p.0 q.0 p.1 q.1) ∙ sym q.2
 
-shape_same : (file : ℕ) (bytes : List ℕ) (lexed : Lexed) (x y : Outcome) → Shape file bytes lexed x → Shape file bytes lexed y → x ≡ y
+shape_same : (file : ℕ) (bytes : List ℕ) (lexed : Lexed) (x y : Outcome) → Shape file bytes lexed x →
+    Shape file bytes lexed y → x ≡ y
 shape_same file bytes (tokens list) x y a b = tokens_same list (place_after file bytes) x y a b
 shape_same file bytes (stray at) x y a b = a ∙ sym b
 shape_same file bytes (passes limit) x y a b = a ∙ sym b
@@ -94,17 +101,24 @@ has_tree : (file : ℕ) (bytes : List ℕ) (one : ReadFile) → IsRead file byte
 has_tree file bytes one read = (one.tree, read.formed, read.spelled, read.fits)
 
 -- a file that was read doesn't halt
-pub halts_or_read : (file : ℕ) (bytes : List ℕ) (x : Outcome) (one : ReadFile) → Halts file bytes x → IsRead file bytes one → ⊥
+pub halts_or_read : (file : ℕ) (bytes : List ℕ) (x : Outcome) (one : ReadFile) → Halts file bytes x →
+    IsRead file bytes one → ⊥
 halts_or_read file bytes x one h read =
     let p = shape file bytes x h in
-    let q : Shape file bytes (tokens one.tokens) x = subst (λ l. Shape file bytes l x) (one_outcome file bytes p.0 (tokens one.tokens) p.1 (read.cut, read.within)) p.2 in
+    let q : Shape file bytes (tokens one.tokens) x =
+    subst (λ l. Shape file bytes l x)
+    (one_outcome file bytes p.0 (tokens one.tokens) p.1 (read.cut, read.within)) p.2 in
     (fault_of one.tokens (place_after file bytes) x q).0 (has_tree file bytes one read)
 
 same_parts : (a b : ReadFile) → a.tokens ≡ b.tokens → a.end ≡ b.end → a.tree ≡ b.tree → a ≡ b
 same_parts a b list end tree =
-    let first : a ≡ record { tokens = b.tokens; end = a.end; tree = a.tree } = ap (λ t. record { tokens = t; end = a.end; tree = a.tree }) list in
-    let second : ◌≡◌ {A = ReadFile} (record { tokens = b.tokens; end = a.end; tree = a.tree }) (record { tokens = b.tokens; end = b.end; tree = a.tree }) = ap (λ e. record { tokens = b.tokens; end = e; tree = a.tree }) end in
-    let third : record { tokens = b.tokens; end = b.end; tree = a.tree } ≡ b = ap (λ m. record { tokens = b.tokens; end = b.end; tree = m }) tree in
+    let first : a ≡ record { tokens = b.tokens; end = a.end; tree = a.tree } =
+    ap (λ t. record { tokens = t; end = a.end; tree = a.tree }) list in
+    let second : ◌≡◌ {A = ReadFile} (record { tokens = b.tokens; end = a.end; tree = a.tree })
+    (record { tokens = b.tokens; end = b.end; tree = a.tree }) =
+    ap (λ e. record { tokens = b.tokens; end = e; tree = a.tree }) end in
+    let third : record { tokens = b.tokens; end = b.end; tree = a.tree } ≡ b =
+    ap (λ m. record { tokens = b.tokens; end = b.end; tree = m }) tree in
     first ∙ second ∙ third
 
 -- a file is read as one thing
@@ -117,10 +131,12 @@ read_same file bytes a b x y =
 -- a file of which the tokens have no tree isn't read
 pub treeless : (file : ℕ) (bytes : List ℕ) (one : ReadFile) → HasTokens file bytes HasNoTree → IsRead file bytes one → ⊥
 treeless file bytes one none read =
-    none.3 one.tree read.formed (subst (λ ts. Spells one.tree ts) (one_cut file bytes one.tokens none.0 read.cut none.1) read.spelled)
+    none.3 one.tree read.formed (subst (λ ts. Spells one.tree ts)
+    (one_cut file bytes one.tokens none.0 read.cut none.1) read.spelled)
 
 -- files in order are read as one thing
-pub are_read_same : (file : ℕ) (all : List (List ℕ)) (rs qs : List ReadFile) → AreRead file all rs → AreRead file all qs → rs ≡ qs
+pub are_read_same : (file : ℕ) (all : List (List ℕ)) (rs qs : List ReadFile) → AreRead file all rs →
+    AreRead file all qs → rs ≡ qs
 are_read_same file [] [] [] a b = refl
 are_read_same file [] (r ∷ rs) qs a b = absurd a
 are_read_same file [] [] (q ∷ qs) a b = absurd b
@@ -132,7 +148,8 @@ are_read_same file (bytes ∷ all) (r ∷ rs) (q ∷ qs) a b =
     ap (λ one. one ∷ rs) first ∙ ap (λ l. q ∷ l) rest
 
 -- files in order halt with one thing
-pub first_halts_same : (file : ℕ) (all : List (List ℕ)) (x y : Outcome) → FirstHalts file all x → FirstHalts file all y → x ≡ y
+pub first_halts_same : (file : ℕ) (all : List (List ℕ)) (x y : Outcome) → FirstHalts file all x →
+    FirstHalts file all y → x ≡ y
 first_halts_same file [] x y a b = absurd a
 first_halts_same file (bytes ∷ all) x y a b = elim a [
   | inl p ↦ elim b [
@@ -146,7 +163,8 @@ first_halts_same file (bytes ∷ all) x y a b = elim a [
 ]
 
 -- files that were read don't halt
-pub first_halts_or_read : (file : ℕ) (all : List (List ℕ)) (x : Outcome) (rs : List ReadFile) → FirstHalts file all x → AreRead file all rs → ⊥
+pub first_halts_or_read : (file : ℕ) (all : List (List ℕ)) (x : Outcome) (rs : List ReadFile) →
+    FirstHalts file all x → AreRead file all rs → ⊥
 first_halts_or_read file [] x rs a b = absurd a
 first_halts_or_read file (bytes ∷ all) x [] a b = absurd b
 first_halts_or_read file (bytes ∷ all) x (r ∷ rs) a b = elim a [
@@ -155,7 +173,8 @@ first_halts_or_read file (bytes ∷ all) x (r ∷ rs) a b = elim a [
 ]
 
 -- a file among those that were read
-pub read_at : (file : ℕ) (all : List (List ℕ)) (rs : List ReadFile) (i : ℕ) (bytes : List ℕ) → AreRead file all rs → slice_get all i ≡ Some bytes → (one : ReadFile) × IsRead (file + i) bytes one
+pub read_at : (file : ℕ) (all : List (List ℕ)) (rs : List ReadFile) (i : ℕ) (bytes : List ℕ) →
+    AreRead file all rs → slice_get all i ≡ Some bytes → (one : ReadFile) × IsRead (file + i) bytes one
 read_at file [] rs i bytes a is = cc
 read_at file (first ∷ all) [] i bytes a is = absurd a
 read_at file (first ∷ all) (r ∷ rs) zero bytes a is =

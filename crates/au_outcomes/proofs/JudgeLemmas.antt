@@ -1,5 +1,6 @@
 -- What the modules of a program come to.
-use Rattle.std.proofs.Common.{◌≡◌, ℕ, List, [], ◌∷◌, ◌++◌, map, Option, Some, None, Err, Result, ap, ◌∙◌, sym, refl, subst, ◌⊎◌}
+use Rattle.std.proofs.Common.{◌≡◌, ℕ, List, [], ◌∷◌, ◌++◌, map, Option, Some, None, Err, Result, ap, ◌∙◌, sym}
+use Rattle.std.proofs.Common.{refl, subst, ◌⊎◌}
 use Rattle.std.specs.Option.{option_or}
 use Rattle.au_classes.specs.declared.faults.ClassFault.{ClassFault}
 use Rattle.au_classes.specs.declared.faults.ClassFault.TheVariants as classes
@@ -24,7 +25,8 @@ use Rattle.au_shipped.specs.Shipped.{file_says, shipped_files}
 use Rattle.au_syntax.specs.declared.wholes.FileTree.{FileTree}
 use Rattle.au_syntax.specs.Plain.{PlainModule}
 use Rattle.au_outcomes.specs.Halts.{Says, known_or_memory}
-use Rattle.au_outcomes.specs.Programs.{AreJudgedAs, bodies_outcome, class_outcome, declaration_outcome, import_outcome, judged_by}
+use Rattle.au_outcomes.specs.Programs.{AreJudgedAs, bodies_outcome, class_outcome, declaration_outcome}
+use Rattle.au_outcomes.specs.Programs.{import_outcome, judged_by}
 use Rattle.au_outcomes.specs.Programs.{life_outcome, module_outcome, modules_outcome, program_outcome}
 use Rattle.au_outcomes.specs.Programs.{shipped_entries, type_outcome}
 use Rattle.au_outcomes.specs.declared.halts.Halt.{Halt}
@@ -35,7 +37,8 @@ use Rattle.au_outcomes.proofs.FaultLemmas.{of_modules, of_types}
 -- ---- files
 
 -- what files come to that aren't those of modules
-files_known : (files : List Entry) (x : Outcome) → judged_by module_outcome (programs.refusal_of files) ≡ Some x → program_outcome files ≡ Some x
+files_known : (files : List Entry) (x : Outcome) → judged_by module_outcome (programs.refusal_of files)
+    ≡ Some x → program_outcome files ≡ Some x
 unfolding program_outcome
 files_known files x h = ap (λ o. option_or o (modules_outcome (modules_of files))) h
 
@@ -48,13 +51,16 @@ gather_halts given files e G same h =
     (subst (λ l. (e ≡ modules.Memory) ⊎ (programs.refusal_of l ≡ Some e)) same h) (files_known files)
 
 -- what files come to that are those of modules
-files_judged : (files : List Entry) → programs.refusal_of files ≡ None → program_outcome files ≡ modules_outcome (modules_of files)
+files_judged : (files : List Entry) → programs.refusal_of files ≡ None → program_outcome files
+    ≡ modules_outcome (modules_of files)
 unfolding program_outcome
 files_judged files none = ap (λ r. option_or (judged_by module_outcome r) (modules_outcome (modules_of files))) none
 
-pub program_is : (given files : List Entry) (parts : List ModuleParts) → given ≡ files → parts ≡ modules_of given → programs.refusal_of given ≡ None → program_outcome files ≡ modules_outcome parts
+pub program_is : (given files : List Entry) (parts : List ModuleParts) → given ≡ files →
+    parts ≡ modules_of given → programs.refusal_of given ≡ None → program_outcome files ≡ modules_outcome parts
 program_is given files parts same are none =
-    files_judged files (subst (λ l. programs.refusal_of l ≡ None) same none) ∙ ap modules_outcome (sym (are ∙ ap modules_of same))
+    files_judged files (subst (λ l. programs.refusal_of l ≡ None) same none)
+    ∙ ap modules_outcome (sym (are ∙ ap modules_of same))
 
 pub program_says : {T : Type 0} (held : T → List ModuleParts) (given files : List Entry) (parts : List ModuleParts)
     (r : Result T Halt) → given ≡ files → parts ≡ modules_of given → programs.refusal_of given ≡ None
@@ -73,7 +79,8 @@ module _ (parts : List ModuleParts) where
   behind : Option Outcome
   behind = option_or (judged_by declaration_outcome (decl_fault parts)) (bodies_outcome parts)
 
-  names_known : (x : Outcome) → judged_by import_outcome (importing.refusal_of parts) ≡ Some x → modules_outcome parts ≡ Some x
+  names_known : (x : Outcome) → judged_by import_outcome (importing.refusal_of parts) ≡ Some x →
+      modules_outcome parts ≡ Some x
   unfolding modules_outcome behind
   names_known x h = ap (λ o. option_or o behind) h
 
@@ -165,7 +172,8 @@ module _ (parts : List ModuleParts) where
       instances_judged instances ∙ types_judged types ∙ ap (judged_by life_outcome) none
 
 -- the shipped files, and those of the user
-entries_of : (files : List FileTree) → map entry files ≡ map (λ (f : ℕ × PlainModule). record { file = f.0; tree = f.1 }) (map file_says files)
+entries_of : (files : List FileTree) →
+    map entry files ≡ map (λ (f : ℕ × PlainModule). record { file = f.0; tree = f.1 }) (map file_says files)
 entries_of [] = refl
 entries_of (f ∷ files) = ap (λ l. entry f ∷ l) (entries_of files)
 
@@ -174,11 +182,15 @@ entries_of_both [] rest = refl
 entries_of_both (f ∷ first) rest = ap (λ l. entry f ∷ l) (entries_of_both first rest)
 
 -- files that say what a list does, and others behind them
-listed_first : (list : List (ℕ × PlainModule)) (first own all : List FileTree) → map file_says first ≡ list → all ≡ first ++ own → map entry all ≡ map (λ (f : ℕ × PlainModule). record { file = f.0; tree = f.1 }) list ++ map entry own
+listed_first : (list : List (ℕ × PlainModule)) (first own all : List FileTree) → map file_says first ≡ list →
+    all ≡ first ++ own → map entry all ≡ map (λ (f : ℕ × PlainModule). record { file = f.0; tree = f.1 }) list
+    ++ map entry own
 listed_first list first own all are same =
     ap (map entry) same ∙ entries_of_both first own
-    ∙ ap (λ l. l ++ map entry own) (entries_of first ∙ ap (map (λ (f : ℕ × PlainModule). record { file = f.0; tree = f.1 })) are)
+    ∙ ap (λ l. l ++ map entry own)
+    (entries_of first ∙ ap (map (λ (f : ℕ × PlainModule). record { file = f.0; tree = f.1 })) are)
 
-pub shipped_first : (first own all : List FileTree) → map file_says first ≡ shipped_files → all ≡ first ++ own → map entry all ≡ shipped_entries ++ map entry own
+pub shipped_first : (first own all : List FileTree) → map file_says first ≡ shipped_files → all ≡ first
+    ++ own → map entry all ≡ shipped_entries ++ map entry own
 unfolding shipped_entries
 shipped_first first own all are same = listed_first shipped_files first own all are same

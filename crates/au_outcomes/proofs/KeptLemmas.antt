@@ -1,5 +1,6 @@
 -- Files that are read in order.
-use Rattle.std.proofs.Common.{◌≡◌, ℕ, ◌+◌, ◌<◌, ◌≤◌, List, [], ◌∷◌, ◌++◌, length, get_or, drop, map, Vec, ap, ◌∙◌, sym, refl, subst, inl, inr, append_assoc}
+use Rattle.std.proofs.Common.{◌≡◌, ℕ, ◌+◌, ◌<◌, ◌≤◌, List, [], ◌∷◌, ◌++◌, length, get_or, drop, map, Vec, ap}
+use Rattle.std.proofs.Common.{◌∙◌, sym, refl, subst, inl, inr, append_assoc}
 use Rattle.std.specs.Global.{Global}
 use Rattle.std.proofs.lemmas.List.{append-nil, drop_all, drop_more}
 use Rattle.au_modules.specs.Programs.{entry}
@@ -19,9 +20,11 @@ abbrev pub HaltOn : List (Vec ℕ Global) → ℕ → Type 0
 HaltOn all i = (x : Outcome) → FirstHalts i (map bytes_in (drop i all)) x → FirstHalts 0 (map bytes_in all) x
 
 -- the file at an index, and those behind it
-bytes_at : (all : List (Vec ℕ Global)) (i : ℕ) (bytes : Vec ℕ Global) → i < length all → bytes ≡ get_or all i bytes → map bytes_in (drop i all) ≡ bytes.items ∷ map bytes_in (drop (i + 1) all)
+bytes_at : (all : List (Vec ℕ Global)) (i : ℕ) (bytes : Vec ℕ Global) → i < length all →
+    bytes ≡ get_or all i bytes → map bytes_in (drop i all) ≡ bytes.items ∷ map bytes_in (drop (i + 1) all)
 bytes_at all i bytes h is =
-    ap (map bytes_in) (drop_more all i bytes h) ∙ ap (λ (b : Vec ℕ Global). b.items ∷ map bytes_in (drop (i + 1) all)) (sym is)
+    ap (map bytes_in) (drop_more all i bytes h)
+    ∙ ap (λ (b : Vec ℕ Global). b.items ∷ map bytes_in (drop (i + 1) all)) (sym is)
 
 -- one file more is read
 kept_one : (file : ℕ) (bytes : List ℕ) (all : List (List ℕ)) (tree : FileTree) (trees : List FileTree)
@@ -59,7 +62,9 @@ module _
         before x (subst (λ l. FirstHalts i l x) (sym (bytes_at all i bytes h is)) (inr ((one.0, one.1), rest)))
 
     pub halts_here : (x : Outcome) → Halts i text x → HaltOn all i → FirstHalts 0 (map bytes_in all) x
-    halts_here x halts before = before x (subst (λ l. FirstHalts i l x) (sym (bytes_at all i bytes h is)) (inl (subst (λ b. Halts i b x) same halts)))
+    halts_here x halts before = before x
+        (subst (λ l. FirstHalts i l x) (sym (bytes_at all i bytes h is))
+        (inl (subst (λ b. Halts i b x) same halts)))
 
 -- all files are read
 pub kept_all : (all : List (Vec ℕ Global)) (i : ℕ) (trees : List FileTree) → length all ≤ i → KeepOn all i trees

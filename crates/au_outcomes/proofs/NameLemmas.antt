@@ -1,9 +1,11 @@
 -- The files of names come to one thing.
-use Rattle.std.proofs.Common.{◌≡◌, ℕ, true, ◌<◌, ◌≤◌, List, [], ◌∷◌, length, Some, None, ap, ◌∙◌, sym, refl, subst, arith, ◌⊎◌, inl, inr}
+use Rattle.std.proofs.Common.{◌≡◌, ℕ, true, ◌<◌, ◌≤◌, List, [], ◌∷◌, length, Some, None, ap, ◌∙◌, sym, refl}
+use Rattle.std.proofs.Common.{subst, arith, ◌⊎◌, inl, inr}
 use Rattle.au_base.specs.Limits.{most_file_bytes}
 use Rattle.au_base.specs.Outside.{Files}
 use Rattle.au_outcomes.specs.Halts.{IsUnhad}
-use Rattle.au_outcomes.specs.Outcomes.{AreFiles, BytesCome, Comes, FewCome, IsFile, IsFirst, file_limit, is_outcome, most_files}
+use Rattle.au_outcomes.specs.Outcomes.{AreFiles, BytesCome, Comes, FewCome, IsFile, IsFirst, file_limit}
+use Rattle.au_outcomes.specs.Outcomes.{is_outcome, most_files}
 use Rattle.au_outcomes.specs.Programs.{AreOne}
 use Rattle.au_outcomes.specs.declared.outcomes.Aim.{Aim}
 use Rattle.au_outcomes.specs.declared.outcomes.Outcome.{Outcome}
@@ -18,12 +20,15 @@ one_bytes files name a b x y = let e : Some a ≡ Some b = sym x ∙ y in cc
 no_bytes : (files : Files) (name a : List ℕ) → files name ≡ None → files name ≡ Some a → ⊥
 no_bytes files name a x y = let e : None ≡ Some a = sym x ∙ y in cc
 
-too_small : (files : Files) (name a b : List ℕ) → files name ≡ Some a → files name ≡ Some b → most_file_bytes < length a → length b ≤ most_file_bytes → ⊥
+too_small : (files : Files) (name a b : List ℕ) → files name ≡ Some a → files name ≡ Some b →
+    most_file_bytes < length a → length b ≤ most_file_bytes → ⊥
 too_small files name a b x y large small = let same = ap length (one_bytes files name a b x y) in omega arith
 
 -- a file that can't be had isn't there, or is too large
 unhad_shape : (files : Files) (name : List ℕ) (x : Outcome) → IsUnhad files name x
-    → ((files name ≡ None) × (x ≡ outcome.Missing name)) ⊎ ((bytes : List ℕ) × (files name ≡ Some bytes) × (most_file_bytes < length bytes) × (x ≡ outcome.Passes file_limit))
+    → ((files name ≡ None) × (x ≡ outcome.Missing name))
+    ⊎ ((bytes : List ℕ) × (files name ≡ Some bytes) × (most_file_bytes < length bytes)
+    × (x ≡ outcome.Passes file_limit))
 unhad_shape files name (outcome.Missing other) h = inl (h.1, ap (λ n. outcome.Missing n) (sym h.0))
 unhad_shape files name (outcome.Passes limit) h = inr (h.1.0, h.1.1, h.1.2, ap (λ l. outcome.Passes l) h.0)
 unhad_shape files name other h = absurd h
@@ -47,7 +52,8 @@ unhad_or_file files name bytes x a file = elim (unhad_shape files name x a) [
 ]
 
 -- the first that can't be had is one
-first_same : (files : Files) (names : List (List ℕ)) (x y : Outcome) → IsFirst (λ one. IsUnhad files one x) files names → IsFirst (λ one. IsUnhad files one y) files names → x ≡ y
+first_same : (files : Files) (names : List (List ℕ)) (x y : Outcome) → IsFirst (λ one. IsUnhad files one x)
+    files names → IsFirst (λ one. IsUnhad files one y) files names → x ≡ y
 first_same files [] x y a b = absurd a
 first_same files (name ∷ names) x y a b = elim a [
   | inl p ↦ elim b [
@@ -60,7 +66,8 @@ first_same files (name ∷ names) x y a b = elim a [
   ]
 ]
 
-pub first_or_files : (files : Files) (names all : List (List ℕ)) (x : Outcome) → IsFirst (λ one. IsUnhad files one x) files names → AreFiles files names all → ⊥
+pub first_or_files : (files : Files) (names all : List (List ℕ)) (x : Outcome) →
+    IsFirst (λ one. IsUnhad files one x) files names → AreFiles files names all → ⊥
 first_or_files files [] all x a are = absurd a
 first_or_files files (name ∷ names) [] x a are = absurd are
 first_or_files files (name ∷ names) (bytes ∷ all) x a are = elim a [
@@ -69,7 +76,8 @@ first_or_files files (name ∷ names) (bytes ∷ all) x a are = elim a [
 ]
 
 -- the files of names have one content
-pub files_same : (files : Files) (names xs ys : List (List ℕ)) → AreFiles files names xs → AreFiles files names ys → xs ≡ ys
+pub files_same : (files : Files) (names xs ys : List (List ℕ)) → AreFiles files names xs →
+    AreFiles files names ys → xs ≡ ys
 files_same files [] [] [] x y = refl
 files_same files [] (a ∷ xs) ys x y = absurd x
 files_same files [] [] (b ∷ ys) x y = absurd y

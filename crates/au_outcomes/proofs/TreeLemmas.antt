@@ -21,14 +21,16 @@ same_tree m u e =
     ap (λ (x : PlainModule × List Token). x.0) pairs
 
 -- a tree that keeps the bounds is read
-found_within : (b : Bounds) (ts : List Token) (m : PlainModule) → Spells m ts → formed_module m ≡ true → ModuleFits b m → file_at b ts ≡ gives (m, [])
+found_within : (b : Bounds) (ts : List Token) (m : PlainModule) → Spells m ts → formed_module m ≡ true →
+    ModuleFits b m → file_at b ts ≡ gives (m, [])
 found_within b ts m spelled good keeps =
     elim (file_found b (lower b) ts m spelled good) [
       | inl e ↦ e
       | inr p ↦ absurd (none_passed b m p.0 keeps p.3)
     ]
 
-pub one_tree : (m u : PlainModule) → formed_module m ≡ true → formed_module u ≡ true → (ts : List Token) → Spells m ts → Spells u ts → m ≡ u
+pub one_tree : (m u : PlainModule) → formed_module m ≡ true → formed_module u ≡ true → (ts : List Token) →
+    Spells m ts → Spells u ts → m ≡ u
 one_tree m u good fine ts first second =
     same_tree m u
     (sym (found_within (bounds_of m u) ts m first good (first_keeps m u))

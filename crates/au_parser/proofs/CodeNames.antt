@@ -1,5 +1,6 @@
 -- What the loop over the parts of a module's name keeps: what was read stands before what is still read.
-use Rattle.std.proofs.Common.{◌≡◌, ℕ, suc, ◌+◌, ◌<◌, ◌≤◌, arith, true, false, nat_le, List, [], ◌∷◌, ◌++◌, length, drop, Ok, Err, sym, ap, ◌∙◌}
+use Rattle.std.proofs.Common.{◌≡◌, ℕ, suc, ◌+◌, ◌<◌, ◌≤◌, arith, true, false, nat_le, List, [], ◌∷◌, ◌++◌}
+use Rattle.std.proofs.Common.{length, drop, Ok, Err, sym, ap, ◌∙◌}
 use Rattle.au_base.specs.declared.tokens.Sign.TheVariants.{Dot}
 use Rattle.au_base.specs.declared.tokens.Token.{Token}
 use Rattle.au_base.specs.declared.tokens.What.TheVariants.{Sign}
@@ -21,7 +22,8 @@ fits_false n m h = grind (arith, h)
 
 module _ (b : Bounds) (read : List (Placed Bytes)) where
   -- what is read behind a name, where the bytes with it are known
-  name_then : (x : Placed Bytes) (k j used bytes : ℕ) (rest next : List Token) → k ≡ suc j → name_at rest ≡ Ok (x, next) → bytes ≡ bytes_with used x
+  name_then : (x : Placed Bytes) (k j used bytes : ℕ) (rest next : List Token) → k ≡ suc j →
+      name_at rest ≡ Ok (x, next) → bytes ≡ bytes_with used x
       → with_front read (names_within b k used rest) ≡ with_front read (after_name b (names_within b j) bytes (x, next))
   name_then x k j used bytes rest next is one sum =
       ap (λ n. with_front read (names_within b n used rest)) is
@@ -31,22 +33,28 @@ module _ (b : Bounds) (read : List (Placed Bytes)) where
   abbrev further : (x : Placed Bytes) (j bytes : ℕ) (next : List Token) → Read (List (Placed Bytes))
   further x j bytes next = names_within b j (bytes + 1) (drop 1 next) >>= before_all x
 
-  pub names_on : (x : Placed Bytes) (k j used bytes : ℕ) (rest next : List Token) → k ≡ suc j → name_at rest ≡ Ok (x, next) → bytes ≡ bytes_with used x → nat_le bytes b.bytes ≡ true
-      → begins_with (Sign Dot) next ≡ true → with_front read (names_within b k used rest) ≡ with_front (read ++ x ∷ []) (names_within b j (bytes + 1) (drop 1 next))
+  pub names_on : (x : Placed Bytes) (k j used bytes : ℕ) (rest next : List Token) → k ≡ suc j →
+      name_at rest ≡ Ok (x, next) → bytes ≡ bytes_with used x → nat_le bytes b.bytes ≡ true
+      → begins_with (Sign Dot) next ≡ true → with_front read (names_within b k used rest)
+      ≡ with_front (read ++ x ∷ []) (names_within b j (bytes + 1) (drop 1 next))
   names_on x k j used bytes rest next is one sum fits more =
       name_then x k j used bytes rest next is one sum
       ∙ ap (with_front read) (when_true (nat_le bytes b.bytes) _ _ fits)
-      ∙ ap (with_front read) (when_true (begins_with (Sign Dot) next) (further x j bytes next) (read_of (x ∷ []) next) more)
+      ∙ ap (with_front read) (when_true (begins_with (Sign Dot) next) (further x j bytes next)
+      (read_of (x ∷ []) next) more)
       ∙ one_more read x (names_within b j (bytes + 1) (drop 1 next))
 
-  pub names_end : (x : Placed Bytes) (k j used bytes : ℕ) (rest next : List Token) → k ≡ suc j → name_at rest ≡ Ok (x, next) → bytes ≡ bytes_with used x → nat_le bytes b.bytes ≡ true
+  pub names_end : (x : Placed Bytes) (k j used bytes : ℕ) (rest next : List Token) → k ≡ suc j →
+      name_at rest ≡ Ok (x, next) → bytes ≡ bytes_with used x → nat_le bytes b.bytes ≡ true
       → begins_with (Sign Dot) next ≡ false → with_front read (names_within b k used rest) ≡ Ok (read ++ x ∷ [], next)
   names_end x k j used bytes rest next is one sum fits last =
       name_then x k j used bytes rest next is one sum
       ∙ ap (with_front read) (when_true (nat_le bytes b.bytes) _ _ fits)
-      ∙ ap (with_front read) (when_false (begins_with (Sign Dot) next) (further x j bytes next) (read_of (x ∷ []) next) last)
+      ∙ ap (with_front read) (when_false (begins_with (Sign Dot) next) (further x j bytes next)
+      (read_of (x ∷ []) next) last)
 
-  pub names_pass : (x : Placed Bytes) (k j used bytes : ℕ) (rest next : List Token) → k ≡ suc j → name_at rest ≡ Ok (x, next) → bytes ≡ bytes_with used x → nat_le bytes b.bytes ≡ false
+  pub names_pass : (x : Placed Bytes) (k j used bytes : ℕ) (rest next : List Token) → k ≡ suc j →
+      name_at rest ≡ Ok (x, next) → bytes ≡ bytes_with used x → nat_le bytes b.bytes ≡ false
       → with_front read (names_within b k used rest) ≡ Err (Passed (bytes_limit b) (length next))
   names_pass x k j used bytes rest next is one sum long =
       name_then x k j used bytes rest next is one sum

@@ -42,23 +42,28 @@ same_limit : (l k : Limit) (left n : ℕ) → faults (Passed l left) ≡ faults 
 same_limit l k left n e = cc
 
 -- why reading stopped
-pub stopped : (s : Stop) (f g : Fault) (read : Read PlainModule) → Stops s read → s ≡ stop.Fault f → f ≡ g → read ≡ Err g
+pub stopped : (s : Stop) (f g : Fault) (read : Read PlainModule) → Stops s read → s ≡ stop.Fault f → f ≡ g →
+    read ≡ Err g
 stopped s f g read h is same = subst (λ (e : Stop). Stops e read) (is ∙ ap stop.Fault same) h
 
 module _
-    (file_sound : (b : Bounds) (ts rest : List Token) (m : PlainModule) → file_at b ts ≡ Ok (m, rest) → (rest ≡ []) × AreWords (words m) ts × (formed_module m ≡ true) × ModuleFits b m)
+    (file_sound : (b : Bounds) (ts rest : List Token) (m : PlainModule) → file_at b ts ≡ Ok (m, rest) →
+    (rest ≡ []) × AreWords (words m) ts × (formed_module m ≡ true) × ModuleFits b m)
     (file_found : (b : Bounds) (ts : List Token) (m : PlainModule) → AreWords (words m) ts → formed_module m ≡ true
-    → (file_at b ts ≡ Ok (m, [])) ⊎ ((l : Limit) × (left : ℕ) × (file_at b ts ≡ Err (Passed l left)) × ModulePasses b m l))
+    → (file_at b ts ≡ Ok (m, [])) ⊎ ((l : Limit) × (left : ℕ) × (file_at b ts ≡ Err (Passed l left))
+    × ModulePasses b m l))
   where
     -- a tree that keeps the bounds is read
-    found_within : (b : Bounds) (ts : List Token) (m : PlainModule) → AreWords (words m) ts → formed_module m ≡ true → ModuleFits b m → file_at b ts ≡ Ok (m, [])
+    found_within : (b : Bounds) (ts : List Token) (m : PlainModule) → AreWords (words m) ts →
+        formed_module m ≡ true → ModuleFits b m → file_at b ts ≡ Ok (m, [])
     found_within b ts m spelled good keeps =
         elim (file_found b ts m spelled good) [
           | inl e ↦ e
           | inr p ↦ absurd (none_passed b m p.0 keeps p.3)
         ]
 
-    pub one_tree : (m u : PlainModule) → formed_module m ≡ true → formed_module u ≡ true → (ts : List Token) → Spells m ts → Spells u ts → m ≡ u
+    pub one_tree : (m u : PlainModule) → formed_module m ≡ true → formed_module u ≡ true → (ts : List Token) →
+        Spells m ts → Spells u ts → m ≡ u
     one_tree m u good fine ts first second =
         same_tree m u
         (sym (found_within (bounds_of m u) ts m first good (first_keeps m u))
@@ -68,13 +73,15 @@ module _
 
     module _ (ts : List Token) (tree : ParsedModule) (read : file_at usual ts ≡ Ok (module_tree parsed tree, [])) where
       pub tree_spelled : Spells (says parsed tree) ts
-      tree_spelled = subst (λ m. Spells m ts) (sym (says_itself tree)) (file_sound usual ts [] (module_tree parsed tree) read).1
+      tree_spelled = subst (λ m. Spells m ts) (sym (says_itself tree))
+          (file_sound usual ts [] (module_tree parsed tree) read).1
 
       pub tree_formed : is_formed parsed tree ≡ true
       tree_formed = ap formed_module (says_itself tree) ∙ (file_sound usual ts [] (module_tree parsed tree) read).2
 
       pub tree_within : is_within parsed tree ≡ true
-      tree_within = ap fits (says_itself tree) ∙ keeps_fits (module_tree parsed tree) (file_sound usual ts [] (module_tree parsed tree) read).3
+      tree_within = ap fits (says_itself tree) ∙ keeps_fits (module_tree parsed tree)
+          (file_sound usual ts [] (module_tree parsed tree) read).3
 
       pub tree_only : (m : PlainModule) → formed_module m ≡ true → Spells m ts → fits m ≡ true → says parsed tree ≡ m
       tree_only m good spelled small =
@@ -84,7 +91,8 @@ module _
     -- ---- a file is not read
 
     -- nothing is spelled so where a token doesn't fit
-    pub none_spelled : (ts : List Token) (left : ℕ) → file_at usual ts ≡ Err (Syntax left) → (m : PlainModule) → formed_module m ≡ true → Spells m ts → ⊥
+    pub none_spelled : (ts : List Token) (left : ℕ) → file_at usual ts ≡ Err (Syntax left) →
+        (m : PlainModule) → formed_module m ≡ true → Spells m ts → ⊥
     none_spelled ts left stops m good spelled =
         elim (file_found usual ts m spelled good) [
           | inl e ↦ not_both m (Syntax left) (sym e ∙ stops)
@@ -92,7 +100,8 @@ module _
         ]
 
     -- what is spelled so passes the limit that is told
-    pub limit_passed : (ts : List Token) (l : Limit) (left : ℕ) → file_at usual ts ≡ Err (Passed l left) → (m : PlainModule) → formed_module m ≡ true → Spells m ts → ModulePasses usual m l
+    pub limit_passed : (ts : List Token) (l : Limit) (left : ℕ) → file_at usual ts ≡ Err (Passed l left) →
+        (m : PlainModule) → formed_module m ≡ true → Spells m ts → ModulePasses usual m l
     limit_passed ts l left stops m good spelled =
         elim (file_found usual ts m spelled good) [
           | inl e ↦ absurd (not_both m (Passed l left) (sym e ∙ stops))
@@ -100,6 +109,7 @@ module _
         ]
 
     -- nothing within the limits is spelled so where reading stops
-    pub none_within : (ts : List Token) (f : Fault) → file_at usual ts ≡ Err f → (m : PlainModule) → formed_module m ≡ true → Spells m ts → fits m ≡ true → ⊥
+    pub none_within : (ts : List Token) (f : Fault) → file_at usual ts ≡ Err f → (m : PlainModule) →
+        formed_module m ≡ true → Spells m ts → fits m ≡ true → ⊥
     none_within ts f stops m good spelled small =
         not_both m f (sym (found_within usual ts m spelled good (fits_keeps m small)) ∙ stops)

@@ -9,7 +9,8 @@ use Rattle.au_syntax.specs.Depths.{module_depth, greatest}
 use Rattle.au_syntax.specs.Modules.{Importing}
 use Rattle.au_syntax.specs.Names.{Placed}
 use Rattle.au_syntax.specs.Plain.{Bytes, PlainModule}
-use Rattle.au_syntax.specs.Sizes.{type_depth, type_nodes, declaration_types, fits_type, joined, fits_name, names_fit, types_fit, fits}
+use Rattle.au_syntax.specs.Sizes.{type_depth, type_nodes, declaration_types, fits_type, joined, fits_name}
+use Rattle.au_syntax.specs.Sizes.{names_fit, types_fit, fits}
 use Rattle.au_syntax.specs.Types.{WrittenType}
 use Rattle.au_read_expressions.specs.Bounds.{Bounds, usual, SomeTypePasses, SomeNamePasses, module_names, ModulePasses}
 use Rattle.au_read_expressions.proofs.Limits.{TypesFit}
@@ -29,9 +30,11 @@ no_type_passes b l (t ∷ ts) h p =
       | inr q ↦ no_type_passes b l ts h.1 q
     ]
 
-no_name_passes : (b : Bounds) (l : Limit) (names : List (List (Placed Bytes))) → NamesFit b names → SomeNamePasses b names l → ⊥
+no_name_passes : (b : Bounds) (l : Limit) (names : List (List (Placed Bytes))) → NamesFit b names →
+    SomeNamePasses b names l → ⊥
 no_name_passes b l [] h p = p
-no_name_passes b l (name ∷ names) h p = elim p [ inl q ↦ omega (arith, h.0, q.0) | inr q ↦ no_name_passes b l names h.1 q ]
+no_name_passes b l (name ∷ names) h p =
+    elim p [ inl q ↦ omega (arith, h.0, q.0) | inr q ↦ no_name_passes b l names h.1 q ]
 
 pub none_passed : (b : Bounds) (m : PlainModule) (l : Limit) → ModuleFits b m → ModulePasses b m l → ⊥
 none_passed b m l h p =
@@ -53,8 +56,10 @@ all_types_fit : (ts : List WrittenType) → list_all fits_type ts ≡ true → T
 all_types_fit [] h = tt
 all_types_fit (t ∷ ts) h =
     let both = and_parts (fits_type t) (list_all fits_type ts) h in
-    let one = and_parts _ _ both.0 in
-    ((leb-true (type_depth t) most_type_depth one.0, leb-true (type_nodes t) most_type_nodes one.1), all_types_fit ts both.1)
+    let one = and_parts _ _ both.0 in (
+      (leb-true (type_depth t) most_type_depth one.0, leb-true (type_nodes t) most_type_nodes one.1),
+      all_types_fit ts both.1,
+    )
 
 -- whether an import's module has a name within the limit
 abbrev fits_import : Importing Bytes → Bool
@@ -63,14 +68,19 @@ fits_import one = fits_name one.from
 abbrev from : Importing Bytes → List (Placed Bytes)
 from one = one.from
 
-names_fit_all : (imports : List (Importing Bytes)) (name : List (Placed Bytes)) → NamesFit usual (map from imports ++ name ∷ [])
+names_fit_all : (imports : List (Importing Bytes)) (name : List (Placed Bytes)) →
+    NamesFit usual (map from imports ++ name ∷ [])
     → (fits_name name ≡ true) × (list_all fits_import imports ≡ true)
 names_fit_all [] name h = (le-leb (length (joined name)) most_name_bytes h.0, refl)
 names_fit_all (one ∷ imports) name h =
-    let rest = names_fit_all imports name h.1 in
-    (rest.0, and_from (fits_import one) (list_all fits_import imports) (le-leb (length (joined one.from)) most_name_bytes h.0) rest.1)
+    let rest = names_fit_all imports name h.1 in (
+      rest.0,
+      and_from (fits_import one) (list_all fits_import imports)
+          (le-leb (length (joined one.from)) most_name_bytes h.0) rest.1,
+    )
 
-all_names_fit : (imports : List (Importing Bytes)) (name : List (Placed Bytes)) → fits_name name ≡ true → list_all fits_import imports ≡ true
+all_names_fit : (imports : List (Importing Bytes)) (name : List (Placed Bytes)) → fits_name name ≡ true →
+    list_all fits_import imports ≡ true
     → NamesFit usual (map from imports ++ name ∷ [])
 all_names_fit [] name h k = (leb-true (length (joined name)) most_name_bytes h, tt)
 all_names_fit (one ∷ imports) name h k =
@@ -88,8 +98,10 @@ pub fits_keeps : (m : PlainModule) → fits m ≡ true → ModuleFits usual m
 fits_keeps m h =
     let all = and_parts _ (names_fit m) h in
     let tree = and_parts _ (types_fit m) all.0 in
-    let names = and_parts _ _ all.1 in
-    ((leb-true (module_depth m) most_nesting tree.0, all_types_fit (module_types m) tree.1), all_names_fit m.imports m.name names.0 names.1)
+    let names = and_parts _ _ all.1 in (
+      (leb-true (module_depth m) most_nesting tree.0, all_types_fit (module_types m) tree.1),
+      all_names_fit m.imports m.name names.0 names.1,
+    )
 
 -- a file within the limits passes none
 pub fits_none : (m : PlainModule) (l : Limit) → fits m ≡ true → ModulePasses usual m l → ⊥
@@ -97,9 +109,13 @@ fits_none m l h = none_passed usual m l (fits_keeps m h)
 
 -- ---- bounds that are kept
 
-types_kept : (b : Bounds) (ts : List WrittenType) → greatest type_depth ts ≤ b.depth → greatest type_nodes ts ≤ b.nodes → TypesFit b ts
+types_kept : (b : Bounds) (ts : List WrittenType) → greatest type_depth ts ≤ b.depth → greatest type_nodes ts
+    ≤ b.nodes → TypesFit b ts
 types_kept b [] h k = tt
-types_kept b (t ∷ ts) h k = ((omega (arith, h), omega (arith, k)), types_kept b ts (omega (arith, h)) (omega (arith, k)))
+types_kept b (t ∷ ts) h k = (
+  (omega (arith, h), omega (arith, k)),
+  types_kept b ts (omega (arith, h)) (omega (arith, k)),
+)
 
 -- the bytes of a module's name
 abbrev name_bytes : List (Placed Bytes) → ℕ
@@ -119,9 +135,13 @@ bounds_of m u = record {
 }
 
 pub first_keeps : (m u : PlainModule) → ModuleFits (bounds_of m u) m
-first_keeps m u =
-    ((omega arith, types_kept (bounds_of m u) (module_types m) (omega arith) (omega arith)), names_kept (bounds_of m u) (module_names m) (omega arith))
+first_keeps m u = (
+  (omega arith, types_kept (bounds_of m u) (module_types m) (omega arith) (omega arith)),
+  names_kept (bounds_of m u) (module_names m) (omega arith),
+)
 
 pub second_keeps : (m u : PlainModule) → ModuleFits (bounds_of m u) u
-second_keeps m u =
-    ((omega arith, types_kept (bounds_of m u) (module_types u) (omega arith) (omega arith)), names_kept (bounds_of m u) (module_names u) (omega arith))
+second_keeps m u = (
+  (omega arith, types_kept (bounds_of m u) (module_types u) (omega arith) (omega arith)),
+  names_kept (bounds_of m u) (module_names u) (omega arith),
+)

@@ -8,11 +8,26 @@ use Rattle.au_base.specs.declared.names.Name.{Name}
 use Rattle.au_syntax.specs.declared.parsed.Parsed.{Parsed}
 use Rattle.au_syntax.specs.Names.{Placed, Renaming}
 use Rattle.au_syntax.specs.Types.{Labelled, Bound}
-use Rattle.au_syntax.specs.Expressions.{number, negative, text, truth, nil, path, arrow, call, named_call, parenthesized, dereference, borrow, borrow_part, binary, negation, typed, choice, no_expressions, expressions, no_arguments, arguments}
-use Rattle.au_syntax.specs.Statements.{skip, declare, destructure, assign, assign_through, conditional, conditional_else, case_of, while_loop, for_loop, borrow_in, borrow_typed, discard, return_of, no_statements, statements, no_branches, branches, no_arms, arms}
-use Rattle.au_syntax.specs.Modules.{Constrained, Header, Variant, constant, opaque_type, record_type, union_type, function, class, instance, constant_body, function_body, instance_body, Importing}
-use Rattle.au_syntax.specs.Plain.{Bytes, PlainExpression, PlainExpressions, PlainArguments, PlainStatement, PlainStatements, PlainBranches, PlainArms, PlainMethod, PlainDeclaration, PlainModule, plain_name, plain_renaming, plain_labelled, plain_bound, plain_in_universe, plain_constrained, plain_header, plain_variant, plain_importing, plain_expression, plain_expressions, plain_arguments, plain_statement, plain_statements, plain_branches, plain_arms, plain_method, plain_declaration, plain_module}
-use Rattle.au_syntax.specs.Notes.{notes_of_expression, notes_of_expressions, notes_of_arguments, notes_of_statement, notes_of_statements, notes_of_branches, notes_of_arms, notes_of_method, notes_of_declaration, notes_of_module}
+use Rattle.au_syntax.specs.Expressions.{number, negative, text, truth, nil, path, arrow, call, named_call}
+use Rattle.au_syntax.specs.Expressions.{parenthesized, dereference, borrow, borrow_part, binary, negation}
+use Rattle.au_syntax.specs.Expressions.{typed, choice, no_expressions, expressions, no_arguments, arguments}
+use Rattle.au_syntax.specs.Statements.{skip, declare, destructure, assign, assign_through, conditional}
+use Rattle.au_syntax.specs.Statements.{conditional_else, case_of, while_loop, for_loop, borrow_in}
+use Rattle.au_syntax.specs.Statements.{borrow_typed, discard, return_of, no_statements, statements}
+use Rattle.au_syntax.specs.Statements.{no_branches, branches, no_arms, arms}
+use Rattle.au_syntax.specs.Modules.{Constrained, Header, Variant, constant, opaque_type, record_type}
+use Rattle.au_syntax.specs.Modules.{union_type, function, class, instance, constant_body, function_body}
+use Rattle.au_syntax.specs.Modules.{instance_body, Importing}
+use Rattle.au_syntax.specs.Plain.{Bytes, PlainExpression, PlainExpressions, PlainArguments, PlainStatement}
+use Rattle.au_syntax.specs.Plain.{PlainStatements, PlainBranches, PlainArms, PlainMethod, PlainDeclaration}
+use Rattle.au_syntax.specs.Plain.{PlainModule, plain_name, plain_renaming, plain_labelled, plain_bound}
+use Rattle.au_syntax.specs.Plain.{plain_in_universe, plain_constrained, plain_header, plain_variant}
+use Rattle.au_syntax.specs.Plain.{plain_importing, plain_expression, plain_expressions, plain_arguments}
+use Rattle.au_syntax.specs.Plain.{plain_statement, plain_statements, plain_branches, plain_arms, plain_method}
+use Rattle.au_syntax.specs.Plain.{plain_declaration, plain_module}
+use Rattle.au_syntax.specs.Notes.{notes_of_expression, notes_of_expressions, notes_of_arguments}
+use Rattle.au_syntax.specs.Notes.{notes_of_statement, notes_of_statements, notes_of_branches, notes_of_arms}
+use Rattle.au_syntax.specs.Notes.{notes_of_method, notes_of_declaration, notes_of_module}
 use Rattle.au_syntax.specs.Files.{says, is_allowed}
 use Rattle.au_syntax.specs.Views.{module_tree}
 
@@ -64,7 +79,12 @@ variant_same : (v : Variant Bytes) → plain_variant bytes v ≡ v
 variant_same v = λ i. record { name = v.name; fields = fields_same v.fields i }
 
 importing_same : (one : Importing Bytes) → plain_importing bytes one ≡ one
-importing_same one = λ i. record { at = one.at; from = names_same one.from i; items = map_same (plain_renaming bytes) renaming_same one.items i }
+importing_same one = λ i. record {
+  at = one.at;
+  from = names_same one.from i;
+  items = map_same (plain_renaming bytes) renaming_same one.items
+      i;
+}
 
 mutual
   expression_same : (e : PlainExpression) → plain_expression bytes e ≡ e
@@ -105,8 +125,10 @@ mutual
   statement_same (conditional_else at bs b) = λ i. conditional_else at (branches_same bs i) (statements_same b i)
   statement_same (case_of at e rest) = λ i. case_of at (expression_same e i) (arms_same rest i)
   statement_same (while_loop at e b) = λ i. while_loop at (expression_same e i) (statements_same b i)
-  statement_same (for_loop at n a z b) = λ i. for_loop at n (expression_same a i) (expression_same z i) (statements_same b i)
-  statement_same (borrow_in at access x r region b stop) = λ i. borrow_in at access x r region (statements_same b i) stop
+  statement_same (for_loop at n a z b) = λ i. for_loop at n (expression_same a i) (expression_same z i)
+      (statements_same b i)
+  statement_same (borrow_in at access x r region b stop) =
+      λ i. borrow_in at access x r region (statements_same b i) stop
   statement_same (borrow_typed at r t m x b stop) = λ i. borrow_typed at r t m x (statements_same b i) stop
   statement_same (discard at e) = λ i. discard at (expression_same e i)
   statement_same (return_of at e) = λ i. return_of at (expression_same e i)
@@ -129,14 +151,19 @@ method_same m = λ i. record { header = header_same m.header i; body = statement
 declaration_same : (d : PlainDeclaration) → plain_declaration bytes d ≡ d
 declaration_same (constant at n t) = refl
 declaration_same (opaque_type at n ps u) = λ i. opaque_type at n (map_same (plain_in_universe bytes) (λ p. refl) ps i) u
-declaration_same (record_type at n ps u fs) = λ i. record_type at n (map_same (plain_in_universe bytes) (λ p. refl) ps i) u (fields_same fs i)
-declaration_same (union_type at n ps u vs) = λ i. union_type at n (map_same (plain_in_universe bytes) (λ p. refl) ps i) u (map_same (plain_variant bytes) variant_same vs i)
+declaration_same (record_type at n ps u fs) =
+    λ i. record_type at n (map_same (plain_in_universe bytes) (λ p. refl) ps i) u (fields_same fs i)
+declaration_same (union_type at n ps u vs) =
+    λ i. union_type at n (map_same (plain_in_universe bytes) (λ p. refl) ps i) u
+    (map_same (plain_variant bytes) variant_same vs i)
 declaration_same (function at gs h) = λ i. function at (generics_same gs i) (header_same h i)
 declaration_same (class at n p hs) = λ i. class at n p (map_same (plain_header bytes) header_same hs i)
 declaration_same (instance at gs n t) = λ i. instance at (generics_same gs i) n t
 declaration_same (constant_body at n t e) = λ i. constant_body at n t (expression_same e i)
-declaration_same (function_body at gs h b stop) = λ i. function_body at (generics_same gs i) (header_same h i) (statements_same b i) stop
-declaration_same (instance_body at gs n t ms) = λ i. instance_body at (generics_same gs i) n t (map_same (plain_method bytes) method_same ms i)
+declaration_same (function_body at gs h b stop) = λ i. function_body at (generics_same gs i) (header_same h i)
+    (statements_same b i) stop
+declaration_same (instance_body at gs n t ms) = λ i. instance_body at (generics_same gs i) n t
+    (map_same (plain_method bytes) method_same ms i)
 
 pub module_same : (m : PlainModule) → plain_module bytes m ≡ m
 module_same m = λ i. record {
@@ -171,7 +198,8 @@ mutual
   expression_noted (binary n op a b) = and_from _ _ (expression_noted a) (expression_noted b)
   expression_noted (negation n e) = expression_noted e
   expression_noted (typed n e t) = expression_noted e
-  expression_noted (choice n c a b) = and_from _ _ (and_from _ _ (expression_noted c) (expression_noted a)) (expression_noted b)
+  expression_noted (choice n c a b) = and_from _ _ (and_from _ _ (expression_noted c) (expression_noted a))
+      (expression_noted b)
 
   expressions_noted : (es : PlainExpressions) → notes_of_expressions allowed allowed es ≡ true
   expressions_noted no_expressions = refl
@@ -192,7 +220,8 @@ mutual
   statement_noted (conditional_else at bs b) = and_from _ _ (branches_noted bs) (statements_noted b)
   statement_noted (case_of at e rest) = and_from _ _ (expression_noted e) (arms_noted rest)
   statement_noted (while_loop at e b) = and_from _ _ (expression_noted e) (statements_noted b)
-  statement_noted (for_loop at n a z b) = and_from _ _ (and_from _ _ (expression_noted a) (expression_noted z)) (statements_noted b)
+  statement_noted (for_loop at n a z b) =
+      and_from _ _ (and_from _ _ (expression_noted a) (expression_noted z)) (statements_noted b)
   statement_noted (borrow_in at access x r region b stop) = statements_noted b
   statement_noted (borrow_typed at r t m x b stop) = statements_noted b
   statement_noted (discard at e) = expression_noted e
@@ -204,7 +233,8 @@ mutual
 
   branches_noted : (bs : PlainBranches) → notes_of_branches allowed allowed bs ≡ true
   branches_noted no_branches = refl
-  branches_noted (branches e b rest) = and_from _ _ (and_from _ _ (expression_noted e) (statements_noted b)) (branches_noted rest)
+  branches_noted (branches e b rest) = and_from _ _ (and_from _ _ (expression_noted e) (statements_noted b))
+      (branches_noted rest)
 
   arms_noted : (rest : PlainArms) → notes_of_arms allowed allowed rest ≡ true
   arms_noted no_arms = refl

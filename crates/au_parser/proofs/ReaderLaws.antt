@@ -12,9 +12,11 @@ use Rattle.au_parser.proofs.FileForm as form
 use Rattle.au_parser.proofs.FileForm.{ModuleFits}
 use Rattle.au_parser.proofs.Lower.{lower}
 
-pub file_sound : (b : Bounds) (ts rest : List Token) (m : PlainModule) → file_at b ts ≡ Ok (m, rest) → (rest ≡ []) × AreWords (words m) ts × (formed_module m ≡ true) × ModuleFits b m
+pub file_sound : (b : Bounds) (ts rest : List Token) (m : PlainModule) → file_at b ts ≡ Ok (m, rest) →
+    (rest ≡ []) × AreWords (words m) ts × (formed_module m ≡ true) × ModuleFits b m
 file_sound b = form.file_sound b (lower b)
 
 pub file_found : (b : Bounds) (ts : List Token) (m : PlainModule) → AreWords (words m) ts → formed_module m ≡ true
-    → (file_at b ts ≡ Ok (m, [])) ⊎ ((l : Limit) × (left : ℕ) × (file_at b ts ≡ Err (Passed l left)) × ModulePasses b m l)
+    → (file_at b ts ≡ Ok (m, [])) ⊎ ((l : Limit) × (left : ℕ) × (file_at b ts ≡ Err (Passed l left))
+    × ModulePasses b m l)
 file_found b = form.file_found b (lower b)

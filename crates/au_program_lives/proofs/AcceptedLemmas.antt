@@ -8,12 +8,16 @@ use Rattle.au_modules.specs.Programs.{ModuleParts}
 use Rattle.au_imports.specs.Choices.{first_of}
 use Rattle.au_program_lives.specs.declared.faults.LinearFault.{LinearFault}
 use Rattle.au_program_lives.specs.declared.faults.LinearFault.TheVariants as fault
-use Rattle.au_program_lives.specs.LinearFaults.{declaration_fault, declared_fault, fault_of, fault_told, function_fault, function_variables, linear_fault, method_fault, spot_types}
+use Rattle.au_program_lives.specs.LinearFaults.{declaration_fault, declared_fault, fault_of, fault_told}
+use Rattle.au_program_lives.specs.LinearFaults.{function_fault, function_variables, linear_fault}
+use Rattle.au_program_lives.specs.LinearFaults.{method_fault, spot_types}
 use Rattle.au_program_lives.specs.Scopes.{TypeScope}
-use Rattle.au_syntax.specs.Modules.{Header, constant, opaque_type, record_type, union_type, function, class, instance, constant_body, function_body, instance_body}
+use Rattle.au_syntax.specs.Modules.{Header, constant, opaque_type, record_type, union_type, function, class}
+use Rattle.au_syntax.specs.Modules.{instance, constant_body, function_body, instance_body}
 use Rattle.au_syntax.specs.Plain.{Bytes, PlainDeclaration, PlainStatements}
 
-of_unwanted : (name variable : Bytes) (at : Pos) (why : Refusal) → Some (fault_of name variable at why) ≡ Some fault.Memory → ⊥
+of_unwanted : (name variable : Bytes) (at : Pos) (why : Refusal) → Some (fault_of name variable at why)
+    ≡ Some fault.Memory → ⊥
 of_unwanted name variable at (in_loop place) h = cc
 of_unwanted name variable at (in_part place) h = cc
 of_unwanted name variable at (on_path kind path) h = cc
@@ -22,8 +26,10 @@ told_unwanted : (name : Bytes) (r : Option Refused) → option_map (fault_told n
 told_unwanted name None h = cc
 told_unwanted name (Some r) h = of_unwanted name r.variable.scope.name.name r.variable.scope.name.at r.why h
 
-function_unwanted : (header : Header Bytes) (body : PlainStatements) (sc : TypeScope) → function_fault header body sc ≡ Some fault.Memory → ⊥
-function_unwanted header body sc h = told_unwanted header.name.name (first_refused (function_variables header body sc)) h
+function_unwanted : (header : Header Bytes) (body : PlainStatements) (sc : TypeScope) →
+    function_fault header body sc ≡ Some fault.Memory → ⊥
+function_unwanted header body sc h =
+    told_unwanted header.name.name (first_refused (function_variables header body sc)) h
 
 first_unwanted : {A : Type 0} (f : A → Option LinearFault) (xs : List A) → ((x : A) → f x ≡ Some fault.Memory → ⊥)
     → first_of f xs ≡ Some fault.Memory → ⊥

@@ -9,9 +9,11 @@ use Rattle.au_names.proofs.AmongLemmas.{among, contains}
 use Rattle.au_imports.proofs.ChoiceLemmas.{first_from, first_to}
 use Rattle.au_program_lives.specs.declared.faults.LinearFault.{LinearFault}
 use Rattle.au_program_lives.specs.Good.{AllLivesAreGood, DeclarationIsGood, FunctionIsGood, IsRefused}
-use Rattle.au_program_lives.specs.LinearFaults.{declaration_fault, declared_fault, fault_told, function_fault, function_variables, linear_fault, method_fault, spot_types}
+use Rattle.au_program_lives.specs.LinearFaults.{declaration_fault, declared_fault, fault_told, function_fault}
+use Rattle.au_program_lives.specs.LinearFaults.{function_variables, linear_fault, method_fault, spot_types}
 use Rattle.au_program_lives.specs.Scopes.{TypeScope}
-use Rattle.au_syntax.specs.Modules.{Header, constant, opaque_type, record_type, union_type, function, class, instance, constant_body, function_body, instance_body}
+use Rattle.au_syntax.specs.Modules.{Header, constant, opaque_type, record_type, union_type, function, class}
+use Rattle.au_syntax.specs.Modules.{instance, constant_body, function_body, instance_body}
 use Rattle.au_syntax.specs.Plain.{Bytes, PlainDeclaration, PlainStatements}
 
 -- ---- functions
@@ -20,7 +22,8 @@ map_none : {A B : Type 0} (f : A → B) (o : Option A) → option_map f o ≡ No
 map_none f None h = refl
 map_none f (Some x) h = absurd cc
 
-map_some : {A B : Type 0} (f : A → B) (o : Option A) (y : B) → option_map f o ≡ Some y → (x : A) × (o ≡ Some x) × (y ≡ f x)
+map_some : {A B : Type 0} (f : A → B) (o : Option A) (y : B) → option_map f o ≡ Some y → (x : A)
+    × (o ≡ Some x) × (y ≡ f x)
 map_some f None y h = absurd cc
 map_some f (Some x) y h = let e : f x ≡ y = cc in (x, refl, sym e)
 

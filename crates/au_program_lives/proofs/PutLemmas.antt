@@ -1,5 +1,6 @@
 -- What is put behind others, item by item.
-use Rattle.std.proofs.Common.{◌≡◌, ℕ, suc, ◌+◌, ◌<◌, ◌≤◌, List, [], ◌∷◌, ◌++◌, append_assoc, length, drop, drop-cons, get_or, sym, ap, subst, ◌∙◌, arith}
+use Rattle.std.proofs.Common.{◌≡◌, ℕ, suc, ◌+◌, ◌<◌, ◌≤◌, List, [], ◌∷◌, ◌++◌, append_assoc, length, drop}
+use Rattle.std.proofs.Common.{drop-cons, get_or, sym, ap, subst, ◌∙◌, arith}
 use Rattle.std.proofs.lemmas.List.{append-nil, drop_all}
 use Rattle.std.specs.Prelude.{OnOk, Result}
 use Rattle.au_base.specs.declared.faults.Memory.{Memory}
@@ -14,7 +15,8 @@ pub record Giving (A : Type 0) : Type 0 where
   pub none : all [] ≡ []
 
 -- an item of a list and those behind it
-next_item : {A : Type 0} (xs : List A) (i : ℕ) (a : A) → a ≡ get_or xs i a → i < length xs → drop i xs ≡ a ∷ drop (i + 1) xs
+next_item : {A : Type 0} (xs : List A) (i : ℕ) (a : A) → a ≡ get_or xs i a → i < length xs →
+    drop i xs ≡ a ∷ drop (i + 1) xs
 next_item xs i a is lt =
     let e : suc i ≡ i + 1 = omega arith in
     drop-cons xs i a lt ∙ ap (λ one. one ∷ drop (suc i) xs) (sym is) ∙ ap (λ n. a ∷ drop n xs) e
@@ -41,17 +43,20 @@ both_put old one two made next first second =
     second ∙ ap (λ l. l ++ two) first ∙ append_assoc old one two
 
 -- the same where the last call may have failed
-pub then_put : (r : Result (Unit {0}) Memory) (old one two made new : List Sort) → made ≡ old ++ one → OnOk r (new ≡ made ++ two) →
+pub then_put : (r : Result (Unit {0}) Memory) (old one two made new : List Sort) → made ≡ old ++ one →
+    OnOk r (new ≡ made ++ two) →
     OnOk r (new ≡ old ++ (one ++ two))
 then_put r old one two made new first h =
     subst (λ l. OnOk r (new ≡ l)) (ap (λ l. l ++ two) first ∙ append_assoc old one two) h
 
 -- what is put is told otherwise
-pub put_as : (r : Result (Unit {0}) Memory) (old new one other : List Sort) → other ≡ one → OnOk r (new ≡ old ++ one) → OnOk r (new ≡ old ++ other)
+pub put_as : (r : Result (Unit {0}) Memory) (old new one other : List Sort) → other ≡ one →
+    OnOk r (new ≡ old ++ one) → OnOk r (new ≡ old ++ other)
 put_as r old new one other e h = subst (λ l. OnOk r (new ≡ old ++ l)) (sym e) h
 
 -- what is put is that of an equal scope
-pub at_scope : (all : TypeScope → List Sort) (x y : TypeScope) → x ≡ y → (old new : List Sort) → new ≡ old ++ all x → new ≡ old ++ all y
+pub at_scope : (all : TypeScope → List Sort) (x y : TypeScope) → x ≡ y → (old new : List Sort) → new ≡ old
+    ++ all x → new ≡ old ++ all y
 at_scope all x y e old new h = h ∙ ap (λ s. old ++ all s) e
 
 -- nothing is put

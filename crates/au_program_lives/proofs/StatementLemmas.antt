@@ -7,8 +7,11 @@ use Rattle.au_lives.specs.declared.lives.Sort.{Sort}
 use Rattle.au_lives.specs.declared.lives.Sort.TheVariants as asks
 use Rattle.au_lives.specs.Paths.{access_of}
 use Rattle.au_program_lives.specs.Scopes.{TypeScope, opened_by, opened_in}
-use Rattle.au_program_lives.specs.Said.{arms_said, binds_said, block_said, branches_said, parameters_said, statement_said, statements_said}
-use Rattle.au_program_lives.specs.Sorts.{written_sort, reference_sort, region_written, parameter_sorts, bound_sorts, sorts_after, sorts, sorts_inside, sorts_of_branches, sorts_of_arms}
+use Rattle.au_program_lives.specs.Said.{arms_said, binds_said, block_said, branches_said, parameters_said}
+use Rattle.au_program_lives.specs.Said.{statement_said, statements_said}
+use Rattle.au_program_lives.specs.Sorts.{written_sort, reference_sort, region_written, parameter_sorts}
+use Rattle.au_program_lives.specs.Sorts.{bound_sorts, sorts_after, sorts, sorts_inside, sorts_of_branches}
+use Rattle.au_program_lives.specs.Sorts.{sorts_of_arms}
 use Rattle.au_program_lives.proofs.PutLemmas.{Giving}
 use Rattle.au_syntax.specs.declared.phases.Phase.{Ghosts}
 use Rattle.au_syntax.specs.declared.types.Access.{Access}
@@ -28,7 +31,10 @@ use Rattle.au_syntax.specs.declared.statements.Stmt as code
 use Rattle.au_syntax.specs.Plain.{Bytes, PlainStatements, plain_statement}
 use Rattle.au_syntax.specs.Statements.{Statement}
 use Rattle.au_syntax.specs.Views.{placed, statement, written}
-use Rattle.au_syntax.proofs.StatementLemmas.{skip_says, let_says, destructure_says, assign_says, assign_through_says, call_says, return_says, if_says, if_else_says, case_says, while_says, for_says, borrow_says, borrow_typed_says}
+use Rattle.au_syntax.proofs.StatementLemmas.{skip_says, let_says, destructure_says, assign_says}
+use Rattle.au_syntax.proofs.StatementLemmas.{assign_through_says, call_says, return_says, if_says}
+use Rattle.au_syntax.proofs.StatementLemmas.{if_else_says, case_says, while_says, for_says, borrow_says}
+use Rattle.au_syntax.proofs.StatementLemmas.{borrow_typed_says}
 
 module _ {X N T C : Type 0} (g : Ghosts X N T C) (sc : TypeScope) where
   abbrev pub parameters_give : Giving (Field X N T C)
@@ -90,7 +96,8 @@ module _ {X N T C : Type 0} (g : Ghosts X N T C) (sc : TypeScope) where
     if_inside bs is = inside s _ is _ (if_says g at bs)
 
     pub if_else_inside : (bs : Vec (Branch X N T C) Global) (b : Block X N T C) → s ≡ code.IfElse at bs b →
-        sorts_inside (statement_said g s) sc ≡ sorts_of_branches (branches_said g bs.items) sc ++ sorts (block_said g b) sc
+        sorts_inside (statement_said g s) sc ≡ sorts_of_branches (branches_said g bs.items) sc
+        ++ sorts (block_said g b) sc
     if_else_inside bs b is = inside s _ is _ (if_else_says g at bs b)
 
     pub case_inside : (e : Box (Expr X N T C) Global) (all : Vec (Arm X N T C) Global) → s ≡ code.Case at e all →
@@ -101,7 +108,8 @@ module _ {X N T C : Type 0} (g : Ghosts X N T C) (sc : TypeScope) where
         sorts_inside (statement_said g s) sc ≡ sorts (block_said g b) sc
     while_inside e b is = inside s _ is _ (while_says g at e b)
 
-    pub for_inside : (n : Ident X N T C) (a z : Box (Expr X N T C) Global) (b : Block X N T C) → s ≡ code.For at n a z b →
+    pub for_inside : (n : Ident X N T C) (a z : Box (Expr X N T C) Global) (b : Block X N T C) →
+        s ≡ code.For at n a z b →
         sorts_inside (statement_said g s) sc ≡ asks.Free ∷ sorts (block_said g b) sc
     for_inside n a z b is = inside s _ is _ (for_says g at n a z b)
 
@@ -120,11 +128,13 @@ module _ {X N T C : Type 0} (g : Ghosts X N T C) (sc : TypeScope) where
     pub skip_inside : s ≡ code.Skip at → sorts_inside (statement_said g s) sc ≡ []
     skip_inside is = inside s _ is _ (skip_says g at)
 
-    pub let_inside : (b : Binding) (n : Ident X N T C) (t : TypeText) (e : Box (Expr X N T C) Global) → s ≡ code.Let at b n t e →
+    pub let_inside : (b : Binding) (n : Ident X N T C) (t : TypeText) (e : Box (Expr X N T C) Global) →
+        s ≡ code.Let at b n t e →
         sorts_inside (statement_said g s) sc ≡ []
     let_inside b n t e is = inside s _ is _ (let_says g at b n t e)
 
-    pub destructure_inside : (binds : Vec (Bind X N T C) Global) (e : Box (Expr X N T C) Global) → s ≡ code.Destructure at binds e →
+    pub destructure_inside : (binds : Vec (Bind X N T C) Global) (e : Box (Expr X N T C) Global) →
+        s ≡ code.Destructure at binds e →
         sorts_inside (statement_said g s) sc ≡ []
     destructure_inside binds e is = inside s _ is _ (destructure_says g at binds e)
 
@@ -132,12 +142,14 @@ module _ {X N T C : Type 0} (g : Ghosts X N T C) (sc : TypeScope) where
         s ≡ code.Assign at n fields e → sorts_inside (statement_said g s) sc ≡ []
     assign_inside n fields e is = inside s _ is _ (assign_says g at n fields e)
 
-    pub assign_through_inside : (n : Ident X N T C) (fields : Vec (Ident X N T C) Global) (e : Box (Expr X N T C) Global) →
+    pub assign_through_inside : (n : Ident X N T C) (fields : Vec (Ident X N T C) Global)
+        (e : Box (Expr X N T C) Global) →
         s ≡ code.AssignThrough at n fields e → sorts_inside (statement_said g s) sc ≡ []
     assign_through_inside n fields e is = inside s _ is _ (assign_through_says g at n fields e)
 
     pub call_inside : (e : Box (Expr X N T C) Global) → s ≡ code.Call at e → sorts_inside (statement_said g s) sc ≡ []
     call_inside e is = inside s _ is _ (call_says g at e)
 
-    pub return_inside : (e : Box (Expr X N T C) Global) → s ≡ code.Return at e → sorts_inside (statement_said g s) sc ≡ []
+    pub return_inside : (e : Box (Expr X N T C) Global) → s ≡ code.Return at e →
+        sorts_inside (statement_said g s) sc ≡ []
     return_inside e is = inside s _ is _ (return_says g at e)

@@ -1,5 +1,6 @@
 -- The row of calls, and the arguments of a call.
-use Rattle.std.proofs.Common.{◌≡◌, ℕ, suc, Bool, true, not, ◌&&◌, List, [], ◌∷◌, ◌++◌, map, drop, Option, Some, Ok, refl, sym, ap, ◌∙◌, subst, arith, inl, inr}
+use Rattle.std.proofs.Common.{◌≡◌, ℕ, suc, Bool, true, not, ◌&&◌, List, [], ◌∷◌, ◌++◌, map, drop, Option}
+use Rattle.std.proofs.Common.{Some, Ok, refl, sym, ap, ◌∙◌, subst, arith, inl, inr}
 use Rattle.std.specs.List.{list_all, flat_map}
 use Rattle.std.proofs.lemmas.Bool.{and_parts}
 use Rattle.au_base.specs.declared.limits.Limit.{Limit}
@@ -12,19 +13,26 @@ use Rattle.au_syntax.specs.Depths.{expression_depth, expressions_depth, argument
 use Rattle.au_syntax.specs.Sizes.{expression_types, expressions_types, arguments_types}
 use Rattle.au_syntax.specs.Types.{WrittenType}
 use Rattle.au_syntax.specs.Expressions.{call, named_call, no_expressions, expressions, no_arguments, arguments}
-use Rattle.au_syntax.specs.Forms.{some, is_call, some_arguments, formed_expression, formed_expressions, formed_arguments}
+use Rattle.au_syntax.specs.Forms.{some, is_call, some_arguments, formed_expression, formed_expressions}
+use Rattle.au_syntax.specs.Forms.{formed_arguments}
 use Rattle.au_syntax.specs.Names.{Placed}
 use Rattle.au_syntax.specs.Plain.{Bytes, PlainExpression, PlainExpressions, PlainArguments}
-use Rattle.au_syntax.specs.Words.{Words, begun, mark, listed, name_words, expression_words, words_of_expressions, words_of_arguments}
+use Rattle.au_syntax.specs.Words.{Words, begun, mark, listed, name_words, expression_words}
+use Rattle.au_syntax.specs.Words.{words_of_expressions, words_of_arguments}
 use Rattle.au_read_expressions.specs.Bounds.{Bounds, TreePasses}
-use Rattle.au_read_expressions.specs.Reading.{Read, front, is_front, name_at, exactly, behind, closed, pair, shaped, built, listed as listed_at}
+use Rattle.au_read_expressions.specs.Reading.{Read, front, is_front, name_at, exactly, behind, closed, pair}
+use Rattle.au_read_expressions.specs.Reading.{shaped, built, listed as listed_at}
 use Rattle.au_read_expressions.specs.Spelling.{Begins, fixed}
 use Rattle.au_read_expressions.proofs.Begins.{begins_split, front_of}
-use Rattle.au_read_expressions.proofs.Forms.{Form, Sound, Finds, Reads, Shapes, anything, light, behind_form, closed_form, closed_reads, pair_form, pair_behind, shaped_sound, shaped_found}
+use Rattle.au_read_expressions.proofs.Forms.{Form, Sound, Finds, Reads, Shapes, anything, light, behind_form}
+use Rattle.au_read_expressions.proofs.Forms.{closed_form, closed_reads, pair_form, pair_behind, shaped_sound}
+use Rattle.au_read_expressions.proofs.Forms.{shaped_found}
 use Rattle.au_read_expressions.proofs.ListForms.{AllFit, OnePasses, separated_form, separated_reads}
 use Rattle.au_read_expressions.proofs.Limits.{TreeFits, one_fits, one_passes, beside_fit, beside_passes}
 use Rattle.au_read_expressions.proofs.Single.{exactly_reads, name_form, name_reads}
-use Rattle.au_read_expressions.specs.ExpressionReading.{Given, in_order, by_name, expressions_of, arguments_of, call_by, call_of, labelled, none_given, given_by, given_at, call_with, ends_expression}
+use Rattle.au_read_expressions.specs.ExpressionReading.{Given, in_order, by_name, expressions_of}
+use Rattle.au_read_expressions.specs.ExpressionReading.{arguments_of, call_by, call_of, labelled, none_given}
+use Rattle.au_read_expressions.specs.ExpressionReading.{given_by, given_at, call_with, ends_expression}
 use Rattle.au_read_expressions.proofs.ExpressionForm.{expression_form, call_form, expression_some}
 use Rattle.au_read_expressions.proofs.RowLaws.{Row, row}
 use Rattle.au_read_expressions.proofs.SecondTokens.{plain_argument, no_label, second_is, begins_plain}
@@ -48,9 +56,13 @@ arguments_again no_arguments = refl
 arguments_again (arguments label e rest) = ap (arguments label e) (arguments_again rest)
 
 -- behind an argument stands a comma or the parenthesis
-list_no_label : (list : List Words) (ts mid rest : List Token) → Begins (flat_map (λ one. mark Comma ++ one) list) ts mid → Begins (mark RightParenthesis) mid rest → no_label (front ts) ≡ true
-list_no_label [] ts mid rest h k = ap (λ r. no_label (front r)) h ∙ ap no_label (front_of (mark RightParenthesis) mid rest (omega arith) k)
-list_no_label (one ∷ list) ts mid rest h k = ap no_label (front_of (flat_map (λ x. mark Comma ++ x) (one ∷ list)) ts mid (omega arith) h)
+list_no_label : (list : List Words) (ts mid rest : List Token) →
+    Begins (flat_map (λ one. mark Comma ++ one) list) ts mid → Begins (mark RightParenthesis) mid rest →
+    no_label (front ts) ≡ true
+list_no_label [] ts mid rest h k = ap (λ r. no_label (front r)) h
+    ∙ ap no_label (front_of (mark RightParenthesis) mid rest (omega arith) k)
+list_no_label (one ∷ list) ts mid rest h k =
+    ap no_label (front_of (flat_map (λ x. mark Comma ++ x) (one ∷ list)) ts mid (omega arith) h)
 
 -- ---- the forms of arguments
 
@@ -104,44 +116,55 @@ module _ (b : Bounds) (n : ℕ) where
   expressions_words [] = refl
   expressions_words (e ∷ es) = ap (λ ws. expression_words e ∷ ws) (expressions_words es)
 
-  arguments_words : (args : List (Placed Bytes × PlainExpression)) → words_of_arguments (arguments_of args) ≡ map labelled_form.words args
+  arguments_words : (args : List (Placed Bytes × PlainExpression)) → words_of_arguments (arguments_of args)
+      ≡ map labelled_form.words args
   arguments_words [] = refl
   arguments_words (a ∷ args) = ap (λ ws. labelled_form.words a ∷ ws) (arguments_words args)
 
-  expressions_good : (es : List PlainExpression) → formed_expressions (expressions_of es) ≡ list_all formed_expression es
+  expressions_good : (es : List PlainExpression) → formed_expressions (expressions_of es)
+      ≡ list_all formed_expression es
   expressions_good [] = refl
   expressions_good (e ∷ es) = ap (λ t. formed_expression e && t) (expressions_good es)
 
-  arguments_good : (args : List (Placed Bytes × PlainExpression)) → formed_arguments (arguments_of args) ≡ list_all labelled_form.good args
+  arguments_good : (args : List (Placed Bytes × PlainExpression)) → formed_arguments (arguments_of args)
+      ≡ list_all labelled_form.good args
   arguments_good [] = refl
   arguments_good (a ∷ args) = ap (λ t. formed_expression a.1 && t) (arguments_good args)
 
-  named_good : (args : List (Placed Bytes × PlainExpression)) → (some_arguments (arguments_of args) && formed_arguments (arguments_of args)) ≡ (some args && list_all labelled_form.good args)
+  named_good : (args : List (Placed Bytes × PlainExpression)) →
+      (some_arguments (arguments_of args) && formed_arguments (arguments_of args))
+      ≡ (some args && list_all labelled_form.good args)
   named_good [] = refl
   named_good (a ∷ args) = arguments_good (a ∷ args)
 
-  expressions_fit : (es : List PlainExpression) → AllFit (expression_form b n) es → TreeFits b n (expressions_depth (expressions_of es)) (expressions_types (expressions_of es))
+  expressions_fit : (es : List PlainExpression) → AllFit (expression_form b n) es →
+      TreeFits b n (expressions_depth (expressions_of es)) (expressions_types (expressions_of es))
   expressions_fit [] h = (omega arith, tt)
   expressions_fit (e ∷ es) h =
-      beside_fit b n (expression_depth e) (expressions_depth (expressions_of es)) (expression_types e) (expressions_types (expressions_of es)) h.0 (expressions_fit es h.1)
+      beside_fit b n (expression_depth e) (expressions_depth (expressions_of es)) (expression_types e)
+      (expressions_types (expressions_of es)) h.0 (expressions_fit es h.1)
 
   expressions_pass : (es : List PlainExpression) (l : Limit) → OnePasses (expression_form b n) es l
       → TreePasses b n (expressions_depth (expressions_of es)) (expressions_types (expressions_of es)) l
   expressions_pass [] l p = absurd p
   expressions_pass (e ∷ es) l p =
-      beside_passes b n (expression_depth e) (expressions_depth (expressions_of es)) (expression_types e) (expressions_types (expressions_of es)) l
+      beside_passes b n (expression_depth e) (expressions_depth (expressions_of es)) (expression_types e)
+      (expressions_types (expressions_of es)) l
       (elim p [ inl q ↦ inl q | inr q ↦ inr (expressions_pass es l q) ])
 
-  arguments_fit : (args : List (Placed Bytes × PlainExpression)) → AllFit labelled_form args → TreeFits b n (arguments_depth (arguments_of args)) (arguments_types (arguments_of args))
+  arguments_fit : (args : List (Placed Bytes × PlainExpression)) → AllFit labelled_form args →
+      TreeFits b n (arguments_depth (arguments_of args)) (arguments_types (arguments_of args))
   arguments_fit [] h = (omega arith, tt)
   arguments_fit (a ∷ args) h =
-      beside_fit b n (expression_depth a.1) (arguments_depth (arguments_of args)) (expression_types a.1) (arguments_types (arguments_of args)) h.0.1 (arguments_fit args h.1)
+      beside_fit b n (expression_depth a.1) (arguments_depth (arguments_of args)) (expression_types a.1)
+      (arguments_types (arguments_of args)) h.0.1 (arguments_fit args h.1)
 
   arguments_pass : (args : List (Placed Bytes × PlainExpression)) (l : Limit) → OnePasses labelled_form args l
       → TreePasses b n (arguments_depth (arguments_of args)) (arguments_types (arguments_of args)) l
   arguments_pass [] l p = absurd p
   arguments_pass (a ∷ args) l p =
-      beside_passes b n (expression_depth a.1) (arguments_depth (arguments_of args)) (expression_types a.1) (arguments_types (arguments_of args)) l
+      beside_passes b n (expression_depth a.1) (arguments_depth (arguments_of args)) (expression_types a.1)
+      (arguments_types (arguments_of args)) l
       (elim p [ inl q ↦ elim q [ inl r ↦ absurd r | inr r ↦ inl r ] | inr q ↦ inr (arguments_pass args l q) ])
 
   -- ---- no arguments
@@ -149,7 +172,8 @@ module _ (b : Bounds) (n : ℕ) where
   abbrev no_form : Form (Unit {0})
   no_form = light (λ (x : Unit {0}). fixed (Sign RightParenthesis ∷ []))
 
-module _ (b : Bounds) (n : ℕ) (r q : List Token → Read PlainExpression) (inner : Reads (expression_form b n) ends_expression r) where
+module _ (b : Bounds) (n : ℕ) (r q : List Token → Read PlainExpression)
+    (inner : Reads (expression_form b n) ends_expression r) where
   -- behind a list of arguments no comma stands
   abbrev ends_list : Option What → Bool
   ends_list what = not (is_front (Sign Comma) what) && ends_expression what
@@ -192,9 +216,11 @@ module _ (b : Bounds) (n : ℕ) (r q : List Token → Read PlainExpression) (inn
     passes = λ es l p. expressions_pass b n es l p;
   }
 
-  order_sound : (ts rest : List Token) (g : Given) → shaped in_order order_at ts ≡ Ok (g, rest) → Sound (given_form b n) g ts rest
+  order_sound : (ts rest : List Token) (g : Given) → shaped in_order order_at ts ≡ Ok (g, rest) →
+      Sound (given_form b n) g ts rest
   order_sound ts rest g e =
-      let s = shaped_sound order_form (ordered_form b n) anything order_at order_reads in_order order_shapes ts rest g e in
+      let s = shaped_sound order_form (ordered_form b n) anything order_at order_reads in_order order_shapes
+      ts rest g e in
       record { spelled = s.spelled; good = ordered_given g s.good; fits = s.fits }
 
   -- ---- by names
@@ -206,12 +232,14 @@ module _ (b : Bounds) (n : ℕ) (r q : List Token → Read PlainExpression) (inn
   names_at = closed (Sign RightParenthesis ∷ []) (listed_at (labelled r q))
 
   label_reads : Reads (labelled_form b n) ends_expression (labelled r q)
-  label_reads = pair_behind name_form (expression_form b n) anything ends_expression name_at name_reads r inner (Sign FatArrow) [] refl
+  label_reads = pair_behind name_form (expression_form b n) anything ends_expression name_at name_reads r
+      inner (Sign FatArrow) [] refl
 
   names_reads : Reads names_form anything names_at
   names_reads =
       closed_reads (separated_form (labelled_form b n) (fixed (Sign Comma ∷ []))) ends_list (listed_at (labelled r q))
-      (separated_reads (labelled_form b n) ends_expression (labelled r q) label_reads (λ a good. omega arith) (Sign Comma) refl)
+      (separated_reads (labelled_form b n) ends_expression (labelled r q) label_reads (λ a good. omega arith)
+      (Sign Comma) refl)
       (Sign RightParenthesis) [] refl
 
   names_shapes : Shapes names_form (given_form b n) anything names_at names_reads by_name
@@ -226,17 +254,22 @@ module _ (b : Bounds) (n : ℕ) (r q : List Token → Read PlainExpression) (inn
   -- ---- the arguments, by the first two tokens
 
   -- which row reads what can't be the name of an argument
-  order_by : (first second : Option What) (ts : List Token) → plain_argument first second ≡ true → given_by r q first second ts ≡ shaped in_order order_at ts
+  order_by : (first second : Option What) (ts : List Token) → plain_argument first second ≡ true →
+      given_by r q first second ts ≡ shaped in_order order_at ts
   order_by (Some (Sign RightParenthesis)) second ts h = absurd cc
   order_by (Some (Name bytes)) (Some (Sign FatArrow)) ts h = absurd cc
   order_by first second ts h = refl
 
-  given_take : (first second : Option What) (ts rest : List Token) (g : Given) → given_by r q first second ts ≡ Ok (g, rest) → Sound (given_form b n) g ts rest
-  given_take (Some (Sign RightParenthesis)) second ts rest g e = shaped_sound (no_form b n) (given_form b n) anything none_at none_reads (none_given r q) none_shapes ts rest g e
-  given_take (Some (Name bytes)) (Some (Sign FatArrow)) ts rest g e = shaped_sound names_form (given_form b n) anything names_at names_reads by_name names_shapes ts rest g e
+  given_take : (first second : Option What) (ts rest : List Token) (g : Given) → given_by r q first second ts
+      ≡ Ok (g, rest) → Sound (given_form b n) g ts rest
+  given_take (Some (Sign RightParenthesis)) second ts rest g e = shaped_sound (no_form b n) (given_form b n)
+      anything none_at none_reads (none_given r q) none_shapes ts rest g e
+  given_take (Some (Name bytes)) (Some (Sign FatArrow)) ts rest g e = shaped_sound names_form (given_form b n)
+      anything names_at names_reads by_name names_shapes ts rest g e
   given_take first second ts rest g e = order_sound ts rest g e
 
-  order_plain : (e : PlainExpression) (es : List PlainExpression) (ts rest : List Token) → Begins (given_words (in_order (e ∷ es))) ts rest → formed_expressions (expressions_of (e ∷ es)) ≡ true
+  order_plain : (e : PlainExpression) (es : List PlainExpression) (ts rest : List Token) →
+      Begins (given_words (in_order (e ∷ es))) ts rest → formed_expressions (expressions_of (e ∷ es)) ≡ true
       → plain_argument (front ts) (front (drop 1 ts)) ≡ true
   order_plain e es ts rest h good =
       let list : List Words = words_of_expressions (expressions_of es) in
@@ -244,23 +277,32 @@ module _ (b : Bounds) (n : ℕ) (r q : List Token → Read PlainExpression) (inn
       let outer = begins_split (expression_words e ++ others) (mark RightParenthesis) ts rest h in
       let inside = begins_split (expression_words e) others ts outer.0 outer.1 in
       let next : no_label (front inside.0) ≡ true = list_no_label list inside.0 outer.0 rest inside.2 outer.2 in
-      begins_plain e ts inside.0 inside.1 (and_parts (formed_expression e) (formed_expressions (expressions_of es)) good).0 next
+      begins_plain e ts inside.0 inside.1
+      (and_parts (formed_expression e) (formed_expressions (expressions_of es)) good).0 next
 
-  given_found : (g : Given) (ts rest : List Token) → Begins (given_words g) ts rest → given_good g ≡ true → Finds (given_form b n) g rest (given_at r q ts)
+  given_found : (g : Given) (ts rest : List Token) → Begins (given_words g) ts rest → given_good g ≡ true →
+      Finds (given_form b n) g rest (given_at r q ts)
   given_found (in_order []) ts rest h good =
-      subst (Finds (given_form b n) (in_order []) rest) (sym (ap (λ w. given_by r q w (front (drop 1 ts)) ts) (front_of (fixed (Sign RightParenthesis ∷ [])) ts rest (omega arith) h)))
-      (shaped_found (no_form b n) (given_form b n) anything none_at none_reads (none_given r q) none_shapes tt ts rest h refl refl)
+      subst (Finds (given_form b n) (in_order []) rest)
+      (sym (ap (λ w. given_by r q w (front (drop 1 ts)) ts)
+      (front_of (fixed (Sign RightParenthesis ∷ [])) ts rest (omega arith) h)))
+      (shaped_found (no_form b n) (given_form b n) anything none_at none_reads (none_given r q) none_shapes tt
+      ts rest h refl refl)
   given_found (in_order (e ∷ es)) ts rest h good =
       let plain : plain_argument (front ts) (front (drop 1 ts)) ≡ true = order_plain e es ts rest h good in
       subst (Finds (given_form b n) (in_order (e ∷ es)) rest) (sym (order_by (front ts) (front (drop 1 ts)) ts plain))
-      (shaped_found order_form (ordered_form b n) anything order_at order_reads in_order order_shapes (e ∷ es) ts rest h good refl)
+      (shaped_found order_form (ordered_form b n) anything order_at order_reads in_order order_shapes (e ∷ es)
+      ts rest h good refl)
   given_found (by_name []) ts rest h good = absurd (let wrong = good in cc)
   given_found (by_name (a ∷ args)) ts rest h good =
       let ws : Words = given_words (by_name (a ∷ args)) in
       let first : front ts ≡ Some (Name a.0.name) = front_of ws ts rest (omega arith) h in
       let second : front (drop 1 ts) ≡ Some (Sign FatArrow) = second_is ws ts rest (omega arith) h in
-      subst (Finds (given_form b n) (by_name (a ∷ args)) rest) (sym (ap (λ w. given_by r q w (front (drop 1 ts)) ts) first ∙ ap (λ w. given_by r q (Some (Name a.0.name)) w ts) second))
-      (shaped_found names_form (given_form b n) anything names_at names_reads by_name names_shapes (a ∷ args) ts rest h good refl)
+      subst (Finds (given_form b n) (by_name (a ∷ args)) rest)
+      (sym (ap (λ w. given_by r q w (front (drop 1 ts)) ts) first
+      ∙ ap (λ w. given_by r q (Some (Name a.0.name)) w ts) second))
+      (shaped_found names_form (given_form b n) anything names_at names_reads by_name names_shapes (a ∷ args)
+      ts rest h good refl)
 
   pub given_reads : Reads (given_form b n) anything (given_at r q)
   given_reads = record {
@@ -270,28 +312,38 @@ module _ (b : Bounds) (n : ℕ) (r q : List Token → Read PlainExpression) (inn
 
   -- ---- calls
 
-  call_words : (at : Pos) (name : Placed Bytes) (g : Given) → expression_words (call_by at name g) ≡ begun at (name_words name ++ (fixed (Sign LeftParenthesis ∷ []) ++ given_words g))
+  call_words : (at : Pos) (name : Placed Bytes) (g : Given) → expression_words (call_by at name g)
+      ≡ begun at (name_words name ++ (fixed (Sign LeftParenthesis ∷ []) ++ given_words g))
   call_words at name (in_order es) = refl
   call_words at name (by_name args) = refl
 
-  call_good : (at : Pos) (name : Placed Bytes) (g : Given) → (is_call (call_by at name g) && formed_expression (call_by at name g)) ≡ given_good g
+  call_good : (at : Pos) (name : Placed Bytes) (g : Given) →
+      (is_call (call_by at name g) && formed_expression (call_by at name g)) ≡ given_good g
   call_good at name (in_order es) = refl
   call_good at name (by_name args) = refl
 
-  call_fits : (at : Pos) (name : Placed Bytes) (g : Given) → (given_form b n).Fits g → (call_form b (suc n)).Fits (call_by at name g)
-  call_fits at name (in_order es) h = one_fits b n (expressions_depth (expressions_of es)) (expressions_types (expressions_of es)) h
-  call_fits at name (by_name args) h = one_fits b n (arguments_depth (arguments_of args)) (arguments_types (arguments_of args)) h
+  call_fits : (at : Pos) (name : Placed Bytes) (g : Given) → (given_form b n).Fits g →
+      (call_form b (suc n)).Fits (call_by at name g)
+  call_fits at name (in_order es) h = one_fits b n (expressions_depth (expressions_of es))
+      (expressions_types (expressions_of es)) h
+  call_fits at name (by_name args) h = one_fits b n (arguments_depth (arguments_of args))
+      (arguments_types (arguments_of args)) h
 
-  call_passes : (at : Pos) (name : Placed Bytes) (g : Given) (l : Limit) → (given_form b n).Passes g l → (call_form b (suc n)).Passes (call_by at name g) l
-  call_passes at name (in_order es) l p = one_passes b n (expressions_depth (expressions_of es)) (expressions_types (expressions_of es)) l p
-  call_passes at name (by_name args) l p = one_passes b n (arguments_depth (arguments_of args)) (arguments_types (arguments_of args)) l p
+  call_passes : (at : Pos) (name : Placed Bytes) (g : Given) (l : Limit) → (given_form b n).Passes g l →
+      (call_form b (suc n)).Passes (call_by at name g) l
+  call_passes at name (in_order es) l p = one_passes b n (expressions_depth (expressions_of es))
+      (expressions_types (expressions_of es)) l p
+  call_passes at name (by_name args) l p = one_passes b n (arguments_depth (arguments_of args))
+      (arguments_types (arguments_of args)) l p
 
   abbrev call_parts : List Token → Read (Placed Bytes × Given)
   call_parts = pair name_at (behind (Sign LeftParenthesis ∷ []) (given_at r q))
 
   call_row : Row (call_form b (suc n)) anything call_of call_parts
-  call_row = row (pair_form name_form (behind_form (given_form b n) (Sign LeftParenthesis ∷ []))) (call_form b (suc n)) anything call_parts
-      (pair_behind name_form (given_form b n) anything anything name_at name_reads (given_at r q) given_reads (Sign LeftParenthesis) [] refl) call_of (record {
+  call_row = row (pair_form name_form (behind_form (given_form b n) (Sign LeftParenthesis ∷ [])))
+      (call_form b (suc n)) anything call_parts
+      (pair_behind name_form (given_form b n) anything anything name_at name_reads (given_at r q) given_reads
+      (Sign LeftParenthesis) [] refl) call_of (record {
         words = λ at x. call_words at x.0 x.1;
         some = λ x. omega arith;
         good_to = λ at x g. call_good at x.0 x.1 ∙ g;
@@ -300,14 +352,18 @@ module _ (b : Bounds) (n : ℕ) (r q : List Token → Read PlainExpression) (inn
         passes = λ at x l p. elim p [ inl p0 ↦ absurd p0 | inr p1 ↦ call_passes at x.0 x.1 l p1 ];
       })
 
-  call_found : (e : PlainExpression) (ts rest : List Token) → Begins (expression_words e) ts rest → (is_call e && formed_expression e) ≡ true
+  call_found : (e : PlainExpression) (ts rest : List Token) → Begins (expression_words e) ts rest →
+      (is_call e && formed_expression e) ≡ true
       → Finds (call_form b (suc n)) e rest (built call_of call_parts ts)
   call_found (call node name args note) ts rest =
-      subst (λ es. Begins (expression_words (call node name es note)) ts rest → (true && formed_expressions es) ≡ true → Finds (call_form b (suc n)) (call node name es note) rest (built call_of call_parts ts))
+      subst (λ es. Begins (expression_words (call node name es note)) ts rest →
+      (true && formed_expressions es) ≡ true → Finds (call_form b (suc n)) (call node name es note) rest
+      (built call_of call_parts ts))
       (expressions_again args)
       (λ h good. call_row.found node.at (name, in_order (list_of args)) ts rest h good refl)
   call_found (named_call node name args note) ts rest =
-      subst (λ es. Begins (expression_words (named_call node name es note)) ts rest → (true && (some_arguments es && formed_arguments es)) ≡ true
+      subst (λ es. Begins (expression_words (named_call node name es note)) ts rest →
+      (true && (some_arguments es && formed_arguments es)) ≡ true
       → Finds (call_form b (suc n)) (named_call node name es note) rest (built call_of call_parts ts))
       (arguments_again args)
       (λ h good. call_row.found node.at (name, by_name (pairs_of args)) ts rest h good refl)

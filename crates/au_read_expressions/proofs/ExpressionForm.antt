@@ -1,9 +1,12 @@
 -- What is said of expressions, atoms and calls; with which tokens they begin, and which don't continue them.
-use Rattle.std.proofs.Common.{◌≡◌, ℕ, ◌<◌, true, false, ◌&&◌, List, [], ◌∷◌, ◌++◌, length, Option, Some, None, refl, ap, ◌∙◌, arith}
+use Rattle.std.proofs.Common.{◌≡◌, ℕ, ◌<◌, true, false, ◌&&◌, List, [], ◌∷◌, ◌++◌, length, Option, Some, None}
+use Rattle.std.proofs.Common.{refl, ap, ◌∙◌, arith}
 use Rattle.std.proofs.lemmas.Bool.{and_parts, and_from}
 use Rattle.au_base.specs.declared.places.Pos.{Pos}
 use Rattle.au_base.specs.declared.tokens.Keyword.TheVariants.{KwIf, KwNot, KwAnd, KwOr}
-use Rattle.au_base.specs.declared.tokens.Sign.TheVariants.{Arrow, NotEqual, LessEqual, GreaterEqual, LeftParenthesis, LeftBracket, Colon, Dot, Plus, Minus, Star, Slash, Equal, Less, Greater}
+use Rattle.au_base.specs.declared.tokens.Sign.TheVariants.{Arrow, NotEqual, LessEqual, GreaterEqual}
+use Rattle.au_base.specs.declared.tokens.Sign.TheVariants.{LeftParenthesis, LeftBracket, Colon, Dot, Plus}
+use Rattle.au_base.specs.declared.tokens.Sign.TheVariants.{Minus, Star, Slash, Equal, Less, Greater}
 use Rattle.au_base.specs.declared.tokens.Token.{Token}
 use Rattle.au_base.specs.declared.tokens.What.{What}
 use Rattle.au_base.specs.declared.tokens.What.TheVariants.{Word, Sign}
@@ -12,7 +15,9 @@ use Rattle.au_syntax.specs.declared.expressions.BinaryOperator.TheVariants as op
 use Rattle.au_syntax.specs.declared.expressions.BorrowMode.TheVariants as mode
 use Rattle.au_syntax.specs.Depths.{expression_depth}
 use Rattle.au_syntax.specs.Sizes.{expression_types}
-use Rattle.au_syntax.specs.Expressions.{number, negative, text, truth, nil, path, arrow, call, named_call, parenthesized, dereference, borrow, borrow_part, binary, negation, typed, choice}
+use Rattle.au_syntax.specs.Expressions.{number, negative, text, truth, nil, path, arrow, call, named_call}
+use Rattle.au_syntax.specs.Expressions.{parenthesized, dereference, borrow, borrow_part, binary, negation}
+use Rattle.au_syntax.specs.Expressions.{typed, choice}
 use Rattle.au_syntax.specs.Forms.{is_atom, is_call, formed_expression}
 use Rattle.au_syntax.specs.Plain.{PlainExpression}
 use Rattle.au_syntax.specs.Words.{Words, begun, type_words, mark, expression_words, operator_words}
@@ -23,7 +28,8 @@ use Rattle.au_read_expressions.proofs.Begins.{first_word, front_of}
 use Rattle.au_read_expressions.proofs.Forms.{Form}
 use Rattle.au_read_expressions.proofs.Limits.{TreeFits}
 use Rattle.au_read_expressions.specs.TypeReading.{ends_type}
-use Rattle.au_read_expressions.specs.ExpressionReading.{begins_atom, begins_expression, operator_of, ends_atom, ends_expression}
+use Rattle.au_read_expressions.specs.ExpressionReading.{begins_atom, begins_expression, operator_of}
+use Rattle.au_read_expressions.specs.ExpressionReading.{ends_atom, ends_expression}
 
 module _ (b : Bounds) (n : ℕ) where
   -- expressions within the limits, where so many levels are left
@@ -80,8 +86,13 @@ before_first (w ∷ a) z h = refl
 pub expression_some : (e : PlainExpression) → 0 < length (expression_words e)
 expression_some (truth node true) = omega arith
 expression_some (truth node false) = omega arith
-expression_some (binary node op a z) = begun_some node.at (expression_words a ++ operator_words op ++ expression_words z) (before_some (expression_words a ++ operator_words op) (expression_words z) (before_some (expression_words a) (operator_words op) (expression_some a)))
-expression_some (typed node e t) = begun_some node.at (expression_words e ++ mark Colon ++ type_words t) (before_some (expression_words e ++ mark Colon) (type_words t) (before_some (expression_words e) (mark Colon) (expression_some e)))
+expression_some (binary node op a z) =
+    begun_some node.at (expression_words a ++ operator_words op ++ expression_words z)
+    (before_some (expression_words a ++ operator_words op) (expression_words z)
+    (before_some (expression_words a) (operator_words op) (expression_some a)))
+expression_some (typed node e t) = begun_some node.at (expression_words e ++ mark Colon ++ type_words t)
+    (before_some (expression_words e ++ mark Colon) (type_words t)
+    (before_some (expression_words e) (mark Colon) (expression_some e)))
 expression_some e = omega arith
 
 -- the first word of an atom
@@ -103,13 +114,17 @@ atom_expression (Some (Word KwIf)) h = refl
 atom_expression w h = h
 
 -- the words of the operands of a tree that begins with an atom
-begun_atom : (at : Pos) (e : PlainExpression) (y z : Words) → is_atom e ≡ true → begins_expression (first_word (begun at (expression_words e ++ y ++ z))) ≡ true
+begun_atom : (at : Pos) (e : PlainExpression) (y z : Words) → is_atom e ≡ true →
+    begins_expression (first_word (begun at (expression_words e ++ y ++ z))) ≡ true
 begun_atom at e y z h =
     ap begins_expression (
-    begun_first at (expression_words e ++ y ++ z) ∙ before_first (expression_words e ++ y) z (before_some (expression_words e) y (expression_some e))
-    ∙ before_first (expression_words e) y (expression_some e)) ∙ atom_expression (first_word (expression_words e)) (atom_first e h)
+    begun_first at (expression_words e ++ y ++ z) ∙ before_first (expression_words e ++ y) z
+    (before_some (expression_words e) y (expression_some e))
+    ∙ before_first (expression_words e) y (expression_some e))
+    ∙ atom_expression (first_word (expression_words e)) (atom_first e h)
 
-pub binary_good : (a z : PlainExpression) → (is_atom a && is_atom z && formed_expression a && formed_expression z) ≡ true
+pub binary_good : (a z : PlainExpression) →
+    (is_atom a && is_atom z && formed_expression a && formed_expression z) ≡ true
     → ((is_atom a && formed_expression a) ≡ true) × ((is_atom z && formed_expression z) ≡ true)
 binary_good a z h =
     let p = and_parts (is_atom a && is_atom z && formed_expression a) (formed_expression z) h in
@@ -117,7 +132,8 @@ binary_good a z h =
     let r = and_parts (is_atom a) (is_atom z) q.0 in
     (and_from (is_atom a) (formed_expression a) r.0 q.1, and_from (is_atom z) (formed_expression z) r.1 p.1)
 
-pub good_binary : (a z : PlainExpression) → (is_atom a && formed_expression a) ≡ true → (is_atom z && formed_expression z) ≡ true
+pub good_binary : (a z : PlainExpression) → (is_atom a && formed_expression a) ≡ true →
+    (is_atom z && formed_expression z) ≡ true
     → (is_atom a && is_atom z && formed_expression a && formed_expression z) ≡ true
 good_binary a z h k =
     let p = and_parts (is_atom a) (formed_expression a) h in
@@ -125,9 +141,12 @@ good_binary a z h k =
     and_from (is_atom a && is_atom z && formed_expression a) (formed_expression z)
     (and_from (is_atom a && is_atom z) (formed_expression a) (and_from (is_atom a) (is_atom z) p.0 q.0) p.1) q.1
 
-expression_first : (e : PlainExpression) → formed_expression e ≡ true → begins_expression (first_word (expression_words e)) ≡ true
-expression_first (binary node op a z) h = begun_atom node.at a (operator_words op) (expression_words z) (and_parts (is_atom a) (formed_expression a) (binary_good a z h).0).0
-expression_first (typed node e t) h = begun_atom node.at e (mark Colon) (type_words t) (and_parts (is_atom e) (formed_expression e) h).0
+expression_first : (e : PlainExpression) → formed_expression e ≡ true →
+    begins_expression (first_word (expression_words e)) ≡ true
+expression_first (binary node op a z) h = begun_atom node.at a (operator_words op) (expression_words z)
+    (and_parts (is_atom a) (formed_expression a) (binary_good a z h).0).0
+expression_first (typed node e t) h = begun_atom node.at e (mark Colon) (type_words t)
+    (and_parts (is_atom e) (formed_expression e) h).0
 expression_first (truth node true) h = refl
 expression_first (truth node false) h = refl
 expression_first (borrow node mode.Read name) h = refl
@@ -136,11 +155,15 @@ expression_first (borrow node mode.Reborrow name) h = refl
 expression_first e h = refl
 
 -- with which tokens what is spelled begins
-pub expression_begins : (e : PlainExpression) (ts rest : List Token) → Begins (expression_words e) ts rest → formed_expression e ≡ true → begins_expression (front ts) ≡ true
-expression_begins e ts rest h good = ap begins_expression (front_of (expression_words e) ts rest (expression_some e) h) ∙ expression_first e good
+pub expression_begins : (e : PlainExpression) (ts rest : List Token) → Begins (expression_words e) ts rest →
+    formed_expression e ≡ true → begins_expression (front ts) ≡ true
+expression_begins e ts rest h good =
+    ap begins_expression (front_of (expression_words e) ts rest (expression_some e) h) ∙ expression_first e good
 
-pub atom_begins : (e : PlainExpression) (ts rest : List Token) → Begins (expression_words e) ts rest → is_atom e ≡ true → begins_atom (front ts) ≡ true
-atom_begins e ts rest h good = ap begins_atom (front_of (expression_words e) ts rest (expression_some e) h) ∙ atom_first e good
+pub atom_begins : (e : PlainExpression) (ts rest : List Token) → Begins (expression_words e) ts rest →
+    is_atom e ≡ true → begins_atom (front ts) ≡ true
+atom_begins e ts rest h good = ap begins_atom (front_of (expression_words e) ts rest (expression_some e) h)
+    ∙ atom_first e good
 
 -- every expression is a level
 pub expression_level : (e : PlainExpression) → 0 < expression_depth e

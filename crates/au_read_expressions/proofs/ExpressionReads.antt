@@ -1,6 +1,7 @@
 -- The laws of expressions, atoms and calls: what is read is spelled so and within the limits, and what is
 -- spelled so is read, or a limit that it passes is told.
-use Rattle.std.proofs.Common.{◌≡◌, ℕ, suc, Bool, true, false, ◌&&◌, List, [], ◌∷◌, length, drop, Some, Ok, Err, refl, ap, ◌∙◌, inl, inr}
+use Rattle.std.proofs.Common.{◌≡◌, ℕ, suc, Bool, true, false, ◌&&◌, List, [], ◌∷◌, length, drop, Some, Ok}
+use Rattle.std.proofs.Common.{Err, refl, ap, ◌∙◌, inl, inr}
 use Prim.Native.Nat.{zero}
 use Rattle.std.proofs.lemmas.Bool.{and_parts}
 use Rattle.au_base.specs.declared.tokens.Sign.TheVariants.{LeftParenthesis}
@@ -17,9 +18,12 @@ use Rattle.au_read_expressions.specs.Spelling.{Begins}
 use Rattle.au_read_expressions.proofs.Steps.{not_read, bind_ok, begins_again}
 use Rattle.au_read_expressions.proofs.Forms.{Finds, Reads, anything}
 use Rattle.au_read_expressions.specs.TypeReading.{type_at, ends_type}
-use Rattle.au_read_expressions.specs.ExpressionReading.{begins_atom, begins_expression, ends_atom, ends_expression, too_deep, expression_at, atom_at, no_call, call_at}
+use Rattle.au_read_expressions.specs.ExpressionReading.{begins_atom, begins_expression, ends_atom}
+use Rattle.au_read_expressions.specs.ExpressionReading.{ends_expression, too_deep, expression_at, atom_at}
+use Rattle.au_read_expressions.specs.ExpressionReading.{no_call, call_at}
 use Rattle.au_read_expressions.proofs.TypeForm.{type_form}
-use Rattle.au_read_expressions.proofs.ExpressionForm.{expression_form, atom_form, call_form, expression_begins, atom_begins, expression_level}
+use Rattle.au_read_expressions.proofs.ExpressionForm.{expression_form, atom_form, call_form}
+use Rattle.au_read_expressions.proofs.ExpressionForm.{expression_begins, atom_begins, expression_level}
 use Rattle.au_read_expressions.proofs.SecondTokens.{call_begins}
 use Rattle.au_read_expressions.proofs.CallLaws.{call_with_reads}
 use Rattle.au_read_expressions.proofs.AtomLaws.{atom_with_reads}
@@ -32,7 +36,8 @@ module _ (b : Bounds) where
   deep_unread false ts x e = not_read _ x e
 
   -- and the limit is told of what begins
-  deep_told : (begins : Bool) (ts : List Token) → begins ≡ true → too_deep b begins ts ≡ Err (Passed (nesting_limit b) (length ts))
+  deep_told : (begins : Bool) (ts : List Token) → begins ≡ true → too_deep b begins ts
+      ≡ Err (Passed (nesting_limit b) (length ts))
   deep_told begins ts h = ap (λ t. too_deep b t ts) h
 
   expression_none : Reads (expression_form b zero) ends_expression (expression_at b zero)
@@ -40,7 +45,13 @@ module _ (b : Bounds) where
   expression_none = record {
     sound = λ ts rest e is. absurd (deep_unread (begins_expression (front ts)) ts (e, rest) is);
     found = λ e ts rest h good ends.
-        inr (nesting_limit b, length ts, deep_told (begins_expression (front ts)) ts (expression_begins e ts rest h good), inl (expression_level e, refl));
+        inr (
+          nesting_limit b,
+          length ts,
+          deep_told (begins_expression (front ts)) ts
+              (expression_begins e ts rest h good),
+          inl (expression_level e, refl),
+        );
   }
 
   atom_none : Reads (atom_form b zero) ends_atom (atom_at b zero)
@@ -48,21 +59,30 @@ module _ (b : Bounds) where
   atom_none = record {
     sound = λ ts rest e is. absurd (deep_unread (begins_atom (front ts)) ts (e, rest) is);
     found = λ e ts rest h good ends.
-        inr (nesting_limit b, length ts, deep_told (begins_atom (front ts)) ts (atom_begins e ts rest h (and_parts (is_atom e) (formed_expression e) good).0), inl (expression_level e, refl));
+        inr (
+          nesting_limit b,
+          length ts,
+          deep_told (begins_atom (front ts)) ts
+              (atom_begins e ts rest h (and_parts (is_atom e) (formed_expression e) good).0),
+          inl (expression_level e, refl),
+        );
   }
 
   module _ (types : Reads (type_form b) ends_type (type_at b)) where
-    expression_more : (n : ℕ) → Reads (expression_form b n) ends_expression (expression_at b n) → Reads (atom_form b n) ends_atom (atom_at b n)
+    expression_more : (n : ℕ) → Reads (expression_form b n) ends_expression (expression_at b n) →
+        Reads (atom_form b n) ends_atom (atom_at b n)
         → Reads (expression_form b (suc n)) ends_expression (expression_at b (suc n))
     unfolding expression_at
     expression_more n inner atoms = expression_with_reads b types n (expression_at b n) (atom_at b n) inner atoms
 
-    atom_more : (n : ℕ) → Reads (expression_form b n) ends_expression (expression_at b n) → Reads (atom_form b n) ends_atom (atom_at b n)
+    atom_more : (n : ℕ) → Reads (expression_form b n) ends_expression (expression_at b n) →
+        Reads (atom_form b n) ends_atom (atom_at b n)
         → Reads (atom_form b (suc n)) ends_atom (atom_at b (suc n))
     unfolding atom_at
     atom_more n inner atoms = atom_with_reads b n (expression_at b n) (atom_at b n) inner atoms
 
-    both_read : (n : ℕ) → Reads (expression_form b n) ends_expression (expression_at b n) × Reads (atom_form b n) ends_atom (atom_at b n)
+    both_read : (n : ℕ) → Reads (expression_form b n) ends_expression (expression_at b n)
+        × Reads (atom_form b n) ends_atom (atom_at b n)
     both_read zero = (expression_none, atom_none)
     both_read (suc n) = let below = both_read n in (expression_more n below.0 below.1, atom_more n below.0 below.1)
 
@@ -76,19 +96,22 @@ module _ (b : Bounds) where
 
   -- ---- calls
 
-  name_there : (bytes : Bytes) (ts : List Token) → front ts ≡ Some (Name bytes) → (name : Placed Bytes) × (name_at ts ≡ Ok (name, drop 1 ts))
+  name_there : (bytes : Bytes) (ts : List Token) → front ts ≡ Some (Name bytes) → (name : Placed Bytes)
+      × (name_at ts ≡ Ok (name, drop 1 ts))
   name_there bytes [] is = absurd cc
   name_there bytes (t ∷ ts) is =
       let same : t.what ≡ Name bytes = cc in
       (record { name = bytes; at = t.at }, ap (λ w. value_or_no (t ∷ ts) (name_of w t.at)) same)
 
-  call_none_found : (e : PlainExpression) (ts rest : List Token) → Begins (expression_words e) ts rest → (is_call e && formed_expression e) ≡ true
+  call_none_found : (e : PlainExpression) (ts rest : List Token) → Begins (expression_words e) ts rest →
+      (is_call e && formed_expression e) ≡ true
       → Finds (call_form b zero) e rest (name_at ts >>= no_call b)
   call_none_found e ts rest h good =
       let c = call_begins e ts rest h (and_parts (is_call e) (formed_expression e) good).0 in
       let name = name_there c.0 ts c.1 in
       let told : no_call b (name.0, drop 1 ts) ≡ Err (Passed (nesting_limit b) (length (drop 1 ts))) =
-      deep_told (begins_with (Sign LeftParenthesis) (drop 1 ts)) (drop 1 ts) (begins_again (Sign LeftParenthesis) (drop 1 ts) c.2) in
+      deep_told (begins_with (Sign LeftParenthesis) (drop 1 ts)) (drop 1 ts)
+      (begins_again (Sign LeftParenthesis) (drop 1 ts) c.2) in
       inr (nesting_limit b, length (drop 1 ts), ap (λ x. x >>= no_call b) name.1 ∙ told, inl (expression_level e, refl))
 
   call_none : Reads (call_form b zero) anything (call_at b zero)
@@ -100,7 +123,8 @@ module _ (b : Bounds) where
     found = λ e ts rest h good ends. call_none_found e ts rest h good;
   }
 
-  call_more : (n : ℕ) → Reads (expression_form b n) ends_expression (expression_at b n) → Reads (call_form b (suc n)) anything (call_at b (suc n))
+  call_more : (n : ℕ) → Reads (expression_form b n) ends_expression (expression_at b n) →
+      Reads (call_form b (suc n)) anything (call_at b (suc n))
   unfolding call_at
   call_more n inner = call_with_reads b n (expression_at b n) (atom_at b n) inner
 

@@ -35,14 +35,17 @@ module _ (b : Bounds) where
   pub one_fits : (n d : ℕ) (ts : List WrittenType) → TreeFits b n d ts → TreeFits b (suc n) (1 + d) ts
   one_fits n d ts h = (omega (arith, h.0), h.1)
 
-  pub one_passes : (n d : ℕ) (ts : List WrittenType) (l : Limit) → TreePasses b n d ts l → TreePasses b (suc n) (1 + d) ts l
+  pub one_passes : (n d : ℕ) (ts : List WrittenType) (l : Limit) → TreePasses b n d ts l →
+      TreePasses b (suc n) (1 + d) ts l
   one_passes n d ts l p = elim p [ inl q ↦ inl (omega (arith, q.0), q.1) | inr q ↦ inr q ]
 
   -- two parts that stand side by side
-  pub beside_fit : (n d e : ℕ) (ts us : List WrittenType) → TreeFits b n d ts → TreeFits b n e us → TreeFits b n (max d e) (ts ++ us)
+  pub beside_fit : (n d e : ℕ) (ts us : List WrittenType) → TreeFits b n d ts → TreeFits b n e us →
+      TreeFits b n (max d e) (ts ++ us)
   beside_fit n d e ts us h k = (omega (arith, h.0, k.0), both_fit ts us h.1 k.1)
 
-  pub beside_passes : (n d e : ℕ) (ts us : List WrittenType) (l : Limit) → TreePasses b n d ts l ⊎ TreePasses b n e us l → TreePasses b n (max d e) (ts ++ us) l
+  pub beside_passes : (n d e : ℕ) (ts us : List WrittenType) (l : Limit) → TreePasses b n d ts l
+      ⊎ TreePasses b n e us l → TreePasses b n (max d e) (ts ++ us) l
   beside_passes n d e ts us l p =
       elim p [
         | inl q ↦ elim q [ inl r ↦ inl (omega (arith, r.0), r.1) | inr r ↦ inr (first_passes ts us l r) ]
@@ -50,17 +53,21 @@ module _ (b : Bounds) where
       ]
 
   -- a tree of two parts
-  pub two_fit : (n d e : ℕ) (ts us : List WrittenType) → TreeFits b n d ts → TreeFits b n e us → TreeFits b (suc n) (1 + max d e) (ts ++ us)
+  pub two_fit : (n d e : ℕ) (ts us : List WrittenType) → TreeFits b n d ts → TreeFits b n e us →
+      TreeFits b (suc n) (1 + max d e) (ts ++ us)
   two_fit n d e ts us h k = one_fits n (max d e) (ts ++ us) (beside_fit n d e ts us h k)
 
-  pub two_pass : (n d e : ℕ) (ts us : List WrittenType) (l : Limit) → TreePasses b n d ts l ⊎ TreePasses b n e us l → TreePasses b (suc n) (1 + max d e) (ts ++ us) l
+  pub two_pass : (n d e : ℕ) (ts us : List WrittenType) (l : Limit) → TreePasses b n d ts l
+      ⊎ TreePasses b n e us l → TreePasses b (suc n) (1 + max d e) (ts ++ us) l
   two_pass n d e ts us l p = one_passes n (max d e) (ts ++ us) l (beside_passes n d e ts us l p)
 
   -- types that stand before the parts
-  pub types_fit_before : (n d : ℕ) (ts us : List WrittenType) → TypesFit b ts → TreeFits b n d us → TreeFits b n d (ts ++ us)
+  pub types_fit_before : (n d : ℕ) (ts us : List WrittenType) → TypesFit b ts → TreeFits b n d us →
+      TreeFits b n d (ts ++ us)
   types_fit_before n d ts us h k = (k.0, both_fit ts us h k.1)
 
-  pub types_pass_before : (n d : ℕ) (ts us : List WrittenType) (l : Limit) → SomeTypePasses b ts l ⊎ TreePasses b n d us l → TreePasses b n d (ts ++ us) l
+  pub types_pass_before : (n d : ℕ) (ts us : List WrittenType) (l : Limit) → SomeTypePasses b ts l
+      ⊎ TreePasses b n d us l → TreePasses b n d (ts ++ us) l
   types_pass_before n d ts us l p =
       elim p [
         | inl q ↦ inr (first_passes ts us l q)
@@ -68,10 +75,12 @@ module _ (b : Bounds) where
       ]
 
   -- one type that stands behind the parts
-  pub type_fits_behind : (n d : ℕ) (ts : List WrittenType) (t : WrittenType) → TreeFits b n d ts → TypeFits b t → TreeFits b n d (ts ++ t ∷ [])
+  pub type_fits_behind : (n d : ℕ) (ts : List WrittenType) (t : WrittenType) → TreeFits b n d ts →
+      TypeFits b t → TreeFits b n d (ts ++ t ∷ [])
   type_fits_behind n d ts t h k = (h.0, both_fit ts (t ∷ []) h.1 (k, tt))
 
-  pub type_passes_behind : (n d : ℕ) (ts : List WrittenType) (t : WrittenType) (l : Limit) → TreePasses b n d ts l ⊎ TypePasses b t l → TreePasses b n d (ts ++ t ∷ []) l
+  pub type_passes_behind : (n d : ℕ) (ts : List WrittenType) (t : WrittenType) (l : Limit) →
+      TreePasses b n d ts l ⊎ TypePasses b t l → TreePasses b n d (ts ++ t ∷ []) l
   type_passes_behind n d ts t l p =
       elim p [
         | inl q ↦ elim q [ inl r ↦ inl r | inr r ↦ inr (first_passes ts (t ∷ []) l r) ]

@@ -1,5 +1,7 @@
 -- Steps of reading, and the test of two tokens.
-use Rattle.std.proofs.Common.{◌≡◌, ℕ, suc, ◌<◌, Bool, true, false, not, ◌==◌, cond, List, [], ◌∷◌, length, map, get_or, drop, Some, Result, Ok, Err, refl, sym, ap, subst, ◌∙◌, inl, inr, ◌⊎◌}
+use Rattle.std.proofs.Common.{◌≡◌, ℕ, suc, ◌<◌, Bool, true, false, not, ◌==◌, cond, List, [], ◌∷◌, length}
+use Rattle.std.proofs.Common.{map, get_or, drop, Some, Result, Ok, Err, refl, sym, ap, subst, ◌∙◌, inl, inr}
+use Rattle.std.proofs.Common.{◌⊎◌}
 use Rattle.std.specs.Ordering.{int_eq}
 use Rattle.std.proofs.Math.Seq.{drop-cons}
 use Rattle.std.proofs.lemmas.Bool.{and_parts, and_from, eqb-true, eq-eqb}
@@ -15,7 +17,8 @@ use Rattle.au_read_expressions.specs.declared.faults.Fault.{Fault}
 use Rattle.au_read_expressions.specs.declared.faults.Stop.{Stop}
 use Rattle.au_read_expressions.specs.declared.tokens.Expected.{Expected}
 use Rattle.au_read_expressions.specs.declared.faults.Stop.TheVariants as stop
-use Rattle.au_read_expressions.specs.Reading.{◌>>=◌, Stops, Gives, expected_what, same_what, front, is_front, begins_with, token_at, tokens_at}
+use Rattle.au_read_expressions.specs.Reading.{◌>>=◌, Stops, Gives, expected_what, same_what, front, is_front}
+use Rattle.au_read_expressions.specs.Reading.{begins_with, token_at, tokens_at}
 
 -- what steps give, with the type of a fault
 abbrev pub given : {A : Type 0} → A → Result A Fault
@@ -29,7 +32,8 @@ pub not_read : {A : Type 0} (f : Fault) (x : A) → ◌≡◌ {A = Result A Faul
 not_read f x e = cc
 
 -- where both steps read, the first reads something that the second goes on from
-pub bind_ok : {A B : Type 0} (r : Result A Fault) (f : A → Result B Fault) (y : B) → (r >>= f) ≡ Ok y → (x : A) × (r ≡ Ok x) × (f x ≡ Ok y)
+pub bind_ok : {A B : Type 0} (r : Result A Fault) (f : A → Result B Fault) (y : B) → (r >>= f) ≡ Ok y →
+    (x : A) × (r ≡ Ok x) × (f x ≡ Ok y)
 bind_ok (Ok x) f y e = (x, refl, e)
 bind_ok (Err d) f y e = absurd (not_read d y e)
 
@@ -68,7 +72,8 @@ same_self (Number a n) = and_from _ _ ((Decides-int_eq a a).1 refl) (eq-eqb n n 
 same_self (Text a) = (bytes_eq-Decides a a).1 refl
 
 -- a token that is read stands first
-pub token_is : (what : What) (ts rest : List Token) → token_at what ts ≡ Ok rest → (token : Token) × (token.what ≡ what) × (ts ≡ token ∷ rest)
+pub token_is : (what : What) (ts rest : List Token) → token_at what ts ≡ Ok rest → (token : Token)
+    × (token.what ≡ what) × (ts ≡ token ∷ rest)
 token_is what [] rest e = absurd cc
 token_is what (token ∷ ts) rest e =
     elim (chosen (same_what token.what what) (given ts) (Err _) (Ok rest) e) [
@@ -77,12 +82,15 @@ token_is what (token ∷ ts) rest e =
     ]
 
 -- a token that stands first is read
-pub token_again : (what : What) (token : Token) (rest : List Token) → token.what ≡ what → token_at what (token ∷ rest) ≡ Ok rest
+pub token_again : (what : What) (token : Token) (rest : List Token) → token.what ≡ what →
+    token_at what (token ∷ rest) ≡ Ok rest
 token_again what token rest is =
-    when_true (same_what token.what what) (given rest) (Err _) (ap (same_what token.what) (sym is) ∙ same_self token.what)
+    when_true (same_what token.what what) (given rest) (Err _)
+    (ap (same_what token.what) (sym is) ∙ same_self token.what)
 
 -- a token that the test tells stands first
-pub begins_is : (what : What) (ts : List Token) → begins_with what ts ≡ true → (token : Token) × (token.what ≡ what) × (ts ≡ token ∷ drop 1 ts)
+pub begins_is : (what : What) (ts : List Token) → begins_with what ts ≡ true → (token : Token)
+    × (token.what ≡ what) × (ts ≡ token ∷ drop 1 ts)
 begins_is what [] e = absurd cc
 begins_is what (token ∷ ts) e = (token, same_is token.what what e, refl)
 
@@ -91,17 +99,22 @@ begins_again what ts e = ap (is_front what) e ∙ same_self what
 
 -- ---- a fault that is passed on
 
-stops_on : {A B : Type 0} (e : Stop) (one : Result B Fault) (read : Result A Fault) → Stops e one → ((f : Fault) → one ≡ Err f → read ≡ Err f) → Stops e read
+stops_on : {A B : Type 0} (e : Stop) (one : Result B Fault) (read : Result A Fault) → Stops e one →
+    ((f : Fault) → one ≡ Err f → read ≡ Err f) → Stops e read
 stops_on stop.Memory one read stops on = tt
 stops_on (stop.Fault f) one read stops on = on f stops
 
 -- what stops a part stops what it is a part of
-pub passes_on : {X A B : Type 0} (view : X → A) (result : Result X Stop) (e : Stop) (one : Result B Fault) (read : Result A Fault)
-    → (y : Stop) × (result ≡ Err y) × (y ≡ e) → Stops e one → ((f : Fault) → one ≡ Err f → read ≡ Err f) → Gives view result read
+pub passes_on : {X A B : Type 0} (view : X → A) (result : Result X Stop) (e : Stop) (one : Result B Fault)
+    (read : Result A Fault)
+    → (y : Stop) × (result ≡ Err y) × (y ≡ e) → Stops e one → ((f : Fault) → one ≡ Err f → read ≡ Err f) →
+    Gives view result read
 passes_on view result e one read is stops on =
     subst (λ r. Gives view r read) (sym is.1) (subst (λ y. Stops y read) (sym is.2) (stops_on e one read stops on))
 
 -- what stops at one of the expected tokens stops there
-pub tokens_fail : (known : List Expected) (i : ℕ) (d : Expected) (rest : List Token) (f : Fault) → i < length known → token_at (expected_what (get_or known i d)) rest ≡ Err f
+pub tokens_fail : (known : List Expected) (i : ℕ) (d : Expected) (rest : List Token) (f : Fault) →
+    i < length known → token_at (expected_what (get_or known i d)) rest ≡ Err f
     → tokens_at (map expected_what (drop i known)) rest ≡ Err f
-tokens_fail known i d rest f h stops = ap (λ ws. tokens_at (map expected_what ws) rest) (drop-cons known i d h) ∙ ap (λ r. r >>= tokens_at (map expected_what (drop (suc i) known))) stops
+tokens_fail known i d rest f h stops = ap (λ ws. tokens_at (map expected_what ws) rest)
+    (drop-cons known i d h) ∙ ap (λ r. r >>= tokens_at (map expected_what (drop (suc i) known))) stops

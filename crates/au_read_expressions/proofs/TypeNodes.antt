@@ -35,21 +35,27 @@ borrow_nodes access.Read = refl
 borrow_nodes access.Write = refl
 
 -- what stands in the brackets of a reference, with the type in front
-pub target_words : (ws : Words) (region : Placed Bytes) → ws ++ mark Comma ++ name_words region ++ mark RightBracket ≡ ws ++ (mark Comma ++ name_words region ++ mark RightBracket)
-target_words ws region = append_assoc (ws ++ mark Comma) (name_words region) (mark RightBracket) ∙ append_assoc ws (mark Comma) (name_words region ++ mark RightBracket)
+pub target_words : (ws : Words) (region : Placed Bytes) → ws ++ mark Comma ++ name_words region
+    ++ mark RightBracket ≡ ws ++ (mark Comma ++ name_words region ++ mark RightBracket)
+target_words ws region = append_assoc (ws ++ mark Comma) (name_words region) (mark RightBracket)
+    ∙ append_assoc ws (mark Comma) (name_words region ++ mark RightBracket)
 
 mutual
   pub words_nodes : (t : WrittenType) → nodes_words (type_words t) ≡ type_nodes t
   words_nodes (named name no_types) = refl
   words_nodes (named name (types t ts)) =
-      let first : nodes_words ((type_words t ++ behind_commas (words_of_types ts)) ++ mark RightBracket) ≡ nodes_words (type_words t ++ behind_commas (words_of_types ts)) + 0 =
+      let first : nodes_words ((type_words t ++ behind_commas (words_of_types ts)) ++ mark RightBracket)
+      ≡ nodes_words (type_words t ++ behind_commas (words_of_types ts)) + 0 =
       nodes_both (type_words t ++ behind_commas (words_of_types ts)) (mark RightBracket) in
       let second = nodes_both (type_words t) (behind_commas (words_of_types ts)) in
       omega (arith, first, second, words_nodes t, others_nodes ts)
   words_nodes (reference at mode target region) =
-      let b : nodes_words (type_words target ++ mark Comma ++ name_words region ++ mark RightBracket) ≡ nodes_words (type_words target) + 1 =
+      let b : nodes_words (type_words target ++ mark Comma ++ name_words region ++ mark RightBracket)
+      ≡ nodes_words (type_words target) + 1 =
       ap nodes_words (target_words (type_words target) region)
-      ∙ nodes_both (type_words target) (mark Comma ++ name_words region ++ mark RightBracket) ∙ ap (λ n. nodes_words (type_words target) + n) (let one : 0 + (1 + (0 + 0)) ≡ 1 = omega arith in one) in
+      ∙ nodes_both (type_words target) (mark Comma ++ name_words region ++ mark RightBracket)
+      ∙ ap (λ n. nodes_words (type_words target) + n) (let one : 0 + (1 + (0 + 0)) ≡ 1 = omega arith in one)
+      in
       let start : weight (Sign (access_sign mode)) ≡ 1 = borrow_nodes mode in
       omega (arith, b, start, words_nodes target)
 
@@ -68,9 +74,11 @@ taken_nodes (w ∷ ws) (t ∷ ts) rest h =
     omega (arith, first, others)
 
 -- the tokens of a type stand for its nodes
-pub type_taken : (t : WrittenType) (ts rest : List Token) → Begins (type_words t) ts rest → nodes_in (take (length ts - length rest) ts) ≡ type_nodes t
+pub type_taken : (t : WrittenType) (ts rest : List Token) → Begins (type_words t) ts rest →
+    nodes_in (take (length ts - length rest) ts) ≡ type_nodes t
 type_taken t ts rest h =
-    let n : length ts - length rest ≡ length (type_words t) = let e = begins_shorter (type_words t) ts rest h in omega (arith, e) in
+    let n : length ts - length rest ≡ length (type_words t) = let e = begins_shorter (type_words t) ts rest h
+    in omega (arith, e) in
     ap (λ k. nodes_in (take k ts)) n ∙ taken_nodes (type_words t) ts rest h ∙ words_nodes t
 
 -- ---- a type is no deeper than it has words

@@ -18,4 +18,10 @@ module _ (b : Bounds) where
     pub expression_some : (e : PlainExpression) → 0 < length (expression_words e)
 
   pub lower : Lower
-  lower = record { types = type_reads b; expressions = expression_reads b (type_reads b); calls = call_reads b (type_reads b); expression_some = some_words }
+  lower = record {
+    types = type_reads b;
+    expressions = expression_reads b (type_reads b);
+    calls =
+        call_reads b (type_reads b);
+    expression_some = some_words;
+  }

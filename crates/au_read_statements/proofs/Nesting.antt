@@ -17,11 +17,15 @@ nest_6 a b c d e f = nest_5 (a ++ b) c d e f ∙ append_assoc a b (c ++ (d ++ (e
 pub nest_7 : (a b c d e f g : Words) → a ++ b ++ c ++ d ++ e ++ f ++ g ≡ a ++ (b ++ (c ++ (d ++ (e ++ (f ++ g)))))
 nest_7 a b c d e f g = nest_6 (a ++ b) c d e f g ∙ append_assoc a b (c ++ (d ++ (e ++ (f ++ g))))
 
-pub nest_8 : (a b c d e f g h : Words) → a ++ b ++ c ++ d ++ e ++ f ++ g ++ h ≡ a ++ (b ++ (c ++ (d ++ (e ++ (f ++ (g ++ h))))))
+pub nest_8 : (a b c d e f g h : Words) → a ++ b ++ c ++ d ++ e ++ f ++ g ++ h ≡ a
+    ++ (b ++ (c ++ (d ++ (e ++ (f ++ (g ++ h))))))
 nest_8 a b c d e f g h = nest_7 (a ++ b) c d e f g h ∙ append_assoc a b (c ++ (d ++ (e ++ (f ++ (g ++ h)))))
 
-pub nest_9 : (a b c d e f g h i : Words) → a ++ b ++ c ++ d ++ e ++ f ++ g ++ h ++ i ≡ a ++ (b ++ (c ++ (d ++ (e ++ (f ++ (g ++ (h ++ i)))))))
+pub nest_9 : (a b c d e f g h i : Words) → a ++ b ++ c ++ d ++ e ++ f ++ g ++ h ++ i ≡ a
+    ++ (b ++ (c ++ (d ++ (e ++ (f ++ (g ++ (h ++ i)))))))
 nest_9 a b c d e f g h i = nest_8 (a ++ b) c d e f g h i ∙ append_assoc a b (c ++ (d ++ (e ++ (f ++ (g ++ (h ++ i))))))
 
-pub nest_10 : (a b c d e f g h i j : Words) → a ++ b ++ c ++ d ++ e ++ f ++ g ++ h ++ i ++ j ≡ a ++ (b ++ (c ++ (d ++ (e ++ (f ++ (g ++ (h ++ (i ++ j))))))))
-nest_10 a b c d e f g h i j = nest_9 (a ++ b) c d e f g h i j ∙ append_assoc a b (c ++ (d ++ (e ++ (f ++ (g ++ (h ++ (i ++ j)))))))
+pub nest_10 : (a b c d e f g h i j : Words) → a ++ b ++ c ++ d ++ e ++ f ++ g ++ h ++ i ++ j ≡ a
+    ++ (b ++ (c ++ (d ++ (e ++ (f ++ (g ++ (h ++ (i ++ j))))))))
+nest_10 a b c d e f g h i j = nest_9 (a ++ b) c d e f g h i j
+    ∙ append_assoc a b (c ++ (d ++ (e ++ (f ++ (g ++ (h ++ (i ++ j)))))))

@@ -1,5 +1,6 @@
 -- The laws of the readers of the parts of statements.
-use Rattle.std.proofs.Common.{◌≡◌, Bool, true, not, ◌&&◌, List, [], ◌∷◌, ◌++◌, Option, Some, None, Ok, refl, ap, ◌∙◌, subst, arith, inl, inr, ◌⊎◌, ◌<◌, length}
+use Rattle.std.proofs.Common.{◌≡◌, Bool, true, not, ◌&&◌, List, [], ◌∷◌, ◌++◌, Option, Some, None, Ok, refl}
+use Rattle.std.proofs.Common.{ap, ◌∙◌, subst, arith, inl, inr, ◌⊎◌, ◌<◌, length}
 use Rattle.au_base.specs.declared.limits.Limit.{Limit}
 use Rattle.au_base.specs.declared.places.Pos.{Pos}
 use Rattle.au_base.specs.declared.tokens.Keyword.TheVariants.{KwAs, KwEnd}
@@ -17,12 +18,14 @@ use Rattle.au_read_expressions.specs.Bounds.{Bounds, TypePasses}
 use Rattle.au_read_expressions.specs.Reading.{is_front, value_or_no, name_at, optional, exactly, behind, pair, read_of}
 use Rattle.au_read_expressions.specs.Spelling.{Begins, fixed}
 use Rattle.au_read_expressions.proofs.Steps.{ok_same}
-use Rattle.au_read_expressions.proofs.Forms.{Form, Reads, Builds, anything, light, behind_form, pair_form, pair_after, pair_behind, shaped_reads, built_sound, built_found}
+use Rattle.au_read_expressions.proofs.Forms.{Form, Reads, Builds, anything, light, behind_form, pair_form}
+use Rattle.au_read_expressions.proofs.Forms.{pair_after, pair_behind, shaped_reads, built_sound, built_found}
 use Rattle.au_read_expressions.proofs.ListForms.{optional_form, optional_reads}
 use Rattle.au_read_expressions.proofs.Single.{name_form, name_reads, exactly_reads}
 use Rattle.au_read_expressions.proofs.Limits.{TypeFits}
 use Rattle.au_read_expressions.specs.TypeReading.{ends_type, type_at}
-use Rattle.au_read_statements.specs.StatementReading.{renaming_of, renaming_at, bound_of, bound_at, place_alone, end_place, mode_of, mode_at}
+use Rattle.au_read_statements.specs.StatementReading.{renaming_of, renaming_at, bound_of, bound_at}
+use Rattle.au_read_statements.specs.StatementReading.{place_alone, end_place, mode_of, mode_at}
 use Rattle.au_read_expressions.proofs.TypeForm.{type_form}
 
 -- a passed limit that a light part can't have passed
@@ -45,7 +48,8 @@ ends_renaming what = not (is_front (Word KwAs) what) && true
 abbrev pub alias_form : Form (Option (Placed Bytes))
 alias_form = optional_form name_form anything name_at name_reads (Word KwAs)
 
-alias_line : (name : Placed Bytes) (x : Option (Placed Bytes)) → renaming_words (renaming_of (name, x)) ≡ name_words name ++ alias_form.words x
+alias_line : (name : Placed Bytes) (x : Option (Placed Bytes)) → renaming_words (renaming_of (name, x))
+    ≡ name_words name ++ alias_form.words x
 alias_line name None = refl
 alias_line name (Some alias) = refl
 
@@ -59,7 +63,8 @@ alias_passes (Some alias) l p = p
 
 named_alias : Reads (pair_form name_form alias_form) ends_renaming (pair name_at (optional (Word KwAs) name_at))
 named_alias =
-    pair_after name_form alias_form anything ends_renaming name_at name_reads (optional (Word KwAs) name_at) (optional_reads name_form anything name_at name_reads (Word KwAs))
+    pair_after name_form alias_form anything ends_renaming name_at name_reads (optional (Word KwAs) name_at)
+    (optional_reads name_form anything name_at name_reads (Word KwAs))
     (λ what. refl)
 
 pub renaming_some : (x : Renaming Bytes) → renaming_form.good x ≡ true → 0 < length (renaming_words x)
@@ -67,7 +72,8 @@ renaming_some x good = omega arith
 
 pub renaming_reads : Reads renaming_form ends_renaming renaming_at
 renaming_reads =
-    shaped_reads (pair_form name_form alias_form) renaming_form ends_renaming (pair name_at (optional (Word KwAs) name_at)) named_alias renaming_of
+    shaped_reads (pair_form name_form alias_form) renaming_form ends_renaming
+    (pair name_at (optional (Word KwAs) name_at)) named_alias renaming_of
     (record {
       words = λ x. alias_line x.0 x.1;
       good_to = λ x g. refl;
@@ -82,10 +88,18 @@ renaming_reads =
 
 module _ (b : Bounds) where
   abbrev pub bound_form : Form (Bound Bytes)
-  bound_form = record { words = bound_words; good = λ x. true; Fits = λ x. TypeFits b x.of; Passes = λ x. TypePasses b x.of }
+  bound_form = record {
+    words = bound_words;
+    good = λ x. true;
+    Fits = λ x. TypeFits b x.of;
+    Passes =
+        λ x. TypePasses b x.of;
+  }
 
   bound_line : (name : Placed Bytes) (x : Option (Placed Bytes)) (t : WrittenType)
-      → bound_words (bound_of (renaming_of (name, x), t)) ≡ (pair_form renaming_form (behind_form (type_form b) (Sign Colon ∷ []))).words (renaming_of (name, x), t)
+      → bound_words (bound_of (renaming_of (name, x), t))
+      ≡ (pair_form renaming_form (behind_form (type_form b) (Sign Colon ∷ []))).words
+      (renaming_of (name, x), t)
   bound_line name None t = refl
   bound_line name (Some alias) t = refl
 
@@ -93,12 +107,15 @@ module _ (b : Bounds) where
   bound_some x good = omega arith
 
   module _ (types : Reads (type_form b) ends_type (type_at b)) where
-    bound_parts : Reads (pair_form renaming_form (behind_form (type_form b) (Sign Colon ∷ []))) ends_type (pair renaming_at (behind (Sign Colon ∷ []) (type_at b)))
-    bound_parts = pair_behind renaming_form (type_form b) ends_renaming ends_type renaming_at renaming_reads (type_at b) types (Sign Colon) [] refl
+    bound_parts : Reads (pair_form renaming_form (behind_form (type_form b) (Sign Colon ∷ []))) ends_type
+        (pair renaming_at (behind (Sign Colon ∷ []) (type_at b)))
+    bound_parts = pair_behind renaming_form (type_form b) ends_renaming ends_type renaming_at renaming_reads
+        (type_at b) types (Sign Colon) [] refl
 
     pub bound_reads : Reads bound_form ends_type (bound_at b)
     bound_reads =
-        shaped_reads (pair_form renaming_form (behind_form (type_form b) (Sign Colon ∷ []))) bound_form ends_type (pair renaming_at (behind (Sign Colon ∷ []) (type_at b))) bound_parts bound_of
+        shaped_reads (pair_form renaming_form (behind_form (type_form b) (Sign Colon ∷ []))) bound_form
+        ends_type (pair renaming_at (behind (Sign Colon ∷ []) (type_at b))) bound_parts bound_of
         (record {
           words = λ x. bound_line x.0.name x.0.alias x.1;
           good_to = λ x g. refl;
@@ -114,7 +131,8 @@ module _ (b : Bounds) where
 abbrev pub end_form : Form Pos
 end_form = light end_at
 
-end_builds : Builds (light (λ (x : Unit {0}). fixed (Word KwEnd ∷ []))) end_form anything (exactly (Word KwEnd ∷ [])) (exactly_reads (Word KwEnd ∷ [])) place_alone
+end_builds : Builds (light (λ (x : Unit {0}). fixed (Word KwEnd ∷ []))) end_form anything
+    (exactly (Word KwEnd ∷ [])) (exactly_reads (Word KwEnd ∷ [])) place_alone
 end_builds = record {
   words = λ at x. refl;
   some = λ x. omega arith;
@@ -126,8 +144,10 @@ end_builds = record {
 
 pub end_place_reads : Reads end_form anything end_place
 end_place_reads = record {
-  sound = built_sound (light (λ (x : Unit {0}). fixed (Word KwEnd ∷ []))) end_form anything (exactly (Word KwEnd ∷ [])) (exactly_reads (Word KwEnd ∷ [])) place_alone end_builds;
-  found = λ at. built_found (light (λ (x : Unit {0}). fixed (Word KwEnd ∷ []))) end_form anything (exactly (Word KwEnd ∷ [])) (exactly_reads (Word KwEnd ∷ [])) place_alone end_builds at tt;
+  sound = built_sound (light (λ (x : Unit {0}). fixed (Word KwEnd ∷ []))) end_form anything
+      (exactly (Word KwEnd ∷ [])) (exactly_reads (Word KwEnd ∷ [])) place_alone end_builds;
+  found = λ at. built_found (light (λ (x : Unit {0}). fixed (Word KwEnd ∷ []))) end_form anything
+      (exactly (Word KwEnd ∷ [])) (exactly_reads (Word KwEnd ∷ [])) place_alone end_builds at tt;
 }
 
 -- ---- how a variable is borrowed
@@ -135,12 +155,14 @@ end_place_reads = record {
 abbrev pub mode_form : Form BorrowMode
 mode_form = light (λ m. mark (mode_sign m))
 
-mode_done : (t : Token) (ts rest : List Token) (m x : BorrowMode) → Begins (mark (mode_sign m)) (t ∷ ts) ts → read_of m ts ≡ read_of x rest → Begins (mark (mode_sign x)) (t ∷ ts) rest
+mode_done : (t : Token) (ts rest : List Token) (m x : BorrowMode) → Begins (mark (mode_sign m)) (t ∷ ts) ts →
+    read_of m ts ≡ read_of x rest → Begins (mark (mode_sign x)) (t ∷ ts) rest
 mode_done t ts rest m x h e =
     let same : (m, ts) ≡ (x, rest) = ok_same (m, ts) (x, rest) e in
     subst (λ (p : BorrowMode × List Token). Begins (mark (mode_sign p.0)) (t ∷ ts) p.1) same h
 
-mode_take : (w : What) (t : Token) (ts rest : List Token) (x : BorrowMode) → t.what ≡ w → value_or_no (t ∷ ts) (mode_of w) ≡ Ok (x, rest) → Begins (mark (mode_sign x)) (t ∷ ts) rest
+mode_take : (w : What) (t : Token) (ts rest : List Token) (x : BorrowMode) → t.what ≡ w →
+    value_or_no (t ∷ ts) (mode_of w) ≡ Ok (x, rest) → Begins (mark (mode_sign x)) (t ∷ ts) rest
 mode_take (Sign ReadBorrow) t ts rest x is e = mode_done t ts rest mode.Read x ((is, tt), refl) e
 mode_take (Sign WriteBorrow) t ts rest x is e = mode_done t ts rest mode.Write x ((is, tt), refl) e
 mode_take (Sign Reborrow) t ts rest x is e = mode_done t ts rest mode.Reborrow x ((is, tt), refl) e

@@ -31,11 +31,13 @@ good_accepted program good = none_refused program (exact program) good
 
 -- ---- never want of memory
 
-infinite_unwanted : (b : Bool) (d : PlainDeclaration) → where_so b (fault.Infinite (declaration_place d)) ≡ Some fault.Memory → ⊥
+infinite_unwanted : (b : Bool) (d : PlainDeclaration) → where_so b (fault.Infinite (declaration_place d))
+    ≡ Some fault.Memory → ⊥
 infinite_unwanted true d h = cc
 infinite_unwanted false d h = cc
 
-type_unwanted : (infinite : DeclAt → Bool) (d : PlainDeclaration) (o : Option DeclAt) → type_fault infinite d o ≡ Some fault.Memory → ⊥
+type_unwanted : (infinite : DeclAt → Bool) (d : PlainDeclaration) (o : Option DeclAt) →
+    type_fault infinite d o ≡ Some fault.Memory → ⊥
 type_unwanted infinite d None h = cc
 type_unwanted infinite d (Some a) h = infinite_unwanted (infinite a) d h
 

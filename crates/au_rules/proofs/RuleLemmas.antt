@@ -1,5 +1,7 @@
 -- The first double of each declaration is none exactly where the rule holds.
-use Rattle.std.proofs.Common.{◌≡◌, ◌↔◌, ◌⊎◌, inl, inr, ℕ, zero, suc, Bool, true, false, ◌||◌, cond, List, [], ◌∷◌, ◌++◌, reverse, map, Option, None, Some, refl, sym, ap, ◌∙◌, subst, append_assoc}
+use Rattle.std.proofs.Common.{◌≡◌, ◌↔◌, ◌⊎◌, inl, inr, ℕ, zero, suc, Bool, true, false, ◌||◌, cond, List, []}
+use Rattle.std.proofs.Common.{◌∷◌, ◌++◌, reverse, map, Option, None, Some, refl, sym, ap, ◌∙◌, subst}
+use Rattle.std.proofs.Common.{append_assoc}
 use Rattle.std.specs.Prelude.{slice_get}
 use Rattle.std.specs.List.{flat_map}
 use Rattle.std.specs.Option.{option_map, option_or}
@@ -18,11 +20,15 @@ use Rattle.au_rules.specs.declared.marks.Mark.{Mark}
 use Rattle.au_rules.specs.declared.marks.Mark.TheVariants.{Opens, Closes, Declares}
 use Rattle.au_rules.specs.declared.marks.Role.{Role}
 use Rattle.au_rules.specs.declared.marks.Role.TheVariants.{Local, Whole, Promise, Definition}
-use Rattle.au_rules.specs.Doubles.{behind, behind_all, double_of, doubles_behind, doubles_of, first_again, first_double, is_declared, is_name_again, is_open, is_top, numbered_double, stands}
+use Rattle.au_rules.specs.Doubles.{behind, behind_all, double_of, doubles_behind, doubles_of, first_again}
+use Rattle.au_rules.specs.Doubles.{first_double, is_declared, is_name_again, is_open, is_top, numbered_double}
+use Rattle.au_rules.specs.Doubles.{stands}
 use Rattle.au_rules.specs.Marks.{marks}
 use Rattle.au_rules.specs.Once.{AllNamesAreOnce, AreNew, IsDue, IsNew, IsUnknown, NamesAreOnce, text_of}
 use Rattle.au_rules.specs.Outside.{outside}
-use Rattle.au_rules.proofs.OnceLemmas.{at_top_top, declared_stands, not_so, open_from, open_to, or_left, or_right, or_true, so_not, stands_declared, top_at_top, unknown_from, unknown_to}
+use Rattle.au_rules.proofs.OnceLemmas.{at_top_top, declared_stands, not_so, open_from, open_to, or_left}
+use Rattle.au_rules.proofs.OnceLemmas.{or_right, or_true, so_not, stands_declared, top_at_top, unknown_from}
+use Rattle.au_rules.proofs.OnceLemmas.{unknown_to}
 
 module _ (foreign : Kind → Bytes → Bool) where
   -- ---- one name

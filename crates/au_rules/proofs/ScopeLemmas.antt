@@ -1,5 +1,7 @@
 -- The tables that are kept while a text is read hold what its marks say, of which the last stands first.
-use Rattle.std.proofs.Common.{◌≡◌, ℕ, zero, suc, ◌+◌, ◌<◌, ◌≤◌, Bool, true, false, ◌&&◌, ◌||◌, cond, List, [], ◌∷◌, ◌++◌, length, take, get_or, Option, None, Some, is_some, refl, sym, ap, ◌∙◌, subst, arith}
+use Rattle.std.proofs.Common.{◌≡◌, ℕ, zero, suc, ◌+◌, ◌<◌, ◌≤◌, Bool, true, false, ◌&&◌, ◌||◌, cond, List, []}
+use Rattle.std.proofs.Common.{◌∷◌, ◌++◌, length, take, get_or, Option, None, Some, is_some, refl, sym, ap}
+use Rattle.std.proofs.Common.{◌∙◌, subst, arith}
 use Rattle.std.specs.List.{fold}
 use Rattle.std.specs.Option.{option_or}
 use Rattle.std.specs.Str.{bytes_eq}
@@ -19,9 +21,11 @@ use Rattle.au_rules.specs.declared.marks.Mark.TheVariants.{Opens, Closes, Declar
 use Rattle.au_rules.specs.declared.marks.Role.{Role}
 use Rattle.au_rules.specs.declared.marks.Role.TheVariants.{Local, Whole, Promise, Definition}
 use Rattle.au_rules.specs.declared.scopes.Names.{Names}
-use Rattle.au_rules.specs.Doubles.{behind, behind_all, double_of, doubles_behind, first_again, is_declared, is_name_again, is_open, is_top, same_kind, same_role, stands}
+use Rattle.au_rules.specs.Doubles.{behind, behind_all, double_of, doubles_behind, first_again, is_declared}
+use Rattle.au_rules.specs.Doubles.{is_name_again, is_open, is_top, same_kind, same_role, stands}
 use Rattle.au_rules.specs.Nests.{entered, left, with_name}
-use Rattle.au_rules.specs.Scopes.{after, after_all, closed, double_in, doubles_in, first_in, is_again_among, is_again_in, is_known_in, is_top_in, no_names, no_scopes, noted, opened}
+use Rattle.au_rules.specs.Scopes.{after, after_all, closed, double_in, doubles_in, first_in, is_again_among}
+use Rattle.au_rules.specs.Scopes.{is_again_in, is_known_in, is_top_in, no_names, no_scopes, noted, opened}
 
 -- ---- tables of names
 

@@ -1,6 +1,7 @@
 -- The marks of a statement of the code, variant by variant, and of lists of them. The definitions are opaque;
 -- these equations stand for them.
-use Rattle.std.proofs.Common.{◌≡◌, ℕ, ◌+◌, ◌<◌, List, [], ◌∷◌, ◌++◌, length, take, get_or, map, Vec, refl, sym, ap, ◌∙◌, append_assoc}
+use Rattle.std.proofs.Common.{◌≡◌, ℕ, ◌+◌, ◌<◌, List, [], ◌∷◌, ◌++◌, length, take, get_or, map, Vec, refl}
+use Rattle.std.proofs.Common.{sym, ap, ◌∙◌, append_assoc}
 use Rattle.std.specs.Global.{Global}
 use Rattle.std.specs.declared.boxed.Box.{Box}
 use Rattle.std.proofs.lemmas.List.{append-nil, take_more}
@@ -23,12 +24,16 @@ use Rattle.au_syntax.specs.declared.types.TypeText.{TypeText}
 use Rattle.au_syntax.specs.Plain.{Bytes, plain_statement}
 use Rattle.au_syntax.specs.Statements.{Statement}
 use Rattle.au_syntax.specs.Views.{statement, written}
-use Rattle.au_syntax.proofs.StatementLemmas.{let_says, destructure_says, assign_says, assign_through_says, if_says, if_else_says, case_says, while_says, for_says, borrow_says, borrow_typed_says, call_says, return_says, skip_says}
+use Rattle.au_syntax.proofs.StatementLemmas.{let_says, destructure_says, assign_says, assign_through_says}
+use Rattle.au_syntax.proofs.StatementLemmas.{if_says, if_else_says, case_says, while_says, for_says}
+use Rattle.au_syntax.proofs.StatementLemmas.{borrow_says, borrow_typed_says, call_says, return_says}
+use Rattle.au_syntax.proofs.StatementLemmas.{skip_says}
 use Rattle.au_rules.specs.declared.marks.Kind.TheVariants.{Values, Types}
 use Rattle.au_rules.specs.declared.marks.Mark.{Mark}
 use Rattle.au_rules.specs.declared.marks.Mark.TheVariants.{Declares}
 use Rattle.au_rules.specs.declared.marks.Role.TheVariants.{Local}
-use Rattle.au_rules.specs.Marks.{arm_marks, block_marks, bound_mark, branch_marks, enclosed, region_marks, statement_marks}
+use Rattle.au_rules.specs.Marks.{arm_marks, block_marks, bound_mark, branch_marks, enclosed, region_marks}
+use Rattle.au_rules.specs.Marks.{statement_marks}
 use Rattle.au_rules.specs.Said.{arms_said, binds_said, block_said, branches_said, statement_said, statements_said}
 
 abbrev TheIdent : Type 0

@@ -1,9 +1,15 @@
 -- Code can follow closed functions of which this is asked.
 use Rattle.std.proofs.Common.{◌≡◌, ℕ, suc, ◌&&◌, true, List, [], ◌∷◌, Option, Some, None, refl, subst}
 use Rattle.std.specs.Option.{option_map}
-use Rattle.au_syntax.specs.Expressions.{Expression, Expressions, Arguments, number, negative, text, truth, nil, path, arrow, call, named_call, parenthesized, dereference, borrow, borrow_part, binary, negation, typed, choice, no_expressions, expressions, no_arguments, arguments}
+use Rattle.au_syntax.specs.Expressions.{Expression, Expressions, Arguments, number, negative, text, truth}
+use Rattle.au_syntax.specs.Expressions.{nil, path, arrow, call, named_call, parenthesized, dereference}
+use Rattle.au_syntax.specs.Expressions.{borrow, borrow_part, binary, negation, typed, choice, no_expressions}
+use Rattle.au_syntax.specs.Expressions.{expressions, no_arguments, arguments}
 use Rattle.au_syntax.specs.Plain.{Bytes}
-use Rattle.au_syntax.specs.Statements.{Statement, Statements, Branches, Arms, skip, declare, destructure, assign, assign_through, conditional, conditional_else, case_of, while_loop, for_loop, borrow_in, borrow_typed, discard, return_of, no_statements, statements, no_branches, branches, no_arms, arms}
+use Rattle.au_syntax.specs.Statements.{Statement, Statements, Branches, Arms, skip, declare, destructure}
+use Rattle.au_syntax.specs.Statements.{assign, assign_through, conditional, conditional_else, case_of}
+use Rattle.au_syntax.specs.Statements.{while_loop, for_loop, borrow_in, borrow_typed, discard, return_of}
+use Rattle.au_syntax.specs.Statements.{no_statements, statements, no_branches, branches, no_arms, arms}
 use Rattle.au_modules.specs.Programs.{ModuleParts}
 use Rattle.au_type_texts.specs.Types.{ClosedType}
 use Rattle.au_closed_trees.specs.ClosedNotes.{Callee, ClosedNote, instance, constructor, shipped}
@@ -17,7 +23,9 @@ use Rattle.au_shipped.specs.declared.prims.ShippedCall.{ShippedCall}
 use Rattle.au_shipped.specs.declared.prims.ShippedCall.TheVariants as prim
 use Rattle.au_running.specs.Asked.{AreSimple, FieldsAreOnce, InRange, IsPlainCall, ParametersAreOnce}
 use Rattle.au_running.specs.Followed.{functions_in, functions_of}
-use Rattle.au_running.specs.Suits.{CanCall, CanMention, EachSuits, SaidOf, SaidOfAll, SaidOfNamed, SaidIn, SaidOfBlock, SaidOfTests, SaidOfArms, SuitsBlock, acts_plainly, are_once, has_literal, is_followed, passes}
+use Rattle.au_running.specs.Suits.{CanCall, CanMention, EachSuits, SaidOf, SaidOfAll, SaidOfNamed, SaidIn}
+use Rattle.au_running.specs.Suits.{SaidOfBlock, SaidOfTests, SaidOfArms, SuitsBlock, acts_plainly, are_once}
+use Rattle.au_running.specs.Suits.{has_literal, is_followed, passes}
 
 -- ---- what is said more
 

@@ -1,5 +1,6 @@
 -- The code of a tree that suits is the same by a guarded view.
-use Rattle.std.proofs.Common.{◌≡◌, ℕ, ◌+◌, Bool, true, false, List, [], ◌∷◌, ◌++◌, length, map, Option, Some, None, refl, ap, ◌∙◌}
+use Rattle.std.proofs.Common.{◌≡◌, ℕ, ◌+◌, Bool, true, false, List, [], ◌∷◌, ◌++◌, length, map, Option, Some}
+use Rattle.std.proofs.Common.{None, refl, ap, ◌∙◌}
 use Rattle.std.specs.Prelude.{◌||◌, max, unwrap_or, if◌then◌else◌, nat_lt}
 use Rattle.std.specs.Str.{bytes_eq}
 use Rattle.au_type_texts.specs.Same.{same}
@@ -8,18 +9,31 @@ use Rattle.au_typing.specs.Returns.{block_returns}
 use Rattle.au_low.specs.declared.code.LowType.{LowType}
 use Rattle.au_low.specs.declared.instructions.Instr.TheVariants as instr
 use Rattle.au_lowered.specs.Drafts.{Written, ◌>>◌, nothing, does, given, either, branch, loop}
-use Rattle.au_lowered.specs.Expressions.{by_position, by_labels, calls, literal, mention, operand, joins, code, code_of_all, code_of_named, opens, closing, whole, part_of, part_behind}
-use Rattle.au_lowered.specs.Programs.{body_of, bodies, texts_named, types_named, entry_types, takes_root, texts_in, types_in, numbered, function_code, lowered}
-use Rattle.au_lowered.specs.Slots.{mode_of, with_reference, with_fields, fields_of_case, tag_in, kept, after, room, room_of_block, room_of_tests, room_of_arms}
+use Rattle.au_lowered.specs.Expressions.{by_position, by_labels, calls, literal, mention, operand, joins}
+use Rattle.au_lowered.specs.Expressions.{code, code_of_all, code_of_named, opens, closing, whole, part_of}
+use Rattle.au_lowered.specs.Expressions.{part_behind}
+use Rattle.au_lowered.specs.Programs.{body_of, bodies, texts_named, types_named, entry_types, takes_root}
+use Rattle.au_lowered.specs.Programs.{texts_in, types_in, numbered, function_code, lowered}
+use Rattle.au_lowered.specs.Slots.{mode_of, with_reference, with_fields, fields_of_case, tag_in, kept, after}
+use Rattle.au_lowered.specs.Slots.{room, room_of_block, room_of_tests, room_of_arms}
 use Rattle.au_lowered.specs.Statements.{arm_then, cases, is_last, lends, turns, statement, block, tests_of, arms_of}
-use Rattle.au_meaning.specs.Expressions.{Operation, computes, compares, is_and, is_or, operation_of, note_of, names_of, labels}
+use Rattle.au_meaning.specs.Expressions.{Operation, computes, compares, is_and, is_or, operation_of, note_of}
+use Rattle.au_meaning.specs.Expressions.{names_of, labels}
 use Rattle.au_meaning.specs.Names.{Scope, Variable, variable_of, with_name, with_parameters}
 use Rattle.au_meaning.specs.Views.{Function, View}
 use Rattle.au_graphs.specs.Reached.{adds}
-use Rattle.au_syntax.specs.Expressions.{Expression, Expressions, Arguments, number, negative, text, truth, nil, path, arrow, call, named_call, parenthesized, dereference, borrow, borrow_part, binary, negation, typed, choice, no_expressions, expressions, no_arguments, arguments}
+use Rattle.au_syntax.specs.Expressions.{Expression, Expressions, Arguments, number, negative, text, truth}
+use Rattle.au_syntax.specs.Expressions.{nil, path, arrow, call, named_call, parenthesized, dereference}
+use Rattle.au_syntax.specs.Expressions.{borrow, borrow_part, binary, negation, typed, choice, no_expressions}
+use Rattle.au_syntax.specs.Expressions.{expressions, no_arguments, arguments}
 use Rattle.au_syntax.specs.Plain.{Bytes}
-use Rattle.au_syntax.specs.Statements.{Statement, Statements, Branches, Arms, skip, declare, destructure, assign, assign_through, conditional, conditional_else, case_of, while_loop, for_loop, borrow_in, borrow_typed, discard, return_of, no_statements, statements, no_branches, branches, no_arms, arms}
-use Rattle.au_running.specs.Suits.{has_literal, is_followed, passes, passing, guarded, guarded_function, guarded_functions, CanMention, CanCall, Suits, SuitsAll, SuitsNamed, SuitsIn, SuitsBlock, SuitsTests, SuitsArms, EachSuits}
+use Rattle.au_syntax.specs.Statements.{Statement, Statements, Branches, Arms, skip, declare, destructure}
+use Rattle.au_syntax.specs.Statements.{assign, assign_through, conditional, conditional_else, case_of}
+use Rattle.au_syntax.specs.Statements.{while_loop, for_loop, borrow_in, borrow_typed, discard, return_of}
+use Rattle.au_syntax.specs.Statements.{no_statements, statements, no_branches, branches, no_arms, arms}
+use Rattle.au_running.specs.Suits.{has_literal, is_followed, passes, passing, guarded, guarded_function}
+use Rattle.au_running.specs.Suits.{guarded_functions, CanMention, CanCall, Suits, SuitsAll, SuitsNamed}
+use Rattle.au_running.specs.Suits.{SuitsIn, SuitsBlock, SuitsTests, SuitsArms, EachSuits}
 
 -- what passes is all that there is
 pub passing_same : {A : Type 0} (test : A → Bool) (o : Option A) → passes test o ≡ true → passing test o ≡ o

@@ -1,12 +1,20 @@
 -- Constants of a derived program are literals in the range of their kinds.
-use Rattle.std.proofs.Common.{◌≡◌, ℕ, true, List, [], Option, Some, None, refl, sym, ap, subst, ◌∙◌, slice_get, ℤ, neg_ℤ}
+use Rattle.std.proofs.Common.{◌≡◌, ℕ, true, List, [], Option, Some, None, refl, sym, ap, subst, ◌∙◌}
+use Rattle.std.proofs.Common.{slice_get, ℤ, neg_ℤ}
 use Rattle.std.specs.Option.{option_map, option_and_then}
 use Rattle.std.proofs.lemmas.Option.{slice_get-map}
 use Rattle.au_ints.specs.Ranges.{is_of_kind}
-use Rattle.au_syntax.specs.Expressions.{Expression, Expressions, Arguments, number, negative, text, truth, nil, path, arrow, call, named_call, parenthesized, dereference, borrow, borrow_part, binary, negation, typed, choice, no_expressions, expressions, no_arguments, arguments}
-use Rattle.au_syntax.specs.Modules.{constant, opaque_type, record_type, union_type, function, class, instance, constant_body, function_body, instance_body}
+use Rattle.au_syntax.specs.Expressions.{Expression, Expressions, Arguments, number, negative, text, truth}
+use Rattle.au_syntax.specs.Expressions.{nil, path, arrow, call, named_call, parenthesized, dereference}
+use Rattle.au_syntax.specs.Expressions.{borrow, borrow_part, binary, negation, typed, choice, no_expressions}
+use Rattle.au_syntax.specs.Expressions.{expressions, no_arguments, arguments}
+use Rattle.au_syntax.specs.Modules.{constant, opaque_type, record_type, union_type, function, class, instance}
+use Rattle.au_syntax.specs.Modules.{constant_body, function_body, instance_body}
 use Rattle.au_syntax.specs.Plain.{Bytes}
-use Rattle.au_syntax.specs.Statements.{Statement, Statements, Branches, Arms, skip, declare, destructure, assign, assign_through, conditional, conditional_else, case_of, while_loop, for_loop, borrow_in, borrow_typed, discard, return_of, no_statements, statements, no_branches, branches, no_arms, arms}
+use Rattle.au_syntax.specs.Statements.{Statement, Statements, Branches, Arms, skip, declare, destructure}
+use Rattle.au_syntax.specs.Statements.{assign, assign_through, conditional, conditional_else, case_of}
+use Rattle.au_syntax.specs.Statements.{while_loop, for_loop, borrow_in, borrow_typed, discard, return_of}
+use Rattle.au_syntax.specs.Statements.{no_statements, statements, no_branches, branches, no_arms, arms}
 use Rattle.au_types.specs.declared.types.DeclAt.{DeclAt}
 use Rattle.au_types.specs.Types as mean
 use Rattle.au_types.specs.Types.{Meaning}
@@ -26,13 +34,17 @@ use Rattle.au_typing.specs.Outsides.{outside_of}
 use Rattle.au_closed_trees.specs.Changes.{Change}
 use Rattle.au_closed_trees.specs.declared.notes.Literal.{Literal}
 use Rattle.au_closed_trees.specs.declared.notes.Literal.TheVariants as literals
-use Rattle.au_closed_trees.specs.Renoted.{expression_renoted, expressions_renoted, arguments_renoted, statement_renoted, block_renoted, branches_renoted, arms_renoted}
-use Rattle.au_closing.specs.Bodies.{BodyOf, body_at, body_of, constant_seen, defining_index, integer_of, literal_of, noted_at, value_in, value_of, value_standing}
-use Rattle.au_closing.specs.Closes.{ClosedFunction, ClosesFunctions, body_closed, change_of, instance_closed, mention_closed}
+use Rattle.au_closed_trees.specs.Renoted.{expression_renoted, expressions_renoted, arguments_renoted}
+use Rattle.au_closed_trees.specs.Renoted.{statement_renoted, block_renoted, branches_renoted, arms_renoted}
+use Rattle.au_closing.specs.Bodies.{BodyOf, body_at, body_of, constant_seen, defining_index, integer_of}
+use Rattle.au_closing.specs.Bodies.{literal_of, noted_at, value_in, value_of, value_standing}
+use Rattle.au_closing.specs.Closes.{ClosedFunction, ClosesFunctions, body_closed, change_of, instance_closed}
+use Rattle.au_closing.specs.Closes.{mention_closed}
 use Rattle.au_closing.specs.Instances.{Instance}
 use Rattle.au_closed_meanings.specs.Surroundings.{literal_value}
 use Rattle.au_running.specs.Asked.{AreSimple, CallsArePlain, InRange, IsAny, IsPlainCall}
-use Rattle.au_running.specs.Suits.{SaidOf, SaidOfAll, SaidOfNamed, SaidIn, SaidOfBlock, SaidOfTests, SaidOfArms, has_literal}
+use Rattle.au_running.specs.Suits.{SaidOf, SaidOfAll, SaidOfNamed, SaidIn, SaidOfBlock, SaidOfTests}
+use Rattle.au_running.specs.Suits.{SaidOfArms, has_literal}
 use Rattle.au_running.proofs.DerivedLemmas.{good_there, module_good}
 
 -- ---- what is said of a tree with other notes

@@ -1,12 +1,17 @@
 -- What the rules of typing say of the form of a body.
-use Rattle.std.proofs.Common.{◌≡◌, ℕ, zero, suc, ◌+◌, Bool, true, false, List, [], ◌∷◌, Option, Some, None, refl, subst, arith, slice_get, cond}
+use Rattle.std.proofs.Common.{◌≡◌, ℕ, zero, suc, ◌+◌, Bool, true, false, List, [], ◌∷◌, Option, Some, None}
+use Rattle.std.proofs.Common.{refl, subst, arith, slice_get, cond}
 use Rattle.std.specs.List.{find}
 use Rattle.std.specs.Option.{option_map, option_and_then}
 use Rattle.au_syntax.specs.declared.modules.Part.{Part}
 use Rattle.au_syntax.specs.declared.modules.Part.TheVariants.{Body}
-use Rattle.au_syntax.specs.Modules.{Constrained, constant, opaque_type, record_type, union_type, function, class, instance, constant_body, function_body, instance_body}
+use Rattle.au_syntax.specs.Modules.{Constrained, constant, opaque_type, record_type, union_type, function}
+use Rattle.au_syntax.specs.Modules.{class, instance, constant_body, function_body, instance_body}
 use Rattle.au_syntax.specs.Plain.{Bytes}
-use Rattle.au_syntax.specs.Statements.{skip, declare, destructure, assign, assign_through, conditional, conditional_else, case_of, while_loop, for_loop, borrow_in, borrow_typed, discard, return_of, no_statements, statements, no_branches, branches, no_arms, arms}
+use Rattle.au_syntax.specs.Statements.{skip, declare, destructure, assign, assign_through, conditional}
+use Rattle.au_syntax.specs.Statements.{conditional_else, case_of, while_loop, for_loop, borrow_in}
+use Rattle.au_syntax.specs.Statements.{borrow_typed, discard, return_of, no_statements, statements}
+use Rattle.au_syntax.specs.Statements.{no_branches, branches, no_arms, arms}
 use Rattle.au_modules.specs.Programs.{ModuleParts}
 use Rattle.au_names.specs.declared.targets.Target.{Target}
 use Rattle.au_names.specs.Standing.{Standing, standing_at}
@@ -17,10 +22,12 @@ use Rattle.au_typing.specs.Derivations.{Derives, GoodDeclaration, GoodDeclaratio
 use Rattle.au_typing.specs.InScope.{after, fixed_variable, with_bound, with_variable}
 use Rattle.au_typing.specs.Parts.{heads_of}
 use Rattle.au_typing.specs.Statements.{GoodStatement, GoodBlock, GoodBranches, GoodArmBlocks, GoodArms}
-use Rattle.au_typing.specs.Trees.{NotedStatement, NotedStatements, NotedBranches, NotedArms, NotedDeclaration, NotedEntry, NotedMethod, NotedParts}
+use Rattle.au_typing.specs.Trees.{NotedStatement, NotedStatements, NotedBranches, NotedArms, NotedDeclaration}
+use Rattle.au_typing.specs.Trees.{NotedEntry, NotedMethod, NotedParts}
 use Rattle.au_lowered.specs.Laws.{Tidy, BlockTidy, TestsTidy, ArmsTidy}
 use Rattle.au_lowered.specs.Trees.{BindsOnce, BlockBindsOnce, TestsBindOnce, ArmsBindOnce}
-use Rattle.au_closing.specs.Bodies.{BodyOf, body_at, body_in, body_of, body_of_parts, body_standing, declared_in, defining_index, is_method, method_body, noted_at}
+use Rattle.au_closing.specs.Bodies.{BodyOf, body_at, body_in, body_of, body_of_parts, body_standing}
+use Rattle.au_closing.specs.Bodies.{declared_in, defining_index, is_method, method_body, noted_at}
 use Rattle.au_running.specs.Formed.{IsFormed}
 use Rattle.au_running.proofs.GoodOnceLemmas.{binds_once}
 

@@ -24,7 +24,8 @@ module _ (program : List ModuleParts) (noted : List NotedParts) (owner name : By
     (once : ParametersAreOnce c.functions) (fields : FieldsAreOnce program) where
   run_follows : (input : List ℕ) (ticks : ℕ)
       → ((means program noted closes.entry input ticks).ending ≡ stuck → ⊥)
-      → Follows (told_in c.types) (functions_numbered (numbers program noted owner name c closes runnable once fields) c)
+      → Follows (told_in c.types) (functions_numbered
+      (numbers program noted owner name c closes runnable once fields) c)
       input (means program noted closes.entry input ticks)
   run_follows input ticks claim =
       let told = told_in c.types in

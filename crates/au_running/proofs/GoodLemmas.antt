@@ -1,5 +1,6 @@
 -- Guarded functions are a good program, and so the code of what suits does what it means.
-use Rattle.std.proofs.Common.{◌≡◌, ℕ, suc, ◌+◌, ◌&&◌, Bool, true, false, not, cond, List, [], ◌∷◌, map, Option, Some, None, refl, sym, ap, subst, ◌∙◌, arith}
+use Rattle.std.proofs.Common.{◌≡◌, ℕ, suc, ◌+◌, ◌&&◌, Bool, true, false, not, cond, List, [], ◌∷◌, map}
+use Rattle.std.proofs.Common.{Option, Some, None, refl, sym, ap, subst, ◌∙◌, arith}
 use Rattle.std.specs.Prelude.{slice_get, if◌then◌else◌}
 use Rattle.std.specs.Option.{option_map}
 use Rattle.std.specs.Str.{bytes_eq}
@@ -22,7 +23,8 @@ use Rattle.au_lowered.specs.FollowPrograms.{coding, EntryTakes, GoodFunction, Go
 use Rattle.au_lowered.proofs.RunLemmas.{runs_follow}
 use Rattle.au_syntax.specs.Plain.{Bytes}
 use Rattle.au_running.specs.Followed.{AreFollowed, FollowedRunsFollow, GuardedAreGood}
-use Rattle.au_running.specs.Suits.{has_literal, is_lacking, are_once, acts_plainly, is_followed, passing, guarded, guarded_function, guarded_functions}
+use Rattle.au_running.specs.Suits.{has_literal, is_lacking, are_once, acts_plainly, is_followed, passing}
+use Rattle.au_running.specs.Suits.{guarded, guarded_function, guarded_functions}
 use Rattle.au_running.proofs.CodeLemmas.{lowered_same, texts_same, types_same}
 use Rattle.au_running.proofs.MeaningLemmas.{means_same}
 

@@ -1,5 +1,6 @@
 -- The code of a closed program does what the noted program means that it is made of.
-use Rattle.std.proofs.Common.{◌≡◌, ℕ, true, zero, suc, List, [], ◌∷◌, Option, Some, None, refl, sym, ap, subst, ◌∙◌, true≢false}
+use Rattle.std.proofs.Common.{◌≡◌, ℕ, true, zero, suc, List, [], ◌∷◌, Option, Some, None, refl, sym, ap}
+use Rattle.std.proofs.Common.{subst, ◌∙◌, true≢false}
 use Rattle.std.specs.Prelude.{slice_get}
 use Rattle.std.specs.Option.{option_map}
 use Rattle.au_syntax.specs.Plain.{Bytes}
@@ -17,7 +18,8 @@ use Rattle.au_meaning.specs.Views.{Function, ships}
 use Rattle.au_shipped.specs.declared.prims.ShippedCall.TheVariants as prim
 use Rattle.au_lowered.specs.FollowLaws.{Follows}
 use Rattle.au_running.specs.Formed.{IsFormed}
-use Rattle.au_running.specs.Followed.{functions_in, functions_of, AreFollowed, DerivedProgramsFollow, NoClosedViewIsGood}
+use Rattle.au_running.specs.Followed.{functions_in, functions_of, AreFollowed, DerivedProgramsFollow}
+use Rattle.au_running.specs.Followed.{NoClosedViewIsGood}
 use Rattle.au_running.proofs.AskedLemmas.{asked_follow}
 use Rattle.au_running.proofs.ConstantLemmas.{plain_simple}
 use Rattle.au_running.proofs.ClosedLemmas.{closed_formed}

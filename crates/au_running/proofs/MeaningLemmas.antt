@@ -1,25 +1,38 @@
 -- The meaning of a tree that suits is the same by a guarded view.
-use Rattle.std.proofs.Common.{◌≡◌, ℕ, Bool, true, zero, suc, ◌+◌, ◌==◌, List, [], ◌∷◌, length, Option, Some, None, refl, ap, subst, ◌∙◌, arith}
+use Rattle.std.proofs.Common.{◌≡◌, ℕ, Bool, true, zero, suc, ◌+◌, ◌==◌, List, [], ◌∷◌, length, Option, Some}
+use Rattle.std.proofs.Common.{None, refl, ap, subst, ◌∙◌, arith}
 use Rattle.std.specs.Prelude.{slice_get}
 use Rattle.std.specs.Option.{option_map}
 use Rattle.std.proofs.lemmas.Option.{slice_get-map}
 use Rattle.au_closed_trees.specs.Changes.{Change}
 use Rattle.au_type_texts.specs.Types.{ClosedType}
-use Rattle.au_closed_trees.specs.Renoted.{expression_renoted, expressions_renoted, arguments_renoted, statement_renoted, block_renoted, branches_renoted, arms_renoted}
+use Rattle.au_closed_trees.specs.Renoted.{expression_renoted, expressions_renoted, arguments_renoted}
+use Rattle.au_closed_trees.specs.Renoted.{statement_renoted, block_renoted, branches_renoted, arms_renoted}
 use Rattle.au_meaning.specs.Acts.{begins, new_names}
 use Rattle.au_meaning.specs.Expressions.{acts, calls, note_of}
-use Rattle.au_meaning.specs.Meanings.{begun, call_at, enters, first_world, leaves_frame, mean, parameters_of, scope_of, seen}
+use Rattle.au_meaning.specs.Meanings.{begun, call_at, enters, first_world, leaves_frame, mean, parameters_of}
+use Rattle.au_meaning.specs.Meanings.{scope_of, seen}
 use Rattle.au_meaning.specs.Names.{Scope, names_in_block}
 use Rattle.au_meaning.specs.Statements.{run_block}
 use Rattle.au_meaning.specs.Ticks.{Action, does, needing, pure, where_true, ◌>>=◌, ◌>>◌}
 use Rattle.au_meaning.specs.Views.{Act, Callee, Field, Function, View, invokes, makes, ships}
 use Rattle.au_meaning.specs.Worlds.{Value}
-use Rattle.au_closed_meanings.specs.Agreement.{AgreeOnTypes, AgreeOnMention, AgreeOnCall, Counts, FieldsCount, FoundCount, ScopeCounts, EachIn, EachInAll, EachNamed, EachOf, EachOfBlock, EachOfTests, EachOfArms}
+use Rattle.au_closed_meanings.specs.Agreement.{AgreeOnTypes, AgreeOnMention, AgreeOnCall, Counts, FieldsCount}
+use Rattle.au_closed_meanings.specs.Agreement.{FoundCount, ScopeCounts, EachIn, EachInAll, EachNamed, EachOf}
+use Rattle.au_closed_meanings.specs.Agreement.{EachOfBlock, EachOfTests, EachOfArms}
 use Rattle.au_closed_meanings.proofs.SameStatements.{one_meaning}
-use Rattle.au_syntax.specs.Expressions.{Expression, Expressions, Arguments, number, negative, text, truth, nil, path, arrow, call, named_call, parenthesized, dereference, borrow, borrow_part, binary, negation, typed, choice, no_expressions, expressions, no_arguments, arguments}
+use Rattle.au_syntax.specs.Expressions.{Expression, Expressions, Arguments, number, negative, text, truth}
+use Rattle.au_syntax.specs.Expressions.{nil, path, arrow, call, named_call, parenthesized, dereference}
+use Rattle.au_syntax.specs.Expressions.{borrow, borrow_part, binary, negation, typed, choice, no_expressions}
+use Rattle.au_syntax.specs.Expressions.{expressions, no_arguments, arguments}
 use Rattle.au_syntax.specs.Plain.{Bytes}
-use Rattle.au_syntax.specs.Statements.{Statement, Statements, Branches, Arms, skip, declare, destructure, assign, assign_through, conditional, conditional_else, case_of, while_loop, for_loop, borrow_in, borrow_typed, discard, return_of, no_statements, statements, no_branches, branches, no_arms, arms}
-use Rattle.au_running.specs.Suits.{has_literal, is_followed, guarded, guarded_function, guarded_functions, CanMention, CanCall, Suits, SuitsAll, SuitsNamed, SuitsIn, SuitsBlock, SuitsTests, SuitsArms, EachSuits}
+use Rattle.au_syntax.specs.Statements.{Statement, Statements, Branches, Arms, skip, declare, destructure}
+use Rattle.au_syntax.specs.Statements.{assign, assign_through, conditional, conditional_else, case_of}
+use Rattle.au_syntax.specs.Statements.{while_loop, for_loop, borrow_in, borrow_typed, discard, return_of}
+use Rattle.au_syntax.specs.Statements.{no_statements, statements, no_branches, branches, no_arms, arms}
+use Rattle.au_running.specs.Suits.{has_literal, is_followed, guarded, guarded_function, guarded_functions}
+use Rattle.au_running.specs.Suits.{CanMention, CanCall, Suits, SuitsAll, SuitsNamed, SuitsIn, SuitsBlock}
+use Rattle.au_running.specs.Suits.{SuitsTests, SuitsArms, EachSuits}
 use Rattle.au_running.proofs.CodeLemmas.{passing_same}
 
 -- notes that stay

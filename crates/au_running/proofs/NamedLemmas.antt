@@ -1,6 +1,7 @@
 -- The text of an abort that was called is one that the code has under its number: where it isn't, the meaning
 -- would be followed by the same run with another number for it.
-use Rattle.std.proofs.Common.{◌≡◌, ℕ, suc, ◌+◌, true, List, [], ◌∷◌, Bool, false, cond, length, Option, Some, ◌==◌, refl, sym, ap, subst, ◌∙◌, arith, slice_get, nat_lt, codes}
+use Rattle.std.proofs.Common.{◌≡◌, ℕ, suc, ◌+◌, true, List, [], ◌∷◌, Bool, false, cond, length, Option, Some}
+use Rattle.std.proofs.Common.{◌==◌, refl, sym, ap, subst, ◌∙◌, arith, slice_get, nat_lt, codes}
 use Rattle.std.specs.Str.{bytes_eq}
 use Rattle.std.proofs.lemmas.Slice.Eq.{bytes_eq-Decides}
 use Rattle.au_type_texts.specs.Types.{ClosedType}

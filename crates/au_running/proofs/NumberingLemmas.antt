@@ -9,7 +9,8 @@ use Rattle.au_closed_meanings.specs.Programs.{Body, Row, function_seen, function
 use Rattle.au_closing.specs.Closes.{ClosedFunction}
 use Rattle.au_running.specs.Followed.{functions_in}
 use Rattle.au_low.specs.declared.code.LowType.{LowType}
-use Rattle.au_lowered.specs.Programs.{bodies, body_of, entry_types, function_code, lowered, texts_in, texts_named, types_in, types_named}
+use Rattle.au_lowered.specs.Programs.{bodies, body_of, entry_types, function_code, lowered, texts_in}
+use Rattle.au_lowered.specs.Programs.{texts_named, types_in, types_named}
 use Rattle.au_lowering.specs.Closed.{body_seen}
 use Rattle.au_meaning.specs.Views.{Function}
 use Rattle.au_graphs.specs.Reached.{adds}

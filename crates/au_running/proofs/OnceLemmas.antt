@@ -1,12 +1,14 @@
 -- The parameters of closed functions and the fields of closed types have names of their own.
-use Rattle.std.proofs.Common.{◌≡◌, zero, suc, true, List, [], ◌∷◌, ◌++◌, map, Option, None, Some, refl, sym, ap, ◌∙◌, subst}
+use Rattle.std.proofs.Common.{◌≡◌, zero, suc, true, List, [], ◌∷◌, ◌++◌, map, Option, None, Some, refl, sym}
+use Rattle.std.proofs.Common.{ap, ◌∙◌, subst}
 use Rattle.std.specs.Prelude.{slice_get}
 use Rattle.std.specs.List.{flat_map}
 use Rattle.std.specs.Option.{option_map}
 use Rattle.std.proofs.lemmas.Option.{none-some, same_Some, slice_get-map}
 use Rattle.au_syntax.specs.declared.modules.Part.{Part}
 use Rattle.au_syntax.specs.declared.modules.Part.TheVariants.{Body}
-use Rattle.au_syntax.specs.Modules.{Variant, constant, opaque_type, record_type, union_type, function, class, instance, constant_body, function_body, instance_body}
+use Rattle.au_syntax.specs.Modules.{Variant, constant, opaque_type, record_type, union_type, function, class}
+use Rattle.au_syntax.specs.Modules.{instance, constant_body, function_body, instance_body}
 use Rattle.au_syntax.specs.Plain.{Bytes, PlainDeclaration}
 use Rattle.au_syntax.specs.Types.{Labelled}
 use Rattle.au_types.specs.declared.headings.Head.{Head}
@@ -23,7 +25,8 @@ use Rattle.au_rules.specs.Marks.{case_marks, declared, enclosed, marks, paramete
 use Rattle.au_typing.specs.Trees.{NotedParts}
 use Rattle.au_type_texts.specs.Given.{Given}
 use Rattle.au_type_texts.specs.Types.{ClosedType, integer, named, reads, text, truth, unit, writes}
-use Rattle.au_closed_trees.specs.Parts.{ClosedCase, case_under, cases_of, declared_cases, defined_cases, field_under, variant_under}
+use Rattle.au_closed_trees.specs.Parts.{ClosedCase, case_under, cases_of, declared_cases, defined_cases}
+use Rattle.au_closed_trees.specs.Parts.{field_under, variant_under}
 use Rattle.au_closed_trees.specs.TypeNames.{given_over, listed, type_names}
 use Rattle.au_closing.specs.Bodies.{BodyOf, body_of}
 use Rattle.au_closing.specs.Closes.{ClosedFunction, body_closed, instance_closed}
@@ -35,7 +38,8 @@ use Rattle.au_closed_meanings.specs.Closed.{parameters_seen}
 use Rattle.au_closed_meanings.specs.Generic.{case_seen, cases_in, field_seen}
 use Rattle.au_running.specs.Suits.{are_once}
 use Rattle.au_running.specs.Once.{ClosedFieldsAreOnce, ClosedParametersAreOnce}
-use Rattle.au_running.proofs.MarkLemmas.{AreNewThere, declared_once, inside_new, item_new, marks_written, names_written, rest_new}
+use Rattle.au_running.proofs.MarkLemmas.{AreNewThere, declared_once, inside_new, item_new, marks_written}
+use Rattle.au_running.proofs.MarkLemmas.{names_written, rest_new}
 use Rattle.au_running.proofs.StandingLemmas.{AllAre, body_new, definition_new, mapped}
 
 -- ---- fields that are closed

@@ -1,26 +1,33 @@
 -- What the declarations that are found in a program declare isn't declared again.
-use Rattle.std.proofs.Common.{◌≡◌, ℕ, zero, suc, ◌+◌, Bool, true, false, List, [], ◌∷◌, ◌++◌, map, Option, None, Some, refl, sym, ap, ◌∙◌, subst, cond}
+use Rattle.std.proofs.Common.{◌≡◌, ℕ, zero, suc, ◌+◌, Bool, true, false, List, [], ◌∷◌, ◌++◌, map, Option}
+use Rattle.std.proofs.Common.{None, Some, refl, sym, ap, ◌∙◌, subst, cond}
 use Rattle.std.specs.Prelude.{find, slice_get}
 use Rattle.std.specs.List.{flat_map}
 use Rattle.std.specs.Option.{option_and_then, option_map}
 use Rattle.std.proofs.lemmas.Option.{none-some, same_Some, slice_get-map}
 use Rattle.au_syntax.specs.declared.modules.Part.{Part}
 use Rattle.au_syntax.specs.declared.modules.Part.TheVariants.{Interface, Body}
-use Rattle.au_syntax.specs.Modules.{Constrained, constant, opaque_type, record_type, union_type, function, class, instance, constant_body, function_body, instance_body}
+use Rattle.au_syntax.specs.Modules.{Constrained, constant, opaque_type, record_type, union_type, function}
+use Rattle.au_syntax.specs.Modules.{class, instance, constant_body, function_body, instance_body}
 use Rattle.au_syntax.specs.Plain.{Bytes, PlainDeclaration}
 use Rattle.au_types.specs.declared.types.DeclAt.{DeclAt}
 use Rattle.au_modules.specs.Programs.{ModuleParts}
 use Rattle.au_names.specs.declared.targets.Target.{Target}
 use Rattle.au_names.specs.Meanings.{part_of}
 use Rattle.au_names.specs.Owned.{declarations_in}
-use Rattle.au_names.specs.Standing.{Standing, body_at, body_standing, defined_by, definition_for, definition_of, is_whole, module_standing, opaque_name, standing_at, standing_from, standing_in}
+use Rattle.au_names.specs.Standing.{Standing, body_at, body_standing, defined_by, definition_for}
+use Rattle.au_names.specs.Standing.{definition_of, is_whole, module_standing, opaque_name, standing_at}
+use Rattle.au_names.specs.Standing.{standing_from, standing_in}
 use Rattle.au_rules.specs.declared.marks.Kind.TheVariants.{Values, Callables}
 use Rattle.au_rules.specs.declared.marks.Role.TheVariants.{Definition}
 use Rattle.au_rules.specs.Marks.{block_marks, declared, function_marks, generic_mark, marks, method_body_marks}
 use Rattle.au_rules.specs.Once.{AllNamesAreOnce, text_of}
 use Rattle.au_rules.specs.Outside.{outside}
-use Rattle.au_typing.specs.Trees.{NotedDeclaration, NotedEntry, NotedMethod, NotedParts, erase_block, erase_declaration, erase_entry, erase_method, erase_parts, erase_program}
-use Rattle.au_closing.specs.Bodies.{BodyOf, body_at as noted_body_at, body_in, body_of, body_of_parts, body_standing as body_of_standing, declared_in, defining_index, is_method, method_body, noted_at}
+use Rattle.au_typing.specs.Trees.{NotedDeclaration, NotedEntry, NotedMethod, NotedParts, erase_block}
+use Rattle.au_typing.specs.Trees.{erase_declaration, erase_entry, erase_method, erase_parts, erase_program}
+use Rattle.au_closing.specs.Bodies.{BodyOf, body_at as noted_body_at, body_in, body_of, body_of_parts}
+use Rattle.au_closing.specs.Bodies.{body_standing as body_of_standing, declared_in, defining_index, is_method}
+use Rattle.au_closing.specs.Bodies.{method_body, noted_at}
 use Rattle.au_running.proofs.MarkLemmas.{AreNewThere, first_new, inside_new, item_new, marks_written, rest_new}
 
 -- ---- lists

@@ -46,7 +46,8 @@ pub terminal_whole : IsWhole (terminal (place 65535))
 terminal_whole = record { itself = refl; formed = refl; within = refl; noted = refl }
 
 -- a tree of the code that is such a tree
-module _ (tree : ParsedModule) (written : PlainModule) (is : module_tree parsed tree ≡ written) (whole : IsWhole written) where
+module _ (tree : ParsedModule) (written : PlainModule) (is : module_tree parsed tree ≡ written)
+    (whole : IsWhole written) where
   pub says_written : says parsed tree ≡ written
   says_written = ap (plain_module bytes) is ∙ whole.itself
 

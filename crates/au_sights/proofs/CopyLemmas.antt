@@ -3,11 +3,13 @@ use Rattle.std.proofs.Common.{◌≡◌, ℕ, ◌+◌, ◌<◌, ◌≤◌, List,
 use Rattle.std.proofs.lemmas.List.{append_assoc, at_drop_more, map-append, take_all, take_more}
 
 -- a loop over all items has copied them all
-pub all_copied : {A B : Type 0} (see : List A → B) (made xs ys : List A) (i : ℕ) → see made ≡ see (take i xs) → xs ≡ ys → length xs ≤ i → see made ≡ see ys
+pub all_copied : {A B : Type 0} (see : List A → B) (made xs ys : List A) (i : ℕ) →
+    see made ≡ see (take i xs) → xs ≡ ys → length xs ≤ i → see made ≡ see ys
 all_copied see made xs ys i so_far same ends = so_far ∙ ap see (take_all i xs ends ∙ same)
 
 -- one more item is copied, where lists are seen as a whole, and one more item stands behind what is seen of the others
-pub copied_more : {A B D : Type 0} (all : List A → B) (snoc : B → D → B) (see : A → D) (push : (xs : List A) (x : A) → all (xs ++ x ∷ []) ≡ snoc (all xs) (see x))
+pub copied_more : {A B D : Type 0} (all : List A → B) (snoc : B → D → B) (see : A → D)
+    (push : (xs : List A) (x : A) → all (xs ++ x ∷ []) ≡ snoc (all xs) (see x))
     (made pushed xs : List A) (i : ℕ) (x copy : A) →
     all made ≡ all (take i xs) → i < length xs → x ≡ get_or xs i x → pushed ≡ made ++ copy ∷ [] → see copy ≡ see x →
     all pushed ≡ all (take (i + 1) xs)
@@ -20,8 +22,10 @@ copied_more all snoc see push made pushed xs i x copy so_far inside is grows sam
     ∙ sym (ap all (take_more xs i x inside))
 
 -- one more item is copied, before what is said of those that are left
-pub copied_before : {A B C : Type 0} (see : A → C) (say : B → C) (made pushed : List A) (xs : List B) (i : ℕ) (x : B) (copy : A) (whole : List C) →
-    map see made ++ map say (drop i xs) ≡ whole → i < length xs → x ≡ get_or xs i x → pushed ≡ made ++ copy ∷ [] → see copy ≡ say x →
+pub copied_before : {A B C : Type 0} (see : A → C) (say : B → C) (made pushed : List A) (xs : List B) (i : ℕ)
+    (x : B) (copy : A) (whole : List C) →
+    map see made ++ map say (drop i xs) ≡ whole → i < length xs → x ≡ get_or xs i x → pushed ≡ made
+    ++ copy ∷ [] → see copy ≡ say x →
     map see pushed ++ map say (drop (i + 1) xs) ≡ whole
 copied_before see say made pushed xs i x copy whole so_far inside is grows same =
     ap (λ l. map see l ++ map say (drop (i + 1) xs)) grows

@@ -29,16 +29,19 @@ unfolding behind
 arguments_behind [] x = refl
 arguments_behind (y ∷ xs) x = ap (arguments (argument y)) (arguments_behind xs x)
 
-parameters_behind : (ps : List Parameter) (p : Parameter) → as_arguments (ps ++ p ∷ []) ≡ behind (as_arguments ps) (as_argument p)
+parameters_behind : (ps : List Parameter) (p : Parameter) → as_arguments (ps ++ p ∷ [])
+    ≡ behind (as_arguments ps) (as_argument p)
 unfolding behind
 parameters_behind [] p = refl
 parameters_behind (q ∷ ps) p = ap (arguments (as_argument q)) (parameters_behind ps p)
 
 taken : (ps : List Parameter) (i : ℕ) (p : Parameter) → slice_get ps i ≡ Some p → take (i + 1) ps ≡ take i ps ++ p ∷ []
-taken ps i p is = take_more ps i p (slice_get_within ps i p is) ∙ ap (λ q. take i ps ++ q ∷ []) (get_or_from_slice_get ps i p p is)
+taken ps i p is = take_more ps i p (slice_get_within ps i p is)
+    ∙ ap (λ q. take i ps ++ q ∷ []) (get_or_from_slice_get ps i p p is)
 
 -- one more type parameter is an argument
-pub arguments_next : (ps : List Parameter) (i : ℕ) (p : Parameter) (done after : List Arg) (one : Arg) → slice_get ps i ≡ Some p → argument one ≡ as_argument p → after ≡ done ++ one ∷ []
+pub arguments_next : (ps : List Parameter) (i : ℕ) (p : Parameter) (done after : List Arg) (one : Arg) →
+    slice_get ps i ≡ Some p → argument one ≡ as_argument p → after ≡ done ++ one ∷ []
     → argument_all done ≡ as_arguments (take i ps) → argument_all after ≡ as_arguments (take (i + 1) ps)
 arguments_next ps i p done after one is made pushed so_far =
     ap argument_all pushed
@@ -52,13 +55,16 @@ any_parameter : Parameter
 any_parameter = record { name = []; universe = Free }
 
 -- one more list of no class
-pub no_classes_next : (ps : List Parameter) (i : ℕ) (done after : List (List DeclAt)) (none : List DeclAt) → i < length ps → none ≡ [] → after ≡ done ++ none ∷ []
+pub no_classes_next : (ps : List Parameter) (i : ℕ) (done after : List (List DeclAt)) (none : List DeclAt) →
+    i < length ps → none ≡ [] → after ≡ done ++ none ∷ []
     → done ≡ map (λ p. []) (take i ps) → after ≡ map (λ p. []) (take (i + 1) ps)
 no_classes_next ps i done after none less empty pushed so_far =
-    pushed ∙ ap (λ xs. xs ++ none ∷ []) so_far ∙ ap (λ x. map (λ p. []) (take i ps) ++ x ∷ []) empty ∙ sym (map_more (λ p. []) ps i any_parameter less)
+    pushed ∙ ap (λ xs. xs ++ none ∷ []) so_far ∙ ap (λ x. map (λ p. []) (take i ps) ++ x ∷ []) empty
+    ∙ sym (map_more (λ p. []) ps i any_parameter less)
 
 -- type parameters beside no classes
-pub none_constrained : (ps : List Parameter) (classes : List (List DeclAt)) → classes ≡ map (λ p. []) ps → bounded ps classes ≡ map unconstrained ps
+pub none_constrained : (ps : List Parameter) (classes : List (List DeclAt)) → classes ≡ map (λ p. []) ps →
+    bounded ps classes ≡ map unconstrained ps
 none_constrained ps classes is = ap (bounded ps) is ∙ by ps
   where
     by : (qs : List Parameter) → bounded qs (map (λ p. []) qs) ≡ map unconstrained qs
@@ -66,7 +72,10 @@ none_constrained ps classes is = ap (bounded ps) is ∙ by ps
     by (q ∷ qs) = ap (λ rest. unconstrained q ∷ rest) (by qs)
 
 -- cases under the arguments of a type are those under the substitution that these make
-pub cases_same : (program : List ModuleParts) (d : Standing) (params : List Parameter) (args : Arguments) (vs : List (Variant Bytes))
-    → cases_by program d params (with_arguments params args) (record { «module» = d.place; decl = number_of program d }) vs ≡ cases_under program d params args vs
+pub cases_same : (program : List ModuleParts) (d : Standing) (params : List Parameter) (args : Arguments)
+    (vs : List (Variant Bytes))
+    → cases_by program d params (with_arguments params args)
+    (record { «module» = d.place; decl = number_of program d }) vs ≡ cases_under program d params args vs
 cases_same program d params args [] = refl
-cases_same program d params args (v ∷ vs) = ap (followed (case_under program d params args v)) (cases_same program d params args vs)
+cases_same program d params args (v ∷ vs) = ap (followed (case_under program d params args v))
+    (cases_same program d params args vs)

@@ -1,9 +1,17 @@
 -- The induction principle over expressions and statements, and what parts are: shallower and smaller.
 use Rattle.std.proofs.Common.{ℕ, ◌+◌, ◌<◌, List, [], ◌∷◌, ◌++◌, length, arith, length-append}
-use Rattle.au_syntax.specs.Expressions.{Expression, Expressions, Arguments, number, negative, text, truth, nil, path, arrow, call, named_call, parenthesized, dereference, borrow, borrow_part, binary, negation, typed, choice, no_expressions, expressions, no_arguments, arguments}
-use Rattle.au_syntax.specs.Statements.{Statement, Statements, Branches, Arms, skip, declare, destructure, assign, assign_through, conditional, conditional_else, case_of, while_loop, for_loop, borrow_in, borrow_typed, discard, return_of, no_statements, statements, no_branches, branches, no_arms, arms}
+use Rattle.au_syntax.specs.Expressions.{Expression, Expressions, Arguments, number, negative, text, truth}
+use Rattle.au_syntax.specs.Expressions.{nil, path, arrow, call, named_call, parenthesized, dereference}
+use Rattle.au_syntax.specs.Expressions.{borrow, borrow_part, binary, negation, typed, choice, no_expressions}
+use Rattle.au_syntax.specs.Expressions.{expressions, no_arguments, arguments}
+use Rattle.au_syntax.specs.Statements.{Statement, Statements, Branches, Arms, skip, declare, destructure}
+use Rattle.au_syntax.specs.Statements.{assign, assign_through, conditional, conditional_else, case_of}
+use Rattle.au_syntax.specs.Statements.{while_loop, for_loop, borrow_in, borrow_typed, discard, return_of}
+use Rattle.au_syntax.specs.Statements.{no_statements, statements, no_branches, branches, no_arms, arms}
 use Rattle.au_syntax.specs.Depths.{expression_depth, expressions_depth, arguments_depth}
-use Rattle.au_syntax.specs.Parts.{Each, parts, each_expression, each_argument, substatements, each_statement, branch_statements, arm_statements, nodes, nodes_in, nodes_of_expressions, nodes_of_arguments}
+use Rattle.au_syntax.specs.Parts.{Each, parts, each_expression, each_argument, substatements, each_statement}
+use Rattle.au_syntax.specs.Parts.{branch_statements, arm_statements, nodes, nodes_in, nodes_of_expressions}
+use Rattle.au_syntax.specs.Parts.{nodes_of_arguments}
 use Rattle.au_syntax.specs.Plain.{PlainExpression, PlainExpressions, PlainArguments}
 
 -- what holds of two lists holds of both together
@@ -28,10 +36,12 @@ module _ {N T C : Type 0} (P : Expression N T C → Type 0) (step : (e : Express
     expression_induction (dereference n e) = step (dereference n e) (expression_induction e, tt)
     expression_induction (borrow n m x) = step (borrow n m x) tt
     expression_induction (borrow_part n x fs) = step (borrow_part n x fs) tt
-    expression_induction (binary n op a b) = step (binary n op a b) (expression_induction a, (expression_induction b, tt))
+    expression_induction (binary n op a b) =
+        step (binary n op a b) (expression_induction a, (expression_induction b, tt))
     expression_induction (negation n e) = step (negation n e) (expression_induction e, tt)
     expression_induction (typed n e t) = step (typed n e t) (expression_induction e, tt)
-    expression_induction (choice n c a b) = step (choice n c a b) (expression_induction c, (expression_induction a, (expression_induction b, tt)))
+    expression_induction (choice n c a b) =
+        step (choice n c a b) (expression_induction c, (expression_induction a, (expression_induction b, tt)))
 
     each_holds : (es : Expressions N T C) → Each P (each_expression es)
     each_holds no_expressions = tt
@@ -42,7 +52,8 @@ module _ {N T C : Type 0} (P : Expression N T C → Type 0) (step : (e : Express
     argument_holds (arguments label e rest) = (expression_induction e, argument_holds rest)
 
 -- What holds of a statement wherever it holds of the statements in it, holds of every statement.
-module _ {N T C : Type 0} (P : Statement N T C → Type 0) (step : (s : Statement N T C) → Each P (substatements s) → P s) where
+module _ {N T C : Type 0} (P : Statement N T C → Type 0)
+    (step : (s : Statement N T C) → Each P (substatements s) → P s) where
   mutual
     pub statement_induction : (s : Statement N T C) → P s
     statement_induction (skip at) = step (skip at) tt
@@ -51,7 +62,9 @@ module _ {N T C : Type 0} (P : Statement N T C → Type 0) (step : (s : Statemen
     statement_induction (assign at n fs e) = step (assign at n fs e) tt
     statement_induction (assign_through at n fs e) = step (assign_through at n fs e) tt
     statement_induction (conditional at bs) = step (conditional at bs) (branches_hold bs)
-    statement_induction (conditional_else at bs k) = step (conditional_else at bs k) (both_hold P (branch_statements bs) (each_statement k) (branches_hold bs) (block_hold k))
+    statement_induction (conditional_else at bs k) =
+        step (conditional_else at bs k)
+        (both_hold P (branch_statements bs) (each_statement k) (branches_hold bs) (block_hold k))
     statement_induction (case_of at e as0) = step (case_of at e as0) (arms_hold as0)
     statement_induction (while_loop at e k) = step (while_loop at e k) (block_hold k)
     statement_induction (for_loop at n a z k) = step (for_loop at n a z k) (block_hold k)
@@ -66,18 +79,22 @@ module _ {N T C : Type 0} (P : Statement N T C → Type 0) (step : (s : Statemen
 
     branches_hold : (bs : Branches N T C) → Each P (branch_statements bs)
     branches_hold no_branches = tt
-    branches_hold (branches e k rest) = both_hold P (each_statement k) (branch_statements rest) (block_hold k) (branches_hold rest)
+    branches_hold (branches e k rest) = both_hold P (each_statement k) (branch_statements rest) (block_hold k)
+        (branches_hold rest)
 
     arms_hold : (as0 : Arms N T C) → Each P (arm_statements as0)
     arms_hold no_arms = tt
-    arms_hold (arms at n bs k rest) = both_hold P (each_statement k) (arm_statements rest) (block_hold k) (arms_hold rest)
+    arms_hold (arms at n bs k rest) = both_hold P (each_statement k) (arm_statements rest) (block_hold k)
+        (arms_hold rest)
 
 -- Parts are shallower.
-shallower_each : (n : ℕ) (es : PlainExpressions) → expressions_depth es < n → Each (λ part. expression_depth part < n) (each_expression es)
+shallower_each : (n : ℕ) (es : PlainExpressions) → expressions_depth es < n →
+    Each (λ part. expression_depth part < n) (each_expression es)
 shallower_each n no_expressions h = tt
 shallower_each n (expressions e rest) h = (omega (arith, h), shallower_each n rest (omega (arith, h)))
 
-shallower_arguments : (n : ℕ) (es : PlainArguments) → arguments_depth es < n → Each (λ part. expression_depth part < n) (each_argument es)
+shallower_arguments : (n : ℕ) (es : PlainArguments) → arguments_depth es < n →
+    Each (λ part. expression_depth part < n) (each_argument es)
 shallower_arguments n no_arguments h = tt
 shallower_arguments n (arguments label e rest) h = (omega (arith, h), shallower_arguments n rest (omega (arith, h)))
 
@@ -106,13 +123,15 @@ module _ {N T C : Type 0} where
   abbrev pub size : Expression N T C → ℕ
   size e = length (nodes e)
 
-  smaller_each : (n : ℕ) (es : Expressions N T C) → length (nodes_of_expressions es) < n → Each (λ part. size part < n) (each_expression es)
+  smaller_each : (n : ℕ) (es : Expressions N T C) → length (nodes_of_expressions es) < n →
+      Each (λ part. size part < n) (each_expression es)
   smaller_each n no_expressions h = tt
   smaller_each n (expressions e rest) h =
       let all = length-append (nodes_in e) (nodes_of_expressions rest) in
       (omega (arith, h, all), smaller_each n rest (omega (arith, h, all)))
 
-  smaller_arguments : (n : ℕ) (es : Arguments N T C) → length (nodes_of_arguments es) < n → Each (λ part. size part < n) (each_argument es)
+  smaller_arguments : (n : ℕ) (es : Arguments N T C) → length (nodes_of_arguments es) < n →
+      Each (λ part. size part < n) (each_argument es)
   smaller_arguments n no_arguments h = tt
   smaller_arguments n (arguments label e rest) h =
       let all = length-append (nodes_in e) (nodes_of_arguments rest) in
@@ -132,7 +151,10 @@ module _ {N T C : Type 0} where
   parts_smaller (dereference n e) = (omega arith, tt)
   parts_smaller (borrow n m x) = tt
   parts_smaller (borrow_part n x fs) = tt
-  parts_smaller (binary n op a b) = let all = length-append (nodes_in a) (nodes b) in (omega (arith, all), (omega (arith, all), tt))
+  parts_smaller (binary n op a b) = let all = length-append (nodes_in a) (nodes b)
+      in (omega (arith, all), (omega (arith, all), tt))
   parts_smaller (negation n e) = (omega arith, tt)
   parts_smaller (typed n e t) = (omega arith, tt)
-  parts_smaller (choice n c a b) = let all = length-append (nodes_in c ++ nodes a) (nodes b) in let last = length-append (nodes_in c) (nodes a) in (omega (arith, all, last), (omega (arith, all, last), (omega (arith, all, last), tt)))
+  parts_smaller (choice n c a b) = let all = length-append (nodes_in c ++ nodes a) (nodes b) in let last =
+      length-append (nodes_in c) (nodes a)
+      in (omega (arith, all, last), (omega (arith, all, last), (omega (arith, all, last), tt)))

@@ -1,5 +1,6 @@
 -- What a loop over closed types has still to add to their text.
-use Rattle.std.proofs.Common.{◌≡◌, ℕ, suc, ◌+◌, ◌<◌, ◌≤◌, List, [], ◌∷◌, ◌++◌, length, drop, get_or, refl, ap, ◌∙◌, sym, append_assoc, arith}
+use Rattle.std.proofs.Common.{◌≡◌, ℕ, suc, ◌+◌, ◌<◌, ◌≤◌, List, [], ◌∷◌, ◌++◌, length, drop, get_or, refl, ap}
+use Rattle.std.proofs.Common.{◌∙◌, sym, append_assoc, arith}
 use Rattle.std.proofs.Math.Seq.{drop-cons}
 use Rattle.std.proofs.lemmas.List.{drop_all}
 use Rattle.std.specs.Prelude.{codes}
@@ -22,28 +23,34 @@ module _ (rows : List (DeclAt × Head)) where
   others_left (types one rest) = refl
 
   -- at the end
-  pub left_none : (mark : List ℕ) (xs : List Closed) (i : ℕ) → length xs ≤ i → left_text mark (closed_meanings (drop i xs)) ≡ codes "]"
+  pub left_none : (mark : List ℕ) (xs : List Closed) (i : ℕ) → length xs ≤ i →
+      left_text mark (closed_meanings (drop i xs)) ≡ codes "]"
   unfolding left_text
   left_none mark xs i past = ap (λ r. left_text mark (closed_meanings r)) (drop_all i xs past)
 
   -- at the start
-  pub left_all : (xs : List Closed) → (length xs ≡ 0 → ⊥) → left_text (codes "[") (closed_meanings (drop 0 xs)) ≡ list_text rows (closed_meanings xs)
+  pub left_all : (xs : List Closed) → (length xs ≡ 0 → ⊥) →
+      left_text (codes "[") (closed_meanings (drop 0 xs)) ≡ list_text rows (closed_meanings xs)
   unfolding left_text
   left_all [] some = absurd (some refl)
   left_all (x ∷ xs) some = refl
 
   -- one more
   pub left_more : (mark : List ℕ) (xs : List Closed) (i : ℕ) (x : Closed) → i < length xs → x ≡ get_or xs i x →
-      left_text mark (closed_meanings (drop i xs)) ≡ mark ++ text_of rows (closed_meaning x) ++ left_text (codes ", ") (closed_meanings (drop (i + 1) xs))
+      left_text mark (closed_meanings (drop i xs)) ≡ mark ++ text_of rows (closed_meaning x)
+      ++ left_text (codes ", ") (closed_meanings (drop (i + 1) xs))
   unfolding left_text
   left_more mark xs i x within is =
       ap (λ r. left_text mark (closed_meanings r)) (drop-cons xs i x within)
-      ∙ ap (λ y. mark ++ text_of rows (closed_meaning y) ++ others_text rows (closed_meanings (drop (suc i) xs))) (sym is)
-      ∙ ap (λ k. mark ++ text_of rows (closed_meaning x) ++ others_text rows (closed_meanings (drop k xs))) (let e : suc i ≡ i + 1 = omega arith in e)
+      ∙ ap (λ y. mark ++ text_of rows (closed_meaning y)
+      ++ others_text rows (closed_meanings (drop (suc i) xs))) (sym is)
+      ∙ ap (λ k. mark ++ text_of rows (closed_meaning x) ++ others_text rows (closed_meanings (drop k xs)))
+      (let e : suc i ≡ i + 1 = omega arith in e)
       ∙ ap (λ r. mark ++ text_of rows (closed_meaning x) ++ r) (others_left (closed_meanings (drop (i + 1) xs)))
 
 -- one turn: a mark and a type are added, and the rest is left
-pub turn : (x y z mark one rest left whole : List ℕ) → y ≡ x ++ mark → z ≡ y ++ one → left ≡ mark ++ one ++ rest → x ++ left ≡ whole → z ++ rest ≡ whole
+pub turn : (x y z mark one rest left whole : List ℕ) → y ≡ x ++ mark → z ≡ y ++ one → left ≡ mark ++ one
+    ++ rest → x ++ left ≡ whole → z ++ rest ≡ whole
 turn x y z mark one rest left whole marked added is all =
     ap (λ k. k ++ rest) (added ∙ ap (λ k. k ++ one) marked)
     ∙ (let e : ((x ++ mark) ++ one) ++ rest ≡ x ++ ((mark ++ one) ++ rest) = simp append_assoc in e)

@@ -1,5 +1,6 @@
 -- What is given, told apart, and what it makes of arguments.
-use Rattle.std.proofs.Common.{◌≡◌, ℕ, suc, ◌+◌, ◌<◌, Bool, true, false, List, [], ◌∷◌, ◌++◌, ◌&&◌, length, take, get_or, refl, sym, ap, ◌∙◌}
+use Rattle.std.proofs.Common.{◌≡◌, ℕ, suc, ◌+◌, ◌<◌, Bool, true, false, List, [], ◌∷◌, ◌++◌, ◌&&◌, length}
+use Rattle.std.proofs.Common.{take, get_or, refl, sym, ap, ◌∙◌}
 use Rattle.std.specs.Prelude.{Option, None, Some}
 use Rattle.std.specs.Option.{option_map}
 use Rattle.std.specs.Str.{bytes_eq}
@@ -22,7 +23,8 @@ use Rattle.au_type_texts.specs.Views.{closed_meaning, closed_meanings}
 use Rattle.au_type_texts.proofs.SameLemmas.{same_is, same_self}
 use Rattle.au_type_texts.specs.declared.given_types.GivenType.{GivenType}
 use Rattle.au_type_texts.specs.GivenViews.{given_said}
-use Rattle.au_type_texts.specs.Given.{Closes, Given, all_closed_under, before_under, closed_under, given_for, same_given}
+use Rattle.au_type_texts.specs.Given.{Closes, Given, all_closed_under, before_under, closed_under, given_for}
+use Rattle.au_type_texts.specs.Given.{same_given}
 
 -- ---- lists of what is given
 

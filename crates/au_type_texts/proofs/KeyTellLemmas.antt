@@ -1,9 +1,11 @@
 -- Keys tell closed types.
 use Rattle.std.proofs.Common.{◌≡◌, ℕ, List, [], ◌∷◌, ◌++◌, refl, sym, ap, ◌∙◌, append_assoc}
 use Rattle.au_base.specs.declared.kinds.IntKind.{IntKind}
-use Rattle.au_base.specs.declared.kinds.IntKind.TheVariants.{Nat8, Nat16, Nat32, Nat64, Int8, Int16, Int32, Int64, Index}
+use Rattle.au_base.specs.declared.kinds.IntKind.TheVariants.{Nat8, Nat16, Nat32, Nat64, Int8, Int16, Int32}
+use Rattle.au_base.specs.declared.kinds.IntKind.TheVariants.{Int64, Index}
 use Rattle.au_types.specs.declared.types.DeclAt.{DeclAt}
-use Rattle.au_type_texts.specs.Types.{ClosedType, ClosedTypes, unit, truth, integer, text, named, reads, writes, no_types, types}
+use Rattle.au_type_texts.specs.Types.{ClosedType, ClosedTypes, unit, truth, integer, text, named, reads}
+use Rattle.au_type_texts.specs.Types.{writes, no_types, types}
 use Rattle.au_type_texts.specs.Keys.{kind_key, key_of, list_key}
 
 kind_one : (a b : IntKind) → kind_key a ≡ kind_key b → a ≡ b
@@ -36,7 +38,8 @@ mutual
   key_one unit unit r s is = (refl, cc)
   key_one truth truth r s is = (refl, cc)
   key_one text text r s is = (refl, cc)
-  key_one (integer a) (integer b) r s is = let same : kind_key a ≡ kind_key b = cc in (ap integer (kind_one a b same), cc)
+  key_one (integer a) (integer b) r s is = let same : kind_key a ≡ kind_key b = cc
+      in (ap integer (kind_one a b same), cc)
   key_one (reads t) (reads u) r s is = let both = key_one t u r s cc in (ap reads both.0, both.1)
   key_one (writes t) (writes u) r s is = let both = key_one t u r s cc in (ap writes both.0, both.1)
   key_one (named a args) (named b others) r s is =
@@ -48,9 +51,12 @@ mutual
 
   pub list_one : (ts us : ClosedTypes) (r s : List ℕ) → list_key ts ++ r ≡ list_key us ++ s → (ts ≡ us) × (r ≡ s)
   list_one no_types no_types r s is = (refl, cc)
-  list_one no_types (types u us) r s is = absurd (ends u (list_key us ++ s) r (sym (append_assoc (key_of u) (list_key us) s) ∙ sym is))
-  list_one (types t ts) no_types r s is = absurd (ends t (list_key ts ++ r) s (sym (append_assoc (key_of t) (list_key ts) r) ∙ is))
+  list_one no_types (types u us) r s is =
+      absurd (ends u (list_key us ++ s) r (sym (append_assoc (key_of u) (list_key us) s) ∙ sym is))
+  list_one (types t ts) no_types r s is =
+      absurd (ends t (list_key ts ++ r) s (sym (append_assoc (key_of t) (list_key ts) r) ∙ is))
   list_one (types t ts) (types u us) r s is =
-      let first = key_one t u (list_key ts ++ r) (list_key us ++ s) (sym (append_assoc (key_of t) (list_key ts) r) ∙ is ∙ append_assoc (key_of u) (list_key us) s) in
+      let first = key_one t u (list_key ts ++ r) (list_key us ++ s)
+      (sym (append_assoc (key_of t) (list_key ts) r) ∙ is ∙ append_assoc (key_of u) (list_key us) s) in
       let rest = list_one ts us r s first.1 in
       (λ i. types (first.0 i) (rest.0 i), rest.1)

@@ -16,7 +16,8 @@ named_some : (f : ClosedTypes → ClosedType) (o : Option ClosedTypes) → is_so
 named_some f None = refl
 named_some f (Some list) = refl
 
-front_some : (one : Option ClosedType) (rest : Option ClosedTypes) → is_some (in_front one rest) ≡ is_some one && is_some rest
+front_some : (one : Option ClosedType) (rest : Option ClosedTypes) → is_some (in_front one rest)
+    ≡ is_some one && is_some rest
 front_some None None = refl
 front_some None (Some rest) = refl
 front_some (Some one) None = refl
@@ -37,11 +38,13 @@ mutual
   closes (whole.reads to region) = map_some reads (closed to) ∙ closes to
   closes (whole.writes to region) = map_some writes (closed to) ∙ closes to
 
-  argument_closes : (one : Argument) (rest : Option ClosedTypes) → is_some (argument_closed one rest) ≡ not (argument_has one) && is_some rest
+  argument_closes : (one : Argument) (rest : Option ClosedTypes) → is_some (argument_closed one rest)
+      ≡ not (argument_has one) && is_some rest
   argument_closes (whole.of_type t) rest = front_some (closed t) rest ∙ ap (λ b. b && is_some rest) (closes t)
   argument_closes (whole.in_region region) rest = refl
 
   all_close : (args : Arguments) → is_some (all_closed args) ≡ not (have_parameter args)
   all_close whole.no_arguments = refl
   all_close (whole.arguments one rest) =
-      argument_closes one (all_closed rest) ∙ ap (λ b. not (argument_has one) && b) (all_close rest) ∙ not_or (argument_has one) (have_parameter rest)
+      argument_closes one (all_closed rest) ∙ ap (λ b. not (argument_has one) && b) (all_close rest)
+      ∙ not_or (argument_has one) (have_parameter rest)

@@ -10,10 +10,12 @@ use Rattle.au_base.specs.contracts.kinds.IntKind.{the_type as kind}
 use Rattle.au_types.specs.declared.types.DeclAt.{DeclAt}
 use Rattle.au_types.specs.Rows.{same_place}
 use Rattle.au_types.proofs.SameLemmas.{place_is, place_self}
-use Rattle.au_type_texts.specs.declared.types.Closed.{Closed, Unit, Bool as Bool', Int, Text, Named as Named-of, Named', Read, Read', Write, Write'}
+use Rattle.au_type_texts.specs.declared.types.Closed.{Closed, Unit, Bool as Bool', Int, Text}
+use Rattle.au_type_texts.specs.declared.types.Closed.{Named as Named-of, Named', Read, Read', Write, Write'}
 use Rattle.au_type_texts.specs.declared.types.Closed.TheBlock.{shown-the_row-Closed-0, backs-Closed}
 use Rattle.au_type_texts.specs.Same.{same, same_all}
-use Rattle.au_type_texts.specs.Types.{ClosedType, ClosedTypes, unit, truth, integer, text, named, reads, writes, no_types, types}
+use Rattle.au_type_texts.specs.Types.{ClosedType, ClosedTypes, unit, truth, integer, text, named, reads}
+use Rattle.au_type_texts.specs.Types.{writes, no_types, types}
 use Rattle.au_type_texts.specs.Views.{closed_meaning, closed_meanings}
 
 mutual
@@ -59,10 +61,13 @@ same_lengths : (xs ys : List Closed) → same_all (closed_meanings xs) (closed_m
 same_lengths [] [] e = refl
 same_lengths [] (y ∷ ys) e = absurd cc
 same_lengths (x ∷ xs) [] e = absurd cc
-same_lengths (x ∷ xs) (y ∷ ys) e = ap suc (same_lengths xs ys (and_parts (same (closed_meaning x) (closed_meaning y)) (same_all (closed_meanings xs) (closed_meanings ys)) e).1)
+same_lengths (x ∷ xs) (y ∷ ys) e =
+    ap suc (same_lengths xs ys (and_parts (same (closed_meaning x) (closed_meaning y))
+    (same_all (closed_meanings xs) (closed_meanings ys)) e).1)
 
 -- so lists of two lengths are not the same
-pub same_unequal : (xs ys : List Closed) → (length xs ≡ length ys → ⊥) → same_all (closed_meanings xs) (closed_meanings ys) ≡ false
+pub same_unequal : (xs ys : List Closed) → (length xs ≡ length ys → ⊥) →
+    same_all (closed_meanings xs) (closed_meanings ys) ≡ false
 same_unequal xs ys differ = by (same_all (closed_meanings xs) (closed_meanings ys)) refl
   where
     by : (b : Bool) → same_all (closed_meanings xs) (closed_meanings ys) ≡ b → b ≡ false
@@ -81,7 +86,8 @@ unfolding closed_meaning
 not_truth Bool' differs = absurd (differs refl)
 not_truth t differs = refl
 
-pub not_integer : (k : IntKind) (t : Closed) → ((x : IntKind) → t ≡ Int x → ⊥) → same (integer k) (closed_meaning t) ≡ false
+pub not_integer : (k : IntKind) (t : Closed) → ((x : IntKind) → t ≡ Int x → ⊥) →
+    same (integer k) (closed_meaning t) ≡ false
 unfolding closed_meaning
 not_integer k (Int x) differs = absurd (differs x refl)
 not_integer k t differs = refl
@@ -91,17 +97,22 @@ unfolding closed_meaning
 not_text Text differs = absurd (differs refl)
 not_text t differs = refl
 
-pub not_named : (of : DeclAt) (args : ClosedTypes) (t : Closed) → ((x : DeclAt) (xs : Vec Closed Global) → t ≡ Named-of x xs → ⊥) → same (named of args) (closed_meaning t) ≡ false
+pub not_named : (of : DeclAt) (args : ClosedTypes) (t : Closed) →
+    ((x : DeclAt) (xs : Vec Closed Global) → t ≡ Named-of x xs → ⊥) → same (named of args) (closed_meaning t)
+    ≡ false
 unfolding closed_meaning
-not_named of args (Named' x shape row) differs = absurd (differs x (shown-the_row-Closed-0 shape row) (sym (backs-Closed (Named' x shape row))))
+not_named of args (Named' x shape row) differs =
+    absurd (differs x (shown-the_row-Closed-0 shape row) (sym (backs-Closed (Named' x shape row))))
 not_named of args t differs = refl
 
-pub not_reads : (to : ClosedType) (t : Closed) → ((x : Box Closed Global) → t ≡ Read x → ⊥) → same (reads to) (closed_meaning t) ≡ false
+pub not_reads : (to : ClosedType) (t : Closed) → ((x : Box Closed Global) → t ≡ Read x → ⊥) →
+    same (reads to) (closed_meaning t) ≡ false
 unfolding closed_meaning
 not_reads to (Read' p x) differs = absurd (differs (record { ptr = p.ptr; alloc = p.alloc; value = x }) refl)
 not_reads to t differs = refl
 
-pub not_writes : (to : ClosedType) (t : Closed) → ((x : Box Closed Global) → t ≡ Write x → ⊥) → same (writes to) (closed_meaning t) ≡ false
+pub not_writes : (to : ClosedType) (t : Closed) → ((x : Box Closed Global) → t ≡ Write x → ⊥) →
+    same (writes to) (closed_meaning t) ≡ false
 unfolding closed_meaning
 not_writes to (Write' p x) differs = absurd (differs (record { ptr = p.ptr; alloc = p.alloc; value = x }) refl)
 not_writes to t differs = refl

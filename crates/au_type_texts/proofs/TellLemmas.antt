@@ -1,11 +1,13 @@
 -- Two types with one text are one type: a text begins with a word, which tells the form of the type, and
 -- what stands behind a type never continues that word.
-use Rattle.std.proofs.Common.{◌≡◌, ℕ, Bool, true, false, not, cond, ◌==◌, ◌||◌, List, [], ◌∷◌, ◌++◌, Option, None, Some, refl, ap, ◌∙◌, sym, subst, append_assoc, map}
+use Rattle.std.proofs.Common.{◌≡◌, ℕ, Bool, true, false, not, cond, ◌==◌, ◌||◌, List, [], ◌∷◌, ◌++◌, Option}
+use Rattle.std.proofs.Common.{None, Some, refl, ap, ◌∙◌, sym, subst, append_assoc, map}
 use Rattle.std.specs.Prelude.{codes, is_some, unwrap_or}
 use Rattle.std.specs.List.{list_all, list_any}
 use Rattle.std.specs.Map.{lookup}
 use Rattle.std.specs.Str.{bytes_eq}
-use Rattle.std.proofs.lemmas.Bool.{false≢true, and_parts, and_from, or_parts, or_from, or_left, eqb-true, not-true, both_ways, cond-true, cond-false, false_from_ne_true}
+use Rattle.std.proofs.lemmas.Bool.{false≢true, and_parts, and_from, or_parts, or_from, or_left, eqb-true}
+use Rattle.std.proofs.lemmas.Bool.{not-true, both_ways, cond-true, cond-false, false_from_ne_true}
 use Rattle.std.proofs.lemmas.List.{append_cancel_left}
 use Rattle.au_base.specs.declared.kinds.IntKind.{IntKind}
 use Rattle.au_base.specs.declared.kinds.IntKind.TheVariants as kinds
@@ -15,9 +17,13 @@ use Rattle.au_types.specs.declared.types.DeclAt.{DeclAt}
 use Rattle.au_types.specs.declared.types.Region.{Region}
 use Rattle.au_types.specs.declared.types.Region.TheVariants as regions
 use Rattle.au_types.specs.Rows.{head_of}
-use Rattle.au_types.specs.Types.{Meaning, Argument, Arguments, unit, truth, integer, text, parameter, named, reads, writes, of_type, in_region, no_arguments, arguments}
-use Rattle.au_type_texts.specs.Texts.{kind_name, region_text, head_text, text_of, argument_text, arguments_text, others_text}
-use Rattle.au_type_texts.specs.Told.{is_name_byte, is_colon, is_word_byte, is_name_beside, type_names, region_names, is_declared, AreTold, IsRegion, params_of, Stands, FitsArgument, Fit, TextsTell}
+use Rattle.au_types.specs.Types.{Meaning, Argument, Arguments, unit, truth, integer, text, parameter, named}
+use Rattle.au_types.specs.Types.{reads, writes, of_type, in_region, no_arguments, arguments}
+use Rattle.au_type_texts.specs.Texts.{kind_name, region_text, head_text, text_of, argument_text}
+use Rattle.au_type_texts.specs.Texts.{arguments_text, others_text}
+use Rattle.au_type_texts.specs.Told.{is_name_byte, is_colon, is_word_byte, is_name_beside, type_names}
+use Rattle.au_type_texts.specs.Told.{region_names, is_declared, AreTold, IsRegion, params_of, Stands}
+use Rattle.au_type_texts.specs.Told.{FitsArgument, Fit, TextsTell}
 
 -- ---- words
 
@@ -28,27 +34,34 @@ stops (byte ∷ bytes) = not (is_word_byte byte)
 
 -- what stops begins with no byte of a word
 no_start : (b : ℕ) (w rest x : List ℕ) → list_all is_word_byte (b ∷ w) ≡ true → stops x ≡ true → x ≡ b ∷ rest → ⊥
-no_start b w rest x hw hx e = both_ways (is_word_byte b) (not-true (is_word_byte b) (subst (λ t. stops t ≡ true) e hx)) (and_parts (is_word_byte b) (list_all is_word_byte w) hw).0
+no_start b w rest x hw hx e = both_ways (is_word_byte b)
+    (not-true (is_word_byte b) (subst (λ t. stops t ≡ true) e hx))
+    (and_parts (is_word_byte b) (list_all is_word_byte w) hw).0
 
 -- the words with which one text begins are one word
-words_agree : (v w x y : List ℕ) → list_all is_word_byte v ≡ true → list_all is_word_byte w ≡ true → stops x ≡ true → stops y ≡ true → v ++ x ≡ w ++ y → v ≡ w
+words_agree : (v w x y : List ℕ) → list_all is_word_byte v ≡ true → list_all is_word_byte w ≡ true →
+    stops x ≡ true → stops y ≡ true → v ++ x ≡ w ++ y → v ≡ w
 words_agree [] [] x y hv hw hx hy e = refl
 words_agree [] (b ∷ w) x y hv hw hx hy e = absurd (no_start b w (w ++ y) x hw hx e)
 words_agree (a ∷ v) [] x y hv hw hx hy e = absurd (no_start a v (v ++ x) y hv hy (sym e))
 words_agree (a ∷ v) (b ∷ w) x y hv hw hx hy e =
     let first : a ≡ b = cc in
     let behind : v ++ x ≡ w ++ y = cc in
-    let rest : v ≡ w = words_agree v w x y (and_parts (is_word_byte a) (list_all is_word_byte v) hv).1 (and_parts (is_word_byte b) (list_all is_word_byte w) hw).1 hx hy behind in
+    let rest : v ≡ w = words_agree v w x y (and_parts (is_word_byte a) (list_all is_word_byte v) hv).1
+    (and_parts (is_word_byte b) (list_all is_word_byte w) hw).1 hx hy behind in
     cc
 
 name_is_word : (w : List ℕ) → list_all is_name_byte w ≡ true → list_all is_word_byte w ≡ true
 name_is_word [] h = refl
 name_is_word (b ∷ w) h =
     let both = and_parts (is_name_byte b) (list_all is_name_byte w) h in
-    and_from (is_word_byte b) (list_all is_word_byte w) (or_left (is_name_byte b || b == 46) (is_colon b) (or_left (is_name_byte b) (b == 46) both.0)) (name_is_word w both.1)
+    and_from (is_word_byte b) (list_all is_word_byte w)
+    (or_left (is_name_byte b || b == 46) (is_colon b) (or_left (is_name_byte b) (b == 46) both.0))
+    (name_is_word w both.1)
 
 no_colon_byte : (b : ℕ) → is_name_byte b ≡ true → is_colon b ≡ false
-no_colon_byte b h = false_from_ne_true (is_colon b) (λ e. let n : is_name_byte 58 ≡ true = subst (λ k. is_name_byte k ≡ true) (eqb-true b 58 e) h in absurd cc)
+no_colon_byte b h = false_from_ne_true (is_colon b)
+    (λ e. let n : is_name_byte 58 ≡ true = subst (λ k. is_name_byte k ≡ true) (eqb-true b 58 e) h in absurd cc)
 
 no_colon : (w : List ℕ) → list_all is_name_byte w ≡ true → list_any is_colon w ≡ false
 no_colon [] h = refl
@@ -80,9 +93,11 @@ region_stops regions.Static r h = h
 region_stops (regions.Named name) r h = h
 region_stops regions.Anonymous r h = refl
 
-beside_word : (taken : List (List ℕ)) (name : List ℕ) → is_name_beside taken name ≡ true → list_all is_word_byte name ≡ true
+beside_word : (taken : List (List ℕ)) (name : List ℕ) → is_name_beside taken name ≡ true →
+    list_all is_word_byte name ≡ true
 beside_word taken [] h = refl
-beside_word taken (b ∷ w) h = name_is_word (b ∷ w) (and_parts (list_all is_name_byte (b ∷ w)) (not (list_any (bytes_eq (b ∷ w)) taken)) h).0
+beside_word taken (b ∷ w) h = name_is_word (b ∷ w)
+    (and_parts (list_all is_name_byte (b ∷ w)) (not (list_any (bytes_eq (b ∷ w)) taken)) h).0
 
 region_is_word : (p : Region) → IsRegion p → list_all is_word_byte (region_word p) ≡ true
 unfolding region_word
@@ -100,14 +115,18 @@ unfolding region_word region_of
 region_of_word regions.Static h = refl
 region_of_word (regions.Named []) h = absurd cc
 region_of_word (regions.Named (b ∷ w)) h =
-    let free = not-true (list_any (bytes_eq (b ∷ w)) region_names) (and_parts (list_all is_name_byte (b ∷ w)) (not (list_any (bytes_eq (b ∷ w)) region_names)) h).1 in
-    cond-false (bytes_eq (b ∷ w) (codes "Static")) regions.Static (regions.Named (b ∷ w)) (or_parts (bytes_eq (b ∷ w) (codes "Static")) false free).0
+    let free = not-true (list_any (bytes_eq (b ∷ w)) region_names)
+    (and_parts (list_all is_name_byte (b ∷ w)) (not (list_any (bytes_eq (b ∷ w)) region_names)) h).1 in
+    cond-false (bytes_eq (b ∷ w) (codes "Static")) regions.Static (regions.Named (b ∷ w))
+    (or_parts (bytes_eq (b ∷ w) (codes "Static")) false free).0
 region_of_word regions.Anonymous h = refl
 
-region_same : (p q : Region) (r s : List ℕ) → IsRegion p → IsRegion q → stops r ≡ true → stops s ≡ true → region_text p ++ r ≡ region_text q ++ s → p ≡ q
+region_same : (p q : Region) (r s : List ℕ) → IsRegion p → IsRegion q → stops r ≡ true → stops s ≡ true →
+    region_text p ++ r ≡ region_text q ++ s → p ≡ q
 region_same p q r s hp hq hr hs e =
     let cut = sym (region_cut p r) ∙ e ∙ region_cut q s in
-    let word = words_agree (region_word p) (region_word q) (region_tail p ++ r) (region_tail q ++ s) (region_is_word p hp) (region_is_word q hq) (region_stops p r hr) (region_stops q s hs) cut in
+    let word = words_agree (region_word p) (region_word q) (region_tail p ++ r) (region_tail q ++ s)
+    (region_is_word p hp) (region_is_word q hq) (region_stops p r hr) (region_stops q s hs) cut in
     sym (region_of_word p hp) ∙ ap region_of word ∙ region_of_word q hq
 
 -- ---- types by their words
@@ -137,15 +156,18 @@ built_in =
 
 lead_of : List ℕ → Lead
 lead_of [] = reference
-lead_of (b ∷ w) = cond (list_any is_colon (b ∷ w)) (declared (b ∷ w)) (plain (unwrap_or (lookup (bytes_eq (b ∷ w)) built_in) (parameter (b ∷ w))))
+lead_of (b ∷ w) = cond (list_any is_colon (b ∷ w)) (declared (b ∷ w))
+    (plain (unwrap_or (lookup (bytes_eq (b ∷ w)) built_in) (parameter (b ∷ w))))
 
 declared_lead : (w : List ℕ) → list_any is_colon w ≡ true → lead_of w ≡ declared w
 unfolding lead_of
 declared_lead [] h = absurd cc
-declared_lead (b ∷ w) h = cond-true (list_any is_colon (b ∷ w)) (declared (b ∷ w)) (plain (unwrap_or (lookup (bytes_eq (b ∷ w)) built_in) (parameter (b ∷ w)))) h
+declared_lead (b ∷ w) h = cond-true (list_any is_colon (b ∷ w)) (declared (b ∷ w))
+    (plain (unwrap_or (lookup (bytes_eq (b ∷ w)) built_in) (parameter (b ∷ w)))) h
 
 -- a key that no row has
-none_found : (p : List ℕ → Bool) (table : List (List ℕ × Meaning)) → list_any p (map (λ row. row.0) table) ≡ false → lookup p table ≡ None
+none_found : (p : List ℕ → Bool) (table : List (List ℕ × Meaning)) → list_any p (map (λ row. row.0) table)
+    ≡ false → lookup p table ≡ None
 none_found p [] h = refl
 none_found p (row ∷ rows) h =
     let both = or_parts (p row.0) (list_any p (map (λ one. one.0) rows)) h in
@@ -157,7 +179,8 @@ parameter_lead [] h = absurd cc
 parameter_lead (b ∷ w) h =
     let both = and_parts (list_all is_name_byte (b ∷ w)) (not (list_any (bytes_eq (b ∷ w)) type_names)) h in
     let free = not-true (list_any (bytes_eq (b ∷ w)) type_names) both.1 in
-    cond-false (list_any is_colon (b ∷ w)) (declared (b ∷ w)) (plain (unwrap_or (lookup (bytes_eq (b ∷ w)) built_in) (parameter (b ∷ w)))) (no_colon (b ∷ w) both.0)
+    cond-false (list_any is_colon (b ∷ w)) (declared (b ∷ w))
+    (plain (unwrap_or (lookup (bytes_eq (b ∷ w)) built_in) (parameter (b ∷ w)))) (no_colon (b ∷ w) both.0)
     ∙ ap (λ found. plain (unwrap_or found (parameter (b ∷ w)))) (none_found (bytes_eq (b ∷ w)) built_in free)
 
 kind_lead : (kind : IntKind) → lead_of (kind_name kind) ≡ plain (integer kind)
@@ -237,10 +260,12 @@ module _ (rows : List (DeclAt × Head)) (told : AreTold rows) where
       by None e h = absurd cc
       by (Some head) e h = told.declared at head e
 
-  head_apart : (a b : DeclAt) → is_some (head_of rows a) ≡ true → is_some (head_of rows b) ≡ true → head_text (head_of rows a) ≡ head_text (head_of rows b) → a ≡ b
+  head_apart : (a b : DeclAt) → is_some (head_of rows a) ≡ true → is_some (head_of rows b) ≡ true →
+      head_text (head_of rows a) ≡ head_text (head_of rows b) → a ≡ b
   head_apart a b ha hb e = by (head_of rows a) (head_of rows b) refl refl ha hb e
     where
-      by : (o p : Option Head) → head_of rows a ≡ o → head_of rows b ≡ p → is_some o ≡ true → is_some p ≡ true → head_text o ≡ head_text p → a ≡ b
+      by : (o p : Option Head) → head_of rows a ≡ o → head_of rows b ≡ p → is_some o ≡ true →
+          is_some p ≡ true → head_text o ≡ head_text p → a ≡ b
       by None p ea eb ho hp same = absurd cc
       by (Some head) None ea eb ho hp same = absurd cc
       by (Some head) (Some other) ea eb ho hp same = told.apart a b head other ea eb same
@@ -252,7 +277,8 @@ module _ (rows : List (DeclAt × Head)) (told : AreTold rows) where
   is_word (integer kind) h = kind_is_word kind
   is_word text h = refl
   is_word (parameter name) h = beside_word type_names name h
-  is_word (named at args) h = (and_parts (list_any is_colon (head_text (head_of rows at))) (list_all is_word_byte (head_text (head_of rows at))) (head_declared at h.0)).1
+  is_word (named at args) h = (and_parts (list_any is_colon (head_text (head_of rows at)))
+      (list_all is_word_byte (head_text (head_of rows at))) (head_declared at h.0)).1
   is_word (reads to region) h = refl
   is_word (writes to region) h = refl
 
@@ -274,16 +300,21 @@ module _ (rows : List (DeclAt × Head)) (told : AreTold rows) where
   lead_is text h = refl
   lead_is (parameter name) h = parameter_lead name h
   lead_is (named at args) h =
-      declared_lead (head_text (head_of rows at)) (and_parts (list_any is_colon (head_text (head_of rows at))) (list_all is_word_byte (head_text (head_of rows at))) (head_declared at h.0)).0
+      declared_lead (head_text (head_of rows at))
+      (and_parts (list_any is_colon (head_text (head_of rows at)))
+      (list_all is_word_byte (head_text (head_of rows at))) (head_declared at h.0)).0
   lead_is (reads to region) h = refl
   lead_is (writes to region) h = refl
 
   -- types with one text begin with one word
-  word_same : (t u : Meaning) (r s : List ℕ) → Stands rows t → Stands rows u → stops r ≡ true → stops s ≡ true → text_of rows t ++ r ≡ text_of rows u ++ s → word t ≡ word u
+  word_same : (t u : Meaning) (r s : List ℕ) → Stands rows t → Stands rows u → stops r ≡ true →
+      stops s ≡ true → text_of rows t ++ r ≡ text_of rows u ++ s → word t ≡ word u
   word_same t u r s ht hu hr hs e =
-      words_agree (word t) (word u) (tail t ++ r) (tail u ++ s) (is_word t ht) (is_word u hu) (tail_stops t r hr) (tail_stops u s hs) (sym (cut t r) ∙ e ∙ cut u s)
+      words_agree (word t) (word u) (tail t ++ r) (tail u ++ s) (is_word t ht) (is_word u hu)
+      (tail_stops t r hr) (tail_stops u s hs) (sym (cut t r) ∙ e ∙ cut u s)
 
-  lead_same : (t u : Meaning) (r s : List ℕ) → Stands rows t → Stands rows u → stops r ≡ true → stops s ≡ true → text_of rows t ++ r ≡ text_of rows u ++ s → lead t ≡ lead u
+  lead_same : (t u : Meaning) (r s : List ℕ) → Stands rows t → Stands rows u → stops r ≡ true →
+      stops s ≡ true → text_of rows t ++ r ≡ text_of rows u ++ s → lead t ≡ lead u
   lead_same t u r s ht hu hr hs e = sym (lead_is t ht) ∙ ap lead_of (word_same t u r s ht hu hr hs e) ∙ lead_is u hu
 
   -- where the word tells the type, it's that type
@@ -299,8 +330,10 @@ module _ (rows : List (DeclAt × Head)) (told : AreTold rows) where
   plain_same t (writes to region) e = absurd cc
 
   -- and go on in one way
-  tail_same : (t u : Meaning) (r s : List ℕ) → word t ≡ word u → text_of rows t ++ r ≡ text_of rows u ++ s → tail t ++ r ≡ tail u ++ s
-  tail_same t u r s same e = append_cancel_left (word u) (tail t ++ r) (tail u ++ s) (ap (λ w. w ++ (tail t ++ r)) (sym same) ∙ sym (cut t r) ∙ e ∙ cut u s)
+  tail_same : (t u : Meaning) (r s : List ℕ) → word t ≡ word u → text_of rows t ++ r ≡ text_of rows u ++ s →
+      tail t ++ r ≡ tail u ++ s
+  tail_same t u r s same e = append_cancel_left (word u) (tail t ++ r) (tail u ++ s)
+      (ap (λ w. w ++ (tail t ++ r)) (sym same) ∙ sym (cut t r) ∙ e ∙ cut u s)
 
   -- ---- references
 
@@ -317,15 +350,20 @@ module _ (rows : List (DeclAt × Head)) (told : AreTold rows) where
   reference_same : (a b : Meaning) (p q : Region) (r s : List ℕ)
       → ((x y : List ℕ) → stops x ≡ true → stops y ≡ true → text_of rows a ++ x ≡ text_of rows b ++ y → a ≡ b)
       → IsRegion p → IsRegion q
-      → (text_of rows a ++ codes ", " ++ region_text p ++ codes "]") ++ r ≡ (text_of rows b ++ codes ", " ++ region_text q ++ codes "]") ++ s
+      → (text_of rows a ++ codes ", " ++ region_text p ++ codes "]")
+      ++ r ≡ (text_of rows b ++ codes ", " ++ region_text q ++ codes "]") ++ s
       → (a ≡ b) × (p ≡ q)
   reference_same a b p q r s tells hp hq e =
       let x = region_text p ++ (codes "]" ++ r) in
       let y = region_text q ++ (codes "]" ++ s) in
       let split = sym (inside (text_of rows a) (region_text p) r) ∙ e ∙ inside (text_of rows b) (region_text q) s in
       let same : a ≡ b = tells (codes ", " ++ x) (codes ", " ++ y) refl refl split in
-      let rest = append_cancel_left (text_of rows b) (codes ", " ++ x) (codes ", " ++ y) (ap (λ t. text_of rows t ++ (codes ", " ++ x)) (sym same) ∙ split) in
-      (same, region_same p q (codes "]" ++ r) (codes "]" ++ s) hp hq refl refl (append_cancel_left (codes ", ") x y rest))
+      let rest = append_cancel_left (text_of rows b) (codes ", " ++ x) (codes ", " ++ y)
+      (ap (λ t. text_of rows t ++ (codes ", " ++ x)) (sym same) ∙ split) in (
+        same,
+        region_same p q (codes "]" ++ r) (codes "]" ++ s) hp hq refl refl
+            (append_cancel_left (codes ", ") x y rest),
+      )
 
   -- ---- arguments
 
@@ -345,7 +383,8 @@ module _ (rows : List (DeclAt × Head)) (told : AreTold rows) where
 
   -- where there are arguments on both sides or on none, what follows a bracket is the same
   bracket_same : (ps : List Parameter) (xs ys : Arguments) (r s : List ℕ) → Fit rows ps xs → Fit rows ps ys
-      → arguments_text rows xs ++ r ≡ arguments_text rows ys ++ s → behind (codes "[") xs ++ r ≡ behind (codes "[") ys ++ s
+      → arguments_text rows xs ++ r ≡ arguments_text rows ys ++ s → behind (codes "[") xs
+      ++ r ≡ behind (codes "[") ys ++ s
   unfolding behind
   bracket_same [] no_arguments no_arguments r s hx hy e = ap (λ t. codes "]" ++ t) e
   bracket_same (p ∷ ps) (arguments x xs) (arguments y ys) r s hx hy e = e
@@ -355,7 +394,8 @@ module _ (rows : List (DeclAt × Head)) (told : AreTold rows) where
   bracket_same (p ∷ ps) (arguments x xs) no_arguments r s hx hy e = absurd hy
 
   -- the first argument stands in front of the others
-  front : (mark : List ℕ) (one : Argument) (rest : Arguments) (r : List ℕ) → behind mark (arguments one rest) ++ r ≡ mark ++ (argument_text rows one ++ (others_text rows rest ++ r))
+  front : (mark : List ℕ) (one : Argument) (rest : Arguments) (r : List ℕ) → behind mark (arguments one rest)
+      ++ r ≡ mark ++ (argument_text rows one ++ (others_text rows rest ++ r))
   unfolding behind
   front mark one rest r = simp append_assoc
 
@@ -364,7 +404,9 @@ module _ (rows : List (DeclAt × Head)) (told : AreTold rows) where
       → argument_text rows x ++ (others_text rows xs ++ r) ≡ argument_text rows y ++ (others_text rows ys ++ s)
       → behind (codes ", ") xs ++ r ≡ behind (codes ", ") ys ++ s
   others_same x y xs ys r s same e =
-      let rest = append_cancel_left (argument_text rows y) (others_text rows xs ++ r) (others_text rows ys ++ s) (ap (λ one. argument_text rows one ++ (others_text rows xs ++ r)) (sym same) ∙ e) in
+      let rest = append_cancel_left (argument_text rows y) (others_text rows xs ++ r)
+      (others_text rows ys ++ s) (ap (λ one. argument_text rows one ++ (others_text rows xs ++ r))
+      (sym same) ∙ e) in
       sym (ap (λ t. t ++ r) (others_behind xs)) ∙ rest ∙ ap (λ t. t ++ s) (others_behind ys)
 
   -- ---- types
@@ -372,41 +414,55 @@ module _ (rows : List (DeclAt × Head)) (told : AreTold rows) where
   mutual
     unfolding word tail lead behind
 
-    type_same : (t u : Meaning) (r s : List ℕ) → Stands rows t → Stands rows u → stops r ≡ true → stops s ≡ true → text_of rows t ++ r ≡ text_of rows u ++ s → t ≡ u
+    type_same : (t u : Meaning) (r s : List ℕ) → Stands rows t → Stands rows u → stops r ≡ true →
+        stops s ≡ true → text_of rows t ++ r ≡ text_of rows u ++ s → t ≡ u
     type_same unit u r s ht hu hr hs e = plain_same unit u (lead_same unit u r s ht hu hr hs e)
     type_same truth u r s ht hu hr hs e = plain_same truth u (lead_same truth u r s ht hu hr hs e)
-    type_same (integer kind) u r s ht hu hr hs e = plain_same (integer kind) u (lead_same (integer kind) u r s ht hu hr hs e)
+    type_same (integer kind) u r s ht hu hr hs e =
+        plain_same (integer kind) u (lead_same (integer kind) u r s ht hu hr hs e)
     type_same text u r s ht hu hr hs e = plain_same text u (lead_same text u r s ht hu hr hs e)
-    type_same (parameter name) u r s ht hu hr hs e = plain_same (parameter name) u (lead_same (parameter name) u r s ht hu hr hs e)
+    type_same (parameter name) u r s ht hu hr hs e =
+        plain_same (parameter name) u (lead_same (parameter name) u r s ht hu hr hs e)
     type_same (named a xs) (named b ys) r s ht hu hr hs e =
         let same = word_same (named a xs) (named b ys) r s ht hu hr hs e in
         let place : a ≡ b = head_apart a b ht.0 hu.0 same in
         let rest = tail_same (named a xs) (named b ys) r s same e in
-        let fits : Fit rows (params_of (head_of rows a)) ys = subst (λ at. Fit rows (params_of (head_of rows at)) ys) (sym place) hu.1 in
-        let args : xs ≡ ys = arguments_same (params_of (head_of rows a)) (codes "[") xs ys r s ht.1 fits (bracket_same (params_of (head_of rows a)) xs ys r s ht.1 fits rest) in
+        let fits : Fit rows (params_of (head_of rows a)) ys =
+        subst (λ at. Fit rows (params_of (head_of rows at)) ys) (sym place) hu.1 in
+        let args : xs ≡ ys = arguments_same (params_of (head_of rows a)) (codes "[") xs ys r s ht.1 fits
+        (bracket_same (params_of (head_of rows a)) xs ys r s ht.1 fits rest) in
         cc
     type_same (reads a p) (reads b q) r s ht hu hr hs e =
-        let both = reference_same a b p q r s (λ x y hx hy same. type_same a b x y ht.0 hu.0 hx hy same) ht.1 hu.1 (append_cancel_left (codes "&[") _ _ e) in
+        let both = reference_same a b p q r s (λ x y hx hy same. type_same a b x y ht.0 hu.0 hx hy same) ht.1
+        hu.1 (append_cancel_left (codes "&[") _ _ e) in
         cc (both.0, both.1)
     type_same (writes a p) (writes b q) r s ht hu hr hs e =
-        let both = reference_same a b p q r s (λ x y hx hy same. type_same a b x y ht.0 hu.0 hx hy same) ht.1 hu.1 (append_cancel_left (codes "&![") _ _ e) in
+        let both = reference_same a b p q r s (λ x y hx hy same. type_same a b x y ht.0 hu.0 hx hy same) ht.1
+        hu.1 (append_cancel_left (codes "&![") _ _ e) in
         cc (both.0, both.1)
     type_same (reads a p) (writes b q) r s ht hu hr hs e = absurd (false≢true (ap (λ text. second text == 33) e))
     type_same (writes a p) (reads b q) r s ht hu hr hs e = absurd (false≢true (ap (λ text. second text == 91) e))
     type_same t u r s ht hu hr hs e = let same : lead t ≡ lead u = lead_same t u r s ht hu hr hs e in cc
 
-    argument_same : (p : Parameter) (x y : Argument) (r s : List ℕ) → FitsArgument rows p x → FitsArgument rows p y → stops r ≡ true → stops s ≡ true → argument_text rows x ++ r ≡ argument_text rows y ++ s → x ≡ y
+    argument_same : (p : Parameter) (x y : Argument) (r s : List ℕ) → FitsArgument rows p x →
+        FitsArgument rows p y → stops r ≡ true → stops s ≡ true → argument_text rows x
+        ++ r ≡ argument_text rows y ++ s → x ≡ y
     argument_same p (of_type t) (of_type u) r s hx hy hr hs e = ap of_type (type_same t u r s hx.1 hy.1 hr hs e)
     argument_same p (in_region a) (in_region b) r s hx hy hr hs e = ap in_region (region_same a b r s hx.1 hy.1 hr hs e)
     argument_same p (of_type t) (in_region b) r s hx hy hr hs e = absurd (hx.0 hy.0)
     argument_same p (in_region a) (of_type u) r s hx hy hr hs e = absurd (hy.0 hx.0)
 
-    arguments_same : (ps : List Parameter) (mark : List ℕ) (xs ys : Arguments) (r s : List ℕ) → Fit rows ps xs → Fit rows ps ys → behind mark xs ++ r ≡ behind mark ys ++ s → xs ≡ ys
+    arguments_same : (ps : List Parameter) (mark : List ℕ) (xs ys : Arguments) (r s : List ℕ) →
+        Fit rows ps xs → Fit rows ps ys → behind mark xs ++ r ≡ behind mark ys ++ s → xs ≡ ys
     arguments_same [] mark no_arguments no_arguments r s hx hy e = refl
     arguments_same (p ∷ ps) mark (arguments x xs) (arguments y ys) r s hx hy e =
-        let ends = append_cancel_left mark (argument_text rows x ++ (others_text rows xs ++ r)) (argument_text rows y ++ (others_text rows ys ++ s)) (sym (front mark x xs r) ∙ e ∙ front mark y ys s) in
-        let first : x ≡ y = argument_same p x y (others_text rows xs ++ r) (others_text rows ys ++ s) hx.0 hy.0 (others_stop xs r) (others_stop ys s) ends in
-        let others : xs ≡ ys = arguments_same ps (codes ", ") xs ys r s hx.1 hy.1 (others_same x y xs ys r s first ends) in
+        let ends = append_cancel_left mark (argument_text rows x ++ (others_text rows xs ++ r))
+        (argument_text rows y ++ (others_text rows ys ++ s))
+        (sym (front mark x xs r) ∙ e ∙ front mark y ys s) in
+        let first : x ≡ y = argument_same p x y (others_text rows xs ++ r) (others_text rows ys ++ s) hx.0
+        hy.0 (others_stop xs r) (others_stop ys s) ends in
+        let others : xs ≡ ys = arguments_same ps (codes ", ") xs ys r s hx.1 hy.1
+        (others_same x y xs ys r s first ends) in
         cc
     arguments_same [] mark no_arguments (arguments y ys) r s hx hy e = absurd hy
     arguments_same [] mark (arguments x xs) ys r s hx hy e = absurd hx

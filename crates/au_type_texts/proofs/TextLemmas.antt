@@ -1,5 +1,6 @@
 -- What a loop over arguments has still to add to their text.
-use Rattle.std.proofs.Common.{◌≡◌, ℕ, suc, ◌+◌, ◌<◌, ◌≤◌, List, [], ◌∷◌, ◌++◌, length, drop, get_or, refl, ap, ◌∙◌, sym, append_assoc, arith}
+use Rattle.std.proofs.Common.{◌≡◌, ℕ, suc, ◌+◌, ◌<◌, ◌≤◌, List, [], ◌∷◌, ◌++◌, length, drop, get_or, refl, ap}
+use Rattle.std.proofs.Common.{◌∙◌, sym, append_assoc, arith}
 use Rattle.std.proofs.Math.Seq.{drop-cons}
 use Rattle.std.proofs.lemmas.List.{drop_all}
 use Rattle.std.specs.Prelude.{codes}
@@ -22,28 +23,33 @@ module _ (rows : List (DeclAt × Head)) where
   others_left (arguments one rest) = refl
 
   -- at the end
-  pub left_none : (mark : List ℕ) (xs : List Arg) (i : ℕ) → length xs ≤ i → left_text mark (argument_all (drop i xs)) ≡ codes "]"
+  pub left_none : (mark : List ℕ) (xs : List Arg) (i : ℕ) → length xs ≤ i →
+      left_text mark (argument_all (drop i xs)) ≡ codes "]"
   unfolding left_text
   left_none mark xs i past = ap (λ r. left_text mark (argument_all r)) (drop_all i xs past)
 
   -- at the start
-  pub left_all : (xs : List Arg) → (length xs ≡ 0 → ⊥) → left_text (codes "[") (argument_all (drop 0 xs)) ≡ arguments_text rows (argument_all xs)
+  pub left_all : (xs : List Arg) → (length xs ≡ 0 → ⊥) → left_text (codes "[") (argument_all (drop 0 xs))
+      ≡ arguments_text rows (argument_all xs)
   unfolding left_text
   left_all [] some = absurd (some refl)
   left_all (x ∷ xs) some = refl
 
   -- one more
   pub left_more : (mark : List ℕ) (xs : List Arg) (i : ℕ) (x : Arg) → i < length xs → x ≡ get_or xs i x →
-      left_text mark (argument_all (drop i xs)) ≡ mark ++ argument_text rows (argument x) ++ left_text (codes ", ") (argument_all (drop (i + 1) xs))
+      left_text mark (argument_all (drop i xs)) ≡ mark ++ argument_text rows (argument x)
+      ++ left_text (codes ", ") (argument_all (drop (i + 1) xs))
   unfolding left_text
   left_more mark xs i x within is =
       ap (λ r. left_text mark (argument_all r)) (drop-cons xs i x within)
       ∙ ap (λ y. mark ++ argument_text rows (argument y) ++ others_text rows (argument_all (drop (suc i) xs))) (sym is)
-      ∙ ap (λ k. mark ++ argument_text rows (argument x) ++ others_text rows (argument_all (drop k xs))) (let e : suc i ≡ i + 1 = omega arith in e)
+      ∙ ap (λ k. mark ++ argument_text rows (argument x) ++ others_text rows (argument_all (drop k xs)))
+      (let e : suc i ≡ i + 1 = omega arith in e)
       ∙ ap (λ r. mark ++ argument_text rows (argument x) ++ r) (others_left (argument_all (drop (i + 1) xs)))
 
 -- one turn: a mark and an argument are added, and the rest is left
-pub turn : (x y z mark one rest left whole : List ℕ) → y ≡ x ++ mark → z ≡ y ++ one → left ≡ mark ++ one ++ rest → x ++ left ≡ whole → z ++ rest ≡ whole
+pub turn : (x y z mark one rest left whole : List ℕ) → y ≡ x ++ mark → z ≡ y ++ one → left ≡ mark ++ one
+    ++ rest → x ++ left ≡ whole → z ++ rest ≡ whole
 turn x y z mark one rest left whole marked added is all =
     ap (λ k. k ++ rest) (added ∙ ap (λ k. k ++ one) marked)
     ∙ (let e : ((x ++ mark) ++ one) ++ rest ≡ x ++ ((mark ++ one) ++ rest) = simp append_assoc in e)
@@ -51,7 +57,8 @@ turn x y z mark one rest left whole marked added is all =
     ∙ all
 
 -- the five pieces of a reference
-pub pieces : (x a b c d e f g h i j : List ℕ) → b ≡ x ++ a → d ≡ b ++ c → f ≡ d ++ e → h ≡ f ++ g → j ≡ h ++ i → j ≡ x ++ (a ++ c ++ e ++ g ++ i)
+pub pieces : (x a b c d e f g h i j : List ℕ) → b ≡ x ++ a → d ≡ b ++ c → f ≡ d ++ e → h ≡ f ++ g → j ≡ h
+    ++ i → j ≡ x ++ (a ++ c ++ e ++ g ++ i)
 pieces x a b c d e f g h i j one two three four five =
     five ∙ ap (λ k. k ++ i) (four ∙ ap (λ k. k ++ g) (three ∙ ap (λ k. k ++ e) (two ∙ ap (λ k. k ++ c) one)))
     ∙ (let all : ((((x ++ a) ++ c) ++ e) ++ g) ++ i ≡ x ++ ((((a ++ c) ++ e) ++ g) ++ i) = simp append_assoc in all)

@@ -1,6 +1,7 @@
 -- What written types mean, case by case. The definition is opaque; these equations stand for it, and
 -- `meant_steps` names them.
-use Rattle.std.proofs.Common.{◌≡◌, ℕ, ◌+◌, ◌<◌, ◌≤◌, List, [], ◌∷◌, ◌++◌, map, length, drop, get_or, suc, Option, None, Some, Vec, refl, sym, ap, subst, ◌∙◌}
+use Rattle.std.proofs.Common.{◌≡◌, ℕ, ◌+◌, ◌<◌, ◌≤◌, List, [], ◌∷◌, ◌++◌, map, length, drop, get_or, suc}
+use Rattle.std.proofs.Common.{Option, None, Some, Vec, refl, sym, ap, subst, ◌∙◌}
 use Rattle.std.proofs.lemmas.List.{drop_more, drop_all}
 use Rattle.std.proofs.lemmas.Option.{slice_get_within, get_or_from_slice_get}
 use Rattle.std.specs.Prelude.{slice_get}
@@ -25,10 +26,12 @@ use Rattle.au_types.specs.Types as mean
 use Rattle.au_types.specs.Types.{Meaning, Argument, Arguments}
 use Rattle.au_types.specs.Views.{argument, argument_all}
 use Rattle.au_types.specs.Senses.{sense_of}
-use Rattle.au_types.specs.Meant.{Given, refers, followed, region_of, span_of, span_with, alone, region_meant, meant, all_given, applied, arguments_meant, argument_meant}
+use Rattle.au_types.specs.Meant.{Given, refers, followed, region_of, span_of, span_with, alone, region_meant}
+use Rattle.au_types.specs.Meant.{meant, all_given, applied, arguments_meant, argument_meant}
 
 -- no type with arguments is one without
-pub alone_with : {A : Type 0} (f : A → Given) (t : Meaning) (args : List A) → (args ≡ [] → ⊥) → alone t (map f args) ≡ None
+pub alone_with : {A : Type 0} (f : A → Given) (t : Meaning) (args : List A) → (args ≡ [] → ⊥) →
+    alone t (map f args) ≡ None
 alone_with f t [] some = absurd (some refl)
 alone_with f t (one ∷ rest) some = refl
 
@@ -37,13 +40,15 @@ empty_of [] none = refl
 empty_of (x ∷ xs) none = absurd cc
 
 -- `Span` has two arguments
-pub span_of_two : {A : Type 0} (f : A → Given) (args : List A) (d e : A) → length args ≡ 2 → span_with (map f args) ≡ span_of (f (get_or args 0 d)).as_type (f (get_or args 1 e)).as_region
+pub span_of_two : {A : Type 0} (f : A → Given) (args : List A) (d e : A) → length args ≡ 2 →
+    span_with (map f args) ≡ span_of (f (get_or args 0 d)).as_type (f (get_or args 1 e)).as_region
 span_of_two f [] d e two = absurd cc
 span_of_two f (t ∷ []) d e two = absurd cc
 span_of_two f (t ∷ region ∷ []) d e two = refl
 span_of_two f (t ∷ region ∷ more ∷ rest) d e two = absurd cc
 
-pub span_of_others : {A : Type 0} (f : A → Given) (args : List A) → (length args ≡ 2 → ⊥) → span_with (map f args) ≡ None
+pub span_of_others : {A : Type 0} (f : A → Given) (args : List A) → (length args ≡ 2 → ⊥) →
+    span_with (map f args) ≡ None
 span_of_others f [] other = refl
 span_of_others f (t ∷ []) other = refl
 span_of_others f (t ∷ region ∷ []) other = absurd (other refl)
@@ -59,7 +64,9 @@ unfolding joined
 joined_none mean.no_arguments = refl
 joined_none (mean.arguments one before) = ap (mean.arguments one) (joined_none before)
 
-pub joined_push : (before : List Arg) (one : Arg) (rest : Arguments) → joined (argument_all (before ++ one ∷ [])) rest ≡ joined (argument_all before) (mean.arguments (argument one) rest)
+pub joined_push : (before : List Arg) (one : Arg) (rest : Arguments) →
+    joined (argument_all (before ++ one ∷ [])) rest ≡ joined (argument_all before)
+    (mean.arguments (argument one) rest)
 unfolding joined
 joined_push [] one rest = refl
 joined_push (first ∷ before) one rest = ap (mean.arguments (argument first)) (joined_push before one rest)
@@ -70,7 +77,9 @@ joined_start None = refl
 joined_start (Some rest) = refl
 
 -- an argument more before others
-pub joined_more : (before : List Arg) (one : Arg) (rest : Option Arguments) → option_map (joined (argument_all before)) (followed (Some (argument one)) rest) ≡ option_map (joined (argument_all (before ++ one ∷ []))) rest
+pub joined_more : (before : List Arg) (one : Arg) (rest : Option Arguments) →
+    option_map (joined (argument_all before)) (followed (Some (argument one)) rest)
+    ≡ option_map (joined (argument_all (before ++ one ∷ []))) rest
 joined_more before one None = refl
 joined_more before one (Some rest) = ap Some (sym (joined_push before one rest))
 
@@ -79,7 +88,8 @@ followed_none None = refl
 followed_none (Some one) = refl
 
 -- arguments that don't fit in number mean nothing
-pub arguments_unequal : {A : Type 0} (f : A → Given) (args : List A) (expected : List Parameter) → (length args ≡ length expected → ⊥) → arguments_meant expected (map f args) ≡ None
+pub arguments_unequal : {A : Type 0} (f : A → Given) (args : List A) (expected : List Parameter) →
+    (length args ≡ length expected → ⊥) → arguments_meant expected (map f args) ≡ None
 arguments_unequal f [] [] other = absurd (other refl)
 arguments_unequal f [] (one ∷ others) other = refl
 arguments_unequal f (t ∷ rest) [] other = refl
@@ -88,8 +98,11 @@ arguments_unequal f (t ∷ rest) (one ∷ others) other =
     ∙ followed_none (argument_meant one.universe (f t))
 
 -- the first of the arguments that are left
-pub arguments_step : {A : Type 0} (f : A → Given) (expected : List Parameter) (args : List A) (i : ℕ) (one : Parameter) (d : A) → slice_get expected i ≡ Some one → i < length args →
-    arguments_meant (drop i expected) (map f (drop i args)) ≡ followed (argument_meant one.universe (f (get_or args i d))) (arguments_meant (drop (i + 1) expected) (map f (drop (i + 1) args)))
+pub arguments_step : {A : Type 0} (f : A → Given) (expected : List Parameter) (args : List A) (i : ℕ)
+    (one : Parameter) (d : A) → slice_get expected i ≡ Some one → i < length args →
+    arguments_meant (drop i expected) (map f (drop i args))
+    ≡ followed (argument_meant one.universe (f (get_or args i d)))
+    (arguments_meant (drop (i + 1) expected) (map f (drop (i + 1) args)))
 arguments_step f expected args i one d stands inside =
     let first = drop_more expected i one (slice_get_within expected i one stands) in
     let same = get_or_from_slice_get expected i one one stands in
@@ -97,22 +110,29 @@ arguments_step f expected args i one d stands inside =
     ∙ ap (λ ts. arguments_meant (one ∷ drop (i + 1) expected) (map f ts)) (drop_more args i d inside)
 
 -- arguments that are left mean what the first of them and then the others mean
-pub taken : {A : Type 0} (f : A → Given) (expected : List Parameter) (args items : List A) (i : ℕ) (one : Parameter) (item : A) (before : Arguments) (found : Option Argument) →
-    arguments_meant expected (map f args) ≡ option_map (joined before) (arguments_meant (drop i expected) (map f (drop i args))) →
-    slice_get expected i ≡ Some one → items ≡ args → i < length items → item ≡ get_or items i item → found ≡ argument_meant one.universe (f item) →
-    arguments_meant expected (map f args) ≡ option_map (joined before) (followed found (arguments_meant (drop (i + 1) expected) (map f (drop (i + 1) args))))
+pub taken : {A : Type 0} (f : A → Given) (expected : List Parameter) (args items : List A) (i : ℕ)
+    (one : Parameter) (item : A) (before : Arguments) (found : Option Argument) →
+    arguments_meant expected (map f args) ≡ option_map (joined before)
+    (arguments_meant (drop i expected) (map f (drop i args))) →
+    slice_get expected i ≡ Some one → items ≡ args → i < length items → item ≡ get_or items i item →
+    found ≡ argument_meant one.universe (f item) →
+    arguments_meant expected (map f args) ≡ option_map (joined before)
+    (followed found (arguments_meant (drop (i + 1) expected) (map f (drop (i + 1) args))))
 taken f expected args items i one item before found so_far stands same inside is means =
     let within : i < length args = subst (λ xs. i < length xs) same inside in
     let here : item ≡ get_or args i item = is ∙ ap (λ xs. get_or xs i item) same in
-    let gives : argument_meant one.universe (f (get_or args i item)) ≡ found = sym (means ∙ ap (λ t. argument_meant one.universe (f t)) here) in
+    let gives : argument_meant one.universe (f (get_or args i item)) ≡ found =
+    sym (means ∙ ap (λ t. argument_meant one.universe (f t)) here) in
     so_far
     ∙ ap (option_map (joined before)) (arguments_step f expected args i one item stands within
     ∙ ap (λ x. followed x (arguments_meant (drop (i + 1) expected) (map f (drop (i + 1) args)))) gives)
 
 -- what was found is all where no arguments are left
-pub finished : {A : Type 0} (f : A → Given) (expected : List Parameter) (args items : List A) (i : ℕ) (before : Arguments) →
+pub finished : {A : Type 0} (f : A → Given) (expected : List Parameter) (args items : List A) (i : ℕ)
+    (before : Arguments) →
     length args ≡ length expected →
-    arguments_meant expected (map f args) ≡ option_map (joined before) (arguments_meant (drop i expected) (map f (drop i args))) →
+    arguments_meant expected (map f args) ≡ option_map (joined before)
+    (arguments_meant (drop i expected) (map f (drop i args))) →
     items ≡ args → length items ≤ i → Some before ≡ arguments_meant expected (map f args)
 finished f expected args items i before lengths so_far same done =
     let past : length args ≤ i = subst (λ xs. length xs ≤ i) same done in
@@ -122,35 +142,62 @@ finished f expected args items i before lengths so_far same done =
     ∙ ap (λ ts. option_map (joined before) (arguments_meant [] (map f ts))) (drop_all i args past)
     ∙ ap Some (joined_none before))
 
-module _ (opened : List Bytes) (params : List Parameter) (visible : List (Bytes × DeclAt)) (heads : List (DeclAt × Head)) where
-  pub region_with : (name : Placed (List ℕ)) (args : List TypeText) → (args ≡ [] → ⊥) → region_meant opened params visible heads (named name (written_all args)) ≡ None
+module _ (opened : List Bytes) (params : List Parameter) (visible : List (Bytes × DeclAt))
+    (heads : List (DeclAt × Head)) where
+  pub region_with : (name : Placed (List ℕ)) (args : List TypeText) → (args ≡ [] → ⊥) →
+      region_meant opened params visible heads (named name (written_all args)) ≡ None
   region_with name [] some = absurd (some refl)
   region_with name (one ∷ rest) some = refl
 
   -- a name alone
-  pub region_alone : (node : TypeText) (name : TypeName) (args : Vec TypeText Global) → node ≡ Named name args → length args.items ≡ 0 → region_of (sense_of opened params visible heads name.name) ≡ region_meant opened params visible heads (written node)
+  pub region_alone : (node : TypeText) (name : TypeName) (args : Vec TypeText Global) →
+      node ≡ Named name args → length args.items ≡ 0 →
+      region_of (sense_of opened params visible heads name.name) ≡ region_meant opened params visible heads
+      (written node)
   region_alone node name args is none =
       sym (ap (λ t. region_meant opened params visible heads (written t)) is
       ∙ ap (region_meant opened params visible heads) (named_written name args)
-      ∙ ap (λ all. region_meant opened params visible heads (named (type_name name) (written_all all))) (empty_of args.items none))
+      ∙ ap (λ all. region_meant opened params visible heads (named (type_name name) (written_all all)))
+      (empty_of args.items none))
 
   -- the arguments of a type of the code
-  pub given_is : (args : List TypeText) → all_given opened params visible heads (written_all args) ≡ map (λ t. record { as_type = meant opened params visible heads (written t); as_region = region_meant opened params visible heads (written t) }) args
+  pub given_is : (args : List TypeText) → all_given opened params visible heads (written_all args)
+      ≡ map (λ t. record {
+        as_type = meant opened params visible heads (written t);
+        as_region =
+            region_meant opened params visible heads (written t);
+      }) args
   unfolding all_given
   given_is [] = refl
-  given_is (t ∷ rest) = ap (λ all. record { as_type = meant opened params visible heads (written t); as_region = region_meant opened params visible heads (written t) } ∷ all) (given_is rest)
+  given_is (t ∷ rest) = ap (λ all. record {
+    as_type = meant opened params visible heads (written t);
+    as_region =
+        region_meant opened params visible heads (written t);
+  } ∷ all) (given_is rest)
 
-  pub named_meant : (name : Placed (List ℕ)) (args : List TypeText) → meant opened params visible heads (named name (written_all args)) ≡ applied (sense_of opened params visible heads name.name) (map (λ t. record { as_type = meant opened params visible heads (written t); as_region = region_meant opened params visible heads (written t) }) args)
+  pub named_meant : (name : Placed (List ℕ)) (args : List TypeText) →
+      meant opened params visible heads (named name (written_all args))
+      ≡ applied (sense_of opened params visible heads name.name)
+      (map (λ t. record {
+        as_type = meant opened params visible heads (written t);
+        as_region =
+            region_meant opened params visible heads (written t);
+      }) args)
   unfolding meant
   named_meant name args = ap (applied (sense_of opened params visible heads name.name)) (given_is args)
 
-  pub reference_meant : (at : Pos) (kind : Access) (target : WrittenType) (region : Placed (List ℕ)) → meant opened params visible heads (reference at kind target region) ≡ refers kind (meant opened params visible heads target) (region_of (sense_of opened params visible heads region.name))
+  pub reference_meant : (at : Pos) (kind : Access) (target : WrittenType) (region : Placed (List ℕ)) →
+      meant opened params visible heads (reference at kind target region)
+      ≡ refers kind (meant opened params visible heads target)
+      (region_of (sense_of opened params visible heads region.name))
   unfolding meant
   reference_meant at kind target region = refl
 
   -- a reference
-  pub reference_is : (node : TypeText) (at : Pos) (kind : Access) (target : Box TypeText Global) (inner : TypeText) (region : TypeName) (t : Option Meaning) (r : Option Region) →
-      node ≡ Reference at kind target region → inner ≡ target.value → t ≡ meant opened params visible heads (written inner) → r ≡ region_of (sense_of opened params visible heads region.name) →
+  pub reference_is : (node : TypeText) (at : Pos) (kind : Access) (target : Box TypeText Global)
+      (inner : TypeText) (region : TypeName) (t : Option Meaning) (r : Option Region) →
+      node ≡ Reference at kind target region → inner ≡ target.value → t ≡ meant opened params visible heads
+      (written inner) → r ≡ region_of (sense_of opened params visible heads region.name) →
       refers kind t r ≡ meant opened params visible heads (written node)
   reference_is node at kind target inner region t r is inside type_is region_is =
       ap (λ x. refers kind x r) (type_is ∙ ap (λ n. meant opened params visible heads (written n)) inside)

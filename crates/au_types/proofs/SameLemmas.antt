@@ -1,5 +1,6 @@
 -- The test of two types is true exactly for equal ones.
-use Rattle.std.proofs.Common.{◌≡◌, ℕ, suc, Bool, true, false, ◌==◌, List, [], ◌∷◌, length, refl, sym, ap, subst, ◌∙◌, Vec}
+use Rattle.std.proofs.Common.{◌≡◌, ℕ, suc, Bool, true, false, ◌==◌, List, [], ◌∷◌, length, refl, sym, ap}
+use Rattle.std.proofs.Common.{subst, ◌∙◌, Vec}
 use Rattle.std.specs.Bool.{Decides}
 use Rattle.std.proofs.lemmas.Bool.{and_parts, and_from, eqb-true, eq-eqb}
 use Rattle.std.proofs.lemmas.Slice.Eq.{bytes_eq-Decides}
@@ -11,12 +12,14 @@ use Rattle.au_base.specs.contracts.kinds.IntKind.{the_type as kind}
 use Rattle.au_types.specs.declared.types.DeclAt.{DeclAt}
 use Rattle.au_types.specs.declared.types.Arg.{Arg}
 use Rattle.au_types.specs.declared.types.Arg.TheBlock.{shown-the_row-Arg-0, backs-Ty}
-use Rattle.au_types.specs.declared.types.Ty.{Ty, Unit, Bool as Bool', Int, Text, Param, Named as Named-of, Named', Read, Read', Write, Write'}
+use Rattle.au_types.specs.declared.types.Ty.{Ty, Unit, Bool as Bool', Int, Text, Param, Named as Named-of}
+use Rattle.au_types.specs.declared.types.Ty.{Named', Read, Read', Write, Write'}
 use Rattle.au_types.specs.declared.types.Region.{Region}
 use Rattle.au_types.specs.declared.types.Region.TheVariants.{Static, Named, Anonymous}
 use Rattle.au_types.specs.Rows.{same_place}
 use Rattle.au_types.specs.Same.{same_region, same, same_argument, same_all}
-use Rattle.au_types.specs.Types.{Meaning, Argument, Arguments, unit, truth, integer, text, parameter, named, reads, writes, of_type, in_region, no_arguments, arguments}
+use Rattle.au_types.specs.Types.{Meaning, Argument, Arguments, unit, truth, integer, text, parameter, named}
+use Rattle.au_types.specs.Types.{reads, writes, of_type, in_region, no_arguments, arguments}
 use Rattle.au_types.specs.Views.{meaning, argument, argument_all}
 
 -- ---- equal where the test is true
@@ -108,10 +111,13 @@ pub same_lengths : (xs ys : List Arg) → same_all (argument_all xs) (argument_a
 same_lengths [] [] e = refl
 same_lengths [] (y ∷ ys) e = absurd cc
 same_lengths (x ∷ xs) [] e = absurd cc
-same_lengths (x ∷ xs) (y ∷ ys) e = ap suc (same_lengths xs ys (and_parts (same_argument (argument x) (argument y)) (same_all (argument_all xs) (argument_all ys)) e).1)
+same_lengths (x ∷ xs) (y ∷ ys) e =
+    ap suc (same_lengths xs ys (and_parts (same_argument (argument x) (argument y))
+    (same_all (argument_all xs) (argument_all ys)) e).1)
 
 -- so lists of two lengths are not the same
-pub same_unequal : (xs ys : List Arg) → (length xs ≡ length ys → ⊥) → same_all (argument_all xs) (argument_all ys) ≡ false
+pub same_unequal : (xs ys : List Arg) → (length xs ≡ length ys → ⊥) →
+    same_all (argument_all xs) (argument_all ys) ≡ false
 same_unequal xs ys differ = by (same_all (argument_all xs) (argument_all ys)) refl
   where
     by : (b : Bool) → same_all (argument_all xs) (argument_all ys) ≡ b → b ≡ false
@@ -140,22 +146,27 @@ unfolding meaning
 not_text Text differs = absurd (differs refl)
 not_text t differs = refl
 
-pub not_parameter : (name : List ℕ) (t : Ty) → ((x : List ℕ) → t ≡ Param x → ⊥) → same (parameter name) (meaning t) ≡ false
+pub not_parameter : (name : List ℕ) (t : Ty) → ((x : List ℕ) → t ≡ Param x → ⊥) →
+    same (parameter name) (meaning t) ≡ false
 unfolding meaning
 not_parameter name (Param x) differs = absurd (differs x refl)
 not_parameter name t differs = refl
 
-pub not_named : (of : DeclAt) (args : Arguments) (t : Ty) → ((x : DeclAt) (xs : Vec Arg Global) → t ≡ Named-of x xs → ⊥) → same (named of args) (meaning t) ≡ false
+pub not_named : (of : DeclAt) (args : Arguments) (t : Ty) →
+    ((x : DeclAt) (xs : Vec Arg Global) → t ≡ Named-of x xs → ⊥) → same (named of args) (meaning t) ≡ false
 unfolding meaning
-not_named of args (Named' x shape row) differs = absurd (differs x (shown-the_row-Arg-0 shape row) (sym (backs-Ty (Named' x shape row))))
+not_named of args (Named' x shape row) differs =
+    absurd (differs x (shown-the_row-Arg-0 shape row) (sym (backs-Ty (Named' x shape row))))
 not_named of args t differs = refl
 
-pub not_reads : (to : Meaning) (r : Region) (t : Ty) → ((x : Box Ty Global) (s : Region) → t ≡ Read x s → ⊥) → same (reads to r) (meaning t) ≡ false
+pub not_reads : (to : Meaning) (r : Region) (t : Ty) → ((x : Box Ty Global) (s : Region) → t ≡ Read x s → ⊥) →
+    same (reads to r) (meaning t) ≡ false
 unfolding meaning
 not_reads to r (Read' p x s) differs = absurd (differs (record { ptr = p.ptr; alloc = p.alloc; value = x }) s refl)
 not_reads to r t differs = refl
 
-pub not_writes : (to : Meaning) (r : Region) (t : Ty) → ((x : Box Ty Global) (s : Region) → t ≡ Write x s → ⊥) → same (writes to r) (meaning t) ≡ false
+pub not_writes : (to : Meaning) (r : Region) (t : Ty) → ((x : Box Ty Global) (s : Region) → t ≡ Write x s → ⊥)
+    → same (writes to r) (meaning t) ≡ false
 unfolding meaning
 not_writes to r (Write' p x s) differs = absurd (differs (record { ptr = p.ptr; alloc = p.alloc; value = x }) s refl)
 not_writes to r t differs = refl

@@ -8,10 +8,13 @@ use Rattle.std.specs.declared.boxed.Box.{Box}
 use Rattle.au_base.specs.declared.kinds.IntKind.{IntKind}
 use Rattle.au_types.specs.declared.types.DeclAt.{DeclAt}
 use Rattle.au_types.specs.declared.types.Region.{Region}
-use Rattle.au_types.specs.declared.types.Ty.{Ty, Unit, Bool, Int, Text, Param, Named, Read, Write, Row_of-Arg, end_of-Arg, more_of-Arg, items-the_row-Arg, items_hidden-the_row-Arg-0}
+use Rattle.au_types.specs.declared.types.Ty.{Ty, Unit, Bool, Int, Text, Param, Named, Read, Write, Row_of-Arg}
+use Rattle.au_types.specs.declared.types.Ty.{end_of-Arg, more_of-Arg, items-the_row-Arg}
+use Rattle.au_types.specs.declared.types.Ty.{items_hidden-the_row-Arg-0}
 use Rattle.au_types.specs.declared.types.Arg.{Arg, Of, In}
 use Rattle.au_types.specs.declared.types.Arg.TheBlock.{hidden-the_row-Arg-0}
-use Rattle.au_types.specs.Types.{Argument, Arguments, unit, truth, integer, text, parameter, named, reads, writes, of_type, in_region, no_arguments, arguments}
+use Rattle.au_types.specs.Types.{Argument, Arguments, unit, truth, integer, text, parameter, named, reads}
+use Rattle.au_types.specs.Types.{writes, of_type, in_region, no_arguments, arguments}
 use Rattle.au_types.specs.Views.{meaning, argument, row_arguments, argument_all}
 
 pub row_arguments_is : (n : Count) (row : Row_of-Arg n) → row_arguments row ≡ argument_all (items-the_row-Arg n row)
@@ -41,7 +44,8 @@ parameter_means name = refl
 
 pub named_means : (of : DeclAt) (args : Vec Arg Global) → meaning (Named of args) ≡ named of (argument_all args.items)
 unfolding meaning
-named_means of args = ap (named of) (row_arguments_is _ (hidden-the_row-Arg-0 args) ∙ ap argument_all (items_hidden-the_row-Arg-0 args))
+named_means of args = ap (named of)
+    (row_arguments_is _ (hidden-the_row-Arg-0 args) ∙ ap argument_all (items_hidden-the_row-Arg-0 args))
 
 pub reads_means : (to : Box Ty Global) (region : Region) → meaning (Read to region) ≡ reads (meaning to.value) region
 unfolding meaning
@@ -64,12 +68,27 @@ pub snoc_arguments : Arguments → Argument → Arguments
 snoc_arguments no_arguments one = arguments one no_arguments
 snoc_arguments (arguments first rest) one = arguments first (snoc_arguments rest one)
 
-pub arguments_push : (xs : List Arg) (x : Arg) → argument_all (xs ++ x ∷ []) ≡ snoc_arguments (argument_all xs) (argument x)
+pub arguments_push : (xs : List Arg) (x : Arg) → argument_all (xs ++ x ∷ [])
+    ≡ snoc_arguments (argument_all xs) (argument x)
 unfolding snoc_arguments
 arguments_push [] x = refl
 arguments_push (y ∷ ys) x = ap (arguments (argument y)) (arguments_push ys x)
 
-pub arguments_more : (xs : List Arg) (i : ℕ) (d : Arg) → i < length xs → argument_all (take (i + 1) xs) ≡ snoc_arguments (argument_all (take i xs)) (argument (get_or xs i d))
+pub arguments_more : (xs : List Arg) (i : ℕ) (d : Arg) → i < length xs → argument_all (take (i + 1) xs)
+    ≡ snoc_arguments (argument_all (take i xs)) (argument (get_or xs i d))
 arguments_more xs i d h = ap argument_all (take_more xs i d h) ∙ arguments_push (take i xs) (get_or xs i d)
 
-pub ruleset type_steps = (unit_means, truth_means, integer_means, text_means, parameter_means, named_means, reads_means, writes_means, type_argument_means, region_argument_means, arguments_push, arguments_more)
+pub ruleset type_steps = (
+  unit_means,
+  truth_means,
+  integer_means,
+  text_means,
+  parameter_means,
+  named_means,
+  reads_means,
+  writes_means,
+  type_argument_means,
+  region_argument_means,
+  arguments_push,
+  arguments_more,
+)

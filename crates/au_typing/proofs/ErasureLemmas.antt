@@ -2,14 +2,23 @@
 use Rattle.std.proofs.Common.{◌≡◌, List, [], ◌∷◌, map, refl, ap}
 use Rattle.std.specs.Prelude.{Option, Some, None}
 use Rattle.std.specs.Option.{option_map}
-use Rattle.au_syntax.specs.Modules.{Constrained, Header, Importing, Variant, constant, opaque_type, record_type, union_type, function, class, instance, constant_body, function_body, instance_body}
+use Rattle.au_syntax.specs.Modules.{Constrained, Header, Importing, Variant, constant, opaque_type}
+use Rattle.au_syntax.specs.Modules.{record_type, union_type, function, class, instance, constant_body}
+use Rattle.au_syntax.specs.Modules.{function_body, instance_body}
 use Rattle.au_syntax.specs.Names.{Placed, Renaming}
-use Rattle.au_syntax.specs.Plain.{Bytes, plain_arms, plain_bound, plain_branches, plain_constrained, plain_declaration, plain_header, plain_importing, plain_in_universe, plain_labelled, plain_method, plain_module, plain_name, plain_renaming, plain_statement, plain_statements, plain_variant}
-use Rattle.au_syntax.specs.Statements.{destructure, assign, assign_through, conditional, conditional_else, case_of, while_loop, for_loop, borrow_in, borrow_typed, no_statements, statements, no_branches, branches, no_arms, arms}
+use Rattle.au_syntax.specs.Plain.{Bytes, plain_arms, plain_bound, plain_branches, plain_constrained}
+use Rattle.au_syntax.specs.Plain.{plain_declaration, plain_header, plain_importing, plain_in_universe}
+use Rattle.au_syntax.specs.Plain.{plain_labelled, plain_method, plain_module, plain_name, plain_renaming}
+use Rattle.au_syntax.specs.Plain.{plain_statement, plain_statements, plain_variant}
+use Rattle.au_syntax.specs.Statements.{destructure, assign, assign_through, conditional, conditional_else}
+use Rattle.au_syntax.specs.Statements.{case_of, while_loop, for_loop, borrow_in, borrow_typed, no_statements}
+use Rattle.au_syntax.specs.Statements.{statements, no_branches, branches, no_arms, arms}
 use Rattle.au_syntax.specs.Types.{Bound, Labelled}
 use Rattle.au_typing.proofs.Steps.{names_kept}
 use Rattle.au_typing.specs.Notes.{erase}
-use Rattle.au_typing.specs.Trees.{NotedArms, NotedBranches, NotedDeclaration, NotedMethod, NotedModule, NotedStatement, NotedStatements, erase_arms, erase_block, erase_branches, erase_declaration, erase_method, erase_module, erase_statement}
+use Rattle.au_typing.specs.Trees.{NotedArms, NotedBranches, NotedDeclaration, NotedMethod, NotedModule}
+use Rattle.au_typing.specs.Trees.{NotedStatement, NotedStatements, erase_arms, erase_block, erase_branches}
+use Rattle.au_typing.specs.Trees.{erase_declaration, erase_method, erase_module, erase_statement}
 
 -- names stay as they are
 abbrev same_name : Bytes → Bytes

@@ -1,7 +1,10 @@
 -- Whatever is good of a statement or a block is found.
 use Rattle.std.proofs.Common.{◌≡◌, Bool, true, false, ◌&&◌, ◌||◌, ◌∷◌, refl, sym, ap, ◌∙◌}
 use Rattle.std.specs.Prelude.{Some, Ok}
-use Rattle.au_syntax.specs.Statements.{skip, declare, destructure, assign, assign_through, conditional, conditional_else, case_of, while_loop, for_loop, borrow_in, borrow_typed, discard, return_of, no_statements, statements, no_branches, branches, no_arms, arms}
+use Rattle.au_syntax.specs.Statements.{skip, declare, destructure, assign, assign_through, conditional}
+use Rattle.au_syntax.specs.Statements.{conditional_else, case_of, while_loop, for_loop, borrow_in}
+use Rattle.au_syntax.specs.Statements.{borrow_typed, discard, return_of, no_statements, statements}
+use Rattle.au_syntax.specs.Statements.{no_branches, branches, no_arms, arms}
 use Rattle.au_typing.specs.Scopes.{Scope}
 use Rattle.au_types.specs.Types as mean
 use Rattle.au_typing.specs.Notes.{erase, type_of}
@@ -9,10 +12,14 @@ use Rattle.au_typing.specs.DerivationFaults.{◌then◌}
 use Rattle.au_typing.specs.InScope.{after, fixed_variable, with_bound, with_reference, with_variable}
 use Rattle.au_typing.specs.Parts.{borrow_type, heads_of, mode_for}
 use Rattle.au_typing.specs.Returns.{arms_return, block_returns, branches_return, may_follow, returns}
-use Rattle.au_typing.specs.DerivationSearch.{judge_next, note_arms, note_block, note_branches, note_case, note_statement}
+use Rattle.au_typing.specs.DerivationSearch.{judge_next, note_arms, note_block, note_branches, note_case}
+use Rattle.au_typing.specs.DerivationSearch.{note_statement}
 use Rattle.au_typing.specs.Statements.{GoodArmBlocks, GoodBlock, GoodBranches, GoodStatement}
-use Rattle.au_typing.specs.Trees.{NotedArms, NotedBranches, NotedStatement, NotedStatements, erase_arms, erase_block, erase_branches, erase_statement}
-use Rattle.au_typing.proofs.PartLemmas.{assigned_found, borrow_found, bounds_found, case_found, declared_found, discarded_found, lent_found, put_found, taken_found, tests_found, tests_of, wants_found}
+use Rattle.au_typing.specs.Trees.{NotedArms, NotedBranches, NotedStatement, NotedStatements, erase_arms}
+use Rattle.au_typing.specs.Trees.{erase_block, erase_branches, erase_statement}
+use Rattle.au_typing.proofs.PartLemmas.{assigned_found, borrow_found, bounds_found, case_found}
+use Rattle.au_typing.proofs.PartLemmas.{declared_found, discarded_found, lent_found, put_found, taken_found}
+use Rattle.au_typing.proofs.PartLemmas.{tests_found, tests_of, wants_found}
 use Rattle.au_typing.proofs.StepLemmas.{judged_is, placed_from, then_from}
 
 -- ---- what notes don't change

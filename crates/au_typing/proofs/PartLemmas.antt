@@ -14,7 +14,9 @@ use Rattle.au_judged_types.specs.Judging.{refers}
 use Rattle.au_names.specs.declared.targets.Target.{Target}
 use Rattle.au_typing.specs.Scopes.{Case, Scope, Typed, Variable}
 use Rattle.au_typing.specs.Bare.{is_bare}
-use Rattle.au_typing.specs.Faults.{◌>>=◌, check, known_or, unknown, different, not_free, shape, record_wanted, union_wanted, write_reference_wanted, integer_wanted, assignable_wanted, labels_wanted, arms_wanted}
+use Rattle.au_typing.specs.Faults.{◌>>=◌, check, known_or, unknown, different, not_free, shape, record_wanted}
+use Rattle.au_typing.specs.Faults.{union_wanted, write_reference_wanted, integer_wanted, assignable_wanted}
+use Rattle.au_typing.specs.Faults.{labels_wanted, arms_wanted}
 use Rattle.au_typing.specs.Lookups.{IsPart, is_free_in, part_type, record_part, type_of_name, value_type, written_type}
 use Rattle.au_typing.specs.Notes.{Mode, NotedExpression, erase, type_of}
 use Rattle.au_typing.specs.Operands.{of_one_type, paired}
@@ -24,8 +26,15 @@ use Rattle.au_typing.proofs.Steps.{known_found}
 use Rattle.au_typing.proofs.Found.{bare_kept, found}
 use Rattle.au_typing.proofs.FoundParts.{paired_found, part_found}
 use Rattle.au_typing.specs.Parts.{ArmHead, arms_fit, binds_each, borrow_type, case_meant, is_borrowed_within, lent}
-use Rattle.au_typing.specs.DerivationSearch.{free_place, is_of_borrow, judge_all_bound, judge_arm, judge_arms, judge_assigned, judge_binds, judge_borrow, judge_bound, judge_heads, judge_lent, judge_names, judge_put, judge_reference, judge_union, not_assignable, not_writing, note_assigned, note_bounds, note_case, note_declared, note_discarded, note_put, note_taken, note_tests, place_type, written_through}
-use Rattle.au_typing.specs.Statements.{AreBound, GoodArm, GoodArms, GoodAssigned, GoodBorrow, GoodBounds, GoodBranches, GoodCase, GoodDeclared, GoodPut, GoodTaken, IsBound, IsLent, IsReference, Wants}
+use Rattle.au_typing.specs.DerivationSearch.{free_place, is_of_borrow, judge_all_bound, judge_arm, judge_arms}
+use Rattle.au_typing.specs.DerivationSearch.{judge_assigned, judge_binds, judge_borrow, judge_bound}
+use Rattle.au_typing.specs.DerivationSearch.{judge_heads, judge_lent, judge_names, judge_put, judge_reference}
+use Rattle.au_typing.specs.DerivationSearch.{judge_union, not_assignable, not_writing, note_assigned}
+use Rattle.au_typing.specs.DerivationSearch.{note_bounds, note_case, note_declared, note_discarded, note_put}
+use Rattle.au_typing.specs.DerivationSearch.{note_taken, note_tests, place_type, written_through}
+use Rattle.au_typing.specs.Statements.{AreBound, GoodArm, GoodArms, GoodAssigned, GoodBorrow, GoodBounds}
+use Rattle.au_typing.specs.Statements.{GoodBranches, GoodCase, GoodDeclared, GoodPut, GoodTaken, IsBound}
+use Rattle.au_typing.specs.Statements.{IsLent, IsReference, Wants}
 use Rattle.au_typing.specs.Trees.{NotedBranches, erase_branches}
 use Rattle.au_typing.proofs.StepLemmas.{bind_from, check_from}
 

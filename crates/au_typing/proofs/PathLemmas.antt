@@ -1,6 +1,8 @@
 -- A statement returns on every path exactly where no path goes on behind it.
 use Rattle.std.proofs.Common.{◌≡◌, Bool, true, false, ◌&&◌, ◌||◌, ◌⊎◌, inl, inr, refl}
-use Rattle.au_syntax.specs.Statements.{Statement, Statements, Branches, Arms, conditional_else, case_of, borrow_in, borrow_typed, return_of, no_statements, statements, no_branches, branches, no_arms, arms}
+use Rattle.au_syntax.specs.Statements.{Statement, Statements, Branches, Arms, conditional_else, case_of}
+use Rattle.au_syntax.specs.Statements.{borrow_in, borrow_typed, return_of, no_statements, statements}
+use Rattle.au_syntax.specs.Statements.{no_branches, branches, no_arms, arms}
 use Rattle.au_typing.specs.Paths.{GoesOn, ReachesEnd, SomeArmEnds, SomeBranchEnds}
 use Rattle.au_typing.specs.Returns.{arms_return, block_returns, branches_return, returns}
 

@@ -6,7 +6,8 @@ use Rattle.au_base.specs.declared.places.Pos.{Pos}
 use Rattle.au_syntax.specs.declared.modules.Part.{Part}
 use Rattle.au_syntax.specs.declared.modules.Part.TheVariants.{Interface, Body}
 use Rattle.au_syntax.specs.Expressions.{number}
-use Rattle.au_syntax.specs.Modules.{Constrained, Header, constant, opaque_type, record_type, union_type, function, class, instance, constant_body, function_body, instance_body}
+use Rattle.au_syntax.specs.Modules.{Constrained, Header, constant, opaque_type, record_type, union_type}
+use Rattle.au_syntax.specs.Modules.{function, class, instance, constant_body, function_body, instance_body}
 use Rattle.au_syntax.specs.Plain.{Bytes, PlainDeclaration, PlainExpression, PlainMethod, PlainStatements}
 use Rattle.au_syntax.specs.Types.{WrittenType}
 use Rattle.au_modules.specs.Programs.{Entry, ModuleParts}
@@ -20,16 +21,21 @@ use Rattle.au_typing.specs.Bodies.{GoodBody, GoodConstant, GoodMethods, body_sco
 use Rattle.au_typing.specs.Derivations.{Derives, GoodDeclaration, GoodDeclarations, GoodModules, GoodPart}
 use Rattle.au_typing.specs.DerivationFaults.{Judged, StatementFault, ◌then◌, placed}
 use Rattle.au_typing.specs.Parts.{is_literal}
-use Rattle.au_typing.specs.ProgramSearch.{judge_end, note_body, note_constant, note_declaration, note_declarations, note_methods, note_module, note_modules, note_part, note_program, noted_entry}
+use Rattle.au_typing.specs.ProgramSearch.{judge_end, note_body, note_constant, note_declaration}
+use Rattle.au_typing.specs.ProgramSearch.{note_declarations, note_methods, note_module, note_modules}
+use Rattle.au_typing.specs.ProgramSearch.{note_part, note_program, noted_entry}
 use Rattle.au_typing.specs.Returns.{block_returns}
 use Rattle.au_typing.specs.DerivationSearch.{note_block}
 use Rattle.au_typing.specs.Statements.{GoodBlock}
-use Rattle.au_typing.specs.Trees.{NotedDeclaration, NotedEntry, NotedMethod, NotedParts, NotedStatements, erase_block, erase_declaration, erase_entry, erase_method, erase_parts, erase_program}
+use Rattle.au_typing.specs.Trees.{NotedDeclaration, NotedEntry, NotedMethod, NotedParts, NotedStatements}
+use Rattle.au_typing.specs.Trees.{erase_block, erase_declaration, erase_entry, erase_method, erase_parts}
+use Rattle.au_typing.specs.Trees.{erase_program}
 use Rattle.au_typing.proofs.FoundLemmas.{block_found, block_returns_erased, two_blocks}
 use Rattle.au_typing.proofs.PartLemmas.{wants_found}
 use Rattle.au_typing.proofs.SoundPartLemmas.{wants_sound}
 use Rattle.au_typing.proofs.SoundLemmas.{block_sound}
-use Rattle.au_typing.proofs.StepLemmas.{bind_from, check_from, judged_is, placed_from, placed_gave, then_from, then_gave}
+use Rattle.au_typing.proofs.StepLemmas.{bind_from, check_from, judged_is, placed_from, placed_gave, then_from}
+use Rattle.au_typing.proofs.StepLemmas.{then_gave}
 
 -- without its notes an expression is a literal as with them
 literal_erased : (e : NotedExpression) → is_literal (erase e) ≡ is_literal e

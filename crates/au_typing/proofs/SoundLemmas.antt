@@ -2,7 +2,10 @@
 use Rattle.std.proofs.Common.{◌≡◌, Bool, true, false, List, [], ◌∷◌, refl, sym, ap, subst, ◌∙◌}
 use Rattle.std.specs.Prelude.{Some, Ok}
 use Rattle.au_syntax.specs.Plain.{PlainArms, PlainBranches, PlainStatement, PlainStatements}
-use Rattle.au_syntax.specs.Statements.{skip, declare, destructure, assign, assign_through, conditional, conditional_else, case_of, while_loop, for_loop, borrow_in, borrow_typed, discard, return_of, no_statements, statements, no_branches, branches, no_arms, arms}
+use Rattle.au_syntax.specs.Statements.{skip, declare, destructure, assign, assign_through, conditional}
+use Rattle.au_syntax.specs.Statements.{conditional_else, case_of, while_loop, for_loop, borrow_in}
+use Rattle.au_syntax.specs.Statements.{borrow_typed, discard, return_of, no_statements, statements}
+use Rattle.au_syntax.specs.Statements.{no_branches, branches, no_arms, arms}
 use Rattle.au_typing.specs.Scopes.{Scope}
 use Rattle.au_types.specs.Types as mean
 use Rattle.au_types.specs.Types.{Meaning}
@@ -14,11 +17,17 @@ use Rattle.au_typing.specs.DerivationFaults.{◌then◌, placed}
 use Rattle.au_typing.specs.InScope.{after, fixed_variable, with_bound, with_reference, with_variable}
 use Rattle.au_typing.specs.Parts.{borrow_type, heads_of, mode_for}
 use Rattle.au_typing.specs.Returns.{may_follow, returns}
-use Rattle.au_typing.specs.DerivationSearch.{judge_borrow, judge_lent, judge_next, note_arms, note_assigned, note_block, note_bounds, note_branches, note_case, note_declared, note_discarded, note_put, note_statement, note_taken, note_test, note_tests}
+use Rattle.au_typing.specs.DerivationSearch.{judge_borrow, judge_lent, judge_next, note_arms, note_assigned}
+use Rattle.au_typing.specs.DerivationSearch.{note_block, note_bounds, note_branches, note_case, note_declared}
+use Rattle.au_typing.specs.DerivationSearch.{note_discarded, note_put, note_statement, note_taken, note_test}
+use Rattle.au_typing.specs.DerivationSearch.{note_tests}
 use Rattle.au_typing.specs.Statements.{GoodArmBlocks, GoodBlock, GoodBranches, GoodCase, GoodStatement, Wants}
-use Rattle.au_typing.specs.Trees.{NotedArms, NotedBranches, NotedStatement, NotedStatements, erase_arms, erase_block, erase_branches, erase_statement}
+use Rattle.au_typing.specs.Trees.{NotedArms, NotedBranches, NotedStatement, NotedStatements, erase_arms}
+use Rattle.au_typing.specs.Trees.{erase_block, erase_branches, erase_statement}
 use Rattle.au_typing.proofs.FoundLemmas.{after_erased, heads_erased, returns_erased}
-use Rattle.au_typing.proofs.SoundPartLemmas.{assigned_sound, borrow_sound, bounds_sound, case_sound, declared_sound, discarded_sound, lent_sound, put_sound, taken_sound, wants_sound}
+use Rattle.au_typing.proofs.SoundPartLemmas.{assigned_sound, borrow_sound, bounds_sound, case_sound}
+use Rattle.au_typing.proofs.SoundPartLemmas.{declared_sound, discarded_sound, lent_sound, put_sound}
+use Rattle.au_typing.proofs.SoundPartLemmas.{taken_sound, wants_sound}
 use Rattle.au_typing.proofs.StepLemmas.{judged_is, placed_gave, then_gave}
 
 -- a statement with these notes is good and without them this one, and the same of blocks and of arms

@@ -13,9 +13,12 @@ use Rattle.au_types.specs.Types.{Meaning}
 use Rattle.au_judged_types.specs.Judging.{refers}
 use Rattle.au_typing.specs.Scopes.{Case, Scope, Typed, Variable}
 use Rattle.au_typing.specs.Bare.{is_bare}
-use Rattle.au_typing.specs.Faults.{Noting, ◌>>=◌, check, known_or, why, unknown, different, not_free, shape, record_wanted, union_wanted, reference_wanted, write_reference_wanted, integer_wanted, assignable_wanted, labels_wanted, arms_wanted}
+use Rattle.au_typing.specs.Faults.{Noting, ◌>>=◌, check, known_or, why, unknown, different, not_free, shape}
+use Rattle.au_typing.specs.Faults.{record_wanted, union_wanted, reference_wanted, write_reference_wanted}
+use Rattle.au_typing.specs.Faults.{integer_wanted, assignable_wanted, labels_wanted, arms_wanted}
 use Rattle.au_typing.specs.Good.{PairedModes}
-use Rattle.au_typing.specs.Lookups.{IsPart, field_type, is_free_in, is_record, part_type, record_part, type_of_name, value_type, variable_of, written_type}
+use Rattle.au_typing.specs.Lookups.{IsPart, field_type, is_free_in, is_record, part_type, record_part}
+use Rattle.au_typing.specs.Lookups.{type_of_name, value_type, variable_of, written_type}
 use Rattle.au_typing.specs.Notes.{Mode, NotedExpression, erase, note_of, type_of}
 use Rattle.au_typing.specs.Operands.{of_one_type, paired}
 use Rattle.au_typing.specs.Rules.{is_integer}
@@ -25,8 +28,15 @@ use Rattle.au_typing.proofs.Found.{bare_kept}
 use Rattle.au_typing.proofs.Sound.{sound}
 use Rattle.au_typing.proofs.SoundParts.{paired_sound}
 use Rattle.au_typing.specs.Parts.{ArmHead, arms_fit, binds_each, borrow_type, case_of_arm, is_borrowed_within, lent}
-use Rattle.au_typing.specs.DerivationSearch.{free_place, is_of_borrow, judge_all_bound, judge_arm, judge_arms, judge_assigned, judge_binds, judge_borrow, judge_bound, judge_heads, judge_lent, judge_names, judge_put, judge_reference, judge_union, not_assignable, not_writing, note_assigned, note_bounds, note_case, note_declared, note_discarded, note_put, note_taken, place_type, written_through}
-use Rattle.au_typing.specs.Statements.{AreBound, GoodArm, GoodArms, GoodAssigned, GoodBorrow, GoodBounds, GoodCase, GoodDeclared, GoodPut, GoodTaken, IsBound, IsLent, IsReference, Wants}
+use Rattle.au_typing.specs.DerivationSearch.{free_place, is_of_borrow, judge_all_bound, judge_arm, judge_arms}
+use Rattle.au_typing.specs.DerivationSearch.{judge_assigned, judge_binds, judge_borrow, judge_bound}
+use Rattle.au_typing.specs.DerivationSearch.{judge_heads, judge_lent, judge_names, judge_put, judge_reference}
+use Rattle.au_typing.specs.DerivationSearch.{judge_union, not_assignable, not_writing, note_assigned}
+use Rattle.au_typing.specs.DerivationSearch.{note_bounds, note_case, note_declared, note_discarded, note_put}
+use Rattle.au_typing.specs.DerivationSearch.{note_taken, place_type, written_through}
+use Rattle.au_typing.specs.Statements.{AreBound, GoodArm, GoodArms, GoodAssigned, GoodBorrow, GoodBounds}
+use Rattle.au_typing.specs.Statements.{GoodCase, GoodDeclared, GoodPut, GoodTaken, IsBound, IsLent}
+use Rattle.au_typing.specs.Statements.{IsReference, Wants}
 
 -- ---- parts of records
 

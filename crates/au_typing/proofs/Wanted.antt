@@ -1,6 +1,8 @@
 -- Where a type is wanted of a good expression, its type is that.
 use Rattle.std.proofs.Common.{◌≡◌, Bool, true, false, List, [], ◌∷◌, refl, sym, ap, subst, ◌∙◌, Option, Some, None}
-use Rattle.au_syntax.specs.Expressions.{number, negative, text, truth, nil, path, arrow, call, named_call, parenthesized, dereference, borrow, borrow_part, binary, negation, typed, choice}
+use Rattle.au_syntax.specs.Expressions.{number, negative, text, truth, nil, path, arrow, call, named_call}
+use Rattle.au_syntax.specs.Expressions.{parenthesized, dereference, borrow, borrow_part, binary, negation}
+use Rattle.au_syntax.specs.Expressions.{typed, choice}
 use Rattle.au_syntax.specs.Plain.{Bytes}
 use Rattle.au_types.specs.Same.{same}
 use Rattle.au_types.specs.Types as mean
@@ -44,7 +46,8 @@ pub second_extends : (x : Bool) (p : Meaning) (a : Note) (s r : Bindings) → Se
 second_extends true p a s r h = taken_bare_extends (fixed s p) p a s r h
 second_extends false p a s r h = subst (Extends s) (sym h) (extends_self s)
 
-module _ (step : Bool → Meaning → Note → Bindings → Bindings → Type 0) (extends : (x : Bool) (p : Meaning) (a : Note) (s r : Bindings) → step x p a s r → Extends s r) where
+module _ (step : Bool → Meaning → Note → Bindings → Bindings → Type 0)
+    (extends : (x : Bool) (p : Meaning) (a : Note) (s r : Bindings) → step x p a s r → Extends s r) where
   pub pass_extends : (ps : List Meaning) (args : List Shown) (s r : Bindings) → Passes step ps args s r → Extends s r
   pass_extends [] [] s r h = subst (Extends s) (sym h) (extends_self s)
   pass_extends (p ∷ ps) (a ∷ args) s r h =
@@ -54,18 +57,21 @@ module _ (step : Bool → Meaning → Note → Bindings → Bindings → Type 0)
 
 -- ---- calls
 
-result_meets : (mode : Mode) (result of : Meaning) (begins ends : Bindings) → begun mode result ≡ Some begins → Extends begins ends → of ≡ substituted ends result → meets mode of ≡ true
+result_meets : (mode : Mode) (result of : Meaning) (begins ends : Bindings) →
+    begun mode result ≡ Some begins → Extends begins ends → of ≡ substituted ends result → meets mode of ≡ true
 result_meets None result of begins ends h more is = refl
 result_meets (Some wanted) result of begins ends h more is =
     let makes = matched_makes result wanted [] begins h in
     let had : wanted ≡ of = sym makes.equal ∙ (fixed_stays begins ends more result makes.fixes ∙ sym is) in
     subst (λ (t : Meaning). same wanted t ≡ true) had (same_self wanted)
 
-call_meets : (scope : Scope) (n : Note) (name : Bytes) (takes : List Typed → Option (List Meaning)) (args : List Shown) → GoodCall scope n name takes args → meets n.mode n.of ≡ true
+call_meets : (scope : Scope) (n : Note) (name : Bytes) (takes : List Typed → Option (List Meaning))
+    (args : List Shown) → GoodCall scope n name takes args → meets n.mode n.of ≡ true
 call_meets scope n name takes args g =
     let first = pass_extends FirstStep first_extends g.types args g.begins g.goes_on g.not_bare in
     let second = pass_extends SecondStep second_extends g.types args g.goes_on g.ends g.bare in
-    result_meets n.mode g.called.result n.of g.begins g.ends g.from_result (extends_on g.begins g.goes_on g.ends first second) (ap (λ (m : Note). m.of) g.is_noted)
+    result_meets n.mode g.called.result n.of g.begins g.ends g.from_result
+    (extends_on g.begins g.goes_on g.ends first second) (ap (λ (m : Note). m.of) g.is_noted)
 
 -- ---- every kind
 

@@ -26,7 +26,8 @@ use Rattle.au_modules.specs.Programs.{ModuleParts}
 use Rattle.au_names.specs.declared.part_names.PartNames.{PartNames}
 use Rattle.au_unbuilt.specs.First.{first_from}
 use Rattle.au_unbuilt.specs.Places.{in_declaration}
-use Rattle.au_unbuilt.specs.Said.{block_told, cases_told, declaration_told, expression_told, fields_told, header_told, headers_told, methods_told, type_told}
+use Rattle.au_unbuilt.specs.Said.{block_told, cases_told, declaration_told, expression_told, fields_told}
+use Rattle.au_unbuilt.specs.Said.{header_told, headers_told, methods_told, type_told}
 use Rattle.au_unbuilt.specs.Unbuilt.{declaration_places}
 use Rattle.au_unbuilt.proofs.FirstLemmas.{first_more}
 

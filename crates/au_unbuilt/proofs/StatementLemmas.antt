@@ -27,7 +27,8 @@ use Rattle.au_names.specs.declared.part_names.PartNames.{PartNames}
 use Rattle.au_unbuilt.specs.First.{first_from, sooner}
 use Rattle.au_unbuilt.specs.Names.{unbuilt_call, unbuilt_type}
 use Rattle.au_unbuilt.specs.Places.{in_arms, in_block, in_branches, in_statement}
-use Rattle.au_unbuilt.specs.Said.{arms_told, binds_told, block_told, branches_told, expression_told, statement_told, statements_told, type_told}
+use Rattle.au_unbuilt.specs.Said.{arms_told, binds_told, block_told, branches_told, expression_told}
+use Rattle.au_unbuilt.specs.Said.{statement_told, statements_told, type_told}
 use Rattle.au_unbuilt.proofs.FirstLemmas.{first_more, first_next}
 
 abbrev TheIdent : Type 0

@@ -1,5 +1,6 @@
 -- The names in words are the names of the language.
-use Rattle.std.proofs.Common.{◌≡◌, ◌↔◌, ℕ, Bool, true, false, cond, not, ◌||◌, List, [], ◌∷◌, Option, Some, is_some, IsTrue, ap, ◌∙◌, sym, refl}
+use Rattle.std.proofs.Common.{◌≡◌, ◌↔◌, ℕ, Bool, true, false, cond, not, ◌||◌, List, [], ◌∷◌, Option, Some}
+use Rattle.std.proofs.Common.{is_some, IsTrue, ap, ◌∙◌, sym, refl}
 use Rattle.std.specs.Str.{bytes_eq}
 use Rattle.std.proofs.lemmas.Bool.{and_parts, and_from}
 use Rattle.au_base.specs.declared.tokens.Keyword.{Keyword}
@@ -12,11 +13,13 @@ use Rattle.au_lexer.proofs.WordLemmas.{keyword_none, keyword_again}
 use Rattle.au_words.specs.Jobs.{is_spelled_as_name, is_spelled_among, is_keyword, is_name}
 use Rattle.au_words.proofs.NameLemmas.{not_true}
 
-first_or : (b : Bool) (keyword : Keyword) (other : Option Keyword) → (b || is_some other) ≡ is_some (cond b (Some keyword) other)
+first_or : (b : Bool) (keyword : Keyword) (other : Option Keyword) → (b || is_some other)
+    ≡ is_some (cond b (Some keyword) other)
 first_or true keyword other = refl
 first_or false keyword other = refl
 
-among_first : (table : List Keyword) (bytes : List ℕ) → is_spelled_among table bytes ≡ is_some (first_spelled table bytes)
+among_first : (table : List Keyword) (bytes : List ℕ) → is_spelled_among table bytes
+    ≡ is_some (first_spelled table bytes)
 among_first [] bytes = refl
 among_first (keyword ∷ table) bytes =
     ap (λ b. bytes_eq (keyword_spelling keyword) bytes || b) (among_first table bytes)
@@ -43,7 +46,8 @@ names_are_tokens bytes = (named, again)
           word_is bytes parts.0,
           λ keyword e.
               let none : is_keyword bytes ≡ false = not_true (is_keyword bytes) parts.1 in
-              let some : is_keyword bytes ≡ true = keyword_is bytes ∙ ap (λ l. is_some (keyword_of l)) (sym e) ∙ ap is_some (keyword_again keyword) in
+              let some : is_keyword bytes ≡ true = keyword_is bytes ∙ ap (λ l. is_some (keyword_of l)) (sym e)
+              ∙ ap is_some (keyword_again keyword) in
               cc,
         )
 

@@ -1,5 +1,6 @@
 -- How a word looks to the library: the mark, a long option, short flags, or none of these.
-use Rattle.std.proofs.Common.{◌≡◌, ◌≢◌, ◌⊎◌, ℕ, ◌==◌, true, false, List, [], ◌∷◌, length, Some, None, ap, ◌∙◌, sym, refl, inl, inr, eqb-true, eq-eqb, lt-ltb, arith}
+use Rattle.std.proofs.Common.{◌≡◌, ◌≢◌, ◌⊎◌, ℕ, ◌==◌, true, false, List, [], ◌∷◌, length, Some, None, ap, ◌∙◌}
+use Rattle.std.proofs.Common.{sym, refl, inl, inr, eqb-true, eq-eqb, lt-ltb, arith}
 use Rattle.std.specs.Prelude.{slice_get, encode_utf8_all}
 use Rattle.std.specs.Str.{IsUtf8, all_scalars, bytes_eq, chars, is_utf8}
 use Rattle.std.proofs.lemmas.Bool.{and_parts, cases_Bool}
@@ -22,7 +23,8 @@ IsShort word = (first : ℕ) × (rest : List ℕ) × (word ≡ 45 ∷ first ∷ 
 
 -- The word is no option.
 abbrev pub IsPlainWord : List ℕ → Type 0
-IsPlainWord word = (is_marked word ≡ false) × (long_of word ≡ None) × (short_of word ≡ None) × (bytes_eq word mark_word ≡ false)
+IsPlainWord word = (is_marked word ≡ false) × (long_of word ≡ None) × (short_of word ≡ None)
+    × (bytes_eq word mark_word ≡ false)
 
 flip : (a b : ℕ) → (a == b) ≡ false → (b == a) ≡ false
 flip a b h = elim (cases_Bool (b == a)) [
@@ -42,11 +44,13 @@ looks (byte ∷ bytes) = elim (cases_Bool (byte == 45)) [
   | inr h ↦ inr (inr (inr (rw (flip byte 45 h) refl, rw h refl, rw h refl, rw h refl)))
 ]
   where
-    twice : (rest : List ℕ) (byte next : ℕ) → byte ≡ 45 → next ≡ 45 → (byte ∷ next ∷ rest ≡ mark_word) ⊎ (IsLong (byte ∷ next ∷ rest) ⊎ (IsShort (byte ∷ next ∷ rest) ⊎ IsPlainWord (byte ∷ next ∷ rest)))
+    twice : (rest : List ℕ) (byte next : ℕ) → byte ≡ 45 → next ≡ 45 → (byte ∷ next ∷ rest ≡ mark_word)
+        ⊎ (IsLong (byte ∷ next ∷ rest) ⊎ (IsShort (byte ∷ next ∷ rest) ⊎ IsPlainWord (byte ∷ next ∷ rest)))
     twice [] byte next h k = inl (let e = h in let f = k in cc)
     twice (first ∷ rest) byte next h k = inr (inl (first, rest, (let e = h in let f = k in cc)))
 
-    dashed : (bytes : List ℕ) (byte : ℕ) → byte ≡ 45 → (byte ∷ bytes ≡ mark_word) ⊎ (IsLong (byte ∷ bytes) ⊎ (IsShort (byte ∷ bytes) ⊎ IsPlainWord (byte ∷ bytes)))
+    dashed : (bytes : List ℕ) (byte : ℕ) → byte ≡ 45 → (byte ∷ bytes ≡ mark_word)
+        ⊎ (IsLong (byte ∷ bytes) ⊎ (IsShort (byte ∷ bytes) ⊎ IsPlainWord (byte ∷ bytes)))
     dashed [] byte h = inr (inr (inr (rw h (refl, refl, refl, refl))))
     dashed (next ∷ rest) byte h = elim (cases_Bool (next == 45)) [
       | inl k ↦ twice rest byte next h (eqb-true next 45 k)
@@ -75,15 +79,21 @@ unmarked_plain word h = elim (looks word) [
 -- text has a character
 pub some_char : (text : List ℕ) → IsUtf8 text → text ≢ [] → (first : ℕ) × (slice_get (chars text) 0 ≡ Some first)
 unfolding is_utf8
-some_char text utf8 some = so (chars text) (bytes_eq-Decides (encode_utf8_all (chars text)) text) (is_text (is_utf8-from_IsUtf8 text utf8))
+some_char text utf8 some = so (chars text) (bytes_eq-Decides (encode_utf8_all (chars text)) text)
+    (is_text (is_utf8-from_IsUtf8 text utf8))
   where
     is_text : is_utf8 text ≡ true → bytes_eq (encode_utf8_all (chars text)) text ≡ true
     is_text h = (and_parts (all_scalars (chars text)) (bytes_eq (encode_utf8_all (chars text)) text) h).1
 
-    so : (cs : List ℕ) → ((bytes_eq (encode_utf8_all cs) text ≡ true → encode_utf8_all cs ≡ text) × (encode_utf8_all cs ≡ text → bytes_eq (encode_utf8_all cs) text ≡ true)) → bytes_eq (encode_utf8_all cs) text ≡ true → (first : ℕ) × (slice_get cs 0 ≡ Some first)
+    so : (cs : List ℕ) → ((bytes_eq (encode_utf8_all cs) text ≡ true → encode_utf8_all cs ≡ text)
+        × (encode_utf8_all cs ≡ text → bytes_eq (encode_utf8_all cs) text ≡ true)) →
+        bytes_eq (encode_utf8_all cs) text ≡ true → (first : ℕ) × (slice_get cs 0 ≡ Some first)
     so [] decides h = absurd (some (sym (decides.0 h)))
     so (c ∷ cs) decides h = (c, refl)
 
 -- the flags of a word have a character
-pub some_flag : (first : ℕ) (rest : List ℕ) → IsUtf8 (45 ∷ first ∷ rest) → (one : ℕ) × (slice_get (chars (first ∷ rest)) 0 ≡ Some one)
-some_flag first rest utf8 = some_char (first ∷ rest) (IsUtf8-drop (45 ∷ first ∷ rest) 1 utf8 (IsCharBoundary-after_ascii (45 ∷ first ∷ rest) 0 utf8 (omega arith) (omega arith))) (λ e. let h = e in cc)
+pub some_flag : (first : ℕ) (rest : List ℕ) → IsUtf8 (45 ∷ first ∷ rest) → (one : ℕ)
+    × (slice_get (chars (first ∷ rest)) 0 ≡ Some one)
+some_flag first rest utf8 = some_char (first ∷ rest)
+    (IsUtf8-drop (45 ∷ first ∷ rest) 1 utf8
+    (IsCharBoundary-after_ascii (45 ∷ first ∷ rest) 0 utf8 (omega arith) (omega arith))) (λ e. let h = e in cc)

@@ -1,5 +1,8 @@
 -- What words give and what they say: a value that is read is a piece, and a piece is spelled by a value.
-use Rattle.std.proofs.Common.{◌≡◌, ◌≢◌, ◌∙◌, ℕ, ◌<◌, ◌^◌, Bool, true, false, not, ◌&&◌, List, [], ◌∷◌, ◌++◌, Option, None, Some, is_some, unwrap_or, option_to_list, map, flat_map, get_or, nat_eq, nat_lt, length, codes, decimal, ap, arith, eqb-true, inl, inr, refl, subst, sym}
+use Rattle.std.proofs.Common.{◌≡◌, ◌≢◌, ◌∙◌, ℕ, ◌<◌, ◌^◌, Bool, true, false, not, ◌&&◌, List, [], ◌∷◌, ◌++◌}
+use Rattle.std.proofs.Common.{Option, None, Some, is_some, unwrap_or, option_to_list, map, flat_map, get_or}
+use Rattle.std.proofs.Common.{nat_eq, nat_lt, length, codes, decimal, ap, arith, eqb-true, inl, inr, refl}
+use Rattle.std.proofs.Common.{subst, sym}
 use Rattle.std.specs.List.{list_all}
 use Rattle.std.specs.Option.{option_and_then, option_map}
 use Rattle.std.proofs.lemmas.Bool.{and_parts, and_from, cases_Bool}
@@ -8,7 +11,9 @@ use Rattle.au_lexer.specs.Bytes.{is_letter, is_name_byte}
 use Rattle.au_words.specs.Given as given
 use Rattle.au_words.specs.Given.{Use, Given, AreGiven, Offers, WritesAll}
 use Rattle.au_words.specs.Jobs as asked
-use Rattle.au_words.specs.Jobs.{Piece, Said, AreSaid, IsPart, IsEntry, AreSteps, Gives, SpellsAll, entry_spelling, is_dashed, is_keyword, is_marked, is_name, is_spelled_as_name, joined}
+use Rattle.au_words.specs.Jobs.{Piece, Said, AreSaid, IsPart, IsEntry, AreSteps, Gives, SpellsAll}
+use Rattle.au_words.specs.Jobs.{entry_spelling, is_dashed, is_keyword, is_marked, is_name, is_spelled_as_name}
+use Rattle.au_words.specs.Jobs.{joined}
 use Rattle.au_words.specs.Reading.{part_at, entry_at, steps_at, files_at, optional, said_at}
 use Rattle.au_words.specs.declared.jobs.Command.{Command}
 use Rattle.au_base.specs.declared.names.Entry.{Entry}
@@ -22,7 +27,8 @@ use Rattle.au_words.proofs.ValueLemmas.{all_said, given_of, said_parts}
 letter_plain : (byte : ℕ) (bytes : List ℕ) → is_letter byte ≡ true → is_dashed (byte ∷ bytes) ≡ false
 letter_plain byte bytes letter =
     elim (cases_Bool (nat_eq 45 byte)) [
-      | inl is ↦ absurd (let e : 45 ≡ byte = eqb-true 45 byte is in let no : is_letter 45 ≡ true = ap is_letter e ∙ letter in cc)
+      | inl is ↦ absurd (let e : 45 ≡ byte = eqb-true 45 byte is in let no : is_letter 45 ≡ true =
+          ap is_letter e ∙ letter in cc)
       | inr not_one ↦ ap (λ b. b && true) not_one
     ]
 
@@ -34,7 +40,8 @@ digit_plain (byte ∷ bytes) h =
       | inr not_one ↦ ap (λ b. b && true) not_one
     ]
 
-names_plain : (names : List (List ℕ)) (behind : List ℕ) → names ≢ [] → list_all is_name names ≡ true → is_dashed (joined 46 names ++ behind) ≡ false
+names_plain : (names : List (List ℕ)) (behind : List ℕ) → names ≢ [] → list_all is_name names ≡ true →
+    is_dashed (joined 46 names ++ behind) ≡ false
 names_plain [] behind some h = absurd (some refl)
 names_plain ([] ∷ names) behind some h = absurd (let e = h in cc)
 names_plain ((byte ∷ bytes) ∷ names) behind some h =
@@ -53,7 +60,8 @@ steps_plain steps are =
     digit_plain (decimal steps) (first_decimal steps (omega (arith, are.0)) small)
 
 -- an option and a value that doesn't begin with `-`
-offered : (option value other : List ℕ) (words : List (List ℕ)) → other ≡ value → is_dashed other ≡ false → Offers option value words → Gives option other words
+offered : (option value other : List ℕ) (words : List (List ℕ)) → other ≡ value → is_dashed other ≡ false →
+    Offers option value words → Gives option other words
 offered option value other words same plain (inl e) = inl (e ∙ ap (λ v. (option ++ 61 ∷ v) ∷ []) (sym same))
 offered option value other words same plain (inr w) = inr (w.0 ∙ ap (λ v. option ∷ v ∷ []) (sym same), plain)
 
@@ -67,11 +75,13 @@ some_is : {X : Type 0} (o : Option X) (d : X) → is_some o ≡ true → o ≡ S
 some_is None d h = cc
 some_is (Some x) d h = refl
 
-and_then_some : {A B : Type 0} (f : A → Option B) (o : Option A) (b : B) → option_and_then f o ≡ Some b → (a : A) × (o ≡ Some a) × (f a ≡ Some b)
+and_then_some : {A B : Type 0} (f : A → Option B) (o : Option A) (b : B) → option_and_then f o ≡ Some b →
+    (a : A) × (o ≡ Some a) × (f a ≡ Some b)
 and_then_some f None b h = cc
 and_then_some f (Some a) b h = (a, refl, h)
 
-map_some : {A B : Type 0} (f : A → B) (o : Option A) (b : B) → option_map f o ≡ Some b → (a : A) × (o ≡ Some a) × (f a ≡ b)
+map_some : {A B : Type 0} (f : A → B) (o : Option A) (b : B) → option_map f o ≡ Some b → (a : A)
+    × (o ≡ Some a) × (f a ≡ b)
 map_some f None b h = cc
 map_some f (Some a) b h = (a, refl, (let e = h in cc))
 
@@ -115,40 +125,73 @@ is_read given.mark = true
 is_part : (word : List ℕ) → is_some (part_at word) ≡ true → IsPart (names_of word) word
 is_part word h = part_found word (names_of word) (some_is (part_at word) [] h)
 
-is_entry : (value : List ℕ) → is_some (entry_at value) ≡ true → IsEntry (entry_of value) × (entry_spelling (entry_of value) ≡ value)
-is_entry value h = entry_found value (entry_of value) (some_is (entry_at value) (record { «module» = []; function = [] }) h)
+is_entry : (value : List ℕ) → is_some (entry_at value) ≡ true → IsEntry (entry_of value)
+    × (entry_spelling (entry_of value) ≡ value)
+is_entry value h = entry_found value (entry_of value)
+    (some_is (entry_at value) (record { «module» = []; function = [] }) h)
 
-are_steps : (value : List ℕ) → is_some (steps_at value) ≡ true → AreSteps (count_of value) × (decimal (count_of value) ≡ value)
+are_steps : (value : List ℕ) → is_some (steps_at value) ≡ true → AreSteps (count_of value)
+    × (decimal (count_of value) ≡ value)
 are_steps value h = steps_found value (count_of value) (some_is (steps_at value) 0 h)
 
-spelled_of : (uses : List Use) (marked : Bool) (words : List (List ℕ)) → WritesAll marked uses words → list_all is_read uses ≡ true → SpellsAll marked (map piece_of uses) words
+spelled_of : (uses : List Use) (marked : Bool) (words : List (List ℕ)) → WritesAll marked uses words →
+    list_all is_read uses ≡ true → SpellsAll marked (map piece_of uses) words
 spelled_of [] true words written read = written
 spelled_of [] false words written read = written
 spelled_of (given.part word ∷ uses) true words written read =
-    let parts = and_parts (is_some (part_at word)) (list_all is_read uses) read in
-    (written.0, written.1, written.2, (word, written.3, is_part word parts.0), spelled_of uses true written.1 written.4 parts.1)
+    let parts = and_parts (is_some (part_at word)) (list_all is_read uses) read in (
+      written.0,
+      written.1,
+      written.2,
+      (word, written.3, is_part word parts.0),
+      spelled_of uses true written.1 written.4 parts.1,
+    )
 spelled_of (given.entry value ∷ uses) true words written read = absurd written.3
 spelled_of (given.steps value ∷ uses) true words written read = absurd written.3
 spelled_of (given.life ∷ uses) true words written read = absurd written.3
 spelled_of (given.mark ∷ uses) true words written read = absurd written.3
 spelled_of (given.part word ∷ uses) false words written read =
-    let parts = and_parts (is_some (part_at word)) (list_all is_read uses) read in
-    (written.0, written.1, written.2, (word, written.3.0, is_part word parts.0, written.3.1), spelled_of uses false written.1 written.4 parts.1)
+    let parts = and_parts (is_some (part_at word)) (list_all is_read uses) read in (
+      written.0,
+      written.1,
+      written.2,
+      (word, written.3.0, is_part word parts.0, written.3.1),
+      spelled_of uses false written.1 written.4 parts.1,
+    )
 spelled_of (given.entry value ∷ uses) false words written read =
     let parts = and_parts (is_some (entry_at value)) (list_all is_read uses) read in
-    let is = is_entry value parts.0 in
-    (written.0, written.1, written.2, (is.0, offered (codes "--entry") value (entry_spelling (entry_of value)) written.0 is.1 (entry_plain (entry_of value) is.0) written.3), spelled_of uses false written.1 written.4 parts.1)
+    let is = is_entry value parts.0 in (
+      written.0,
+      written.1,
+      written.2,
+      (
+        is.0,
+        offered (codes "--entry") value (entry_spelling (entry_of value)) written.0 is.1
+            (entry_plain (entry_of value) is.0) written.3,
+      ),
+      spelled_of uses false written.1 written.4 parts.1,
+    )
 spelled_of (given.steps value ∷ uses) false words written read =
     let parts = and_parts (is_some (steps_at value)) (list_all is_read uses) read in
-    let are = are_steps value parts.0 in
-    (written.0, written.1, written.2, (are.0, offered (codes "--steps") value (decimal (count_of value)) written.0 are.1 (steps_plain (count_of value) are.0) written.3), spelled_of uses false written.1 written.4 parts.1)
+    let are = are_steps value parts.0 in (
+      written.0,
+      written.1,
+      written.2,
+      (
+        are.0,
+        offered (codes "--steps") value (decimal (count_of value)) written.0 are.1
+            (steps_plain (count_of value) are.0) written.3,
+      ),
+      spelled_of uses false written.1 written.4 parts.1,
+    )
 spelled_of (given.life ∷ uses) false words written read =
     (written.0, written.1, written.2, written.3, spelled_of uses false written.1 written.4 read)
 spelled_of (given.mark ∷ uses) false words written read =
     (written.0, written.1, written.2, written.3, spelled_of uses true written.1 written.4 read)
 
 -- the columns of the pieces are those of the uses, read
-files_of_pieces : (uses : List Use) → flat_map asked.files_of (map piece_of uses) ≡ flat_map names_of (flat_map given.parts_of uses)
+files_of_pieces : (uses : List Use) → flat_map asked.files_of (map piece_of uses) ≡ flat_map names_of
+    (flat_map given.parts_of uses)
 files_of_pieces [] = refl
 files_of_pieces (given.part word ∷ uses) = ap (λ l. names_of word ++ l) (files_of_pieces uses)
 files_of_pieces (given.entry value ∷ uses) = files_of_pieces uses
@@ -156,7 +199,8 @@ files_of_pieces (given.steps value ∷ uses) = files_of_pieces uses
 files_of_pieces (given.life ∷ uses) = files_of_pieces uses
 files_of_pieces (given.mark ∷ uses) = files_of_pieces uses
 
-entries_of_pieces : (uses : List Use) → flat_map asked.entries_of (map piece_of uses) ≡ map entry_of (flat_map given.entries_of uses)
+entries_of_pieces : (uses : List Use) → flat_map asked.entries_of (map piece_of uses)
+    ≡ map entry_of (flat_map given.entries_of uses)
 entries_of_pieces [] = refl
 entries_of_pieces (given.part word ∷ uses) = entries_of_pieces uses
 entries_of_pieces (given.entry value ∷ uses) = ap (λ l. entry_of value ∷ l) (entries_of_pieces uses)
@@ -164,7 +208,8 @@ entries_of_pieces (given.steps value ∷ uses) = entries_of_pieces uses
 entries_of_pieces (given.life ∷ uses) = entries_of_pieces uses
 entries_of_pieces (given.mark ∷ uses) = entries_of_pieces uses
 
-steps_of_pieces : (uses : List Use) → flat_map asked.steps_of (map piece_of uses) ≡ map count_of (flat_map given.steps_of uses)
+steps_of_pieces : (uses : List Use) → flat_map asked.steps_of (map piece_of uses)
+    ≡ map count_of (flat_map given.steps_of uses)
 steps_of_pieces [] = refl
 steps_of_pieces (given.part word ∷ uses) = steps_of_pieces uses
 steps_of_pieces (given.entry value ∷ uses) = steps_of_pieces uses
@@ -180,7 +225,8 @@ lives_of_pieces (given.steps value ∷ uses) = lives_of_pieces uses
 lives_of_pieces (given.life ∷ uses) = ap (λ l. true ∷ l) (lives_of_pieces uses)
 lives_of_pieces (given.mark ∷ uses) = lives_of_pieces uses
 
-takes_pieces : (command : Command) (uses : List Use) → list_all (asked.takes command) (map piece_of uses) ≡ list_all (given.takes command) uses
+takes_pieces : (command : Command) (uses : List Use) → list_all (asked.takes command) (map piece_of uses)
+    ≡ list_all (given.takes command) uses
 takes_pieces command [] = refl
 takes_pieces command (given.part word ∷ uses) = takes_pieces command uses
 takes_pieces command (given.entry value ∷ uses) = ap (λ b. asked.takes_entry command && b) (takes_pieces command uses)
@@ -194,19 +240,23 @@ all_read : (uses : List Use) → list_all (λ word. is_some (part_at word)) (fla
     → list_all (λ value. is_some (steps_at value)) (flat_map given.steps_of uses) ≡ true → list_all is_read uses ≡ true
 all_read [] words entries counts = refl
 all_read (given.part word ∷ uses) words entries counts =
-    let parts = and_parts (is_some (part_at word)) (list_all (λ other. is_some (part_at other)) (flat_map given.parts_of uses)) words in
+    let parts = and_parts (is_some (part_at word))
+    (list_all (λ other. is_some (part_at other)) (flat_map given.parts_of uses)) words in
     and_from (is_some (part_at word)) (list_all is_read uses) parts.0 (all_read uses parts.1 entries counts)
 all_read (given.entry value ∷ uses) words entries counts =
-    let parts = and_parts (is_some (entry_at value)) (list_all (λ other. is_some (entry_at other)) (flat_map given.entries_of uses)) entries in
+    let parts = and_parts (is_some (entry_at value))
+    (list_all (λ other. is_some (entry_at other)) (flat_map given.entries_of uses)) entries in
     and_from (is_some (entry_at value)) (list_all is_read uses) parts.0 (all_read uses words parts.1 counts)
 all_read (given.steps value ∷ uses) words entries counts =
-    let parts = and_parts (is_some (steps_at value)) (list_all (λ other. is_some (steps_at other)) (flat_map given.steps_of uses)) counts in
+    let parts = and_parts (is_some (steps_at value))
+    (list_all (λ other. is_some (steps_at other)) (flat_map given.steps_of uses)) counts in
     and_from (is_some (steps_at value)) (list_all is_read uses) parts.0 (all_read uses words entries parts.1)
 all_read (given.life ∷ uses) words entries counts = all_read uses words entries counts
 all_read (given.mark ∷ uses) words entries counts = all_read uses words entries counts
 
 -- what is read of the columns
-files_read : (words names : List (List ℕ)) → files_at words ≡ Some names → (list_all (λ word. is_some (part_at word)) words ≡ true) × (names ≡ flat_map names_of words)
+files_read : (words names : List (List ℕ)) → files_at words ≡ Some names →
+    (list_all (λ word. is_some (part_at word)) words ≡ true) × (names ≡ flat_map names_of words)
 files_read [] names h = (refl, (let e = h in cc))
 files_read (word ∷ words) names h =
     let first = and_then_some (λ ns. option_map (λ others. ns ++ others) (files_at words)) (part_at word) names h in
@@ -228,8 +278,10 @@ files_some (word ∷ words) names some h = λ none.
     front_none [] rest h = refl
     front_none (x ∷ front) rest h = cc
 
-optional_read : {X : Type 0} (read : List ℕ → Option X) (d : X) (value : Option (List ℕ)) (found : Option X) → optional read value ≡ Some found
-    → (list_all (λ b. is_some (read b)) (option_to_list value) ≡ true) × (option_to_list found ≡ map (λ b. unwrap_or (read b) d) (option_to_list value))
+optional_read : {X : Type 0} (read : List ℕ → Option X) (d : X) (value : Option (List ℕ)) (found : Option X) →
+    optional read value ≡ Some found
+    → (list_all (λ b. is_some (read b)) (option_to_list value) ≡ true)
+    × (option_to_list found ≡ map (λ b. unwrap_or (read b) d) (option_to_list value))
 optional_read read d None found h =
     let same : None ≡ found = (let e = h in cc) in
     (refl, ap option_to_list (sym same))
@@ -238,7 +290,8 @@ optional_read read d (Some bytes) found h =
     (ap (λ b. b && true) (ap is_some one.1), ap option_to_list (sym one.2) ∙ sym (ap (λ o. unwrap_or o d ∷ []) one.1))
 
 -- what is given and read is said
-pub given_said : (command : Command) (words : List (List ℕ)) (what : Given) (said : Said) → AreGiven command words what → said_at what ≡ Some said → AreSaid command words said
+pub given_said : (command : Command) (words : List (List ℕ)) (what : Given) (said : Said) →
+    AreGiven command words what → said_at what ≡ Some said → AreSaid command words said
 given_said command words what said are h =
     let read = said_parts what said h in
     let uses : List Use = are.uses in
@@ -283,27 +336,56 @@ IsGood asked.mark = Unit {0}
 good_part : (names : List (List ℕ)) (word : List ℕ) → IsPart names word → IsGood (asked.part names)
 good_part names word is = (is.0, is.1, refl)
 
-written_of : (pieces : List Piece) (marked : Bool) (words : List (List ℕ)) → SpellsAll marked pieces words → EachIs IsGood pieces × WritesAll marked (map use_of pieces) words
+written_of : (pieces : List Piece) (marked : Bool) (words : List (List ℕ)) → SpellsAll marked pieces words →
+    EachIs IsGood pieces × WritesAll marked (map use_of pieces) words
 written_of [] true words spelled = (tt, spelled)
 written_of [] false words spelled = (tt, spelled)
 written_of (asked.part names ∷ pieces) true words spelled =
     let rest = written_of pieces true spelled.1 spelled.4 in
-    let is = spelled.3.2 in
-    ((good_part names spelled.3.0 is, rest.0), (spelled.0, spelled.1, spelled.2, spelled.3.1 ∙ ap (λ w. w ∷ []) is.2, rest.1))
+    let is = spelled.3.2 in (
+      (good_part names spelled.3.0 is, rest.0),
+      (spelled.0, spelled.1, spelled.2, spelled.3.1 ∙ ap (λ w. w ∷ []) is.2, rest.1),
+    )
 written_of (asked.entry value ∷ pieces) true words spelled = absurd spelled.3
 written_of (asked.steps value ∷ pieces) true words spelled = absurd spelled.3
 written_of (asked.life ∷ pieces) true words spelled = absurd spelled.3
 written_of (asked.mark ∷ pieces) true words spelled = absurd spelled.3
 written_of (asked.part names ∷ pieces) false words spelled =
     let rest = written_of pieces false spelled.1 spelled.4 in
-    let is = spelled.3.2 in
-    ((good_part names spelled.3.0 is, rest.0), (spelled.0, spelled.1, spelled.2, (spelled.3.1 ∙ ap (λ w. w ∷ []) is.2, sym (ap is_marked is.2) ∙ spelled.3.3), rest.1))
+    let is = spelled.3.2 in (
+      (good_part names spelled.3.0 is, rest.0),
+      (
+        spelled.0,
+        spelled.1,
+        spelled.2,
+        (spelled.3.1 ∙ ap (λ w. w ∷ []) is.2, sym (ap is_marked is.2) ∙ spelled.3.3),
+        rest.1,
+      ),
+    )
 written_of (asked.entry value ∷ pieces) false words spelled =
-    let rest = written_of pieces false spelled.1 spelled.4 in
-    ((spelled.3.0, rest.0), (spelled.0, spelled.1, spelled.2, offers (codes "--entry") (entry_spelling value) spelled.0 spelled.3.1, rest.1))
+    let rest = written_of pieces false spelled.1 spelled.4 in (
+      (spelled.3.0, rest.0),
+      (
+        spelled.0,
+        spelled.1,
+        spelled.2,
+        offers (codes "--entry") (entry_spelling value)
+            spelled.0 spelled.3.1,
+        rest.1,
+      ),
+    )
 written_of (asked.steps value ∷ pieces) false words spelled =
-    let rest = written_of pieces false spelled.1 spelled.4 in
-    ((spelled.3.0, rest.0), (spelled.0, spelled.1, spelled.2, offers (codes "--steps") (decimal value) spelled.0 spelled.3.1, rest.1))
+    let rest = written_of pieces false spelled.1 spelled.4 in (
+      (spelled.3.0, rest.0),
+      (
+        spelled.0,
+        spelled.1,
+        spelled.2,
+        offers (codes "--steps") (decimal value)
+            spelled.0 spelled.3.1,
+        rest.1,
+      ),
+    )
 written_of (asked.life ∷ pieces) false words spelled =
     let rest = written_of pieces false spelled.1 spelled.4 in
     ((tt, rest.0), (spelled.0, spelled.1, spelled.2, spelled.3, rest.1))
@@ -312,10 +394,12 @@ written_of (asked.mark ∷ pieces) false words spelled =
     ((tt, rest.0), (spelled.0, spelled.1, spelled.2, spelled.3, rest.1))
 
 -- the columns of the uses are read as those of the pieces
-files_again : (pieces : List Piece) → EachIs IsGood pieces → files_at (flat_map given.parts_of (map use_of pieces)) ≡ Some (flat_map asked.files_of pieces)
+files_again : (pieces : List Piece) → EachIs IsGood pieces →
+    files_at (flat_map given.parts_of (map use_of pieces)) ≡ Some (flat_map asked.files_of pieces)
 files_again [] good = refl
 files_again (asked.part names ∷ pieces) good =
-    ap (λ o. option_and_then (λ ns. option_map (λ others. ns ++ others) (files_at (flat_map given.parts_of (map use_of pieces)))) o) (part_again (joined 44 names) names good.0)
+    ap (λ o. option_and_then (λ ns. option_map (λ others. ns ++ others)
+    (files_at (flat_map given.parts_of (map use_of pieces)))) o) (part_again (joined 44 names) names good.0)
     ∙ ap (option_map (λ others. names ++ others)) (files_again pieces good.1)
 files_again (asked.entry value ∷ pieces) good = files_again pieces good.1
 files_again (asked.steps value ∷ pieces) good = files_again pieces good.1
@@ -323,7 +407,9 @@ files_again (asked.life ∷ pieces) good = files_again pieces good.1
 files_again (asked.mark ∷ pieces) good = files_again pieces good.1
 
 entries_of_uses : (pieces : List Piece) → EachIs IsGood pieces
-    → EachIs IsEntry (flat_map asked.entries_of pieces) × (map entry_spelling (flat_map asked.entries_of pieces) ≡ flat_map given.entries_of (map use_of pieces))
+    → EachIs IsEntry (flat_map asked.entries_of pieces)
+    × (map entry_spelling (flat_map asked.entries_of pieces) ≡ flat_map given.entries_of
+    (map use_of pieces))
 entries_of_uses [] good = (tt, refl)
 entries_of_uses (asked.part names ∷ pieces) good = entries_of_uses pieces good.1
 entries_of_uses (asked.entry value ∷ pieces) good =
@@ -334,7 +420,8 @@ entries_of_uses (asked.life ∷ pieces) good = entries_of_uses pieces good.1
 entries_of_uses (asked.mark ∷ pieces) good = entries_of_uses pieces good.1
 
 steps_of_uses : (pieces : List Piece) → EachIs IsGood pieces
-    → EachIs AreSteps (flat_map asked.steps_of pieces) × (map decimal (flat_map asked.steps_of pieces) ≡ flat_map given.steps_of (map use_of pieces))
+    → EachIs AreSteps (flat_map asked.steps_of pieces)
+    × (map decimal (flat_map asked.steps_of pieces) ≡ flat_map given.steps_of (map use_of pieces))
 steps_of_uses [] good = (tt, refl)
 steps_of_uses (asked.part names ∷ pieces) good = steps_of_uses pieces good.1
 steps_of_uses (asked.entry value ∷ pieces) good = steps_of_uses pieces good.1
@@ -352,7 +439,8 @@ lives_of_uses (asked.steps value ∷ pieces) = lives_of_uses pieces
 lives_of_uses (asked.life ∷ pieces) = ap (λ l. true ∷ l) (lives_of_uses pieces)
 lives_of_uses (asked.mark ∷ pieces) = lives_of_uses pieces
 
-takes_uses : (command : Command) (pieces : List Piece) → list_all (given.takes command) (map use_of pieces) ≡ list_all (asked.takes command) pieces
+takes_uses : (command : Command) (pieces : List Piece) → list_all (given.takes command) (map use_of pieces)
+    ≡ list_all (asked.takes command) pieces
 takes_uses command [] = refl
 takes_uses command (asked.part names ∷ pieces) = takes_uses command pieces
 takes_uses command (asked.entry value ∷ pieces) = ap (λ b. asked.takes_entry command && b) (takes_uses command pieces)
@@ -362,20 +450,24 @@ takes_uses command (asked.mark ∷ pieces) = takes_uses command pieces
 
 -- an option whose value can be spelled is read again
 optional_again : {X : Type 0} (P : X → Type 0) (read : List ℕ → Option X) (spelling : X → List ℕ) (value : Option X)
-    → ((x : X) → P x → read (spelling x) ≡ Some x) → EachIs P (option_to_list value) → optional read (option_map spelling value) ≡ Some value
+    → ((x : X) → P x → read (spelling x) ≡ Some x) → EachIs P (option_to_list value) →
+    optional read (option_map spelling value) ≡ Some value
 optional_again P read spelling None again is = refl
 optional_again P read spelling (Some x) again is = ap (option_map (λ y. Some y)) (again x is.0)
 
 -- what is said can be given, and is read so
-pub said_given : (command : Command) (words : List (List ℕ)) (said : Said) → AreSaid command words said → (what : Given) × AreGiven command words what × (said_at what ≡ Some said)
+pub said_given : (command : Command) (words : List (List ℕ)) (said : Said) → AreSaid command words said →
+    (what : Given) × AreGiven command words what × (said_at what ≡ Some said)
 said_given command words said are =
     let pieces : List Piece = are.pieces in
     let uses : List Use = map use_of pieces in
     let spelled = written_of pieces false words are.spelled in
     let entries = entries_of_uses pieces spelled.0 in
     let counts = steps_of_uses pieces spelled.0 in
-    let what : Given = given_of (flat_map given.parts_of uses) (option_map entry_spelling said.entry) (option_map decimal said.steps) said.life in
-    let files : files_at what.parts ≡ Some said.files = files_again pieces spelled.0 ∙ ap (λ l. Some l) (sym are.says.0) in (
+    let what : Given = given_of (flat_map given.parts_of uses) (option_map entry_spelling said.entry)
+    (option_map decimal said.steps) said.life in
+    let files : files_at what.parts ≡ Some said.files = files_again pieces spelled.0
+    ∙ ap (λ l. Some l) (sym are.says.0) in (
       what,
       record {
         uses = uses;
@@ -388,6 +480,8 @@ said_given command words said are =
         some = λ none. are.some (let same : Some said.files ≡ Some [] = sym files ∙ ap files_at none in cc);
       },
       all_said what said.files said.entry said.steps files
-          (optional_again IsEntry entry_at entry_spelling said.entry entry_again (subst (EachIs IsEntry) (sym are.says.1) entries.0))
-          (optional_again AreSteps steps_at decimal said.steps steps_again (subst (EachIs AreSteps) (sym are.says.2) counts.0)),
+          (optional_again IsEntry entry_at entry_spelling said.entry entry_again
+          (subst (EachIs IsEntry) (sym are.says.1) entries.0))
+          (optional_again AreSteps steps_at decimal said.steps steps_again
+          (subst (EachIs AreSteps) (sym are.says.2) counts.0)),
     )

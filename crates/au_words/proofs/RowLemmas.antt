@@ -1,5 +1,6 @@
 -- What the library keeps of the words that it has read, row by row.
-use Rattle.std.proofs.Common.{◌≡◌, Bool, true, false, List, [], ◌∷◌, ◌++◌, Option, Some, None, is_some, option_map, ap, ◌∙◌, sym, refl, subst, inl, inr, codes}
+use Rattle.std.proofs.Common.{◌≡◌, Bool, true, false, List, [], ◌∷◌, ◌++◌, Option, Some, None, is_some}
+use Rattle.std.proofs.Common.{option_map, ap, ◌∙◌, sym, refl, subst, inl, inr, codes}
 use Rattle.std.specs.List.{find}
 use Rattle.std.specs.Str.{bytes_eq}
 use Rattle.std.proofs.lemmas.Bool.{cases_Bool}
@@ -33,7 +34,13 @@ abbrev pub steps_rule : Rule
 steps_rule = record steps_argument { parser = Some vp.String; range = Some one_value }
 
 abbrev pub life_rule : Rule
-life_rule = record life_argument { defaults = codes "false" ∷ []; missing = codes "true" ∷ []; parser = Some vp.Bool; range = Some no_value }
+life_rule = record life_argument {
+  defaults = codes "false" ∷ [];
+  missing = codes "true" ∷ [];
+  parser =
+      Some vp.Bool;
+  range = Some no_value;
+}
 
 -- ---- the row of an id
 
@@ -56,7 +63,8 @@ has_row_is id (r ∷ rows) = elim (cases_Bool (bytes_eq r.id id)) [
 
 module _ (id : Text) (how : Reading) (s : ValueSource) (values : List Text) where
   -- other rows stay
-  pub other_stays : (other : Text) (rows : List Row) → bytes_eq id other ≡ false → row_at other (with_values id how s values rows) ≡ row_at other rows
+  pub other_stays : (other : Text) (rows : List Row) → bytes_eq id other ≡ false →
+      row_at other (with_values id how s values rows) ≡ row_at other rows
   other_stays other [] h = rw h refl
   other_stays other (r ∷ rows) h = elim (cases_Bool (bytes_eq r.id id)) [
     | inl e ↦
@@ -70,7 +78,8 @@ module _ (id : Text) (how : Reading) (s : ValueSource) (values : List Text) wher
   ]
 
   -- a row that isn't there is added
-  pub row_added : (rows : List Row) → row_at id rows ≡ None → row_at id (with_values id how s values rows) ≡ Some (new_row id how s values)
+  pub row_added : (rows : List Row) → row_at id rows ≡ None → row_at id (with_values id how s values rows)
+      ≡ Some (new_row id how s values)
   row_added [] h = rw (same_text id) refl
   row_added (r ∷ rows) h = elim (cases_Bool (bytes_eq r.id id)) [
     | inl e ↦ absurd (let some = sym (when_true (bytes_eq r.id id) (Some r) (row_at id rows) e) ∙ h in cc)
@@ -79,13 +88,15 @@ module _ (id : Text) (how : Reading) (s : ValueSource) (values : List Text) wher
 
   -- a row that is there gets the values
   pub row_grows : (rows : List Row) (row : Row) → row_at id rows ≡ Some row
-      → row_at id (with_values id how s values rows) ≡ Some (record row { values = row.values ++ values; source = Some (stronger row.source s) })
+      → row_at id (with_values id how s values rows)
+      ≡ Some (record row { values = row.values ++ values; source = Some (stronger row.source s) })
   row_grows [] row h = cc
   row_grows (r ∷ rows) row h = elim (cases_Bool (bytes_eq r.id id)) [
     | inl e ↦
         let some : Some r ≡ Some row = sym (when_true (bytes_eq r.id id) (Some r) (row_at id rows) e) ∙ h in
         let same : r ≡ row = (let f = some in cc) in
-        rw (e, e) (ap (λ (x : Row). Some (record x { values = x.values ++ values; source = Some (stronger x.source s) })) same)
+        rw (e, e) (ap (λ (x : Row). Some
+        (record x { values = x.values ++ values; source = Some (stronger x.source s) })) same)
     | inr e ↦ rw (e, e) (row_grows rows row (sym (when_false (bytes_eq r.id id) (Some r) (row_at id rows) e) ∙ h))
   ]
 
@@ -94,7 +105,8 @@ pub without_none : (id : Text) (rows : List Row) → row_at id rows ≡ None →
 without_none id [] h = refl
 without_none id (r ∷ rows) h = elim (cases_Bool (bytes_eq r.id id)) [
   | inl e ↦ absurd (let some = sym (when_true (bytes_eq r.id id) (Some r) (row_at id rows) e) ∙ h in cc)
-  | inr e ↦ rw e (ap (λ l. r ∷ l) (without_none id rows (sym (when_false (bytes_eq r.id id) (Some r) (row_at id rows) e) ∙ h)))
+  | inr e ↦ rw e (ap (λ l. r ∷ l)
+      (without_none id rows (sym (when_false (bytes_eq r.id id) (Some r) (row_at id rows) e) ∙ h)))
 ]
 
 -- ---- the rows of what is given
@@ -129,7 +141,8 @@ with_steps what value = record what { steps = Some value }
 abbrev pub with_life : Given → Given
 with_life what = record what { life = true }
 
-pub views_part : (rows : List Row) (what : Given) (word : Text) → Views rows what → Views (used part_rule (word ∷ []) rows) (with_part what word)
+pub views_part : (rows : List Row) (what : Given) (word : Text) → Views rows what →
+    Views (used part_rule (word ∷ []) rows) (with_part what word)
 views_part rows what word v = record {
   parts = parts what.parts v.parts;
   entry = other_stays (codes "part") reading.AsWritten CommandLine (word ∷ []) (codes "entry") rows refl ∙ v.entry;
@@ -137,42 +150,55 @@ views_part rows what word v = record {
   life = other_stays (codes "part") reading.AsWritten CommandLine (word ∷ []) (codes "life") rows refl ∙ v.life;
 }
   where
-    parts : (words : List Text) → row_at (codes "part") rows ≡ part_row words → row_at (codes "part") (used part_rule (word ∷ []) rows) ≡ part_row (words ++ word ∷ [])
+    parts : (words : List Text) → row_at (codes "part") rows ≡ part_row words →
+        row_at (codes "part") (used part_rule (word ∷ []) rows) ≡ part_row (words ++ word ∷ [])
     parts [] h = row_added (codes "part") reading.AsWritten CommandLine (word ∷ []) rows h
-    parts (first ∷ words) h = row_grows (codes "part") reading.AsWritten CommandLine (word ∷ []) rows (new_row (codes "part") reading.AsWritten CommandLine (first ∷ words)) h
+    parts (first ∷ words) h = row_grows (codes "part") reading.AsWritten CommandLine (word ∷ []) rows
+        (new_row (codes "part") reading.AsWritten CommandLine (first ∷ words)) h
 
 -- an option that has no row is kept with its value
 once_used : (id : Text) (how : Reading) (value : Text) (rows : List Row) → row_at id rows ≡ None
     → with_values id how CommandLine (value ∷ []) (without id rows) ≡ with_values id how CommandLine (value ∷ []) rows
 once_used id how value rows none = ap (with_values id how CommandLine (value ∷ [])) (without_none id rows none)
 
-pub views_entry : (rows : List Row) (what : Given) (value : Text) → Views rows what → what.entry ≡ None → Views (used entry_rule (value ∷ []) rows) (with_entry what value)
+pub views_entry : (rows : List Row) (what : Given) (value : Text) → Views rows what → what.entry ≡ None →
+    Views (used entry_rule (value ∷ []) rows) (with_entry what value)
 views_entry rows what value v free =
     let none : row_at (codes "entry") rows ≡ None = v.entry ∙ ap (option_map (value_row (codes "entry"))) free in
-    subst (λ r. Views r (with_entry what value)) (sym (once_used (codes "entry") reading.AsWritten value rows none)) (record {
+    subst (λ r. Views r (with_entry what value))
+    (sym (once_used (codes "entry") reading.AsWritten value rows none)) (record {
       parts = other_stays (codes "entry") reading.AsWritten CommandLine (value ∷ []) (codes "part") rows refl ∙ v.parts;
       entry = row_added (codes "entry") reading.AsWritten CommandLine (value ∷ []) rows none;
-      steps = other_stays (codes "entry") reading.AsWritten CommandLine (value ∷ []) (codes "steps") rows refl ∙ v.steps;
+      steps = other_stays (codes "entry") reading.AsWritten CommandLine (value ∷ []) (codes "steps") rows refl
+          ∙ v.steps;
       life = other_stays (codes "entry") reading.AsWritten CommandLine (value ∷ []) (codes "life") rows refl ∙ v.life;
     })
 
-pub views_steps : (rows : List Row) (what : Given) (value : Text) → Views rows what → what.steps ≡ None → Views (used steps_rule (value ∷ []) rows) (with_steps what value)
+pub views_steps : (rows : List Row) (what : Given) (value : Text) → Views rows what → what.steps ≡ None →
+    Views (used steps_rule (value ∷ []) rows) (with_steps what value)
 views_steps rows what value v free =
     let none : row_at (codes "steps") rows ≡ None = v.steps ∙ ap (option_map (value_row (codes "steps"))) free in
-    subst (λ r. Views r (with_steps what value)) (sym (once_used (codes "steps") reading.AsWritten value rows none)) (record {
+    subst (λ r. Views r (with_steps what value))
+    (sym (once_used (codes "steps") reading.AsWritten value rows none)) (record {
       parts = other_stays (codes "steps") reading.AsWritten CommandLine (value ∷ []) (codes "part") rows refl ∙ v.parts;
-      entry = other_stays (codes "steps") reading.AsWritten CommandLine (value ∷ []) (codes "entry") rows refl ∙ v.entry;
+      entry = other_stays (codes "steps") reading.AsWritten CommandLine (value ∷ []) (codes "entry") rows refl
+          ∙ v.entry;
       steps = row_added (codes "steps") reading.AsWritten CommandLine (value ∷ []) rows none;
       life = other_stays (codes "steps") reading.AsWritten CommandLine (value ∷ []) (codes "life") rows refl ∙ v.life;
     })
 
-pub views_life : (rows : List Row) (what : Given) → Views rows what → what.life ≡ false → Views (used life_rule [] rows) (with_life what)
+pub views_life : (rows : List Row) (what : Given) → Views rows what → what.life ≡ false →
+    Views (used life_rule [] rows) (with_life what)
 views_life rows what v free =
     let none : row_at (codes "life") rows ≡ None = v.life ∙ ap life_row free in
-    subst (λ r. Views r (with_life what)) (sym (once_used (codes "life") reading.AsWritten (codes "true") rows none)) (record {
-      parts = other_stays (codes "life") reading.AsWritten CommandLine (codes "true" ∷ []) (codes "part") rows refl ∙ v.parts;
-      entry = other_stays (codes "life") reading.AsWritten CommandLine (codes "true" ∷ []) (codes "entry") rows refl ∙ v.entry;
-      steps = other_stays (codes "life") reading.AsWritten CommandLine (codes "true" ∷ []) (codes "steps") rows refl ∙ v.steps;
+    subst (λ r. Views r (with_life what))
+    (sym (once_used (codes "life") reading.AsWritten (codes "true") rows none)) (record {
+      parts = other_stays (codes "life") reading.AsWritten CommandLine (codes "true" ∷ []) (codes "part") rows
+          refl ∙ v.parts;
+      entry = other_stays (codes "life") reading.AsWritten CommandLine (codes "true" ∷ []) (codes "entry")
+          rows refl ∙ v.entry;
+      steps = other_stays (codes "life") reading.AsWritten CommandLine (codes "true" ∷ []) (codes "steps")
+          rows refl ∙ v.steps;
       life = row_added (codes "life") reading.AsWritten CommandLine (codes "true" ∷ []) rows none;
     })
 
@@ -189,40 +215,52 @@ none_mapped f (Some x) h = cc
 pub part_passes : (word : Text) (rows : List Row) → use_fault false part_rule (word ∷ []) rows ≡ []
 part_passes word rows = refl
 
-pub entry_passes : (value : Text) (rows : List Row) (what : Given) → Views rows what → what.entry ≡ None → use_fault false entry_rule (value ∷ []) rows ≡ []
+pub entry_passes : (value : Text) (rows : List Row) (what : Given) → Views rows what → what.entry ≡ None →
+    use_fault false entry_rule (value ∷ []) rows ≡ []
 entry_passes value rows what v free =
-    let none : has_row (codes "entry") rows ≡ false = has_row_is (codes "entry") rows ∙ ap is_some (v.entry ∙ ap (option_map (value_row (codes "entry"))) free) in
+    let none : has_row (codes "entry") rows ≡ false = has_row_is (codes "entry") rows
+    ∙ ap is_some (v.entry ∙ ap (option_map (value_row (codes "entry"))) free) in
     rw none refl
 
-pub steps_passes : (value : Text) (rows : List Row) (what : Given) → Views rows what → what.steps ≡ None → use_fault false steps_rule (value ∷ []) rows ≡ []
+pub steps_passes : (value : Text) (rows : List Row) (what : Given) → Views rows what → what.steps ≡ None →
+    use_fault false steps_rule (value ∷ []) rows ≡ []
 steps_passes value rows what v free =
-    let none : has_row (codes "steps") rows ≡ false = has_row_is (codes "steps") rows ∙ ap is_some (v.steps ∙ ap (option_map (value_row (codes "steps"))) free) in
+    let none : has_row (codes "steps") rows ≡ false = has_row_is (codes "steps") rows
+    ∙ ap is_some (v.steps ∙ ap (option_map (value_row (codes "steps"))) free) in
     rw none refl
 
-pub life_passes : (rows : List Row) (what : Given) → Views rows what → what.life ≡ false → use_fault false life_rule [] rows ≡ []
+pub life_passes : (rows : List Row) (what : Given) → Views rows what → what.life ≡ false →
+    use_fault false life_rule [] rows ≡ []
 life_passes rows what v free =
-    let none : has_row (codes "life") rows ≡ false = has_row_is (codes "life") rows ∙ ap is_some (v.life ∙ ap life_row free) in
+    let none : has_row (codes "life") rows ≡ false = has_row_is (codes "life") rows
+    ∙ ap is_some (v.life ∙ ap life_row free) in
     rw none refl
 
 -- a use that doesn't fail is the first
-pub entry_free : (value : Text) (rows : List Row) (what : Given) → Views rows what → use_fault false entry_rule (value ∷ []) rows ≡ [] → what.entry ≡ None
+pub entry_free : (value : Text) (rows : List Row) (what : Given) → Views rows what →
+    use_fault false entry_rule (value ∷ []) rows ≡ [] → what.entry ≡ None
 entry_free value rows what v passes = elim (cases_Bool (has_row (codes "entry") rows)) [
   | inl h ↦ absurd (let e = rw h at passes in cc)
-  | inr h ↦ none_mapped (value_row (codes "entry")) what.entry (sym v.entry ∙ none_is (row_at (codes "entry") rows) (sym (has_row_is (codes "entry") rows) ∙ h))
+  | inr h ↦ none_mapped (value_row (codes "entry")) what.entry
+      (sym v.entry ∙ none_is (row_at (codes "entry") rows) (sym (has_row_is (codes "entry") rows) ∙ h))
 ]
 
-pub steps_free : (value : Text) (rows : List Row) (what : Given) → Views rows what → use_fault false steps_rule (value ∷ []) rows ≡ [] → what.steps ≡ None
+pub steps_free : (value : Text) (rows : List Row) (what : Given) → Views rows what →
+    use_fault false steps_rule (value ∷ []) rows ≡ [] → what.steps ≡ None
 steps_free value rows what v passes = elim (cases_Bool (has_row (codes "steps") rows)) [
   | inl h ↦ absurd (let e = rw h at passes in cc)
-  | inr h ↦ none_mapped (value_row (codes "steps")) what.steps (sym v.steps ∙ none_is (row_at (codes "steps") rows) (sym (has_row_is (codes "steps") rows) ∙ h))
+  | inr h ↦ none_mapped (value_row (codes "steps")) what.steps
+      (sym v.steps ∙ none_is (row_at (codes "steps") rows) (sym (has_row_is (codes "steps") rows) ∙ h))
 ]
 
 no_life : (life : Bool) → life_row life ≡ None → life ≡ false
 no_life true h = cc
 no_life false h = refl
 
-pub life_free : (rows : List Row) (what : Given) → Views rows what → use_fault false life_rule [] rows ≡ [] → what.life ≡ false
+pub life_free : (rows : List Row) (what : Given) → Views rows what → use_fault false life_rule [] rows ≡ [] →
+    what.life ≡ false
 life_free rows what v passes = elim (cases_Bool (has_row (codes "life") rows)) [
   | inl h ↦ absurd (let e = rw h at passes in cc)
-  | inr h ↦ no_life what.life (sym v.life ∙ none_is (row_at (codes "life") rows) (sym (has_row_is (codes "life") rows) ∙ h))
+  | inr h ↦ no_life what.life (sym v.life ∙ none_is (row_at (codes "life") rows)
+      (sym (has_row_is (codes "life") rows) ∙ h))
 ]

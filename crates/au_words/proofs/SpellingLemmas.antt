@@ -1,5 +1,6 @@
 -- An option's word, by its name and its value.
-use Rattle.std.proofs.Common.{◌≡◌, ℕ, ◌+◌, ◌==◌, suc, Bool, true, false, List, [], ◌∷◌, ◌++◌, take, drop, Option, Some, None, ap, ap₂, ◌∙◌, sym, refl, inl, inr, arith, eqb-true, codes}
+use Rattle.std.proofs.Common.{◌≡◌, ℕ, ◌+◌, ◌==◌, suc, Bool, true, false, List, [], ◌∷◌, ◌++◌, take, drop}
+use Rattle.std.proofs.Common.{Option, Some, None, ap, ap₂, ◌∙◌, sym, refl, inl, inr, arith, eqb-true, codes}
 use Rattle.std.specs.List.{after_first, before_first, position_or_len}
 use Rattle.std.proofs.lemmas.Bool.{cases_Bool}
 use Rattle.au_lexer.proofs.RunLemmas.{when_true, when_false}
@@ -13,18 +14,21 @@ abbrev pub written : List ℕ → Option (List ℕ) → List ℕ
 written name None = name
 written name (Some value) = name ++ 61 ∷ value
 
-before_step : (byte : ℕ) (rest : List ℕ) → (byte == 61) ≡ false → before_first is_equals (byte ∷ rest) ≡ byte ∷ before_first is_equals rest
+before_step : (byte : ℕ) (rest : List ℕ) → (byte == 61) ≡ false → before_first is_equals (byte ∷ rest)
+    ≡ byte ∷ before_first is_equals rest
 before_step byte rest h =
     let more : 1 + position_or_len is_equals rest ≡ suc (position_or_len is_equals rest) = omega arith in
     rw h (ap (λ k. take k (byte ∷ rest)) more)
 
-after_step : (byte : ℕ) (rest : List ℕ) → (byte == 61) ≡ false → after_first is_equals (byte ∷ rest) ≡ after_first is_equals rest
+after_step : (byte : ℕ) (rest : List ℕ) → (byte == 61) ≡ false → after_first is_equals (byte ∷ rest)
+    ≡ after_first is_equals rest
 after_step byte rest h =
     let more : 1 + position_or_len is_equals rest + 1 ≡ suc (position_or_len is_equals rest + 1) = omega arith in
     rw h (ap (λ k. drop k (byte ∷ rest)) more)
 
 -- what stands before the first `=`, and what stands behind it
-pub parted : (text : List ℕ) → has_byte 61 text ≡ true → text ≡ before_first is_equals text ++ 61 ∷ after_first is_equals text
+pub parted : (text : List ℕ) → has_byte 61 text ≡ true → text ≡ before_first is_equals text
+    ++ 61 ∷ after_first is_equals text
 parted [] h = cc
 parted (byte ∷ rest) h = elim (cases_Bool (byte == 61)) [
   | inl e ↦ let same : byte ≡ 61 = eqb-true byte 61 e in rw e (ap (λ b. b ∷ rest) same)
@@ -44,18 +48,22 @@ whole (byte ∷ rest) h = elim (cases_Bool (byte == 61)) [
 ]
 
 -- text by its name and its value
-name_back : (text name : List ℕ) (value : Option (List ℕ)) → name_and_value text ≡ (name, value) → text ≡ written name value
+name_back : (text name : List ℕ) (value : Option (List ℕ)) → name_and_value text ≡ (name, value) →
+    text ≡ written name value
 name_back text name value h = elim (cases_Bool (has_byte 61 text)) [
   | inl e ↦
-      let valued : Some (after_first is_equals text) ≡ value = sym (when_true (has_byte 61 text) (Some (after_first is_equals text)) None e) ∙ ap (λ p. p.1) h in
+      let valued : Some (after_first is_equals text) ≡ value =
+      sym (when_true (has_byte 61 text) (Some (after_first is_equals text)) None e) ∙ ap (λ p. p.1) h in
       parted text e ∙ ap₂ written (ap (λ p. p.0) h) valued
   | inr e ↦
-      let valued : None ≡ value = sym (when_false (has_byte 61 text) (Some (after_first is_equals text)) None e) ∙ ap (λ p. p.1) h in
+      let valued : None ≡ value = sym
+      (when_false (has_byte 61 text) (Some (after_first is_equals text)) None e) ∙ ap (λ p. p.1) h in
       whole text e ∙ ap₂ written (ap (λ p. p.0) h) valued
 ]
 
 -- a word that is read as an option is written as it
-pub option_back : (first : ℕ) (rest name : List ℕ) (value : Option (List ℕ)) → long_of (45 ∷ 45 ∷ first ∷ rest) ≡ Some (name, value)
+pub option_back : (first : ℕ) (rest name : List ℕ) (value : Option (List ℕ)) →
+    long_of (45 ∷ 45 ∷ first ∷ rest) ≡ Some (name, value)
     → 45 ∷ 45 ∷ first ∷ rest ≡ 45 ∷ 45 ∷ written name value
 option_back first rest name value h =
     let pair : name_and_value (first ∷ rest) ≡ (name, value) = (let e = h in cc) in

@@ -1,5 +1,6 @@
 -- The job of a command, from the values in what is given.
-use Rattle.std.proofs.Common.{◌≡◌, ◌↔◌, ◌∙◌, ℕ, Bool, true, false, List, Option, None, Some, IsTrue, ap, codes, refl, sym}
+use Rattle.std.proofs.Common.{◌≡◌, ◌↔◌, ◌∙◌, ℕ, Bool, true, false, List, Option, None, Some, IsTrue, ap}
+use Rattle.std.proofs.Common.{codes, refl, sym}
 use Rattle.std.specs.Option.{option_and_then, option_map, unwrap_or}
 use Rattle.std.specs.Str.Parse.{ParsesBool}
 use Rattle.clap.specs.Matches.{ReadsOne}
@@ -15,14 +16,17 @@ said_of life names value count = record { files = names; entry = value; steps = 
 -- what is said, by what the parts, the entry and the steps are read as
 abbrev said_by : Bool → Option (List (List ℕ)) → Option (Option Entry) → Option (Option ℕ) → Option Said
 said_by life files entry steps =
-    option_and_then (λ names. option_and_then (λ value. option_map (λ count. said_of life names value count) steps) entry) files
+    option_and_then (λ names. option_and_then
+    (λ value. option_map (λ count. said_of life names value count) steps) entry) files
 
-said_read : (what : Given) → said_at what ≡ said_by what.life (files_at what.parts) (optional entry_at what.entry) (optional steps_at what.steps)
+said_read : (what : Given) → said_at what ≡ said_by what.life (files_at what.parts)
+    (optional entry_at what.entry) (optional steps_at what.steps)
 unfolding said_at
 said_read what = refl
 
 pub all_said : (what : Given) (names : List (List ℕ)) (value : Option Entry) (count : Option ℕ)
-    → files_at what.parts ≡ Some names → optional entry_at what.entry ≡ Some value → optional steps_at what.steps ≡ Some count
+    → files_at what.parts ≡ Some names → optional entry_at what.entry ≡ Some value →
+    optional steps_at what.steps ≡ Some count
     → said_at what ≡ Some (said_of what.life names value count)
 all_said what names value count files entry steps =
     said_read what
@@ -31,7 +35,8 @@ all_said what names value count files entry steps =
     ∙ ap (λ o. said_by what.life (Some names) (Some value) o) steps
 
 -- all that is said is read
-parts_by : (life : Bool) (files : Option (List (List ℕ))) (entry : Option (Option Entry)) (steps : Option (Option ℕ)) (said : Said) → said_by life files entry steps ≡ Some said
+parts_by : (life : Bool) (files : Option (List (List ℕ))) (entry : Option (Option Entry))
+    (steps : Option (Option ℕ)) (said : Said) → said_by life files entry steps ≡ Some said
     → (files ≡ Some said.files) × (entry ≡ Some said.entry) × (steps ≡ Some said.steps) × (life ≡ said.life)
 parts_by life None entry steps said h = cc
 parts_by life (Some names) None steps said h = cc
@@ -41,13 +46,16 @@ parts_by life (Some names) (Some value) (Some count) said h =
     (ap (λ s. Some s.files) same, ap (λ s. Some s.entry) same, ap (λ s. Some s.steps) same, ap (λ s. s.life) same)
 
 pub said_parts : (what : Given) (said : Said) → said_at what ≡ Some said
-    → (files_at what.parts ≡ Some said.files) × (optional entry_at what.entry ≡ Some said.entry) × (optional steps_at what.steps ≡ Some said.steps) × (what.life ≡ said.life)
+    → (files_at what.parts ≡ Some said.files) × (optional entry_at what.entry ≡ Some said.entry)
+    × (optional steps_at what.steps ≡ Some said.steps) × (what.life ≡ said.life)
 said_parts what said h =
-    parts_by what.life (files_at what.parts) (optional entry_at what.entry) (optional steps_at what.steps) said (sym (said_read what) ∙ h)
+    parts_by what.life (files_at what.parts) (optional entry_at what.entry) (optional steps_at what.steps)
+    said (sym (said_read what) ∙ h)
 
 -- an option that is read as a `bool`
 pub life_read : (E : Type 0) (read : Option (List ℕ)) (result : Option Bool) → (read ≡ None → result ≡ None)
-    → ((text : List ℕ) → read ≡ Some text → ReadsOne {T = Bool} {E = E} ParsesBool text result) → (read ≡ Some (codes "true")) ↔ IsTrue (unwrap_or result false)
+    → ((text : List ℕ) → read ≡ Some text → ReadsOne {T = Bool} {E = E} ParsesBool text result) →
+    (read ≡ Some (codes "true")) ↔ IsTrue (unwrap_or result false)
 life_read E None None none value = (λ e. absurd (let h = e in cc), λ e. absurd (let h = e in cc))
 life_read E None (Some b) none value = absurd (let h = none refl in cc)
 life_read E (Some text) None none value =
@@ -70,7 +78,8 @@ same_bool false false to from = refl
 
 -- values that are read are what is given
 pub same_given : (what : Given) (parts : List (List ℕ)) (entry steps : Option (List ℕ)) (life : Bool) (Found : Type 0)
-    → Some parts ≡ Some what.parts → entry ≡ what.entry → steps ≡ what.steps → Found ↔ IsTrue life → Found ↔ IsTrue what.life
+    → Some parts ≡ Some what.parts → entry ≡ what.entry → steps ≡ what.steps → Found ↔ IsTrue life → Found ↔
+    IsTrue what.life
     → given_of parts entry steps life ≡ what
 same_given what parts entry steps life Found same_parts same_entry same_steps found shown =
     let alike : parts ≡ what.parts = (let e = same_parts in cc) in

@@ -12,7 +12,8 @@ loop-done-preserved g c =
     let old = g.O.Sink.written c.args.sink.now in
     let between = g.O.Sink.written c.loop-done.sink in
     let new = g.O.Sink.written c.put.new.self in
-    let both = adds_both old between new (take i bytes) (take n (take (length bytes - i) (drop i bytes))) c.loop-done.invariant.written c.in-Took.ensures.written in
+    let both = adds_both old between new (take i bytes) (take n (take (length bytes - i) (drop i bytes)))
+    c.loop-done.invariant.written c.in-Took.ensures.written in
     let fits : i + n ≤ length bytes = omega (arith, c.in-Took.ensures.part.0, length_rest i bytes) in
     record {
       within = fits;

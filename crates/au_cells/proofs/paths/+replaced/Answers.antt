@@ -4,7 +4,8 @@ use Rattle.au_effects.specs.Parts as effect
 use Rattle.au_cells.specs.declared.cells.Parts.{Parts}
 use Rattle.au_cells.specs.Cells.{low, lows}
 use Rattle.au_cells.proofs.FormLemmas.{not_made}
-use Rattle.au_cells.proofs.PartLemmas.{past_whole, past_old, found_whole, found_old, path_begins, made_whole, made_old, unchanged, no_part}
+use Rattle.au_cells.proofs.PartLemmas.{past_whole, past_old, found_whole, found_old, path_begins, made_whole}
+use Rattle.au_cells.proofs.PartLemmas.{made_old, unchanged, no_part}
 use Rattle.au_cells.proofs.paths.+replaced.Goals as goal
 
 pub replace_field-returns-then-index-len-clause-whole : goal.replace_field-returns-then-index-len-clause-whole

@@ -16,15 +16,19 @@ returns-then-len c =
     let agree = same_labelled (wanted_in c.args.class.now c.args.s.now) (meant_in c.args.own.now) in
     let one = c.args.list.now in
     let other = c.args.others.now in
-    sym (disagree agree (plain_labelled parsed.name_bytes) (labelled parsed) one.items other.items (λ e. c.if-len.true (c.len.ensures ∙ one.ok.0 ∙ e ∙ sym other.ok.0 ∙ sym c.len-2.ensures)))
+    sym (disagree agree (plain_labelled parsed.name_bytes) (labelled parsed) one.items other.items
+    (λ e. c.if-len.true (c.len.ensures ∙ one.ok.0 ∙ e ∙ sym other.ok.0 ∙ sym c.len-2.ensures)))
 
 pub returns-then-not-branch : goal.returns-then-not-branch
 returns-then-not-branch c =
     let agree = same_labelled (wanted_in c.args.class.now c.args.s.now) (meant_in c.args.own.now) in
     let xs = c.deref-one-items.result.now in
     let ys = c.args.others.now.items in
-    let within : c.loop-index.index < length ys = omega (arith, c.loop-index.invariant.lengths, c.loop-index-test.true) in
-    agree_not agree (plain_labelled parsed.name_bytes) (labelled parsed) xs ys c.loop-index.index c.one-item.result c.index.result.now c.loop-index.invariant c.loop-index-test.true within c.one-item.is c.index.ensures (sym c.in_ok-same_labelled.ensures ∙ c.if-not-branch.true)
+    let within : c.loop-index.index < length ys =
+    omega (arith, c.loop-index.invariant.lengths, c.loop-index-test.true) in
+    agree_not agree (plain_labelled parsed.name_bytes) (labelled parsed) xs ys c.loop-index.index
+    c.one-item.result c.index.result.now c.loop-index.invariant c.loop-index-test.true within c.one-item.is
+    c.index.ensures (sym c.in_ok-same_labelled.ensures ∙ c.if-not-branch.true)
     ∙ ap (λ r. all_agree agree (labels_of r) (labels_of ys)) c.deref-one-items.ensures.value
 
 pub loop-index-preserved : goal.loop-index-preserved
@@ -32,14 +36,19 @@ loop-index-preserved c =
     let agree = same_labelled (wanted_in c.args.class.now c.args.s.now) (meant_in c.args.own.now) in
     let xs = c.deref-one-items.result.now in
     let ys = c.args.others.now.items in
-    let within : c.loop-index.index < length ys = omega (arith, c.loop-index.invariant.lengths, c.loop-index-test.true) in
-    agree_next agree (plain_labelled parsed.name_bytes) (labelled parsed) xs ys c.loop-index.index c.one-item.result c.index.result.now c.loop-index.invariant c.loop-index-test.true within c.one-item.is c.index.ensures (sym c.in_ok-same_labelled.ensures ∙ c.if-not-branch.false)
+    let within : c.loop-index.index < length ys =
+    omega (arith, c.loop-index.invariant.lengths, c.loop-index-test.true) in
+    agree_next agree (plain_labelled parsed.name_bytes) (labelled parsed) xs ys c.loop-index.index
+    c.one-item.result c.index.result.now c.loop-index.invariant c.loop-index-test.true within c.one-item.is
+    c.index.ensures (sym c.in_ok-same_labelled.ensures ∙ c.if-not-branch.false)
 
 pub returns : goal.returns
 returns c =
     let agree = same_labelled (wanted_in c.args.class.now c.args.s.now) (meant_in c.args.own.now) in
     let xs = c.deref-one-items.result.now in
     let ys = c.args.others.now.items in
-    let past : length ys ≤ c.loop-index.index = omega (arith, c.loop-index.invariant.lengths, c.loop-index-test.false) in
-    agree_end agree (plain_labelled parsed.name_bytes) (labelled parsed) xs ys c.loop-index.index c.loop-index.invariant c.loop-index-test.false past
+    let past : length ys ≤ c.loop-index.index =
+    omega (arith, c.loop-index.invariant.lengths, c.loop-index-test.false) in
+    agree_end agree (plain_labelled parsed.name_bytes) (labelled parsed) xs ys c.loop-index.index
+    c.loop-index.invariant c.loop-index-test.false past
     ∙ ap (λ r. all_agree agree (labels_of r) (labels_of ys)) c.deref-one-items.ensures.value

@@ -10,4 +10,5 @@ use Rattle.au_classes.proofs.comparing.same_labels.Given as goal
 -- all items so far agree
 abbrev pub invariant-loop-index : goal.invariant-loop-index
 invariant-loop-index l =
-    AgreeSoFar (same_labelled (wanted_in l.class l.s) (meant_in l.own)) (plain_labelled parsed.name_bytes) (labelled parsed) l.one-items l.others.items l.index
+    AgreeSoFar (same_labelled (wanted_in l.class l.s) (meant_in l.own)) (plain_labelled parsed.name_bytes)
+    (labelled parsed) l.one-items l.others.items l.index

@@ -1,5 +1,7 @@
 use Rattle.std.proofs.Common.{arith, ◌≡◌, IfOk, sym, subst}
-use Rattle.au_syntax.proofs.DeclarationLemmas.{constant_says, opaque_says, record_says, union_says, function_says, class_says, constant_body_says, function_body_says, instance_body_says}
+use Rattle.au_syntax.proofs.DeclarationLemmas.{constant_says, opaque_says, record_says, union_says}
+use Rattle.au_syntax.proofs.DeclarationLemmas.{function_says, class_says, constant_body_says}
+use Rattle.au_syntax.proofs.DeclarationLemmas.{function_body_says, instance_body_says}
 use Rattle.au_syntax.specs.Views.{declaration}
 use Rattle.au_promises.specs.Written.{declared_of, sight_in}
 use Rattle.au_classes.specs.Texts as spec
@@ -36,5 +38,6 @@ pub returns-in-Instance : goal.returns-in-Instance
 unfolding declaration
 returns-in-Instance c = λ all are.
     subst
-    (λ d. IfOk c.index_of.result (λ index. index ≡ spec.definition_index (sight_in c.args.sight.now) all (declared_of d)))
+    (λ d. IfOk c.index_of.result (λ index. index ≡ spec.definition_index (sight_in c.args.sight.now) all
+    (declared_of d)))
     (sym c.in-Instance.is) (c.index_of.ensures all are)

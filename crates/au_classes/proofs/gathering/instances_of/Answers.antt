@@ -9,7 +9,8 @@ loop-place-preserved c =
     let program = slots.modules c.args.program.now in
     let many = c.len-place-end.ensures ∙ ap (λ ms. length (slots.modules ms)) c.modules.ensures.kept in
     let within : c.loop-place.place < length program = omega (arith, many, c.loop-place-test.true) in
-    modules_next program c.loop-place.place (texts_said c.loop-place.list.items) (texts_said c.push_module.new.list.items) within c.loop-place.invariant c.in_ok-push_module.ensures
+    modules_next program c.loop-place.place (texts_said c.loop-place.list.items)
+    (texts_said c.push_module.new.list.items) within c.loop-place.invariant c.in_ok-push_module.ensures
 
 pub returns : goal.returns
 returns c =

@@ -7,5 +7,6 @@ use Rattle.au_classes.proofs.gathering.instances_of.Given as goal
 -- what is pushed, and what is left to push
 abbrev pub invariant-loop-place : goal.invariant-loop-place
 invariant-loop-place l =
-    texts_said l.list.items ++ spec.instances_from (slots.modules l.program) l.place (drop l.place (slots.modules l.program))
+    texts_said l.list.items ++ spec.instances_from (slots.modules l.program) l.place
+    (drop l.place (slots.modules l.program))
     ≡ spec.instances_of (slots.modules l.program)

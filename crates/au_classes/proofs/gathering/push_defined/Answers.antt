@@ -16,14 +16,20 @@ loop-index-preserved c =
     let definitions = c.args.definitions.now.items in
     let one = c.index-body-index.result in
     defined_next (plain_declaration parsed.name_bytes) (declaration parsed) definitions c.args.place c.args.before
-    (texts_said c.args.list.now.items) (texts_said c.loop-index.list.items) (texts_said c.push_text.new.list.items) c.args.body.now i one (option_map text_said c.unless_promised.result)
+    (texts_said c.args.list.now.items) (texts_said c.loop-index.list.items)
+    (texts_said c.push_text.new.list.items) c.args.body.now i one
+    (option_map text_said c.unless_promised.result)
     c.loop-index-test.true c.index-body-index.is c.loop-index.invariant
     (c.unless_promised.ensures
-    ∙ ap (λ b. unless_promised b (option_map text_said c.defined.result)) (c.is_marked.ensures ∙ c.in_ok-marks.ensures i c.loop-index-test.true)
-    ∙ ap (unless_promised (is_among i definitions)) (c.defined.ensures ∙ ap (λ at. defined at (declared_of one)) c.in_ok-at.ensures))
+    ∙ ap (λ b. unless_promised b (option_map text_said c.defined.result))
+    (c.is_marked.ensures ∙ c.in_ok-marks.ensures i c.loop-index-test.true)
+    ∙ ap (unless_promised (is_among i definitions))
+    (c.defined.ensures ∙ ap (λ at. defined at (declared_of one)) c.in_ok-at.ensures))
     c.in_ok-push_text.ensures
 
 pub returns : goal.returns
 returns c =
-    defined_end (plain_declaration parsed.name_bytes) (declaration parsed) c.args.definitions.now.items c.args.place c.args.before
-    (texts_said c.args.list.now.items) (texts_said c.loop-index.list.items) c.args.body.now c.loop-index.index c.loop-index-test.false c.loop-index.invariant
+    defined_end (plain_declaration parsed.name_bytes) (declaration parsed) c.args.definitions.now.items
+    c.args.place c.args.before
+    (texts_said c.args.list.now.items) (texts_said c.loop-index.list.items) c.args.body.now c.loop-index.index
+    c.loop-index-test.false c.loop-index.invariant

@@ -13,11 +13,14 @@ pub returns : goal.returns
 returns c = λ m here.
     let program = slots.modules c.args.program.now in
     let place = c.args.place in
-    let interface = c.interface.ensures ∙ ap (λ ms. interface_tree (slice_get (slots.modules ms) place)) c.modules-modules.ensures.kept ∙ ap interface_tree here in
-    let body = c.body.ensures ∙ ap (λ ms. body_tree (slice_get (slots.modules ms) place)) c.modules-modules.ensures.kept ∙ ap body_tree here in
+    let interface = c.interface.ensures ∙ ap (λ ms. interface_tree (slice_get (slots.modules ms) place))
+    c.modules-modules.ensures.kept ∙ ap interface_tree here in
+    let body = c.body.ensures ∙ ap (λ ms. body_tree (slice_get (slots.modules ms) place))
+    c.modules-modules.ensures.kept ∙ ap body_tree here in
     on_ok_weaker c.push_parts.result
     (λ is. is ∙ ap (λ xs. texts_said c.args.list.now.items ++ xs)
-    (parts_are program place m c.names.result.now.types c.names-2.result.now.types c.heads_ref.result.now c.in_ok-place_in.field-0
+    (parts_are program place m c.names.result.now.types c.names-2.result.now.types c.heads_ref.result.now
+    c.in_ok-place_in.field-0
     (declarations_of c.declarations_in-interface.result.now) (declarations_of c.declarations_in-body.result.now)
     (c.names.ensures.types m here) (c.names-2.ensures.types m here) c.heads_ref.ensures c.in_ok-place_in.ensures
     (c.declarations_in-interface.ensures ∙ ap exporting.declarations_seen interface)

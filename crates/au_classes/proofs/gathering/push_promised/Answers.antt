@@ -16,14 +16,19 @@ loop-number-preserved c =
     let body = declarations_of c.args.body.now in
     let one = c.index-interface-number.result in
     promised_next (plain_declaration parsed.name_bytes) (declaration parsed) body c.args.definitions.now.items place
-    (texts_said c.args.list.now.items) (texts_said c.loop-number.list.items) (texts_said c.push_text.new.list.items) c.args.interface.now i one (option_map text_said c.promised.result)
+    (texts_said c.args.list.now.items) (texts_said c.loop-number.list.items)
+    (texts_said c.push_text.new.list.items) c.args.interface.now i one
+    (option_map text_said c.promised.result)
     c.loop-number-test.true c.index-interface-number.is c.loop-number.invariant
     (c.promised.ensures
     ∙ ap (λ at. promised at (methods_seen c.methods_at-methods.result) (declared_of one)) c.in_ok-at.ensures
-    ∙ ap (λ methods. promised (declared_at place i) methods (declared_of one)) (c.methods_at-methods.ensures ∙ ap (methods_at body) c.definition_at.ensures))
+    ∙ ap (λ methods. promised (declared_at place i) methods (declared_of one))
+    (c.methods_at-methods.ensures ∙ ap (methods_at body) c.definition_at.ensures))
     c.in_ok-push_text.ensures
 
 pub returns : goal.returns
 returns c =
-    promised_end (plain_declaration parsed.name_bytes) (declaration parsed) (declarations_of c.args.body.now) c.args.definitions.now.items c.args.place
-    (texts_said c.args.list.now.items) (texts_said c.loop-number.list.items) c.args.interface.now c.loop-number.number c.loop-number-test.false c.loop-number.invariant
+    promised_end (plain_declaration parsed.name_bytes) (declaration parsed) (declarations_of c.args.body.now)
+    c.args.definitions.now.items c.args.place
+    (texts_said c.args.list.now.items) (texts_said c.loop-number.list.items) c.args.interface.now
+    c.loop-number.number c.loop-number-test.false c.loop-number.invariant

@@ -5,4 +5,5 @@ use Rattle.au_classes.proofs.instance_texts.methods_at.Goals as goal
 
 pub returns-in-Some : goal.returns-in-Some
 returns-in-Some c =
-    c.methods_in.ensures ∙ ap methods_in c.declaration_at.ensures ∙ sym (ap (methods_at (declarations_of c.args.body.now)) c.in-Some.is)
+    c.methods_in.ensures ∙ ap methods_in c.declaration_at.ensures
+    ∙ sym (ap (methods_at (declarations_of c.args.body.now)) c.in-Some.is)

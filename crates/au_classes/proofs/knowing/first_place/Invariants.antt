@@ -8,4 +8,5 @@ use Rattle.au_classes.proofs.knowing.first_place.Given as goal
 abbrev pub invariant-loop-index : goal.invariant-loop-index
 invariant-loop-index l =
     find (is_like l.class (Some l.constructor)) (known_rows l.places.items (rows_said l.rows))
-    ≡ find (is_like l.class (Some l.constructor)) (known_rows (drop l.index l.places.items) (rows_said (drop l.index l.rows)))
+    ≡ find (is_like l.class (Some l.constructor))
+    (known_rows (drop l.index l.places.items) (rows_said (drop l.index l.rows)))

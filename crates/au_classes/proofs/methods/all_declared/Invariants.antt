@@ -8,4 +8,5 @@ use Rattle.au_classes.proofs.methods.all_declared.Given as goal
 -- all so far are declared, so those that are left decide
 abbrev pub invariant-loop-one : goal.invariant-loop-one
 invariant-loop-one l =
-    list_all (is_declared (headers_of l.list.items)) (methods_of l.one-items) ≡ list_all (is_declared (headers_of l.list.items)) (methods_of (drop l.one-index l.one-items))
+    list_all (is_declared (headers_of l.list.items)) (methods_of l.one-items)
+    ≡ list_all (is_declared (headers_of l.list.items)) (methods_of (drop l.one-index l.one-items))

@@ -10,4 +10,5 @@ use Rattle.au_classes.proofs.methods.all_defined.Given as goal
 abbrev pub invariant-loop-one : goal.invariant-loop-one
 invariant-loop-one l =
     list_all (is_defined (wanted_in l.class l.s) (meant_in l.own) (methods_of l.methods.items)) (headers_of l.one-items)
-    ≡ list_all (is_defined (wanted_in l.class l.s) (meant_in l.own) (methods_of l.methods.items)) (headers_of (drop l.one-index l.one-items))
+    ≡ list_all (is_defined (wanted_in l.class l.s) (meant_in l.own) (methods_of l.methods.items))
+    (headers_of (drop l.one-index l.one-items))

@@ -16,7 +16,9 @@ returns-in-None c =
 
 pub returns-in-Some : goal.returns-in-Some
 returns-in-Some c =
-    seen_got (plain_method parsed.name_bytes) (method_body parsed) c.deref.result.now c.in-Some.index.now c.get-in-Some.result c.get-in-Some.ensures.lookup.0 c.get-in-Some.ensures.lookup.1
+    seen_got (plain_method parsed.name_bytes) (method_body parsed) c.deref.result.now c.in-Some.index.now
+    c.get-in-Some.result c.get-in-Some.ensures.lookup.0 c.get-in-Some.ensures.lookup.1
     ∙ ap (λ r. slice_get (methods_of r) c.in-Some.index.now) c.deref.ensures.value
-    ∙ method_found (methods_of c.args.methods.now.items) c.args.by_name.now c.args.name.now c.in-Some.index.now c.requires
+    ∙ method_found (methods_of c.args.methods.now.items) c.args.by_name.now c.args.name.now
+    c.in-Some.index.now c.requires
     (sym (c.in-Some.ensures ∙ ap (λ n. tables.find n c.args.by_name.now) c.as_bytes.ensures.bytes))

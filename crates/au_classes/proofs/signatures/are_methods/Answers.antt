@@ -18,10 +18,14 @@ returns c =
     let list = headers_of c.args.class.now.methods.now.items in
     let methods = methods_of c.args.methods.now.items in
     IfOk-weaker c.are_defined.result
-    (λ are. are ≡ spec.are_methods (λ t. option_map (substituted c.in_ok-s.s) (meant [] c.in_ok-parameter.parameter class.visible heads t)) own list methods)
+    (λ are. are ≡ spec.are_methods
+    (λ t. option_map (substituted c.in_ok-s.s) (meant [] c.in_ok-parameter.parameter class.visible heads t))
+    own list methods)
     (λ are. are ≡ spec.are_methods (wanted heads class (meaning c.args.head.now)) own list methods)
     (λ are is.
     is
-    ∙ ap (λ ps. spec.are_methods (λ t. option_map (substituted c.in_ok-s.s) (meant [] ps class.visible heads t)) own list methods) c.in_ok-parameter.ensures
-    ∙ ap (λ s. spec.are_methods (λ t. option_map (substituted s) (meant [] (class.parameter ∷ []) class.visible heads t)) own list methods) c.in_ok-s.ensures)
+    ∙ ap (λ ps. spec.are_methods (λ t. option_map (substituted c.in_ok-s.s)
+    (meant [] ps class.visible heads t)) own list methods) c.in_ok-parameter.ensures
+    ∙ ap (λ s. spec.are_methods (λ t. option_map (substituted s)
+    (meant [] (class.parameter ∷ []) class.visible heads t)) own list methods) c.in_ok-s.ensures)
     c.are_defined.ensures

@@ -13,7 +13,8 @@ loop-left-init g c = record {
   piles = λ b sums.
       subst
       (λ bs. Piles (bound_over (seen_binds g.P.Phase bs) b) c.args.pile_of.now.items c.args.pile_of.now.items)
-      (sym (drop_all c.len-left.result c.args.binds.now.items (omega (arith, c.args.binds.now.ok.0, c.len-left.ensures))))
+      (sym (drop_all c.len-left.result c.args.binds.now.items
+      (omega (arith, c.args.binds.now.ok.0, c.len-left.ensures))))
       (piles_none c.args.pile_of.now.items);
 }
 

@@ -6,7 +6,8 @@ use Rattle.au_lives.specs.Mentions.{is_variable, may_skip}
 use Rattle.au_clearing.specs.Seen.{seen_name, seen_expression, seen_expressions, seen_arguments}
 use Rattle.au_clearing.specs.Touches.{Quiet, where_named, touched, touched_in_all, touched_in_arguments}
 use Rattle.au_clearing.specs.Deals.{Meets}
-use Rattle.au_clearing.proofs.MentionLemmas.{item_met, items_met, meets_then, meets_same, met_as, unmet_as, named_alone, or_both}
+use Rattle.au_clearing.proofs.MentionLemmas.{item_met, items_met, meets_then, meets_same, met_as, unmet_as}
+use Rattle.au_clearing.proofs.MentionLemmas.{named_alone, or_both}
 use Rattle.au_clearing.proofs.mentions.+touched.Goals as goal
 
 pub touch_all-loop-one-init : goal.touch_all-loop-one-init
@@ -59,51 +60,61 @@ touch_arguments-returns g t c =
 
 pub touch-returns-in-Number : goal.touch-returns-in-Number
 touch-returns-in-Number g t c =
-    let is = ap (seen_expression g.P.Phase) c.in-Number.is ∙ ap (plain_expression g.P.Phase.name_bytes) (says.number_says g.P.Phase _ _) in
+    let is = ap (seen_expression g.P.Phase) c.in-Number.is ∙ ap (plain_expression g.P.Phase.name_bytes)
+    (says.number_says g.P.Phase _ _) in
     unmet_as c.args.table.now c.args.looked c.args.part _ _ is (λ x free. refl)
 
 pub touch-returns-in-Negative : goal.touch-returns-in-Negative
 touch-returns-in-Negative g t c =
-    let is = ap (seen_expression g.P.Phase) c.in-Negative.is ∙ ap (plain_expression g.P.Phase.name_bytes) (says.negative_says g.P.Phase _ _) in
+    let is = ap (seen_expression g.P.Phase) c.in-Negative.is ∙ ap (plain_expression g.P.Phase.name_bytes)
+    (says.negative_says g.P.Phase _ _) in
     unmet_as c.args.table.now c.args.looked c.args.part _ _ is (λ x free. refl)
 
 pub touch-returns-in-Text : goal.touch-returns-in-Text
 touch-returns-in-Text g t c =
-    let is = ap (seen_expression g.P.Phase) c.in-Text.is ∙ ap (plain_expression g.P.Phase.name_bytes) (says.text_says g.P.Phase _ _) in
+    let is = ap (seen_expression g.P.Phase) c.in-Text.is ∙ ap (plain_expression g.P.Phase.name_bytes)
+    (says.text_says g.P.Phase _ _) in
     unmet_as c.args.table.now c.args.looked c.args.part _ _ is (λ x free. refl)
 
 pub touch-returns-in-Bool : goal.touch-returns-in-Bool
 touch-returns-in-Bool g t c =
-    let is = ap (seen_expression g.P.Phase) c.in-Bool.is ∙ ap (plain_expression g.P.Phase.name_bytes) (says.bool_says g.P.Phase _ _) in
+    let is = ap (seen_expression g.P.Phase) c.in-Bool.is ∙ ap (plain_expression g.P.Phase.name_bytes)
+    (says.bool_says g.P.Phase _ _) in
     unmet_as c.args.table.now c.args.looked c.args.part _ _ is (λ x free. refl)
 
 pub touch-returns-in-Nil : goal.touch-returns-in-Nil
 touch-returns-in-Nil g t c =
-    let is = ap (seen_expression g.P.Phase) c.in-Nil.is ∙ ap (plain_expression g.P.Phase.name_bytes) (says.nil_says g.P.Phase _) in
+    let is = ap (seen_expression g.P.Phase) c.in-Nil.is ∙ ap (plain_expression g.P.Phase.name_bytes)
+    (says.nil_says g.P.Phase _) in
     unmet_as c.args.table.now c.args.looked c.args.part _ _ is (λ x free. refl)
 
 pub touch-returns-in-Call : goal.touch-returns-in-Call
 touch-returns-in-Call g t c =
-    let is = ap (seen_expression g.P.Phase) c.in-Call.is ∙ ap (plain_expression g.P.Phase.name_bytes) (says.call_says g.P.Phase _ _ _ _) in
+    let is = ap (seen_expression g.P.Phase) c.in-Call.is ∙ ap (plain_expression g.P.Phase.name_bytes)
+    (says.call_says g.P.Phase _ _ _ _) in
     met_as c.touch_all.result c.args.table.now c.touch_all.new.table c.args.looked c.args.part _ _ is
     c.touch_all.ensures
 
 pub touch-returns-in-NamedCall : goal.touch-returns-in-NamedCall
 touch-returns-in-NamedCall g t c =
-    let is = ap (seen_expression g.P.Phase) c.in-NamedCall.is ∙ ap (plain_expression g.P.Phase.name_bytes) (says.named_call_says g.P.Phase _ _ _ _) in
+    let is = ap (seen_expression g.P.Phase) c.in-NamedCall.is ∙ ap (plain_expression g.P.Phase.name_bytes)
+    (says.named_call_says g.P.Phase _ _ _ _) in
     met_as c.touch_arguments.result c.args.table.now c.touch_arguments.new.table c.args.looked c.args.part _ _ is
     c.touch_arguments.ensures
 
 pub touch-returns-in-Arrow : goal.touch-returns-in-Arrow
 touch-returns-in-Arrow g t c =
-    let is = ap (seen_expression g.P.Phase) c.in-Arrow.is ∙ ap (plain_expression g.P.Phase.name_bytes) (says.arrow_says g.P.Phase _ _ _) in
+    let is = ap (seen_expression g.P.Phase) c.in-Arrow.is ∙ ap (plain_expression g.P.Phase.name_bytes)
+    (says.arrow_says g.P.Phase _ _ _) in
     met_as c.mention_as.result c.args.table.now c.mention_as.new.table c.args.looked c.args.part _ _ is
     c.mention_as.ensures
 
 pub touch-returns-in-Borrow : goal.touch-returns-in-Borrow
 touch-returns-in-Borrow g t c =
-    let is = ap (seen_expression g.P.Phase) c.in-Borrow.is ∙ ap (plain_expression g.P.Phase.name_bytes) (says.borrow_says g.P.Phase _ _ _) in
-    met_as c.mention_as-in-Borrow.result c.args.table.now c.mention_as-in-Borrow.new.table c.args.looked c.args.part _ _ is
+    let is = ap (seen_expression g.P.Phase) c.in-Borrow.is ∙ ap (plain_expression g.P.Phase.name_bytes)
+    (says.borrow_says g.P.Phase _ _ _) in
+    met_as c.mention_as-in-Borrow.result c.args.table.now c.mention_as-in-Borrow.new.table c.args.looked
+    c.args.part _ _ is
     (subst
     (λ touch. OnOk c.mention_as-in-Borrow.result
     (Meets c.args.table.now c.mention_as-in-Borrow.new.table
@@ -112,13 +123,16 @@ touch-returns-in-Borrow g t c =
 
 pub touch-returns-in-BorrowPart : goal.touch-returns-in-BorrowPart
 touch-returns-in-BorrowPart g t c =
-    let is = ap (seen_expression g.P.Phase) c.in-BorrowPart.is ∙ ap (plain_expression g.P.Phase.name_bytes) (says.borrow_part_says g.P.Phase _ _ _) in
-    met_as c.mention_as-in-BorrowPart.result c.args.table.now c.mention_as-in-BorrowPart.new.table c.args.looked c.args.part _ _ is
+    let is = ap (seen_expression g.P.Phase) c.in-BorrowPart.is ∙ ap (plain_expression g.P.Phase.name_bytes)
+    (says.borrow_part_says g.P.Phase _ _ _) in
+    met_as c.mention_as-in-BorrowPart.result c.args.table.now c.mention_as-in-BorrowPart.new.table
+    c.args.looked c.args.part _ _ is
     c.mention_as-in-BorrowPart.ensures
 
 pub touch-returns-in-Parenthesized : goal.touch-returns-in-Parenthesized
 touch-returns-in-Parenthesized g t c =
-    let is = ap (seen_expression g.P.Phase) c.in-Parenthesized.is ∙ ap (plain_expression g.P.Phase.name_bytes) (says.parenthesized_says g.P.Phase _ _) in
+    let is = ap (seen_expression g.P.Phase) c.in-Parenthesized.is ∙ ap (plain_expression g.P.Phase.name_bytes)
+    (says.parenthesized_says g.P.Phase _ _) in
     met_as c.touch.result c.args.table.now c.touch.new.table c.args.looked c.args.part _ _ is
     (subst
     (λ e. OnOk c.touch.result
@@ -128,7 +142,8 @@ touch-returns-in-Parenthesized g t c =
 
 pub touch-returns-in-Not : goal.touch-returns-in-Not
 touch-returns-in-Not g t c =
-    let is = ap (seen_expression g.P.Phase) c.in-Not.is ∙ ap (plain_expression g.P.Phase.name_bytes) (says.not_says g.P.Phase _ _) in
+    let is = ap (seen_expression g.P.Phase) c.in-Not.is ∙ ap (plain_expression g.P.Phase.name_bytes)
+    (says.not_says g.P.Phase _ _) in
     met_as c.touch-in-Not.result c.args.table.now c.touch-in-Not.new.table c.args.looked c.args.part _ _ is
     (subst
     (λ e. OnOk c.touch-in-Not.result
@@ -138,7 +153,8 @@ touch-returns-in-Not g t c =
 
 pub touch-returns-in-Typed : goal.touch-returns-in-Typed
 touch-returns-in-Typed g t c =
-    let is = ap (seen_expression g.P.Phase) c.in-Typed.is ∙ ap (plain_expression g.P.Phase.name_bytes) (says.typed_says g.P.Phase _ _ _) in
+    let is = ap (seen_expression g.P.Phase) c.in-Typed.is ∙ ap (plain_expression g.P.Phase.name_bytes)
+    (says.typed_says g.P.Phase _ _ _) in
     met_as c.touch-in-Typed.result c.args.table.now c.touch-in-Typed.new.table c.args.looked c.args.part _ _ is
     (subst
     (λ e. OnOk c.touch-in-Typed.result
@@ -148,7 +164,8 @@ touch-returns-in-Typed g t c =
 
 pub touch-returns-in-Path : goal.touch-returns-in-Path
 touch-returns-in-Path g t c =
-    let is = ap (seen_expression g.P.Phase) c.in-Path.is ∙ ap (plain_expression g.P.Phase.name_bytes) (says.path_says g.P.Phase _ _ _) in
+    let is = ap (seen_expression g.P.Phase) c.in-Path.is ∙ ap (plain_expression g.P.Phase.name_bytes)
+    (says.path_says g.P.Phase _ _ _) in
     met_as c.mention.result c.args.table.now c.mention.new.table c.args.looked c.args.part _ _ is
     (on_ok_weaker c.mention.result
     (λ met. meets_same c.args.table.now c.mention.new.table _ _ met
@@ -159,7 +176,8 @@ touch-returns-in-Path g t c =
 
 pub touch-returns-in-Dereference : goal.touch-returns-in-Dereference
 touch-returns-in-Dereference g t c =
-    let is = ap (seen_expression g.P.Phase) c.in-Dereference.is ∙ ap (plain_expression g.P.Phase.name_bytes) (says.dereference_says g.P.Phase _ _) in
+    let is = ap (seen_expression g.P.Phase) c.in-Dereference.is ∙ ap (plain_expression g.P.Phase.name_bytes)
+    (says.dereference_says g.P.Phase _ _) in
     let inner = seen_expression g.P.Phase c.in-Dereference.inner.value in
     let same = ap (seen_expression g.P.Phase) c.deref-in-Dereference.ensures in
     let behind = c.either-behind.ensures ∙ ap (λ v. c.args.looked || v) (c.is_variable.ensures ∙ ap is_variable same) in
@@ -176,7 +194,8 @@ touch-returns-in-Dereference g t c =
 
 pub touch-returns-in_ok-touch-in-Binary : goal.touch-returns-in_ok-touch-in-Binary
 touch-returns-in_ok-touch-in-Binary g t c =
-    let is = ap (seen_expression g.P.Phase) c.in-Binary.is ∙ ap (plain_expression g.P.Phase.name_bytes) (says.binary_says g.P.Phase _ _ _ _) in
+    let is = ap (seen_expression g.P.Phase) c.in-Binary.is ∙ ap (plain_expression g.P.Phase.name_bytes)
+    (says.binary_says g.P.Phase _ _ _ _) in
     let skips = c.either-skipped.ensures ∙ ap (λ v. c.args.part || v) c.may_skip.ensures in
     let first =
     subst
@@ -196,7 +215,8 @@ touch-returns-in_ok-touch-in-Binary g t c =
 
 pub touch-returns-in_ok-touch-in-If-2 : goal.touch-returns-in_ok-touch-in-If-2
 touch-returns-in_ok-touch-in-If-2 g t c =
-    let is = ap (seen_expression g.P.Phase) c.in-If.is ∙ ap (plain_expression g.P.Phase.name_bytes) (says.if_says g.P.Phase _ _ _ _) in
+    let is = ap (seen_expression g.P.Phase) c.in-If.is ∙ ap (plain_expression g.P.Phase.name_bytes)
+    (says.if_says g.P.Phase _ _ _ _) in
     let test =
     subst
     (λ e. Meets c.args.table.now c.touch-in-If.new.table

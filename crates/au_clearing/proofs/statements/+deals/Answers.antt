@@ -1,4 +1,5 @@
-use Rattle.std.proofs.Common.{◌≡◌, ◌==◌, false, [], ◌∷◌, ◌++◌, drop, IfOk, OnOk, refl, sym, ap, subst, ◌∙◌, append_assoc, arith}
+use Rattle.std.proofs.Common.{◌≡◌, ◌==◌, false, [], ◌∷◌, ◌++◌, drop, IfOk, OnOk, refl, sym, ap, subst, ◌∙◌}
+use Rattle.std.proofs.Common.{append_assoc, arith}
 use Rattle.std.proofs.lemmas.Bool.{eqb-true}
 use Rattle.std.proofs.lemmas.List.{drop_all, nil_from_length}
 use Rattle.std.proofs.lemmas.Result.{IfOk-weaker, on_ok_weaker}
@@ -6,10 +7,14 @@ use Rattle.au_syntax.specs.Plain.{plain_statement}
 use Rattle.au_syntax.proofs.StatementLemmas as says
 use Rattle.au_lives.specs.Lives.{held_from}
 use Rattle.au_lives.specs.Paths.{declared, lent, bound_names}
-use Rattle.au_lives.specs.Scopes.{scope, scopes, scopes_after, scopes_inside, scopes_of_branches, scopes_of_arms, bound_over}
+use Rattle.au_lives.specs.Scopes.{scope, scopes, scopes_after, scopes_inside, scopes_of_branches}
+use Rattle.au_lives.specs.Scopes.{scopes_of_arms, bound_over}
 use Rattle.au_clearing.specs.Touches.{Written, Quiet, kept, touched_at}
-use Rattle.au_clearing.specs.Dealings.{nothing, never, once, mention, cased, chain, fork, turns, lend_named, deal_block, deal_branches, deal_arms, returns_in_block, returns_in_branches, returns_in_arms}
-use Rattle.au_clearing.specs.Seen.{seen_name, seen_expression, seen_binds, seen_statement, seen_statements, seen_block, seen_branches, seen_arms}
+use Rattle.au_clearing.specs.Dealings.{nothing, never, once, mention, cased, chain, fork, turns, lend_named}
+use Rattle.au_clearing.specs.Dealings.{deal_block, deal_branches, deal_arms, returns_in_block}
+use Rattle.au_clearing.specs.Dealings.{returns_in_branches, returns_in_arms}
+use Rattle.au_clearing.specs.Seen.{seen_name, seen_expression, seen_binds, seen_statement, seen_statements}
+use Rattle.au_clearing.specs.Seen.{seen_block, seen_branches, seen_arms}
 use Rattle.au_clearing.specs.Deals.{seen_at, Sums, SumsBlock, SumsStatement, Piles}
 use Rattle.au_clearing.proofs.ItemLemmas as items
 use Rattle.au_clearing.proofs.SumLemmas as sums
@@ -582,7 +587,8 @@ deals_of-returns-in-Destructure-clause-piles g t c =
     let is = ap (seen_statement g.P.Phase) c.in-Destructure.is
     ∙ ap (plain_statement g.P.Phase.name_bytes) (says.destructure_says g.P.Phase _ _ _) in
     let p = c.args.pile_of.now.items in
-    sums.piled_as c.expression-in-Destructure.result _ _ p p is (sums.on_ok_if c.expression-in-Destructure.result (sums.piles_none p))
+    sums.piled_as c.expression-in-Destructure.result _ _ p p is
+    (sums.on_ok_if c.expression-in-Destructure.result (sums.piles_none p))
 
 pub deals_of-returns-in-Assign-clause-piles : goal.deals_of-returns-in-Assign-clause-piles
 deals_of-returns-in-Assign-clause-piles g t c =
@@ -596,7 +602,8 @@ deals_of-returns-in-AssignThrough-clause-piles g t c =
     let is = ap (seen_statement g.P.Phase) c.in-AssignThrough.is
     ∙ ap (plain_statement g.P.Phase.name_bytes) (says.assign_through_says g.P.Phase _ _ _ _) in
     let p = c.args.pile_of.now.items in
-    sums.piled_as c.assignment-in-AssignThrough.result _ _ p p is (sums.on_ok_if c.assignment-in-AssignThrough.result (sums.piles_none p))
+    sums.piled_as c.assignment-in-AssignThrough.result _ _ p p is
+    (sums.on_ok_if c.assignment-in-AssignThrough.result (sums.piles_none p))
 
 pub deals_of-returns-in-Call-clause-piles : goal.deals_of-returns-in-Call-clause-piles
 deals_of-returns-in-Call-clause-piles g t c =
@@ -663,5 +670,6 @@ pub deals_of-returns-in-BorrowTyped-clause-piles : goal.deals_of-returns-in-Borr
 deals_of-returns-in-BorrowTyped-clause-piles g t c =
     let is = ap (seen_statement g.P.Phase) c.in-BorrowTyped.is
     ∙ ap (plain_statement g.P.Phase.name_bytes) (says.borrow_typed_says g.P.Phase _ _ _ _ _ _ _) in
-    sums.piled_as c.deals_of_loan-in-BorrowTyped.result _ _ c.args.pile_of.now.items c.deals_of_loan-in-BorrowTyped.new.pile_of.items is
+    sums.piled_as c.deals_of_loan-in-BorrowTyped.result _ _ c.args.pile_of.now.items
+    c.deals_of_loan-in-BorrowTyped.new.pile_of.items is
     c.deals_of_loan-in-BorrowTyped.ensures.piles

@@ -6,7 +6,8 @@ use Rattle.au_syntax.specs.Views.{argument_all, expression, expression_all}
 use Rattle.au_closed_trees.specs.Calls.{calls_in, calls_in_all, calls_in_arguments}
 use Rattle.au_closed_trees.proofs.CallLemmas as lemmas
 use Rattle.au_closed_trees.proofs.CallLemmas.{arguments_lead, expressions_lead}
-use Rattle.au_closed_trees.proofs.SnocLemmas.{arguments_push, expressions_push, one_argument, snoc_arguments, snoc_expressions}
+use Rattle.au_closed_trees.proofs.SnocLemmas.{arguments_push, expressions_push, one_argument, snoc_arguments}
+use Rattle.au_closed_trees.proofs.SnocLemmas.{snoc_expressions}
 use Rattle.au_closed_trees.proofs.LoopLemmas.{alone_behind, found_more}
 use Rattle.au_closed_trees.proofs.calls.+add_expression.Goals as goal
 

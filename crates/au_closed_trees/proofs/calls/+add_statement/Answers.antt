@@ -6,7 +6,8 @@ use Rattle.au_syntax.specs.Views.{arm_all, block, branch_all, expression, statem
 use Rattle.au_closed_trees.specs.Calls.{calls_in, calls_in_arms, calls_in_block, calls_in_branches, calls_in_statement}
 use Rattle.au_closed_trees.proofs.CallLemmas as lemmas
 use Rattle.au_closed_trees.proofs.CallLemmas.{arms_lead, branches_lead, statements_lead}
-use Rattle.au_closed_trees.proofs.SnocLemmas.{arms_push, branches_push, one_arm, one_branch, snoc_arms, snoc_branches, snoc_statements, statements_push}
+use Rattle.au_closed_trees.proofs.SnocLemmas.{arms_push, branches_push, one_arm, one_branch, snoc_arms}
+use Rattle.au_closed_trees.proofs.SnocLemmas.{snoc_branches, snoc_statements, statements_push}
 use Rattle.au_closed_trees.proofs.LoopLemmas.{alone_behind, found_more}
 use Rattle.au_closed_trees.proofs.calls.+add_statement.Goals as goal
 

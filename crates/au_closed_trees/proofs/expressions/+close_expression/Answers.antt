@@ -7,7 +7,8 @@ use Rattle.au_closed_trees.specs.contracts.phase.ClosedTreesPhase.TheImpl.{ghost
 use Rattle.au_closed_trees.specs.Renoted.{arguments_renoted, expression_renoted, expressions_renoted}
 use Rattle.au_closed_trees.proofs.ClosingLemmas as lemmas
 use Rattle.au_closed_trees.proofs.ClosingLemmas.{argument_closed, arguments_turn, expressions_turn}
-use Rattle.au_closed_trees.proofs.SnocLemmas.{arguments_push, expressions_push, one_argument, snoc_arguments, snoc_expressions}
+use Rattle.au_closed_trees.proofs.SnocLemmas.{arguments_push, expressions_push, one_argument, snoc_arguments}
+use Rattle.au_closed_trees.proofs.SnocLemmas.{snoc_expressions}
 use Rattle.au_closed_trees.proofs.LoopLemmas.{all_made, item_falls, made_more}
 use Rattle.au_closed_trees.proofs.expressions.+close_expression.Goals as goal
 
@@ -73,7 +74,8 @@ close_expression-returns-in_ok-close_boxed-in-Binary g t c =
 pub close_expression-returns-in_ok-site-in-Not : goal.close_expression-returns-in_ok-site-in-Not
 close_expression-returns-in_ok-site-in-Not g t c = grind (arith, says.not_says, lemmas.not_becomes)
 
-pub close_expression-returns-in_ok-copy_text_of_type-in-Typed : goal.close_expression-returns-in_ok-copy_text_of_type-in-Typed
+pub close_expression-returns-in_ok-copy_text_of_type-in-Typed :
+    goal.close_expression-returns-in_ok-copy_text_of_type-in-Typed
 close_expression-returns-in_ok-copy_text_of_type-in-Typed g t c = grind (arith, says.typed_says, lemmas.typed_becomes)
 
 pub close_expression-returns-in_ok-close_boxed-in-If : goal.close_expression-returns-in_ok-close_boxed-in-If

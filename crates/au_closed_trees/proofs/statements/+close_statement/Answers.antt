@@ -6,10 +6,14 @@ use Rattle.au_syntax.specs.declared.statements.Stmt.{size-Stmt}
 use Rattle.au_syntax.specs.Views.{arm_all, branch_all, expression, statement, statement_all}
 use Rattle.au_syntax.proofs.StatementLemmas as says
 use Rattle.au_closed_trees.specs.contracts.phase.ClosedTreesPhase.TheImpl.{ghosts as closed}
-use Rattle.au_closed_trees.specs.Renoted.{arms_renoted, block_renoted, branches_renoted, expression_renoted, statement_renoted}
+use Rattle.au_closed_trees.specs.Renoted.{arms_renoted, block_renoted, branches_renoted, expression_renoted}
+use Rattle.au_closed_trees.specs.Renoted.{statement_renoted}
 use Rattle.au_closed_trees.proofs.ClosingLemmas as lemmas
-use Rattle.au_closed_trees.proofs.ClosingLemmas.{arm_closed, arms_turn, borrow_closed, borrow_typed_closed, branch_closed, branches_turn, for_closed, if_else_closed, statements_turn, while_closed}
-use Rattle.au_closed_trees.proofs.SnocLemmas.{arms_push, branches_push, one_arm, one_branch, snoc_arms, snoc_branches, snoc_statements, statements_push}
+use Rattle.au_closed_trees.proofs.ClosingLemmas.{arm_closed, arms_turn, borrow_closed, borrow_typed_closed}
+use Rattle.au_closed_trees.proofs.ClosingLemmas.{branch_closed, branches_turn, for_closed, if_else_closed}
+use Rattle.au_closed_trees.proofs.ClosingLemmas.{statements_turn, while_closed}
+use Rattle.au_closed_trees.proofs.SnocLemmas.{arms_push, branches_push, one_arm, one_branch, snoc_arms}
+use Rattle.au_closed_trees.proofs.SnocLemmas.{snoc_branches, snoc_statements, statements_push}
 use Rattle.au_closed_trees.proofs.LoopLemmas.{all_made, block_item_falls, item_falls, made_more}
 use Rattle.au_closed_trees.proofs.statements.+close_statement.Goals as goal
 

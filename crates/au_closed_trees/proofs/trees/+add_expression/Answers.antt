@@ -8,7 +8,8 @@ use Rattle.au_syntax.specs.Views.{argument_all, expression, expression_all}
 use Rattle.au_closed_trees.specs.Notes.{said_in, said_in_all, said_in_arguments}
 use Rattle.au_closed_trees.proofs.NoteLemmas as lemmas
 use Rattle.au_closed_trees.proofs.NoteLemmas.{arguments_told, expressions_told}
-use Rattle.au_closed_trees.proofs.SnocLemmas.{arguments_push, expressions_push, one_argument, snoc_arguments, snoc_expressions}
+use Rattle.au_closed_trees.proofs.SnocLemmas.{arguments_push, expressions_push, one_argument, snoc_arguments}
+use Rattle.au_closed_trees.proofs.SnocLemmas.{snoc_expressions}
 use Rattle.au_closed_trees.proofs.LoopLemmas.{alone_behind, found_more}
 use Rattle.au_closed_trees.proofs.trees.+add_expression.Goals as goal
 

@@ -8,7 +8,8 @@ use Rattle.au_syntax.specs.Views.{arm_all, block, branch_all, expression, statem
 use Rattle.au_closed_trees.specs.Notes.{said_in, said_in_arms, said_in_block, said_in_branches, said_in_statement}
 use Rattle.au_closed_trees.proofs.NoteLemmas as lemmas
 use Rattle.au_closed_trees.proofs.NoteLemmas.{arms_told, branches_told, statements_told}
-use Rattle.au_closed_trees.proofs.SnocLemmas.{arms_push, branches_push, one_arm, one_branch, snoc_arms, snoc_branches, snoc_statements, statements_push}
+use Rattle.au_closed_trees.proofs.SnocLemmas.{arms_push, branches_push, one_arm, one_branch, snoc_arms}
+use Rattle.au_closed_trees.proofs.SnocLemmas.{snoc_branches, snoc_statements, statements_push}
 use Rattle.au_closed_trees.proofs.LoopLemmas.{alone_behind, found_more}
 use Rattle.au_closed_trees.proofs.trees.+add_statement.Goals as goal
 

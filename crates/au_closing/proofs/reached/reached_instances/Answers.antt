@@ -15,7 +15,8 @@ pub returns-in-Ok-clause-lists : goal.returns-in-Ok-clause-lists
 returns-in-Ok-clause-lists g c =
     let starts = ap (map instance_said)
     (c.in_ok-push.ensures.items ∙ ap (λ l. l ++ c.args.entry ∷ []) c.new-starts.ensures.items) in
-    carried (λ test these. Lists test (g.C.Calls.calls_of c.args.calls.now) these (found_in instance_said c.in-Ok.finds))
+    carried (λ test these. Lists test (g.C.Calls.calls_of c.args.calls.now) these
+    (found_in instance_said c.in-Ok.finds))
     (map instance_said c.push.new.self.items) (instance_said c.args.entry ∷ []) starts c.in-Ok.ensures.lists
 
 pub returns-in-Ok-clause-within : goal.returns-in-Ok-clause-within
@@ -29,7 +30,8 @@ pub returns-in-Ok-clause-finds : goal.returns-in-Ok-clause-finds
 returns-in-Ok-clause-finds g c =
     let starts = ap (map instance_said)
     (c.in_ok-push.ensures.items ∙ ap (λ l. l ++ c.args.entry ∷ []) c.new-starts.ensures.items) in
-    carried (λ test these. Finds_all itself (Ok (found_in instance_said c.in-Ok.finds)) test instance_told most_instances
+    carried (λ test these. Finds_all itself (Ok (found_in instance_said c.in-Ok.finds)) test instance_told
+    most_instances
     (g.C.Calls.calls_of c.args.calls.now) these)
     (map instance_said c.push.new.self.items) (instance_said c.args.entry ∷ []) starts c.in-Ok.ensures.finds
 

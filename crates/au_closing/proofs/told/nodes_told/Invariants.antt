@@ -6,4 +6,5 @@ use Rattle.au_closing.proofs.told.nodes_told.Given as goal
 
 -- what is left tells what all tells
 abbrev pub invariant-loop-one : goal.invariant-loop-one
-invariant-loop-one l = first_told nodes_limit (given_said (drop l.one-index l.given)) ≡ first_told nodes_limit (given_said l.given)
+invariant-loop-one l = first_told nodes_limit (given_said (drop l.one-index l.given)) ≡ first_told nodes_limit
+    (given_said l.given)

@@ -10,7 +10,9 @@ loop-one-preserved c =
     puts.item_put (λ ss. mentions_of_block c.args.x.now (statements_said ss)) c.args.stmts.now c.loop-one.one-index
     c.one-item.result c.one-item.is c.loop-one-test.true (mentions_of c.args.x.now (statement_said c.one-item.result))
     c.loop-one.made.items c.add_statement.new.made.items _
-    (shown_behind c.args.x.now (statement_said c.one-item.result) (statements_said (drop (c.loop-one.one-index + 1) c.args.stmts.now)) (sym c.if-is_declared_by.false ∙ c.is_declared_by.ensures))
+    (shown_behind c.args.x.now (statement_said c.one-item.result)
+    (statements_said (drop (c.loop-one.one-index + 1) c.args.stmts.now))
+    (sym c.if-is_declared_by.false ∙ c.is_declared_by.ensures))
     c.loop-one.invariant c.in_ok-add_statement.ensures
 
 pub returns-then-is_declared_by : goal.returns-then-is_declared_by
@@ -18,7 +20,9 @@ returns-then-is_declared_by c =
     puts.last_put (λ ss. mentions_of_block c.args.x.now (statements_said ss)) c.args.stmts.now c.loop-one.one-index
     c.one-item.result c.one-item.is c.loop-one-test.true (mentions_of c.args.x.now (statement_said c.one-item.result))
     c.loop-one.made.items c.add_statement.new.made.items _
-    (hidden_behind c.args.x.now (statement_said c.one-item.result) (statements_said (drop (c.loop-one.one-index + 1) c.args.stmts.now)) (sym c.if-is_declared_by.true ∙ c.is_declared_by.ensures))
+    (hidden_behind c.args.x.now (statement_said c.one-item.result)
+    (statements_said (drop (c.loop-one.one-index + 1) c.args.stmts.now))
+    (sym c.if-is_declared_by.true ∙ c.is_declared_by.ensures))
     c.loop-one.invariant c.in_ok-add_statement.ensures
 
 pub returns : goal.returns

@@ -19,12 +19,15 @@ push_spot-requires-clause-place c =
 pub loop-one-preserved : goal.loop-one-preserved
 loop-one-preserved c =
     let f = spot_lives (slots.modules c.args.resolved.now) in
-    puts.item_put (λ ss. flat_map f (spots_said ss)) c.deref-one-items.result.now c.loop-one.one-index c.one-item.result c.one-item.is c.loop-one-test.true
-    (f (spot_said c.one-item.result)) c.loop-one.made.items c.push_spot.new.made.items _ refl c.loop-one.invariant c.in_ok-push_spot.ensures
+    puts.item_put (λ ss. flat_map f (spots_said ss)) c.deref-one-items.result.now c.loop-one.one-index
+    c.one-item.result c.one-item.is c.loop-one-test.true
+    (f (spot_said c.one-item.result)) c.loop-one.made.items c.push_spot.new.made.items _ refl
+    c.loop-one.invariant c.in_ok-push_spot.ensures
 
 pub returns : goal.returns
 returns c =
     let f = spot_lives (slots.modules c.args.resolved.now) in
-    puts.items_put (λ ss. flat_map f (spots_said ss)) c.deref-one-items.result.now c.loop-one.one-index c.loop-one-test.false c.loop-one.made.items _ refl c.loop-one.invariant
+    puts.items_put (λ ss. flat_map f (spots_said ss)) c.deref-one-items.result.now c.loop-one.one-index
+    c.loop-one-test.false c.loop-one.made.items _ refl c.loop-one.invariant
     ∙ ap (λ ss. c.args.made.now.items ++ flat_map f (spots_said ss)) c.deref-one-items.ensures.value
     ∙ ap (λ all. c.args.made.now.items ++ flat_map f all) c.requires.all

@@ -10,4 +10,5 @@ loop-at-preserved c =
     (sym c.is_marked.ensures.marked ∙ c.if-not-is_marked.false)
 
 pub returns : goal.returns
-returns c = less_passed (IsMarked c.args.done.now) (length c.args.nodes.now) c.loop-at.at c.args.nodes.now (omega arith) c.loop-at.invariant
+returns c = less_passed (IsMarked c.args.done.now) (length c.args.nodes.now) c.loop-at.at c.args.nodes.now
+    (omega arith) c.loop-at.invariant

@@ -10,5 +10,6 @@ loop-start-init c = record {
     ap length c.in_ok-seen.ensures ∙ length-replicate c.node_count.result false ∙ c.node_count.ensures,
     ap length c.in_ok-done.ensures ∙ length-replicate c.node_count-2.result false ∙ c.node_count-2.ensures,
   );
-  peeled = subst (λ (marks : List Bool). IsPeeled c.args.graph.now marks) (sym c.in_ok-done.ensures) (peeled_none c.args.graph.now c.node_count-2.result c.node_count-2.ensures);
+  peeled = subst (λ (marks : List Bool). IsPeeled c.args.graph.now marks) (sym c.in_ok-done.ensures)
+      (peeled_none c.args.graph.now c.node_count-2.result c.node_count-2.ensures);
 }

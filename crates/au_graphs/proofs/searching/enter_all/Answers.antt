@@ -15,5 +15,6 @@ loop-node-preserved c =
     let work = c.args.work.now.items in
     let now = c.enter.new.seen.items in
     let list = c.enter.new.work.items in
-    let both = entered_both (take at nodes) (get_or nodes at 0 ∷ []) seen work c.loop-node.seen.items c.loop-node.work.items now list c.loop-node.invariant c.in_ok-enter.ensures in
+    let both = entered_both (take at nodes) (get_or nodes at 0 ∷ []) seen work c.loop-node.seen.items
+    c.loop-node.work.items now list c.loop-node.invariant c.in_ok-enter.ensures in
     subst (λ (xs : List ℕ). Entered xs seen work now list) (sym (take_more nodes at 0 (omega arith))) both

@@ -7,5 +7,7 @@ use Rattle.au_instances.proofs.becoming.all_stand_for.Given as goal
 abbrev pub invariant-loop-index : goal.invariant-loop-index
 invariant-loop-index l = record {
   lengths : length l.names.items ≡ length l.args.items;
-  rest : all_stand_for l.heads l.scope l.params (argument_all l.names.items) (argument_all l.args.items) ≡ all_stand_for l.heads l.scope l.params (argument_all (drop l.index l.names.items)) (argument_all (drop l.index l.args.items));
+  rest : all_stand_for l.heads l.scope l.params (argument_all l.names.items) (argument_all l.args.items)
+      ≡ all_stand_for l.heads l.scope l.params (argument_all (drop l.index l.names.items))
+      (argument_all (drop l.index l.args.items));
 }

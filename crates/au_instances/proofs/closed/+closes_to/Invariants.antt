@@ -8,5 +8,7 @@ use Rattle.au_instances.proofs.closed.+closes_to.Given as goal
 abbrev pub invariant-all_close_to-loop-index : goal.invariant-all_close_to-loop-index
 invariant-all_close_to-loop-index l = record {
   lengths : length (types_in (argument_all l.args)) ≡ length l.targets.items;
-  rest : all_close_to (types_in (argument_all l.args)) (closed_meanings l.targets.items) ≡ all_close_to (drop l.index (types_in (argument_all l.args))) (closed_meanings (drop l.index l.targets.items));
+  rest : all_close_to (types_in (argument_all l.args)) (closed_meanings l.targets.items)
+      ≡ all_close_to (drop l.index (types_in (argument_all l.args)))
+      (closed_meanings (drop l.index l.targets.items));
 }

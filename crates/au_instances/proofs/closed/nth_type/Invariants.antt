@@ -5,4 +5,5 @@ use Rattle.au_instances.proofs.closed.nth_type.Given as goal
 
 -- so many of the types that are left stand before the one that is looked for
 abbrev pub invariant-loop-one : goal.invariant-loop-one
-invariant-loop-one l = slice_get (types_in (argument_all l.args)) l.place ≡ slice_get (types_in (argument_all (drop l.one-index l.args))) l.left
+invariant-loop-one l = slice_get (types_in (argument_all l.args)) l.place
+    ≡ slice_get (types_in (argument_all (drop l.one-index l.args))) l.left

@@ -12,9 +12,12 @@ loop-one-preserved c =
     let before = c.loop-one.invariant in
     elim c.match-one.branch [
       | in-Of w ↦
-          let left = ap length (type_left all i c.one-item.result (meaning w.in-Of.field-0) c.loop-one-test.true c.one-item.is (ap argument w.in-Of.is ∙ type_argument_means w.in-Of.field-0)) in
+          let left = ap length (type_left all i c.one-item.result (meaning w.in-Of.field-0)
+          c.loop-one-test.true c.one-item.is (ap argument w.in-Of.is ∙ type_argument_means w.in-Of.field-0))
+          in
           record { few = omega (arith, before.few, w.count-is); rest = omega (arith, before.rest, left, w.count-is) }
       | in-In w ↦
-          let left = ap length (region_left all i c.one-item.result w.in-In.field-0 c.loop-one-test.true c.one-item.is (ap argument w.in-In.is ∙ region_argument_means w.in-In.field-0)) in
+          let left = ap length (region_left all i c.one-item.result w.in-In.field-0 c.loop-one-test.true
+          c.one-item.is (ap argument w.in-In.is ∙ region_argument_means w.in-In.field-0)) in
           record { few = omega (arith, before.few, w.count-is); rest = omega (arith, before.rest, left, w.count-is) }
     ]

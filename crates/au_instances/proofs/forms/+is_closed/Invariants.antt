@@ -5,4 +5,5 @@ use Rattle.au_instances.proofs.forms.+is_closed.Given as goal
 
 -- the arguments so far are closed, so those that are left decide
 abbrev pub invariant-are_closed-loop-one : goal.invariant-are_closed-loop-one
-invariant-are_closed-loop-one l = are_closed (argument_all l.one-items) ≡ are_closed (argument_all (drop l.one-index l.one-items))
+invariant-are_closed-loop-one l = are_closed (argument_all l.one-items)
+    ≡ are_closed (argument_all (drop l.one-index l.one-items))

@@ -5,4 +5,5 @@ use Rattle.au_instances.proofs.forms.stands_in.Given as goal
 
 -- the arguments so far are other names, so those that are left decide
 abbrev pub invariant-loop-one : goal.invariant-loop-one
-invariant-loop-one l = stands_in l.name (argument_all l.args) ≡ stands_in l.name (argument_all (drop l.one-index l.args))
+invariant-loop-one l = stands_in l.name (argument_all l.args) ≡ stands_in l.name
+    (argument_all (drop l.one-index l.args))

@@ -29,14 +29,20 @@ decreases-lacking_of l = 8 * argument_size (argument l.one.now)
 -- nothing is lacking for the type parameters so far, so those that are left decide
 abbrev pub invariant-lacking_among-loop-index : goal.invariant-lacking_among-loop-index
 invariant-lacking_among-loop-index l =
-    lacking_among l.sight l.row.generics (argument_all l.names) (argument_all l.args.items) ≡ led_all l.sight (argument_all l.names) (argument_all l.args.items) (flat_map (constraints_by l.sight (argument_all l.names) (argument_all l.args.items) l.row.generics) (drop l.index l.row.generics))
+    lacking_among l.sight l.row.generics (argument_all l.names) (argument_all l.args.items)
+    ≡ led_all l.sight (argument_all l.names) (argument_all l.args.items)
+    (flat_map (constraints_by l.sight (argument_all l.names) (argument_all l.args.items) l.row.generics)
+    (drop l.index l.row.generics))
 
 -- the arguments so far stand in the places of other names, so those that are left decide
 abbrev pub invariant-lacking_at-loop-index : goal.invariant-lacking_at-loop-index
 invariant-lacking_at-loop-index l =
-    lacking_at l.sight l.name l.class (argument_all l.names) (argument_all l.args.items) ≡ at_left l.sight l.name l.class (drop l.index l.names) (drop l.index l.args.items)
+    lacking_at l.sight l.name l.class (argument_all l.names) (argument_all l.args.items)
+    ≡ at_left l.sight l.name l.class (drop l.index l.names) (drop l.index l.args.items)
 
 -- nothing is lacking for the classes so far, so those that are left decide
 abbrev pub invariant-lacking_from-loop-class : goal.invariant-lacking_from-loop-class
 invariant-lacking_from-loop-class l =
-    lacking_from l.sight l.name l.classes (argument_all l.names) (argument_all l.args.items) ≡ led_all l.sight (argument_all l.names) (argument_all l.args.items) (named_with l.name (drop l.class-index l.classes))
+    lacking_from l.sight l.name l.classes (argument_all l.names) (argument_all l.args.items)
+    ≡ led_all l.sight (argument_all l.names) (argument_all l.args.items)
+    (named_with l.name (drop l.class-index l.classes))

@@ -6,5 +6,6 @@ use Rattle.au_judged_types.proofs.bounds.classes_in.Given as goal
 abbrev pub invariant-loop-index : goal.invariant-loop-index
 invariant-loop-index l = record {
   lengths : length l.params ≡ length l.classes.items;
-  rest : classes_of (bounded l.params l.classes.items) l.name ≡ classes_of (bounded (drop l.index l.params) (drop l.index l.classes.items)) l.name;
+  rest : classes_of (bounded l.params l.classes.items) l.name
+      ≡ classes_of (bounded (drop l.index l.params) (drop l.index l.classes.items)) l.name;
 }

@@ -18,7 +18,8 @@ loop-index-init c =
 pub unfit-requires : goal.unfit-requires
 unfit-requires c =
     let scope = c.args.scope.now in
-    (step_parts scope.heads.now scope.params.now c.args.expected.now c.args.args.now.items c.deref-one-items.result.now c.loop-index.index c.at.result.now c.one-item.result
+    (step_parts scope.heads.now scope.params.now c.args.expected.now c.args.args.now.items
+    c.deref-one-items.result.now c.loop-index.index c.at.result.now c.one-item.result
     c.loop-index.invariant.stand c.at.ensures c.deref-one-items.ensures.value c.loop-index-test.true c.one-item.is).0
 
 pub returns-in-Some : goal.returns-in-Some
@@ -27,9 +28,12 @@ returns-in-Some c =
     let expected = c.args.expected.now in
     let args = c.args.args.now.items in
     let i = c.loop-index.index in
-    let rest = first_unfit scope.heads.now scope.params.now (drop (i + 1) expected) (argument_all (drop (i + 1) args)) in
-    sym (step_unfit scope.heads.now scope.params.now expected args c.deref-one-items.result.now i c.at.result.now c.one-item.result (option_map reason c.in_ok-why.field-0)
-    c.loop-index.invariant.rest c.at.ensures c.deref-one-items.ensures.value c.loop-index-test.true c.one-item.is c.in_ok-why.ensures
+    let rest = first_unfit scope.heads.now scope.params.now (drop (i + 1) expected)
+    (argument_all (drop (i + 1) args)) in
+    sym (step_unfit scope.heads.now scope.params.now expected args c.deref-one-items.result.now i
+    c.at.result.now c.one-item.result (option_map reason c.in_ok-why.field-0)
+    c.loop-index.invariant.rest c.at.ensures c.deref-one-items.ensures.value c.loop-index-test.true
+    c.one-item.is c.in_ok-why.ensures
     ∙ ap (λ o. option_or (option_map reason o) rest) c.in-Some.is)
 
 pub loop-index-preserved : goal.loop-index-preserved
@@ -38,20 +42,26 @@ loop-index-preserved c =
     let expected = c.args.expected.now in
     let args = c.args.args.now.items in
     let i = c.loop-index.index in
-    let rest = first_unfit scope.heads.now scope.params.now (drop (i + 1) expected) (argument_all (drop (i + 1) args)) in
+    let rest = first_unfit scope.heads.now scope.params.now (drop (i + 1) expected)
+    (argument_all (drop (i + 1) args)) in
     record {
       lengths = c.loop-index.invariant.lengths;
       stand =
-          (step_parts scope.heads.now scope.params.now expected args c.deref-one-items.result.now i c.at.result.now c.one-item.result
-          c.loop-index.invariant.stand c.at.ensures c.deref-one-items.ensures.value c.loop-index-test.true c.one-item.is).1;
+          (step_parts scope.heads.now scope.params.now expected args c.deref-one-items.result.now i
+          c.at.result.now c.one-item.result
+          c.loop-index.invariant.stand c.at.ensures c.deref-one-items.ensures.value c.loop-index-test.true
+          c.one-item.is).1;
       rest =
-          step_unfit scope.heads.now scope.params.now expected args c.deref-one-items.result.now i c.at.result.now c.one-item.result (option_map reason c.in_ok-why.field-0)
-          c.loop-index.invariant.rest c.at.ensures c.deref-one-items.ensures.value c.loop-index-test.true c.one-item.is c.in_ok-why.ensures
+          step_unfit scope.heads.now scope.params.now expected args c.deref-one-items.result.now i
+          c.at.result.now c.one-item.result (option_map reason c.in_ok-why.field-0)
+          c.loop-index.invariant.rest c.at.ensures c.deref-one-items.ensures.value c.loop-index-test.true
+          c.one-item.is c.in_ok-why.ensures
           ∙ ap (λ o. option_or (option_map reason o) rest) c.in-None.is;
     }
 
 pub returns : goal.returns
 returns c =
     let scope = c.args.scope.now in
-    none_unfit scope.heads.now scope.params.now c.args.expected.now c.args.args.now.items c.deref-one-items.result.now c.loop-index.index
+    none_unfit scope.heads.now scope.params.now c.args.expected.now c.args.args.now.items
+    c.deref-one-items.result.now c.loop-index.index
     c.loop-index.invariant.rest c.deref-one-items.ensures.value c.loop-index-test.false

@@ -8,6 +8,9 @@ use Rattle.au_judged_types.proofs.fitting.first_unfit.Given as goal
 abbrev pub invariant-loop-index : goal.invariant-loop-index
 invariant-loop-index l = record {
   lengths : length l.args.items ≡ length l.expected;
-  stand : StandFor l.scope.heads.now l.scope.params.now (drop l.index l.expected) (argument_all (drop l.index l.args.items));
-  rest : first_unfit l.scope.heads.now l.scope.params.now l.expected (argument_all l.args.items) ≡ first_unfit l.scope.heads.now l.scope.params.now (drop l.index l.expected) (argument_all (drop l.index l.args.items));
+  stand : StandFor l.scope.heads.now l.scope.params.now (drop l.index l.expected)
+      (argument_all (drop l.index l.args.items));
+  rest : first_unfit l.scope.heads.now l.scope.params.now l.expected (argument_all l.args.items)
+      ≡ first_unfit l.scope.heads.now l.scope.params.now (drop l.index l.expected)
+      (argument_all (drop l.index l.args.items));
 }

@@ -8,11 +8,14 @@ use Rattle.au_judged_types.proofs.FittingLemmas.{region_unfit, type_stands}
 use Rattle.au_judged_types.proofs.fitting.unfit.Goals as goal
 
 pub unfit_type-requires : goal.unfit_type-requires
-unfit_type-requires c = type_stands c.args.scope.now.heads.now c.args.scope.now.params.now c.args.one.now c.in-Of.of c.in-Of.is c.requires
+unfit_type-requires c = type_stands c.args.scope.now.heads.now c.args.scope.now.params.now c.args.one.now
+    c.in-Of.of c.in-Of.is c.requires
 
 pub returns-in-Of : goal.returns-in-Of
 returns-in-Of c =
-    subst (λ one. IfOk c.unfit_type.result (λ why. option_map reason why ≡ unfit c.args.scope.now.heads.now c.args.scope.now.params.now c.args.wanted one))
+    subst (λ one. IfOk c.unfit_type.result
+    (λ why. option_map reason why ≡ unfit c.args.scope.now.heads.now c.args.scope.now.params.now
+    c.args.wanted one))
     (sym (ap argument c.in-Of.is ∙ type_argument_means c.in-Of.of)) c.unfit_type.ensures
 
 pub returns-in-In : goal.returns-in-In

@@ -25,8 +25,10 @@ judge_arguments-returns-in-Fails t c =
     let i = c.loop-index.index in
     let before = argument_all c.loop-index.found.items in
     let rest = arguments_judged (drop (i + 1) expected) (map f (drop (i + 1) args)) in
-    sym (taken f expected args c.deref-one-items.result.now i c.at.result.now c.one-item.result before (outcome argument c.in_ok-arg.field-0)
-    c.loop-index.invariant.rest c.at.ensures c.deref-one-items.ensures.value c.loop-index-test.true c.one-item.is c.in_ok-arg.ensures
+    sym (taken f expected args c.deref-one-items.result.now i c.at.result.now c.one-item.result before
+    (outcome argument c.in_ok-arg.field-0)
+    c.loop-index.invariant.rest c.at.ensures c.deref-one-items.ensures.value c.loop-index-test.true
+    c.one-item.is c.in_ok-arg.ensures
     ∙ ap (λ o. kept (joined before) (in_order mean.arguments (outcome argument o) rest)) c.in-Fails.is)
 
 pub judge_arguments-loop-index-preserved : goal.judge_arguments-loop-index-preserved
@@ -40,23 +42,28 @@ judge_arguments-loop-index-preserved t c =
     record {
       lengths = c.loop-index.invariant.lengths;
       rest =
-          taken f expected args c.deref-one-items.result.now i c.at.result.now c.one-item.result (argument_all found) (outcome argument c.in_ok-arg.field-0)
-          c.loop-index.invariant.rest c.at.ensures c.deref-one-items.ensures.value c.loop-index-test.true c.one-item.is c.in_ok-arg.ensures
-          ∙ ap (λ o. kept (joined (argument_all found)) (in_order mean.arguments (outcome argument o) rest)) c.in-Means.is
+          taken f expected args c.deref-one-items.result.now i c.at.result.now c.one-item.result
+          (argument_all found) (outcome argument c.in_ok-arg.field-0)
+          c.loop-index.invariant.rest c.at.ensures c.deref-one-items.ensures.value c.loop-index-test.true
+          c.one-item.is c.in_ok-arg.ensures
+          ∙ ap (λ o. kept (joined (argument_all found)) (in_order mean.arguments (outcome argument o) rest))
+          c.in-Means.is
           ∙ joined_more found c.in-Means.arg rest
           ∙ ap (λ xs. kept (joined (argument_all xs)) rest) (sym {A = List Arg} c.in_ok-push-in-Means.ensures.items);
     }
 
 pub judge_arguments-returns : goal.judge_arguments-returns
 judge_arguments-returns t c =
-    finished (given_in c.args.scope.now) c.args.expected.now c.args.args.now.items c.deref-one-items.result.now c.loop-index.index (argument_all c.loop-index.found.items)
+    finished (given_in c.args.scope.now) c.args.expected.now c.args.args.now.items
+    c.deref-one-items.result.now c.loop-index.index (argument_all c.loop-index.found.items)
     c.loop-index.invariant.lengths c.loop-index.invariant.rest c.deref-one-items.ensures.value c.loop-index-test.false
 
 pub judge_declared-fitted-requires : goal.judge_declared-fitted-requires
 judge_declared-fitted-requires t c =
     let scope = c.args.scope.now in
     let args = c.args.args.now in
-    stand_for scope.regions.now scope.params.now scope.names.now scope.heads.now c.args.expected.now args.items (argument_all c.in-Means.args.items)
+    stand_for scope.regions.now scope.params.now scope.names.now scope.heads.now c.args.expected.now
+    args.items (argument_all c.in-Means.args.items)
     (sym args.ok.0 ∙ sym c.len.ensures ∙ c.if-len.false ∙ c.len-2.ensures)
     (ap (outcome (λ all. argument_all all.items)) (sym c.in-Means.is) ∙ c.in_ok-args.ensures)
 
@@ -64,6 +71,9 @@ pub judge_type-returns-in-Means : goal.judge_type-returns-in-Means
 judge_type-returns-in-Means t c =
     let scope = c.args.scope.now in
     subst (λ judged. IfOk c.judge_reference.result (λ found. outcome meaning found ≡ judged))
-    (reference_is scope.regions.now scope.params.now scope.names.now scope.heads.now c.args.node.now c.in-Reference.field-0 c.in-Reference.access c.in-Reference.target c.deref.result.now c.in-Reference.region
-    (meaning c.in-Means.to) c.in-Reference.is c.deref.ensures (ap (outcome meaning) (sym c.in-Means.is) ∙ c.in_ok-to-in-Reference.ensures))
+    (reference_is scope.regions.now scope.params.now scope.names.now scope.heads.now c.args.node.now
+    c.in-Reference.field-0 c.in-Reference.access c.in-Reference.target c.deref.result.now
+    c.in-Reference.region
+    (meaning c.in-Means.to) c.in-Reference.is c.deref.ensures
+    (ap (outcome meaning) (sym c.in-Means.is) ∙ c.in_ok-to-in-Reference.ensures))
     c.judge_reference.ensures

@@ -10,5 +10,7 @@ use Rattle.au_judged_types.proofs.judging.+judge_type.Given as goal
 abbrev pub invariant-judge_arguments-loop-index : goal.invariant-judge_arguments-loop-index
 invariant-judge_arguments-loop-index l = record {
   lengths : length l.args.items ≡ length l.expected;
-  rest : arguments_judged l.expected (map (given_in l.scope) l.args.items) ≡ kept (joined (argument_all l.found.items)) (arguments_judged (drop l.index l.expected) (map (given_in l.scope) (drop l.index l.args.items)));
+  rest : arguments_judged l.expected (map (given_in l.scope) l.args.items)
+      ≡ kept (joined (argument_all l.found.items))
+      (arguments_judged (drop l.index l.expected) (map (given_in l.scope) (drop l.index l.args.items)));
 }

@@ -2,7 +2,11 @@ use Rattle.au_judged_types.proofs.AgreementLemmas.{judged_agrees, judged_is_mean
 use Rattle.au_judged_types.proofs.laws.what_is_judged_is_meant.Goals as goal
 
 pub returns-clause-types : goal.returns-clause-types
-returns-clause-types c = λ opened params visible heads w t. (λ h. judged_is_meant heads params opened visible w t h, λ h. meant_is_judged heads params opened visible w t h.0 h.1)
+returns-clause-types c = λ opened params visible heads w t. (
+  λ h. judged_is_meant heads params opened visible w t h,
+  λ h. meant_is_judged heads params opened visible w
+      t h.0 h.1,
+)
 
 pub returns-clause-regions : goal.returns-clause-regions
 returns-clause-regions c = λ opened params visible heads w r. region_is_meant heads params opened visible w r

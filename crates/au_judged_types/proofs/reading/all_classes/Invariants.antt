@@ -5,4 +5,5 @@ use Rattle.au_judged_types.proofs.reading.all_classes.Given as goal
 
 -- the classes of the type parameters that are visited
 abbrev pub invariant-loop-one : goal.invariant-loop-one
-invariant-loop-one l = l.all.items ≡ map (constraints (class_within l.scope)) (generics_said (take l.one-index l.written))
+invariant-loop-one l = l.all.items ≡ map (constraints (class_within l.scope))
+    (generics_said (take l.one-index l.written))

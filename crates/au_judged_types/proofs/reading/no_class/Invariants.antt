@@ -5,4 +5,5 @@ use Rattle.au_judged_types.proofs.reading.no_class.Given as goal
 
 -- each name so far means a class, so those that are left decide
 abbrev pub invariant-loop-one : goal.invariant-loop-one
-invariant-loop-one l = no_class (class_within l.scope) (names_said l.one-items) ≡ no_class (class_within l.scope) (names_said (drop l.one-index l.one-items))
+invariant-loop-one l = no_class (class_within l.scope) (names_said l.one-items)
+    ≡ no_class (class_within l.scope) (names_said (drop l.one-index l.one-items))

@@ -1,5 +1,7 @@
 use Rattle.std.proofs.Common.{arith}
-use Rattle.au_types.proofs.TypeLemmas.{type_argument_means, region_argument_means, unit_means, truth_means, integer_means, text_means, parameter_means, named_means, reads_means, writes_means}
+use Rattle.au_types.proofs.TypeLemmas.{type_argument_means, region_argument_means, unit_means, truth_means}
+use Rattle.au_types.proofs.TypeLemmas.{integer_means, text_means, parameter_means, named_means, reads_means}
+use Rattle.au_types.proofs.TypeLemmas.{writes_means}
 use Rattle.au_judgements.proofs.arms.+is_borrowed_within.Goals as goal
 
 pub argument_borrowed_within-returns-in-Of : goal.argument_borrowed_within-returns-in-Of

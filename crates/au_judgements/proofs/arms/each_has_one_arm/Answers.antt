@@ -6,4 +6,8 @@ use Rattle.au_judgements.proofs.arms.each_has_one_arm.Goals as goal
 
 pub returns-then-not-has_one_arm : goal.returns-then-not-has_one_arm
 returns-then-not-has_one_arm c =
-    grind (arith, arm_step (scope_said c.args.scope.now) (heads_said c.args.arms.now) c.args.all.now c.loop-one.one-index c.one-item.result c.loop-one-test.true c.one-item.is)
+    grind (
+      arith,
+      arm_step (scope_said c.args.scope.now) (heads_said c.args.arms.now) c.args.all.now
+          c.loop-one.one-index c.one-item.result c.loop-one-test.true c.one-item.is,
+    )

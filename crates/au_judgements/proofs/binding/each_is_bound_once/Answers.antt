@@ -5,4 +5,8 @@ use Rattle.au_judgements.proofs.binding.each_is_bound_once.Goals as goal
 
 pub returns-then-not-is_bound_once : goal.returns-then-not-is_bound_once
 returns-then-not-is_bound_once c =
-    grind (arith, once_step (fields_bound (binds_said c.args.binds.now)) c.args.fields.now c.loop-one.one-index c.one-item.result c.loop-one-test.true c.one-item.is)
+    grind (
+      arith,
+      once_step (fields_bound (binds_said c.args.binds.now)) c.args.fields.now
+          c.loop-one.one-index c.one-item.result c.loop-one-test.true c.one-item.is,
+    )

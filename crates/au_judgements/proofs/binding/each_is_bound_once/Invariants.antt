@@ -8,6 +8,7 @@ use Rattle.au_judgements.proofs.binding.each_is_bound_once.Given as goal
 -- each field so far is bound once, so those that are left decide
 abbrev pub invariant-loop-one : goal.invariant-loop-one
 invariant-loop-one l =
-    list_all (λ name. count_by (bytes_eq name) (fields_bound (binds_said l.binds)) == 1) (fields_named (all_typed l.fields))
+    list_all (λ name. count_by (bytes_eq name) (fields_bound (binds_said l.binds)) == 1)
+    (fields_named (all_typed l.fields))
     ≡ list_all (λ name. count_by (bytes_eq name) (fields_bound (binds_said l.binds)) == 1)
     (fields_named (all_typed (drop l.one-index l.fields)))

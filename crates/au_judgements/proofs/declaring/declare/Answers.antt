@@ -8,5 +8,6 @@ pub returns-clause-ok : goal.returns-clause-ok
 returns-clause-ok c =
     subst
     (λ (name : List ℕ). OnOk c.declare.result (scope_said c.declare.new.self
-    ≡ with_variable (record { name = name; of = meaning c.args.of; assignable = c.args.assignable }) (scope_said c.args.scope.now)))
+    ≡ with_variable (record { name = name; of = meaning c.args.of; assignable = c.args.assignable })
+    (scope_said c.args.scope.now)))
     c.in_ok-name.ensures c.declare.ensures.ok

@@ -5,7 +5,10 @@ use Rattle.au_typing.specs.Scopes.{Scope}
 use Rattle.au_syntax.specs.contracts.parsed.ParsedPhase.TheImpl.{ghosts as parsed}
 use Rattle.au_syntax.specs.Views.{statement, written}
 use Rattle.au_typing.specs.Lookups.{written_type}
-use Rattle.au_syntax.proofs.StatementLemmas.{skip_says, let_says, destructure_says, assign_says, assign_through_says, if_says, if_else_says, case_says, while_says, for_says, borrow_says, borrow_typed_says, call_says, return_says}
+use Rattle.au_syntax.proofs.StatementLemmas.{skip_says, let_says, destructure_says, assign_says}
+use Rattle.au_syntax.proofs.StatementLemmas.{assign_through_says, if_says, if_else_says, case_says}
+use Rattle.au_syntax.proofs.StatementLemmas.{while_says, for_says, borrow_says, borrow_typed_says, call_says}
+use Rattle.au_syntax.proofs.StatementLemmas.{return_says}
 use Rattle.au_judgements.proofs.declaring.declare_after.Goals as goal
 
 pub returns-in-Skip : goal.returns-in-Skip
@@ -17,8 +20,10 @@ returns-in-Let c =
     let made = written_type sc (written c.in-Let.text) in
     let same : with_typed c.in-Let.name.name c.is_var.result made sc ≡ after (statement parsed c.args.stmt.now) sc =
     ap (λ assignable. with_typed c.in-Let.name.name assignable made sc) c.is_var.ensures
-    ∙ sym (ap (λ s. after s sc) (ap (statement parsed) c.in-Let.is ∙ let_says parsed c.in-Let.field-0 c.in-Let.binding c.in-Let.name c.in-Let.text c.in-Let.field-4)) in
-    subst (λ (then : Scope). OnOk c.declare_typed.result (scope_said c.declare_typed.new.scope ≡ then)) same c.declare_typed.ensures.ok
+    ∙ sym (ap (λ s. after s sc) (ap (statement parsed) c.in-Let.is
+    ∙ let_says parsed c.in-Let.field-0 c.in-Let.binding c.in-Let.name c.in-Let.text c.in-Let.field-4)) in
+    subst (λ (then : Scope). OnOk c.declare_typed.result (scope_said c.declare_typed.new.scope ≡ then)) same
+    c.declare_typed.ensures.ok
 
 pub returns-in-Destructure : goal.returns-in-Destructure
 returns-in-Destructure c = grind (arith, destructure_says)

@@ -11,6 +11,7 @@ pub returns-in-Some-clause-ok : goal.returns-in-Some-clause-ok
 returns-in-Some-clause-ok c =
     let sc = scope_said c.args.scope.now in
     subst (λ (then : Scope). OnOk c.declare.result (scope_said c.declare.new.scope ≡ then))
-    (formed_typed c.args.name.now c.args.assignable (written_type sc (written c.args.text.now)) (meaning c.in-Some.of) sc
+    (formed_typed c.args.name.now c.args.assignable (written_type sc (written c.args.text.now))
+    (meaning c.in-Some.of) sc
     (sym (ap (option_map meaning) c.in-Some.is) ∙ c.in_ok-found.ensures))
     c.declare.ensures.ok

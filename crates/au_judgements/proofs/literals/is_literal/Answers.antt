@@ -1,5 +1,8 @@
 use Rattle.std.proofs.Common.{arith}
-use Rattle.au_syntax.proofs.ExpressionLemmas.{number_says, negative_says, text_says, bool_says, nil_says, path_says, arrow_says, call_says, named_call_says, parenthesized_says, dereference_says, borrow_says, borrow_part_says, binary_says, not_says, typed_says, if_says}
+use Rattle.au_syntax.proofs.ExpressionLemmas.{number_says, negative_says, text_says, bool_says, nil_says}
+use Rattle.au_syntax.proofs.ExpressionLemmas.{path_says, arrow_says, call_says, named_call_says}
+use Rattle.au_syntax.proofs.ExpressionLemmas.{parenthesized_says, dereference_says, borrow_says}
+use Rattle.au_syntax.proofs.ExpressionLemmas.{borrow_part_says, binary_says, not_says, typed_says, if_says}
 use Rattle.au_judgements.proofs.literals.is_literal.Goals as goal
 
 pub returns-in-Number : goal.returns-in-Number

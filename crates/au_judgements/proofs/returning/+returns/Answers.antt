@@ -3,7 +3,10 @@ use Rattle.std.proofs.lemmas.List.{at_drop_all}
 use Rattle.au_typing.specs.Returns.{arms_return, block_returns, branches_return}
 use Rattle.au_syntax.specs.Views.{arm_all, branch_all, statement_all}
 use Rattle.au_judgements.proofs.ReturnLemmas.{arm_step, branch_step, statement_step}
-use Rattle.au_syntax.proofs.StatementLemmas.{skip_says, let_says, destructure_says, assign_says, assign_through_says, if_says, if_else_says, case_says, while_says, for_says, borrow_says, borrow_typed_says, call_says, return_says}
+use Rattle.au_syntax.proofs.StatementLemmas.{skip_says, let_says, destructure_says, assign_says}
+use Rattle.au_syntax.proofs.StatementLemmas.{assign_through_says, if_says, if_else_says, case_says}
+use Rattle.au_syntax.proofs.StatementLemmas.{while_says, for_says, borrow_says, borrow_typed_says, call_says}
+use Rattle.au_syntax.proofs.StatementLemmas.{return_says}
 use Rattle.au_judgements.proofs.returning.+returns.Goals as goal
 
 pub returns-returns-in-Skip : goal.returns-returns-in-Skip
@@ -52,40 +55,76 @@ pub returns-returns-in-Return : goal.returns-returns-in-Return
 returns-returns-in-Return g t c = grind (arith, return_says)
 
 pub block_returns-loop-one-init : goal.block_returns-loop-one-init
-block_returns-loop-one-init g t c = ap (λ rest. block_returns (statement_all g.P.Phase rest)) (sym c.deref-one-items.ensures.value)
+block_returns-loop-one-init g t c = ap (λ rest. block_returns (statement_all g.P.Phase rest))
+    (sym c.deref-one-items.ensures.value)
 
 pub block_returns-loop-one-preserved : goal.block_returns-loop-one-preserved
-block_returns-loop-one-preserved g t c = grind (arith, statement_step g.P.Phase c.deref-one-items.result.now c.loop-one.one-index c.one-item.result c.loop-one-test.true c.one-item.is)
+block_returns-loop-one-preserved g t c =
+    grind (
+      arith,
+      statement_step g.P.Phase c.deref-one-items.result.now c.loop-one.one-index c.one-item.result
+          c.loop-one-test.true c.one-item.is,
+    )
 
 pub block_returns-returns-then-returns : goal.block_returns-returns-then-returns
-block_returns-returns-then-returns g t c = grind (arith, statement_step g.P.Phase c.deref-one-items.result.now c.loop-one.one-index c.one-item.result c.loop-one-test.true c.one-item.is)
+block_returns-returns-then-returns g t c =
+    grind (
+      arith,
+      statement_step g.P.Phase c.deref-one-items.result.now c.loop-one.one-index c.one-item.result
+          c.loop-one-test.true c.one-item.is,
+    )
 
 pub block_returns-returns : goal.block_returns-returns
 block_returns-returns g t c =
-    sym (c.loop-one.invariant ∙ at_drop_all (λ rest. block_returns (statement_all g.P.Phase rest)) c.deref-one-items.result.now c.loop-one.one-index c.loop-one-test.false)
+    sym (c.loop-one.invariant ∙ at_drop_all (λ rest. block_returns (statement_all g.P.Phase rest))
+    c.deref-one-items.result.now c.loop-one.one-index c.loop-one-test.false)
 
 pub branches_return-loop-one-init : goal.branches_return-loop-one-init
-branches_return-loop-one-init g t c = ap (λ rest. branches_return (branch_all g.P.Phase rest)) (sym c.deref-one-items.ensures.value)
+branches_return-loop-one-init g t c = ap (λ rest. branches_return (branch_all g.P.Phase rest))
+    (sym c.deref-one-items.ensures.value)
 
 pub branches_return-loop-one-preserved : goal.branches_return-loop-one-preserved
-branches_return-loop-one-preserved g t c = grind (arith, branch_step g.P.Phase c.deref-one-items.result.now c.loop-one.one-index c.one-item.result c.loop-one-test.true c.one-item.is)
+branches_return-loop-one-preserved g t c =
+    grind (
+      arith,
+      branch_step g.P.Phase c.deref-one-items.result.now c.loop-one.one-index c.one-item.result
+          c.loop-one-test.true c.one-item.is,
+    )
 
 pub branches_return-returns-then-not-branch_returns : goal.branches_return-returns-then-not-branch_returns
-branches_return-returns-then-not-branch_returns g t c = grind (arith, branch_step g.P.Phase c.deref-one-items.result.now c.loop-one.one-index c.one-item.result c.loop-one-test.true c.one-item.is)
+branches_return-returns-then-not-branch_returns g t c =
+    grind (
+      arith,
+      branch_step g.P.Phase c.deref-one-items.result.now c.loop-one.one-index c.one-item.result
+          c.loop-one-test.true c.one-item.is,
+    )
 
 pub branches_return-returns : goal.branches_return-returns
 branches_return-returns g t c =
-    sym (c.loop-one.invariant ∙ at_drop_all (λ rest. branches_return (branch_all g.P.Phase rest)) c.deref-one-items.result.now c.loop-one.one-index c.loop-one-test.false)
+    sym (c.loop-one.invariant ∙ at_drop_all (λ rest. branches_return (branch_all g.P.Phase rest))
+    c.deref-one-items.result.now c.loop-one.one-index c.loop-one-test.false)
 
 pub arms_return-loop-one-init : goal.arms_return-loop-one-init
-arms_return-loop-one-init g t c = ap (λ rest. arms_return (arm_all g.P.Phase rest)) (sym c.deref-one-items.ensures.value)
+arms_return-loop-one-init g t c = ap (λ rest. arms_return (arm_all g.P.Phase rest))
+    (sym c.deref-one-items.ensures.value)
 
 pub arms_return-loop-one-preserved : goal.arms_return-loop-one-preserved
-arms_return-loop-one-preserved g t c = grind (arith, arm_step g.P.Phase c.deref-one-items.result.now c.loop-one.one-index c.one-item.result c.loop-one-test.true c.one-item.is)
+arms_return-loop-one-preserved g t c =
+    grind (
+      arith,
+      arm_step g.P.Phase c.deref-one-items.result.now c.loop-one.one-index c.one-item.result
+          c.loop-one-test.true c.one-item.is,
+    )
 
 pub arms_return-returns-then-not-arm_returns : goal.arms_return-returns-then-not-arm_returns
-arms_return-returns-then-not-arm_returns g t c = grind (arith, arm_step g.P.Phase c.deref-one-items.result.now c.loop-one.one-index c.one-item.result c.loop-one-test.true c.one-item.is)
+arms_return-returns-then-not-arm_returns g t c =
+    grind (
+      arith,
+      arm_step g.P.Phase c.deref-one-items.result.now c.loop-one.one-index c.one-item.result
+          c.loop-one-test.true c.one-item.is,
+    )
 
 pub arms_return-returns : goal.arms_return-returns
 arms_return-returns g t c =
-    sym (c.loop-one.invariant ∙ at_drop_all (λ rest. arms_return (arm_all g.P.Phase rest)) c.deref-one-items.result.now c.loop-one.one-index c.loop-one-test.false)
+    sym (c.loop-one.invariant ∙ at_drop_all (λ rest. arms_return (arm_all g.P.Phase rest))
+    c.deref-one-items.result.now c.loop-one.one-index c.loop-one-test.false)

@@ -12,7 +12,8 @@ invariant-block_returns-loop-one g l =
 -- each block so far returns, so those that are left decide
 abbrev pub invariant-branches_return-loop-one : goal.invariant-branches_return-loop-one
 invariant-branches_return-loop-one g l =
-    branches_return (branch_all g.P.Phase l.branches.items) ≡ branches_return (branch_all g.P.Phase (drop l.one-index l.one-items))
+    branches_return (branch_all g.P.Phase l.branches.items) ≡ branches_return
+    (branch_all g.P.Phase (drop l.one-index l.one-items))
 
 abbrev pub invariant-arms_return-loop-one : goal.invariant-arms_return-loop-one
 invariant-arms_return-loop-one g l =

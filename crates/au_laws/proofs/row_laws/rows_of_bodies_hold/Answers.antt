@@ -5,7 +5,22 @@ use Rattle.au_laws.proofs.row_laws.rows_of_bodies_hold.Goals as goal
 
 pub returns-clause-declarations : goal.returns-clause-declarations
 unfolding universe_of argument_universe argument_universes judged judging.judged judging.all_given
-returns-clause-declarations c = (refl, (refl, (refl, (refl, (refl, (refl, (refl, (refl, (refl, (refl, (refl, (refl, (refl, (refl, tt))))))))))))))
+returns-clause-declarations c = (
+  refl,
+  (
+    refl,
+    (
+      refl,
+      (
+        refl,
+        (
+          refl,
+          (refl, (refl, (refl, (refl, (refl, (refl, (refl, (refl, (refl, tt))))))))),
+        ),
+      ),
+    ),
+  ),
+)
 
 pub returns-clause-programs : goal.returns-clause-programs
 unfolding universe_of argument_universe argument_universes judged judging.judged judging.all_given

@@ -9,11 +9,77 @@ returns-clause-words c = (refl, (refl, (refl, (refl, (refl, (refl, tt))))))
 
 pub returns-clause-parts : goal.returns-clause-parts
 unfolding universe_of argument_universe argument_universes judged judging.judged judging.all_given
-returns-clause-parts c = (refl, (refl, (refl, (refl, (refl, (refl, (refl, (refl, (refl, (refl, (refl, (refl, (refl, (refl, (refl, (refl, tt))))))))))))))))
+returns-clause-parts c = (
+  refl,
+  (
+    refl,
+    (
+      refl,
+      (
+        refl,
+        (
+          refl,
+          (
+            refl,
+            (refl, (refl, (refl, (refl, (refl, (refl, (refl, (refl, (refl, (refl, tt)))))))))),
+          ),
+        ),
+      ),
+    ),
+  ),
+)
 
 pub returns-clause-operations : goal.returns-clause-operations
 unfolding universe_of argument_universe argument_universes judged judging.judged judging.all_given
-returns-clause-operations c = (refl, (refl, (refl, (refl, (refl, (refl, (refl, (refl, (refl, (refl, (refl, (refl, (refl, (refl, (refl, (refl, (refl, (refl, (refl, (refl, (refl, (refl, (refl, (refl, (refl, tt)))))))))))))))))))))))))
+returns-clause-operations c = (
+  refl,
+  (
+    refl,
+    (
+      refl,
+      (
+        refl,
+        (
+          refl,
+          (
+            refl,
+            (
+              refl,
+              (
+                refl,
+                (
+                  refl,
+                  (
+                    refl,
+                    (
+                      refl,
+                      (
+                        refl,
+                        (
+                          refl,
+                          (
+                            refl,
+                            (
+                              refl,
+                              (
+                                refl,
+                                (refl, (refl, (refl, (refl, (refl, (refl, (refl, (refl, (refl, tt))))))))),
+                              ),
+                            ),
+                          ),
+                        ),
+                      ),
+                    ),
+                  ),
+                ),
+              ),
+            ),
+          ),
+        ),
+      ),
+    ),
+  ),
+)
 
 pub returns-clause-constraints : goal.returns-clause-constraints
 unfolding universe_of argument_universe argument_universes judged judging.judged judging.all_given

@@ -5,15 +5,46 @@ use Rattle.au_laws.proofs.row_laws.rows_of_statements_hold.Goals as goal
 
 pub returns-clause-declarations : goal.returns-clause-declarations
 unfolding universe_of argument_universe argument_universes judged judging.judged judging.all_given
-returns-clause-declarations c = (refl, (refl, (refl, (refl, (refl, (refl, (refl, (refl, (refl, (refl, (refl, (refl, (refl, (refl, tt))))))))))))))
+returns-clause-declarations c = (
+  refl,
+  (
+    refl,
+    (
+      refl,
+      (
+        refl,
+        (
+          refl,
+          (refl, (refl, (refl, (refl, (refl, (refl, (refl, (refl, (refl, tt))))))))),
+        ),
+      ),
+    ),
+  ),
+)
 
 pub returns-clause-assignments : goal.returns-clause-assignments
 unfolding universe_of argument_universe argument_universes judged judging.judged judging.all_given
-returns-clause-assignments c = (refl, (refl, (refl, (refl, (refl, (refl, (refl, (refl, (refl, (refl, (refl, (refl, (refl, (refl, (refl, (refl, tt))))))))))))))))
+returns-clause-assignments c = (
+  refl,
+  (
+    refl,
+    (
+      refl,
+      (
+        refl,
+        (
+          refl,
+          (refl, (refl, (refl, (refl, (refl, (refl, (refl, (refl, (refl, (refl, (refl, tt))))))))))),
+        ),
+      ),
+    ),
+  ),
+)
 
 pub returns-clause-conditionals : goal.returns-clause-conditionals
 unfolding universe_of argument_universe argument_universes judged judging.judged judging.all_given
-returns-clause-conditionals c = (refl, (refl, (refl, (refl, (refl, (refl, (refl, (refl, (refl, (refl, (refl, tt)))))))))))
+returns-clause-conditionals c =
+    (refl, (refl, (refl, (refl, (refl, (refl, (refl, (refl, (refl, (refl, (refl, tt)))))))))))
 
 pub returns-clause-repetitions : goal.returns-clause-repetitions
 unfolding universe_of argument_universe argument_universes judged judging.judged judging.all_given

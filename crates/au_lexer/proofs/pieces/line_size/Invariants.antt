@@ -6,4 +6,5 @@ use Rattle.au_lexer.proofs.pieces.line_size.Given as goal
 
 abbrev pub invariant-loop-index : goal.invariant-loop-index
 invariant-loop-index l =
-    l.index + prefix_len (λ byte. not (is_newline byte)) (drop l.index l.bytes) ≡ prefix_len (λ byte. not (is_newline byte)) l.bytes
+    l.index + prefix_len (λ byte. not (is_newline byte)) (drop l.index l.bytes)
+    ≡ prefix_len (λ byte. not (is_newline byte)) l.bytes

@@ -10,7 +10,8 @@ use Rattle.au_lexer.proofs.pieces.number.Goals as goal
 
 pub number_value-value-requires-clause-digits : goal.number_value-value-requires-clause-digits
 number_value-value-requires-clause-digits c =
-    subst (λ n. list_all is_digit (take n c.args.bytes.now) ≡ true) (sym c.number_size-size.ensures) (prefix_all is_digit c.args.bytes.now)
+    subst (λ n. list_all is_digit (take n c.args.bytes.now) ≡ true) (sym c.number_size-size.ensures)
+    (prefix_all is_digit c.args.bytes.now)
 
 pub number_value-value-requires-clause-fits : goal.number_value-value-requires-clause-fits
 number_value-value-requires-clause-fits c =

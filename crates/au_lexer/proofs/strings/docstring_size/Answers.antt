@@ -11,5 +11,6 @@ loop-index-preserved c =
     let inside = c.args.inside.now in
     let index = c.loop-index.index in
     let none : starts_with nat_eq (drop index inside) three_quotes ≡ false =
-    ap (λ r. starts_with nat_eq r three_quotes) (sym (take_rest inside index)) ∙ sym c.starts_with.ensures.value ∙ c.if-starts_with.false in
+    ap (λ r. starts_with nat_eq r three_quotes) (sym (take_rest inside index))
+    ∙ sym c.starts_with.ensures.value ∙ c.if-starts_with.false in
     one_further inside index c.loop-index-test.true none c.loop-index.invariant

@@ -6,4 +6,5 @@ use Rattle.au_lexer.proofs.strings.text.Given as goal
 
 abbrev pub invariant-loop-index : goal.invariant-loop-index
 invariant-loop-index l =
-    option_map (λ found. (l.text ++ found.0, l.index + found.1)) (text_at l.escape (drop l.index l.inside)) ≡ text_at false l.inside
+    option_map (λ found. (l.text ++ found.0, l.index + found.1)) (text_at l.escape (drop l.index l.inside))
+    ≡ text_at false l.inside

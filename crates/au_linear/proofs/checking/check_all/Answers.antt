@@ -9,11 +9,14 @@ pub returns-in_err-behind : goal.returns-in_err-behind
 returns-in_err-behind g c =
     let p = err_from_is_err_and c.from_residual.result c.from_residual.ensures.1 in
     let body = seen_block g.P.Phase c.args.body.now in
-    rw (p.1, p.2) (telling.sees_stop (map (λ parameter. scope parameter.name body) (seen_parameters g.P.Phase c.args.parameters.now.items))
+    rw (p.1, p.2) (telling.sees_stop
+    (map (λ parameter. scope parameter.name body) (seen_parameters g.P.Phase c.args.parameters.now.items))
     (scopes body) c.args.tasks.now 0 c.in_err-behind.field-0.0 c.in_err-behind.ensures)
 
 pub returns : goal.returns
 returns g c =
     let body = seen_block g.P.Phase c.args.body.now in
-    telling.sees_both (map (λ parameter. scope parameter.name body) (seen_parameters g.P.Phase c.args.parameters.now.items))
-    (scopes body) c.args.tasks.now c.in_ok-behind.behind 0 c.check_block.result c.in_ok-behind.ensures c.check_block.ensures
+    telling.sees_both (map (λ parameter. scope parameter.name body)
+    (seen_parameters g.P.Phase c.args.parameters.now.items))
+    (scopes body) c.args.tasks.now c.in_ok-behind.behind 0 c.check_block.result c.in_ok-behind.ensures
+    c.check_block.ensures

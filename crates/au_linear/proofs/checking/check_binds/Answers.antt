@@ -12,21 +12,39 @@ loop-one-init g c = λ r h. h
 
 pub loop-one-preserved : goal.loop-one-preserved
 loop-one-preserved g c =
-    telling.item_goes (binds_declare g.P.Phase (seen_statements g.P.Phase (drop c.args.from c.args.block.now.statements.items))) c.deref-one-items.result.now c.loop-one.one-index c.one-item.result c.one-item.is
-    c.loop-one-test.true (bound_over (seen_binds g.P.Phase c.deref-one-items.result.now) (seen_statements g.P.Phase (drop c.args.from c.args.block.now.statements.items))) c.args.tasks.now c.loop-one.at c.args.next
+    telling.item_goes (binds_declare g.P.Phase
+    (seen_statements g.P.Phase (drop c.args.from c.args.block.now.statements.items)))
+    c.deref-one-items.result.now c.loop-one.one-index c.one-item.result c.one-item.is
+    c.loop-one-test.true (bound_over (seen_binds g.P.Phase c.deref-one-items.result.now)
+    (seen_statements g.P.Phase (drop c.args.from c.args.block.now.statements.items))) c.args.tasks.now
+    c.loop-one.at c.args.next
     c.loop-one.invariant c.in_ok-at.at c.in_ok-at.ensures
 
 pub returns-in_err-at : goal.returns-in_err-at
 returns-in_err-at g c =
     let p = err_from_is_err_and c.from_residual.result c.from_residual.ensures.1 in
-    rw (p.1, p.2) (subst (λ l. Sees (Err c.in_err-at.field-0.0) (bound_over (seen_binds g.P.Phase l) (seen_statements g.P.Phase (drop c.args.from c.args.block.now.statements.items))) c.args.tasks.now c.args.next)
+    rw (p.1, p.2) (subst (λ l. Sees (Err c.in_err-at.field-0.0)
+    (bound_over (seen_binds g.P.Phase l)
+    (seen_statements g.P.Phase (drop c.args.from c.args.block.now.statements.items))) c.args.tasks.now
+    c.args.next)
     c.deref-one-items.ensures.value
-    (telling.item_stops (binds_declare g.P.Phase (seen_statements g.P.Phase (drop c.args.from c.args.block.now.statements.items))) c.deref-one-items.result.now c.loop-one.one-index c.one-item.result c.one-item.is
-    c.loop-one-test.true (bound_over (seen_binds g.P.Phase c.deref-one-items.result.now) (seen_statements g.P.Phase (drop c.args.from c.args.block.now.statements.items))) c.args.tasks.now c.loop-one.at c.args.next
+    (telling.item_stops (binds_declare g.P.Phase
+    (seen_statements g.P.Phase (drop c.args.from c.args.block.now.statements.items)))
+    c.deref-one-items.result.now c.loop-one.one-index c.one-item.result c.one-item.is
+    c.loop-one-test.true (bound_over (seen_binds g.P.Phase c.deref-one-items.result.now)
+    (seen_statements g.P.Phase (drop c.args.from c.args.block.now.statements.items))) c.args.tasks.now
+    c.loop-one.at c.args.next
     c.loop-one.invariant c.in_err-at.field-0.0 c.in_err-at.ensures))
 
 pub returns : goal.returns
 returns g c =
-    subst (λ l. Sees (Ok c.loop-one.at) (bound_over (seen_binds g.P.Phase l) (seen_statements g.P.Phase (drop c.args.from c.args.block.now.statements.items))) c.args.tasks.now c.args.next) c.deref-one-items.ensures.value
-    (telling.items_done (binds_declare g.P.Phase (seen_statements g.P.Phase (drop c.args.from c.args.block.now.statements.items))) c.deref-one-items.result.now c.loop-one.one-index c.loop-one-test.false
-    (bound_over (seen_binds g.P.Phase c.deref-one-items.result.now) (seen_statements g.P.Phase (drop c.args.from c.args.block.now.statements.items))) c.args.tasks.now c.loop-one.at c.args.next c.loop-one.invariant)
+    subst (λ l. Sees (Ok c.loop-one.at)
+    (bound_over (seen_binds g.P.Phase l)
+    (seen_statements g.P.Phase (drop c.args.from c.args.block.now.statements.items))) c.args.tasks.now
+    c.args.next) c.deref-one-items.ensures.value
+    (telling.items_done (binds_declare g.P.Phase
+    (seen_statements g.P.Phase (drop c.args.from c.args.block.now.statements.items)))
+    c.deref-one-items.result.now c.loop-one.one-index c.loop-one-test.false
+    (bound_over (seen_binds g.P.Phase c.deref-one-items.result.now)
+    (seen_statements g.P.Phase (drop c.args.from c.args.block.now.statements.items))) c.args.tasks.now
+    c.loop-one.at c.args.next c.loop-one.invariant)

@@ -9,18 +9,21 @@ pub returns-in-Some : goal.returns-in-Some
 returns-in-Some g c =
     firsts.item_found (looped_list g.P.Phase c.args.x.now (consumptions_at c.args.x.now c.args.sort))
     c.args.block.now.statements.items c.loop-index.index c.index-one.result.now c.index-one.ensures
-    (omega (arith, c.loop-index-test.true, c.len-index-end.ensures)) (hold_of c.loop-index.held) _ c.in-Some.at c.loop-index.invariant
+    (omega (arith, c.loop-index-test.true, c.len-index-end.ensures)) (hold_of c.loop-index.held) _
+    c.in-Some.at c.loop-index.invariant
     (sym c.in-Some.is ∙ c.looped.ensures)
 
 pub loop-index-preserved : goal.loop-index-preserved
 loop-index-preserved g c =
     firsts.item_passed (looped_list g.P.Phase c.args.x.now (consumptions_at c.args.x.now c.args.sort))
     c.args.block.now.statements.items c.loop-index.index c.index-one.result.now c.index-one.ensures
-    (omega (arith, c.loop-index-test.true, c.len-index-end.ensures)) (hold_of c.loop-index.held) (hold_of c.held_after-held.result) _
+    (omega (arith, c.loop-index-test.true, c.len-index-end.ensures)) (hold_of c.loop-index.held)
+    (hold_of c.held_after-held.result) _
     c.loop-index.invariant (sym c.in_default.is ∙ c.looped.ensures) c.held_after-held.ensures
 
 pub returns : goal.returns
 returns g c =
     firsts.items_end (looped_list g.P.Phase c.args.x.now (consumptions_at c.args.x.now c.args.sort))
-    c.args.block.now.statements.items c.loop-index.index (omega (arith, c.loop-index-test.false, c.len-index-end.ensures))
+    c.args.block.now.statements.items c.loop-index.index
+    (omega (arith, c.loop-index-test.false, c.len-index-end.ensures))
     (hold_of c.loop-index.held) _ c.loop-index.invariant

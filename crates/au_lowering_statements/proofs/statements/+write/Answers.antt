@@ -1,4 +1,5 @@
-use Rattle.std.proofs.Common.{◌≡◌, ℕ, ◌+◌, ◌-◌, ◌||◌, true, false, not, [], ◌++◌, length, map, OnOk, Some, refl, ap, sym, subst, ◌∙◌, arith}
+use Rattle.std.proofs.Common.{◌≡◌, ℕ, ◌+◌, ◌-◌, ◌||◌, true, false, not, [], ◌++◌, length, map, OnOk, Some}
+use Rattle.std.proofs.Common.{refl, ap, sym, subst, ◌∙◌, arith}
 use Rattle.std.proofs.lemmas.List.{length-map}
 use Rattle.au_closed_trees.specs.contracts.phase.ClosedTreesPhase.TheImpl.{ghosts as closed}
 use Rattle.au_closed_trees.specs.ClosedNotes.{ClosedNote}
@@ -15,7 +16,9 @@ use Rattle.au_lowering_expressions.specs.Wrote.{wrote}
 use Rattle.au_lowering_expressions.proofs.WroteLemmas.{wrote_row}
 use Rattle.au_lowering_statements.specs.Ends.{AllBelow, Holed, binds, branch_upto, lent}
 use Rattle.au_lowering_statements.specs.Views.{Begins, starts_said}
-use Rattle.au_lowering_statements.proofs.BlockLemmas.{arms_left, arms_step, begins_more, begins_same, block_end, block_step, one_arm, one_test, tests_left, tests_step}
+use Rattle.au_lowering_statements.proofs.BlockLemmas.{arms_left, arms_step, begins_more, begins_same}
+use Rattle.au_lowering_statements.proofs.BlockLemmas.{block_end, block_step, one_arm, one_test, tests_left}
+use Rattle.au_lowering_statements.proofs.BlockLemmas.{tests_step}
 use Rattle.au_lowering_statements.proofs.CodeLemmas.{said_block, said_statement, said_whole}
 use Rattle.au_lowering_statements.proofs.CodeLemmas as lemmas
 use Rattle.au_lowering_statements.proofs.HoleLemmas.{loop_written, turn_written, turns_written, when_written}

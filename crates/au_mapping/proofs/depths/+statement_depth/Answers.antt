@@ -20,8 +20,11 @@ block_depth-returns g t c =
 
 pub block_depth-loop-one-preserved : goal.block_depth-loop-one-preserved
 block_depth-loop-one-preserved g t c =
-    let step = lemmas.deep_statements_more g.P.Phase c.deref-one-items.result.now c.loop-one.one-index c.one-item.result c.loop-one-test.true in
-    let part = c.statement_depth-depth.ensures ∙ ap (λ one. spec.counted (spec.statement_depth (plain.plain_statement g.P.Phase.name_bytes (view.statement g.P.Phase one)))) c.one-item.is in
+    let step = lemmas.deep_statements_more g.P.Phase c.deref-one-items.result.now c.loop-one.one-index
+    c.one-item.result c.loop-one-test.true in
+    let part = c.statement_depth-depth.ensures
+    ∙ ap (λ one. spec.counted (spec.statement_depth
+    (plain.plain_statement g.P.Phase.name_bytes (view.statement g.P.Phase one)))) c.one-item.is in
     lemmas.raised _ _ _ _ _ _ c.loop-one.invariant part c.deeper-deepest.ensures step
 
 pub branches_depth-returns : goal.branches_depth-returns
@@ -32,8 +35,14 @@ branches_depth-returns g t c =
 
 pub branches_depth-loop-one-preserved : goal.branches_depth-loop-one-preserved
 branches_depth-loop-one-preserved g t c =
-    let step = lemmas.deep_branches_more g.P.Phase c.deref-one-items.result.now c.loop-one.one-index c.one-item.result c.loop-one-test.true in
-    let part = c.branch_depth-depth.ensures ∙ ap (λ one. spec.counted (max (spec.expression_depth (plain.plain_expression g.P.Phase.name_bytes (view.expression g.P.Phase one.test.value))) (spec.block_depth (plain.plain_statements g.P.Phase.name_bytes (view.block g.P.Phase one.block))))) c.one-item.is in
+    let step = lemmas.deep_branches_more g.P.Phase c.deref-one-items.result.now c.loop-one.one-index
+    c.one-item.result c.loop-one-test.true in
+    let part = c.branch_depth-depth.ensures
+    ∙ ap (λ one. spec.counted (max
+    (spec.expression_depth (plain.plain_expression g.P.Phase.name_bytes
+    (view.expression g.P.Phase one.test.value)))
+    (spec.block_depth (plain.plain_statements g.P.Phase.name_bytes (view.block g.P.Phase one.block)))))
+    c.one-item.is in
     lemmas.raised _ _ _ _ _ _ c.loop-one.invariant part c.deeper-deepest.ensures step
 
 pub arms_depth-returns : goal.arms_depth-returns
@@ -44,20 +53,25 @@ arms_depth-returns g t c =
 
 pub arms_depth-loop-one-preserved : goal.arms_depth-loop-one-preserved
 arms_depth-loop-one-preserved g t c =
-    let step = lemmas.deep_arms_more g.P.Phase c.deref-one-items.result.now c.loop-one.one-index c.one-item.result c.loop-one-test.true in
-    let part = c.arm_depth-depth.ensures ∙ ap (λ one. spec.counted (spec.block_depth (plain.plain_statements g.P.Phase.name_bytes (view.block g.P.Phase one.block)))) c.one-item.is in
+    let step = lemmas.deep_arms_more g.P.Phase c.deref-one-items.result.now c.loop-one.one-index
+    c.one-item.result c.loop-one-test.true in
+    let part = c.arm_depth-depth.ensures
+    ∙ ap (λ one. spec.counted (spec.block_depth
+    (plain.plain_statements g.P.Phase.name_bytes (view.block g.P.Phase one.block)))) c.one-item.is in
     lemmas.raised _ _ _ _ _ _ c.loop-one.invariant part c.deeper-deepest.ensures step
 
 pub branches_depth-branch_depth-depth-requires : goal.branches_depth-branch_depth-depth-requires
 branches_depth-branch_depth-depth-requires g t c κs within = (
-  lemmas.item_falls (size-Branch _ _ _ _) c.deref-one-items.result.now c.args.branches.now.items c.loop-one.one-index c.one-item.result t
+  lemmas.item_falls (size-Branch _ _ _ _) c.deref-one-items.result.now c.args.branches.now.items
+      c.loop-one.one-index c.one-item.result t
       c.decreases c.deref-one-items.ensures.value c.loop-one-test.true c.one-item.is,
   within,
 )
 
 pub arms_depth-arm_depth-depth-requires : goal.arms_depth-arm_depth-depth-requires
 arms_depth-arm_depth-depth-requires g t c κs within = (
-  lemmas.item_falls (size-Arm _ _ _ _) c.deref-one-items.result.now c.args.arms.now.items c.loop-one.one-index c.one-item.result t
+  lemmas.item_falls (size-Arm _ _ _ _) c.deref-one-items.result.now c.args.arms.now.items c.loop-one.one-index
+      c.one-item.result t
       c.decreases c.deref-one-items.ensures.value c.loop-one-test.true c.one-item.is,
   within,
 )

@@ -14,6 +14,10 @@ returns g c =
 
 pub loop-one-preserved : goal.loop-one-preserved
 loop-one-preserved g c =
-    let step = lemmas.greatest_seen_more spec.method_depth (plain.plain_method g.P.Phase.name_bytes) (view.method_body g.P.Phase) c.deref-one-items.result.now c.loop-one.one-index c.one-item.result c.loop-one-test.true in
-    let part = c.block_depth-depth.ensures ∙ ap (λ one. spec.counted (spec.method_depth (plain.plain_method g.P.Phase.name_bytes (view.method_body g.P.Phase one)))) c.one-item.is in
+    let step = lemmas.greatest_seen_more spec.method_depth (plain.plain_method g.P.Phase.name_bytes)
+    (view.method_body g.P.Phase) c.deref-one-items.result.now c.loop-one.one-index c.one-item.result
+    c.loop-one-test.true in
+    let part = c.block_depth-depth.ensures
+    ∙ ap (λ one. spec.counted (spec.method_depth
+    (plain.plain_method g.P.Phase.name_bytes (view.method_body g.P.Phase one)))) c.one-item.is in
     lemmas.raised _ _ _ _ _ _ c.loop-one.invariant part c.deeper-deepest.ensures step

@@ -6,4 +6,7 @@ use Rattle.au_mapping.proofs.depths.methods_depth.Given as goal
 
 -- the depth of what is visited
 abbrev pub invariant-loop-one : goal.invariant-loop-one
-invariant-loop-one g l = l.deepest ≡ spec.counted (spec.greatest spec.method_depth (map (plain.plain_method g.P.Phase.name_bytes) (map (view.method_body g.P.Phase) (take l.one-index l.one-items))))
+invariant-loop-one g l = l.deepest
+    ≡ spec.counted (spec.greatest spec.method_depth
+    (map (plain.plain_method g.P.Phase.name_bytes)
+    (map (view.method_body g.P.Phase) (take l.one-index l.one-items))))

@@ -15,6 +15,10 @@ returns g c =
 
 pub loop-one-preserved : goal.loop-one-preserved
 loop-one-preserved g c =
-    let step = lemmas.greatest_seen_more spec.declaration_depth (plain.plain_declaration g.P.Phase.name_bytes) (view.declaration g.P.Phase) c.deref-one-items.result.now c.loop-one.one-index c.one-item.result c.loop-one-test.true in
-    let part = c.declaration_depth-depth.ensures ∙ ap (λ one. spec.counted (spec.declaration_depth (plain.plain_declaration g.P.Phase.name_bytes (view.declaration g.P.Phase one)))) c.one-item.is in
+    let step = lemmas.greatest_seen_more spec.declaration_depth (plain.plain_declaration g.P.Phase.name_bytes)
+    (view.declaration g.P.Phase) c.deref-one-items.result.now c.loop-one.one-index c.one-item.result
+    c.loop-one-test.true in
+    let part = c.declaration_depth-depth.ensures
+    ∙ ap (λ one. spec.counted (spec.declaration_depth
+    (plain.plain_declaration g.P.Phase.name_bytes (view.declaration g.P.Phase one)))) c.one-item.is in
     lemmas.raised _ _ _ _ _ _ c.loop-one.invariant part c.deeper-deepest.ensures step

@@ -6,4 +6,7 @@ use Rattle.au_mapping.proofs.depths.module_depth.Given as goal
 
 -- the depth of what is visited
 abbrev pub invariant-loop-one : goal.invariant-loop-one
-invariant-loop-one g l = l.deepest ≡ spec.counted (spec.greatest spec.declaration_depth (map (plain.plain_declaration g.P.Phase.name_bytes) (map (view.declaration g.P.Phase) (take l.one-index l.one-items))))
+invariant-loop-one g l = l.deepest
+    ≡ spec.counted (spec.greatest spec.declaration_depth
+    (map (plain.plain_declaration g.P.Phase.name_bytes)
+    (map (view.declaration g.P.Phase) (take l.one-index l.one-items))))

@@ -7,5 +7,6 @@ use Rattle.au_matching.proofs.matching.+type_matched.Given as goal
 abbrev pub invariant-arguments_matched-loop-index : goal.invariant-arguments_matched-loop-index
 invariant-arguments_matched-loop-index l = record {
   lengths : length l.args.items ≡ length l.others.items;
-  rest : all_matched (argument_all l.args.items) (argument_all l.others.items) l.fn.s ≡ all_matched (argument_all (drop l.index l.args.items)) (argument_all (drop l.index l.others.items)) l.s;
+  rest : all_matched (argument_all l.args.items) (argument_all l.others.items) l.fn.s
+      ≡ all_matched (argument_all (drop l.index l.args.items)) (argument_all (drop l.index l.others.items)) l.s;
 }

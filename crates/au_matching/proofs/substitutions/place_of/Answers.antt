@@ -8,7 +8,8 @@ returns-then-is_before-clause-place c =
     let i = c.loop-index.index in
     let x = c.one-item.result in
     let same = c.deref-one-items.ensures.value in
-    behind_here c.args.name.now xs i x (subst (λ ys. i < length ys) same c.loop-index-test.true) (c.one-item.is ∙ ap (λ ys. get_or ys i x) same)
+    behind_here c.args.name.now xs i x (subst (λ ys. i < length ys) same c.loop-index-test.true)
+    (c.one-item.is ∙ ap (λ ys. get_or ys i x) same)
     (sym c.is_before.ensures ∙ c.if-is_before.true) c.loop-index.invariant
 
 pub loop-index-preserved : goal.loop-index-preserved
@@ -17,5 +18,6 @@ loop-index-preserved c =
     let i = c.loop-index.index in
     let x = c.one-item.result in
     let same = c.deref-one-items.ensures.value in
-    behind_more c.args.name.now xs i x (subst (λ ys. i < length ys) same c.loop-index-test.true) (c.one-item.is ∙ ap (λ ys. get_or ys i x) same)
+    behind_more c.args.name.now xs i x (subst (λ ys. i < length ys) same c.loop-index-test.true)
+    (c.one-item.is ∙ ap (λ ys. get_or ys i x) same)
     (sym c.is_before.ensures ∙ c.if-is_before.false) c.loop-index.invariant

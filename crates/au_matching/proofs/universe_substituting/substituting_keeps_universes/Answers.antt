@@ -6,6 +6,8 @@ use Rattle.au_matching.proofs.universe_substituting.substituting_keeps_universes
 pub returns : goal.returns
 returns c = record {
   kept = λ rows params others s t fit stands. universe_kept rows params others s fit t stands;
-  free = λ rows params others s t fit stands is. free_kept (universe_of rows params t) (universe_of rows others (substituted s t)) (universe_kept rows params others s fit t stands) is;
-  linear = λ rows params others s t fit stands is. linear_kept (universe_of rows params t) (universe_of rows others (substituted s t)) (universe_kept rows params others s fit t stands) is;
+  free = λ rows params others s t fit stands is. free_kept (universe_of rows params t)
+      (universe_of rows others (substituted s t)) (universe_kept rows params others s fit t stands) is;
+  linear = λ rows params others s t fit stands is. linear_kept (universe_of rows params t)
+      (universe_of rows others (substituted s t)) (universe_kept rows params others s fit t stands) is;
 }

@@ -5,4 +5,9 @@ use Rattle.au_noting.proofs.called.type_values.Goals as goal
 
 pub loop-index-preserved : goal.loop-index-preserved
 loop-index-preserved c =
-    grind (arith, append_assoc, values_step c.args.s.now c.args.params.now c.loop-index.index c.at.result.now c.at.ensures)
+    grind (
+      arith,
+      append_assoc,
+      values_step c.args.s.now c.args.params.now c.loop-index.index c.at.result.now
+          c.at.ensures,
+    )

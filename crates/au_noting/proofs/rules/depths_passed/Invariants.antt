@@ -6,4 +6,5 @@ use Rattle.au_noting.proofs.rules.depths_passed.Given as goal
 
 -- no type so far is too deep, so those that are left decide
 abbrev pub invariant-loop-one : goal.invariant-loop-one
-invariant-loop-one l = first_limit depth_limit (meanings l.types) ≡ first_limit depth_limit (meanings (drop l.one-index l.types))
+invariant-loop-one l = first_limit depth_limit (meanings l.types) ≡ first_limit depth_limit
+    (meanings (drop l.one-index l.types))

@@ -6,4 +6,5 @@ use Rattle.au_noting.proofs.rules.sizes_passed.Given as goal
 
 -- no type so far is too large, so those that are left decide
 abbrev pub invariant-loop-one : goal.invariant-loop-one
-invariant-loop-one l = first_limit nodes_limit (meanings l.types) ≡ first_limit nodes_limit (meanings (drop l.one-index l.types))
+invariant-loop-one l = first_limit nodes_limit (meanings l.types) ≡ first_limit nodes_limit
+    (meanings (drop l.one-index l.types))

@@ -5,4 +5,5 @@ use Rattle.au_noting.proofs.scopes.constraints.Given as goal
 
 -- the constraints of the type parameters so far, before those of the others
 abbrev pub invariant-loop-index : goal.invariant-loop-index
-invariant-loop-index l = l.known.items ++ constraints_from l.generics (drop l.index l.generics) ≡ constraints_of l.generics
+invariant-loop-index l = l.known.items ++ constraints_from l.generics (drop l.index l.generics)
+    ≡ constraints_of l.generics

@@ -5,4 +5,8 @@ use Rattle.au_noting_expressions.proofs.argument_types.each_is_named_once.Goals 
 
 pub returns-then-not-is_named_once : goal.returns-then-not-is_named_once
 returns-then-not-is_named_once c =
-    grind (arith, named_step (labels_said c.args.args.now) c.args.params.now c.loop-one.one-index c.one-item.result c.loop-one-test.true c.one-item.is)
+    grind (
+      arith,
+      named_step (labels_said c.args.args.now) c.args.params.now c.loop-one.one-index
+          c.one-item.result c.loop-one-test.true c.one-item.is,
+    )

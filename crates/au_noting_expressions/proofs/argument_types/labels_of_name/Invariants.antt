@@ -8,5 +8,6 @@ use Rattle.au_noting_expressions.proofs.argument_types.labels_of_name.Given as g
 abbrev pub invariant-loop-one : goal.invariant-loop-one
 invariant-loop-one l = record {
   few : l.count ≤ l.one-index;
-  rest : l.count + count_by (bytes_eq l.name) (labels_said (drop l.one-index l.args)) ≡ count_by (bytes_eq l.name) (labels_said l.args);
+  rest : l.count + count_by (bytes_eq l.name) (labels_said (drop l.one-index l.args))
+      ≡ count_by (bytes_eq l.name) (labels_said l.args);
 }

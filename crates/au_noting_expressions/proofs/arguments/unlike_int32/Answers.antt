@@ -9,4 +9,5 @@ use Rattle.au_noting_expressions.proofs.arguments.unlike_int32.Goals as goal
 
 pub returns : goal.returns
 returns c =
-    subst (λ t. Tells (different (substituted c.args.s.now (meaning c.args.param.now)) t) c.unlike.result) (integer_means Int32) c.unlike.ensures
+    subst (λ t. Tells (different (substituted c.args.s.now (meaning c.args.param.now)) t) c.unlike.result)
+    (integer_means Int32) c.unlike.ensures

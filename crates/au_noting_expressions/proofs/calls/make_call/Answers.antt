@@ -18,6 +18,7 @@ returns c =
     let says : call u f (listed (all_said c.args.args.items)) tt ≡ expression noted _ =
     ap (λ es. call u f es tt) (listed_said c.args.args.items)
     ∙ ap (λ m. call m f (expression_all noted c.args.args.items) tt) (sym c.noted_site.ensures)
-    ∙ ap (λ x. call (node noted c.noted_site.result) x (expression_all noted c.args.args.items) tt) (sym c.in_ok-name.ensures)
+    ∙ ap (λ x. call (node noted c.noted_site.result) x (expression_all noted c.args.args.items) tt)
+    (sym c.in_ok-name.ensures)
     ∙ sym (call_says noted c.noted_site.result c.in_ok-name.name c.args.args tt) in
     ap (λ (e : NotedExpression). Ok e) says

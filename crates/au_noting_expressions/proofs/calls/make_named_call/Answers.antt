@@ -14,9 +14,11 @@ pub returns : goal.returns
 returns c =
     let u = noted_at (node parsed c.args.site.now) (note c.args.notes) in
     let f = placed parsed c.args.name.now in
-    let says : named_call u f (labelled (argument_all parsed c.args.old.now.items) (all_said c.args.args.items)) tt ≡ expression noted _ =
+    let says : named_call u f (labelled (argument_all parsed c.args.old.now.items)
+    (all_said c.args.args.items)) tt ≡ expression noted _ =
     ap (λ es. named_call u f es tt) (sym c.in_ok-args.ensures)
     ∙ ap (λ m. named_call m f (argument_all noted c.in_ok-args.args.items) tt) (sym c.noted_site.ensures)
-    ∙ ap (λ x. named_call (node noted c.noted_site.result) x (argument_all noted c.in_ok-args.args.items) tt) (sym c.in_ok-name.ensures)
+    ∙ ap (λ x. named_call (node noted c.noted_site.result) x (argument_all noted c.in_ok-args.args.items) tt)
+    (sym c.in_ok-name.ensures)
     ∙ sym (named_call_says noted c.noted_site.result c.in_ok-name.name c.in_ok-args.args tt) in
     ap (λ (e : NotedExpression). Ok e) says

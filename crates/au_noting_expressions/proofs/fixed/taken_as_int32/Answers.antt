@@ -12,5 +12,6 @@ pub returns : goal.returns
 returns c =
     subst
     (λ t. Gives (λ r. r) c.taken_as.result
-    (known_or (different (substituted c.args.s.now (meaning c.args.param.now)) t) (matched (meaning c.args.param.now) t c.args.s.now)))
+    (known_or (different (substituted c.args.s.now (meaning c.args.param.now)) t)
+    (matched (meaning c.args.param.now) t c.args.s.now)))
     (integer_means Int32) c.taken_as.ensures

@@ -8,4 +8,5 @@ use Rattle.au_noting_expressions.proofs.leaves.note_nil.Goals as goal
 
 pub returns : goal.returns
 returns c =
-    made_with _ _ (node parsed c.args.site.now) (λ m. nil m) _ _ c.in_ok-note.ensures c.noted_site.ensures (nil_says noted c.noted_site.result)
+    made_with _ _ (node parsed c.args.site.now) (λ m. nil m) _ _ c.in_ok-note.ensures c.noted_site.ensures
+    (nil_says noted c.noted_site.result)

@@ -13,6 +13,7 @@ use Rattle.au_noting_expressions.proofs.leaves.note_number.Goals as goal
 pub returns : goal.returns
 returns c =
     let fits : FitsSigned w128 c.args.literal.now.value = search rules in
-    made_of (λ z. literal_note (wanted c.args.mode) z) _ c.args.literal.now.value _ (node parsed c.args.site.now) (λ m. number m c.args.literal.now) _ _
+    made_of (λ z. literal_note (wanted c.args.mode) z) _ c.args.literal.now.value _
+    (node parsed c.args.site.now) (λ m. number m c.args.literal.now) _ _
     c.in_ok-note.ensures (to_z-of_z fits) c.noted_site.ensures
     (number_says noted c.noted_site.result c.args.literal.now)

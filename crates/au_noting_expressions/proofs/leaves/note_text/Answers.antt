@@ -9,5 +9,7 @@ use Rattle.au_noting_expressions.proofs.leaves.note_text.Goals as goal
 
 pub returns : goal.returns
 returns c =
-    made_with _ _ (node parsed c.args.site.now) (λ m. text m c.args.text.now) _ _ c.in_ok-note.ensures c.noted_site.ensures
-    (text_says noted c.noted_site.result c.in_ok-text.text ∙ ap (text (node noted c.noted_site.result)) c.in_ok-text.ensures)
+    made_with _ _ (node parsed c.args.site.now) (λ m. text m c.args.text.now) _ _ c.in_ok-note.ensures
+    c.noted_site.ensures
+    (text_says noted c.noted_site.result c.in_ok-text.text ∙ ap (text (node noted c.noted_site.result))
+    c.in_ok-text.ensures)

@@ -8,5 +8,6 @@ use Rattle.au_noting_expressions.proofs.leaves.note_truth.Goals as goal
 
 pub returns : goal.returns
 returns c =
-    made_with _ _ (node parsed c.args.site.now) (λ m. truth m c.args.truth) _ _ c.in_ok-note.ensures c.noted_site.ensures
+    made_with _ _ (node parsed c.args.site.now) (λ m. truth m c.args.truth) _ _ c.in_ok-note.ensures
+    c.noted_site.ensures
     (bool_says noted c.noted_site.result c.args.truth)

@@ -12,8 +12,13 @@ use Rattle.au_noting_expressions.proofs.makers.make_arithmetic.Goals as goal
 
 pub returns : goal.returns
 returns c =
-    made_of_two (expression noted c.args.first.value) (expression noted c.args.second.value) _ _ (arithmetic_note (wanted c.args.mode)) _ (node parsed c.args.site.now) (λ m. binary m c.args.op (expression noted c.args.first.value) (expression noted c.args.second.value)) _ _
+    made_of_two (expression noted c.args.first.value) (expression noted c.args.second.value) _ _
+    (arithmetic_note (wanted c.args.mode)) _ (node parsed c.args.site.now)
+    (λ m. binary m c.args.op (expression noted c.args.first.value) (expression noted c.args.second.value)) _
+    _
     c.in_ok-of_one_type.ensures (c.type_of.ensures ∙ ap (λ e. type_of (expression noted e)) c.deref.ensures)
     (c.type_of-2.ensures ∙ ap (λ e. type_of (expression noted e)) c.deref-2.ensures)
-    (ap (arithmetic_note (wanted c.args.mode)) (c.type_of.ensures ∙ ap (λ e. type_of (expression noted e)) (c.deref.ensures ∙ sym c.deref-3.ensures) ∙ sym c.type_of-3.ensures) ∙ c.in_ok-note.ensures)
+    (ap (arithmetic_note (wanted c.args.mode))
+    (c.type_of.ensures ∙ ap (λ e. type_of (expression noted e)) (c.deref.ensures ∙ sym c.deref-3.ensures)
+    ∙ sym c.type_of-3.ensures) ∙ c.in_ok-note.ensures)
     c.noted_site.ensures (binary_says noted c.noted_site.result c.args.op c.args.first c.args.second)

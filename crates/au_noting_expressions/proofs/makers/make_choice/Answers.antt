@@ -12,9 +12,13 @@ use Rattle.au_noting_expressions.proofs.makers.make_choice.Goals as goal
 
 pub returns : goal.returns
 returns c =
-    made_of_two (expression noted c.args.then.value) (expression noted c.args.otherwise.value) _ _ (rules.noted (wanted c.args.mode)) _ (node parsed c.args.site.now)
-    (λ m. choice m (expression noted c.args.test.value) (expression noted c.args.then.value) (expression noted c.args.otherwise.value)) _ _
+    made_of_two (expression noted c.args.then.value) (expression noted c.args.otherwise.value) _ _
+    (rules.noted (wanted c.args.mode)) _ (node parsed c.args.site.now)
+    (λ m. choice m (expression noted c.args.test.value) (expression noted c.args.then.value)
+    (expression noted c.args.otherwise.value)) _ _
     c.in_ok-of_one_type.ensures (c.type_of.ensures ∙ ap (λ e. type_of (expression noted e)) c.deref.ensures)
     (c.type_of-2.ensures ∙ ap (λ e. type_of (expression noted e)) c.deref-2.ensures)
-    (ap (rules.noted (wanted c.args.mode)) (c.type_of.ensures ∙ ap (λ e. type_of (expression noted e)) (c.deref.ensures ∙ sym c.deref-3.ensures) ∙ sym c.type_of-3.ensures) ∙ c.in_ok-note.ensures)
+    (ap (rules.noted (wanted c.args.mode))
+    (c.type_of.ensures ∙ ap (λ e. type_of (expression noted e)) (c.deref.ensures ∙ sym c.deref-3.ensures)
+    ∙ sym c.type_of-3.ensures) ∙ c.in_ok-note.ensures)
     c.noted_site.ensures (if_says noted c.noted_site.result c.args.test c.args.then c.args.otherwise)

@@ -12,8 +12,12 @@ use Rattle.au_noting_expressions.proofs.makers.make_comparison.Goals as goal
 
 pub returns : goal.returns
 returns c =
-    made_with _ _ (node parsed c.args.site.now) (λ m. binary m c.args.op (expression noted c.args.first.value) (expression noted c.args.second.value)) _ _
-    (ap (λ t. compared_note c.args.op (wanted c.args.mode) t (type_of (expression noted c.args.second.value))) (sym (c.type_of.ensures ∙ ap (λ e. type_of (expression noted e)) c.deref.ensures))
-    ∙ ap (compared_note c.args.op (wanted c.args.mode) _) (sym (c.type_of-2.ensures ∙ ap (λ e. type_of (expression noted e)) c.deref-2.ensures))
+    made_with _ _ (node parsed c.args.site.now)
+    (λ m. binary m c.args.op (expression noted c.args.first.value) (expression noted c.args.second.value)) _
+    _
+    (ap (λ t. compared_note c.args.op (wanted c.args.mode) t (type_of (expression noted c.args.second.value)))
+    (sym (c.type_of.ensures ∙ ap (λ e. type_of (expression noted e)) c.deref.ensures))
+    ∙ ap (compared_note c.args.op (wanted c.args.mode) _)
+    (sym (c.type_of-2.ensures ∙ ap (λ e. type_of (expression noted e)) c.deref-2.ensures))
     ∙ c.in_ok-note.ensures)
     c.noted_site.ensures (binary_says noted c.noted_site.result c.args.op c.args.first c.args.second)

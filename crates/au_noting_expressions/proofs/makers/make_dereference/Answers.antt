@@ -13,6 +13,8 @@ use Rattle.au_noting_expressions.proofs.makers.make_dereference.Goals as goal
 
 pub returns : goal.returns
 returns c =
-    made_of (dereference_note (scope_said c.args.scope.now) (wanted c.args.mode)) _ _ _ (node parsed c.args.site.now) (λ m. dereference m (expression noted c.args.inner.value)) _ _ c.in_ok-note.ensures
+    made_of (dereference_note (scope_said c.args.scope.now) (wanted c.args.mode)) _ _ _
+    (node parsed c.args.site.now) (λ m. dereference m (expression noted c.args.inner.value)) _ _
+    c.in_ok-note.ensures
     (c.type_of.ensures ∙ ap (λ e. type_of (expression noted e)) c.deref.ensures)
     c.noted_site.ensures (dereference_says noted c.noted_site.result c.args.inner)

@@ -8,5 +8,7 @@ use Rattle.au_noting_expressions.proofs.makers.make_logical.Goals as goal
 
 pub returns : goal.returns
 returns c =
-    made_with _ _ (node parsed c.args.site.now) (λ m. binary m c.args.op (expression noted c.args.first.value) (expression noted c.args.second.value)) _ _ c.in_ok-note.ensures
+    made_with _ _ (node parsed c.args.site.now)
+    (λ m. binary m c.args.op (expression noted c.args.first.value) (expression noted c.args.second.value)) _
+    _ c.in_ok-note.ensures
     c.noted_site.ensures (binary_says noted c.noted_site.result c.args.op c.args.first c.args.second)

@@ -8,5 +8,6 @@ use Rattle.au_noting_expressions.proofs.makers.make_negation.Goals as goal
 
 pub returns : goal.returns
 returns c =
-    made_with _ _ (node parsed c.args.site.now) (λ m. negation m (expression noted c.args.inner.value)) _ _ c.in_ok-note.ensures
+    made_with _ _ (node parsed c.args.site.now) (λ m. negation m (expression noted c.args.inner.value)) _ _
+    c.in_ok-note.ensures
     c.noted_site.ensures (not_says noted c.noted_site.result c.args.inner)

@@ -12,6 +12,7 @@ use Rattle.au_noting_expressions.proofs.makers.make_parenthesized.Goals as goal
 
 pub returns : goal.returns
 returns c =
-    made_of (rules.noted (wanted c.args.mode)) _ _ _ (node parsed c.args.site.now) (λ m. parenthesized m (expression noted c.args.inner.value)) _ _ c.in_ok-note.ensures
+    made_of (rules.noted (wanted c.args.mode)) _ _ _ (node parsed c.args.site.now)
+    (λ m. parenthesized m (expression noted c.args.inner.value)) _ _ c.in_ok-note.ensures
     (c.type_of.ensures ∙ ap (λ e. type_of (expression noted e)) c.deref.ensures)
     c.noted_site.ensures (parenthesized_says noted c.noted_site.result c.args.inner)

@@ -9,5 +9,9 @@ use Rattle.au_noting_expressions.proofs.makers.make_typed.Goals as goal
 
 pub returns : goal.returns
 returns c =
-    made_with _ _ (node parsed c.args.site.now) (λ m. typed m (expression noted c.args.inner.value) (written c.args.text.now)) _ _ c.in_ok-note.ensures c.noted_site.ensures
-    (typed_says noted c.noted_site.result c.args.inner c.in_ok-text.text ∙ ap (typed (node noted c.noted_site.result) (expression noted c.args.inner.value)) c.in_ok-text.ensures)
+    made_with _ _ (node parsed c.args.site.now)
+    (λ m. typed m (expression noted c.args.inner.value) (written c.args.text.now)) _ _ c.in_ok-note.ensures
+    c.noted_site.ensures
+    (typed_says noted c.noted_site.result c.args.inner c.in_ok-text.text
+    ∙ ap (typed (node noted c.noted_site.result) (expression noted c.args.inner.value))
+    c.in_ok-text.ensures)

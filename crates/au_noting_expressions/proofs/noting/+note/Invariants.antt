@@ -65,11 +65,14 @@ decreases-taken_fixed l = 16 * height l.e.now + 2
 abbrev pub invariant-first-loop-index : goal.invariant-first-loop-index
 invariant-first-loop-index l = record {
   count : deque_len l.halves ≡ l.index;
-  rest : first_left (scope_said l.scope) (values l.ops) l.types l.halves.items l.index l.s ≡ search.first (each_operand (scope_said l.scope) (values l.ops)) (meanings l.types) l.fn.s;
+  rest : first_left (scope_said l.scope) (values l.ops) l.types l.halves.items l.index l.s
+      ≡ search.first (each_operand (scope_said l.scope) (values l.ops)) (meanings l.types) l.fn.s;
 }
 
 abbrev pub invariant-second-loop-index : goal.invariant-second-loop-index
 invariant-second-loop-index l = record {
   count : deque_len l.halves + l.index ≡ length l.types;
-  rest : second_left (scope_said l.scope) (values l.ops) l.types l.made.items l.halves.items l.index l.s ≡ search.second (each_operand (scope_said l.scope) (values l.ops)) (map half_said l.fn.halves.items) (meanings l.types) l.fn.s;
+  rest : second_left (scope_said l.scope) (values l.ops) l.types l.made.items l.halves.items l.index l.s
+      ≡ search.second (each_operand (scope_said l.scope) (values l.ops)) (map half_said l.fn.halves.items)
+      (meanings l.types) l.fn.s;
 }

@@ -11,6 +11,8 @@ use Rattle.au_noting_expressions.proofs.places.borrow_of.Goals as goal
 
 pub returns : goal.returns
 returns c =
-    made_behind _ _ (rules.noted (wanted c.args.mode)) _ (node parsed c.args.site.now) (λ m. borrow m c.args.kind (placed parsed c.args.name.now)) _ _
+    made_behind _ _ (rules.noted (wanted c.args.mode)) _ (node parsed c.args.site.now)
+    (λ m. borrow m c.args.kind (placed parsed c.args.name.now)) _ _
     c.in_ok-gives.ensures c.in_ok-note.ensures c.noted_site.ensures
-    (borrow_says noted c.noted_site.result c.args.kind c.in_ok-name.name ∙ ap (borrow (node noted c.noted_site.result) c.args.kind) c.in_ok-name.ensures)
+    (borrow_says noted c.noted_site.result c.args.kind c.in_ok-name.name
+    ∙ ap (borrow (node noted c.noted_site.result) c.args.kind) c.in_ok-name.ensures)

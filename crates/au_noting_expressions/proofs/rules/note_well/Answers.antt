@@ -8,8 +8,10 @@ use Rattle.au_noting_expressions.proofs.rules.note_well.Goals as goal
 
 pub returns-clause-good : goal.returns-clause-good
 returns-clause-good c =
-    answers_good (scope_said c.args.scope.now) (expression parsed c.args.e.now) (wanted c.args.mode) (expression noted) c.note.result c.note.ensures
+    answers_good (scope_said c.args.scope.now) (expression parsed c.args.e.now) (wanted c.args.mode)
+    (expression noted) c.note.result c.note.ensures
 
 pub returns-clause-only : goal.returns-clause-only
 returns-clause-only c =
-    answers_only (scope_said c.args.scope.now) (expression parsed c.args.e.now) (wanted c.args.mode) (expression noted) c.note.result c.note.ensures
+    answers_only (scope_said c.args.scope.now) (expression parsed c.args.e.now) (wanted c.args.mode)
+    (expression noted) c.note.result c.note.ensures

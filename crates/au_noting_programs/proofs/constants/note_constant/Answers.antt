@@ -12,7 +12,8 @@ use Rattle.au_noting_programs.proofs.constants.note_constant.Goals as goal
 pub returns : goal.returns
 returns c =
     subst (Gives boxed_said c.note_value.result)
-    (sym (constant_is (outside_seen c.args.outside.now) (written c.args.of.now) (expression parsed c.args.value.now) (scope_said c.in_ok-scope.scope) (meaning c.in_ok-of.of)
+    (sym (constant_is (outside_seen c.args.outside.now) (written c.args.of.now)
+    (expression parsed c.args.value.now) (scope_said c.in_ok-scope.scope) (meaning c.in_ok-of.of)
     c.in_ok-scope.ensures
     c.in_ok-of.ensures))
     c.note_value.ensures

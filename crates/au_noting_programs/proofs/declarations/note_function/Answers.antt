@@ -9,7 +9,11 @@ use Rattle.au_noting_programs.proofs.declarations.note_function.Goals as goal
 
 pub returns : goal.returns
 returns c =
-    function_noted (outside_seen c.args.outside.now) c.args.at (map (constrained parsed) c.args.generics.now.items) (map (constrained noted) c.in_ok-generics.generics.items)
-    (header parsed c.args.signature.now) (header noted c.in_ok-generics.signature) (block parsed c.args.body.now) c.args.stop (block noted c.in_ok-body.body)
+    function_noted (outside_seen c.args.outside.now) c.args.at
+    (map (constrained parsed) c.args.generics.now.items)
+    (map (constrained noted) c.in_ok-generics.generics.items)
+    (header parsed c.args.signature.now) (header noted c.in_ok-generics.signature)
+    (block parsed c.args.body.now) c.args.stop (block noted c.in_ok-body.body)
     c.in_ok-body.ensures c.in_ok-generics.ensures.generics c.in_ok-generics.ensures.signature
-    ∙ ap Ok (sym (function_body_says noted c.args.at c.in_ok-generics.generics c.in_ok-generics.signature c.in_ok-body.body c.args.stop))
+    ∙ ap Ok (sym (function_body_says noted c.args.at c.in_ok-generics.generics c.in_ok-generics.signature
+    c.in_ok-body.body c.args.stop))

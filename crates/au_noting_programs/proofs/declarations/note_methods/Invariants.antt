@@ -11,6 +11,8 @@ use Rattle.au_noting_programs.proofs.declarations.note_methods.Given as goal
 -- the methods so far are noted, before those that are left
 abbrev pub invariant-loop-one : goal.invariant-loop-one
 invariant-loop-one l =
-    note_methods (outside_seen l.outside) (map (constrained parsed) l.generics.items) (map (method_body parsed) l.methods)
+    note_methods (outside_seen l.outside) (map (constrained parsed) l.generics.items)
+    (map (method_body parsed) l.methods)
     ≡ behind (map (method_body noted) l.all.items)
-    (each (note_method (outside_seen l.outside) (map (constrained parsed) l.generics.items)) (map (method_body parsed) (drop l.one-index l.methods)))
+    (each (note_method (outside_seen l.outside) (map (constrained parsed) l.generics.items))
+    (map (method_body parsed) (drop l.one-index l.methods)))

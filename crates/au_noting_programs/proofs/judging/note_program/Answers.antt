@@ -10,10 +10,12 @@ use Rattle.au_noting_programs.proofs.DerivedLemmas.{told_only, told_refused}
 use Rattle.au_noting_programs.proofs.judging.note_program.Goals as goal
 
 pub returns-in-Ok-clause-accepted : goal.returns-in-Ok-clause-accepted
-returns-in-Ok-clause-accepted c = found_accepted (slots.modules c.args.program) (made_said c.in-Ok.modules) c.in-Ok.ensures
+returns-in-Ok-clause-accepted c = found_accepted (slots.modules c.args.program) (made_said c.in-Ok.modules)
+    c.in-Ok.ensures
 
 pub returns-in-Ok-clause-only : goal.returns-in-Ok-clause-only
-returns-in-Ok-clause-only c = λ noted g. program_found (outside_of (slots.modules c.args.program)) (slots.modules c.args.program) noted g
+returns-in-Ok-clause-only c = λ noted g. program_found (outside_of (slots.modules c.args.program))
+    (slots.modules c.args.program) noted g
 
 pub returns-in-Err-clause-only : goal.returns-in-Err-clause-only
 returns-in-Err-clause-only c =

@@ -14,5 +14,6 @@ returns c =
     subst (Judges part_said c.note_part.result)
     (ap (λ seen. note_part seen (option_map entry (option_copied c.file_at-file.result))) c.sight-outside.ensures
     ∙ ap (note_part (outside_of (modules c.args.program.now) c.args.place c.args.part))
-    (c.file_at-file.ensures ∙ ap (λ (m : Modules). file_at (map entry m.files.items) c.args.index) c.modules.ensures.kept))
+    (c.file_at-file.ensures ∙ ap (λ (m : Modules). file_at (map entry m.files.items) c.args.index)
+    c.modules.ensures.kept))
     c.note_part.ensures

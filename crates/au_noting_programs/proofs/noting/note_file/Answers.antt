@@ -14,13 +14,16 @@ pub returns-in_err-tree : goal.returns-in_err-tree
 returns-in_err-tree c =
     let p = err_from_is_err_and c.from_residual.result c.from_residual.ensures.1 in
     judged_err file_said c.from_residual.result c.in_err-tree.field-0.0 _ p
-    (refuses_whole c.in_err-tree.field-0.0 (note_tree (outside_seen c.args.outside.now) (module_tree parsed c.tree.result.now)) _
+    (refuses_whole c.in_err-tree.field-0.0
+    (note_tree (outside_seen c.args.outside.now) (module_tree parsed c.tree.result.now)) _
     (λ fault is.
-    read_noted (outside_seen c.args.outside.now) c.args.file.now (module_tree parsed c.tree.result.now) (ap (module_tree parsed) c.tree.ensures.same)
+    read_noted (outside_seen c.args.outside.now) c.args.file.now (module_tree parsed c.tree.result.now)
+    (ap (module_tree parsed) c.tree.ensures.same)
     ∙ ap (λ r. r then λ tree. Ok (with_number c.args.file.now tree)) is)
     c.in_err-tree.ensures)
 
 pub returns : goal.returns
 returns c =
-    read_noted (outside_seen c.args.outside.now) c.args.file.now (module_tree parsed c.tree.result.now) (ap (module_tree parsed) c.tree.ensures.same)
+    read_noted (outside_seen c.args.outside.now) c.args.file.now (module_tree parsed c.tree.result.now)
+    (ap (module_tree parsed) c.tree.ensures.same)
     ∙ ap (λ r. r then λ tree. Ok (with_number c.args.file.now tree)) c.in_ok-tree.ensures

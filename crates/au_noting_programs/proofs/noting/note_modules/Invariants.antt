@@ -13,4 +13,5 @@ abbrev pub invariant-loop-place : goal.invariant-loop-place
 invariant-loop-place l =
     noting_of (modules l.program)
     ≡ behind (modules_said l.all.items)
-    (note_modules (outside_of (modules l.program)) l.place (map (parts_at (map entry l.program.files.items)) (drop l.place l.slots)))
+    (note_modules (outside_of (modules l.program)) l.place
+    (map (parts_at (map entry l.program.files.items)) (drop l.place l.slots)))

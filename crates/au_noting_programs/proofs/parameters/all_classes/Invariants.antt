@@ -7,4 +7,5 @@ use Rattle.au_noting_programs.proofs.parameters.all_classes.Given as goal
 
 -- the classes of the type parameters that are visited
 abbrev pub invariant-loop-one : goal.invariant-loop-one
-invariant-loop-one l = l.all.items ≡ map (constraints (class_within l.scope)) (map (constrained parsed) (take l.one-index l.one-items))
+invariant-loop-one l = l.all.items ≡ map (constraints (class_within l.scope))
+    (map (constrained parsed) (take l.one-index l.one-items))

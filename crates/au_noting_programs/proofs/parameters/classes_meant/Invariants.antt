@@ -7,4 +7,5 @@ use Rattle.au_noting_programs.proofs.parameters.classes_meant.Given as goal
 
 -- the classes of the names that are visited
 abbrev pub invariant-loop-one : goal.invariant-loop-one
-invariant-loop-one l = l.classes ≡ classes_meant (class_within l.scope) (map (placed parsed) (take l.one-index l.one-items))
+invariant-loop-one l = l.classes ≡ classes_meant (class_within l.scope)
+    (map (placed parsed) (take l.one-index l.one-items))

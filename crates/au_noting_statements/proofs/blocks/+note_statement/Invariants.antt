@@ -51,7 +51,8 @@ decreases-note_borrow_typed l = 8 * block_depth (block parsed l.body.now) + 4
 -- the statements so far, and what is in scope behind them
 abbrev pub invariant-note_block-loop-index : goal.invariant-note_block-loop-index
 invariant-note_block-loop-index l = record {
-  left : fronted (statements_before l.statements.items) (note_block (statement_all parsed (drop l.index l.stmt-items)) (scope_said l.scope))
+  left : fronted (statements_before l.statements.items)
+      (note_block (statement_all parsed (drop l.index l.stmt-items)) (scope_said l.scope))
       ≡ note_block (statement_all parsed l.stmt-items) (scope_said l.fn.scope);
   grown : IsGrown (scope_said l.fn.scope) (scope_said l.scope);
 }
@@ -59,7 +60,9 @@ invariant-note_block-loop-index l = record {
 -- the branches so far, with as many tests
 abbrev pub invariant-note_branches-loop-branch : goal.invariant-note_branches-loop-branch
 invariant-note_branches-loop-branch l = record {
-  left : fronted (branches_before l.made.items) (note_branches (branch_all parsed (drop l.branch-index l.branch-items)) (all_boxed l.tests.items) (scope_said l.fn.scope))
+  left : fronted (branches_before l.made.items)
+      (note_branches (branch_all parsed (drop l.branch-index l.branch-items)) (all_boxed l.tests.items)
+      (scope_said l.fn.scope))
       ≡ note_branches (branch_all parsed l.branch-items) (all_boxed l.fn.tests.items) (scope_said l.fn.scope);
   same : scope_said l.scope ≡ scope_said l.fn.scope;
 }
@@ -67,7 +70,8 @@ invariant-note_branches-loop-branch l = record {
 -- the arms so far
 abbrev pub invariant-note_arms-loop-arm : goal.invariant-note_arms-loop-arm
 invariant-note_arms-loop-arm l = record {
-  left : fronted (arms_before l.made.items) (note_arms (arm_all parsed (drop l.arm-index l.arm-items)) (scope_said l.fn.scope))
+  left : fronted (arms_before l.made.items)
+      (note_arms (arm_all parsed (drop l.arm-index l.arm-items)) (scope_said l.fn.scope))
       ≡ note_arms (arm_all parsed l.arm-items) (scope_said l.fn.scope);
   same : scope_said l.scope ≡ scope_said l.fn.scope;
 }

@@ -7,5 +7,7 @@ use Rattle.au_noting_statements.proofs.entering.enter_lent.Goals as goal
 
 pub returns : goal.returns
 returns c =
-    ap (λ (n : Noting Meaning). n >>= λ of. Ok (with_reference c.args.names.now.reference.name c.args.names.now.region.name of (scope_said c.args.scope.now))) c.in_ok-of.ensures
+    ap (λ (n : Noting Meaning). n >>=
+    λ of. Ok (with_reference c.args.names.now.reference.name c.args.names.now.region.name of
+    (scope_said c.args.scope.now))) c.in_ok-of.ensures
     ∙ ap Ok (sym c.in_ok-enter_reference.ensures)

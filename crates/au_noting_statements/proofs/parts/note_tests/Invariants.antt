@@ -10,5 +10,6 @@ use Rattle.au_noting_statements.proofs.parts.note_tests.Given as goal
 -- the tests so far, in front of those that are left, are all tests
 abbrev pub invariant-loop-branch : goal.invariant-loop-branch
 invariant-loop-branch l =
-    tests_behind (all_boxed l.made.items) (note_tests (scope_said l.scope) (branch_all parsed (drop l.branch-index l.branch-items)))
+    tests_behind (all_boxed l.made.items)
+    (note_tests (scope_said l.scope) (branch_all parsed (drop l.branch-index l.branch-items)))
     ≡ note_tests (scope_said l.scope) (branch_all parsed l.branch-items)

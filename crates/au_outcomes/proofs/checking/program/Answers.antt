@@ -19,7 +19,8 @@ returns-in_err-few_enough-clause-comes g c =
     let p = err_from_is_err_and c.from_residual.result c.from_residual.ensures.1 in
     rw (p.1, p.2)
     (halts_with c.in_err-few_enough.field-0.0 _ _ _ _
-    (λ x h. many_come c.args.aim (g.S.Shelf.files c.args.shelf.now) (map string_bytes names) (length names) x (sym (length-map names string_bytes)) h.0 h.1)
+    (λ x h. many_come c.args.aim (g.S.Shelf.files c.args.shelf.now) (map string_bytes names) (length names) x
+    (sym (length-map names string_bytes)) h.0 h.1)
     c.in_err-few_enough.ensures.comes)
 
 pub returns-in_err-all-clause-comes : goal.returns-in_err-all-clause-comes
@@ -41,21 +42,25 @@ returns-in_err-all-clause-stops g c =
 
 pub outcome_of-requires-clause-few : goal.outcome_of-requires-clause-few
 outcome_of-requires-clause-few g c =
-    let same = fetched_length (g.S.Shelf.files c.args.shelf.now) c.args.names.now c.in_ok-all.all.items c.in_ok-all.ensures.comes in
+    let same = fetched_length (g.S.Shelf.files c.args.shelf.now) c.args.names.now c.in_ok-all.all.items
+    c.in_ok-all.ensures.comes in
     let slice = ap length c.as_slice.ensures.value in
     omega (arith, c.in_ok-few_enough.ensures.comes)
 
 pub outcome_of-requires-clause-small : goal.outcome_of-requires-clause-small
 outcome_of-requires-clause-small g c =
     let files = c.in_ok-all.ensures.comes in
-    subst (λ (l : List (Vec ℕ Global)). All (λ (b : Vec ℕ Global). length b.items ≤ most_file_bytes) l) (sym c.as_slice.ensures.value) (are_small files.0 (map string_bytes c.args.names.now) c.in_ok-all.all.items files.2)
+    subst (λ (l : List (Vec ℕ Global)). All (λ (b : Vec ℕ Global). length b.items ≤ most_file_bytes) l)
+    (sym c.as_slice.ensures.value)
+    (are_small files.0 (map string_bytes c.args.names.now) c.in_ok-all.all.items files.2)
 
 pub returns-clause-comes : goal.returns-clause-comes
 returns-clause-comes g c =
     let told = g.S.Shelf.files c.args.shelf.now in
     let names = map string_bytes c.args.names.now in
     let all = c.in_ok-all.all.items in
-    let few : length names ≤ most_files = omega (arith, length-map c.args.names.now string_bytes, c.in_ok-few_enough.ensures.comes) in
+    let few : length names ≤ most_files =
+    omega (arith, length-map c.args.names.now string_bytes, c.in_ok-few_enough.ensures.comes) in
     let told_so : (x : Outcome) → BytesCome c.args.aim (map bytes_in c.as_slice.result.now) x
     → ComesTo c.args.aim told names x = λ x h.
     bytes_come c.args.aim told names (map bytes_in all) x few c.in_ok-all.ensures.comes
@@ -64,4 +69,6 @@ returns-clause-comes g c =
 
 pub returns-clause-misses : goal.returns-clause-misses
 returns-clause-misses g c =
-    no_miss c.args.aim c.outcome_of.result (map bytes_in c.as_slice.result.now) (g.S.Shelf.misses c.args.shelf.now) (g.S.Shelf.misses c.fetch_all.new.shelf) c.outcome_of.ensures.comes c.in_ok-all.ensures.misses
+    no_miss c.args.aim c.outcome_of.result (map bytes_in c.as_slice.result.now)
+    (g.S.Shelf.misses c.args.shelf.now) (g.S.Shelf.misses c.fetch_all.new.shelf) c.outcome_of.ensures.comes
+    c.in_ok-all.ensures.misses

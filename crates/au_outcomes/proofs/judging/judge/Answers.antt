@@ -11,11 +11,13 @@ pub returns-in_err-modules-clause-comes : goal.returns-in_err-modules-clause-com
 returns-in_err-modules-clause-comes c =
     let p = err_from_is_err_and c.from_residual-in_err-modules.result c.from_residual-in_err-modules.ensures.1 in
     rw (p.1, p.2)
-    (gather_halts (map entry c.in_ok-files.files.items) (shipped_entries ++ map entry c.args.own.items) c.in_err-modules.field-0.0 _ c.in_ok-files.ensures.files
+    (gather_halts (map entry c.in_ok-files.files.items) (shipped_entries ++ map entry c.args.own.items)
+    c.in_err-modules.field-0.0 _ c.in_ok-files.ensures.files
     (c.in_err-modules.ensures.refused c.in_err-modules.field-0.0 refl))
 
 pub returns-clause-comes : goal.returns-clause-comes
 returns-clause-comes c =
-    program_says (λ n. slots.modules n) (map entry c.in_ok-files.files.items) (shipped_entries ++ map entry c.args.own.items)
+    program_says (λ n. slots.modules n) (map entry c.in_ok-files.files.items)
+    (shipped_entries ++ map entry c.args.own.items)
     (slots.modules c.in_ok-modules.modules) _ c.in_ok-files.ensures.files
     c.in_ok-modules.ensures.modules c.in_ok-modules.ensures.accepted c.judge_modules.ensures.comes

@@ -29,10 +29,12 @@ returns-in_err-declarations_hold-clause-comes c =
 
 pub returns-clause-comes : goal.returns-clause-comes
 returns-clause-comes c =
-    modules_say (slots.modules c.args.modules) (λ n. slots.modules n ≡ slots.modules c.args.modules) c.judge_bodies.result c.in_ok-program.ensures.accepted
+    modules_say (slots.modules c.args.modules) (λ n. slots.modules n ≡ slots.modules c.args.modules)
+    c.judge_bodies.result c.in_ok-program.ensures.accepted
     (subst (λ m. decl_fault (slots.modules m) ≡ None) c.in_ok-program.ensures.kept
     c.in_ok-declarations_hold.ensures.accepted)
     (subst
-    (λ m. Says c.judge_bodies.result (λ n. (bodies_outcome (slots.modules m) ≡ None) × (slots.modules n ≡ slots.modules m))
+    (λ m. Says c.judge_bodies.result
+    (λ n. (bodies_outcome (slots.modules m) ≡ None) × (slots.modules n ≡ slots.modules m))
     (λ x. bodies_outcome (slots.modules m) ≡ Some x))
     c.in_ok-program.ensures.kept c.judge_bodies.ensures.comes)

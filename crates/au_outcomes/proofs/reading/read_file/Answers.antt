@@ -12,7 +12,9 @@ returns-in_err-tree-clause-comes c =
     let p = err_from_is_err_and c.from_residual-in_err-tree.result c.from_residual-in_err-tree.ensures.1 in
     rw (p.1, p.2)
     (halts_with c.in_err-tree.field-0.0 _ _ _ _
-    (λ x h. halts_from c.args.file c.args.bytes.now c.in_ok-tokens.tokens.items c.as_slice.result.now c.after-end.result x c.in_ok-tokens.ensures.cut c.in_ok-tokens.ensures.within c.as_slice.ensures.value (c.after-end.ensures.place c.args.file [] c.start.ensures) h)
+    (λ x h. halts_from c.args.file c.args.bytes.now c.in_ok-tokens.tokens.items c.as_slice.result.now
+    c.after-end.result x c.in_ok-tokens.ensures.cut c.in_ok-tokens.ensures.within c.as_slice.ensures.value
+    (c.after-end.ensures.place c.args.file [] c.start.ensures) h)
     c.in_err-tree.ensures.comes)
 
 pub returns-clause-comes : goal.returns-clause-comes

@@ -10,4 +10,5 @@ use Rattle.au_parser.proofs.imports.module_name.Given as goal
 abbrev pub invariant-loop : goal.invariant-loop
 invariant-loop l =
     (l.used ≤ 65)
-    × (with_front (map (placed parsed) l.names.items) (names_within usual (length l.tokens - l.counter) l.used l.rest) ≡ module_name_at usual l.tokens)
+    × (with_front (map (placed parsed) l.names.items)
+    (names_within usual (length l.tokens - l.counter) l.used l.rest) ≡ module_name_at usual l.tokens)

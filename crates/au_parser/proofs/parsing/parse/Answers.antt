@@ -5,7 +5,8 @@ use Rattle.au_syntax.specs.Words.{Spells}
 use Rattle.au_read_expressions.specs.Bounds.{usual, ModulePasses}
 use Rattle.au_read_expressions.specs.declared.faults.Fault.TheVariants.{Syntax, Passed}
 use Rattle.au_parser.specs.ModuleReading.{file_at}
-use Rattle.au_parser.proofs.FileLaws.{stopped, tree_spelled, tree_formed, tree_within, tree_only, none_spelled, limit_passed, none_within}
+use Rattle.au_parser.proofs.FileLaws.{stopped, tree_spelled, tree_formed, tree_within, tree_only}
+use Rattle.au_parser.proofs.FileLaws.{none_spelled, limit_passed, none_within}
 use Rattle.au_parser.proofs.ReaderLaws.{file_sound, file_found}
 use Rattle.au_parser.proofs.PlainTrees.{ParsedModule, is_noted}
 use Rattle.au_parser.proofs.parsing.parse.Goals as goal
@@ -26,21 +27,24 @@ returns-in-Ok-clause-tree c =
 
 pub returns-in-Ok-clause-only : goal.returns-in-Ok-clause-only
 returns-in-Ok-clause-only c = λ m good spelled small.
-    ap (says parsed) c.new.ensures ∙ tree_only file_sound file_found c.args.tokens.now c.in-Ok.tree c.in-Ok.ensures m good spelled small
+    ap (says parsed) c.new.ensures ∙ tree_only file_sound file_found c.args.tokens.now c.in-Ok.tree
+    c.in-Ok.ensures m good spelled small
 
 pub returns-in-Err-Fault-Passed-clause-limit : goal.returns-in-Err-Fault-Passed-clause-limit
 returns-in-Err-Fault-Passed-clause-limit c = λ l is m good spelled.
     let same : c.in-Err-Fault-Passed.limit ≡ l = cc in
     subst (ModulePasses usual m) same
     (limit_passed file_sound file_found c.args.tokens.now c.in-Err-Fault-Passed.limit c.in-Err-Fault-Passed.field-0-0-1
-    (stopped c.in-Err-Fault-Passed.field-0 c.in-Err-Fault-Passed.field-0-0 (Passed c.in-Err-Fault-Passed.limit c.in-Err-Fault-Passed.field-0-0-1) (file_at usual c.args.tokens.now)
+    (stopped c.in-Err-Fault-Passed.field-0 c.in-Err-Fault-Passed.field-0-0
+    (Passed c.in-Err-Fault-Passed.limit c.in-Err-Fault-Passed.field-0-0-1) (file_at usual c.args.tokens.now)
     c.in-Err-Fault-Passed.ensures c.in-Err-Fault-Passed.field-0-is c.in-Err-Fault-Passed.field-0-0-is) m good spelled)
 
 pub returns-in-Err-Fault-Passed-clause-only : goal.returns-in-Err-Fault-Passed-clause-only
 returns-in-Err-Fault-Passed-clause-only c = λ m good spelled small.
     absurd
     (none_within file_sound file_found c.args.tokens.now c.in-Err-Fault-Passed.field-0-0
-    (stopped c.in-Err-Fault-Passed.field-0 c.in-Err-Fault-Passed.field-0-0 c.in-Err-Fault-Passed.field-0-0 (file_at usual c.args.tokens.now)
+    (stopped c.in-Err-Fault-Passed.field-0 c.in-Err-Fault-Passed.field-0-0 c.in-Err-Fault-Passed.field-0-0
+    (file_at usual c.args.tokens.now)
     c.in-Err-Fault-Passed.ensures c.in-Err-Fault-Passed.field-0-is refl) m good spelled small)
 
 pub returns-in-Err-Fault-Syntax-clause-syntax : goal.returns-in-Err-Fault-Syntax-clause-syntax
@@ -48,7 +52,8 @@ returns-in-Err-Fault-Syntax-clause-syntax c = λ index is.
     let here : c.saturating_sub.result ≡ index = cc in (
       omega (arith, here, c.saturating_sub.ensures),
       none_spelled file_sound file_found c.args.tokens.now c.in-Err-Fault-Syntax.left
-          (stopped c.in-Err-Fault-Syntax.field-0 c.in-Err-Fault-Syntax.field-0-0 (Syntax c.in-Err-Fault-Syntax.left) (file_at usual c.args.tokens.now)
+          (stopped c.in-Err-Fault-Syntax.field-0 c.in-Err-Fault-Syntax.field-0-0
+          (Syntax c.in-Err-Fault-Syntax.left) (file_at usual c.args.tokens.now)
           c.in-Err-Fault-Syntax.ensures c.in-Err-Fault-Syntax.field-0-is c.in-Err-Fault-Syntax.field-0-0-is),
     )
 
@@ -56,22 +61,26 @@ pub returns-in-Err-Fault-Syntax-clause-only : goal.returns-in-Err-Fault-Syntax-c
 returns-in-Err-Fault-Syntax-clause-only c = λ m good spelled small.
     absurd
     (none_within file_sound file_found c.args.tokens.now c.in-Err-Fault-Syntax.field-0-0
-    (stopped c.in-Err-Fault-Syntax.field-0 c.in-Err-Fault-Syntax.field-0-0 c.in-Err-Fault-Syntax.field-0-0 (file_at usual c.args.tokens.now)
+    (stopped c.in-Err-Fault-Syntax.field-0 c.in-Err-Fault-Syntax.field-0-0 c.in-Err-Fault-Syntax.field-0-0
+    (file_at usual c.args.tokens.now)
     c.in-Err-Fault-Syntax.ensures c.in-Err-Fault-Syntax.field-0-is refl) m good spelled small)
 
 pub returns-in-Err-Fault-Passed-clause-passes : goal.returns-in-Err-Fault-Passed-clause-passes
 returns-in-Err-Fault-Passed-clause-passes c = λ l is.
     let same : c.in-Err-Fault-Passed.limit ≡ l = cc in (
       c.in-Err-Fault-Passed.field-0-0-1,
-      stopped c.in-Err-Fault-Passed.field-0 c.in-Err-Fault-Passed.field-0-0 (Passed l c.in-Err-Fault-Passed.field-0-0-1) (file_at usual c.args.tokens.now)
-          c.in-Err-Fault-Passed.ensures c.in-Err-Fault-Passed.field-0-is (c.in-Err-Fault-Passed.field-0-0-is ∙ ap (λ x. Passed x c.in-Err-Fault-Passed.field-0-0-1) same),
+      stopped c.in-Err-Fault-Passed.field-0 c.in-Err-Fault-Passed.field-0-0
+          (Passed l c.in-Err-Fault-Passed.field-0-0-1) (file_at usual c.args.tokens.now)
+          c.in-Err-Fault-Passed.ensures c.in-Err-Fault-Passed.field-0-is
+          (c.in-Err-Fault-Passed.field-0-0-is ∙ ap (λ x. Passed x c.in-Err-Fault-Passed.field-0-0-1) same),
     )
 
 pub returns-in-Err-Fault-Syntax-clause-stops : goal.returns-in-Err-Fault-Syntax-clause-stops
 returns-in-Err-Fault-Syntax-clause-stops c = λ index is.
     let here : c.saturating_sub.result ≡ index = cc in (
       c.in-Err-Fault-Syntax.left,
-      stopped c.in-Err-Fault-Syntax.field-0 c.in-Err-Fault-Syntax.field-0-0 (Syntax c.in-Err-Fault-Syntax.left) (file_at usual c.args.tokens.now)
+      stopped c.in-Err-Fault-Syntax.field-0 c.in-Err-Fault-Syntax.field-0-0
+          (Syntax c.in-Err-Fault-Syntax.left) (file_at usual c.args.tokens.now)
           c.in-Err-Fault-Syntax.ensures c.in-Err-Fault-Syntax.field-0-is c.in-Err-Fault-Syntax.field-0-0-is,
       omega (arith, here, c.saturating_sub.ensures),
     )

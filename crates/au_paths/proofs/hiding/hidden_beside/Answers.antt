@@ -9,7 +9,8 @@ pub returns-then-hidden : goal.returns-then-hidden
 returns-then-hidden g c =
     let here = c.is_named-here.result in
     beside c.args.x.now c.args.hidden c.args.hidden here
-    (ap (λ b. b || here) c.if-hidden.true ∙ sym c.if-hidden.true) (declared (seen_name g.P.Phase c.args.name.now).name ∷ [])
+    (ap (λ b. b || here) c.if-hidden.true ∙ sym c.if-hidden.true)
+    (declared (seen_name g.P.Phase c.args.name.now).name ∷ [])
     (λ h. ap (λ b. if b then hidden else h) (sym c.is_named-here.ensures))
 
 pub returns-else-hidden : goal.returns-else-hidden

@@ -13,7 +13,9 @@ use Rattle.au_program_lives.proofs.functions.body_fault.Goals as goal
 pub returns-in-Ok : goal.returns-in-Ok
 returns-in-Ok c =
     let h = header_said c.args.signature.now in
-    sym (ap (option_map (fault_told h.name.name)) (all_good (sorted (scopes_of h.parameters (body_said c.args.body.now)) c.args.sorts.now) c.in-Ok.ensures))
+    sym (ap (option_map (fault_told h.name.name))
+    (all_good (sorted (scopes_of h.parameters (body_said c.args.body.now)) c.args.sorts.now)
+    c.in-Ok.ensures))
 
 pub returns-in_ok-function-in-Err-Refused : goal.returns-in_ok-function-in-Err-Refused
 returns-in_ok-function-in-Err-Refused c =

@@ -29,6 +29,7 @@ pub returns : goal.returns
 returns c =
     let f = method_fault (scope_of c.args.params.now c.args.visible.now) in
     let items = c.deref-one-items.result.now in
-    nowhere (λ ms. first_of f (methods_said ms)) (first_none f) items c.loop-one.one-index (first_of f (methods_said items))
+    nowhere (λ ms. first_of f (methods_said ms)) (first_none f) items c.loop-one.one-index
+    (first_of f (methods_said items))
     c.loop-one-test.false c.loop-one.invariant
     ∙ ap (λ ms. first_of f (methods_said ms)) c.deref-one-items.ensures.value

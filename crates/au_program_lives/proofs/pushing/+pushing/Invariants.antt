@@ -14,7 +14,8 @@ invariant-push_block-loop-one g l = record {
 
 abbrev pub invariant-push_branches-loop-one : goal.invariant-push_branches-loop-one
 invariant-push_branches-loop-one g l = record {
-  put : l.made.items ++ sorts_of_branches (branches_said g.P.Phase (drop l.one-index l.one-items)) (scope_said l.fn.scope)
+  put : l.made.items ++ sorts_of_branches (branches_said g.P.Phase (drop l.one-index l.one-items))
+      (scope_said l.fn.scope)
       ≡ l.fn.made.items ++ sorts_of_branches (branches_said g.P.Phase l.one-items) (scope_said l.fn.scope);
   kept : scope_said l.scope ≡ scope_said l.fn.scope;
 }

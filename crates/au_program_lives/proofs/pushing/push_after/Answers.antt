@@ -1,6 +1,9 @@
 use Rattle.std.proofs.Common.{arith}
 use Rattle.std.proofs.lemmas.Grind.{common_steps}
-use Rattle.au_syntax.proofs.StatementLemmas.{skip_says, let_says, destructure_says, assign_says, assign_through_says, if_says, if_else_says, case_says, while_says, for_says, borrow_says, borrow_typed_says, call_says, return_says}
+use Rattle.au_syntax.proofs.StatementLemmas.{skip_says, let_says, destructure_says, assign_says}
+use Rattle.au_syntax.proofs.StatementLemmas.{assign_through_says, if_says, if_else_says, case_says}
+use Rattle.au_syntax.proofs.StatementLemmas.{while_says, for_says, borrow_says, borrow_typed_says, call_says}
+use Rattle.au_syntax.proofs.StatementLemmas.{return_says}
 use Rattle.au_program_lives.proofs.pushing.push_after.Goals as goal
 
 pub returns-in-Let : goal.returns-in-Let

@@ -74,10 +74,13 @@ decreases-expression_within l = 20 * l.levels + 10
 
 abbrev pub invariant-expression_list-loop : goal.invariant-expression_list-loop
 invariant-expression_list-loop l =
-    with_front (map (expression parsed) l.exprs.items) (separated_at (what.Sign Comma) (expression_at usual l.levels) (length l.tokens - l.counter) l.rest)
+    with_front (map (expression parsed) l.exprs.items)
+    (separated_at (what.Sign Comma) (expression_at usual l.levels) (length l.tokens - l.counter) l.rest)
     ≡ listed (expression_at usual l.levels) l.tokens
 
 abbrev pub invariant-labelled_list-loop : goal.invariant-labelled_list-loop
 invariant-labelled_list-loop l =
-    with_front (map (argument parsed) l.arguments.items) (separated_at (what.Sign Comma) (labelled (expression_at usual l.levels) (atom_at usual l.levels)) (length l.tokens - l.counter) l.rest)
+    with_front (map (argument parsed) l.arguments.items)
+    (separated_at (what.Sign Comma) (labelled (expression_at usual l.levels) (atom_at usual l.levels))
+    (length l.tokens - l.counter) l.rest)
     ≡ listed (labelled (expression_at usual l.levels) (atom_at usual l.levels)) l.tokens

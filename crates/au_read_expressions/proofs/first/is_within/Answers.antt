@@ -7,5 +7,7 @@ use Rattle.au_read_expressions.proofs.first.is_within.Goals as goal
 
 pub returns : goal.returns
 returns c =
-    counted_within (expression_depth (expression parsed c.args.expr.now)) c.args.levels c.expression_depth.result c.requires
-    (c.expression_depth.ensures ∙ ap (λ e. counted (expression_depth e)) (plain_same (expression parsed c.args.expr.now)))
+    counted_within (expression_depth (expression parsed c.args.expr.now)) c.args.levels
+    c.expression_depth.result c.requires
+    (c.expression_depth.ensures ∙ ap (λ e. counted (expression_depth e))
+    (plain_same (expression parsed c.args.expr.now)))

@@ -6,5 +6,6 @@ use Rattle.au_read_expressions.proofs.lists.repeated.Given as goal
 
 abbrev pub invariant-loop : goal.invariant-loop
 invariant-loop g l =
-    with_front (map g.E.Entry.see l.entries.items) (repeated_at g.E.Entry.begins_by g.E.Entry.read_at (length l.tokens - l.counter) l.rest)
+    with_front (map g.E.Entry.see l.entries.items)
+    (repeated_at g.E.Entry.begins_by g.E.Entry.read_at (length l.tokens - l.counter) l.rest)
     ≡ repeated g.E.Entry.begins_by g.E.Entry.read_at l.tokens

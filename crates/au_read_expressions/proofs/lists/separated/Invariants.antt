@@ -7,5 +7,6 @@ use Rattle.au_read_expressions.proofs.lists.separated.Given as goal
 
 abbrev pub invariant-loop : goal.invariant-loop
 invariant-loop g l =
-    with_front (map g.P.Part.see l.parts.items) (separated_at (what.Sign l.between) g.P.Part.read_at (length l.tokens - l.counter) l.rest)
+    with_front (map g.P.Part.see l.parts.items)
+    (separated_at (what.Sign l.between) g.P.Part.read_at (length l.tokens - l.counter) l.rest)
     ≡ separated (what.Sign l.between) g.P.Part.read_at l.tokens

@@ -29,4 +29,6 @@ decreases-one_type l = 8 * l.levels + 4
 
 abbrev pub invariant-listed-loop : goal.invariant-listed-loop
 invariant-listed-loop l =
-    with_front (map written l.args.items) (separated_at (Sign Comma) (type_within usual l.levels) (length l.tokens - l.counter) l.rest) ≡ listed (type_within usual l.levels) l.tokens
+    with_front (map written l.args.items)
+    (separated_at (Sign Comma) (type_within usual l.levels) (length l.tokens - l.counter) l.rest)
+    ≡ listed (type_within usual l.levels) l.tokens

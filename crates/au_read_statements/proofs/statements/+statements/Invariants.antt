@@ -70,15 +70,23 @@ decreases-statement_with l = 8 * l.levels + 7
 
 abbrev pub invariant-several-loop : goal.invariant-several-loop
 invariant-several-loop l =
-    with_front (map (statement parsed) l.statements.items) (repeated_at spec.begins_statement (spec.statement_at usual l.levels) (length l.tokens - l.counter) l.rest)
+    with_front (map (statement parsed) l.statements.items)
+    (repeated_at spec.begins_statement (spec.statement_at usual l.levels) (length l.tokens - l.counter)
+    l.rest)
     ≡ repeated spec.begins_statement (spec.statement_at usual l.levels) l.tokens
 
 abbrev pub invariant-branches-loop : goal.invariant-branches-loop
 invariant-branches-loop l =
-    with_front (map (branch_seen parsed) l.tests.items) (spec.branches_within usual (expression_at usual l.levels) (call_at usual l.levels) (block_at usual l.levels) (length l.tokens - l.counter) l.rest)
-    ≡ spec.branches_with usual (expression_at usual l.levels) (call_at usual l.levels) (block_at usual l.levels) l.tokens
+    with_front (map (branch_seen parsed) l.tests.items)
+    (spec.branches_within usual (expression_at usual l.levels) (call_at usual l.levels)
+    (block_at usual l.levels) (length l.tokens - l.counter) l.rest)
+    ≡ spec.branches_with usual (expression_at usual l.levels) (call_at usual l.levels)
+    (block_at usual l.levels) l.tokens
 
 abbrev pub invariant-arms-loop : goal.invariant-arms-loop
 invariant-arms-loop l =
-    with_front (map arm_seen l.cases.items) (repeated_at (is_front (what.Word keyword.KwWhen)) (spec.arm_with usual (expression_at usual l.levels) (call_at usual l.levels) (block_at usual l.levels)) (length l.tokens - l.counter) l.rest)
+    with_front (map arm_seen l.cases.items)
+    (repeated_at (is_front (what.Word keyword.KwWhen))
+    (spec.arm_with usual (expression_at usual l.levels) (call_at usual l.levels) (block_at usual l.levels))
+    (length l.tokens - l.counter) l.rest)
     ≡ spec.arms_with usual (expression_at usual l.levels) (call_at usual l.levels) (block_at usual l.levels) l.tokens

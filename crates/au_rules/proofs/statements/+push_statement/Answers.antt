@@ -6,7 +6,11 @@ use Rattle.au_syntax.specs.declared.statements.Branch.{size-Branch}
 use Rattle.au_syntax.proofs.DepthLemmas.{item_falls}
 use Rattle.au_rules.specs.Marks.{arm_marks, block_marks, branch_marks, statement_marks}
 use Rattle.au_rules.specs.Said.{arms_said, branches_said, statement_said, statements_said}
-use Rattle.au_rules.proofs.StatementLemmas.{skip_marks, let_marks, destructure_marks, assign_marks, assign_through_marks, if_marks, if_else_marks, case_marks, while_marks, for_marks, borrow_marks, borrow_typed_marks, call_marks, return_marks, no_block, no_branch, no_arm, more_statements, more_branches, more_arms, of_arm, of_branch}
+use Rattle.au_rules.proofs.StatementLemmas.{skip_marks, let_marks, destructure_marks, assign_marks}
+use Rattle.au_rules.proofs.StatementLemmas.{assign_through_marks, if_marks, if_else_marks, case_marks}
+use Rattle.au_rules.proofs.StatementLemmas.{while_marks, for_marks, borrow_marks, borrow_typed_marks}
+use Rattle.au_rules.proofs.StatementLemmas.{call_marks, return_marks, no_block, no_branch, no_arm}
+use Rattle.au_rules.proofs.StatementLemmas.{more_statements, more_branches, more_arms, of_arm, of_branch}
 use Rattle.au_rules.proofs.statements.+push_statement.Goals as goal
 
 pub push_statement-returns-in-Skip : goal.push_statement-returns-in-Skip

@@ -73,7 +73,8 @@ unfolding act
 returns-in-Set-clause-is c =
     let m = machine_of c.args.state.now in
     came_of c.put_top.result c.put_top.new.self _
-    (c.put_top.ensures.is ∙ (ap (λ one. act c.args.code.now one m) (ap (λ path. instr.Set c.in-Set.slot path) c.as_slice-in-Set.ensures
+    (c.put_top.ensures.is ∙ (ap (λ one. act c.args.code.now one m)
+    (ap (λ path. instr.Set c.in-Set.slot path) c.as_slice-in-Set.ensures
     ∙ sym c.in-Set.is)))
 
 pub returns-in-Discard-clause-is : goal.returns-in-Discard-clause-is
@@ -96,7 +97,8 @@ unfolding act
 returns-in-Wrap-clause-is c =
     let m = machine_of c.args.state.now in
     came_from c.wrap.result c.wrap.new.state _ _
-    (ap (λ one. act c.args.code.now one m) (ap (λ path. instr.Wrap c.in-Wrap.op c.in-Wrap.kind path) c.as_slice-in-Wrap.ensures
+    (ap (λ one. act c.args.code.now one m)
+    (ap (λ path. instr.Wrap c.in-Wrap.op c.in-Wrap.kind path) c.as_slice-in-Wrap.ensures
     ∙ sym c.in-Wrap.is))
     c.wrap.ensures.is
 
@@ -157,7 +159,8 @@ unfolding act
 returns-in-Make-clause-is c =
     let m = machine_of c.args.state.now in
     came_from c.make.result c.make.new.self _ _
-    (ap (λ one. act c.args.code.now one m) (ap (λ path. instr.Make c.in-Make.of c.in-Make.tag path c.in-Make.module) c.as_slice-in-Make.ensures
+    (ap (λ one. act c.args.code.now one m)
+    (ap (λ path. instr.Make c.in-Make.of c.in-Make.tag path c.in-Make.module) c.as_slice-in-Make.ensures
     ∙ sym c.in-Make.is))
     c.make.ensures.is
 
@@ -192,7 +195,8 @@ unfolding act
 returns-in-Shipped-clause-is c =
     let m = machine_of c.args.state.now in
     came_from c.ship.result c.ship.new.state _ _
-    (ap (λ one. act c.args.code.now one m) (ap (λ path. instr.Shipped c.in-Shipped.call c.in-Shipped.of path) c.as_slice-in-Shipped.ensures
+    (ap (λ one. act c.args.code.now one m)
+    (ap (λ path. instr.Shipped c.in-Shipped.call c.in-Shipped.of path) c.as_slice-in-Shipped.ensures
     ∙ sym c.in-Shipped.is))
     c.ship.ensures.is
 

@@ -5,15 +5,22 @@ use Rattle.au_shipped.proofs.WholeTrees.{terminal_whole, says_written, written_f
 use Rattle.au_shipped.proofs.files.terminal_file.Goals as goal
 
 pub file_of-requires-clause-formed : goal.file_of-requires-clause-formed
-file_of-requires-clause-formed c = written_formed c.in_ok-tree.tree (terminal (place 65535)) (c.in_ok-tree.ensures ∙ ap terminal c.place.ensures) terminal_whole
+file_of-requires-clause-formed c = written_formed c.in_ok-tree.tree (terminal (place 65535))
+    (c.in_ok-tree.ensures ∙ ap terminal c.place.ensures) terminal_whole
 
 pub file_of-requires-clause-within : goal.file_of-requires-clause-within
-file_of-requires-clause-within c = written_within c.in_ok-tree.tree (terminal (place 65535)) (c.in_ok-tree.ensures ∙ ap terminal c.place.ensures) terminal_whole
+file_of-requires-clause-within c = written_within c.in_ok-tree.tree (terminal (place 65535))
+    (c.in_ok-tree.ensures ∙ ap terminal c.place.ensures) terminal_whole
 
 pub file_of-requires-clause-allowed : goal.file_of-requires-clause-allowed
-file_of-requires-clause-allowed c = written_allowed c.in_ok-tree.tree (terminal (place 65535)) (c.in_ok-tree.ensures ∙ ap terminal c.place.ensures) terminal_whole
+file_of-requires-clause-allowed c = written_allowed c.in_ok-tree.tree (terminal (place 65535))
+    (c.in_ok-tree.ensures ∙ ap terminal c.place.ensures) terminal_whole
 
 pub returns : goal.returns
 returns c =
     c.file_of.ensures
-    ∙ (λ i. (65535, says_written c.in_ok-tree.tree (terminal (place 65535)) (c.in_ok-tree.ensures ∙ ap terminal c.place.ensures) terminal_whole i))
+    ∙ (λ i. (
+      65535,
+      says_written c.in_ok-tree.tree (terminal (place 65535))
+          (c.in_ok-tree.ensures ∙ ap terminal c.place.ensures) terminal_whole i,
+    ))

@@ -6,5 +6,6 @@ use Rattle.au_sights.proofs.bindings.copy_binds.Goals as goal
 
 pub loop-one-preserved : goal.loop-one-preserved
 loop-one-preserved c =
-    copied_before (bound noted) (bound parsed) c.loop-one.copies.items c.push.new.self.items c.deref-one-items.result.now c.loop-one.one-index c.one-item.result c.in_ok-copy_bind.field-0 _
+    copied_before (bound noted) (bound parsed) c.loop-one.copies.items c.push.new.self.items
+    c.deref-one-items.result.now c.loop-one.one-index c.one-item.result c.in_ok-copy_bind.field-0 _
     c.loop-one.invariant c.loop-one-test.true c.one-item.is c.in_ok-push.ensures.items c.in_ok-copy_bind.ensures

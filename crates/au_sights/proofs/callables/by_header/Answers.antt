@@ -17,5 +17,7 @@ returns c =
     let fields = labels_of c.args.one.now.parameters.items in
     let t = written c.args.one.now.result in
     c.callable.ensures
-    ∙ ap (λ found. callable c.args.generics c.args.class found (option_map meaning c.in_ok-gives.gives)) (c.in_ok-parameters.ensures ∙ ap (λ ps. all_typed program d ps fields) c.params.ensures)
-    ∙ ap (callable c.args.generics c.args.class (all_typed program d (parameters c.args.generics) fields)) (c.in_ok-gives.ensures ∙ ap (λ ps. meant_in program d ps t) c.params-2.ensures)
+    ∙ ap (λ found. callable c.args.generics c.args.class found (option_map meaning c.in_ok-gives.gives))
+    (c.in_ok-parameters.ensures ∙ ap (λ ps. all_typed program d ps fields) c.params.ensures)
+    ∙ ap (callable c.args.generics c.args.class (all_typed program d (parameters c.args.generics) fields))
+    (c.in_ok-gives.ensures ∙ ap (λ ps. meant_in program d ps t) c.params-2.ensures)

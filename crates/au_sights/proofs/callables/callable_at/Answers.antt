@@ -11,4 +11,6 @@ declared_callable-requires c = (c.args.target.now.at, sym c.in-Some.ensures)
 
 pub returns-in-Some : goal.returns-in-Some
 returns-in-Some c =
-    subst (λ found. IfOk c.declared_callable.result (λ made. option_map callable_said made ≡ callable_standing (slots.modules c.args.program.now) c.args.target.now found)) c.in-Some.ensures c.declared_callable.ensures
+    subst (λ found. IfOk c.declared_callable.result
+    (λ made. option_map callable_said made ≡ callable_standing (slots.modules c.args.program.now)
+    c.args.target.now found)) c.in-Some.ensures c.declared_callable.ensures

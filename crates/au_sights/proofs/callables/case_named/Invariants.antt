@@ -7,4 +7,5 @@ use Rattle.au_sights.proofs.callables.case_named.Given as goal
 
 -- none so far has the name
 abbrev pub invariant-loop-one : goal.invariant-loop-one
-invariant-loop-one l = NoneYet (plain_variant parsed.name_bytes) (variant parsed) (is_case l.name) l.one-items l.one-index
+invariant-loop-one l = NoneYet (plain_variant parsed.name_bytes) (variant parsed) (is_case l.name) l.one-items
+    l.one-index

@@ -12,5 +12,6 @@ returns c =
     (λ made. made ≡ unconstrained (parameter (written_parameter c.args.one.now)) ∷ [])
     (λ made is.
     is
-    ∙ ap (map unconstrained) (c.in_ok-push.ensures.ok ∙ ap (λ xs. xs ++ c.in_ok-param.param ∷ []) c.new-params.ensures ∙ ap (λ q. q ∷ []) c.in_ok-param.ensures))
+    ∙ ap (map unconstrained) (c.in_ok-push.ensures.ok ∙ ap (λ xs. xs ++ c.in_ok-param.param ∷ [])
+    c.new-params.ensures ∙ ap (λ q. q ∷ []) c.in_ok-param.ensures))
     c.unconstrained.ensures

@@ -19,12 +19,14 @@ returns c =
     let given = generics_of c.args.generics.now.items in
     IfOk-weaker c.by_generics.result
     (λ made. option_map callable_said made ≡ function_called program d h c.in_ok-meant.meant)
-    (λ made. option_map callable_said made ≡ function_called program d h (generics_meant (types_at program d.place d.part) (heads_of program) given))
+    (λ made. option_map callable_said made ≡ function_called program d h
+    (generics_meant (types_at program d.place d.part) (heads_of program) given))
     (λ made is.
     is
     ∙ ap (function_called program d h)
     (c.in_ok-meant.ensures
-    ∙ ap (λ all. generics_meant c.types_seen-visible.result.now c.heads_ref.result.now (generics_of all)) c.deref.ensures.value
+    ∙ ap (λ all. generics_meant c.types_seen-visible.result.now c.heads_ref.result.now (generics_of all))
+    c.deref.ensures.value
     ∙ ap (λ names. generics_meant names c.heads_ref.result.now given) c.types_seen-visible.ensures
     ∙ ap (λ heads. generics_meant (types_at program d.place d.part) heads given) c.heads_ref.ensures))
     c.by_generics.ensures

@@ -7,5 +7,6 @@ use Rattle.au_sights.proofs.callables.method_named.Goals as goal
 
 pub returns : goal.returns
 returns c =
-    found_nowhere (plain_header parsed.name_bytes) (header parsed) (is_method c.args.name.now) c.args.methods.now.items c.deref-one-items.result.now c.loop-one.one-index
+    found_nowhere (plain_header parsed.name_bytes) (header parsed) (is_method c.args.name.now)
+    c.args.methods.now.items c.deref-one-items.result.now c.loop-one.one-index
     c.deref-one-items.ensures.value c.loop-one-test.false c.loop-one.invariant

@@ -7,4 +7,5 @@ use Rattle.au_sights.proofs.callables.method_named.Given as goal
 
 -- none so far has the name
 abbrev pub invariant-loop-one : goal.invariant-loop-one
-invariant-loop-one l = NoneYet (plain_header parsed.name_bytes) (header parsed) (is_method l.name) l.one-items l.one-index
+invariant-loop-one l = NoneYet (plain_header parsed.name_bytes) (header parsed) (is_method l.name) l.one-items
+    l.one-index

@@ -17,7 +17,8 @@ returns c =
     let p = parameter (written_parameter c.args.param.now) in
     let h = header_of c.args.one.now in
     IfOk-weaker c.by_header.result
-    (λ made. option_map callable_said made ≡ by_header program d c.in_ok-generics.generics (Some (c.in_ok-name.name, c.args.at)) h)
+    (λ made. option_map callable_said made ≡ by_header program d c.in_ok-generics.generics
+    (Some (c.in_ok-name.name, c.args.at)) h)
     (λ made. option_map callable_said made ≡ by_header program d (unconstrained p ∷ []) (Some (p.name, c.args.at)) h)
     (λ made is.
     is

@@ -11,4 +11,6 @@ constant_declared-requires c = (c.args.at, sym c.in-Some.ensures)
 
 pub returns-in-Some : goal.returns-in-Some
 returns-in-Some c =
-    subst (λ found. IfOk c.constant_declared.result (λ of. option_map meaning of ≡ constant_standing (slots.modules c.args.program.now) found)) c.in-Some.ensures c.constant_declared.ensures
+    subst (λ found. IfOk c.constant_declared.result
+    (λ of. option_map meaning of ≡ constant_standing (slots.modules c.args.program.now) found))
+    c.in-Some.ensures c.constant_declared.ensures

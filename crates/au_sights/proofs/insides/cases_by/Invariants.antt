@@ -11,4 +11,7 @@ use Rattle.au_sights.proofs.insides.cases_by.Given as goal
 -- those so far mean something, and what is left decides
 abbrev pub invariant-loop-one : goal.invariant-loop-one
 invariant-loop-one l =
-    SoFar (plain_variant parsed.name_bytes) (variant parsed) (case_by (slots.modules l.program) (standing l.found) l.params l.s l.at) (cases_by (slots.modules l.program) (standing l.found) l.params l.s l.at) case_said l.one-items l.one-index l.all.items
+    SoFar (plain_variant parsed.name_bytes) (variant parsed)
+    (case_by (slots.modules l.program) (standing l.found) l.params l.s l.at)
+    (cases_by (slots.modules l.program) (standing l.found) l.params l.s l.at) case_said l.one-items
+    l.one-index l.all.items

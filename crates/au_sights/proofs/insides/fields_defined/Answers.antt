@@ -9,8 +9,11 @@ use Rattle.au_sights.proofs.StandingLemmas.{known_stands}
 use Rattle.au_sights.proofs.insides.fields_defined.Goals as goal
 
 pub record_fields-requires : goal.record_fields-requires
-record_fields-requires c = known_stands (slots.modules c.args.program.now) c.args.place c.args.at (standing c.in-Some.found) c.in-Some.ensures
+record_fields-requires c = known_stands (slots.modules c.args.program.now) c.args.place c.args.at
+    (standing c.in-Some.found) c.in-Some.ensures
 
 pub returns-in-Some : goal.returns-in-Some
 returns-in-Some c =
-    subst (λ found. IfOk c.record_fields.result (λ made. all_said made ≡ fields_defined (slots.modules c.args.program.now) (argument_all c.args.args.now.items) found)) c.in-Some.ensures c.record_fields.ensures
+    subst (λ found. IfOk c.record_fields.result
+    (λ made. all_said made ≡ fields_defined (slots.modules c.args.program.now)
+    (argument_all c.args.args.now.items) found)) c.in-Some.ensures c.record_fields.ensures

@@ -1,5 +1,7 @@
 use Rattle.std.proofs.Common.{arith}
-use Rattle.au_syntax.proofs.DeclarationLemmas.{constant_says, opaque_says, record_says, union_says, function_says, class_says, instance_says, constant_body_says, function_body_says, instance_body_says}
+use Rattle.au_syntax.proofs.DeclarationLemmas.{constant_says, opaque_says, record_says, union_says}
+use Rattle.au_syntax.proofs.DeclarationLemmas.{function_says, class_says, instance_says, constant_body_says}
+use Rattle.au_syntax.proofs.DeclarationLemmas.{function_body_says, instance_body_says}
 use Rattle.au_sights.proofs.insides.union_cases.Goals as goal
 
 pub returns-in-Constant : goal.returns-in-Constant

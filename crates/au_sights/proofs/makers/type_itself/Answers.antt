@@ -15,7 +15,8 @@ returns-in-None c =
     (c.in-None.ensures
     ∙ ap (λ n. find n c.types_seen.result.now) c.as_bytes.ensures.bytes
     ∙ ap (find c.args.name.now) c.types_seen.ensures
-    ∙ number_seen (slots.modules c.args.program.now) (standing c.args.found.now) c.args.name.now c.args.found.now.part c.requires.stands c.requires.named)
+    ∙ number_seen (slots.modules c.args.program.now) (standing c.args.found.now) c.args.name.now
+    c.args.found.now.part c.requires.stands c.requires.named)
 
 pub returns-in_ok-args-in-Some : goal.returns-in_ok-args-in-Some
 returns-in_ok-args-in-Some c =
@@ -25,4 +26,5 @@ returns-in_ok-args-in-Some c =
     (c.in-Some.ensures
     ∙ ap (λ n. find n c.types_seen.result.now) c.as_bytes.ensures.bytes
     ∙ ap (find c.args.name.now) c.types_seen.ensures
-    ∙ number_seen (slots.modules c.args.program.now) (standing c.args.found.now) c.args.name.now c.args.found.now.part c.requires.stands c.requires.named)
+    ∙ number_seen (slots.modules c.args.program.now) (standing c.args.found.now) c.args.name.now
+    c.args.found.now.part c.requires.stands c.requires.named)

@@ -3,4 +3,5 @@ use Rattle.au_sights.proofs.StandingLemmas.{types_known}
 use Rattle.au_sights.proofs.standing.types_at.Goals as goal
 
 pub returns : goal.returns
-returns c = types_known (slots.modules c.args.program.now) c.args.place c.args.part c.names.result.now.types c.requires c.names.ensures.types
+returns c = types_known (slots.modules c.args.program.now) c.args.place c.args.part c.names.result.now.types
+    c.requires c.names.ensures.types

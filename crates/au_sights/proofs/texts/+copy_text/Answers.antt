@@ -12,10 +12,12 @@ copy_text_of_type-returns-in_ok-region-in-Reference t c = grind (arith, referenc
 
 pub copy_texts-loop-one-preserved : goal.copy_texts-loop-one-preserved
 copy_texts-loop-one-preserved t c =
-    copied_more written_all snoc_types written written_push c.loop-one.copies.items c.push.new.self.items c.deref-one-items.result.now c.loop-one.one-index c.one-item.result c.in_ok-copy.copy
+    copied_more written_all snoc_types written written_push c.loop-one.copies.items c.push.new.self.items
+    c.deref-one-items.result.now c.loop-one.one-index c.one-item.result c.in_ok-copy.copy
     c.loop-one.invariant c.loop-one-test.true c.one-item.is c.in_ok-push.ensures.items c.in_ok-copy.ensures
 
 pub copy_texts-returns : goal.copy_texts-returns
 copy_texts-returns t c =
-    all_copied written_all c.loop-one.copies.items c.deref-one-items.result.now c.args.types.now.items c.loop-one.one-index
+    all_copied written_all c.loop-one.copies.items c.deref-one-items.result.now c.args.types.now.items
+    c.loop-one.one-index
     c.loop-one.invariant c.deref-one-items.ensures.value c.loop-one-test.false

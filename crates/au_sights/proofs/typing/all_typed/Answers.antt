@@ -11,17 +11,35 @@ use Rattle.au_sights.proofs.FollowedLemmas.{so_far_all, so_far_next, so_far_none
 use Rattle.au_sights.proofs.typing.all_typed.Goals as goal
 
 pub loop-one-init : goal.loop-one-init
-loop-one-init c = so_far_none (plain_labelled parsed.name_bytes) (labelled parsed) (typed (slots.modules c.args.program.now) (standing c.args.found.now) c.args.params.now) (all_typed (slots.modules c.args.program.now) (standing c.args.found.now) c.args.params.now) typed_said c.deref-one-items.result.now c.new-all.result.items c.new-all.ensures.items
+loop-one-init c = so_far_none (plain_labelled parsed.name_bytes) (labelled parsed)
+    (typed (slots.modules c.args.program.now) (standing c.args.found.now) c.args.params.now)
+    (all_typed (slots.modules c.args.program.now) (standing c.args.found.now) c.args.params.now) typed_said
+    c.deref-one-items.result.now c.new-all.result.items c.new-all.ensures.items
 
 pub returns-in-None : goal.returns-in-None
 returns-in-None c =
-    so_far_stops (plain_labelled parsed.name_bytes) (labelled parsed) (typed (slots.modules c.args.program.now) (standing c.args.found.now) c.args.params.now) (all_typed (slots.modules c.args.program.now) (standing c.args.found.now) c.args.params.now) typed_said (λ x xs. refl) c.deref-one-items.result.now c.loop-one.one-index c.one-item.result c.loop-one.all.items c.loop-one-test.true c.one-item.is c.loop-one.invariant c.args.fields.now.items c.deref-one-items.ensures.value (sym (ap (option_map typed_said) c.in-None.is) ∙ c.in_ok-typed.ensures)
+    so_far_stops (plain_labelled parsed.name_bytes) (labelled parsed)
+    (typed (slots.modules c.args.program.now) (standing c.args.found.now) c.args.params.now)
+    (all_typed (slots.modules c.args.program.now) (standing c.args.found.now) c.args.params.now) typed_said
+    (λ x xs. refl) c.deref-one-items.result.now c.loop-one.one-index c.one-item.result c.loop-one.all.items
+    c.loop-one-test.true c.one-item.is c.loop-one.invariant c.args.fields.now.items
+    c.deref-one-items.ensures.value (sym (ap (option_map typed_said) c.in-None.is) ∙ c.in_ok-typed.ensures)
 
 pub loop-one-preserved : goal.loop-one-preserved
 loop-one-preserved c =
-    so_far_next (plain_labelled parsed.name_bytes) (labelled parsed) (typed (slots.modules c.args.program.now) (standing c.args.found.now) c.args.params.now) (all_typed (slots.modules c.args.program.now) (standing c.args.found.now) c.args.params.now) typed_said (λ x xs. refl) c.deref-one-items.result.now c.loop-one.one-index c.one-item.result c.loop-one.all.items c.loop-one-test.true c.one-item.is c.loop-one.invariant c.in-Some.made c.push.new.self.items (sym (ap (option_map typed_said) c.in-Some.is) ∙ c.in_ok-typed.ensures) c.in_ok-push-in-Some.ensures.items
+    so_far_next (plain_labelled parsed.name_bytes) (labelled parsed)
+    (typed (slots.modules c.args.program.now) (standing c.args.found.now) c.args.params.now)
+    (all_typed (slots.modules c.args.program.now) (standing c.args.found.now) c.args.params.now) typed_said
+    (λ x xs. refl) c.deref-one-items.result.now c.loop-one.one-index c.one-item.result c.loop-one.all.items
+    c.loop-one-test.true c.one-item.is c.loop-one.invariant c.in-Some.made c.push.new.self.items
+    (sym (ap (option_map typed_said) c.in-Some.is) ∙ c.in_ok-typed.ensures)
+    c.in_ok-push-in-Some.ensures.items
 
 pub returns : goal.returns
 returns c =
-    so_far_all (plain_labelled parsed.name_bytes) (labelled parsed) (typed (slots.modules c.args.program.now) (standing c.args.found.now) c.args.params.now) (all_typed (slots.modules c.args.program.now) (standing c.args.found.now) c.args.params.now) typed_said refl
-    c.args.fields.now.items c.deref-one-items.result.now c.loop-one.one-index c.loop-one.all.items c.deref-one-items.ensures.value c.loop-one-test.false c.loop-one.invariant
+    so_far_all (plain_labelled parsed.name_bytes) (labelled parsed)
+    (typed (slots.modules c.args.program.now) (standing c.args.found.now) c.args.params.now)
+    (all_typed (slots.modules c.args.program.now) (standing c.args.found.now) c.args.params.now) typed_said
+    refl
+    c.args.fields.now.items c.deref-one-items.result.now c.loop-one.one-index c.loop-one.all.items
+    c.deref-one-items.ensures.value c.loop-one-test.false c.loop-one.invariant

@@ -11,4 +11,7 @@ use Rattle.au_sights.proofs.typing.all_typed.Given as goal
 -- those so far mean something, and what is left decides
 abbrev pub invariant-loop-one : goal.invariant-loop-one
 invariant-loop-one l =
-    SoFar (plain_labelled parsed.name_bytes) (labelled parsed) (typed (slots.modules l.program) (standing l.found) l.params) (all_typed (slots.modules l.program) (standing l.found) l.params) typed_said l.one-items l.one-index l.all.items
+    SoFar (plain_labelled parsed.name_bytes) (labelled parsed)
+    (typed (slots.modules l.program) (standing l.found) l.params)
+    (all_typed (slots.modules l.program) (standing l.found) l.params) typed_said l.one-items l.one-index
+    l.all.items

@@ -2,10 +2,31 @@ use Rattle.std.proofs.Common.{refl}
 use Rattle.au_type_texts.proofs.closed_laws.closed_examples_hold.Goals as goal
 
 pub returns-clause-closings : goal.returns-clause-closings
-returns-clause-closings c = (refl, (refl, (refl, (refl, (refl, (refl, (refl, (refl, (refl, (refl, (refl, (refl, (refl, tt)))))))))))))
+returns-clause-closings c = (
+  refl,
+  (refl, (refl, (refl, (refl, (refl, (refl, (refl, (refl, (refl, (refl, (refl, (refl, tt)))))))))))),
+)
 
 pub returns-clause-stand : goal.returns-clause-stand
-returns-clause-stand c = (tt, (tt, (tt, (tt, ((refl, tt), ((refl, (tt, tt)), (tt, ((refl, (tt, (tt, tt))), ((refl, ((refl, (tt, (tt, tt))), ((refl, tt), tt))), tt)))))))))
+returns-clause-stand c = (
+  tt,
+  (
+    tt,
+    (
+      tt,
+      (
+        tt,
+        (
+          (refl, tt),
+          (
+            (refl, (tt, tt)),
+            (tt, ((refl, (tt, (tt, tt))), ((refl, ((refl, (tt, (tt, tt))), ((refl, tt), tt))), tt))),
+          ),
+        ),
+      ),
+    ),
+  ),
+)
 
 pub returns-clause-texts : goal.returns-clause-texts
 returns-clause-texts c = (refl, (refl, (refl, (refl, (refl, (refl, (refl, (refl, (refl, tt)))))))))

@@ -6,4 +6,5 @@ use Rattle.au_type_texts.proofs.closed_limits.+depth.Given as goal
 
 -- the depth of the types that are visited
 abbrev pub invariant-list_depth-loop-one : goal.invariant-list_depth-loop-one
-invariant-list_depth-loop-one l = l.deepest ≡ counted (sizes.list_depth (closed_meanings (take l.one-index l.one-items)))
+invariant-list_depth-loop-one l =
+    l.deepest ≡ counted (sizes.list_depth (closed_meanings (take l.one-index l.one-items)))

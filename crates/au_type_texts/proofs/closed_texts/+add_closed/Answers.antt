@@ -11,11 +11,15 @@ pub add_list-loop-one-init : goal.add_list-loop-one-init
 add_list-loop-one-init t c =
     let list = c.args.list.now in
     let items = c.deref-one-items.result.now in
-    ap (λ r. c.args.text.now ++ r) (lemmas.left_all c.args.heads.now items (λ e. eqb-false list.len 0 (sym c.is_empty.ensures ∙ c.if-is_empty.false) (list.ok.0 ∙ ap length (sym c.deref-one-items.ensures.value) ∙ e)))
+    ap (λ r. c.args.text.now ++ r)
+    (lemmas.left_all c.args.heads.now items
+    (λ e. eqb-false list.len 0 (sym c.is_empty.ensures ∙ c.if-is_empty.false)
+    (list.ok.0 ∙ ap length (sym c.deref-one-items.ensures.value) ∙ e)))
 
 pub add_list-loop-one-preserved : goal.add_list-loop-one-preserved
 add_list-loop-one-preserved t c =
-    let left = lemmas.left_more c.args.heads.now c.loop-one.mark.now c.deref-one-items.result.now c.loop-one.one-index c.one-item.result c.loop-one-test.true c.one-item.is in
+    let left = lemmas.left_more c.args.heads.now c.loop-one.mark.now c.deref-one-items.result.now
+    c.loop-one.one-index c.one-item.result c.loop-one-test.true c.one-item.is in
     lemmas.turn _ _ _ _ _ _ _ _ c.in_ok-append.ensures.ok c.in_ok-add_closed.ensures left c.loop-one.invariant
 
 pub add_list-returns : goal.add_list-returns
@@ -24,7 +28,9 @@ add_list-returns t c =
     on_ok_weaker c.append-2.result
     (λ h.
     h
-    ∙ ap (λ r. c.loop-one.text ++ r) (sym (lemmas.left_none heads c.loop-one.mark.now c.deref-one-items.result.now c.loop-one.one-index c.loop-one-test.false))
+    ∙ ap (λ r. c.loop-one.text ++ r)
+    (sym (lemmas.left_none heads c.loop-one.mark.now c.deref-one-items.result.now c.loop-one.one-index
+    c.loop-one-test.false))
     ∙ c.loop-one.invariant
     ∙ ap (λ r. c.args.text.now ++ list_text heads (closed_meanings r)) c.deref-one-items.ensures.value)
     c.append-2.ensures.ok
@@ -37,4 +43,6 @@ add_reference-returns t c =
 
 pub add_closed-returns-in-Text : goal.add_closed-returns-in-Text
 add_closed-returns-in-Text t c =
-    on_ok_weaker c.append-in-Text.result (λ h. h ∙ ap (λ m. c.args.text.now ++ text_of c.args.heads.now m) (sym (ap closed_meaning c.in-Text.is ∙ text_means))) c.append-in-Text.ensures.ok
+    on_ok_weaker c.append-in-Text.result
+    (λ h. h ∙ ap (λ m. c.args.text.now ++ text_of c.args.heads.now m)
+    (sym (ap closed_meaning c.in-Text.is ∙ text_means))) c.append-in-Text.ensures.ok

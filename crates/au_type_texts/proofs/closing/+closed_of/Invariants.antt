@@ -8,4 +8,5 @@ use Rattle.au_type_texts.proofs.closing.+closed_of.Given as goal
 -- what is closed so far, and the arguments that are left
 abbrev pub invariant-closed_arguments-loop-one : goal.invariant-closed_arguments-loop-one
 invariant-closed_arguments-loop-one l =
-    all_closed (argument_all l.one-items) ≡ before (closed_meanings l.list.items) (all_closed (argument_all (drop l.one-index l.one-items)))
+    all_closed (argument_all l.one-items) ≡ before (closed_meanings l.list.items)
+    (all_closed (argument_all (drop l.one-index l.one-items)))

@@ -7,5 +7,6 @@ use Rattle.au_type_texts.proofs.comparing.+same_closed.Given as goal
 abbrev pub invariant-same_lists-loop-index : goal.invariant-same_lists-loop-index
 invariant-same_lists-loop-index l = record {
   lengths : length l.list.items ≡ length l.others.items;
-  rest : same_all (closed_meanings l.list.items) (closed_meanings l.others.items) ≡ same_all (closed_meanings (drop l.index l.list.items)) (closed_meanings (drop l.index l.others.items));
+  rest : same_all (closed_meanings l.list.items) (closed_meanings l.others.items)
+      ≡ same_all (closed_meanings (drop l.index l.list.items)) (closed_meanings (drop l.index l.others.items));
 }

@@ -9,13 +9,22 @@ pub returns-clause-stand : goal.returns-clause-stand
 returns-clause-stand c = examples_stand
 
 pub returns-clause-texts : goal.returns-clause-texts
-returns-clause-texts c = (refl, (refl, (refl, (refl, (refl, (refl, (refl, (refl, (refl, (refl, (refl, (refl, (refl, tt)))))))))))))
+returns-clause-texts c = (
+  refl,
+  (refl, (refl, (refl, (refl, (refl, (refl, (refl, (refl, (refl, (refl, (refl, (refl, tt)))))))))))),
+)
 
 pub returns-clause-depths : goal.returns-clause-depths
-returns-clause-depths c = (refl, (refl, (refl, (refl, (refl, (refl, (refl, (refl, (refl, (refl, (refl, (refl, (refl, tt)))))))))))))
+returns-clause-depths c = (
+  refl,
+  (refl, (refl, (refl, (refl, (refl, (refl, (refl, (refl, (refl, (refl, (refl, (refl, tt)))))))))))),
+)
 
 pub returns-clause-nodes : goal.returns-clause-nodes
-returns-clause-nodes c = (refl, (refl, (refl, (refl, (refl, (refl, (refl, (refl, (refl, (refl, (refl, (refl, (refl, tt)))))))))))))
+returns-clause-nodes c = (
+  refl,
+  (refl, (refl, (refl, (refl, (refl, (refl, (refl, (refl, (refl, (refl, (refl, (refl, tt)))))))))))),
+)
 
 pub returns-clause-deep : goal.returns-clause-deep
 returns-clause-deep c = (refl, (refl, (refl, (refl, (refl, (refl, tt))))))

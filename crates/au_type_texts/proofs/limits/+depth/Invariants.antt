@@ -6,4 +6,5 @@ use Rattle.au_type_texts.proofs.limits.+depth.Given as goal
 
 -- the depth of the arguments that are visited
 abbrev pub invariant-arguments_depth-loop-one : goal.invariant-arguments_depth-loop-one
-invariant-arguments_depth-loop-one l = l.deepest ≡ counted (sizes.arguments_depth (argument_all (take l.one-index l.one-items)))
+invariant-arguments_depth-loop-one l =
+    l.deepest ≡ counted (sizes.arguments_depth (argument_all (take l.one-index l.one-items)))

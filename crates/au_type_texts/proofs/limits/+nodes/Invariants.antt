@@ -6,4 +6,5 @@ use Rattle.au_type_texts.proofs.limits.+nodes.Given as goal
 
 -- the nodes of the arguments that are visited
 abbrev pub invariant-arguments_nodes-loop-one : goal.invariant-arguments_nodes-loop-one
-invariant-arguments_nodes-loop-one l = l.count ≡ counted (sizes.arguments_nodes (argument_all (take l.one-index l.one-items)))
+invariant-arguments_nodes-loop-one l =
+    l.count ≡ counted (sizes.arguments_nodes (argument_all (take l.one-index l.one-items)))

@@ -4,17 +4,21 @@ use Rattle.au_types.proofs.SameLemmas.{not_named, not_reads, not_writes, same_un
 use Rattle.au_types.proofs.comparing.+same_type.Goals as goal
 
 pub is_named-returns-in_default : goal.is_named-returns-in_default
-is_named-returns-in_default t c = sym (not_named c.args.at (argument_all c.args.args.now.items) c.args.of.now c.in_default.not-Named)
+is_named-returns-in_default t c =
+    sym (not_named c.args.at (argument_all c.args.args.now.items) c.args.of.now c.in_default.not-Named)
 
 pub is_read-returns-in_default : goal.is_read-returns-in_default
-is_read-returns-in_default t c = sym (not_reads (meaning c.args.to.now) c.args.region.now c.args.of.now c.in_default.not-Read)
+is_read-returns-in_default t c =
+    sym (not_reads (meaning c.args.to.now) c.args.region.now c.args.of.now c.in_default.not-Read)
 
 pub is_write-returns-in_default : goal.is_write-returns-in_default
-is_write-returns-in_default t c = sym (not_writes (meaning c.args.to.now) c.args.region.now c.args.of.now c.in_default.not-Write)
+is_write-returns-in_default t c =
+    sym (not_writes (meaning c.args.to.now) c.args.region.now c.args.of.now c.in_default.not-Write)
 
 -- lists of two lengths
 pub same_arguments-returns-then-len : goal.same_arguments-returns-then-len
 same_arguments-returns-then-len t c =
     let one = c.args.args.now in
     let other = c.args.others.now in
-    sym (same_unequal one.items other.items (λ e. c.if-len.true (c.len.ensures ∙ one.ok.0 ∙ e ∙ sym other.ok.0 ∙ sym c.len-2.ensures)))
+    sym (same_unequal one.items other.items
+    (λ e. c.if-len.true (c.len.ensures ∙ one.ok.0 ∙ e ∙ sym other.ok.0 ∙ sym c.len-2.ensures)))

@@ -10,5 +10,7 @@ use Rattle.au_types.proofs.meaning.+type_meant.Given as goal
 abbrev pub invariant-arguments_meant-loop-index : goal.invariant-arguments_meant-loop-index
 invariant-arguments_meant-loop-index l = record {
   lengths : length l.args.items ≡ length l.expected;
-  rest : arguments_meant l.expected (map (given_in l.scope) l.args.items) ≡ option_map (joined (argument_all l.found.items)) (arguments_meant (drop l.index l.expected) (map (given_in l.scope) (drop l.index l.args.items)));
+  rest : arguments_meant l.expected (map (given_in l.scope) l.args.items)
+      ≡ option_map (joined (argument_all l.found.items))
+      (arguments_meant (drop l.index l.expected) (map (given_in l.scope) (drop l.index l.args.items)));
 }

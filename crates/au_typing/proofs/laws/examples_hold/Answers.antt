@@ -8,7 +8,10 @@ use Rattle.au_typing.proofs.laws.examples_hold.Goals as goal
 
 pub returns-clause-calls : goal.returns-clause-calls
 unfolding firsts numbered names_in rows_from meant all_given standing_from
-returns-clause-calls c = (refl, (refl, (refl, (refl, (refl, (refl, (refl, (refl, (refl, (refl, (refl, (refl, (refl, (refl, tt))))))))))))))
+returns-clause-calls c = (
+  refl,
+  (refl, (refl, (refl, (refl, (refl, (refl, (refl, (refl, (refl, (refl, (refl, (refl, (refl, tt))))))))))))),
+)
 
 pub returns-clause-constants : goal.returns-clause-constants
 unfolding firsts numbered names_in rows_from meant all_given standing_from

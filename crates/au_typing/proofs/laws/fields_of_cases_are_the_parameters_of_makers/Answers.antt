@@ -5,4 +5,5 @@ use Rattle.au_typing.proofs.laws.fields_of_cases_are_the_parameters_of_makers.Go
 
 pub returns : goal.returns
 returns c = λ program place at args d target one cases found known h stands called k.
-    case_parameters program d args target one found cases (ap (cases_defined program args) (sym known) ∙ h) stands called k
+    case_parameters program d args target one found cases (ap (cases_defined program args) (sym known) ∙ h)
+    stands called k

@@ -2,11 +2,13 @@ use Rattle.std.proofs.Common.{sym, ap, ◌∙◌, arith}
 use Rattle.std.specs.Prelude.{◌++◌}
 use Rattle.au_modules.specs.Slots.{modules}
 use Rattle.au_unbuilt.specs.First.{first_from}
-use Rattle.au_unbuilt.specs.Said.{arms_told, binds_told, block_told, branches_told, expression_told, statement_told, statements_told}
+use Rattle.au_unbuilt.specs.Said.{arms_told, binds_told, block_told, branches_told, expression_told}
+use Rattle.au_unbuilt.specs.Said.{statement_told, statements_told}
 use Rattle.au_unbuilt.proofs.FirstLemmas.{first_more}
 use Rattle.au_unbuilt.proofs.ListLemmas.{begins, goes_on}
 use Rattle.au_unbuilt.proofs.StatementLemmas as lemmas
-use Rattle.au_unbuilt.proofs.StatementLemmas.{arms_next, branches_next, no_arms_told, no_branches_told, no_statements_told, statements_next}
+use Rattle.au_unbuilt.proofs.StatementLemmas.{arms_next, branches_next, no_arms_told, no_branches_told}
+use Rattle.au_unbuilt.proofs.StatementLemmas.{no_statements_told, statements_next}
 use Rattle.au_unbuilt.proofs.blocks.+in_statement.Goals as goal
 
 pub in_statement-returns-in-Skip : goal.in_statement-returns-in-Skip

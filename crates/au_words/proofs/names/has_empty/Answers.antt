@@ -8,5 +8,6 @@ use Rattle.au_words.proofs.names.has_empty.Goals as goal
 
 pub returns : goal.returns
 returns c =
-    any_from_yields_List (λ name. is_empty name.now) _ _ _ c.any.ensures.ran (YieldsList-from_slice c.args.names.now (cc)) (λ x b q k. search (rules, tests))
+    any_from_yields_List (λ name. is_empty name.now) _ _ _ c.any.ensures.ran
+    (YieldsList-from_slice c.args.names.now (cc)) (λ x b q k. search (rules, tests))
     ∙ list_any-map is_empty (λ name. name.now) c.args.names.now

@@ -6,4 +6,6 @@ use Rattle.au_words.proofs.names.pieces.Goals as goal
 
 pub returns : goal.returns
 returns c =
-    map_from_collect _ c.collect.ensures.ran (YieldsList-from_str_split 44 c.args.word.now (lit< tt) c.split.ensures.text c.split.ensures.has_more c.split.ensures.pattern)
+    map_from_collect _ c.collect.ensures.ran
+    (YieldsList-from_str_split 44 c.args.word.now (lit< tt) c.split.ensures.text c.split.ensures.has_more
+    c.split.ensures.pattern)

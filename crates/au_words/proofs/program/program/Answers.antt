@@ -12,7 +12,11 @@ alone = record { top = record given.program_top { is_leaf = true }; subs = [] }
 pub returns : goal.returns
 returns c =
     let alone_is : app_of c.subcommand_required.result ≡ alone = search rules in
-    let with_run = c.in_ok-subcommand.ensures.shape c.in_ok-run_command.ensures.local ∙ ap₂ with_subcommand alone_is c.in_ok-run_command.ensures.shape in
-    let with_compile = c.in_ok-subcommand-2.ensures.shape c.in_ok-compile_command.ensures.local ∙ ap₂ with_subcommand with_run c.in_ok-compile_command.ensures.shape in
-    let with_explain = c.in_ok-subcommand-3.ensures.shape c.in_ok-explain_command.ensures.local ∙ ap₂ with_subcommand with_compile c.in_ok-explain_command.ensures.shape in
-    IfOk-weaker c.subcommand-4.result _ _ (λ r added. added.shape c.in_ok-check_command.ensures.local ∙ ap₂ with_subcommand with_explain c.in_ok-check_command.ensures.shape) c.subcommand-4.ensures
+    let with_run = c.in_ok-subcommand.ensures.shape c.in_ok-run_command.ensures.local
+    ∙ ap₂ with_subcommand alone_is c.in_ok-run_command.ensures.shape in
+    let with_compile = c.in_ok-subcommand-2.ensures.shape c.in_ok-compile_command.ensures.local
+    ∙ ap₂ with_subcommand with_run c.in_ok-compile_command.ensures.shape in
+    let with_explain = c.in_ok-subcommand-3.ensures.shape c.in_ok-explain_command.ensures.local
+    ∙ ap₂ with_subcommand with_compile c.in_ok-explain_command.ensures.shape in
+    IfOk-weaker c.subcommand-4.result _ _ (λ r added. added.shape c.in_ok-check_command.ensures.local
+    ∙ ap₂ with_subcommand with_explain c.in_ok-check_command.ensures.shape) c.subcommand-4.ensures

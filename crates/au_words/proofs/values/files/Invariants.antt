@@ -7,5 +7,6 @@ use Rattle.au_words.proofs.values.files.Given as goal
 
 abbrev pub invariant-loop-word : goal.invariant-loop-word
 invariant-loop-word l =
-    option_map (λ others. map string_bytes l.files.items ++ others) (files_at (map (λ part. part.now) (drop l.word-index l.parts)))
+    option_map (λ others. map string_bytes l.files.items ++ others)
+    (files_at (map (λ part. part.now) (drop l.word-index l.parts)))
     ≡ files_at (map (λ part. part.now) l.parts)

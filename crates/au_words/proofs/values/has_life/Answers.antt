@@ -8,4 +8,5 @@ use Rattle.au_words.proofs.values.has_life.Goals as goal
 pub returns : goal.returns
 returns c =
     let rows = one_text-rows (found_of c.args.found.now) (codes "life") in
-    rw c.unwrap_or.ensures (life_read _ _ c.get_one.result (λ e. c.get_one.ensures.none (rows ∙ e)) (λ text e. c.get_one.ensures.value text (rows ∙ e)))
+    rw c.unwrap_or.ensures (life_read _ _ c.get_one.result (λ e. c.get_one.ensures.none (rows ∙ e))
+    (λ text e. c.get_one.ensures.value text (rows ∙ e)))

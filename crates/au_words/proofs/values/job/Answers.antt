@@ -8,14 +8,16 @@ use Rattle.au_words.proofs.values.job.Goals as goal
 
 pub returns-in_default : goal.returns-in_default
 returns-in_default c = λ what shows.
-    let none : None ≡ Some what.parts = c.in_default.ensures ∙ raw_values-rows (found_of c.args.found.now) (codes "part") ∙ shows.parts in
+    let none : None ≡ Some what.parts = c.in_default.ensures ∙ raw_values-rows (found_of c.args.found.now)
+    (codes "part") ∙ shows.parts in
     absurd (cc)
 
 pub returns : goal.returns
 returns c = λ what shows.
     let found = found_of c.args.found.now in
     let same = same_given what
-    (map (λ part. part.now) c.in-Some.parts.now) (option_map (λ text. text.now) c.get_str-entry.result) (option_map (λ text. text.now) c.get_str-steps.result) c.has_life.result _
+    (map (λ part. part.now) c.in-Some.parts.now) (option_map (λ text. text.now) c.get_str-entry.result)
+    (option_map (λ text. text.now) c.get_str-steps.result) c.has_life.result _
     (c.in-Some.ensures ∙ raw_values-rows found (codes "part") ∙ shows.parts)
     (c.get_str-entry.ensures ∙ first_value-rows found (codes "entry") ∙ shows.entry)
     (c.get_str-steps.ensures ∙ first_value-rows found (codes "steps") ∙ shows.steps)

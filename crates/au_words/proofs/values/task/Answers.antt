@@ -12,10 +12,12 @@ with_steps command said steps = record (task_said command said) { steps = steps 
 
 pub returns : goal.returns
 returns c =
-    let what = given_of (map (λ part. part.now) c.args.parts.now) (option_map (λ text. text.now) c.args.entry) (option_map (λ text. text.now) c.args.steps) c.args.life in
+    let what = given_of (map (λ part. part.now) c.args.parts.now) (option_map (λ text. text.now) c.args.entry)
+    (option_map (λ text. text.now) c.args.steps) c.args.life in
     let names : List (List ℕ) = map string_bytes c.in_ok-files.files.items in
     let said = said_of c.args.life names c.in_ok-entry.entry c.in_ok-steps.steps in (
       said,
-      all_said what names c.in_ok-entry.entry c.in_ok-steps.steps c.in_ok-files.ensures c.in_ok-entry.ensures c.in_ok-steps.ensures,
+      all_said what names c.in_ok-entry.entry c.in_ok-steps.steps c.in_ok-files.ensures c.in_ok-entry.ensures
+          c.in_ok-steps.ensures,
       ap (with_steps c.args.command said) c.unwrap_or.ensures,
     )

@@ -7,11 +7,13 @@ use Rattle.au_words.proofs.words.job_of.Goals as goal
 
 pub returns-in-Some : goal.returns-in-Some
 returns-in-Some c = λ asked what is shows.
-    let known : Some asked ≡ Some c.in-Some.command = sym (command_again asked) ∙ ap command_at (sym is) ∙ sym c.command.ensures ∙ c.in-Some.is in
+    let known : Some asked ≡ Some c.in-Some.command = sym (command_again asked) ∙ ap command_at (sym is)
+    ∙ sym c.command.ensures ∙ c.in-Some.is in
     let alike : c.in-Some.command ≡ asked = (let e = known in cc) in
     subst (λ (one : Command). GivesTask one c.job.result (said_at what)) alike (c.job.ensures what shows)
 
 pub returns-in-None : goal.returns-in-None
 returns-in-None c = λ asked what is shows.
-    let known : Some asked ≡ None = sym (command_again asked) ∙ ap command_at (sym is) ∙ sym c.command.ensures ∙ c.in-None.is in
+    let known : Some asked ≡ None = sym (command_again asked) ∙ ap command_at (sym is) ∙ sym c.command.ensures
+    ∙ c.in-None.is in
     absurd (let e = known in cc)

@@ -11,6 +11,7 @@ loop-byte-preserved c =
     let bytes = c.args.bytes.now in
     let within : at < length bytes = omega (arith, c.loop-byte-test.true) in
     c.loop-byte.invariant
-    ∙ ap (λ (place : Option (Bool × Bor (List ℕ))). option_map_or (λ p. is_told p.0 p.1.now (drop at bytes)) place false) c.in-Some.is
+    ∙ ap (λ (place : Option (Bool × Bor (List ℕ))). option_map_or (λ p. is_told p.0 p.1.now (drop at bytes))
+    place false) c.in-Some.is
     ∙ at_drop_more (is_told c.in-Some.inside c.in-Some.left.now) bytes at 0 within
     ∙ c.place_behind-place.ensures (drop (at + 1) bytes)

@@ -13,8 +13,11 @@ loop-byte-preserved c =
       file = c.past-at.ensures.file ∙ c.loop-byte.invariant.file;
       line = omega arith;
       column = omega arith;
-      place = λ file front e. c.past-at.ensures.place file (front ++ take i bytes) (c.loop-byte.invariant.place file front e) ∙ ap (place_after file) (sym (front_more front bytes i c.loop-byte-test.true));
+      place = λ file front e. c.past-at.ensures.place file (front ++ take i bytes)
+          (c.loop-byte.invariant.place file front e)
+          ∙ ap (place_after file) (sym (front_more front bytes i c.loop-byte-test.true));
     }
 
 pub returns-clause-place : goal.returns-clause-place
-returns-clause-place c = λ file front e. c.loop-byte.invariant.place file front e ∙ ap (λ x. place_after file (front ++ x)) (take_all _ _ (omega arith))
+returns-clause-place c = λ file front e. c.loop-byte.invariant.place file front e
+    ∙ ap (λ x. place_after file (front ++ x)) (take_all _ _ (omega arith))

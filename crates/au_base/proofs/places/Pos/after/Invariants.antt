@@ -8,5 +8,6 @@ invariant-loop-byte l = record {
   file : l.at.file ≡ l.fn.self.file;
   line : l.at.line ≤ l.fn.self.line + l.byte-index;
   column : l.at.column ≤ l.fn.self.column + l.byte-index;
-  place : (file : ℕ) (front : List ℕ) → l.fn.self ≡ place_after file front → l.at ≡ place_after file (front ++ take l.byte-index l.bytes);
+  place : (file : ℕ) (front : List ℕ) → l.fn.self ≡ place_after file front →
+      l.at ≡ place_after file (front ++ take l.byte-index l.bytes);
 }

@@ -10,7 +10,8 @@ pub returns-in_ok-copy_type-in-Some-clause-holds : goal.returns-in_ok-copy_type-
 returns-in_ok-copy_type-in-Some-clause-holds c =
     let some = c.in-Some.ensures in (
       λ e. absurd (nothing _ e),
-      λ h. absurd (apart _ (some ∙ holds_none c.args.self.now c.args.heads.now c.args.scope.now c.args.known.now c.is_table.ensures c.args.class (meaning c.args.of.now) h)),
+      λ h. absurd (apart _ (some ∙ holds_none c.args.self.now c.args.heads.now c.args.scope.now
+          c.args.known.now c.is_table.ensures c.args.class (meaning c.args.of.now) h)),
     )
   where
     nothing : (x : DeclAt × Ty) → Some x ≡ None → ⊥
@@ -20,5 +21,8 @@ returns-in_ok-copy_type-in-Some-clause-holds c =
     apart x e = cc
 
 pub returns-in-None-clause-holds : goal.returns-in-None-clause-holds
-returns-in-None-clause-holds c =
-    (λ e. none_holds c.args.self.now c.args.heads.now c.args.scope.now c.args.known.now c.is_table.ensures (meaning c.args.of.now) c.args.class (sym c.in-None.ensures), λ h. refl)
+returns-in-None-clause-holds c = (
+  λ e. none_holds c.args.self.now c.args.heads.now c.args.scope.now c.args.known.now c.is_table.ensures
+      (meaning c.args.of.now) c.args.class (sym c.in-None.ensures),
+  λ h. refl,
+)

@@ -11,11 +11,14 @@ returns-then-number-most g c =
     let n = c.args.residue in
     let small = power_small g.row.BITS c.requires.shape.most_bits in
     let same : pos n ≡ to_z w128 n = omega (arith, ints, small) in
-    subst (IsTurned g.row.BITS g.row.SIGN (pos n)) same (turned_low g.row.BITS g.row.SIGN n c.requires.shape (omega (arith, ints)))
+    subst (IsTurned g.row.BITS g.row.SIGN (pos n)) same
+    (turned_low g.row.BITS g.row.SIGN n c.requires.shape (omega (arith, ints)))
 
 pub returns-else-number-most : goal.returns-else-number-most
 returns-else-number-most g c =
     let n = c.args.residue in
     let small = power_small g.row.BITS c.requires.shape.most_bits in
-    let same : pos n -ℤ pos (2 ^ g.row.BITS) ≡ to_z w128 (of_z w128 (to_z w128 n -ℤ to_z w128 c.power_of_two.result)) = omega (arith, ints, small) in
-    subst (IsTurned g.row.BITS g.row.SIGN (pos n)) same (turned_high g.row.BITS g.row.SIGN n c.requires.shape c.requires.small (omega (arith, ints)))
+    let same : pos n -ℤ pos (2 ^ g.row.BITS)
+    ≡ to_z w128 (of_z w128 (to_z w128 n -ℤ to_z w128 c.power_of_two.result)) = omega (arith, ints, small) in
+    subst (IsTurned g.row.BITS g.row.SIGN (pos n)) same
+    (turned_high g.row.BITS g.row.SIGN n c.requires.shape c.requires.small (omega (arith, ints)))

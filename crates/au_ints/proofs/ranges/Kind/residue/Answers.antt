@@ -15,6 +15,9 @@ returns-clause-congruent g c =
     let rest = c.rem_euclid.result in
     let whole : to_z w128 c.power_of_two.result ≡ pos m = omega (arith, ints, small, c.power_of_two.ensures) in
     let number : to_z w128 (of_z w128 c.args.number) ≡ c.args.number = omega (arith, ints) in
-    let is : rest ≡ int_rem_euclid c.args.number (pos m) = c.rem_euclid.ensures.value ∙ ap (λ z. int_rem_euclid z (to_z w128 c.power_of_two.result)) number ∙ ap (int_rem_euclid c.args.number) whole in
-    let back : rest ≡ pos (unsigned_abs (to_z w128 (of_z w128 rest))) = omega (arith, ints, c.rem_euclid.ensures.lower_bound) in
+    let is : rest ≡ int_rem_euclid c.args.number (pos m) = c.rem_euclid.ensures.value
+    ∙ ap (λ z. int_rem_euclid z (to_z w128 c.power_of_two.result)) number
+    ∙ ap (int_rem_euclid c.args.number) whole in
+    let back : rest ≡ pos (unsigned_abs (to_z w128 (of_z w128 rest))) =
+    omega (arith, ints, c.rem_euclid.ensures.lower_bound) in
     subst (IsCongruent m c.args.number) (sym is ∙ back) (congruent_residue m c.args.number (pow_pos g.row.BITS))

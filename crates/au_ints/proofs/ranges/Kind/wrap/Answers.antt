@@ -18,5 +18,9 @@ returns g c =
     let start : IsCongruent m (exact op a b) (exact op first second) = congruent_exact c.args.op m a b first second
     (subst (λ z. IsCongruent m z first) (to_z-of_z c.ranges.a) c.residue.ensures.congruent)
     (subst (λ z. IsCongruent m z second) (to_z-of_z c.ranges.b) c.residue-2.ensures.congruent) in
-    let whole : IsCongruent m (exact op a b) (pos c.combine.result) = congruent_then m (exact op a b) (exact op first second) (pos c.combine.result) start c.combine.ensures.congruent in
-    subst (IsTurned g.row.BITS g.row.SIGN (exact op a b)) (sym (to_z-of_z fits)) (turned_then g.row.BITS g.row.SIGN (exact op a b) (pos c.combine.result) c.from_residue.result whole c.from_residue.ensures)
+    let whole : IsCongruent m (exact op a b) (pos c.combine.result) =
+    congruent_then m (exact op a b) (exact op first second) (pos c.combine.result) start
+    c.combine.ensures.congruent in
+    subst (IsTurned g.row.BITS g.row.SIGN (exact op a b)) (sym (to_z-of_z fits))
+    (turned_then g.row.BITS g.row.SIGN (exact op a b) (pos c.combine.result) c.from_residue.result whole
+    c.from_residue.ensures)

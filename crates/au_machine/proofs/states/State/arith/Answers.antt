@@ -10,8 +10,10 @@ use Rattle.au_machine.proofs.states.State.arith.Goals as goal
 pub returns-in-Some-clause-is : goal.returns-in-Some-clause-is
 returns-in-Some-clause-is c =
     come_to c.come.result c.come.new.self _ _
-    (come_of_two (computed c.args.op c.args.kind) (low c.in-Some.field-0.0) (low c.in-Some.field-0.1) (machine_of c.args.self.now)
-    (machine_of c.pop_two.new.self) (result_of c.computed-computed.result) c.in-Some.ensures.is c.computed-computed.ensures)
+    (come_of_two (computed c.args.op c.args.kind) (low c.in-Some.field-0.0) (low c.in-Some.field-0.1)
+    (machine_of c.args.self.now)
+    (machine_of c.pop_two.new.self) (result_of c.computed-computed.result) c.in-Some.ensures.is
+    c.computed-computed.ensures)
     c.come.ensures.is
 
 pub returns-in-None-clause-is : goal.returns-in-None-clause-is

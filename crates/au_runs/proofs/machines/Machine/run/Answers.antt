@@ -17,7 +17,8 @@ returns-clause-says g c =
     let out' = g.O.Sink.written c.run_state.new.out in
     let events = deeds_of c.run_state.new.state in
     let fresh : IsTrue inside.fresh = subst (λ (m : Loaded). IsTrue m.fresh) (sym c.self.view_is) c.requires in
-    subst (λ (m : Loaded). IfOk result (λ end. Says end (low_run m.keeps m.code) c.args.steps told left out out' events))
+    subst (λ (m : Loaded). IfOk result
+    (λ end. Says end (low_run m.keeps m.code) c.args.steps told left out out' events))
     c.self.view_is
     (subst (λ (m : Option Machine).
     IfOk result (λ end. Says end (runs_of inside.code.now m) c.args.steps told left out out' events))
