@@ -1,3 +1,4 @@
+pub use Rattle.au_imports.specs.Clashing
 pub mod Classes
 pub mod Methods
 pub mod Signatures

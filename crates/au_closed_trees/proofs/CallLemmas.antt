@@ -17,7 +17,7 @@ use Rattle.au_syntax.specs.Views.{argument_all, arm_all, block, branch_all, expr
 use Rattle.au_syntax.specs.Views.{placed, statement}
 use Rattle.au_syntax.proofs.ExpressionLemmas as exprs
 use Rattle.au_syntax.proofs.StatementLemmas as stmts
-use Rattle.au_typing.specs.Notes.{Note}
+use Rattle.au_sights.specs.Notes.{Note}
 use Rattle.au_closed_trees.proofs.SnocLemmas.{snoc_arguments, snoc_arms, snoc_branches, snoc_expressions}
 use Rattle.au_closed_trees.proofs.SnocLemmas.{snoc_statements}
 use Rattle.au_closed_trees.proofs.ClosingLemmas.{OldArgument, OldArm, OldBind, OldBlock, OldBox, OldBranch}

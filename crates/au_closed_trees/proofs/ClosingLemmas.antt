@@ -38,7 +38,7 @@ use Rattle.au_syntax.specs.Views.{node, placed, statement, written}
 use Rattle.au_syntax.proofs.ExpressionLemmas as exprs
 use Rattle.au_syntax.proofs.StatementLemmas as stmts
 use Rattle.au_syntax.proofs.StatementLemmas.{if_else_says, while_says, for_says, borrow_says, borrow_typed_says}
-use Rattle.au_typing.specs.Notes.{Note}
+use Rattle.au_sights.specs.Notes.{Note}
 use Rattle.au_closed_trees.specs.contracts.phase.ClosedTreesPhase.TheImpl.{ghosts as closed}
 use Rattle.au_closed_trees.specs.declared.notes.Callee as found_callee
 use Rattle.au_closed_trees.specs.declared.notes.ClosedNote as found

@@ -12,7 +12,7 @@ use Rattle.au_types.specs.Meant.{meant}
 use Rattle.au_modules.specs.Programs.{ModuleParts}
 use Rattle.au_names.specs.HeadsOf.{heads_of, parameter}
 use Rattle.au_names.specs.Standing.{Standing, definition_of}
-use Rattle.au_typing.specs.Written.{types_at}
+use Rattle.au_sights.specs.Written.{types_at}
 use Rattle.au_type_texts.specs.Types.{ClosedType, named}
 use Rattle.au_type_texts.specs.Given.{Given, closed_or_unit, closed_under}
 use Rattle.au_closed_trees.specs.TypeNames.{given_over, listed, type_names}

@@ -10,7 +10,7 @@ ghost use Rattle.au_modules.specs.Slots as slots;
 ghost use Rattle.au_names.specs.HeadsOf as rows;
 ghost use Rattle.au_names.specs.Standing.{definition_of, standing, standing_seen};
 ghost use Rattle.au_names.specs.Walks.{written, written_parameters};
-ghost use Rattle.au_typing.specs.Written as outsides;
+ghost use Rattle.au_sights.specs.Written as outsides;
 ghost use Rattle.au_promises.specs.Written.{labelled_of, labels_of};
 ghost use Rattle.au_sights.specs.Steps.{Stands, variant_of, variants_of};
 

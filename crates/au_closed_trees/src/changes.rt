@@ -2,7 +2,7 @@
 
 ghost use Rattle.std.specs.Prelude.{◌≡◌, ◌++◌, ℕ, IfOk, List, OnOk, map};
 ghost use Rattle.au_sights.specs.Views.{note as note_said};
-ghost use Rattle.au_typing.specs.Notes.{Note};
+ghost use Rattle.au_sights.specs.Notes.{Note};
 ghost use Rattle.au_closed_trees.specs.Changes.{Change};
 ghost use Rattle.au_closed_trees.specs.ClosedNotes.{Callee as CalleeSeen, ClosedNote as NoteSeen};
 ghost use Rattle.au_closed_trees.specs.TreeViews.{callee as callee_said, closed_note};

@@ -22,7 +22,7 @@ use Rattle.au_names.specs.Standing.{Standing, standing_at}
 use Rattle.au_judged_types.specs.Meanings.{written_params}
 use Rattle.au_instances.specs.ClosedInstances.{closed_row}
 use Rattle.au_instances.specs.Rows.{Row}
-use Rattle.au_classes.specs.Rows.{rows_of}
+use Rattle.au_typing.specs.Rows.{rows_of}
 use Rattle.au_typing.specs.Called.{is_case, is_method}
 use Rattle.au_typing.specs.Written.{seen_at}
 use Rattle.au_typing.specs.Notes.{Note}

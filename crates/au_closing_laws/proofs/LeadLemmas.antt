@@ -11,7 +11,7 @@ use Rattle.au_imports.specs.Good.{AllNamesAreGood}
 use Rattle.au_promises.specs.Fulfilled.{AllFulfil}
 use Rattle.au_rules.specs.Good.{AllDeclarationsAreGood}
 use Rattle.au_typing.specs.Trees.{NotedParts}
-use Rattle.au_noting_programs.specs.Faults.{IsDerived}
+use Rattle.au_outcomes.specs.Faults.{IsDerived}
 use Rattle.au_outcomes.specs.Accepted.{AreAcceptedAs}
 use Rattle.au_outcomes.specs.Programs.{program_modules}
 use Rattle.au_outcomes.specs.Trees.{ReadFile}

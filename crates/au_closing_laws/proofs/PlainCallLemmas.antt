@@ -48,7 +48,7 @@ use Rattle.au_classes.specs.Rows.{rows_of}
 use Rattle.au_typing.specs.Written.{seen_at}
 use Rattle.au_typing.specs.Notes.{Note}
 use Rattle.au_typing.specs.Trees.{NotedParts}
-use Rattle.au_noting_programs.specs.Faults.{IsDerived}
+use Rattle.au_outcomes.specs.Faults.{IsDerived}
 use Rattle.au_outcomes.specs.Accepted.{AreAcceptedAs}
 use Rattle.au_outcomes.specs.Programs.{program_modules}
 use Rattle.au_outcomes.specs.Trees.{ReadFile}

@@ -26,7 +26,7 @@ ghost use Rattle.au_instances.specs.Tables.{IsTable};
 ghost use Rattle.au_modules.specs.Programs.{ModuleParts};
 ghost use Rattle.au_names.specs.Standing.{standing_at};
 ghost use Rattle.au_names.specs.declared.targets.Target.{Target as TargetSeen};
-ghost use Rattle.au_noting_programs.specs.Faults.{IsDerived};
+ghost use Rattle.au_outcomes.specs.Faults.{IsDerived};
 ghost use Rattle.au_outcomes.specs.Accepted.{AreAcceptedAs};
 ghost use Rattle.au_outcomes.specs.Programs.{program_modules};
 ghost use Rattle.au_outcomes.specs.Trees.{ReadFile};

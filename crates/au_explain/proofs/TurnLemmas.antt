@@ -5,7 +5,7 @@ use Rattle.au_explain.specs.declared.lists.VariableLives.{VariableLives}
 use Rattle.au_explain.specs.Said.{statement_said, statements_said}
 use Rattle.au_explain.specs.Variables.{listed_after, listed_in, listed_inside}
 use Rattle.au_explain.proofs.PutLemmas as puts
-use Rattle.au_noting_statements.proofs.Depths.{ParsedStmt}
+use Rattle.au_noting_programs.proofs.Depths.{ParsedStmt}
 use Rattle.au_typing.specs.Scopes.{Scope}
 
 -- a statement is behind, and what it declares is in scope

@@ -1,3 +1,4 @@
+pub use Rattle.au_noting_programs.specs.Faults
 pub mod Variables
 pub mod Programs
 pub mod Said

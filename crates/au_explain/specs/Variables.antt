@@ -8,7 +8,7 @@ use Rattle.au_typing.specs.DerivationSearch.{judge_borrow, note_bounds}
 use Rattle.au_explain.specs.declared.lists.VariableLives.{VariableLives}
 use Rattle.au_explain.specs.Mentions.{mentions_of_block}
 use Rattle.au_lives.specs.Paths.{bound_name}
-use Rattle.au_noting_statements.specs.Entering.{lent_reference}
+use Rattle.au_noting_programs.specs.Entering.{lent_reference}
 use Rattle.au_typing.specs.Scopes.{Outside, Scope}
 use Rattle.au_syntax.specs.Modules.{Constrained, Header}
 use Rattle.au_syntax.specs.Names.{Placed}

@@ -15,6 +15,7 @@ mod printing;
 mod programs;
 mod variables;
 
+pub use au_noting_programs::{NotedProgram, note_program};
 pub use faults::PrintFault;
 pub use lists::{FunctionLives, Lives, Mention, MentionKind, VariableLives};
 pub use printing::explain;

@@ -7,7 +7,7 @@ ghost use Rattle.au_explain.specs.Said.{arms_said, binds_said, block_said, branc
 ghost use Rattle.au_explain.specs.Said.{expression_said, name_said, statement_said, statements_said};
 ghost use Rattle.au_explain.specs.Variables as spec;
 ghost use Rattle.au_noting.specs.Scopes.{scope_said};
-ghost use Rattle.au_noting_statements.specs.Entering as entering;
+ghost use Rattle.au_noting_programs.specs.Entering as entering;
 ghost use Rattle.au_syntax.specs.Views.{written};
 ghost use Rattle.au_types.specs.Views.{meaning};
 

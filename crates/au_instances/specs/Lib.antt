@@ -1,3 +1,4 @@
+pub use Rattle.au_type_texts.specs.Sizes
 pub mod Constructors
 pub mod Rows
 pub mod Forms

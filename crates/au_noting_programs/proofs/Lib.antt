@@ -1,3 +1,6 @@
+pub use Rattle.au_noting_statements.proofs.Turns
+pub use Rattle.au_noting_statements.proofs.Forms
+pub use Rattle.au_noting_statements.proofs.Depths
 pub mod ChainLemmas
 pub mod PlainLemmas
 pub mod SightLemmas

@@ -1,3 +1,4 @@
+pub use Rattle.au_noting_statements.specs.Entering
 pub mod Said
 pub mod Steps
 pub mod Faults

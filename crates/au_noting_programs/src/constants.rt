@@ -24,7 +24,7 @@ use au_judgements::{Refused, refused_at};
 use au_noting::faults::other_form;
 use au_noting::lookups::written_type;
 use au_noting::{Fault, Scope};
-use au_noting_expressions::note_boxed;
+use au_noting_statements::note_boxed;
 use au_sights::{Form, Noted, Surroundings};
 use au_syntax::{Decl, Expr, Ident, Parsed, TypeText};
 use au_types::{Params, Ty};

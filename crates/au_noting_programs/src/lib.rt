@@ -17,6 +17,7 @@ pub mod programs;
 pub mod sights;
 mod telling;
 
+pub use au_noting_statements::{paired, type_of};
 pub use judging::note_program;
 pub use modules::{NotedFile, NotedModule};
 pub use programs::NotedProgram;

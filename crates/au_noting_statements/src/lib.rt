@@ -13,4 +13,5 @@ mod parts;
 mod single;
 mod vectors;
 
+pub use au_noting_expressions::{note_boxed, paired, type_of};
 pub use blocks::note_block;

@@ -32,8 +32,8 @@ use Rattle.au_promises.specs.declared.faults.PromiseFault.TheVariants as promise
 use Rattle.au_promises.specs.Promises.{promise_fault}
 use Rattle.au_typing.specs.Trees.{NotedParts}
 use Rattle.au_sights.specs.declared.faults.TypeFault.TheVariants as types
-use Rattle.au_noting_programs.specs.Faults.{IsDerived, type_fault}
-use Rattle.au_noting_programs.proofs.AcceptedLemmas as typing
+use Rattle.au_explain.specs.Faults.{IsDerived, type_fault}
+use Rattle.au_explain.proofs.AcceptedLemmas as typing
 use Rattle.au_program_lives.specs.declared.faults.LinearFault.TheVariants as lives
 use Rattle.au_program_lives.specs.Good.{AllLivesAreGood}
 use Rattle.au_program_lives.specs.LinearFaults.{linear_fault}

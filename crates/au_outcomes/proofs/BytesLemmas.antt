@@ -8,7 +8,7 @@ use Rattle.au_modules.specs.declared.faults.ModuleFault.TheVariants as modules
 use Rattle.au_modules.specs.Programs as programs
 use Rattle.au_modules.specs.Programs.{Entry, ModuleParts, modules_of}
 use Rattle.au_sights.specs.declared.faults.TypeFault.TheVariants as typing
-use Rattle.au_noting_programs.specs.Faults.{type_fault}
+use Rattle.au_explain.specs.Faults.{type_fault}
 use Rattle.au_program_lives.specs.declared.faults.LinearFault.TheVariants as lives
 use Rattle.au_program_lives.specs.LinearFaults.{linear_fault}
 use Rattle.au_rules.specs.declared.faults.DeclFault.TheVariants as rules

@@ -14,7 +14,7 @@ use Rattle.au_modules.specs.Programs as programs
 use Rattle.au_modules.specs.Programs.{Entry, ModuleParts, entry, modules_of}
 use Rattle.au_sights.specs.declared.faults.TypeFault.{TypeFault}
 use Rattle.au_sights.specs.declared.faults.TypeFault.TheVariants as typing
-use Rattle.au_noting_programs.specs.Faults.{type_fault}
+use Rattle.au_explain.specs.Faults.{type_fault}
 use Rattle.au_program_lives.specs.declared.faults.LinearFault.{LinearFault}
 use Rattle.au_program_lives.specs.declared.faults.LinearFault.TheVariants as lives
 use Rattle.au_program_lives.specs.LinearFaults.{linear_fault}

@@ -6,7 +6,7 @@ use Rattle.au_classes.specs.Good.{InstancesAreGood}
 use Rattle.au_typing.specs.Trees.{NotedParts}
 use Rattle.au_modules.specs.Accepted.{IsProgram}
 use Rattle.au_imports.specs.Good.{AllNamesAreGood}
-use Rattle.au_noting_programs.specs.Faults.{IsDerived}
+use Rattle.au_explain.specs.Faults.{IsDerived}
 use Rattle.au_program_lives.specs.Good.{AllLivesAreGood}
 use Rattle.au_promises.specs.Fulfilled.{AllFulfil}
 use Rattle.au_outcomes.specs.declared.refusals.Refusal.{Refusal}

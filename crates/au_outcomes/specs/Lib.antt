@@ -1,3 +1,4 @@
+pub use Rattle.au_explain.specs.Faults
 pub mod Refusals
 pub mod Lines
 pub mod Trees

@@ -21,7 +21,7 @@ use Rattle.au_imports.specs.Importing as importing
 use Rattle.au_explain.specs.Programs.{program_lives}
 use Rattle.au_sights.specs.declared.faults.TypeFault.{TypeFault}
 use Rattle.au_sights.specs.declared.faults.TypeFault.TheVariants as typing
-use Rattle.au_noting_programs.specs.Faults.{type_fault}
+use Rattle.au_explain.specs.Faults.{type_fault}
 use Rattle.au_program_lives.specs.declared.faults.LinearFault.{LinearFault}
 use Rattle.au_program_lives.specs.declared.faults.LinearFault.TheVariants as lives
 use Rattle.au_program_lives.specs.LinearFaults.{linear_fault}

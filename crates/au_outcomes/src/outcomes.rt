@@ -2,8 +2,7 @@
 
 use crate::Refusal;
 use au_base::{Limit, Text};
-use au_explain::Lives;
-use au_noting_programs::NotedProgram;
+use au_explain::{Lives, NotedProgram};
 
 /// What is asked of the program of files.
 #[derive(Clone, Copy, Debug, PartialEq, Eq)]

@@ -1,3 +1,4 @@
+pub use Rattle.au_typing.proofs.NumberLemmas
 mod CopyLemmas
 pub mod StandingLemmas
 pub mod FollowedLemmas

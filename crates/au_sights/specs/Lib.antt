@@ -1,3 +1,5 @@
+pub use Rattle.au_typing.specs.Written
+pub use Rattle.au_typing.specs.Notes
 pub mod Views
 pub mod Lines
 pub mod Examples

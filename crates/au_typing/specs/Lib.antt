@@ -1,3 +1,4 @@
+pub use Rattle.au_classes.specs.Rows
 pub mod Scopes
 pub mod Codes
 pub mod Places

@@ -3,7 +3,7 @@ use Rattle.std.specs.Prelude.{List, [], ◌∷◌, ◌++◌, Bool, Option, Some,
 use Rattle.std.specs.Option.{option_or}
 use Rattle.au_base.specs.declared.limits.Limit.{Limit}
 use Rattle.au_types.specs.Types.{Meaning}
-use Rattle.au_type_texts.specs.Sizes.{depth_limit, nodes_limit}
+use Rattle.au_instances.specs.Sizes.{depth_limit, nodes_limit}
 use Rattle.au_typing.specs.Faults.{Noting, limit}
 use Rattle.au_typing.specs.Notes.{Mode}
 

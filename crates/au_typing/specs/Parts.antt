@@ -16,7 +16,7 @@ use Rattle.au_types.specs.declared.types.Region.TheVariants as regions
 use Rattle.au_types.specs.Types as mean
 use Rattle.au_types.specs.Types.{Meaning, Argument, Arguments}
 use Rattle.au_judged_types.specs.Judging.{refers}
-use Rattle.au_imports.specs.Clashing.{same_target}
+use Rattle.au_classes.specs.Clashing.{same_target}
 use Rattle.au_names.specs.declared.targets.Target.{Target}
 use Rattle.au_typing.specs.Scopes.{Case, Scope, Typed}
 

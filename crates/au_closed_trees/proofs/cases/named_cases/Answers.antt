@@ -3,7 +3,7 @@ use Rattle.std.specs.Prelude.{IfOk}
 use Rattle.au_type_texts.specs.Views.{closed_meaning}
 use Rattle.au_modules.specs.Slots as slots
 use Rattle.au_names.specs.Standing.{standing}
-use Rattle.au_typing.proofs.NumberLemmas.{at_number, definition_stands}
+use Rattle.au_sights.proofs.NumberLemmas.{at_number, definition_stands}
 use Rattle.au_closed_trees.specs.Parts.{defined_cases}
 use Rattle.au_closed_trees.specs.Views.{cases_said}
 use Rattle.au_closed_trees.proofs.cases.named_cases.Goals as goal

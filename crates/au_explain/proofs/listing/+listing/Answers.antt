@@ -12,9 +12,9 @@ use Rattle.au_explain.specs.Variables.{listed_typed, listed_with}
 use Rattle.au_explain.proofs.TurnLemmas.{block_turn}
 use Rattle.au_explain.proofs.PutLemmas as puts
 use Rattle.au_noting.specs.Scopes.{closed_in, scope_said, without}
-use Rattle.au_noting_statements.proofs.Depths.{ParsedArm, ParsedBranch, ParsedCode, ParsedStmt}
-use Rattle.au_noting_statements.proofs.Forms.{bound_back, left_again, left_to, variable_back}
-use Rattle.au_noting_statements.proofs.Turns.{rest_is}
+use Rattle.au_noting_programs.proofs.Depths.{ParsedArm, ParsedBranch, ParsedCode, ParsedStmt}
+use Rattle.au_noting_programs.proofs.Forms.{bound_back, left_again, left_to, variable_back}
+use Rattle.au_noting_programs.proofs.Turns.{rest_is}
 use Rattle.au_typing.specs.Scopes.{Scope}
 use Rattle.au_syntax.proofs.StatementLemmas.{skip_says, let_says, destructure_says, assign_says}
 use Rattle.au_syntax.proofs.StatementLemmas.{assign_through_says, call_says, return_says, if_says}
