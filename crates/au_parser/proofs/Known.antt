@@ -14,7 +14,7 @@ use Rattle.au_syntax.specs.Forms.{some}
 use Rattle.au_syntax.specs.Words as words
 use Rattle.au_syntax.specs.Words.{Words, begun}
 use Rattle.au_read_expressions.specs.Bounds.{Bounds, TreePasses}
-use Rattle.au_read_expressions.specs.Reading.{Read, front, is_front, same_what, behind, closed, pair, shaped, built, repeated, listed, bracketed}
+use Rattle.au_read_expressions.specs.Reading.{Read, front, is_front, same_what, behind_tokens, closed, pair, shaped, built, repeated, listed, bracketed}
 use Rattle.au_read_expressions.specs.Spelling.{Begins, fixed}
 use Rattle.au_read_expressions.proofs.Begins.{begins_split, front_of}
 use Rattle.au_read_expressions.proofs.Forms.{Form, Sound, Finds, Reads, light, anything, behind_reads, closed_reads, pair_form, pair_reads, Shapes, shaped_reads, Builds, built_sound, built_found}
@@ -110,7 +110,7 @@ module _ (b : Bounds) where
     of_light words ends read reads = record { said = plain words; ends = ends; read = read; reads = light_known words ends read reads }
 
     abbrev pub then_behind : List What → Known A → Known A
-    then_behind whats k = record { said = behind_said whats k.said; ends = k.ends; read = behind whats k.read; reads = behind_reads (form_of k.said) k.ends k.read k.reads whats }
+    then_behind whats k = record { said = behind_said whats k.said; ends = k.ends; read = behind_tokens whats k.read; reads = behind_reads (form_of k.said) k.ends k.read k.reads whats }
 
     abbrev pub then_closed : (what : What) (whats : List What) (k : Known A) → k.ends (Some what) ≡ true → Known A
     then_closed what whats k stops = record {

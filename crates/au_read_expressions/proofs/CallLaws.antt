@@ -17,7 +17,7 @@ use Rattle.au_syntax.specs.Names.{Placed}
 use Rattle.au_syntax.specs.Plain.{Bytes, PlainExpression, PlainExpressions, PlainArguments}
 use Rattle.au_syntax.specs.Words.{Words, begun, mark, listed, name_words, expression_words, words_of_expressions, words_of_arguments}
 use Rattle.au_read_expressions.specs.Bounds.{Bounds, TreePasses}
-use Rattle.au_read_expressions.specs.Reading.{Read, front, is_front, name_at, exactly, behind, closed, pair, shaped, built, listed as listed_at}
+use Rattle.au_read_expressions.specs.Reading.{Read, front, is_front, name_at, exactly, behind_tokens, closed, pair, shaped, built, listed as listed_at}
 use Rattle.au_read_expressions.specs.Spelling.{Begins, fixed}
 use Rattle.au_read_expressions.proofs.Begins.{begins_split, front_of}
 use Rattle.au_read_expressions.proofs.Forms.{Form, Sound, Finds, Reads, Shapes, anything, light, behind_form, closed_form, closed_reads, pair_form, pair_behind, shaped_sound, shaped_found}
@@ -287,7 +287,7 @@ module _ (b : Bounds) (n : ℕ) (r q : List Token → Read PlainExpression) (inn
   call_passes at name (by_name args) l p = one_passes b n (arguments_depth (arguments_of args)) (arguments_types (arguments_of args)) l p
 
   abbrev call_parts : List Token → Read (Placed Bytes × Given)
-  call_parts = pair name_at (behind (Sign LeftParenthesis ∷ []) (given_at r q))
+  call_parts = pair name_at (behind_tokens (Sign LeftParenthesis ∷ []) (given_at r q))
 
   call_row : Row (call_form b (suc n)) anything call_of call_parts
   call_row = row (pair_form name_form (behind_form (given_form b n) (Sign LeftParenthesis ∷ []))) (call_form b (suc n)) anything call_parts

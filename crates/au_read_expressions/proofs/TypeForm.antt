@@ -18,7 +18,7 @@ use Rattle.au_syntax.specs.Types.{WrittenType, WrittenTypes, named, reference, n
 use Rattle.au_syntax.specs.Words.{access_sign, begun, mark, name_words, listed_in, type_words, words_of_types}
 use Rattle.au_read_expressions.specs.declared.faults.Fault.TheVariants.{Syntax, Passed}
 use Rattle.au_read_expressions.specs.Bounds.{Bounds, TypePasses, depth_limit, nodes_limit}
-use Rattle.au_read_expressions.specs.Reading.{Read, front, name_at, read_of, no, behind, closed, pair, bracketed}
+use Rattle.au_read_expressions.specs.Reading.{Read, front, name_at, read_of, no, behind_tokens, closed, pair, bracketed}
 use Rattle.au_read_expressions.specs.Spelling.{Begins}
 use Rattle.au_read_expressions.proofs.Steps.{not_read, chosen, when_true, when_false}
 use Rattle.au_read_expressions.proofs.Begins.{front_of, begins_shorter}
@@ -114,7 +114,7 @@ module _ (b : Bounds) (d : ℕ) where
     region_at = closed (Sign RightBracket ∷ []) name_at
 
     abbrev target_at : List Token → Read (WrittenType × Placed Bytes)
-    target_at = pair inner (behind (Sign Comma ∷ []) region_at)
+    target_at = pair inner (behind_tokens (Sign Comma ∷ []) region_at)
 
     region_reads : Reads region_form anything region_at
     region_reads = closed_reads name_form anything name_at name_reads (Sign RightBracket) [] refl
@@ -122,11 +122,11 @@ module _ (b : Bounds) (d : ℕ) where
     target_reads : Reads target_form anything target_at
     target_reads = pair_behind (within_form b d) region_form ends_type anything inner reads region_at region_reads (Sign Comma) [] refl
 
-    reference_reads : (mode : Access) → Reads (reference_parts mode) anything (behind (Sign (access_sign mode) ∷ Sign LeftBracket ∷ []) target_at)
+    reference_reads : (mode : Access) → Reads (reference_parts mode) anything (behind_tokens (Sign (access_sign mode) ∷ Sign LeftBracket ∷ []) target_at)
     reference_reads mode = behind_reads target_form anything target_at target_reads (Sign (access_sign mode) ∷ Sign LeftBracket ∷ [])
 
     reference_builds : (mode : Access)
-        → Builds (reference_parts mode) (within_form b (suc d)) anything (behind (Sign (access_sign mode) ∷ Sign LeftBracket ∷ []) target_at) (reference_reads mode) (reference_of mode)
+        → Builds (reference_parts mode) (within_form b (suc d)) anything (behind_tokens (Sign (access_sign mode) ∷ Sign LeftBracket ∷ []) target_at) (reference_reads mode) (reference_of mode)
     reference_builds mode = record {
       words = λ at x. ap (λ ws. begun at (mark (access_sign mode) ++ (mark LeftBracket ++ ws))) (target_words (type_words x.0) x.1);
       some = λ x. omega arith;
@@ -142,9 +142,9 @@ module _ (b : Bounds) (d : ℕ) where
     by_sound (Some (Name bytes)) ts rest t e =
         shaped_sound named_parts (within_form b (suc d)) ends_type (pair name_at (bracketed LeftBracket RightBracket inner)) named_reads named_of named_shapes ts rest t e
     by_sound (Some (Sign ReadBorrow)) ts rest t e =
-        built_sound (reference_parts access.Read) (within_form b (suc d)) anything (behind (Sign ReadBorrow ∷ Sign LeftBracket ∷ []) target_at) (reference_reads access.Read) (reference_of access.Read) (reference_builds access.Read) ts rest t e
+        built_sound (reference_parts access.Read) (within_form b (suc d)) anything (behind_tokens (Sign ReadBorrow ∷ Sign LeftBracket ∷ []) target_at) (reference_reads access.Read) (reference_of access.Read) (reference_builds access.Read) ts rest t e
     by_sound (Some (Sign WriteBorrow)) ts rest t e =
-        built_sound (reference_parts access.Write) (within_form b (suc d)) anything (behind (Sign WriteBorrow ∷ Sign LeftBracket ∷ []) target_at) (reference_reads access.Write) (reference_of access.Write) (reference_builds access.Write) ts rest t e
+        built_sound (reference_parts access.Write) (within_form b (suc d)) anything (behind_tokens (Sign WriteBorrow ∷ Sign LeftBracket ∷ []) target_at) (reference_reads access.Write) (reference_of access.Write) (reference_builds access.Write) ts rest t e
     by_sound other ts rest t e = absurd (not_read _ (t, rest) e)
 
     named_found : (name : Placed Bytes) (list : List WrittenType) (ts rest : List Token) → Begins (type_words (named name (types_of list))) ts rest → ends_type (front rest) ≡ true
@@ -155,7 +155,7 @@ module _ (b : Bounds) (d : ℕ) where
     reference_found : (mode : Access) (at : Pos) (target : WrittenType) (region : Placed Bytes) (ts rest : List Token) → Begins (type_words (reference at mode target region)) ts rest
         → Finds (within_form b (suc d)) (reference at mode target region) rest (reference_with inner mode ts)
     reference_found mode at target region ts rest h =
-        built_found (reference_parts mode) (within_form b (suc d)) anything (behind (Sign (access_sign mode) ∷ Sign LeftBracket ∷ []) target_at) (reference_reads mode) (reference_of mode) (reference_builds mode) at (target, region) ts rest h refl refl
+        built_found (reference_parts mode) (within_form b (suc d)) anything (behind_tokens (Sign (access_sign mode) ∷ Sign LeftBracket ∷ []) target_at) (reference_reads mode) (reference_of mode) (reference_builds mode) at (target, region) ts rest h refl refl
 
     by_found : (t : WrittenType) (ts rest : List Token) → Begins (type_words t) ts rest → ends_type (front rest) ≡ true → Finds (within_form b (suc d)) t rest (type_by inner (front ts) ts)
     by_found (named name args) ts rest h ended =

@@ -16,7 +16,7 @@ use Rattle.au_syntax.specs.Sizes.{expression_types, bound_types}
 use Rattle.au_syntax.specs.Plain.{Bytes, PlainExpression, PlainStatements}
 use Rattle.au_syntax.specs.Words.{word, mark, begun, listed, dotted, name_words, type_words, bound_words, expression_words, binding_word}
 use Rattle.au_read_expressions.specs.Bounds.{Bounds}
-use Rattle.au_read_expressions.specs.Reading.{Read, is_front, name_at, fields_at, exactly, behind, closed}
+use Rattle.au_read_expressions.specs.Reading.{Read, is_front, name_at, fields_at, exactly, behind_tokens, closed}
 use Rattle.au_read_expressions.specs.Spelling.{fixed}
 use Rattle.au_read_expressions.proofs.Forms.{Form, Reads, anything, light, behind_form, behind_reads, closed_form, closed_reads, pair_after, pair_behind}
 use Rattle.au_read_expressions.proofs.Limits.{one_fits, one_passes, types_fit_before, types_pass_before}
@@ -57,7 +57,7 @@ module _ (b : Bounds) (n : ℕ) (inner calls : List Token → Read PlainExpressi
   pub return_row : Row b n return_of_part (return_with b inner calls blocks)
   unfolding return_with
   return_row =
-      row_of b n (behind_form ended_form (Word KwReturn ∷ [])) (behind (Word KwReturn ∷ []) (closed (Sign Semicolon ∷ []) inner))
+      row_of b n (behind_form ended_form (Word KwReturn ∷ [])) (behind_tokens (Word KwReturn ∷ []) (closed (Sign Semicolon ∷ []) inner))
       (behind_reads ended_form anything (closed (Sign Semicolon ∷ []) inner) ended (Word KwReturn ∷ [])) return_of_part
       (record {
         words = λ at x. refl;
