@@ -27,7 +27,7 @@ use Rattle.au_instances.specs.Tables.{IsTable}
 use Rattle.au_instances.proofs.PairLemmas.{constraint_listed, none_holds}
 use Rattle.au_instances.proofs.TableLemmas.{Contains-cases, Contains-first}
 use Rattle.au_typing.specs.Scopes.{Scope, Typed}
-use Rattle.au_typing.specs.Calls.{GoodCall, Shown, first_lacking, first_left, first_misfit, is_given}
+use Rattle.au_typing.specs.Calls.{GoodCall, Shown, first_lacking, first_misfit, first_unfixed, is_fixed}
 use Rattle.au_typing.specs.Calls.{lacking_at, value_fits, wanted_of}
 use Rattle.au_typing.specs.Lookups.{parameters_in}
 use Rattle.au_typing.specs.Notes.{Note}
@@ -43,24 +43,24 @@ type_there s name (Some (of_type t)) is e = (t, is)
 type_there s name (Some (in_region region)) is e = cc
 
 given_type : (s : Bindings) (name : Bytes) (universe : Universe) → is_region universe ≡ false →
-    is_given s (record { name = name; universe = universe }) ≡ true → GivesType s name
+    is_fixed s (record { name = name; universe = universe }) ≡ true → GivesType s name
 given_type s name universes.Free is e = type_there s name (value_of name s) refl e
 given_type s name universes.Linear is e = type_there s name (value_of name s) refl e
 given_type s name universes.AnyType is e = type_there s name (value_of name s) refl e
 given_type s name universes.Region is e = cc
 
 pub value_there : (s : Bindings) (params : List Parameter) (name : Bytes) (universe : Universe) →
-    first_left s params ≡ None → universe_in params name ≡ Some universe → is_region universe ≡ false →
+    first_unfixed s params ≡ None → universe_in params name ≡ Some universe → is_region universe ≡ false →
     GivesType s name
 value_there s [] name universe none e is = absurd (none-some universe e)
 value_there s (one ∷ rest) name universe none e is =
-    by (is_given s one) refl (bytes_eq one.name name) refl none e
+    by (is_fixed s one) refl (bytes_eq one.name name) refl none e
     (λ others its. value_there s rest name universe others its is)
   where
-    by : (g : Bool) → is_given s one ≡ g → (b : Bool) → bytes_eq one.name name ≡ b →
-        cond g (first_left s rest) (Some one.name) ≡ None → cond b (Some one.universe) (universe_in rest name)
-        ≡ Some universe
-        → (first_left s rest ≡ None → universe_in rest name ≡ Some universe → GivesType s name) → GivesType s name
+    by : (g : Bool) → is_fixed s one ≡ g → (b : Bool) → bytes_eq one.name name ≡ b →
+        cond g (first_unfixed s rest) (Some one.name) ≡ None →
+        cond b (Some one.universe) (universe_in rest name) ≡ Some universe
+        → (first_unfixed s rest ≡ None → universe_in rest name ≡ Some universe → GivesType s name) → GivesType s name
     by false given b same none e later = absurd (none-some one.name (sym none))
     by true given true same none e later =
         let sort : one.universe ≡ universe = same_Some one.universe universe e in

@@ -49,8 +49,9 @@ use Rattle.au_typing.specs.Calls.{Shown}
 use Rattle.au_typing.specs.Faults.{Noting}
 use Rattle.au_typing.specs.Good.{AllGood, AllGoodIn, AllGoodLabelled, GoodBinary, GoodBorrow, GoodPath}
 use Rattle.au_typing.specs.Good.{PairedModes, count_of, items_of, labels_of, shown, values_of}
-use Rattle.au_typing.specs.Lookups.{IsPart, behind, field_type, outcome_noted, parameters_in, type_of_name}
-use Rattle.au_typing.specs.Lookups.{value_type, variable_of, variable_type, written_means, written_type}
+use Rattle.au_typing.specs.Lookups.{IsPart, target_behind, field_type, outcome_noted, parameters_in}
+use Rattle.au_typing.specs.Lookups.{type_of_name, value_type, variable_of, variable_type, written_means}
+use Rattle.au_typing.specs.Lookups.{written_type}
 use Rattle.au_typing.specs.Notes.{Mode, Note, NotedArguments, NotedExpression, NotedExpressions, mode_of}
 use Rattle.au_typing.specs.Notes.{note_of, type_of}
 use Rattle.au_typing.specs.Rules.{is_logical}
@@ -190,7 +191,7 @@ module _ (outside : Outside) (generics : List Bounded) (known : OutsideStands ou
     path_stands [] t part is whole = subst Stands (sym is) whole
     path_stands (field ∷ fields) t part is whole = part_stands (field ∷ fields) t part is.1 whole
 
-    behind_stands : (t target : Meaning) → behind t ≡ Some target → Stands t → Stands target
+    behind_stands : (t target : Meaning) → target_behind t ≡ Some target → Stands t → Stands target
     unfolding is_formed
     behind_stands (mean.reads t region) target e whole = subst Stands (same_Some t target e) whole
     behind_stands (mean.writes t region) target e whole = subst Stands (same_Some t target e) whole

@@ -32,7 +32,7 @@ use Rattle.au_matching.proofs.SubstitutingFormedLemmas.{formed_kept}
 use Rattle.au_judged_types.specs.Bounds.{parameters}
 use Rattle.au_typing.specs.Scopes.{Callable, Scope, Typed}
 use Rattle.au_typing.specs.Calls.{FirstStep, GoodCall, Passes, SecondStep, Shown, Taken, TakenBare, begun}
-use Rattle.au_typing.specs.Calls.{by_labels, each_is_named_once, first_left, in_order, labelled_types}
+use Rattle.au_typing.specs.Calls.{by_labels, each_is_named_once, first_unfixed, in_order, labelled_types}
 use Rattle.au_typing.specs.Lookups.{type_of_name}
 use Rattle.au_typing.specs.Notes.{Mode, Note}
 use Rattle.au_typing.specs.Rules.{int32}
@@ -223,7 +223,7 @@ module _ (heads : List (DeclAt × Head)) (params : List Parameter) where
     not_region universes.AnyType e = refl
     not_region universes.Region e = absurd cc
 
-    pub given_stand : first_left s inner ≡ None → (t : Meaning) → StandsOver heads inner t → Stands (substituted s t)
+    pub given_stand : first_unfixed s inner ≡ None → (t : Meaning) → StandsOver heads inner t → Stands (substituted s t)
     given_stand none t stands =
         formed_kept fits_in_kind fits_in_kind heads inner params s
         (λ name some. by name (universe_in inner name) refl some)

@@ -17,7 +17,7 @@ use Rattle.au_typing.specs.Faults.{Fault, Noting, ◌>>=◌, Why, why, limit, ch
 use Rattle.au_typing.specs.Faults.{not_free, shape, integer_wanted, range_wanted, record_wanted}
 use Rattle.au_typing.specs.Faults.{reference_wanted, write_reference_wanted}
 use Rattle.au_typing.specs.Limits.{limit_among, types_noted, unless_limit, within}
-use Rattle.au_typing.specs.Lookups.{behind, field_type, is_free_in, is_record, part_type, record_part}
+use Rattle.au_typing.specs.Lookups.{target_behind, field_type, is_free_in, is_record, part_type, record_part}
 use Rattle.au_typing.specs.Notes.{Mode, Note, NotedExpression, plain_note, type_of}
 use Rattle.au_typing.specs.Operands.{of_one_type}
 use Rattle.au_typing.specs.Rules.{is_compared, is_integer, literal_kind, noted, wanted_note}
@@ -238,16 +238,16 @@ module _ (scope : Scope) where
       (next : Note → Noting B) → Silent next
       → Tells (arrow_note scope mode fields t >>= next) (of_arrow scope mode fields t)
   arrow_tells mode fields t next quiet =
-      ap fault_of (in_turn (known_or (shape reference_wanted) (behind t))
+      ap fault_of (in_turn (known_or (shape reference_wanted) (target_behind t))
       (λ u. part_note scope mode u fields) next)
-      ∙ known_tells (shape reference_wanted) (behind t) (λ u. part_note scope mode u fields >>= next)
+      ∙ known_tells (shape reference_wanted) (target_behind t) (λ u. part_note scope mode u fields >>= next)
       (λ u. of_part scope u fields (of_read scope mode)) (λ u. part_read_tells mode u fields next quiet)
 
   pub dereference_tells : {B : Type 0} (mode : Mode) (t : Meaning) (next : Note → Noting B) → Silent next
       → Tells (dereference_note scope mode t >>= next) (of_dereference scope mode t)
   dereference_tells mode t next quiet =
-      ap fault_of (in_turn (known_or (shape reference_wanted) (behind t)) (read_note scope mode) next)
-      ∙ known_tells (shape reference_wanted) (behind t) (λ u. read_note scope mode u >>= next)
+      ap fault_of (in_turn (known_or (shape reference_wanted) (target_behind t)) (read_note scope mode) next)
+      ∙ known_tells (shape reference_wanted) (target_behind t) (λ u. read_note scope mode u >>= next)
       (of_read scope mode) (λ u. read_tells mode u next quiet)
 
   pub borrow_part_tells : {B : Type 0} (mode : Mode) (fields : List (Placed Bytes)) (t : Meaning)

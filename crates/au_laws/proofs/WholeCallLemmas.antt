@@ -11,7 +11,7 @@ use Rattle.au_matching.specs.Substituted.{substituted}
 use Rattle.au_judged_types.specs.Bounds.{parameters}
 use Rattle.au_typing.specs.Scopes.{Callable, Scope}
 use Rattle.au_typing.specs.Bare.{is_bare}
-use Rattle.au_typing.specs.Calls.{begun, by_labels, first_lacking, first_left, first_misfit, in_order}
+use Rattle.au_typing.specs.Calls.{begun, by_labels, first_lacking, first_misfit, first_unfixed, in_order}
 use Rattle.au_typing.specs.Calls.{types_of_call, wanted_of}
 use Rattle.au_typing.specs.Faults.{Fault, Noting, ◌>>=◌, Why, why, known_or, unknown, unfixed, different}
 use Rattle.au_typing.specs.Good.{IsNoting, count_of, labels_of}
@@ -74,7 +74,7 @@ called_tells scope mode called z =
     let holding = must_lack (λ pair. why (lacks pair)) (first_lacking scope s (wanted_of called)) [] in
     let fitting = must_lack (λ one. why (misfit s one)) (first_misfit scope s (parameters called.generics))
     holding in
-    unless_tells unfixed (first_left s (parameters called.generics)) (within (types_of_call mode called s) fit)
+    unless_tells unfixed (first_unfixed s (parameters called.generics)) (within (types_of_call mode called s) fit)
     next (in_limits (types_of_call mode called s) fitting)
     (within_tells (types_of_call mode called s) fit next fitting
     (unless_tells (misfit s) (first_misfit scope s (parameters called.generics)) hold next holding

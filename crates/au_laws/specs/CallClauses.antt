@@ -12,7 +12,7 @@ use Rattle.au_instances.specs.Pairs.{Pair}
 use Rattle.au_types.specs.declared.parameters.Parameter.{Parameter}
 use Rattle.au_typing.specs.Scopes.{Callable, Scope, Typed}
 use Rattle.au_typing.specs.Bare.{is_bare}
-use Rattle.au_typing.specs.Calls.{Taken, TakenBare, begun, by_labels, first_lacking, first_left, first_misfit}
+use Rattle.au_typing.specs.Calls.{Taken, TakenBare, begun, by_labels, first_lacking, first_misfit, first_unfixed}
 use Rattle.au_typing.specs.Calls.{in_order, types_of_call, wanted_of}
 use Rattle.au_typing.specs.Faults.{Why, why, unfixed, unknown}
 use Rattle.au_typing.specs.Good.{AllGood, count_of, items_of, labels_of, values_of}
@@ -100,11 +100,11 @@ module _ (scope : Scope) where
     pub one_each : one.takes called.parameters ≡ Some types
     pub from_result : begun mode called.result ≡ Some s
 
-  -- behind the arguments: every type parameter has a value, the types of the note pass no limit, the values
+  -- behind the arguments: every type parameter is fixed, the types of the note pass no limit, the values
   -- fit the universes, and constraints and the method's class hold
   abbrev pub of_called : Mode → Callable → Bindings → List Clause
   of_called mode called s =
-      must_lack (λ name. why (unfixed name)) (first_left s (parameters called.generics))
+      must_lack (λ name. why (unfixed name)) (first_unfixed s (parameters called.generics))
       (in_limits (types_of_call mode called s)
       (must_lack (λ one. why (misfit s one)) (first_misfit scope s (parameters called.generics))
       (must_lack (λ pair. why (lacks pair)) (first_lacking scope s (wanted_of called)) [])))

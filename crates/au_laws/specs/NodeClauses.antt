@@ -15,7 +15,8 @@ use Rattle.au_typing.specs.Scopes.{Scope}
 use Rattle.au_typing.specs.Faults.{Why, why, unknown, different, not_free, shape, integer_wanted}
 use Rattle.au_typing.specs.Faults.{range_wanted, record_wanted, reference_wanted, write_reference_wanted}
 use Rattle.au_typing.specs.Limits.{types_noted}
-use Rattle.au_typing.specs.Lookups.{behind, field_type, is_free_in, is_record, value_type, variable_type}
+use Rattle.au_typing.specs.Lookups.{target_behind, field_type, is_free_in, is_record}
+use Rattle.au_typing.specs.Lookups.{value_type, variable_type}
 use Rattle.au_typing.specs.Notes.{Mode, NotedExpression, type_of}
 use Rattle.au_typing.specs.Rules.{is_compared, is_integer, literal_kind}
 use Rattle.au_laws.specs.Clauses.{Clause, as_wanted, broken, has_type, in_limits, must, must_be}
@@ -79,11 +80,11 @@ module _ (scope : Scope) where
   -- a part behind a reference of this type
   abbrev pub of_arrow : Mode → List (Placed Bytes) → Meaning → List Clause
   of_arrow mode fields t =
-      must_be (shape reference_wanted) (behind t) (λ target. of_part target fields (of_read mode))
+      must_be (shape reference_wanted) (target_behind t) (λ target. of_part target fields (of_read mode))
 
   -- a copy from behind a reference of this type
   abbrev pub of_dereference : Mode → Meaning → List Clause
-  of_dereference mode t = must_be (shape reference_wanted) (behind t) (of_read mode)
+  of_dereference mode t = must_be (shape reference_wanted) (target_behind t) (of_read mode)
 
   -- a reference to a part, from a read reference of this type
   abbrev pub of_borrowed_part : Mode → List (Placed Bytes) → Meaning → List Clause

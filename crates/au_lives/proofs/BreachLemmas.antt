@@ -7,8 +7,8 @@ use Rattle.au_lives.specs.declared.lives.LifeKind.TheVariants as kinds
 use Rattle.au_lives.specs.declared.lives.Sort.{Sort}
 use Rattle.au_lives.specs.declared.lives.Sort.TheVariants as sorts
 use Rattle.au_lives.specs.Paths.{Step}
-use Rattle.au_lives.specs.Lives.{is_untouched, is_ordinary, is_allowed, held, counts_at, consumptions, Fate}
-use Rattle.au_lives.specs.Lives.{going, broken, verdict, onward, at_end, judge, fate}
+use Rattle.au_lives.specs.Lives.{is_untouched, is_ordinary, is_allowed, held_around, counts_at, consumptions}
+use Rattle.au_lives.specs.Lives.{Fate, going, broken, verdict, onward, at_end, judge, fate}
 use Rattle.au_lives.specs.Breaches.{KeepsRules, Breaks, BreaksAtStep, BreaksFirst}
 use Rattle.au_lives.proofs.TurnLemmas.{broken_going}
 use Rattle.au_lives.proofs.GoodLemmas.{times, Rules, rules, judge_broken}
@@ -30,11 +30,11 @@ module _ (x : Bytes) (sort : Sort) where
     pub splits : ss ≡ before ++ (at ∷ after)
     pub state : Bool
     pub reaches : judge x sort (going u) before ≡ going state
-    pub breaks : verdict (held x at.around) (counts_at x sort at) state ≡ broken k
+    pub breaks : verdict (held_around x at.around) (counts_at x sort at) state ≡ broken k
 
   stops : (u : Bool) (k : LifeKind) (ss : List Step) → judge x sort (going u) ss ≡ broken k → Stops u k ss
   stops u k [] h = broken_going k u (sym h)
-  stops u k (s ∷ ss) h = elim (fate_known (verdict (held x s.around) (counts_at x sort s) u)) [
+  stops u k (s ∷ ss) h = elim (fate_known (verdict (held_around x s.around) (counts_at x sort s) u)) [
     | inl w ↦
         let t = stops w.0 k ss (ap (λ f. judge x sort f ss) (sym w.1) ∙ h) in
         record {
@@ -75,7 +75,7 @@ module _ (x : Bytes) (sort : Sort) where
   spent_breaks before s k false e n h = by_kind before s kinds.Again k h (n, e)
 
   live_breaks : (before : List Step) (s : Step) (k : LifeKind) (a b c : Bool) →
-      is_ordinary (counts_at x sort s) ≡ a → is_allowed (held x s.around) (counts_at x sort s) ≡ b →
+      is_ordinary (counts_at x sort s) ≡ a → is_allowed (held_around x s.around) (counts_at x sort s) ≡ b →
       consumptions x sort before ≡ 0 →
       (if a then (if b then going (not c) else broken kinds.Borrowed) else broken kinds.Clash) ≡ broken k →
       Breaks x sort k before s
@@ -84,11 +84,11 @@ module _ (x : Bytes) (sort : Sort) where
   live_breaks before s k false b c e f n h = by_kind before s kinds.Clash k h (n, e)
 
   how : (before : List Step) (s : Step) (k : LifeKind) (w : Bool) → consumptions x sort before ≡ times w →
-      verdict (held x s.around) (counts_at x sort s) w ≡ broken k → Breaks x sort k before s
+      verdict (held_around x s.around) (counts_at x sort s) w ≡ broken k → Breaks x sort k before s
   how before s k true n h = spent_breaks before s k (is_untouched (counts_at x sort s)) refl n h
   how before s k false n h =
       live_breaks before s k (is_ordinary (counts_at x sort s))
-      (is_allowed (held x s.around) (counts_at x sort s)) _ refl refl n h
+      (is_allowed (held_around x s.around) (counts_at x sort s)) _ refl refl n h
 
   at_step : (k : LifeKind) (ss : List Step) → judge x sort (going false) ss ≡ broken k →
       BreaksAtStep x sort k ss

@@ -15,7 +15,7 @@ use Rattle.au_lives.specs.Mentions.{Counts, unmentioned, one_look, one_write_bor
 use Rattle.au_lives.specs.Mentions.{borrowed_by, counts_in, counts_in_all, counts_in_arguments}
 use Rattle.au_lives.specs.Paths.{Met, whole, opening, assignment, assignment_behind, Step}
 use Rattle.au_lives.specs.Lives.{Hold, unlent, read_lent, write_lent, hidden, unless_hidden, opening_counts}
-use Rattle.au_lives.specs.Lives.{met_counts, held, consumptions}
+use Rattle.au_lives.specs.Lives.{met_counts, held_around, consumptions}
 
 none_named : (b : Bool) (k : Counts) → k.consumed ≡ 0 → (if b then k else unmentioned).consumed ≡ 0
 none_named true k h = h
@@ -91,6 +91,6 @@ module _ (x : Bytes) where
   pub none_consumed : (ss : List Step) → consumptions x sorts.Free ss ≡ 0
   none_consumed [] = refl
   none_consumed (s ∷ ss) =
-      none_both (unless_hidden (held x s.around) (met_counts x true s.what)).consumed
+      none_both (unless_hidden (held_around x s.around) (met_counts x true s.what)).consumed
       (consumptions x sorts.Free ss)
-      (none_seen (held x s.around) (met_counts x true s.what) (none_met s.what)) (none_consumed ss)
+      (none_seen (held_around x s.around) (met_counts x true s.what) (none_met s.what)) (none_consumed ss)

@@ -11,8 +11,8 @@ use Rattle.au_lives.specs.declared.lives.Sort.{Sort}
 use Rattle.au_lives.specs.declared.lives.Sort.TheVariants as sorts
 use Rattle.au_lives.specs.Mentions.{Counts, counts}
 use Rattle.au_lives.specs.Paths.{Step}
-use Rattle.au_lives.specs.Lives.{Hold, unlent, read_lent, write_lent, hidden, held, is_quiet, is_exactly}
-use Rattle.au_lives.specs.Lives.{is_untouched, is_ordinary, is_allowed, IsSpent, counts_at}
+use Rattle.au_lives.specs.Lives.{Hold, unlent, read_lent, write_lent, hidden, held_around, is_quiet}
+use Rattle.au_lives.specs.Lives.{is_exactly, is_untouched, is_ordinary, is_allowed, IsSpent, counts_at}
 use Rattle.au_lives.specs.Lives.{UntouchedAfterwards, consumptions, GoodPath, Fate, going, broken, onward}
 use Rattle.au_lives.specs.Lives.{at_end, judge, fate}
 use Rattle.au_lives.proofs.TurnLemmas.{going_same, broken_going}
@@ -105,7 +105,7 @@ module _ (x : Bytes) (sort : Sort) where
   -- the rules on a path, and how often it consumes
   pub record Rules (ss : List Step) (t : Bool) : Type 0 where
     pub ordinary : All (λ s. IsTrue (is_ordinary (on s))) ss
-    pub allowed : All (λ s. IsTrue (is_allowed (held x s.around) (on s))) ss
+    pub allowed : All (λ s. IsTrue (is_allowed (held_around x s.around) (on s))) ss
     pub afterwards : UntouchedAfterwards x sort ss
     pub total : consumptions x sort ss ≡ times t
 
@@ -114,7 +114,7 @@ module _ (x : Bytes) (sort : Sort) where
     pub state : t ≡ true
     pub untouched : All (λ s. IsTrue (is_untouched (on s))) ss
     pub ordinary : All (λ s. IsTrue (is_ordinary (on s))) ss
-    pub allowed : All (λ s. IsTrue (is_allowed (held x s.around) (on s))) ss
+    pub allowed : All (λ s. IsTrue (is_allowed (held_around x s.around) (on s))) ss
     pub afterwards : UntouchedAfterwards x sort ss
     pub total : consumptions x sort ss ≡ 0
 
@@ -123,7 +123,7 @@ module _ (x : Bytes) (sort : Sort) where
     state = sym (going_same true t h);
     untouched = All-nil (λ s. IsTrue (is_untouched (on s)));
     ordinary = All-nil (λ s. IsTrue (is_ordinary (on s)));
-    allowed = All-nil (λ s. IsTrue (is_allowed (held x s.around) (on s)));
+    allowed = All-nil (λ s. IsTrue (is_allowed (held_around x s.around) (on s)));
     afterwards = tt;
     total = refl;
   }
@@ -135,21 +135,21 @@ module _ (x : Bytes) (sort : Sort) where
         state = c.state;
         untouched = All-cons (λ s. IsTrue (is_untouched (on s))) s ss w.0 c.untouched;
         ordinary = All-cons (λ s. IsTrue (is_ordinary (on s))) s ss (ordinary_of (on s) w.0) c.ordinary;
-        allowed = All-cons (λ s. IsTrue (is_allowed (held x s.around) (on s))) s ss
-            (allowed_of (held x s.around) (on s) w.0) c.allowed;
+        allowed = All-cons (λ s. IsTrue (is_allowed (held_around x s.around) (on s))) s ss
+            (allowed_of (held_around x s.around) (on s) w.0) c.allowed;
         afterwards = ((λ n. absurd (n zero)), c.afterwards);
         total = omega (arith, zero, c.total);
       }
 
   rules_step : (s : Step) (ss : List Step) (t c : Bool) → ((on s).consumed == 0) ≡ c → is_ordinary (on s)
-      ≡ true → is_allowed (held x s.around) (on s) ≡ true → judge x sort (going (not c)) ss ≡ going t →
+      ≡ true → is_allowed (held_around x s.around) (on s) ≡ true → judge x sort (going (not c)) ss ≡ going t →
       (judge x sort (going false) ss ≡ going t → Rules ss t) → Rules (s ∷ ss) t
   rules_step s ss t true e a b h more =
       let r = more h in
       let none : (on s).consumed ≡ 0 = eqb-true (on s).consumed 0 e in
       record {
         ordinary = All-cons (λ s. IsTrue (is_ordinary (on s))) s ss a r.ordinary;
-        allowed = All-cons (λ s. IsTrue (is_allowed (held x s.around) (on s))) s ss b r.allowed;
+        allowed = All-cons (λ s. IsTrue (is_allowed (held_around x s.around) (on s))) s ss b r.allowed;
         afterwards = ((λ n. absurd (n none)), r.afterwards);
         total = ap (λ n. n + consumptions x sort ss) none ∙ omega (arith) ∙ r.total;
       }
@@ -159,7 +159,7 @@ module _ (x : Bytes) (sort : Sort) where
       let all : (on s).consumed + consumptions x sort ss ≡ 1 = omega (arith, one, c.total) in
       record {
         ordinary = All-cons (λ s. IsTrue (is_ordinary (on s))) s ss a c.ordinary;
-        allowed = All-cons (λ s. IsTrue (is_allowed (held x s.around) (on s))) s ss b c.allowed;
+        allowed = All-cons (λ s. IsTrue (is_allowed (held_around x s.around) (on s))) s ss b c.allowed;
         afterwards = ((λ n. c.untouched), c.afterwards);
         total = all ∙ ap times (sym c.state);
       }
@@ -167,12 +167,12 @@ module _ (x : Bytes) (sort : Sort) where
   pub rules : (ss : List Step) (t : Bool) → judge x sort (going false) ss ≡ going t → Rules ss t
   rules [] t h = record {
     ordinary = All-nil (λ s. IsTrue (is_ordinary (on s)));
-    allowed = All-nil (λ s. IsTrue (is_allowed (held x s.around) (on s)));
+    allowed = All-nil (λ s. IsTrue (is_allowed (held_around x s.around) (on s)));
     afterwards = tt;
     total = ap times (going_same false t h);
   }
   rules (s ∷ ss) t h =
-      let w = live_going (is_ordinary (on s)) (is_allowed (held x s.around) (on s)) ((on s).consumed == 0) ss
+      let w = live_going (is_ordinary (on s)) (is_allowed (held_around x s.around) (on s)) ((on s).consumed == 0) ss
       t h in
       rules_step s ss t ((on s).consumed == 0) refl w.0 w.1 w.2 (λ g. rules ss t g)
 
@@ -238,17 +238,17 @@ module _ (x : Bytes) (sort : Sort) where
       (true, still ss untouched, omega (arith, one, rest))
 
   ends : (ss : List Step) → All (λ s. IsTrue (is_ordinary (at s))) ss →
-      All (λ s. IsTrue (is_allowed (held x s.around) (at s))) ss → UntouchedAfterwards x sort ss → Ends ss
+      All (λ s. IsTrue (is_allowed (held_around x s.around) (at s))) ss → UntouchedAfterwards x sort ss → Ends ss
   ends [] a b c = (false, refl, refl)
   ends (s ∷ ss) a b c =
       let p = All-head (λ s. IsTrue (is_ordinary (at s))) s ss a in
-      let q = All-head (λ s. IsTrue (is_allowed (held x s.around) (at s))) s ss b in
+      let q = All-head (λ s. IsTrue (is_allowed (held_around x s.around) (at s))) s ss b in
       let r = ends ss (All-tail (λ s. IsTrue (is_ordinary (at s))) s ss a)
-      (All-tail (λ s. IsTrue (is_allowed (held x s.around) (at s))) s ss b) c.1 in
+      (All-tail (λ s. IsTrue (is_allowed (held_around x s.around) (at s))) s ss b) c.1 in
       let w = ends_step s ss ((at s).consumed == 0) refl p c.0 r in (
         w.0,
         ap (λ b. judge x sort
-            (if b then (if is_allowed (held x s.around) (at s) then going (not ((at s).consumed == 0)) else
+            (if b then (if is_allowed (held_around x s.around) (at s) then going (not ((at s).consumed == 0)) else
             broken kinds.Borrowed) else broken kinds.Clash) ss) p
             ∙ ap (λ b. judge x sort (if b then going (not ((at s).consumed == 0)) else broken kinds.Borrowed)
             ss) q

@@ -12,8 +12,8 @@ use Rattle.au_lives.specs.Paths.{Met, whole, opening, Around, lent, declared, St
 use Rattle.au_lives.specs.Paths.{met, with_steps, chose, and_then, turns, count_of_branches, count_of_arms}
 use Rattle.au_lives.specs.Paths.{declared_by, bound_names, access_of, follow, follow_block, follow_branches}
 use Rattle.au_lives.specs.Paths.{follow_arms}
-use Rattle.au_lives.specs.Lives.{Hold, unlent, tighter, hidden, held, held_from, counts_at, Fate, going}
-use Rattle.au_lives.specs.Lives.{broken, verdict, onward, at_end, judge}
+use Rattle.au_lives.specs.Lives.{Hold, unlent, tighter, hidden, held_around, held_from, counts_at, Fate}
+use Rattle.au_lives.specs.Lives.{going, broken, verdict, onward, at_end, judge}
 use Rattle.au_lives.specs.Walks.{Drive, drives, Machine, taking, picking, onto, step_by, in_turn, leave}
 use Rattle.au_lives.specs.Walks.{turning, turns_by, looping, chosen, does, drive, drive_block, drive_branches}
 use Rattle.au_lives.specs.Walks.{drive_arms}
@@ -25,7 +25,7 @@ module _ (x : Bytes) (sort : Sort) where
   pub judge_append : (v : Fate) (a b : List Step) → judge x sort v (a ++ b)
       ≡ judge x sort (judge x sort v a) b
   judge_append v [] b = refl
-  judge_append v (s ∷ a) b = judge_append (onward (verdict (held x s.around) (counts_at x sort s)) v) a b
+  judge_append v (s ∷ a) b = judge_append (onward (verdict (held_around x s.around) (counts_at x sort s)) v) a b
 
   abbrev pub closing : Bool → Fate → Fate
   closing true v = onward (at_end sort) v
@@ -46,8 +46,8 @@ module _ (x : Bytes) (sort : Sort) where
   shows_nothing v cs = ap (λ w. drives w [] cs false) (going_on v)
 
   shows_after : (m' : Met) (os : List Around) (m : Machine) (k : List ℕ → Run) → Shows m k →
-      Shows (in_turn (step_by (does x sort m' (held x os))) m) (λ cs. with_steps (step m' os ∷ []) (k cs))
-  shows_after m' os m k h v cs = h (onward (does x sort m' (held x os)) v) cs
+      Shows (in_turn (step_by (does x sort m' (held_around x os))) m) (λ cs. with_steps (step m' os ∷ []) (k cs))
+  shows_after m' os m k h v cs = h (onward (does x sort m' (held_around x os)) v) cs
 
   seen_on : (v : Fate) (ss : List Step) (t cs : List ℕ) (b : Bool) (m : Machine) (k : List ℕ → Run) →
       Shows m k →
@@ -107,27 +107,27 @@ module _ (x : Bytes) (sort : Sort) where
 
   -- with more that stands round
   shows_inside : (b : PlainStatements) (as' os : List Around) →
-      Shows (drive_block x sort b (held x (as' ++ os))) (follow_block b (as' ++ os)) →
-      Shows (drive_block x sort b (held_from x as' (held x os))) (follow_block b (as' ++ os))
+      Shows (drive_block x sort b (held_around x (as' ++ os))) (follow_block b (as' ++ os)) →
+      Shows (drive_block x sort b (held_from x as' (held_around x os))) (follow_block b (as' ++ os))
   shows_inside b as' os h v cs = ap (λ k. drive_block x sort b k v cs) (sym (held_more as' os unlent))
       ∙ h v cs
 
   mutual
-    pub driven : (s : PlainStatement) (os : List Around) → Shows (drive x sort s (held x os)) (follow s os)
+    pub driven : (s : PlainStatement) (os : List Around) → Shows (drive x sort s (held_around x os)) (follow s os)
     driven (skip at) os v cs = shows_nothing v cs
     driven (declare at binding name t e) os v cs = refl
     driven (destructure at binds e) os v cs = refl
     driven (assign at name fields e) os v cs = refl
     driven (assign_through at name fields e) os v cs = refl
     driven (conditional at bs) os v cs =
-        shows_chosen (count_of_branches bs) (drive_branches x sort bs (held x os) (step_by going))
+        shows_chosen (count_of_branches bs) (drive_branches x sort bs (held_around x os) (step_by going))
         (follow_branches bs os (met [])) (driven_branches bs os (step_by going) (met []) shows_nothing) v
         cs
     driven (conditional_else at bs b) os v cs =
         shows_chosen (count_of_branches bs)
-        (drive_branches x sort bs (held x os) (drive_block x sort b (held x os)))
+        (drive_branches x sort bs (held_around x os) (drive_block x sort b (held_around x os)))
         (follow_branches bs os (follow_block b os))
-        (driven_branches bs os (drive_block x sort b (held x os)) (follow_block b os) (driven_block b os)) v
+        (driven_branches bs os (drive_block x sort b (held_around x os)) (follow_block b os) (driven_block b os)) v
         cs
     driven (case_of at e no_arms) os v cs =
         shows_after (whole e) os (chosen 0 (λ n. step_by going)) (λ ds. chose 0 (met [] (drop 1 ds)))
@@ -135,60 +135,61 @@ module _ (x : Bytes) (sort : Sort) where
         ∙ ap (picking 0) (shows_nothing w (drop 1 ds))) v cs
     driven (case_of at e (arms when' name binds b more)) os v cs =
         let inner = bound_names binds ++ os in
-        let this = drive_block x sort b (held_from x (bound_names binds) (held x os)) in
-        shows_after (whole e) os (chosen (count_of_arms more) (drive_arms x sort more (held x os) this))
+        let this = drive_block x sort b (held_from x (bound_names binds) (held_around x os)) in
+        shows_after (whole e) os (chosen (count_of_arms more) (drive_arms x sort more (held_around x os) this))
         (λ ds. chose (min (first ds) (count_of_arms more))
         (follow_arms more os (follow_block b inner) (first ds) (drop 1 ds)))
-        (shows_chosen (count_of_arms more) (drive_arms x sort more (held x os) this)
+        (shows_chosen (count_of_arms more) (drive_arms x sort more (held_around x os) this)
         (follow_arms more os (follow_block b inner))
         (driven_arms more os this (follow_block b inner)
         (shows_inside b (bound_names binds) os (driven_block b (bound_names binds ++ os))))) v cs
     driven (while_loop at e b) os v cs =
-        shows_turns (does x sort (whole e) (held x os)) (says e os ∷ []) (drive_block x sort b (held x os))
+        shows_turns (does x sort (whole e) (held_around x os)) (says e os ∷ [])
+        (drive_block x sort b (held_around x os))
         (follow_block b os) (λ w. refl) (driven_block b os) v cs
     driven (for_loop at name a z b) os v cs =
         let inner = declared name.name ∷ os in
-        shows_turns going [] (drive_block x sort b (held x inner)) (follow_block b inner) going_on
+        shows_turns going [] (drive_block x sort b (held_around x inner)) (follow_block b inner) going_on
         (driven_block b inner)
-        (onward (does x sort (whole z) (held x os)) (onward (does x sort (whole a) (held x os)) v)) cs
+        (onward (does x sort (whole z) (held_around x os)) (onward (does x sort (whole a) (held_around x os)) v)) cs
     driven (borrow_in at access y r region b stop) os v cs =
         let inner = declared r.name ∷ lent access y.name ∷ os in
-        shows_after (opening access y.name) os (drive_block x sort b (held x inner)) (follow_block b inner)
+        shows_after (opening access y.name) os (drive_block x sort b (held_around x inner)) (follow_block b inner)
         (driven_block b inner) v cs
     driven (borrow_typed at r t mode y b stop) os v cs =
         let inner = declared r.name ∷ lent (access_of mode) y.name ∷ os in
-        shows_after (opening (access_of mode) y.name) os (drive_block x sort b (held x inner))
+        shows_after (opening (access_of mode) y.name) os (drive_block x sort b (held_around x inner))
         (follow_block b inner) (driven_block b inner) v cs
     driven (discard at e) os v cs = refl
     driven (return_of at e) os v cs = refl
 
     pub driven_block : (b : PlainStatements) (os : List Around) →
-        Shows (drive_block x sort b (held x os)) (follow_block b os)
+        Shows (drive_block x sort b (held_around x os)) (follow_block b os)
     driven_block no_statements os v cs = shows_nothing v cs
     driven_block (statements s more) os v cs =
-        ap (λ d. onto d (drive_block x sort more (held_from x (declared_by s) (held x os))))
+        ap (λ d. onto d (drive_block x sort more (held_from x (declared_by s) (held_around x os))))
         (driven s os v cs)
-        ∙ seen_onto v (follow s os cs) (drive_block x sort more (held_from x (declared_by s) (held x os)))
+        ∙ seen_onto v (follow s os cs) (drive_block x sort more (held_from x (declared_by s) (held_around x os)))
         (follow_block more (declared_by s ++ os))
         (shows_inside more (declared_by s) os (driven_block more (declared_by s ++ os)))
 
     pub driven_branches : (bs : PlainBranches) (os : List Around) (other : Machine) (k : List ℕ → Run) →
         Shows other k → (n : ℕ) →
-        Shows (drive_branches x sort bs (held x os) other n) (follow_branches bs os k n)
+        Shows (drive_branches x sort bs (held_around x os) other n) (follow_branches bs os k n)
     driven_branches no_branches os other k h n = h
     driven_branches (branches e b more) os other k h zero =
-        shows_after (whole e) os (drive_block x sort b (held x os)) (follow_block b os) (driven_block b os)
+        shows_after (whole e) os (drive_block x sort b (held_around x os)) (follow_block b os) (driven_block b os)
     driven_branches (branches e b more) os other k h (suc n) =
-        shows_after (whole e) os (drive_branches x sort more (held x os) other n)
+        shows_after (whole e) os (drive_branches x sort more (held_around x os) other n)
         (follow_branches more os k n) (driven_branches more os other k h n)
 
     pub driven_arms : (rest : PlainArms) (os : List Around) (this : Machine) (k : List ℕ → Run) →
-        Shows this k → (n : ℕ) → Shows (drive_arms x sort rest (held x os) this n) (follow_arms rest os k n)
+        Shows this k → (n : ℕ) → Shows (drive_arms x sort rest (held_around x os) this n) (follow_arms rest os k n)
     driven_arms no_arms os this k h n = h
     driven_arms (arms when' name binds b more) os this k h zero = λ v cs. ap (λ w. this w cs) (going_on v)
         ∙ h v cs
     driven_arms (arms when' name binds b more) os this k h (suc n) = λ v cs.
-        let next = drive_block x sort b (held_from x (bound_names binds) (held x os)) in
-        ap (λ w. drive_arms x sort more (held x os) next n w cs) (going_on v)
+        let next = drive_block x sort b (held_from x (bound_names binds) (held_around x os)) in
+        ap (λ w. drive_arms x sort more (held_around x os) next n w cs) (going_on v)
         ∙ driven_arms more os next (follow_block b (bound_names binds ++ os))
         (shows_inside b (bound_names binds) os (driven_block b (bound_names binds ++ os))) n v cs

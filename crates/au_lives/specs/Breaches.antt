@@ -7,7 +7,8 @@ use Rattle.au_lives.specs.declared.lives.LifeKind.TheVariants as kinds
 use Rattle.au_lives.specs.declared.lives.Sort.{Sort}
 use Rattle.au_lives.specs.declared.lives.Sort.TheVariants as sorts
 use Rattle.au_lives.specs.Paths.{Step}
-use Rattle.au_lives.specs.Lives.{is_untouched, is_ordinary, is_allowed, held, counts_at, UntouchedAfterwards}
+use Rattle.au_lives.specs.Lives.{is_untouched, is_ordinary, is_allowed, held_around, counts_at}
+use Rattle.au_lives.specs.Lives.{UntouchedAfterwards}
 use Rattle.au_lives.specs.Lives.{consumptions}
 
 module _ (x : Bytes) (sort : Sort) where
@@ -15,7 +16,7 @@ module _ (x : Bytes) (sort : Sort) where
   -- consumption
   pub record KeepsRules (steps : List Step) : Type 0 where
     pub ordinary : All (λ s. IsTrue (is_ordinary (counts_at x sort s))) steps
-    pub allowed : All (λ s. IsTrue (is_allowed (held x s.around) (counts_at x sort s))) steps
+    pub allowed : All (λ s. IsTrue (is_allowed (held_around x s.around) (counts_at x sort s))) steps
     pub afterwards : UntouchedAfterwards x sort steps
 
   -- How a step breaks the life behind others: it meets x after a consumption; or else what it does can't be
@@ -26,7 +27,7 @@ module _ (x : Bytes) (sort : Sort) where
   Breaks kinds.Borrowed before s =
       (consumptions x sort before ≡ 0)
       × (IsTrue (is_ordinary (counts_at x sort s))
-      × IsFalse (is_allowed (held x s.around) (counts_at x sort s)))
+      × IsFalse (is_allowed (held_around x s.around) (counts_at x sort s)))
   Breaks kinds.Unused before s = ⊥
 
   -- a step of a path breaks the life, and those before it keep the rules

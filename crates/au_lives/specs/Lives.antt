@@ -60,8 +60,8 @@ module _ (x : Bytes) where
   held_from (lent a y ∷ os) h = if bytes_eq y x then tighter a (held_from os h) else held_from os h
   held_from (declared y ∷ os) h = if bytes_eq y x then hidden else held_from os h
 
-  abbrev pub held : List Around → Hold
-  held os = held_from os unlent
+  abbrev pub held_around : List Around → Hold
+  held_around os = held_from os unlent
 
   -- The mentions of the name x in a step, by whether the type of x is Free: an assignment to x or its part
   -- write-borrows, one to what lies behind x looks.
@@ -73,7 +73,7 @@ module _ (x : Bytes) where
 
   -- the mentions of the variable x, and of no other of that name
   abbrev pub step_counts : Bool → Step → Counts
-  step_counts free s = unless_hidden (held s.around) (met_counts free s.what)
+  step_counts free s = unless_hidden (held_around s.around) (met_counts free s.what)
 
 -- neither consumed nor write-borrowed
 abbrev pub is_quiet : Counts → Bool
@@ -124,7 +124,7 @@ module _ (x : Bytes) (sort : Sort) where
   -- the steps of one path use the variable as they may
   pub record GoodPath (steps : List Step) : Type 0 where
     pub ordinary : All (λ s. IsTrue (is_ordinary (counts_at s))) steps
-    pub allowed : All (λ s. IsTrue (is_allowed (held x s.around) (counts_at s))) steps
+    pub allowed : All (λ s. IsTrue (is_allowed (held_around x s.around) (counts_at s))) steps
     pub afterwards : UntouchedAfterwards steps
     pub spent : IsSpent sort (consumptions steps)
 
@@ -268,7 +268,7 @@ module _ (x : Bytes) (sort : Sort) where
   -- step after step
   abbrev pub judge : Fate → List Step → Fate
   judge v [] = v
-  judge v (s ∷ ss) = judge (onward (verdict (held x s.around) (counts_at x sort s)) v) ss
+  judge v (s ∷ ss) = judge (onward (verdict (held_around x s.around) (counts_at x sort s)) v) ss
 
   -- A path: its first step that breaks the life decides, else its end.
   abbrev pub fate : List Step → Fate

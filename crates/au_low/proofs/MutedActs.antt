@@ -31,9 +31,10 @@ use Rattle.au_low.specs.Machines.{stuck, having, where_true, onward, in_world, p
 use Rattle.au_low.specs.Machines.{popping_all, in_slot, has_slot, slot_set, slots_filled, ordered, ordered_if}
 use Rattle.au_low.specs.Machines.{begins, frame_in, frame_ended}
 use Rattle.au_low.specs.Instructions.{instructions, jumps, jumps_unless, comes, stores, puts, slot_part}
-use Rattle.au_low.specs.Instructions.{behind, reference_at, uses, reads_at, both_numbers, slot_numbers, makes}
-use Rattle.au_low.specs.Instructions.{apart, calls, answered, text_bytes, is_type, new_reference, borrowed}
-use Rattle.au_low.specs.Instructions.{borrowed_place, is_of_slot, closes_to, exit_in, returns, on_pair, act}
+use Rattle.au_low.specs.Instructions.{place_along, reference_at, uses, reads_at, both_numbers, slot_numbers}
+use Rattle.au_low.specs.Instructions.{makes, apart, calls, answered, text_bytes, is_type, new_reference}
+use Rattle.au_low.specs.Instructions.{borrowed, borrowed_place, is_of_slot, closes_to, exit_in, returns}
+use Rattle.au_low.specs.Instructions.{on_pair, act}
 use Rattle.au_low.proofs.MutedWorlds.{hushed, pair_hushed, hushed_closes, hushed_at, hushed_exchanged}
 use Rattle.au_low.proofs.MutedCalls.{still, still_shipped}
 
@@ -277,10 +278,10 @@ muted_act code (Shipped call of order) m =
     (ordered_if order values) _ _ (λ values. muted_shipped code call of values k)))
 muted_act code Return m = muted_popping m.operands m _ (λ result k. muted_returns k.waiting result k)
 muted_act code (Read slot path) m = muted_having (reference_at slot m) _ _ (λ one. muted_reads one.0
-    (behind one.1 path) m)
+    (place_along one.1 path) m)
 muted_act code (Put slot path) m =
     muted_having (reference_at slot m) _ _ (λ one. muted_popping m.operands m _ (λ value k. muted_puts
-    (behind one.1 path) value (uses one.0 k)))
+    (place_along one.1 path) value (uses one.0 k)))
 muted_act code Deref m = muted_popping m.operands m _ (λ value k. muted_having (reference_in value) _ _
     (λ one. muted_reads one.0 one.1 k))
 muted_act code (Open slot mode) m = muted_where (is_of_slot mode) _ _ (muted_borrow mode slot m _ _

@@ -29,10 +29,10 @@ use Rattle.au_low.specs.Machines.{stuck, having, where_true, onward, in_world, p
 use Rattle.au_low.specs.Machines.{popping_all, in_slot, has_slot, slot_set, slots_filled, ordered, ordered_if}
 use Rattle.au_low.specs.Machines.{begins, frame_ended, pushes}
 use Rattle.au_low.specs.Instructions.{act, instructions, jumps, jumps_unless, comes, stores, puts, slot_part}
-use Rattle.au_low.specs.Instructions.{behind, reference_at, uses, reads_at, both_numbers, slot_numbers, makes}
-use Rattle.au_low.specs.Instructions.{apart, calls, answered, text_bytes, is_type, new_reference, borrowed}
-use Rattle.au_low.specs.Instructions.{borrowed_place, is_of_slot, exit_in, returns, on_pair, takes_record}
-use Rattle.au_low.specs.Instructions.{goes_to_case}
+use Rattle.au_low.specs.Instructions.{place_along, reference_at, uses, reads_at, both_numbers, slot_numbers}
+use Rattle.au_low.specs.Instructions.{makes, apart, calls, answered, text_bytes, is_type, new_reference}
+use Rattle.au_low.specs.Instructions.{borrowed, borrowed_place, is_of_slot, exit_in, returns, on_pair}
+use Rattle.au_low.specs.Instructions.{takes_record, goes_to_case}
 use Rattle.au_meaning.specs.Laws.{Begins}
 use Rattle.au_lowered.proofs.AnswerLemmas.{begins_refl, begins_trans, begins_told, begins_bears}
 use Rattle.au_lowered.proofs.AnswerLemmas.{begins_spends, AnswerTells, shipped_tells}
@@ -288,12 +288,12 @@ act_tells code (Shipped call of order) m =
 act_tells code Return m = tells_popping m.world.deeds m.operands m _ (λ result rest. tells_returns
     m.world.deeds m.waiting result (record m { operands = rest }) (begins_refl m.world.deeds))
 act_tells code (Read slot path) m = tells_having m.world.deeds (reference_at slot m) _ (λ one. tells_reads
-    m.world.deeds m (begins_refl m.world.deeds) one.0 (behind one.1 path))
+    m.world.deeds m (begins_refl m.world.deeds) one.0 (place_along one.1 path))
 act_tells code (Put slot path) m =
     tells_having m.world.deeds (reference_at slot m) _ (λ one. tells_popping m.world.deeds m.operands m _ (λ
     value rest.
     tells_puts m.world.deeds (uses one.0 (record m { operands = rest })) (begins_told (used one.0) m.world)
-    (behind one.1 path) value))
+    (place_along one.1 path) value))
 act_tells code Deref m = tells_popping m.world.deeds m.operands m _ (λ value rest. tells_having
     m.world.deeds (reference_in value) _ (λ one. tells_reads m.world.deeds (record m { operands = rest })
     (begins_refl m.world.deeds) one.0 one.1))

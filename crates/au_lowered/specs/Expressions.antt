@@ -23,7 +23,7 @@ use Rattle.au_syntax.specs.Expressions.{expressions, no_arguments, arguments}
 use Rattle.au_syntax.specs.Plain.{Bytes}
 use Rattle.au_lowered.specs.Drafts.{pushes_text, makes_case, ships_birth, Written, ◌>>◌, nothing, one, does}
 use Rattle.au_lowered.specs.Drafts.{given, either}
-use Rattle.au_lowered.specs.Slots.{behind}
+use Rattle.au_lowered.specs.Slots.{target_behind}
 
 -- ---- orders of arguments
 
@@ -118,7 +118,7 @@ module _ {T C : Type 0} (see : View ℕ T C) where
 
   abbrev pub part_behind : Option Variable → List Bytes → (ℕ → List ℕ → Written) → Written
   part_behind variable names write =
-      given variable (λ r. given (numbers_along (behind r.of) names) (write r.number))
+      given variable (λ r. given (numbers_along (target_behind r.of) names) (write r.number))
 
   -- an operation on two operands, where the first has a note and the whole another
   abbrev pub joins : Operation → T → T → Written → Written → Written

@@ -23,10 +23,10 @@ use Rattle.au_syntax.specs.Types.{Bound}
 -- ---- references
 
 -- what a reference refers to
-abbrev pub behind : Option ClosedType → Option ClosedType
-behind (Some (types.reads t)) = Some t
-behind (Some (types.writes t)) = Some t
-behind other = None
+abbrev pub target_behind : Option ClosedType → Option ClosedType
+target_behind (Some (types.reads t)) = Some t
+target_behind (Some (types.writes t)) = Some t
+target_behind other = None
 
 -- the type of the reference that a borrow of a variable of a type gives: one that is borrowed again is of the
 -- type of the reference that the variable holds

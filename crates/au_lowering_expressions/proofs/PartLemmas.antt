@@ -6,7 +6,7 @@ use Rattle.au_type_texts.specs.Types.{ClosedType}
 use Rattle.au_effects.specs.Parts.{along}
 use Rattle.au_lowered.specs.Drafts.{Draft, Written, given, nothing}
 use Rattle.au_lowered.specs.Expressions.{looked_at, numbers_along, operand, part_behind, part_of}
-use Rattle.au_lowered.specs.Slots.{behind}
+use Rattle.au_lowered.specs.Slots.{target_behind}
 use Rattle.au_lowering_expressions.specs.Parts.{Part, alone, part_in, part_past}
 use Rattle.au_lowering_expressions.specs.Wrote.{wrote}
 use Rattle.au_lowering_expressions.proofs.WroteLemmas.{wrote_nothing}
@@ -69,7 +69,7 @@ module _ {T C : Type 0} (see : View ℕ T C) where
   pub part_behind_is : (variable : Option Variable) (names : List Bytes) (write : ℕ → List ℕ → Written)
       → part_behind see variable names write ≡ with_part (part_past see variable names) write
   part_behind_is None names write = refl
-  part_behind_is (Some x) names write = found_is (numbers_along see (behind x.of) names)
+  part_behind_is (Some x) names write = found_is (numbers_along see (target_behind x.of) names)
     where
       found_is : (numbers : Option (List ℕ))
           → given numbers (write x.number)

@@ -12,7 +12,7 @@ use Rattle.au_low.specs.declared.instructions.Instr.TheVariants as instr
 use Rattle.au_low.specs.declared.instructions.Mode.TheVariants as mode
 use Rattle.au_lowered.specs.Drafts.{Draft, Written, ◌>>◌, does, either, given, plain}
 use Rattle.au_lowered.specs.Expressions.{mention, numbers_along, part_of}
-use Rattle.au_lowered.specs.Slots.{behind}
+use Rattle.au_lowered.specs.Slots.{target_behind}
 use Rattle.au_meaning.specs.Expressions.{Operation, compares, computes, is_and, is_or, compared_kind, kind_in}
 use Rattle.au_meaning.specs.Expressions.{names_of}
 use Rattle.au_meaning.specs.Names.{Scope, Variable, variable_of}
@@ -38,7 +38,8 @@ module _ {T C : Type 0} (see : View ℕ T C) where
   part_in variable names = along variable (λ x. with_path x.number (numbers_along see x.of names))
 
   abbrev pub part_past : Option Variable → List Bytes → Option Part
-  part_past variable names = along variable (λ x. with_path x.number (numbers_along see (behind x.of) names))
+  part_past variable names =
+      along variable (λ x. with_path x.number (numbers_along see (target_behind x.of) names))
 
 -- what is done with a part: a copy of it is pushed, or of a part of what is referred to, or a reference to it
 abbrev pub looks : ℕ → List ℕ → Written

@@ -13,7 +13,7 @@ ghost use Rattle.au_meaning.specs.Names.{variable_of};
 ghost use Rattle.au_syntax.specs.Views.{placed};
 
 use crate::locals::{Local, find_local};
-use crate::types::behind;
+use crate::types::target_behind;
 use au_base::{Memory, Name, Sequence};
 use au_closed_meanings::Lookup;
 use au_closed_trees::ClosedTrees;
@@ -130,7 +130,7 @@ pub fn part_past<R: Lookup>(
     match find_local(scope, name) {
         None => Ok(None),
         Some(found) => {
-            let numbers = numbers_of(alloc, lookup, behind(&found.of), path)?;
+            let numbers = numbers_of(alloc, lookup, target_behind(&found.of), path)?;
             Ok(with_path(found.slot, numbers))
         }
     }

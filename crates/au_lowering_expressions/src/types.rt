@@ -45,7 +45,7 @@ pub fn compared_kind(of: &Closed) -> Option<Option<IntKind>>
 #[tactic(auto, using(au_type_texts::proofs::ClosedLemmas::closed_steps))]
 fn behind_type(of: &Closed) -> Option<&Closed>
     ensures { option_map closed_meaning (option_copied result)
-        ≡ slots.behind (Some (closed_meaning of.now)) }
+        ≡ slots.target_behind (Some (closed_meaning of.now)) }
 {
     match of {
         Closed::Unit => None,
@@ -59,9 +59,9 @@ fn behind_type(of: &Closed) -> Option<&Closed>
 }
 
 /// The same, where the type may not be known.
-pub fn behind(of: &Option<Closed>) -> Option<&Closed>
+pub fn target_behind(of: &Option<Closed>) -> Option<&Closed>
     ensures { option_map closed_meaning (option_copied result)
-        ≡ slots.behind (option_map closed_meaning of.now) }
+        ≡ slots.target_behind (option_map closed_meaning of.now) }
 {
     match of {
         None => None,

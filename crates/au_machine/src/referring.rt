@@ -4,7 +4,7 @@ ghost use Rattle.std.specs.Prelude.{◌≡◌, ◌<◌, IfOk};
 ghost use Rattle.au_effects.specs.Values.{reference};
 ghost use Rattle.au_effects.specs.Calls.{reference_in};
 ghost use Rattle.au_low.specs.Machines.{pushes, popping, having};
-ghost use Rattle.au_low.specs.Instructions.{reference_at, reads_at, behind, puts, uses};
+ghost use Rattle.au_low.specs.Instructions.{reference_at, reads_at, place_along, puts, uses};
 ghost use Rattle.au_machine.specs.States.{machine_of, turned, most_place, IsQuiet, came_still};
 
 use crate::states::{State, Turn};
@@ -47,7 +47,7 @@ impl State {
         requires { self.now.place < most_place }
         ensures is { IfOk result (λ turn. turned turn self.new
             ≡ having (reference_at slot (machine_of self.old))
-            (λ one. reads_at one.0 (behind one.1 path.now) (machine_of self.old))) }
+            (λ one. reads_at one.0 (place_along one.1 path.now) (machine_of self.old))) }
         ensures quiet { IsQuiet (came_still result) self.old.world self.new.world }
     {
         let Some(cell) = self.held(slot) else {
@@ -71,7 +71,7 @@ impl State {
         requires { self.now.place < most_place }
         ensures is { IfOk result (λ turn. turned turn self.new
             ≡ having (reference_at slot (machine_of self.old))
-            (λ one. pushes (reference one.0 (behind one.1 path.now)) (machine_of self.old))) }
+            (λ one. pushes (reference one.0 (place_along one.1 path.now)) (machine_of self.old))) }
         ensures quiet { IsQuiet (came_still result) self.old.world self.new.world }
     {
         let Some(cell) = self.held(slot) else {
@@ -91,7 +91,7 @@ impl State {
         requires { self.now.place < most_place }
         ensures is { IfOk result (λ turn. turned turn self.new
             ≡ having (reference_at slot (machine_of self.old)) (λ one. popping (machine_of self.old).operands
-            (machine_of self.old) (λ value m. puts (behind one.1 path.now) value (uses one.0 m)))) }
+            (machine_of self.old) (λ value m. puts (place_along one.1 path.now) value (uses one.0 m)))) }
         ensures quiet { IsQuiet (came_still result) self.old.world self.new.world }
     {
         let Some(cell) = self.pop() else {

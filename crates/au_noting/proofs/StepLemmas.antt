@@ -5,13 +5,13 @@ use Rattle.au_types.specs.declared.parameters.Parameter.{Parameter}
 use Rattle.au_types.specs.Types.{Argument, Meaning, of_type, in_region}
 use Rattle.au_matching.specs.Bindings.{Bindings, value_of}
 use Rattle.au_typing.specs.Scopes.{Scope}
-use Rattle.au_typing.specs.Calls.{first_left, first_misfit, is_given, type_values, value_fits}
+use Rattle.au_typing.specs.Calls.{first_misfit, first_unfixed, is_fixed, type_values, value_fits}
 use Rattle.au_noting.specs.Nodes.{type_in}
 use Rattle.au_noting.proofs.WalkLemmas.{walked}
 
-pub left_step : (s : Bindings) (ps : List Parameter) (i : ℕ) (p : Parameter) → slice_get ps i ≡ Some p →
-    first_left s (drop i ps) ≡ (if is_given s p then first_left s (drop (i + 1) ps) else Some p.name)
-left_step s ps i p is = walked (first_left s) ps i p is
+pub unfixed_step : (s : Bindings) (ps : List Parameter) (i : ℕ) (p : Parameter) → slice_get ps i ≡ Some p →
+    first_unfixed s (drop i ps) ≡ (if is_fixed s p then first_unfixed s (drop (i + 1) ps) else Some p.name)
+unfixed_step s ps i p is = walked (first_unfixed s) ps i p is
 
 pub misfit_step : (scope : Scope) (s : Bindings) (ps : List Parameter) (i : ℕ) (p : Parameter) →
     slice_get ps i ≡ Some p →

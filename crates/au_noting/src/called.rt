@@ -29,9 +29,9 @@ use au_syntax::Universe;
 use au_types::{Arg, Parameter, Params, Ty, copy_type};
 use std::alloc::Global;
 
-/// Whether a type parameter stands for something of its kind.
-fn is_given(s: &Substitution, one: &Parameter) -> bool
-    ensures { result ≡ spec.is_given s.now one.now }
+/// Whether a type parameter is fixed: it stands for something of its kind.
+fn is_fixed(s: &Substitution, one: &Parameter) -> bool
+    ensures { result ≡ spec.is_fixed s.now one.now }
 {
     match one.universe {
         Universe::Region => stands_for_region(s, &one.name),
@@ -94,13 +94,13 @@ fn type_of_value(value: &Arg) -> Option<&Ty>
     }
 }
 
-/// The first type parameter in declared order that is left without a value, if one is.
-pub fn first_left<'p>(s: &Substitution, params: &'p Params) -> Option<&'p Name>
-    ensures { option_copied result ≡ spec.first_left s.now params.now }
+/// The first type parameter in declared order that is unfixed, if one is.
+pub fn first_unfixed<'p>(s: &Substitution, params: &'p Params) -> Option<&'p Name>
+    ensures { option_copied result ≡ spec.first_unfixed s.now params.now }
 {
     for index in 0..params.len() {
         let one = params.at(index);
-        if !is_given(s, one) {
+        if !is_fixed(s, one) {
             return Some(&one.name);
         }
     }
@@ -263,7 +263,7 @@ pub fn called_note(
     ensures { Gives note result
         (search.called_note (scope_said scope.now) (wanted mode.entry) (callable_said one.now) s) }
 {
-    match first_left(&s, one.generics.params()) {
+    match first_unfixed(&s, one.generics.params()) {
         Some(name) => Err(unfixed(alloc, name)),
         None => limited_note(alloc, scope, mode, one, s),
     }

@@ -25,7 +25,7 @@ pub enum Cause {
         /// The type that is found.
         found: Ty,
     },
-    /// The call leaves this type parameter without a type.
+    /// The call leaves this type parameter unfixed.
     Unfixed(Name),
     /// The class has no instance at the type.
     NoInstance {
@@ -73,7 +73,7 @@ pub fn unknown(alloc: Global, name: &Name) -> Fault
     }
 }
 
-/// That a type parameter is left without a type.
+/// That a type parameter is unfixed.
 pub fn unfixed(alloc: Global, name: &Name) -> Fault
     ensures { Tells (spec.unfixed name.now) result }
 {

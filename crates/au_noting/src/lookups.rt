@@ -217,8 +217,8 @@ pub fn record_part(
 
 /// The type behind a reference, if the type is one.
 #[tactic(auto, using(au_types::proofs::TypeLemmas::type_steps))]
-pub fn behind(of: &Ty) -> Option<&Ty>
-    ensures { option_map meaning (option_copied result) ≡ spec.behind (meaning of.now) }
+pub fn target_behind(of: &Ty) -> Option<&Ty>
+    ensures { option_map meaning (option_copied result) ≡ spec.target_behind (meaning of.now) }
 {
     match of {
         Ty::Read { to, .. } => Some(to),
@@ -239,9 +239,9 @@ pub fn behind(of: &Ty) -> Option<&Ty>
 /// That a reference is wanted.
 pub fn known_behind(of: &Ty) -> Result<&Ty, Fault>
     ensures { Gives (λ target. meaning target.now) result
-        (faults.known_or (faults.shape faults.reference_wanted) (spec.behind (meaning of.now))) }
+        (faults.known_or (faults.shape faults.reference_wanted) (spec.target_behind (meaning of.now))) }
 {
-    match behind(of) {
+    match target_behind(of) {
         Some(target) => Ok(target),
         None => Err(other_form(Form::Reference)),
     }

@@ -15,8 +15,8 @@ use Rattle.au_syntax.specs.Forms.{some}
 use Rattle.au_syntax.specs.Words as words
 use Rattle.au_syntax.specs.Words.{Words, begun}
 use Rattle.au_read_expressions.specs.Bounds.{Bounds, TreePasses}
-use Rattle.au_read_expressions.specs.Reading.{Read, front, is_front, same_what, behind, closed, pair, shaped}
-use Rattle.au_read_expressions.specs.Reading.{built, repeated, listed, bracketed}
+use Rattle.au_read_expressions.specs.Reading.{Read, front, is_front, same_what, behind_tokens, closed, pair}
+use Rattle.au_read_expressions.specs.Reading.{shaped, built, repeated, listed, bracketed}
 use Rattle.au_read_expressions.specs.Spelling.{Begins, fixed}
 use Rattle.au_read_expressions.proofs.Begins.{begins_split, front_of}
 use Rattle.au_read_expressions.proofs.Forms.{Form, Sound, Finds, Reads, light, anything, behind_reads}
@@ -145,7 +145,7 @@ module _ (b : Bounds) where
       said = behind_said whats k.said;
       ends = k.ends;
       read =
-          behind whats k.read;
+          behind_tokens whats k.read;
       reads = behind_reads (form_of k.said) k.ends k.read k.reads whats;
     }
 

@@ -24,8 +24,8 @@ use Rattle.au_syntax.specs.Words as words
 use Rattle.au_syntax.specs.Words.{Words, AreWords, begun, word, mark, name_words, dotted, renaming_words}
 use Rattle.au_syntax.specs.Words.{declaration_words, import_words, part_words, pragma_words}
 use Rattle.au_read_expressions.specs.Bounds.{Bounds, TreePasses, bytes_limit}
-use Rattle.au_read_expressions.specs.Reading.{Read, front, is_front, begins_with, same_what, read_of, behind}
-use Rattle.au_read_expressions.specs.Reading.{closed, pair, built, exactly}
+use Rattle.au_read_expressions.specs.Reading.{Read, front, is_front, begins_with, same_what, read_of}
+use Rattle.au_read_expressions.specs.Reading.{behind_tokens, closed, pair, built, exactly}
 use Rattle.au_read_expressions.specs.Spelling.{Begins, fixed}
 use Rattle.au_read_expressions.proofs.Steps.{chosen, not_true, when_true, when_false, begins_again, same_is}
 use Rattle.au_read_expressions.proofs.Begins.{begins_split, begun_split, front_of}
@@ -80,7 +80,7 @@ module _ (b : Bounds) where
 
   abbrev from_items_at : List Token → Read (List (Placed Bytes) × List (Renaming Bytes))
   from_items_at = pair (module_name_at b)
-      (behind (Sign LeftParenthesis ∷ [])
+      (behind_tokens (Sign LeftParenthesis ∷ [])
       (closed (Sign RightParenthesis ∷ Sign Semicolon ∷ []) items_known.read))
 
   from_items_reads : Reads from_items anything from_items_at
@@ -92,14 +92,14 @@ module _ (b : Bounds) where
   abbrev import_parts : Form (List (Placed Bytes) × List (Renaming Bytes))
   import_parts = behind_form from_items (Word KwImport ∷ [])
 
-  import_parts_reads : Reads import_parts anything (behind (Word KwImport ∷ []) from_items_at)
+  import_parts_reads : Reads import_parts anything (behind_tokens (Word KwImport ∷ []) from_items_at)
   import_parts_reads = behind_reads from_items anything from_items_at from_items_reads (Word KwImport ∷ [])
 
   no_depth : (l : Limit) → TreePasses b b.nesting 0 [] l → ⊥
   no_depth l p = elim p [ inl q ↦ (let wrong : ⊥ = omega (arith, q.0) in wrong) | inr q ↦ q ]
 
-  import_builds : Builds import_parts (import_form b) anything (behind (Word KwImport ∷ []) from_items_at)
-      import_parts_reads (importing_of b)
+  import_builds : Builds import_parts (import_form b) anything
+      (behind_tokens (Word KwImport ∷ []) from_items_at) import_parts_reads (importing_of b)
   import_builds = record {
     words = λ at x. ap (begun at) (import_group (word KwImport) (dotted x.0) (mark LeftParenthesis)
         (words.listed (map renaming_words x.1)) (mark RightParenthesis) (mark Semicolon));
@@ -116,10 +116,11 @@ module _ (b : Bounds) where
   pub import_reads : Reads (import_form b) anything (import_at b)
   unfolding import_at
   import_reads = record {
-    sound = built_sound import_parts (import_form b) anything (behind (Word KwImport ∷ []) from_items_at)
-        import_parts_reads (importing_of b) import_builds;
-    found = λ i. built_found import_parts (import_form b) anything (behind (Word KwImport ∷ []) from_items_at)
-        import_parts_reads (importing_of b) import_builds i.at (importing_parts i);
+    sound = built_sound import_parts (import_form b) anything
+        (behind_tokens (Word KwImport ∷ []) from_items_at) import_parts_reads (importing_of b) import_builds;
+    found = λ i. built_found import_parts (import_form b) anything
+        (behind_tokens (Word KwImport ∷ []) from_items_at) import_parts_reads (importing_of b) import_builds
+        i.at (importing_parts i);
   }
 
   import_starts : (i : Importing Bytes) (ts rest : List Token) → Begins (import_words i) ts rest →
@@ -398,7 +399,7 @@ module _ (b : Bounds) (low : Lower b) where
     named_form = pair_form (names_form b) (behind_form members_form (Word KwIs ∷ []))
 
     abbrev named_at : List Token → Read Named
-    named_at = pair (module_name_at b) (behind (Word KwIs ∷ []) members_known.read)
+    named_at = pair (module_name_at b) (behind_tokens (Word KwIs ∷ []) members_known.read)
 
     named_reads : Reads named_form anything named_at
     named_reads = pair_behind (names_form b) members_form ends_names anything (module_name_at b)
@@ -408,7 +409,7 @@ module _ (b : Bounds) (low : Lower b) where
     headed_form = behind_form named_form (part_whats part)
 
     abbrev headed_at : List Token → Read Named
-    headed_at = behind (part_whats part) named_at
+    headed_at = behind_tokens (part_whats part) named_at
 
     headed_reads : Reads headed_form anything headed_at
     headed_reads = behind_reads named_form anything named_at named_reads (part_whats part)

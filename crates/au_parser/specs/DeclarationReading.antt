@@ -22,7 +22,8 @@ use Rattle.au_syntax.specs.Plain.{Bytes, PlainExpression, PlainStatements, Plain
 use Rattle.au_syntax.specs.Types.{WrittenType, Labelled}
 use Rattle.au_read_expressions.specs.Bounds.{Bounds}
 use Rattle.au_read_expressions.specs.Reading.{Read, front, is_front, begins_with, no, value_at, name_at, exactly}
-use Rattle.au_read_expressions.specs.Reading.{behind, closed, pair, shaped, built, repeated, listed, bracketed}
+use Rattle.au_read_expressions.specs.Reading.{behind_tokens, closed, pair, shaped, built}
+use Rattle.au_read_expressions.specs.Reading.{repeated, listed, bracketed}
 use Rattle.au_read_expressions.specs.TypeReading.{type_at}
 use Rattle.au_read_expressions.specs.ExpressionReading.{expression_at}
 use Rattle.au_read_statements.specs.StatementReading.{block_at, end_place}
@@ -45,7 +46,7 @@ abbrev pub in_universe_of : Placed Bytes × Universe → InUniverse Bytes
 in_universe_of x = record { name = x.0; universe = x.1 }
 
 abbrev pub in_universe_at : List Token → Read (InUniverse Bytes)
-in_universe_at = shaped in_universe_of (pair name_at (behind (Sign Colon ∷ []) universe_at))
+in_universe_at = shaped in_universe_of (pair name_at (behind_tokens (Sign Colon ∷ []) universe_at))
 
 -- type parameters in brackets, or none
 abbrev pub parameters_at : List Token → Read (List (InUniverse Bytes))
@@ -63,12 +64,13 @@ constrained_at =
 abbrev pub generics_at : List Token → Read (List (Constrained Bytes))
 generics_at tokens =
     cond (begins_with (Word KwGeneric) tokens)
-    (behind (Word KwGeneric ∷ Sign LeftBracket ∷ []) (closed (Sign RightBracket ∷ []) (listed constrained_at))
+    (behind_tokens (Word KwGeneric ∷ Sign LeftBracket ∷ [])
+    (closed (Sign RightBracket ∷ []) (listed constrained_at))
     tokens) (Ok ([], tokens))
 
 -- the head of a type's declaration: its name, type parameters and universe
 abbrev pub type_head_at : List Token → Read (Placed Bytes × (List (InUniverse Bytes) × Universe))
-type_head_at = pair name_at (pair parameters_at (behind (Sign Colon ∷ []) universe_at))
+type_head_at = pair name_at (pair parameters_at (behind_tokens (Sign Colon ∷ []) universe_at))
 
 -- parts with commas between, or none where the token stands that closes them
 abbrev pub maybe_listed : {A : Type 0} → What → (List Token → Read A) → List Token → Read (List A)
@@ -102,15 +104,15 @@ method_of x = record { header = x.0; body = x.1.0; stop = x.1.1 }
 module _ (b : Bounds) where
   -- a field or a parameter
   abbrev pub labelled_at : List Token → Read (Labelled Bytes)
-  labelled_at = shaped labelled_of (pair name_at (behind (Sign Colon ∷ []) (type_at b)))
+  labelled_at = shaped labelled_of (pair name_at (behind_tokens (Sign Colon ∷ []) (type_at b)))
 
   -- a function's name, parameters and result
   unfoldable pub header_at : List Token → Read (Header Bytes)
   header_at =
       shaped header_of
-      (pair name_at (behind (Sign LeftParenthesis ∷ [])
+      (pair name_at (behind_tokens (Sign LeftParenthesis ∷ [])
       (pair (maybe_listed (Sign RightParenthesis) labelled_at)
-      (behind (Sign RightParenthesis ∷ Sign Colon ∷ []) (type_at b)))))
+      (behind_tokens (Sign RightParenthesis ∷ Sign Colon ∷ []) (type_at b)))))
 
   -- a field with its semicolon, and fields one after another
   abbrev pub field_at : List Token → Read (Labelled Bytes)
@@ -123,28 +125,29 @@ module _ (b : Bounds) where
   abbrev pub case_fields_at : List Token → Read (List (Labelled Bytes))
   case_fields_at tokens =
       cond (begins_with (Sign Semicolon) tokens) (shaped no_fields (exactly (Sign Semicolon ∷ [])) tokens)
-      (behind (Word KwIs ∷ []) (shaped first_and_rest (pair field_at members_at)) tokens)
+      (behind_tokens (Word KwIs ∷ []) (shaped first_and_rest (pair field_at members_at)) tokens)
 
   -- a case of a union
   unfoldable pub variant_at : List Token → Read (Variant Bytes)
-  variant_at = shaped variant_of (behind (Word KwCase ∷ []) (pair name_at case_fields_at))
+  variant_at = shaped variant_of (behind_tokens (Word KwCase ∷ []) (pair name_at case_fields_at))
 
   -- a method of a class
   unfoldable pub class_method_at : List Token → Read (Header Bytes)
-  class_method_at = behind (Word KwMethod ∷ []) (closed (Sign Semicolon ∷ []) header_at)
+  class_method_at = behind_tokens (Word KwMethod ∷ []) (closed (Sign Semicolon ∷ []) header_at)
 
   -- a method of an instance
   unfoldable pub method_at : List Token → Read PlainMethod
   method_at =
-      shaped method_of (behind (Word KwMethod ∷ [])
-      (pair header_at (behind (Word KwIs ∷ [])
+      shaped method_of (behind_tokens (Word KwMethod ∷ [])
+      (pair header_at (behind_tokens (Word KwIs ∷ [])
       (pair (block_at b b.nesting) (closed (Sign Semicolon ∷ []) end_place)))))
 
   -- the class and the type of an instance
   unfoldable pub instance_head_at : List Token → Read (Placed Bytes × WrittenType)
   instance_head_at =
-      behind (Word KwInstance ∷ [])
-      (pair name_at (behind (Sign LeftParenthesis ∷ []) (closed (Sign RightParenthesis ∷ []) (type_at b))))
+      behind_tokens (Word KwInstance ∷ [])
+      (pair name_at
+      (behind_tokens (Sign LeftParenthesis ∷ []) (closed (Sign RightParenthesis ∷ []) (type_at b))))
 
 -- ---- declarations
 
@@ -187,57 +190,58 @@ class_of at x = class at x.0 x.1.0 x.1.1
 module _ (b : Bounds) where
   unfoldable pub constant_at : List Token → Read PlainDeclaration
   constant_at =
-      built constant_of (behind (Word KwConstant ∷ [])
-      (pair name_at (behind (Sign Colon ∷ []) (closed (Sign Semicolon ∷ []) (type_at b)))))
+      built constant_of (behind_tokens (Word KwConstant ∷ [])
+      (pair name_at (behind_tokens (Sign Colon ∷ []) (closed (Sign Semicolon ∷ []) (type_at b)))))
 
   unfoldable pub constant_body_at : List Token → Read PlainDeclaration
   constant_body_at =
       built constant_body_of
-      (behind (Word KwConstant ∷ [])
-      (pair name_at (behind (Sign Colon ∷ [])
-      (pair (type_at b) (behind (Sign Assign ∷ [])
+      (behind_tokens (Word KwConstant ∷ [])
+      (pair name_at (behind_tokens (Sign Colon ∷ [])
+      (pair (type_at b) (behind_tokens (Sign Assign ∷ [])
       (closed (Sign Semicolon ∷ []) (expression_at b b.nesting)))))))
 
   unfoldable pub opaque_at : List Token → Read PlainDeclaration
-  opaque_at = built opaque_of (behind (Word KwType ∷ []) (closed (Sign Semicolon ∷ []) type_head_at))
+  opaque_at = built opaque_of (behind_tokens (Word KwType ∷ []) (closed (Sign Semicolon ∷ []) type_head_at))
 
   unfoldable pub record_at : List Token → Read PlainDeclaration
   record_at =
-      built record_of (behind (Word KwRecord ∷ [])
-      (pair type_head_at (behind (Word KwIs ∷ [])
+      built record_of (behind_tokens (Word KwRecord ∷ [])
+      (pair type_head_at (behind_tokens (Word KwIs ∷ [])
       (closed (Word KwEnd ∷ Sign Semicolon ∷ []) (members_at b)))))
 
   unfoldable pub union_at : List Token → Read PlainDeclaration
   union_at =
       built union_of
-      (behind (Word KwUnion ∷ [])
-      (pair type_head_at (behind (Word KwIs ∷ [])
+      (behind_tokens (Word KwUnion ∷ [])
+      (pair type_head_at (behind_tokens (Word KwIs ∷ [])
       (closed (Word KwEnd ∷ Sign Semicolon ∷ []) (repeated (is_front (Word KwCase)) (variant_at b))))))
 
   unfoldable pub class_at : List Token → Read PlainDeclaration
   class_at =
       built class_of
-      (behind (Word KwTypeclass ∷ [])
-      (pair name_at (behind (Sign LeftParenthesis ∷ [])
-      (pair in_universe_at (behind (Sign RightParenthesis ∷ Word KwIs ∷ [])
+      (behind_tokens (Word KwTypeclass ∷ [])
+      (pair name_at (behind_tokens (Sign LeftParenthesis ∷ [])
+      (pair in_universe_at (behind_tokens (Sign RightParenthesis ∷ Word KwIs ∷ [])
       (closed (Word KwEnd ∷ Sign Semicolon ∷ [])
       (repeated (is_front (Word KwMethod)) (class_method_at b))))))))
 
   -- what stands behind the type parameters, in an interface and in a body
   abbrev pub generalized_in : Part → Option What → List Token → Read Generalized
   generalized_in Interface (Some (Word KwFunction)) tokens =
-      shaped a_function (behind (Word KwFunction ∷ []) (closed (Sign Semicolon ∷ []) (header_at b))) tokens
+      shaped a_function
+      (behind_tokens (Word KwFunction ∷ []) (closed (Sign Semicolon ∷ []) (header_at b))) tokens
   generalized_in Interface other tokens =
       shaped an_instance (closed (Sign Semicolon ∷ []) (instance_head_at b)) tokens
   generalized_in Body (Some (Word KwFunction)) tokens =
       shaped a_function_body
-      (behind (Word KwFunction ∷ [])
-      (pair (header_at b) (behind (Word KwIs ∷ [])
+      (behind_tokens (Word KwFunction ∷ [])
+      (pair (header_at b) (behind_tokens (Word KwIs ∷ [])
       (pair (block_at b b.nesting) (closed (Sign Semicolon ∷ []) end_place))))) tokens
   generalized_in Body other tokens =
       shaped an_instance_body
       (pair (instance_head_at b)
-      (behind (Word KwIs ∷ [])
+      (behind_tokens (Word KwIs ∷ [])
       (closed (Word KwEnd ∷ Sign Semicolon ∷ []) (repeated (is_front (Word KwMethod)) (method_at b))))) tokens
 
   unfoldable pub generalized_at : Part → List Token → Read Generalized

@@ -16,7 +16,8 @@ use Rattle.au_syntax.specs.Names.{Placed, Renaming}
 use Rattle.au_syntax.specs.Plain.{Bytes, PlainDeclaration, PlainModule}
 use Rattle.au_read_expressions.specs.declared.faults.Fault.TheVariants.{Passed}
 use Rattle.au_read_expressions.specs.Bounds.{Bounds, bytes_limit}
-use Rattle.au_read_expressions.specs.Reading.{Read, ◌>>=◌, is_front, begins_with, no, name_at, exactly, behind, closed}
+use Rattle.au_read_expressions.specs.Reading.{Read, ◌>>=◌, is_front, begins_with, no, name_at}
+use Rattle.au_read_expressions.specs.Reading.{exactly, behind_tokens, closed}
 use Rattle.au_read_expressions.specs.Reading.{pair, shaped, built, before_all, repeated, listed}
 use Rattle.au_read_statements.specs.StatementReading.{renaming_at}
 use Rattle.au_parser.specs.DeclarationReading.{begins_declaration, declaration_at}
@@ -54,8 +55,8 @@ module _ (b : Bounds) where
   unfoldable pub import_at : List Token → Read (Importing Bytes)
   import_at =
       built importing_of
-      (behind (Word KwImport ∷ [])
-      (pair module_name_at (behind (Sign LeftParenthesis ∷ [])
+      (behind_tokens (Word KwImport ∷ [])
+      (pair module_name_at (behind_tokens (Sign LeftParenthesis ∷ [])
       (closed (Sign RightParenthesis ∷ Sign Semicolon ∷ []) (listed renaming_at)))))
 
   abbrev pub imports_at : List Token → Read (List (Importing Bytes))
@@ -112,9 +113,9 @@ module _ (b : Bounds) where
   unfoldable pub parts_with : Part → List Token → Read ModuleParts
   parts_with part =
       built (parts_of part)
-      (behind (part_whats part)
+      (behind_tokens (part_whats part)
       (pair (module_name_at b)
-      (behind (Word KwIs ∷ [])
+      (behind_tokens (Word KwIs ∷ [])
       (pair pragma_at (closed (end_whats part)
       (repeated (begins_declaration part) (declaration_at b part)))))))
 

@@ -26,7 +26,7 @@ use std::alloc::Global;
 /// Reads `:`, a type and `;`.
 fn last_type(alloc: Global, tokens: &[Token]) -> Result<(TypeText, &[Token]), Stop>
     ensures { Gives (λ x. (views.written x.0, x.1.now)) result
-        (steps.behind (what.Sign sign.Colon ∷ [])
+        (steps.behind_tokens (what.Sign sign.Colon ∷ [])
         (steps.closed (what.Sign sign.Semicolon ∷ []) (type_at usual)) tokens.now) }
 {
     let rest = expect(&[Expected::Sign(Sign::Colon)], tokens)?;
@@ -50,7 +50,7 @@ fn boxed(alloc: Global, tokens: &[Token]) -> Result<(Box<Expr<Parsed>>, &[Token]
 /// Reads `:=`, an expression and `;`.
 fn last_value(alloc: Global, tokens: &[Token]) -> Result<(Box<Expr<Parsed>>, &[Token]), Stop>
     ensures { Gives (λ x. (views.expression ⟦<Parsed as Phase>⟧ x.0.value, x.1.now)) result
-        (steps.behind (what.Sign sign.Assign ∷ [])
+        (steps.behind_tokens (what.Sign sign.Assign ∷ [])
         (steps.closed (what.Sign sign.Semicolon ∷ []) (expression_at usual usual.nesting)) tokens.now) }
 {
     let rest = expect(&[Expected::Sign(Sign::Assign)], tokens)?;
@@ -68,8 +68,8 @@ fn type_and_value(
 ) -> Result<(TypeText, Box<Expr<Parsed>>, &[Token]), Stop>
     ensures { Gives (λ x. ((views.written x.0, views.expression ⟦<Parsed as Phase>⟧ x.1.value), x.2.now))
         result
-        (steps.behind (what.Sign sign.Colon ∷ []) (steps.pair (type_at usual)
-        (steps.behind (what.Sign sign.Assign ∷ [])
+        (steps.behind_tokens (what.Sign sign.Colon ∷ []) (steps.pair (type_at usual)
+        (steps.behind_tokens (what.Sign sign.Assign ∷ [])
         (steps.closed (what.Sign sign.Semicolon ∷ []) (expression_at usual usual.nesting)))) tokens.now) }
 {
     let rest = expect(&[Expected::Sign(Sign::Colon)], tokens)?;

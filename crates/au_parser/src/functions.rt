@@ -77,7 +77,7 @@ fn ended_place(tokens: &[Token]) -> Result<(Pos, &[Token]), Stop>
 /// Reads `is` and a block up to its `end;`, and returns the place of the `end`.
 fn function_block(alloc: Global, tokens: &[Token]) -> Result<(Block<Parsed>, Pos, &[Token]), Stop>
     ensures { Gives (λ x. ((views.block ⟦<Parsed as Phase>⟧ x.0, x.1), x.2.now)) result
-        (steps.behind (what.Word word.KwIs ∷ [])
+        (steps.behind_tokens (what.Word word.KwIs ∷ [])
         (steps.pair (block_at usual usual.nesting)
         (steps.closed (what.Sign sign.Semicolon ∷ []) statements.end_place)) tokens.now) }
 {
@@ -97,8 +97,8 @@ fn headed_block(
 ) -> Result<(Signature<Parsed>, Block<Parsed>, Pos, &[Token]), Stop>
     ensures { Gives (λ x.
         ((views.header ⟦<Parsed as Phase>⟧ x.0, (views.block ⟦<Parsed as Phase>⟧ x.1, x.2)), x.3.now)) result
-        (steps.behind (what.Word first ∷ []) (steps.pair (header_at usual)
-        (steps.behind (what.Word word.KwIs ∷ [])
+        (steps.behind_tokens (what.Word first ∷ []) (steps.pair (header_at usual)
+        (steps.behind_tokens (what.Word word.KwIs ∷ [])
         (steps.pair (block_at usual usual.nesting)
         (steps.closed (what.Sign sign.Semicolon ∷ []) statements.end_place)))) tokens.now) }
 {
@@ -150,7 +150,7 @@ fn class_methods(
     tokens: &[Token],
 ) -> Result<(Vec<Signature<Parsed>>, &[Token]), Stop>
     ensures { Gives (λ x. (map (views.header ⟦<Parsed as Phase>⟧) x.0.items, x.1.now)) result
-        (steps.behind (what.Sign sign.RightParenthesis ∷ what.Word word.KwIs ∷ [])
+        (steps.behind_tokens (what.Sign sign.RightParenthesis ∷ what.Word word.KwIs ∷ [])
         (steps.closed (what.Word word.KwEnd ∷ what.Sign sign.Semicolon ∷ [])
         (steps.repeated (steps.is_front (what.Word word.KwMethod)) (class_method_at usual))) tokens.now) }
 {
@@ -171,8 +171,8 @@ fn class_parts(
       (views.in_universe ⟦<Parsed as Phase>⟧ x.0, map (views.header ⟦<Parsed as Phase>⟧) x.1.items),
       x.2.now,
     )) result
-        (steps.behind (what.Sign sign.LeftParenthesis ∷ []) (steps.pair in_universe_at
-        (steps.behind (what.Sign sign.RightParenthesis ∷ what.Word word.KwIs ∷ [])
+        (steps.behind_tokens (what.Sign sign.LeftParenthesis ∷ []) (steps.pair in_universe_at
+        (steps.behind_tokens (what.Sign sign.RightParenthesis ∷ what.Word word.KwIs ∷ [])
         (steps.closed (what.Word word.KwEnd ∷ what.Sign sign.Semicolon ∷ [])
         (steps.repeated (steps.is_front (what.Word word.KwMethod)) (class_method_at usual))))) tokens.now) }
 {
@@ -209,7 +209,7 @@ fn function_signature(
     tokens: &[Token],
 ) -> Result<(Signature<Parsed>, &[Token]), Stop>
     ensures { Gives (λ x. (views.header ⟦<Parsed as Phase>⟧ x.0, x.1.now)) result
-        (steps.behind (what.Word word.KwFunction ∷ [])
+        (steps.behind_tokens (what.Word word.KwFunction ∷ [])
         (steps.closed (what.Sign sign.Semicolon ∷ []) (header_at usual)) tokens.now) }
 {
     let rest = expect(&[Expected::Word(Keyword::KwFunction)], tokens)?;
@@ -299,7 +299,7 @@ fn instance_parts(
       x.2.now,
     )) result
         (steps.pair (instance_head_at usual)
-        (steps.behind (what.Word word.KwIs ∷ [])
+        (steps.behind_tokens (what.Word word.KwIs ∷ [])
         (steps.closed (what.Word word.KwEnd ∷ what.Sign sign.Semicolon ∷ [])
         (steps.repeated (steps.is_front (what.Word word.KwMethod)) (method_at usual)))) tokens.now) }
 {

@@ -67,7 +67,7 @@ pub fn module_name(alloc: Global, tokens: &[Token]) -> Result<(Vec<Ident<Parsed>
 /// Reads the names of an import in their parentheses, and `;`.
 fn imported(alloc: Global, tokens: &[Token]) -> Result<(Vec<Renamed<Parsed>>, &[Token]), Stop>
     ensures { Gives (λ x. (map (views.renaming ⟦<Parsed as Phase>⟧) x.0.items, x.1.now)) result
-        (steps.behind (what.Sign sign.LeftParenthesis ∷ [])
+        (steps.behind_tokens (what.Sign sign.LeftParenthesis ∷ [])
         (steps.closed (what.Sign sign.RightParenthesis ∷ what.Sign sign.Semicolon ∷ [])
         (steps.listed renaming_at)) tokens.now) }
 {

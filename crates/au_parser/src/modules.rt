@@ -1,7 +1,8 @@
 //! The module of a file.
 
 ghost use Rattle.std.specs.Prelude.{◌≡◌, ◌∷◌, [], drop, map};
-ghost use Rattle.au_read_expressions.specs.Reading.{Gives, begins_with, behind, closed, pair, repeated, tokens_at};
+ghost use Rattle.au_read_expressions.specs.Reading.{Gives, begins_with, behind_tokens, closed};
+ghost use Rattle.au_read_expressions.specs.Reading.{pair, repeated, tokens_at};
 ghost use Rattle.au_parser.specs.DeclarationReading.{begins_declaration, declaration_at};
 ghost use Rattle.au_read_expressions.specs.Bounds.{usual};
 ghost use Rattle.au_base.specs.declared.tokens.Keyword.TheVariants as word;
@@ -93,7 +94,7 @@ fn contents(
     tokens: &[Token],
 ) -> Result<(Option<Pos>, Vec<Decl<Parsed>>, &[Token]), Stop>
     ensures { Gives (λ x. ((x.0, map (views.declaration ⟦<Parsed as Phase>⟧) x.1.items), x.2.now)) result
-        (behind (what.Word word.KwIs ∷ []) (pair pragma_at
+        (behind_tokens (what.Word word.KwIs ∷ []) (pair pragma_at
         (closed (end_whats part) (repeated (begins_declaration part) (declaration_at usual part))))
         tokens.now) }
 {

@@ -49,7 +49,7 @@ pub fn universe(tokens: &[Token]) -> Result<(Universe, &[Token]), Stop>
 /// Reads `:` and a universe.
 fn universe_behind(tokens: &[Token]) -> Result<(Universe, &[Token]), Stop>
     ensures { Gives (λ x. (x.0, x.1.now)) result
-        (steps.behind (what.Sign sign.Colon ∷ []) universe_at tokens.now) }
+        (steps.behind_tokens (what.Sign sign.Colon ∷ []) universe_at tokens.now) }
 {
     let rest = expect(&[Expected::Sign(Sign::Colon)], tokens)?;
     universe(rest)
@@ -153,7 +153,7 @@ fn parameters_and_universe(
     tokens: &[Token],
 ) -> Result<(Vec<TypeParameter<Parsed>>, Universe, &[Token]), Stop>
     ensures { Gives (λ x. ((map (views.in_universe ⟦<Parsed as Phase>⟧) x.0.items, x.1), x.2.now)) result
-        (steps.pair parameters_at (steps.behind (what.Sign sign.Colon ∷ []) universe_at) tokens.now) }
+        (steps.pair parameters_at (steps.behind_tokens (what.Sign sign.Colon ∷ []) universe_at) tokens.now) }
 {
     let (parameters, rest) = bracketed::<TypeParameterPart>(
         alloc,
@@ -199,7 +199,7 @@ pub fn type_head(alloc: Global, tokens: &[Token]) -> Result<(TypeHead, &[Token])
 /// Reads `:` and a type.
 fn type_behind(alloc: Global, tokens: &[Token]) -> Result<(TypeText, &[Token]), Stop>
     ensures { Gives (λ x. (views.written x.0, x.1.now)) result
-        (steps.behind (what.Sign sign.Colon ∷ []) (type_at usual) tokens.now) }
+        (steps.behind_tokens (what.Sign sign.Colon ∷ []) (type_at usual) tokens.now) }
 {
     let rest = expect(&[Expected::Sign(Sign::Colon)], tokens)?;
     written_type(alloc, rest)
@@ -252,7 +252,7 @@ fn parameters(alloc: Global, tokens: &[Token]) -> Result<(Vec<Field<Parsed>>, &[
 /// Reads `)`, `:` and a function's result.
 fn function_result(alloc: Global, tokens: &[Token]) -> Result<(TypeText, &[Token]), Stop>
     ensures { Gives (λ x. (views.written x.0, x.1.now)) result
-        (steps.behind (what.Sign sign.RightParenthesis ∷ what.Sign sign.Colon ∷ []) (type_at usual)
+        (steps.behind_tokens (what.Sign sign.RightParenthesis ∷ what.Sign sign.Colon ∷ []) (type_at usual)
         tokens.now) }
 {
     let closing = [
@@ -270,9 +270,9 @@ fn parameters_and_result(
 ) -> Result<(Vec<Field<Parsed>>, TypeText, &[Token]), Stop>
     ensures { Gives (λ x. ((map (views.labelled ⟦<Parsed as Phase>⟧) x.0.items, views.written x.1), x.2.now))
         result
-        (steps.behind (what.Sign sign.LeftParenthesis ∷ [])
+        (steps.behind_tokens (what.Sign sign.LeftParenthesis ∷ [])
         (steps.pair (reading.maybe_listed (what.Sign sign.RightParenthesis) (labelled_at usual))
-        (steps.behind (what.Sign sign.RightParenthesis ∷ what.Sign sign.Colon ∷ []) (type_at usual)))
+        (steps.behind_tokens (what.Sign sign.RightParenthesis ∷ what.Sign sign.Colon ∷ []) (type_at usual)))
         tokens.now) }
 {
     let rest = expect(&[Expected::Sign(Sign::LeftParenthesis)], tokens)?;
@@ -319,7 +319,7 @@ pub struct InstanceHead {
 /// Reads a type in parentheses.
 fn parenthesized_type(alloc: Global, tokens: &[Token]) -> Result<(TypeText, &[Token]), Stop>
     ensures { Gives (λ x. (views.written x.0, x.1.now)) result
-        (steps.behind (what.Sign sign.LeftParenthesis ∷ [])
+        (steps.behind_tokens (what.Sign sign.LeftParenthesis ∷ [])
         (steps.closed (what.Sign sign.RightParenthesis ∷ []) (type_at usual)) tokens.now) }
 {
     let rest = expect(&[Expected::Sign(Sign::LeftParenthesis)], tokens)?;
@@ -379,7 +379,7 @@ pub fn inner_entries<E: Entry>(
     tokens: &[Token],
 ) -> Result<(Vec<E::Item>, &[Token]), Stop>
     ensures { Gives (λ x. (map E.see x.0.items, x.1.now)) result
-        (steps.behind (what.Word word.KwIs ∷ [])
+        (steps.behind_tokens (what.Word word.KwIs ∷ [])
         (steps.closed (what.Word word.KwEnd ∷ what.Sign sign.Semicolon ∷ [])
         (steps.repeated E.begins_by E.read_at)) tokens.now) }
 {

@@ -19,7 +19,7 @@ use Rattle.au_syntax.specs.Forms.{is_atom, is_call, formed_expression}
 use Rattle.au_syntax.specs.Plain.{PlainExpression}
 use Rattle.au_syntax.specs.Words.{expression_words}
 use Rattle.au_read_expressions.specs.Bounds.{Bounds}
-use Rattle.au_read_expressions.specs.Reading.{Read, front, name_at, behind, closed, pair, built, fields_at}
+use Rattle.au_read_expressions.specs.Reading.{Read, front, name_at, behind_tokens, closed, pair, built, fields_at}
 use Rattle.au_read_expressions.specs.Spelling.{Begins}
 use Rattle.au_read_expressions.proofs.Steps.{not_read}
 use Rattle.au_read_expressions.proofs.Begins.{first_word, front_of}
@@ -55,10 +55,10 @@ ends_dots w h = refl
 module _ (b : Bounds) (n : ℕ) (r q : List Token → Read PlainExpression)
     (inner : Reads (expression_form b n) ends_expression r) (atoms : Reads (atom_form b n) ends_atom q) where
   parenthesized_row : Row (atom_form b (suc n)) anything parenthesized_of
-      (behind (Sign LeftParenthesis ∷ []) (closed (Sign RightParenthesis ∷ []) r))
+      (behind_tokens (Sign LeftParenthesis ∷ []) (closed (Sign RightParenthesis ∷ []) r))
   parenthesized_row = row (behind_form (closed_form (expression_form b n) (Sign RightParenthesis ∷ []))
       (Sign LeftParenthesis ∷ [])) (atom_form b (suc n)) anything
-      (behind (Sign LeftParenthesis ∷ []) (closed (Sign RightParenthesis ∷ []) r))
+      (behind_tokens (Sign LeftParenthesis ∷ []) (closed (Sign RightParenthesis ∷ []) r))
       (behind_reads (closed_form (expression_form b n) (Sign RightParenthesis ∷ [])) anything
       (closed (Sign RightParenthesis ∷ []) r)
       (closed_reads (expression_form b n) ends_expression r inner (Sign RightParenthesis) [] refl)
@@ -71,9 +71,9 @@ module _ (b : Bounds) (n : ℕ) (r q : List Token → Read PlainExpression)
         passes = λ at e l p. one_passes b n (expression_depth e) (expression_types e) l p;
       })
 
-  dereference_row : Row (atom_form b (suc n)) ends_atom dereference_of (behind (Sign Exclamation ∷ []) q)
+  dereference_row : Row (atom_form b (suc n)) ends_atom dereference_of (behind_tokens (Sign Exclamation ∷ []) q)
   dereference_row = row (behind_form (atom_form b n) (Sign Exclamation ∷ [])) (atom_form b (suc n)) ends_atom
-      (behind (Sign Exclamation ∷ []) q)
+      (behind_tokens (Sign Exclamation ∷ []) q)
       (behind_reads (atom_form b n) ends_atom q atoms (Sign Exclamation ∷ [])) dereference_of (record {
         words = λ at e. refl;
         some = λ e. omega arith;

@@ -20,8 +20,8 @@ use Rattle.au_syntax.specs.Plain.{Bytes, PlainExpression, PlainExpressions, Plai
 use Rattle.au_syntax.specs.Words.{Words, begun, mark, listed, name_words, expression_words}
 use Rattle.au_syntax.specs.Words.{words_of_expressions, words_of_arguments}
 use Rattle.au_read_expressions.specs.Bounds.{Bounds, TreePasses}
-use Rattle.au_read_expressions.specs.Reading.{Read, front, is_front, name_at, exactly, behind, closed, pair}
-use Rattle.au_read_expressions.specs.Reading.{shaped, built, listed as listed_at}
+use Rattle.au_read_expressions.specs.Reading.{Read, front, is_front, name_at, exactly, behind_tokens, closed}
+use Rattle.au_read_expressions.specs.Reading.{pair, shaped, built, listed as listed_at}
 use Rattle.au_read_expressions.specs.Spelling.{Begins, fixed}
 use Rattle.au_read_expressions.proofs.Begins.{begins_split, front_of}
 use Rattle.au_read_expressions.proofs.Forms.{Form, Sound, Finds, Reads, Shapes, anything, light, behind_form}
@@ -337,7 +337,7 @@ module _ (b : Bounds) (n : ℕ) (r q : List Token → Read PlainExpression)
       (arguments_types (arguments_of args)) l p
 
   abbrev call_parts : List Token → Read (Placed Bytes × Given)
-  call_parts = pair name_at (behind (Sign LeftParenthesis ∷ []) (given_at r q))
+  call_parts = pair name_at (behind_tokens (Sign LeftParenthesis ∷ []) (given_at r q))
 
   call_row : Row (call_form b (suc n)) anything call_of call_parts
   call_row = row (pair_form name_form (behind_form (given_form b n) (Sign LeftParenthesis ∷ [])))

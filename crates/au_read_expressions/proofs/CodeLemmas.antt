@@ -11,8 +11,8 @@ use Rattle.au_base.specs.declared.tokens.What.{What}
 use Rattle.au_base.specs.declared.tokens.What.TheVariants.{Word, Sign, Name, Number, Text}
 use Rattle.au_read_expressions.specs.Bounds.{Bounds}
 use Rattle.au_read_expressions.specs.Reading.{Read, ◌>>=◌, front, is_front, begins_with, place_of, name_at}
-use Rattle.au_read_expressions.specs.Reading.{tokens_at, nothing_at, behind, joined_at, joined_with, built_at}
-use Rattle.au_read_expressions.specs.Reading.{closed, shaped, listed, exactly}
+use Rattle.au_read_expressions.specs.Reading.{tokens_at, nothing_at, behind_tokens, joined_at, joined_with}
+use Rattle.au_read_expressions.specs.Reading.{built_at, closed, shaped, listed, exactly}
 use Rattle.au_read_expressions.proofs.Steps.{given, when_true}
 use Rattle.au_read_expressions.specs.Arguments.{argument, called, called_by_name, called_in_order}
 use Rattle.au_read_expressions.specs.ExpressionReading.{site, call_of, begins_atom, begins_expression}
@@ -194,7 +194,7 @@ module _ (inner inner_atom : List Token → Read PlainExpression) where
         → call_with inner inner_atom ts ≡ called inner inner_atom at name rest
     unfolding call_with called
     call_called ts mid rest place named open_here =
-        ap (λ r. r >>= joined_at (behind (Sign LeftParenthesis ∷ []) (given_at inner inner_atom)) >>=
+        ap (λ r. r >>= joined_at (behind_tokens (Sign LeftParenthesis ∷ []) (given_at inner inner_atom)) >>=
         built_at (call_of (place_of ts))) named
         ∙ ap (λ r. r >>= given_at inner inner_atom >>= joined_with name >>= built_at (call_of (place_of ts))) open_here
         ∙ ap (λ p. given_at inner inner_atom rest >>= joined_with name >>= built_at (call_of p)) (sym place)

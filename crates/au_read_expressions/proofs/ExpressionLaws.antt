@@ -22,7 +22,7 @@ use Rattle.au_syntax.specs.Words.{Words, begun, mark, word, type_words, expressi
 use Rattle.au_read_expressions.specs.declared.faults.Fault.TheVariants.{Passed}
 use Rattle.au_read_expressions.specs.Bounds.{Bounds, TreePasses, nesting_limit}
 use Rattle.au_read_expressions.specs.Reading.{Read, ◌>>=◌, front, place_of, is_front, begins_with, read_of}
-use Rattle.au_read_expressions.specs.Reading.{behind, pair}
+use Rattle.au_read_expressions.specs.Reading.{behind_tokens, pair}
 use Rattle.au_read_expressions.specs.Spelling.{Begins, fixed}
 use Rattle.au_read_expressions.proofs.Steps.{not_read, bind_ok, chosen, when_true, when_false, begins_is}
 use Rattle.au_read_expressions.proofs.Begins.{begins_split, begins_join, begun_split, begun_join, front_of}
@@ -70,9 +70,9 @@ three_types c a z = append_assoc (expression_types c) (expression_types a) (expr
 
 module _ (b : Bounds) (n : ℕ) (r q : List Token → Read PlainExpression)
     (inner : Reads (expression_form b n) ends_expression r) (atoms : Reads (atom_form b n) ends_atom q) where
-  negation_row : Row (expression_form b (suc n)) ends_atom negation_of (behind (Word KwNot ∷ []) q)
+  negation_row : Row (expression_form b (suc n)) ends_atom negation_of (behind_tokens (Word KwNot ∷ []) q)
   negation_row = row (behind_form (atom_form b n) (Word KwNot ∷ [])) (expression_form b (suc n)) ends_atom
-      (behind (Word KwNot ∷ []) q)
+      (behind_tokens (Word KwNot ∷ []) q)
       (behind_reads (atom_form b n) ends_atom q atoms (Word KwNot ∷ [])) negation_of (record {
         words = λ at e. refl;
         some = λ e. omega arith;
@@ -89,7 +89,7 @@ module _ (b : Bounds) (n : ℕ) (r q : List Token → Read PlainExpression)
   ways_form = pair_form (expression_form b n) last_form
 
   abbrev ways_at : List Token → Read (PlainExpression × PlainExpression)
-  ways_at = pair r (behind (Word KwElse ∷ []) r)
+  ways_at = pair r (behind_tokens (Word KwElse ∷ []) r)
 
   ways_reads : Reads ways_form ends_expression ways_at
   ways_reads = pair_behind (expression_form b n) (expression_form b n) ends_expression ends_expression r inner
@@ -100,11 +100,11 @@ module _ (b : Bounds) (n : ℕ) (r q : List Token → Read PlainExpression)
       (Word KwIf ∷ [])
 
   abbrev choice_parts : List Token → Read (PlainExpression × (PlainExpression × PlainExpression))
-  choice_parts = behind (Word KwIf ∷ []) (pair r (behind (Word KwThen ∷ []) ways_at))
+  choice_parts = behind_tokens (Word KwIf ∷ []) (pair r (behind_tokens (Word KwThen ∷ []) ways_at))
 
   choice_reads : Reads choice_form ends_expression choice_parts
   choice_reads = behind_reads (pair_form (expression_form b n) (behind_form ways_form (Word KwThen ∷ [])))
-      ends_expression (pair r (behind (Word KwThen ∷ []) ways_at))
+      ends_expression (pair r (behind_tokens (Word KwThen ∷ []) ways_at))
       (pair_behind (expression_form b n) ways_form ends_expression ends_expression r inner ways_at ways_reads
       (Word KwThen) [] refl) (Word KwIf ∷ [])
 

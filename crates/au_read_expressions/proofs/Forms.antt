@@ -9,7 +9,7 @@ use Rattle.au_base.specs.declared.tokens.Token.{Token}
 use Rattle.au_base.specs.declared.tokens.What.{What}
 use Rattle.au_syntax.specs.Words.{Words, begun}
 use Rattle.au_read_expressions.specs.declared.faults.Fault.TheVariants.{Passed}
-use Rattle.au_read_expressions.specs.Reading.{Read, ◌>>=◌, front, place_of, tokens_at, read_of, behind}
+use Rattle.au_read_expressions.specs.Reading.{Read, ◌>>=◌, front, place_of, tokens_at, read_of, behind_tokens}
 use Rattle.au_read_expressions.specs.Reading.{closed_at, closed, joined_with, joined_at, pair, built_at}
 use Rattle.au_read_expressions.specs.Reading.{shaped, built}
 use Rattle.au_read_expressions.specs.Spelling.{Begins, fixed}
@@ -94,7 +94,7 @@ module _ {A : Type 0} (form : Form A) where
   }
 
   module _ (ends : Option What → Bool) (read : List Token → Read A) (reads : Reads form ends read) where
-    pub behind_reads : (whats : List What) → Reads (behind_form whats) ends (behind whats read)
+    pub behind_reads : (whats : List What) → Reads (behind_form whats) ends (behind_tokens whats read)
     behind_reads whats = record {
       sound = λ ts rest x e.
           let b = bind_ok (tokens_at whats ts) read (x, rest) e in
@@ -188,10 +188,10 @@ module _ {A B : Type 0} (form : Form A) (other : Form B) (ends next : Option Wha
     (read : List Token → Read A) (reads : Reads form ends read) (after : List Token → Read B)
     (follows : Reads other next after) where
   pub pair_behind : (what : What) (whats : List What) → ends (Some what) ≡ true
-      → Reads (pair_form form (behind_form other (what ∷ whats))) next (pair read (behind (what ∷ whats) after))
+      → Reads (pair_form form (behind_form other (what ∷ whats))) next (pair read (behind_tokens (what ∷ whats) after))
   pair_behind what whats stops =
-      pair_reads form (behind_form other (what ∷ whats)) ends next read reads (behind (what ∷ whats) after)
-      (behind_reads other next after follows (what ∷ whats))
+      pair_reads form (behind_form other (what ∷ whats)) ends next read reads
+      (behind_tokens (what ∷ whats) after) (behind_reads other next after follows (what ∷ whats))
       (λ y ts rest h good ended.
       let s = begins_split (fixed (what ∷ whats)) (other.words y) ts rest h in
       ap ends (front_of (fixed (what ∷ whats)) ts s.0 (omega arith) s.1) ∙ stops)

@@ -16,8 +16,8 @@ use Rattle.au_syntax.specs.Names.{Placed}
 use Rattle.au_syntax.specs.Plain.{Bytes}
 use Rattle.au_syntax.specs.Words.{begun, mark, name_words}
 use Rattle.au_read_expressions.specs.Bounds.{Bounds}
-use Rattle.au_read_expressions.specs.Reading.{is_front, name_at, number_at, text_at, exactly, behind, closed}
-use Rattle.au_read_expressions.specs.Reading.{pair, dotted_at, fields_at}
+use Rattle.au_read_expressions.specs.Reading.{is_front, name_at, number_at, text_at, exactly, behind_tokens}
+use Rattle.au_read_expressions.specs.Reading.{closed, pair, dotted_at, fields_at}
 use Rattle.au_read_expressions.specs.Spelling.{fixed}
 use Rattle.au_read_expressions.proofs.Forms.{Form, Reads, anything, light, behind_form, behind_reads}
 use Rattle.au_read_expressions.proofs.Forms.{closed_form, closed_reads, pair_form, pair_after, pair_behind}
@@ -74,9 +74,9 @@ module _ (b : Bounds) (n : ℕ) where
     passes = λ at x l p. absurd p;
   })
 
-  pub negative_row : Row (atom_form b (suc n)) anything negative_of (behind (Sign Minus ∷ []) number_at)
+  pub negative_row : Row (atom_form b (suc n)) anything negative_of (behind_tokens (Sign Minus ∷ []) number_at)
   negative_row = row (behind_form number_form (Sign Minus ∷ [])) (atom_form b (suc n)) anything
-      (behind (Sign Minus ∷ []) number_at)
+      (behind_tokens (Sign Minus ∷ []) number_at)
       (behind_reads number_form anything number_at number_reads (Sign Minus ∷ [])) negative_of (record {
         words = λ at x. refl;
         some = λ x. omega arith;
@@ -129,9 +129,10 @@ module _ (b : Bounds) (n : ℕ) where
         passes = λ at x l p. absurd p;
       })
 
-  pub read_borrow_row : Row (atom_form b (suc n)) anything (borrow_of mode.Read) (behind (Sign ReadBorrow ∷ []) name_at)
+  pub read_borrow_row : Row (atom_form b (suc n)) anything (borrow_of mode.Read)
+      (behind_tokens (Sign ReadBorrow ∷ []) name_at)
   read_borrow_row = row (behind_form name_form (Sign ReadBorrow ∷ [])) (atom_form b (suc n)) anything
-      (behind (Sign ReadBorrow ∷ []) name_at)
+      (behind_tokens (Sign ReadBorrow ∷ []) name_at)
       (behind_reads name_form anything name_at name_reads (Sign ReadBorrow ∷ [])) (borrow_of mode.Read) (record {
         words = λ at x. refl;
         some = λ x. omega arith;
@@ -142,9 +143,9 @@ module _ (b : Bounds) (n : ℕ) where
       })
 
   pub write_borrow_row : Row (atom_form b (suc n)) anything (borrow_of mode.Write)
-      (behind (Sign WriteBorrow ∷ []) name_at)
+      (behind_tokens (Sign WriteBorrow ∷ []) name_at)
   write_borrow_row = row (behind_form name_form (Sign WriteBorrow ∷ [])) (atom_form b (suc n)) anything
-      (behind (Sign WriteBorrow ∷ []) name_at)
+      (behind_tokens (Sign WriteBorrow ∷ []) name_at)
       (behind_reads name_form anything name_at name_reads (Sign WriteBorrow ∷ [])) (borrow_of mode.Write) (record {
         words = λ at x. refl;
         some = λ x. omega arith;
@@ -154,9 +155,10 @@ module _ (b : Bounds) (n : ℕ) where
         passes = λ at x l p. absurd p;
       })
 
-  pub reborrow_row : Row (atom_form b (suc n)) anything (borrow_of mode.Reborrow) (behind (Sign Reborrow ∷ []) name_at)
+  pub reborrow_row : Row (atom_form b (suc n)) anything (borrow_of mode.Reborrow)
+      (behind_tokens (Sign Reborrow ∷ []) name_at)
   reborrow_row = row (behind_form name_form (Sign Reborrow ∷ [])) (atom_form b (suc n)) anything
-      (behind (Sign Reborrow ∷ []) name_at)
+      (behind_tokens (Sign Reborrow ∷ []) name_at)
       (behind_reads name_form anything name_at name_reads (Sign Reborrow ∷ [])) (borrow_of mode.Reborrow) (record {
         words = λ at x. refl;
         some = λ x. omega arith;
@@ -191,10 +193,11 @@ module _ (b : Bounds) (n : ℕ) where
   })
 
   pub borrow_part_row : Row (atom_form b (suc n)) anything borrow_part_of
-      (behind (Sign ReadBorrow ∷ Sign LeftParenthesis ∷ []) (closed (Sign RightParenthesis ∷ []) arrow_parts))
+      (behind_tokens (Sign ReadBorrow ∷ Sign LeftParenthesis ∷ [])
+      (closed (Sign RightParenthesis ∷ []) arrow_parts))
   borrow_part_row = row (behind_form (closed_form arrow_form (Sign RightParenthesis ∷ []))
       (Sign ReadBorrow ∷ Sign LeftParenthesis ∷ [])) (atom_form b (suc n)) anything
-      (behind (Sign ReadBorrow ∷ Sign LeftParenthesis ∷ []) (closed (Sign RightParenthesis ∷ []) arrow_parts))
+      (behind_tokens (Sign ReadBorrow ∷ Sign LeftParenthesis ∷ []) (closed (Sign RightParenthesis ∷ []) arrow_parts))
       (behind_reads (closed_form arrow_form (Sign RightParenthesis ∷ [])) anything
       (closed (Sign RightParenthesis ∷ []) arrow_parts)
       (closed_reads arrow_form ends_names arrow_parts arrow_reads (Sign RightParenthesis) [] refl)

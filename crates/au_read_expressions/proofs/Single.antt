@@ -9,8 +9,8 @@ use Rattle.au_syntax.specs.Plain.{Bytes}
 use Rattle.au_syntax.specs.Words.{Words, name_words, literal_words}
 use Rattle.au_syntax.specs.declared.expressions.Literal.{Literal}
 use Rattle.au_read_expressions.specs.Reading.{◌>>=◌, is_front, tokens_at, nothing_at, exactly, read_of}
-use Rattle.au_read_expressions.specs.Reading.{behind, value_or_no, name_of, name_at, literal_of, number_at}
-use Rattle.au_read_expressions.specs.Reading.{bytes_of, text_at, dotted_at, fields_at}
+use Rattle.au_read_expressions.specs.Reading.{behind_tokens, value_or_no, name_of, name_at, literal_of}
+use Rattle.au_read_expressions.specs.Reading.{number_at, bytes_of, text_at, dotted_at, fields_at}
 use Rattle.au_read_expressions.specs.Spelling.{Begins, fixed}
 use Rattle.au_read_expressions.proofs.Steps.{ok_same, bind_ok}
 use Rattle.au_read_expressions.proofs.Begins.{tokens_take, tokens_again, front_of}
@@ -119,14 +119,14 @@ pub dotted_reads : Reads (separated_form name_form (fixed (Sign Dot ∷ [])))
 dotted_reads = separated_reads name_form anything name_at name_reads (λ x good. omega arith) (Sign Dot) refl
 
 -- names behind dots
-field_reads : Reads (behind_form name_form (Sign Dot ∷ [])) anything (behind (Sign Dot ∷ []) name_at)
+field_reads : Reads (behind_form name_form (Sign Dot ∷ [])) anything (behind_tokens (Sign Dot ∷ []) name_at)
 field_reads = behind_reads name_form anything name_at name_reads (Sign Dot ∷ [])
 
 pub fields_reads : Reads (repeated_form (behind_form name_form (Sign Dot ∷ [])))
     (λ what. not (is_front (Sign Dot) what) && true) fields_at
 fields_reads =
     repeated_reads (behind_form name_form (Sign Dot ∷ [])) anything (is_front (Sign Dot))
-    (behind (Sign Dot ∷ []) name_at) field_reads
+    (behind_tokens (Sign Dot ∷ []) name_at) field_reads
     (λ x ts rest h good. ap (is_front (Sign Dot))
     (front_of (fixed (Sign Dot ∷ []) ++ name_words x) ts rest (omega arith) h))
     (λ x good. omega arith)

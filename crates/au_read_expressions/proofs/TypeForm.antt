@@ -18,7 +18,7 @@ use Rattle.au_syntax.specs.Types.{WrittenType, WrittenTypes, named, reference, n
 use Rattle.au_syntax.specs.Words.{access_sign, begun, mark, name_words, listed_in, type_words, words_of_types}
 use Rattle.au_read_expressions.specs.declared.faults.Fault.TheVariants.{Syntax, Passed}
 use Rattle.au_read_expressions.specs.Bounds.{Bounds, TypePasses, depth_limit, nodes_limit}
-use Rattle.au_read_expressions.specs.Reading.{Read, front, name_at, read_of, no, behind, closed, pair, bracketed}
+use Rattle.au_read_expressions.specs.Reading.{Read, front, name_at, read_of, no, behind_tokens, closed, pair, bracketed}
 use Rattle.au_read_expressions.specs.Spelling.{Begins}
 use Rattle.au_read_expressions.proofs.Steps.{not_read, chosen, when_true, when_false}
 use Rattle.au_read_expressions.proofs.Begins.{front_of, begins_shorter}
@@ -127,7 +127,7 @@ module _ (b : Bounds) (d : ℕ) where
     region_at = closed (Sign RightBracket ∷ []) name_at
 
     abbrev target_at : List Token → Read (WrittenType × Placed Bytes)
-    target_at = pair inner (behind (Sign Comma ∷ []) region_at)
+    target_at = pair inner (behind_tokens (Sign Comma ∷ []) region_at)
 
     region_reads : Reads region_form anything region_at
     region_reads = closed_reads name_form anything name_at name_reads (Sign RightBracket) [] refl
@@ -137,13 +137,13 @@ module _ (b : Bounds) (d : ℕ) where
         region_reads (Sign Comma) [] refl
 
     reference_reads : (mode : Access) → Reads (reference_parts mode) anything
-        (behind (Sign (access_sign mode) ∷ Sign LeftBracket ∷ []) target_at)
+        (behind_tokens (Sign (access_sign mode) ∷ Sign LeftBracket ∷ []) target_at)
     reference_reads mode = behind_reads target_form anything target_at target_reads
         (Sign (access_sign mode) ∷ Sign LeftBracket ∷ [])
 
     reference_builds : (mode : Access)
         → Builds (reference_parts mode) (within_form b (suc d)) anything
-        (behind (Sign (access_sign mode) ∷ Sign LeftBracket ∷ []) target_at) (reference_reads mode)
+        (behind_tokens (Sign (access_sign mode) ∷ Sign LeftBracket ∷ []) target_at) (reference_reads mode)
         (reference_of mode)
     reference_builds mode = record {
       words = λ at x. ap (λ ws. begun at (mark (access_sign mode) ++ (mark LeftBracket ++ ws)))
@@ -165,11 +165,11 @@ module _ (b : Bounds) (d : ℕ) where
         t e
     by_sound (Some (Sign ReadBorrow)) ts rest t e =
         built_sound (reference_parts access.Read) (within_form b (suc d)) anything
-        (behind (Sign ReadBorrow ∷ Sign LeftBracket ∷ []) target_at) (reference_reads access.Read)
+        (behind_tokens (Sign ReadBorrow ∷ Sign LeftBracket ∷ []) target_at) (reference_reads access.Read)
         (reference_of access.Read) (reference_builds access.Read) ts rest t e
     by_sound (Some (Sign WriteBorrow)) ts rest t e =
         built_sound (reference_parts access.Write) (within_form b (suc d)) anything
-        (behind (Sign WriteBorrow ∷ Sign LeftBracket ∷ []) target_at) (reference_reads access.Write)
+        (behind_tokens (Sign WriteBorrow ∷ Sign LeftBracket ∷ []) target_at) (reference_reads access.Write)
         (reference_of access.Write) (reference_builds access.Write) ts rest t e
     by_sound other ts rest t e = absurd (not_read _ (t, rest) e)
 
@@ -186,7 +186,7 @@ module _ (b : Bounds) (d : ℕ) where
         → Finds (within_form b (suc d)) (reference at mode target region) rest (reference_with inner mode ts)
     reference_found mode at target region ts rest h =
         built_found (reference_parts mode) (within_form b (suc d)) anything
-        (behind (Sign (access_sign mode) ∷ Sign LeftBracket ∷ []) target_at) (reference_reads mode)
+        (behind_tokens (Sign (access_sign mode) ∷ Sign LeftBracket ∷ []) target_at) (reference_reads mode)
         (reference_of mode) (reference_builds mode) at (target, region) ts rest h refl refl
 
     by_found : (t : WrittenType) (ts rest : List Token) → Begins (type_words t) ts rest →

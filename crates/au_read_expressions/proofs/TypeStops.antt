@@ -16,7 +16,7 @@ use Rattle.au_read_expressions.specs.declared.faults.Fault.{Fault}
 use Rattle.au_read_expressions.specs.declared.faults.Fault.TheVariants.{Syntax, Passed}
 use Rattle.au_read_expressions.specs.Bounds.{Bounds}
 use Rattle.au_read_expressions.specs.Reading.{Read, ◌>>=◌, no, same_what, begins_with, token_at, tokens_at}
-use Rattle.au_read_expressions.specs.Reading.{value_or_no, name_of, name_at, read_of, behind, closed_at, closed}
+use Rattle.au_read_expressions.specs.Reading.{value_or_no, name_of, name_at, read_of, behind_tokens, closed_at, closed}
 use Rattle.au_read_expressions.specs.Reading.{joined_with, joined_at, pair, built_at, before_all, after_part}
 use Rattle.au_read_expressions.specs.Reading.{separated_at, listed, bracketed}
 use Rattle.au_read_expressions.proofs.Steps.{given, when_true, when_false, token_again}
@@ -114,7 +114,7 @@ closed_name = closed (Sign RightBracket ∷ []) name_at
 
 region_goes : (n m : ℕ) (inside : List Within) (ts : List Token)
     → At n m (awaits.Behind, within.Target ∷ inside) ts
-    → Goes n rest_of (At n m (awaits.Behind, inside)) (behind (Sign Comma ∷ []) closed_name ts)
+    → Goes n rest_of (At n m (awaits.Behind, inside)) (behind_tokens (Sign Comma ∷ []) closed_name ts)
 region_goes n m inside ts h =
     goes_on n all_of (At n m (awaits.Region, inside)) rest_of (At n m (awaits.Behind, inside))
     (tokens_at (Sign Comma ∷ []) ts) closed_name
@@ -261,7 +261,7 @@ module _ (d : ℕ) (inner : List Token → Read WrittenType) (reads : Inside d i
 
   -- a reference
   abbrev target_at : List Token → Read (WrittenType × Placed Bytes)
-  target_at = pair inner (behind (Sign Comma ∷ []) closed_name)
+  target_at = pair inner (behind_tokens (Sign Comma ∷ []) closed_name)
 
   target_goes : (n m : ℕ) (inside : List Within) → m ≤ suc d → (ts : List Token)
       → At n m (awaits.Type, within.Target ∷ inside) ts
@@ -269,10 +269,10 @@ module _ (d : ℕ) (inner : List Token → Read WrittenType) (reads : Inside d i
   target_goes n m inside small ts h =
       goes_on n rest_of (At n (length ts) (awaits.Behind, within.Target ∷ inside))
       rest_of (At n m (awaits.Behind, inside))
-      (inner ts) (joined_at (behind (Sign Comma ∷ []) closed_name))
+      (inner ts) (joined_at (behind_tokens (Sign Comma ∷ []) closed_name))
       (reads n (within.Target ∷ inside) ts (omega (arith, small, h.1)) h.0)
       (λ x e. goes_on n rest_of (At n m (awaits.Behind, inside)) rest_of (At n m (awaits.Behind, inside))
-      (behind (Sign Comma ∷ []) closed_name x.1) (joined_with x.0)
+      (behind_tokens (Sign Comma ∷ []) closed_name x.1) (joined_with x.0)
       (region_goes n m inside x.1 (e.0, omega (arith, h.1, e.1))) (λ y r. r))
 
   reference_goes : (n : ℕ) (inside : List Within) (mode : Access) (t : Token) (ts : List Token)
@@ -283,7 +283,7 @@ module _ (d : ℕ) (inner : List Token → Read WrittenType) (reads : Inside d i
       (((r >>= tokens_at (Sign LeftBracket ∷ [])) >>= target_at) >>= built_at (reference_of mode t.at)))
       (sym (token_again (Sign (access_sign mode)) t ts is))
       (goes_on n rest_of (At n m (awaits.Behind, inside)) rest_of (At n m (awaits.Behind, inside))
-      (behind (Sign LeftBracket ∷ []) target_at ts) (built_at (reference_of mode t.at))
+      (behind_tokens (Sign LeftBracket ∷ []) target_at ts) (built_at (reference_of mode t.at))
       (goes_on n all_of (At n m (awaits.Type, within.Target ∷ inside))
       rest_of (At n m (awaits.Behind, inside)) (tokens_at (Sign LeftBracket ∷ []) ts) target_at
       (one_goes n m (awaits.Target, inside) (Sign LeftBracket) (awaits.Type, within.Target ∷ inside) ts

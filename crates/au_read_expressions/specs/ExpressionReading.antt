@@ -29,7 +29,8 @@ use Rattle.au_syntax.specs.Plain.{Bytes, PlainExpression, PlainExpressions, Plai
 use Rattle.au_read_expressions.specs.declared.faults.Fault.TheVariants.{Passed}
 use Rattle.au_read_expressions.specs.Bounds.{Bounds, nesting_limit}
 use Rattle.au_read_expressions.specs.Reading.{Read, ◌>>=◌, front, place_of, begins_with, no, name_at, number_at}
-use Rattle.au_read_expressions.specs.Reading.{text_at, exactly, behind, closed, pair, shaped, built, listed, dotted_at}
+use Rattle.au_read_expressions.specs.Reading.{text_at, exactly, behind_tokens, closed, pair}
+use Rattle.au_read_expressions.specs.Reading.{shaped, built, listed, dotted_at}
 use Rattle.au_read_expressions.specs.Reading.{fields_at}
 use Rattle.au_read_expressions.specs.TypeReading.{type_at}
 
@@ -158,13 +159,13 @@ choice_of at x = choice (site at) x.0 x.1.0 x.1.1
 
 -- a name and the fields of a part behind a reference
 abbrev pub arrow_parts : List Token → Read (Placed Bytes × List (Placed Bytes))
-arrow_parts = pair name_at (behind (Sign Arrow ∷ []) dotted_at)
+arrow_parts = pair name_at (behind_tokens (Sign Arrow ∷ []) dotted_at)
 
 -- `inner` reads what is nested, and `inner_atom` an atom that is nested
 module _ (inner inner_atom : List Token → Read PlainExpression) where
   -- an argument by the name of its parameter
   abbrev pub labelled : List Token → Read (Placed Bytes × PlainExpression)
-  labelled = pair name_at (behind (Sign FatArrow ∷ []) inner)
+  labelled = pair name_at (behind_tokens (Sign FatArrow ∷ []) inner)
 
   abbrev pub none_given : Unit {0} → Given
   none_given x = in_order []
@@ -182,7 +183,7 @@ module _ (inner inner_atom : List Token → Read PlainExpression) where
 
   -- a call
   unfoldable pub call_with : List Token → Read PlainExpression
-  call_with = built call_of (pair name_at (behind (Sign LeftParenthesis ∷ []) given_at))
+  call_with = built call_of (pair name_at (behind_tokens (Sign LeftParenthesis ∷ []) given_at))
 
   -- what begins with a name: the next token tells which
   abbrev pub named_by : Option What → List Token → Read PlainExpression
@@ -193,29 +194,30 @@ module _ (inner inner_atom : List Token → Read PlainExpression) where
   -- what begins with `&`
   abbrev pub borrowed_by : Option What → List Token → Read PlainExpression
   borrowed_by (Some (Sign LeftParenthesis)) tokens =
-      built borrow_part_of (behind (Sign ReadBorrow ∷ Sign LeftParenthesis ∷ [])
+      built borrow_part_of (behind_tokens (Sign ReadBorrow ∷ Sign LeftParenthesis ∷ [])
       (closed (Sign RightParenthesis ∷ []) arrow_parts)) tokens
-  borrowed_by other tokens = built (borrow_of mode.Read) (behind (Sign ReadBorrow ∷ []) name_at) tokens
+  borrowed_by other tokens = built (borrow_of mode.Read) (behind_tokens (Sign ReadBorrow ∷ []) name_at) tokens
 
   -- an atom, by its first two tokens
   abbrev pub atom_by : Option What → Option What → List Token → Read PlainExpression
   atom_by (Some (Number value digits)) second tokens = built number_of number_at tokens
-  atom_by (Some (Sign Minus)) second tokens = built negative_of (behind (Sign Minus ∷ []) number_at) tokens
+  atom_by (Some (Sign Minus)) second tokens =
+      built negative_of (behind_tokens (Sign Minus ∷ []) number_at) tokens
   atom_by (Some (Text bytes)) second tokens = built text_of text_at tokens
   atom_by (Some (Word KwTrue)) second tokens = built (truth_of true) (exactly (Word KwTrue ∷ [])) tokens
   atom_by (Some (Word KwFalse)) second tokens = built (truth_of false) (exactly (Word KwFalse ∷ [])) tokens
   atom_by (Some (Word KwNil)) second tokens = built nil_of (exactly (Word KwNil ∷ [])) tokens
   atom_by (Some (Name bytes)) second tokens = named_by second tokens
   atom_by (Some (Sign LeftParenthesis)) second tokens =
-      built parenthesized_of (behind (Sign LeftParenthesis ∷ [])
+      built parenthesized_of (behind_tokens (Sign LeftParenthesis ∷ [])
       (closed (Sign RightParenthesis ∷ []) inner)) tokens
   atom_by (Some (Sign Exclamation)) second tokens =
-      built dereference_of (behind (Sign Exclamation ∷ []) inner_atom) tokens
+      built dereference_of (behind_tokens (Sign Exclamation ∷ []) inner_atom) tokens
   atom_by (Some (Sign ReadBorrow)) second tokens = borrowed_by second tokens
   atom_by (Some (Sign WriteBorrow)) second tokens =
-      built (borrow_of mode.Write) (behind (Sign WriteBorrow ∷ []) name_at) tokens
+      built (borrow_of mode.Write) (behind_tokens (Sign WriteBorrow ∷ []) name_at) tokens
   atom_by (Some (Sign Reborrow)) second tokens =
-      built (borrow_of mode.Reborrow) (behind (Sign Reborrow ∷ []) name_at) tokens
+      built (borrow_of mode.Reborrow) (behind_tokens (Sign Reborrow ∷ []) name_at) tokens
   atom_by other second tokens = no tokens
 
   unfoldable pub atom_with : List Token → Read PlainExpression
@@ -224,8 +226,8 @@ module _ (inner inner_atom : List Token → Read PlainExpression) where
   -- `if .. then .. else ..`
   unfoldable pub choice_with : List Token → Read PlainExpression
   choice_with =
-      built choice_of (behind (Word KwIf ∷ [])
-      (pair inner (behind (Word KwThen ∷ []) (pair inner (behind (Word KwElse ∷ []) inner)))))
+      built choice_of (behind_tokens (Word KwIf ∷ [])
+      (pair inner (behind_tokens (Word KwThen ∷ []) (pair inner (behind_tokens (Word KwElse ∷ []) inner)))))
 
   module _ (b : Bounds) (n : ℕ) where
     -- An atom that goes on is one deeper: this is known at the token that continues it.
@@ -252,7 +254,8 @@ module _ (inner inner_atom : List Token → Read PlainExpression) where
 
     -- an expression, by its first token
     abbrev pub expression_by : Option What → List Token → Read PlainExpression
-    expression_by (Some (Word KwNot)) tokens = built negation_of (behind (Word KwNot ∷ []) inner_atom) tokens
+    expression_by (Some (Word KwNot)) tokens =
+        built negation_of (behind_tokens (Word KwNot ∷ []) inner_atom) tokens
     expression_by (Some (Word KwIf)) tokens = choice_with tokens
     expression_by other tokens = atom_with tokens >>= continued (place_of tokens)
 

@@ -135,8 +135,8 @@ module _ {A : Type 0} where
   read_of x rest = Ok (x, rest)
 
   -- these tokens, and then a part
-  abbrev pub behind : List What → (List Token → Read A) → List Token → Read A
-  behind whats part tokens = tokens_at whats tokens >>= part
+  abbrev pub behind_tokens : List What → (List Token → Read A) → List Token → Read A
+  behind_tokens whats part tokens = tokens_at whats tokens >>= part
 
   -- a part, and then these tokens
   abbrev pub closed_at : List What → A × List Token → Read A
@@ -221,4 +221,4 @@ dotted_at = separated (Sign Dot) name_at
 
 -- names that each stand behind a dot
 abbrev pub fields_at : List Token → Read (List (Placed Bytes))
-fields_at = repeated (is_front (Sign Dot)) (behind (Sign Dot ∷ []) name_at)
+fields_at = repeated (is_front (Sign Dot)) (behind_tokens (Sign Dot ∷ []) name_at)

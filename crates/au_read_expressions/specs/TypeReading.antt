@@ -16,7 +16,8 @@ use Rattle.au_syntax.specs.Types.{WrittenType, WrittenTypes, named, reference, n
 use Rattle.au_syntax.specs.Words.{access_sign}
 use Rattle.au_read_expressions.specs.declared.faults.Fault.TheVariants.{Syntax, Passed}
 use Rattle.au_read_expressions.specs.Bounds.{Bounds, depth_limit, nodes_limit}
-use Rattle.au_read_expressions.specs.Reading.{Read, front, is_front, no, name_at, behind, closed, pair, shaped, built}
+use Rattle.au_read_expressions.specs.Reading.{Read, front, is_front, no, name_at, behind_tokens}
+use Rattle.au_read_expressions.specs.Reading.{closed, pair, shaped, built}
 use Rattle.au_read_expressions.specs.Reading.{bracketed}
 
 -- with which tokens a type begins
@@ -50,8 +51,8 @@ module _ (inner : List Token → Read WrittenType) where
   abbrev pub reference_with : Access → List Token → Read WrittenType
   reference_with access =
       built (reference_of access)
-      (behind (Sign (access_sign access) ∷ Sign LeftBracket ∷ [])
-      (pair inner (behind (Sign Comma ∷ []) (closed (Sign RightBracket ∷ []) name_at))))
+      (behind_tokens (Sign (access_sign access) ∷ Sign LeftBracket ∷ [])
+      (pair inner (behind_tokens (Sign Comma ∷ []) (closed (Sign RightBracket ∷ []) name_at))))
 
   -- by the first token
   abbrev pub type_by : Option What → List Token → Read WrittenType

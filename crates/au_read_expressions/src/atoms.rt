@@ -5,7 +5,7 @@ ghost use Rattle.au_base.specs.declared.tokens.Keyword.TheVariants as keyword;
 ghost use Rattle.au_base.specs.declared.tokens.Sign.TheVariants as sign;
 ghost use Rattle.au_base.specs.declared.tokens.What.TheVariants as what;
 ghost use Rattle.au_read_expressions.specs.Reading.{Gives, place_of, name_at, number_at, text_at, fields_at, exactly};
-ghost use Rattle.au_read_expressions.specs.Reading.{behind, closed, pair, built};
+ghost use Rattle.au_read_expressions.specs.Reading.{behind_tokens, closed, pair, built};
 ghost use Rattle.au_read_expressions.specs.ExpressionReading as spec;
 ghost use Rattle.au_syntax.specs.Views as views;
 
@@ -51,7 +51,7 @@ pub(crate) fn negative_atom(
     tokens: &[Token],
 ) -> Result<(Box<Expr<Parsed>>, &[Token]), Stop>
     ensures { Gives (λ x. (views.expression ⟦<Parsed as Phase>⟧ x.0.value, x.1.now)) result
-        (built spec.negative_of (behind (what.Sign sign.Minus ∷ []) number_at) tokens.now) }
+        (built spec.negative_of (behind_tokens (what.Sign sign.Minus ∷ []) number_at) tokens.now) }
 {
     let at = site(tokens);
     let rest = expect(&[Expected::Sign(Sign::Minus)], tokens)?;
@@ -165,7 +165,7 @@ pub(crate) fn borrow_atom(
     tokens: &[Token],
 ) -> Result<(Box<Expr<Parsed>>, &[Token]), Stop>
     ensures { Gives (λ x. (views.expression ⟦<Parsed as Phase>⟧ x.0.value, x.1.now)) result
-        (built (spec.borrow_of mode) (behind (what.Sign first ∷ []) name_at) tokens.now) }
+        (built (spec.borrow_of mode) (behind_tokens (what.Sign first ∷ []) name_at) tokens.now) }
 {
     let at = site(tokens);
     let rest = expect(&[Expected::Sign(first)], tokens)?;
@@ -179,7 +179,8 @@ pub(crate) fn borrow_part_atom(
     tokens: &[Token],
 ) -> Result<(Box<Expr<Parsed>>, &[Token]), Stop>
     ensures { Gives (λ x. (views.expression ⟦<Parsed as Phase>⟧ x.0.value, x.1.now)) result
-        (built spec.borrow_part_of (behind (what.Sign sign.ReadBorrow ∷ what.Sign sign.LeftParenthesis ∷ [])
+        (built spec.borrow_part_of
+        (behind_tokens (what.Sign sign.ReadBorrow ∷ what.Sign sign.LeftParenthesis ∷ [])
         (closed (what.Sign sign.RightParenthesis ∷ []) spec.arrow_parts)) tokens.now) }
 {
     let at = site(tokens);

@@ -5,7 +5,7 @@ ghost use Rattle.au_base.specs.declared.tokens.Keyword.TheVariants as keyword;
 ghost use Rattle.au_base.specs.declared.tokens.Sign.TheVariants as sign;
 ghost use Rattle.au_base.specs.declared.tokens.What.TheVariants as what;
 ghost use Rattle.au_read_expressions.specs.Bounds.{usual};
-ghost use Rattle.au_read_expressions.specs.Reading.{Gives, behind, built, closed, front, listed};
+ghost use Rattle.au_read_expressions.specs.Reading.{Gives, behind_tokens, built, closed, front, listed};
 ghost use Rattle.au_read_expressions.specs.Arguments.{argument, called, called_by_name, called_in_order};
 ghost use Rattle.au_read_expressions.specs.ExpressionReading as spec;
 ghost use Rattle.au_read_expressions.specs.ExpressionReading.{atom_at, call_at, expression_at};
@@ -149,7 +149,8 @@ fn negation(
     tokens: &[Token],
 ) -> Result<(Box<Expr<Parsed>>, &[Token]), Stop>
     ensures { Gives (λ x. (views.expression ⟦<Parsed as Phase>⟧ x.0.value, x.1.now)) result
-        (built spec.negation_of (behind (what.Word keyword.KwNot ∷ []) (atom_at usual levels)) tokens.now) }
+        (built spec.negation_of (behind_tokens (what.Word keyword.KwNot ∷ []) (atom_at usual levels))
+        tokens.now) }
 {
     let at = site(tokens);
     let rest = expect(&[Expected::Word(Keyword::KwNot)], tokens)?;
@@ -289,7 +290,7 @@ fn parenthesized(
     tokens: &[Token],
 ) -> Result<(Box<Expr<Parsed>>, &[Token]), Stop>
     ensures { Gives (λ x. (views.expression ⟦<Parsed as Phase>⟧ x.0.value, x.1.now)) result
-        (built spec.parenthesized_of (behind (what.Sign sign.LeftParenthesis ∷ [])
+        (built spec.parenthesized_of (behind_tokens (what.Sign sign.LeftParenthesis ∷ [])
         (closed (what.Sign sign.RightParenthesis ∷ []) (expression_at usual levels))) tokens.now) }
 {
     let at = site(tokens);
@@ -307,7 +308,7 @@ fn dereference(
     tokens: &[Token],
 ) -> Result<(Box<Expr<Parsed>>, &[Token]), Stop>
     ensures { Gives (λ x. (views.expression ⟦<Parsed as Phase>⟧ x.0.value, x.1.now)) result
-        (built spec.dereference_of (behind (what.Sign sign.Exclamation ∷ [])
+        (built spec.dereference_of (behind_tokens (what.Sign sign.Exclamation ∷ [])
         (atom_at usual levels)) tokens.now) }
 {
     let at = site(tokens);

@@ -3,7 +3,8 @@
 ghost use Rattle.std.specs.Prelude.{◌≡◌, ◌∷◌, [], List, map, ℕ};
 ghost use Rattle.au_base.specs.declared.tokens.Sign.TheVariants.{Dot};
 ghost use Rattle.au_base.specs.declared.tokens.What.TheVariants as what;
-ghost use Rattle.au_read_expressions.specs.Reading.{Gives, behind, dotted_at, fields_at, is_front, name_at};
+ghost use Rattle.au_read_expressions.specs.Reading.{Gives, behind_tokens, dotted_at, fields_at};
+ghost use Rattle.au_read_expressions.specs.Reading.{is_front, name_at};
 ghost use Rattle.au_syntax.specs.Names.{Placed};
 ghost use Rattle.au_syntax.specs.Views.{placed};
 
@@ -44,7 +45,7 @@ impl Entry for FieldEntry {
 
     ghost begins_by = { is_front (what.Sign Dot) };
 
-    ghost read_at = { behind (what.Sign Dot ∷ []) name_at };
+    ghost read_at = { behind_tokens (what.Sign Dot ∷ []) name_at };
 
     fn begins(tokens: &[Token]) -> bool {
         is_sign(Sign::Dot, tokens)

@@ -18,7 +18,8 @@ use Rattle.au_syntax.specs.Plain.{Bytes, PlainExpression, PlainStatements}
 use Rattle.au_syntax.specs.Types.{WrittenType, Bound}
 use Rattle.au_read_expressions.specs.Bounds.{Bounds}
 use Rattle.au_read_expressions.specs.declared.faults.Fault.{Fault}
-use Rattle.au_read_expressions.specs.Reading.{Read, ◌>>=◌, name_at, place_of, tokens_at, behind, closed_at, closed}
+use Rattle.au_read_expressions.specs.Reading.{Read, ◌>>=◌, name_at, place_of, tokens_at, behind_tokens}
+use Rattle.au_read_expressions.specs.Reading.{closed_at, closed}
 use Rattle.au_read_expressions.specs.Reading.{read_of, joined_with, joined_at, pair, built_at, built, shaped}
 use Rattle.au_read_expressions.specs.Reading.{bracketed}
 use Rattle.au_read_expressions.specs.TypeReading.{type_at}
@@ -47,27 +48,27 @@ steps_over (Err d) f g = refl
 
 module _ {A B : Type 0} (p : List Token → Read A) (q : List Token → Read B) where
   -- tokens before a part and another are before the first
-  behind_first : (ws : List What) (ts : List Token) → behind ws (pair p q) ts ≡ pair (behind ws p) q ts
+  behind_first : (ws : List What) (ts : List Token) → behind_tokens ws (pair p q) ts ≡ pair (behind_tokens ws p) q ts
   behind_first ws ts = sym (steps_over (tokens_at ws ts) p (joined_at q))
 
   -- tokens between two parts close the first
   between_at : (vs : List What) (x : A × List Token)
-      → joined_at (behind vs q) x ≡ (closed_at vs x >>= joined_at q)
+      → joined_at (behind_tokens vs q) x ≡ (closed_at vs x >>= joined_at q)
   between_at vs x =
       steps_over (tokens_at vs x.1) q (joined_with x.0)
       ∙ sym (steps_over (tokens_at vs x.1) (read_of x.0) (joined_at q))
 
-  closed_first : (vs : List What) (ts : List Token) → pair p (behind vs q) ts ≡ pair (closed vs p) q ts
+  closed_first : (vs : List What) (ts : List Token) → pair p (behind_tokens vs q) ts ≡ pair (closed vs p) q ts
   closed_first vs ts =
-      same_steps (p ts) (joined_at (behind vs q)) (λ x. closed_at vs x >>= joined_at q) (between_at vs)
+      same_steps (p ts) (joined_at (behind_tokens vs q)) (λ x. closed_at vs x >>= joined_at q) (between_at vs)
       ∙ sym (steps_over (p ts) (closed_at vs) (joined_at q))
 
   -- a part between two tokens, and another
   between_first : (v w : What) (ts : List Token)
-      → behind (v ∷ []) (pair p (behind (w ∷ []) q)) ts ≡ pair (between v w p) q ts
+      → behind_tokens (v ∷ []) (pair p (behind_tokens (w ∷ []) q)) ts ≡ pair (between v w p) q ts
   between_first v w ts =
       let start = tokens_at (v ∷ []) ts in
-      same_steps start (pair p (behind (w ∷ []) q)) (pair (closed (w ∷ []) p) q) (closed_first (w ∷ []))
+      same_steps start (pair p (behind_tokens (w ∷ []) q)) (pair (closed (w ∷ []) p) q) (closed_first (w ∷ []))
       ∙ sym (steps_over start (closed (w ∷ []) p) (joined_at q))
 
   -- a second part by another reader of it
@@ -106,11 +107,11 @@ module _ {A B C : Type 0} (p : List Token → Read A) (q : List Token → Read B
 module _ {A B C : Type 0} (p : List Token → Read A) (q : List Token → Read B) (r : List Token → Read C) where
   grouped_behind : (o : List Token → Read (B × C)) (ws : List What) (ts : List Token)
       → ((us : List Token) → o us ≡ pair q r us)
-      → behind ws (pair p o) ts ≡ shaped regrouped (pair (pair (behind ws p) q) r) ts
+      → behind_tokens ws (pair p o) ts ≡ shaped regrouped (pair (pair (behind_tokens ws p) q) r) ts
   grouped_behind o ws ts h =
       behind_first p o ws ts
-      ∙ pair_with (behind ws p) o (pair q r) ts h
-      ∙ grouped (behind ws p) q r ts
+      ∙ pair_with (behind_tokens ws p) o (pair q r) ts h
+      ∙ grouped (behind_tokens ws p) q r ts
 
 -- what is built of the same
 grouped_on : {A B C : Type 0} (r o : Read ((A × B) × C))
@@ -161,9 +162,9 @@ module _ (b : Bounds) (inner calls : List Token → Read PlainExpression)
       let body : List Token → Read PlainStatements = ended_by KwFor blocks in
       let first : List Token → Read PlainExpression = between (Word KwFrom) (Word KwTo) inner in
       let last : List Token → Read PlainExpression = closed (Word KwDo ∷ []) inner in
-      let tail = pair inner (behind (Word KwDo ∷ []) body) in
+      let tail = pair inner (behind_tokens (Word KwDo ∷ []) body) in
       let parts = pair (for_head inner) body in
-      let range = behind (Word KwFrom ∷ []) (pair inner (behind (Word KwTo ∷ []) tail)) in
+      let range = behind_tokens (Word KwFrom ∷ []) (pair inner (behind_tokens (Word KwTo ∷ []) tail)) in
       built_on ts for_of _ _ (
       grouped_behind name_at first (pair last body) range (Word KwFor ∷ []) ts
       (λ us. between_first inner tail (Word KwFrom) (Word KwTo) us
@@ -178,7 +179,7 @@ module _ (b : Bounds) (inner calls : List Token → Read PlainExpression)
   arm_said =
       let binds : List Token → Read (List (Bound Bytes)) =
       bracketed LeftParenthesis RightParenthesis (bound_at b) in
-      let tail = pair binds (behind (Word KwDo ∷ []) blocks) in
+      let tail = pair binds (behind_tokens (Word KwDo ∷ []) blocks) in
       built_on ts arm_of _ _ (
       grouped_behind name_at (binds_end b) blocks tail (Word KwWhen ∷ []) ts
       (closed_first binds blocks (Word KwDo ∷ [])))
@@ -190,7 +191,7 @@ module _ (b : Bounds) (inner calls : List Token → Read PlainExpression)
       let body : List Token → Read (PlainStatements × Pos) = borrowed_block b inner calls blocks in
       let parts = pair (borrow_head access) body in
       let second : List Token → Read (Placed Bytes) = between (Word KwAs) (Word KwIn) name_at in
-      let tail = behind (Word KwAs ∷ []) (pair name_at (behind (Word KwIn ∷ []) (pair name_at body))) in
+      let tail = behind_tokens (Word KwAs ∷ []) (pair name_at (behind_tokens (Word KwIn ∷ []) (pair name_at body))) in
       built_on ts (borrow_in_of access) _ _ (
       grouped_behind name_at second (pair name_at body) tail (borrow_whats access) ts
       (between_first name_at (pair name_at body) (Word KwAs) (Word KwIn))
@@ -206,7 +207,7 @@ module _ (b : Bounds) (inner calls : List Token → Read PlainExpression)
       let parts = pair (typed_head b) body in
       let of : List Token → Read WrittenType = between (Sign Colon) (Sign Assign) (type_at b) in
       let tail = pair mode_at (pair name_at body) in
-      let second = behind (Sign Colon ∷ []) (pair (type_at b) (behind (Sign Assign ∷ []) tail)) in
+      let second = behind_tokens (Sign Colon ∷ []) (pair (type_at b) (behind_tokens (Sign Assign ∷ []) tail)) in
       let start : List Token → Read ((Placed Bytes × WrittenType) × BorrowMode) =
       pair (typed_start b) mode_at in
       built_on ts borrow_typed_of _ _ (

@@ -24,7 +24,7 @@ use Rattle.au_syntax.specs.Types.{Bound}
 use Rattle.au_syntax.specs.Words.{Words, word, mark, begun, listed_in, name_words, bound_words}
 use Rattle.au_syntax.specs.Words.{expression_words, type_words, block_words, arm_words, mode_sign, end_at}
 use Rattle.au_read_expressions.specs.Bounds.{Bounds, TreePasses}
-use Rattle.au_read_expressions.specs.Reading.{Read, front, is_front, name_at, behind, pair, bracketed}
+use Rattle.au_read_expressions.specs.Reading.{Read, front, is_front, name_at, behind_tokens, pair, bracketed}
 use Rattle.au_read_expressions.specs.Spelling.{Begins, fixed}
 use Rattle.au_read_expressions.proofs.Begins.{front_of}
 use Rattle.au_read_expressions.proofs.Forms.{Form, Reads, Builds, anything, behind_form, behind_reads}
@@ -105,9 +105,9 @@ module _ (b : Bounds) (n : ℕ) (inner calls : List Token → Read PlainExpressi
       (behind_form (block_form b n) (Word KwDo ∷ [])))) (Word KwWhen ∷ [])
 
   abbrev arm_parts : List Token → Read (Placed Bytes × (List (Bound Bytes) × PlainStatements))
-  arm_parts = behind (Word KwWhen ∷ [])
+  arm_parts = behind_tokens (Word KwWhen ∷ [])
       (pair name_at (pair (bracketed LeftParenthesis RightParenthesis (bound_at b))
-      (behind (Word KwDo ∷ []) blocks)))
+      (behind_tokens (Word KwDo ∷ []) blocks)))
 
   arm_parts_reads : Reads arm_parts_form ends_block arm_parts
   arm_parts_reads =

@@ -15,7 +15,8 @@ use Rattle.au_syntax.specs.Plain.{Bytes}
 use Rattle.au_syntax.specs.Types.{WrittenType, Bound}
 use Rattle.au_syntax.specs.Words.{name_words, mark, mode_sign, renaming_words, bound_words, end_at}
 use Rattle.au_read_expressions.specs.Bounds.{Bounds, TypePasses}
-use Rattle.au_read_expressions.specs.Reading.{is_front, value_or_no, name_at, optional, exactly, behind, pair, read_of}
+use Rattle.au_read_expressions.specs.Reading.{is_front, value_or_no, name_at, optional, exactly}
+use Rattle.au_read_expressions.specs.Reading.{behind_tokens, pair, read_of}
 use Rattle.au_read_expressions.specs.Spelling.{Begins, fixed}
 use Rattle.au_read_expressions.proofs.Steps.{ok_same}
 use Rattle.au_read_expressions.proofs.Forms.{Form, Reads, Builds, anything, light, behind_form, pair_form}
@@ -108,14 +109,14 @@ module _ (b : Bounds) where
 
   module _ (types : Reads (type_form b) ends_type (type_at b)) where
     bound_parts : Reads (pair_form renaming_form (behind_form (type_form b) (Sign Colon ∷ []))) ends_type
-        (pair renaming_at (behind (Sign Colon ∷ []) (type_at b)))
+        (pair renaming_at (behind_tokens (Sign Colon ∷ []) (type_at b)))
     bound_parts = pair_behind renaming_form (type_form b) ends_renaming ends_type renaming_at renaming_reads
         (type_at b) types (Sign Colon) [] refl
 
     pub bound_reads : Reads bound_form ends_type (bound_at b)
     bound_reads =
         shaped_reads (pair_form renaming_form (behind_form (type_form b) (Sign Colon ∷ []))) bound_form
-        ends_type (pair renaming_at (behind (Sign Colon ∷ []) (type_at b))) bound_parts bound_of
+        ends_type (pair renaming_at (behind_tokens (Sign Colon ∷ []) (type_at b))) bound_parts bound_of
         (record {
           words = λ x. bound_line x.0.name x.0.alias x.1;
           good_to = λ x g. refl;

@@ -19,7 +19,7 @@ use Rattle.au_syntax.specs.Plain.{Bytes, PlainExpression, PlainStatements}
 use Rattle.au_syntax.specs.Words.{word, mark, begun, listed, dotted, name_words, type_words, bound_words}
 use Rattle.au_syntax.specs.Words.{expression_words, binding_word}
 use Rattle.au_read_expressions.specs.Bounds.{Bounds}
-use Rattle.au_read_expressions.specs.Reading.{Read, is_front, name_at, fields_at, exactly, behind, closed}
+use Rattle.au_read_expressions.specs.Reading.{Read, is_front, name_at, fields_at, exactly, behind_tokens, closed}
 use Rattle.au_read_expressions.specs.Spelling.{fixed}
 use Rattle.au_read_expressions.proofs.Forms.{Form, Reads, anything, light, behind_form, behind_reads}
 use Rattle.au_read_expressions.proofs.Forms.{closed_form, closed_reads, pair_after, pair_behind}
@@ -69,7 +69,7 @@ module _ (b : Bounds) (n : ℕ) (inner calls : List Token → Read PlainExpressi
   unfolding return_with
   return_row =
       row_of b n (behind_form ended_form (Word KwReturn ∷ []))
-      (behind (Word KwReturn ∷ []) (closed (Sign Semicolon ∷ []) inner))
+      (behind_tokens (Word KwReturn ∷ []) (closed (Sign Semicolon ∷ []) inner))
       (behind_reads ended_form anything (closed (Sign Semicolon ∷ []) inner) ended (Word KwReturn ∷ [])) return_of_part
       (record {
         words = λ at x. refl;

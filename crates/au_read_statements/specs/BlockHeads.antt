@@ -14,7 +14,7 @@ use Rattle.au_syntax.specs.Plain.{Bytes, PlainExpression, PlainStatement, PlainS
 use Rattle.au_syntax.specs.Statements.{for_loop, borrow_in, borrow_typed}
 use Rattle.au_syntax.specs.Types.{WrittenType, Bound}
 use Rattle.au_read_expressions.specs.Bounds.{Bounds}
-use Rattle.au_read_expressions.specs.Reading.{Read, name_at, behind, closed, pair, bracketed}
+use Rattle.au_read_expressions.specs.Reading.{Read, name_at, behind_tokens, closed, pair, bracketed}
 use Rattle.au_read_expressions.specs.TypeReading.{type_at}
 use Rattle.au_read_statements.specs.StatementReading.{bound_at, borrow_whats, mode_at}
 
@@ -24,12 +24,12 @@ regrouped x = (x.0.0, (x.0.1, x.1))
 
 -- a part between two tokens
 abbrev pub between : {A : Type 0} → What → What → (List Token → Read A) → List Token → Read A
-between first last part = behind (first ∷ []) (closed (last ∷ []) part)
+between first last part = behind_tokens (first ∷ []) (closed (last ∷ []) part)
 
 -- `for NAME from EXPRESSION to`
 abbrev pub for_start : (List Token → Read PlainExpression) → List Token
     → Read (Placed Bytes × PlainExpression)
-for_start inner = pair (behind (Word KwFor ∷ []) name_at) (between (Word KwFrom) (Word KwTo) inner)
+for_start inner = pair (behind_tokens (Word KwFor ∷ []) name_at) (between (Word KwFrom) (Word KwTo) inner)
 
 -- `for NAME from EXPRESSION to EXPRESSION do`
 abbrev pub for_head : (List Token → Read PlainExpression) → List Token
@@ -38,7 +38,8 @@ for_head inner = pair (for_start inner) (closed (Word KwDo ∷ []) inner)
 
 -- `borrow NAME as NAME in`, or with `borrow!`
 abbrev pub borrow_start : Access → List Token → Read (Placed Bytes × Placed Bytes)
-borrow_start access = pair (behind (borrow_whats access) name_at) (between (Word KwAs) (Word KwIn) name_at)
+borrow_start access =
+    pair (behind_tokens (borrow_whats access) name_at) (between (Word KwAs) (Word KwIn) name_at)
 
 -- `borrow NAME as NAME in NAME`, or with `borrow!`
 abbrev pub borrow_head : Access → List Token → Read ((Placed Bytes × Placed Bytes) × Placed Bytes)
@@ -51,11 +52,12 @@ module _ (b : Bounds) where
 
   -- `when NAME(..) do`
   abbrev pub arm_head : List Token → Read (Placed Bytes × List (Bound Bytes))
-  arm_head = pair (behind (Word KwWhen ∷ []) name_at) binds_end
+  arm_head = pair (behind_tokens (Word KwWhen ∷ []) name_at) binds_end
 
   -- `borrow NAME: TYPE :=`
   abbrev pub typed_start : List Token → Read (Placed Bytes × WrittenType)
-  typed_start = pair (behind (Word KwBorrow ∷ []) name_at) (between (Sign Colon) (Sign Assign) (type_at b))
+  typed_start =
+      pair (behind_tokens (Word KwBorrow ∷ []) name_at) (between (Sign Colon) (Sign Assign) (type_at b))
 
   -- `borrow NAME: TYPE := &NAME`
   abbrev pub typed_head : List Token → Read (((Placed Bytes × WrittenType) × BorrowMode) × Placed Bytes)

@@ -32,7 +32,8 @@ use Rattle.au_syntax.specs.Types.{WrittenType, Bound}
 use Rattle.au_read_expressions.specs.declared.faults.Fault.TheVariants.{Passed}
 use Rattle.au_read_expressions.specs.Bounds.{Bounds, nesting_limit}
 use Rattle.au_read_expressions.specs.Reading.{Read, ◌>>=◌, front, is_front, begins_with, no, value_at, name_at}
-use Rattle.au_read_expressions.specs.Reading.{exactly, behind, closed, pair, shaped, built, before_all, repeated}
+use Rattle.au_read_expressions.specs.Reading.{exactly, behind_tokens, closed, pair, shaped}
+use Rattle.au_read_expressions.specs.Reading.{built, before_all, repeated}
 use Rattle.au_read_expressions.specs.Reading.{listed, bracketed, optional, fields_at}
 use Rattle.au_read_expressions.specs.TypeReading.{type_at}
 use Rattle.au_read_expressions.specs.ExpressionReading.{arrow_parts, expression_at, call_at}
@@ -69,7 +70,7 @@ abbrev pub bound_of : Renaming Bytes × WrittenType → Bound Bytes
 bound_of x = record { name = x.0; of = x.1 }
 
 abbrev pub bound_at : Bounds → List Token → Read (Bound Bytes)
-bound_at b = shaped bound_of (pair renaming_at (behind (Sign Colon ∷ []) (type_at b)))
+bound_at b = shaped bound_of (pair renaming_at (behind_tokens (Sign Colon ∷ []) (type_at b)))
 
 -- an `end` that has a place
 abbrev pub place_alone : Pos → Unit {0} → Pos
@@ -178,33 +179,33 @@ module _ (b : Bounds) (inner calls : List Token → Read PlainExpression)
   unfoldable pub declare_with : Keyword → Binding → List Token → Read PlainStatement
   declare_with word binding =
       built (declare_of binding)
-      (behind (Word word ∷ [])
-      (pair name_at (behind (Sign Colon ∷ [])
-      (pair (type_at b) (behind (Sign Assign ∷ []) (closed (Sign Semicolon ∷ []) inner))))))
+      (behind_tokens (Word word ∷ [])
+      (pair name_at (behind_tokens (Sign Colon ∷ [])
+      (pair (type_at b) (behind_tokens (Sign Assign ∷ []) (closed (Sign Semicolon ∷ []) inner))))))
 
   -- `let { .. } := EXPRESSION;`
   unfoldable pub destructure_with : List Token → Read PlainStatement
   destructure_with =
       built destructure_of
-      (behind (Word KwLet ∷ Sign LeftBrace ∷ [])
+      (behind_tokens (Word KwLet ∷ Sign LeftBrace ∷ [])
       (pair (listed (bound_at b))
-      (behind (Sign RightBrace ∷ Sign Assign ∷ []) (closed (Sign Semicolon ∷ []) inner))))
+      (behind_tokens (Sign RightBrace ∷ Sign Assign ∷ []) (closed (Sign Semicolon ∷ []) inner))))
 
   -- `NAME.FIELD := EXPRESSION;`
   unfoldable pub assign_with : List Token → Read PlainStatement
   assign_with =
       built assign_of (pair (pair name_at fields_at)
-      (behind (Sign Assign ∷ []) (closed (Sign Semicolon ∷ []) inner)))
+      (behind_tokens (Sign Assign ∷ []) (closed (Sign Semicolon ∷ []) inner)))
 
   -- `NAME->FIELD := EXPRESSION;`
   unfoldable pub assign_through_with : List Token → Read PlainStatement
   assign_through_with =
       built assign_through_of
-      (pair arrow_parts (behind (Sign Assign ∷ []) (closed (Sign Semicolon ∷ []) inner)))
+      (pair arrow_parts (behind_tokens (Sign Assign ∷ []) (closed (Sign Semicolon ∷ []) inner)))
 
   -- `if EXPRESSION then BLOCK`
   unfoldable pub branch_with : List Token → Read (PlainExpression × PlainStatements)
-  branch_with = behind (Word KwIf ∷ []) (pair inner (behind (Word KwThen ∷ []) blocks))
+  branch_with = behind_tokens (Word KwIf ∷ []) (pair inner (behind_tokens (Word KwThen ∷ []) blocks))
 
   -- Branches with `else` between, as long as `else if` follows. The number bounds how many there may be.
   abbrev pub after_branch : (List Token → Read (List (PlainExpression × PlainStatements)))
@@ -227,9 +228,9 @@ module _ (b : Bounds) (inner calls : List Token → Read PlainExpression)
   -- `when NAME(..) do BLOCK`
   unfoldable pub arm_with : List Token → Read ArmParts
   arm_with =
-      built arm_of (behind (Word KwWhen ∷ [])
+      built arm_of (behind_tokens (Word KwWhen ∷ [])
       (pair name_at (pair (bracketed LeftParenthesis RightParenthesis (bound_at b))
-      (behind (Word KwDo ∷ []) blocks))))
+      (behind_tokens (Word KwDo ∷ []) blocks))))
 
   unfoldable pub arms_with : List Token → Read (List ArmParts)
   arms_with = repeated (is_front (Word KwWhen)) arm_with
@@ -238,48 +239,48 @@ module _ (b : Bounds) (inner calls : List Token → Read PlainExpression)
   unfoldable pub case_with : List Token → Read PlainStatement
   case_with =
       built case_of_parts
-      (behind (Word KwCase ∷ [])
-      (pair inner (behind (Word KwOf ∷ [])
+      (behind_tokens (Word KwCase ∷ [])
+      (pair inner (behind_tokens (Word KwOf ∷ [])
       (closed (Word KwEnd ∷ Word KwCase ∷ Sign Semicolon ∷ []) arms_with))))
 
   -- `while EXPRESSION do BLOCK end while;`
   unfoldable pub while_with : List Token → Read PlainStatement
   while_with =
       built while_of
-      (behind (Word KwWhile ∷ [])
-      (pair inner (behind (Word KwDo ∷ [])
+      (behind_tokens (Word KwWhile ∷ [])
+      (pair inner (behind_tokens (Word KwDo ∷ [])
       (closed (Word KwEnd ∷ Word KwWhile ∷ Sign Semicolon ∷ []) blocks))))
 
   -- `for NAME from EXPRESSION to EXPRESSION do BLOCK end for;`
   unfoldable pub for_with : List Token → Read PlainStatement
   for_with =
       built for_of
-      (behind (Word KwFor ∷ [])
-      (pair name_at (behind (Word KwFrom ∷ [])
-      (pair inner (behind (Word KwTo ∷ [])
-      (pair inner (behind (Word KwDo ∷ [])
+      (behind_tokens (Word KwFor ∷ [])
+      (pair name_at (behind_tokens (Word KwFrom ∷ [])
+      (pair inner (behind_tokens (Word KwTo ∷ [])
+      (pair inner (behind_tokens (Word KwDo ∷ [])
       (closed (Word KwEnd ∷ Word KwFor ∷ Sign Semicolon ∷ []) blocks))))))))
 
   -- a block of a borrow, and the place of its `end`
   unfoldable pub borrowed_block : List Token → Read (PlainStatements × Pos)
   borrowed_block =
-      behind (Word KwDo ∷ []) (pair blocks (closed (Word KwBorrow ∷ Sign Semicolon ∷ []) end_place))
+      behind_tokens (Word KwDo ∷ []) (pair blocks (closed (Word KwBorrow ∷ Sign Semicolon ∷ []) end_place))
 
   -- `borrow NAME as NAME in NAME do BLOCK end borrow;`, or with `borrow!`
   unfoldable pub borrow_in_with : Access → List Token → Read PlainStatement
   borrow_in_with access =
       built (borrow_in_of access)
-      (behind (borrow_whats access)
-      (pair name_at (behind (Word KwAs ∷ [])
-      (pair name_at (behind (Word KwIn ∷ []) (pair name_at borrowed_block))))))
+      (behind_tokens (borrow_whats access)
+      (pair name_at (behind_tokens (Word KwAs ∷ [])
+      (pair name_at (behind_tokens (Word KwIn ∷ []) (pair name_at borrowed_block))))))
 
   -- `borrow NAME: TYPE := &NAME do BLOCK end borrow;`
   unfoldable pub borrow_typed_with : List Token → Read PlainStatement
   borrow_typed_with =
       built borrow_typed_of
-      (behind (Word KwBorrow ∷ [])
-      (pair name_at (behind (Sign Colon ∷ [])
-      (pair (type_at b) (behind (Sign Assign ∷ []) (pair mode_at (pair name_at borrowed_block)))))))
+      (behind_tokens (Word KwBorrow ∷ [])
+      (pair name_at (behind_tokens (Sign Colon ∷ [])
+      (pair (type_at b) (behind_tokens (Sign Assign ∷ []) (pair mode_at (pair name_at borrowed_block)))))))
 
   -- `CALL;`
   unfoldable pub discard_with : List Token → Read PlainStatement
@@ -287,7 +288,7 @@ module _ (b : Bounds) (inner calls : List Token → Read PlainExpression)
 
   -- `return EXPRESSION;`
   unfoldable pub return_with : List Token → Read PlainStatement
-  return_with = built return_of_part (behind (Word KwReturn ∷ []) (closed (Sign Semicolon ∷ []) inner))
+  return_with = built return_of_part (behind_tokens (Word KwReturn ∷ []) (closed (Sign Semicolon ∷ []) inner))
 
   -- `skip;`
   unfoldable pub skip_at : List Token → Read PlainStatement

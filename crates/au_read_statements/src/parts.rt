@@ -5,7 +5,7 @@ ghost use Rattle.au_base.specs.declared.tokens.Sign.TheVariants as sign;
 ghost use Rattle.au_base.specs.declared.tokens.What.TheVariants as what;
 ghost use Rattle.au_read_statements.specs.StatementReading as spec;
 ghost use Rattle.au_read_expressions.specs.Bounds.{usual};
-ghost use Rattle.au_read_expressions.specs.Reading.{Gives, behind};
+ghost use Rattle.au_read_expressions.specs.Reading.{Gives, behind_tokens};
 ghost use Rattle.au_read_expressions.specs.TypeReading.{type_at};
 ghost use Rattle.au_syntax.specs.Names.{Renaming};
 ghost use Rattle.au_syntax.specs.Types.{Bound};
@@ -69,7 +69,7 @@ impl Part for RenamingPart {
 /// Reads `:` and a type.
 fn type_behind(alloc: Global, tokens: &[Token]) -> Result<(TypeText, &[Token]), Stop>
     ensures { Gives (λ x. (views.written x.0, x.1.now)) result
-        (behind (what.Sign sign.Colon ∷ []) (type_at usual) tokens.now) }
+        (behind_tokens (what.Sign sign.Colon ∷ []) (type_at usual) tokens.now) }
 {
     let rest = expect(&[Expected::Sign(Sign::Colon)], tokens)?;
     written_type(alloc, rest)

@@ -8,7 +8,8 @@ ghost use Rattle.au_read_expressions.specs.ExpressionReading as spelled;
 ghost use Rattle.au_read_statements.specs.StatementReading as spec;
 ghost use Rattle.au_read_expressions.specs.Bounds.{usual};
 ghost use Rattle.au_read_expressions.specs.TypeReading.{type_at};
-ghost use Rattle.au_read_expressions.specs.Reading.{Gives, behind, built, closed, dotted_at, exactly, fields_at};
+ghost use Rattle.au_read_expressions.specs.Reading.{Gives, behind_tokens, built, closed};
+ghost use Rattle.au_read_expressions.specs.Reading.{dotted_at, exactly, fields_at};
 ghost use Rattle.au_read_expressions.specs.Reading.{front, name_at, pair};
 ghost use Rattle.au_syntax.specs.Views as views;
 
@@ -58,7 +59,7 @@ fn assigned(
     tokens: &[Token],
 ) -> Result<(Box<Expr<Parsed>>, &[Token]), Stop>
     ensures { Gives (λ x. (views.expression ⟦<Parsed as Phase>⟧ x.0.value, x.1.now)) result
-        (behind (what.Sign sign.Assign ∷ [])
+        (behind_tokens (what.Sign sign.Assign ∷ [])
         (closed (what.Sign sign.Semicolon ∷ []) (spelled.expression_at usual levels)) tokens.now) }
 {
     let rest = expect(&[Expected::Sign(Sign::Assign)], tokens)?;
@@ -73,8 +74,8 @@ fn typed_value(
 ) -> Result<(TypeText, Box<Expr<Parsed>>, &[Token]), Stop>
     ensures { Gives (λ x. ((views.written x.0, views.expression ⟦<Parsed as Phase>⟧ x.1.value), x.2.now))
         result
-        (behind (what.Sign sign.Colon ∷ []) (pair (type_at usual)
-        (behind (what.Sign sign.Assign ∷ [])
+        (behind_tokens (what.Sign sign.Colon ∷ []) (pair (type_at usual)
+        (behind_tokens (what.Sign sign.Assign ∷ [])
         (closed (what.Sign sign.Semicolon ∷ []) (spelled.expression_at usual levels)))) tokens.now) }
 {
     let rest = expect(&[Expected::Sign(Sign::Colon)], tokens)?;
@@ -127,7 +128,7 @@ fn value_of_fields(
     tokens: &[Token],
 ) -> Result<(Box<Expr<Parsed>>, &[Token]), Stop>
     ensures { Gives (λ x. (views.expression ⟦<Parsed as Phase>⟧ x.0.value, x.1.now)) result
-        (behind (what.Sign sign.RightBrace ∷ what.Sign sign.Assign ∷ [])
+        (behind_tokens (what.Sign sign.RightBrace ∷ what.Sign sign.Assign ∷ [])
         (closed (what.Sign sign.Semicolon ∷ []) (spelled.expression_at usual levels)) tokens.now) }
 {
     let closing = [
@@ -215,7 +216,7 @@ fn assign(alloc: Global, levels: u32, tokens: &[Token]) -> Result<(Stmt<Parsed>,
 /// Reads `->` and the fields behind it.
 fn arrow_fields(alloc: Global, tokens: &[Token]) -> Result<(Vec<Ident<Parsed>>, &[Token]), Stop>
     ensures { Gives (λ x. (map (views.placed ⟦<Parsed as Phase>⟧) x.0.items, x.1.now)) result
-        (behind (what.Sign sign.Arrow ∷ []) dotted_at tokens.now) }
+        (behind_tokens (what.Sign sign.Arrow ∷ []) dotted_at tokens.now) }
 {
     let rest = expect(&[Expected::Sign(Sign::Arrow)], tokens)?;
     dotted(alloc, rest)

@@ -16,7 +16,7 @@ use Rattle.au_names.specs.Owned.{declarations_in}
 use Rattle.au_rules.specs.declared.doubles.Double.{Double}
 use Rattle.au_rules.specs.declared.marks.Kind.{Kind}
 use Rattle.au_rules.specs.declared.marks.Mark.{Mark}
-use Rattle.au_rules.specs.Doubles.{behind, behind_all, doubles_behind, doubles_of, first_double}
+use Rattle.au_rules.specs.Doubles.{marks_behind, behind_all, doubles_behind, doubles_of, first_double}
 use Rattle.au_rules.specs.Doubles.{numbered_double}
 use Rattle.au_rules.specs.Marks.{marks}
 use Rattle.au_rules.specs.Outside.{outside}
@@ -29,7 +29,7 @@ many_doubles : (foreign : Kind → Bytes → Bool) (before : List Mark) (ds : Li
     → length (doubles_behind foreign before ds) ≡ length ds
 unfolding doubles_behind
 many_doubles foreign before [] = refl
-many_doubles foreign before (d ∷ ds) = ap suc (many_doubles foreign (behind before d) ds)
+many_doubles foreign before (d ∷ ds) = ap suc (many_doubles foreign (marks_behind before d) ds)
 
 many_of : (program : List ModuleParts) (place : ℕ) (m : ModuleParts)
     → length (doubles_of program place m)

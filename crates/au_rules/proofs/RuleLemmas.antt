@@ -20,9 +20,9 @@ use Rattle.au_rules.specs.declared.marks.Mark.{Mark}
 use Rattle.au_rules.specs.declared.marks.Mark.TheVariants.{Opens, Closes, Declares}
 use Rattle.au_rules.specs.declared.marks.Role.{Role}
 use Rattle.au_rules.specs.declared.marks.Role.TheVariants.{Local, Whole, Promise, Definition}
-use Rattle.au_rules.specs.Doubles.{behind, behind_all, double_of, doubles_behind, doubles_of, first_again}
-use Rattle.au_rules.specs.Doubles.{first_double, is_declared, is_name_again, is_open, is_top, numbered_double}
-use Rattle.au_rules.specs.Doubles.{stands}
+use Rattle.au_rules.specs.Doubles.{marks_behind, behind_all, double_of, doubles_behind, doubles_of}
+use Rattle.au_rules.specs.Doubles.{first_again, first_double, is_declared, is_name_again, is_open, is_top}
+use Rattle.au_rules.specs.Doubles.{numbered_double, stands}
 use Rattle.au_rules.specs.Marks.{marks}
 use Rattle.au_rules.specs.Once.{AllNamesAreOnce, AreNew, IsDue, IsNew, IsUnknown, NamesAreOnce, text_of}
 use Rattle.au_rules.specs.Outside.{outside}
@@ -189,7 +189,7 @@ module _ (foreign : Kind → Bytes → Bool) where
   -- ---- the first double of marks
 
   -- what is behind marks, in the order of the text
-  pub behind_text : (before marks : List Mark) → reverse (behind before marks) ≡ reverse before ++ marks
+  pub behind_text : (before marks : List Mark) → reverse (marks_behind before marks) ≡ reverse before ++ marks
   behind_text before [] = sym (append-nil (reverse before))
   behind_text before (m ∷ rest) =
       behind_text (m ∷ before) rest ∙ ap (λ l. l ++ rest) (reverse-append (m ∷ []) before)
@@ -278,11 +278,11 @@ module _ (foreign : Kind → Bytes → Bool) where
     all_new before [] h = new_none (reverse before)
     all_new before (d ∷ ds) h =
         let one = first_again foreign before (marks part d) in
-        let more = doubles_behind foreign (behind before (marks part d)) (map (marks part) ds) in
+        let more = doubles_behind foreign (marks_behind before (marks part d)) (map (marks part) ds) in
         new_both (reverse before) (marks part d) (flat_map (marks part) ds)
         (marks_new before (marks part d) (first_none one more h))
         (subst (λ l. AreNew foreign l (flat_map (marks part) ds)) (behind_text before (marks part d))
-        (all_new (behind before (marks part d)) ds (rest_none one more h)))
+        (all_new (marks_behind before (marks part d)) ds (rest_none one more h)))
 
     pub new_each : (before : List Mark) (ds : List PlainDeclaration)
         → AreNew foreign (reverse before) (flat_map (marks part) ds)
@@ -291,10 +291,10 @@ module _ (foreign : Kind → Bytes → Bool) where
     new_each before [] h = λ k. refl
     new_each before (d ∷ ds) h =
         none_more (first_again foreign before (marks part d))
-        (doubles_behind foreign (behind before (marks part d)) (map (marks part) ds))
+        (doubles_behind foreign (marks_behind before (marks part d)) (map (marks part) ds))
         (new_marks before (marks part d) (new_left (reverse before) (marks part d) (flat_map (marks part) ds)
         h))
-        (new_each (behind before (marks part d)) ds
+        (new_each (marks_behind before (marks part d)) ds
         (subst (λ l. AreNew foreign l (flat_map (marks part) ds)) (sym (behind_text before (marks part d)))
         (new_right (reverse before) (marks part d) (flat_map (marks part) ds) h)))
 
@@ -302,7 +302,7 @@ module _ (foreign : Kind → Bytes → Bool) where
         → reverse (behind_all before (map (marks part) ds)) ≡ reverse before ++ flat_map (marks part) ds
     all_text before [] = sym (append-nil (reverse before))
     all_text before (d ∷ ds) =
-        all_text (behind before (marks part d)) ds
+        all_text (marks_behind before (marks part d)) ds
         ∙ ap (λ l. l ++ flat_map (marks part) ds) (behind_text before (marks part d))
         ∙ append_assoc (reverse before) (marks part d) (flat_map (marks part) ds)
 

@@ -21,8 +21,8 @@ use Rattle.au_rules.specs.declared.marks.Mark.TheVariants.{Opens, Closes, Declar
 use Rattle.au_rules.specs.declared.marks.Role.{Role}
 use Rattle.au_rules.specs.declared.marks.Role.TheVariants.{Local, Whole, Promise, Definition}
 use Rattle.au_rules.specs.declared.scopes.Names.{Names}
-use Rattle.au_rules.specs.Doubles.{behind, behind_all, double_of, doubles_behind, first_again, is_declared}
-use Rattle.au_rules.specs.Doubles.{is_name_again, is_open, is_top, same_kind, same_role, stands}
+use Rattle.au_rules.specs.Doubles.{marks_behind, behind_all, double_of, doubles_behind, first_again}
+use Rattle.au_rules.specs.Doubles.{is_declared, is_name_again, is_open, is_top, same_kind, same_role, stands}
 use Rattle.au_rules.specs.Nests.{entered, left, with_name}
 use Rattle.au_rules.specs.Scopes.{after, after_all, closed, double_in, doubles_in, first_in, is_again_among}
 use Rattle.au_rules.specs.Scopes.{is_again_in, is_known_in, is_top_in, no_names, no_scopes, noted, opened}
@@ -412,14 +412,14 @@ after_mark before s m h =
 
 -- more marks, and those of several declarations
 after_marks : (before : List Mark) (s : List Names) (marks : List Mark) → AreScopesOf before s
-    → AreScopesOf (behind before marks) (after_all s marks)
+    → AreScopesOf (marks_behind before marks) (after_all s marks)
 after_marks before s [] h = h
 after_marks before s (m ∷ rest) h = after_marks (m ∷ before) (after s m) rest (after_mark before s m h)
 
 pub after_each : (before : List Mark) (s : List Names) (ds : List (List Mark)) → AreScopesOf before s
     → AreScopesOf (behind_all before ds) (fold after_all s ds)
 after_each before s [] h = h
-after_each before s (d ∷ rest) h = after_each (behind before d) (after_all s d) rest
+after_each before s (d ∷ rest) h = after_each (marks_behind before d) (after_all s d) rest
     (after_marks before s d h)
 
 pub no_scopes_of : AreScopesOf [] no_scopes
@@ -467,7 +467,7 @@ module _ (foreign : Kind → Bytes → Bool) where
   unfolding doubles_in doubles_behind
   doubles_same before s [] h = refl
   doubles_same before s (d ∷ rest) h =
-      λ i. first_same before s d h i ∷ doubles_same (behind before d) (after_all s d) rest
+      λ i. first_same before s d h i ∷ doubles_same (marks_behind before d) (after_all s d) rest
       (after_marks before s d h) i
 
   -- ---- one mark more behind others, as a loop goes

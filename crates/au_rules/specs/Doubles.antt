@@ -92,17 +92,17 @@ module _ (foreign : Kind → Bytes → Bool) where
   first_again before (m ∷ rest) = option_or (double_of before m) (first_again (m ∷ before) rest)
 
 -- marks with more behind them, and with those of several declarations: the last stands first
-abbrev pub behind : List Mark → List Mark → List Mark
-behind before more = fold (λ marks m. m ∷ marks) before more
+abbrev pub marks_behind : List Mark → List Mark → List Mark
+marks_behind before more = fold (λ marks m. m ∷ marks) before more
 
 abbrev pub behind_all : List Mark → List (List Mark) → List Mark
-behind_all before more = fold behind before more
+behind_all before more = fold marks_behind before more
 
 -- the first name of each of several declarations that is declared again, behind marks
 unfoldable pub doubles_behind : (Kind → Bytes → Bool) → List Mark → List (List Mark) → List (Option Double)
 doubles_behind foreign before [] = []
 doubles_behind foreign before (d ∷ rest) =
-    first_again foreign before d ∷ doubles_behind foreign (behind before d) rest
+    first_again foreign before d ∷ doubles_behind foreign (marks_behind before d) rest
 
 -- the doubles of the declarations of an interface and of a body, by their numbers, given what comes from
 -- elsewhere in each of the two: the interface stands before the body

@@ -47,7 +47,7 @@ pub enum Why {
         /// The text of the type that is found.
         found: Text,
     },
-    /// The call leaves this type parameter without a type.
+    /// The call leaves this type parameter unfixed.
     Unfixed(Name),
     /// The class has no instance at the type.
     NoInstance {

@@ -4,7 +4,7 @@ ghost use Rattle.std.specs.Prelude.{◌≡◌, ◌<◌, [], nat_lt, IsNone, IsFa
 ghost use Rattle.std.specs.Option.{option_map, option_copied};
 ghost use Rattle.au_effects.specs.Values.{content_of};
 ghost use Rattle.au_effects.specs.Places as effect;
-ghost use Rattle.au_low.specs.Instructions.{behind};
+ghost use Rattle.au_low.specs.Instructions.{place_along};
 ghost use Rattle.au_cells.specs.Cells.{low, base_of, place_of};
 ghost use Rattle.au_stores.specs.Stores.{world_of, top_frame, slot_place, slot_count, put_through, came_out};
 ghost use Rattle.au_stores.specs.Stores.{done_in};
@@ -57,7 +57,7 @@ impl World {
     /// What a place behind that of a reference holds, if it is there.
     pub fn at_behind(&self, one: &Borrowed, path: &[u32]) -> Option<&Cell>
         ensures { option_map low (option_copied result)
-            ≡ effect.at (behind (place_of one.now) path.now) (world_of self.now) }
+            ≡ effect.at (place_along (place_of one.now) path.now) (world_of self.now) }
     {
         part(self.at(one)?, path)
     }
@@ -194,7 +194,7 @@ impl World {
 /// `Memory` when memory runs out.
 pub fn longer(alloc: Global, one: &Borrowed, path: &[u32]) -> Result<Borrowed, Memory>
     ensures borrow { IfOk result (λ more. more.borrow ≡ one.now.borrow) }
-    ensures place { IfOk result (λ more. place_of more ≡ behind (place_of one.now) path.now) }
+    ensures place { IfOk result (λ more. place_of more ≡ place_along (place_of one.now) path.now) }
 {
     let mut both = one.path.as_slice().to_vec(alloc)?;
     both.extend_from_slice(path)?;

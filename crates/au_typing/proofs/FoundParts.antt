@@ -17,7 +17,7 @@ use Rattle.au_typing.specs.Faults.{range_wanted, record_wanted, reference_wanted
 use Rattle.au_typing.specs.Good.{GoodBinary, GoodBorrow, GoodLiteral, GoodPart, GoodPath, Kept, PairedModes}
 use Rattle.au_typing.specs.Bare.{is_bare}
 use Rattle.au_typing.specs.Limits.{are_within, types_noted}
-use Rattle.au_typing.specs.Lookups.{behind, is_free_in, is_record, IsPart, part_type, record_part}
+use Rattle.au_typing.specs.Lookups.{target_behind, is_free_in, is_record, IsPart, part_type, record_part}
 use Rattle.au_typing.specs.Notes.{Mode, Note, NotedExpression, mode_of, note_of, noted_at, type_of}
 use Rattle.au_typing.specs.Operands.{Noter, before, behind_it, of_one_type, paired}
 use Rattle.au_typing.specs.Rules.{is_compared, is_integer, literal_kind, noted, wanted_note}
@@ -65,13 +65,14 @@ module _ (scope : Scope) where
   path_found n t (field ∷ fields) k g = part_note_found n t (field ∷ fields) k g
 
   pub arrow_found : (n : Note) (t target : Meaning) (fields : List (Placed Bytes)) → Kept n →
-      behind t ≡ Some target → GoodPart scope target fields n.of → arrow_note scope n.mode fields t ≡ Ok n
+      target_behind t ≡ Some target → GoodPart scope target fields n.of → arrow_note scope n.mode fields t
+      ≡ Ok n
   arrow_found n t target fields k is g =
       bind_found (λ (u : Meaning). part_note scope n.mode u fields) (known_found (shape reference_wanted) is)
       ∙ part_note_found n target fields k g
 
-  pub dereference_found : (n : Note) (t : Meaning) → Kept n → behind t ≡ Some n.of → is_free_in scope n.of
-      ≡ true → dereference_note scope n.mode t ≡ Ok n
+  pub dereference_found : (n : Note) (t : Meaning) → Kept n → target_behind t ≡ Some n.of →
+      is_free_in scope n.of ≡ true → dereference_note scope n.mode t ≡ Ok n
   dereference_found n t k is free =
       bind_found (read_note scope n.mode) (known_found (shape reference_wanted) is) ∙ read_found n k free
 

@@ -7,7 +7,7 @@ use Rattle.au_typing.specs.Scopes.{Scope}
 use Rattle.au_typing.specs.Faults.{after_return}
 use Rattle.au_typing.specs.DerivationFaults.{Judged, ◌then◌, StatementFault, refused}
 use Rattle.au_typing.specs.InScope.{after}
-use Rattle.au_typing.specs.Refusals.{IsRefused, after_all, behind}
+use Rattle.au_typing.specs.Refusals.{IsRefused, after_all, statements_behind}
 use Rattle.au_typing.specs.Returns.{block_returns, may_follow, returns}
 use Rattle.au_typing.specs.DerivationSearch.{judge_next, note_block, note_statement, place_of}
 use Rattle.au_typing.specs.Statements.{GoodBlock, GoodStatement}
@@ -36,7 +36,7 @@ next_failed false rest f e = absurd cc
 -- ---- what stands in front
 
 not_returned : (b : Bool) (x : PlainStatements) (y : PlainStatement) (z : PlainStatements) (u : Unit {0})
-    → judge_next b (behind x (statements y z)) ≡ Ok u → b ≡ false
+    → judge_next b (statements_behind x (statements y z)) ≡ Ok u → b ≡ false
 not_returned false x y z u e = refl
 not_returned true no_statements y z u e = absurd cc
 not_returned true (statements s t) y z u e = absurd cc

@@ -9,7 +9,7 @@ use Rattle.au_matching.specs.Substituted.{substituted}
 use Rattle.au_judged_types.specs.Bounds.{parameters}
 use Rattle.au_typing.specs.Scopes.{Callable, Scope, Typed}
 use Rattle.au_typing.specs.Bare.{is_bare}
-use Rattle.au_typing.specs.Calls.{begun, first_lacking, first_left, first_misfit, types_of_call, wanted_of}
+use Rattle.au_typing.specs.Calls.{begun, first_lacking, first_misfit, first_unfixed, types_of_call, wanted_of}
 use Rattle.au_typing.specs.Calls.{FirstStep, GoodCall, Passes, SecondStep, Taken, TakenBare}
 use Rattle.au_typing.specs.Faults.{◌>>=◌, Why, known_or, unknown, different, unfixed}
 use Rattle.au_typing.specs.Good.{AllGood, shown}
@@ -177,7 +177,8 @@ module _ (scope : Scope) where
   -- the facts on the note of a call
   abbrev IsCallNote : Mode → Callable → Bindings → Note → Type 0
   IsCallNote mode called s n =
-      (first_left s (parameters called.generics) ≡ None) × (are_within (types_of_call mode called s) ≡ true)
+      (first_unfixed s (parameters called.generics) ≡ None)
+      × (are_within (types_of_call mode called s) ≡ true)
       × (first_misfit scope s (parameters called.generics) ≡ None)
       × (first_lacking scope s (wanted_of called) ≡ None) × (call_note mode called s ≡ n)
 
@@ -186,7 +187,7 @@ module _ (scope : Scope) where
   note_sound mode called s n h =
       let hold = unless_why lacks (first_lacking scope s (wanted_of called)) (Ok (call_note mode called s)) in
       let fit = unless_why (misfit s) (first_misfit scope s (parameters called.generics)) hold in
-      let a = unless_ok unfixed (first_left s (parameters called.generics))
+      let a = unless_ok unfixed (first_unfixed s (parameters called.generics))
       (within (types_of_call mode called s) fit) n h in
       let b = within_ok (types_of_call mode called s) fit n a.1 in
       let c = unless_ok (misfit s) (first_misfit scope s (parameters called.generics)) hold n b.1 in

@@ -17,7 +17,7 @@ use Rattle.au_typing.specs.Faults.{Noting, ◌>>=◌, check, known_or, unknown, 
 use Rattle.au_typing.specs.Faults.{integer_wanted, range_wanted, record_wanted, reference_wanted}
 use Rattle.au_typing.specs.Good.{AllGood, IsNoting, GoodBorrow, GoodLiteral, GoodPart, GoodPath, Kept, PairedModes}
 use Rattle.au_typing.specs.Limits.{types_noted}
-use Rattle.au_typing.specs.Lookups.{behind, field_type, is_free_in, is_record, IsPart, outcome_noted}
+use Rattle.au_typing.specs.Lookups.{target_behind, field_type, is_free_in, is_record, IsPart, outcome_noted}
 use Rattle.au_typing.specs.Lookups.{part_type, record_part}
 use Rattle.au_typing.specs.Notes.{Mode, Note, NotedExpression, erase, note_of, type_of}
 use Rattle.au_typing.specs.Operands.{Noter, before, behind_it, of_one_type, paired}
@@ -83,21 +83,21 @@ module _ (scope : Scope) where
   path_sound mode (field ∷ fields) t n e = part_note_sound mode t (field ∷ fields) n e
 
   pub arrow_sound : (mode : Mode) (fields : List (Placed Bytes)) (t : Meaning) (n : Note) →
-      arrow_note scope mode fields t ≡ Ok n → (target : Meaning) × (behind t ≡ Some target)
+      arrow_note scope mode fields t ≡ Ok n → (target : Meaning) × (target_behind t ≡ Some target)
       × HasNote mode (GoodPart scope target fields) n
   arrow_sound mode fields t n e =
-      let b = bind_ok (known_or (shape reference_wanted) (behind t))
+      let b = bind_ok (known_or (shape reference_wanted) (target_behind t))
       (λ (target : Meaning). part_note scope mode target fields) n e in
-      (b.0, known_ok (shape reference_wanted) (behind t) b.0 b.1, part_note_sound mode b.0 fields n b.2)
+      (b.0, known_ok (shape reference_wanted) (target_behind t) b.0 b.1, part_note_sound mode b.0 fields n b.2)
 
   pub dereference_sound : (mode : Mode) (t : Meaning) (n : Note) → dereference_note scope mode t ≡ Ok n →
-      Kept n × (n.mode ≡ mode) × (behind t ≡ Some n.of) × (is_free_in scope n.of ≡ true)
+      Kept n × (n.mode ≡ mode) × (target_behind t ≡ Some n.of) × (is_free_in scope n.of ≡ true)
   dereference_sound mode t n e =
-      let b = bind_ok (known_or (shape reference_wanted) (behind t)) (read_note scope mode) n e in
+      let b = bind_ok (known_or (shape reference_wanted) (target_behind t)) (read_note scope mode) n e in
       let k = read_sound mode b.0 n b.2 in (
         k.0,
         k.1,
-        known_ok (shape reference_wanted) (behind t) b.0 b.1
+        known_ok (shape reference_wanted) (target_behind t) b.0 b.1
             ∙ ap (λ (u : Meaning). Some u) (sym k.2),
         ap (is_free_in scope) k.2 ∙ k.3,
       )

@@ -91,18 +91,18 @@ Passes step (p ∷ ps) [] s r = ⊥
 
 -- ---- every type parameter is fixed
 
--- a type parameter stands for something of its kind
-abbrev pub is_given : Bindings → Parameter → Bool
-is_given s one = of_kind one.universe
+-- a type parameter is fixed: it stands for something of its kind
+abbrev pub is_fixed : Bindings → Parameter → Bool
+is_fixed s one = of_kind one.universe
   where
     of_kind : Universe → Bool
     of_kind universes.Region = is_a_region (value_of one.name s)
     of_kind universe = is_a_type (value_of one.name s)
 
--- the first type parameter in declared order that is left without a value
-abbrev pub first_left : Bindings → List Parameter → Option Bytes
-first_left s [] = None
-first_left s (one ∷ params) = if is_given s one then first_left s params else Some one.name
+-- the first type parameter in declared order that is unfixed
+abbrev pub first_unfixed : Bindings → List Parameter → Option Bytes
+first_unfixed s [] = None
+first_unfixed s (one ∷ params) = if is_fixed s one then first_unfixed s params else Some one.name
 
 -- ---- the type arguments fit the universes
 
@@ -169,7 +169,7 @@ pub record GoodCall (scope : Scope) (note : Note) (name : Bytes)
   pub not_bare : Passes FirstStep types args begins goes_on
   pub ends : Bindings
   pub bare : Passes SecondStep types args goes_on ends
-  pub all_fixed : first_left ends (parameters called.generics) ≡ None
+  pub all_fixed : first_unfixed ends (parameters called.generics) ≡ None
   pub limited : are_within (types_of_call note.mode called ends) ≡ true
   pub all_fit : first_misfit scope ends (parameters called.generics) ≡ None
   pub all_hold : first_lacking scope ends (wanted_of called) ≡ None

@@ -27,7 +27,7 @@ pub data Form : Type 0 where
   range_wanted : IntKind → Form
 
 -- The clause of a rule that fails: a name that means nothing there; a type that is wanted, and another one
--- that is found; a type parameter of a call that is left without a value; a class without an instance at a
+-- that is found; a type parameter of what is called that is unfixed; a class without an instance at a
 -- type; a type that isn't Free where a Free one is wanted; a form that is wanted; a statement that follows
 -- one that returns on every path; and a body of which some path reaches the end.
 pub data Why : Type 0 where

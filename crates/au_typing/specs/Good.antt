@@ -23,7 +23,7 @@ use Rattle.au_typing.specs.Scopes.{Callable, Scope}
 use Rattle.au_typing.specs.Bare.{is_arithmetic, is_bare}
 use Rattle.au_typing.specs.Calls.{Shown, GoodCall, in_order, by_labels}
 use Rattle.au_typing.specs.Limits.{are_within, types_noted}
-use Rattle.au_typing.specs.Lookups.{behind, is_free_in, is_record, IsPart, value_type, variable_type}
+use Rattle.au_typing.specs.Lookups.{target_behind, is_free_in, is_record, IsPart, value_type, variable_type}
 use Rattle.au_typing.specs.Lookups.{written_means}
 use Rattle.au_typing.specs.Notes.{Mode, Note, NotedArguments, NotedExpression, NotedExpressions, erase}
 use Rattle.au_typing.specs.Notes.{mode_of, note_of, type_of}
@@ -139,13 +139,14 @@ module _ (scope : Scope) where
   Good (path n x fields) =
       (t : Meaning) × (value_type scope x.name ≡ Some t) × GoodPath scope t fields n.note.of
   Good (arrow n x fields) =
-      (t : Meaning) × (target : Meaning) × (value_type scope x.name ≡ Some t) × (behind t ≡ Some target)
+      (t : Meaning) × (target : Meaning) × (value_type scope x.name ≡ Some t)
+      × (target_behind t ≡ Some target)
       × GoodPart scope target fields n.note.of
   Good (call n f es c) = GoodCall scope n.note f.name (in_order (count_of es)) (shown (items_of es))
   Good (named_call n f es c) = GoodCall scope n.note f.name (by_labels (labels_of es)) (shown (values_of es))
   Good (parenthesized n e) = (mode_of e ≡ n.note.mode) × (n.note.of ≡ type_of e)
   Good (dereference n e) =
-      (mode_of e ≡ None) × (behind (type_of e) ≡ Some n.note.of) × (is_free_in scope n.note.of ≡ true)
+      (mode_of e ≡ None) × (target_behind (type_of e) ≡ Some n.note.of) × (is_free_in scope n.note.of ≡ true)
   Good (borrow n m x) = (t : Meaning) × (variable_type scope x.name ≡ Some t) × GoodBorrow m t n.note.of
   Good (borrow_part n x fields) =
       (target : Meaning) × (region : Region) × (part : Meaning)

@@ -72,10 +72,10 @@ record_part scope t fields = check (is_record scope t) (shape record_wanted) (pa
 -- ---- references
 
 -- the type behind a reference
-abbrev pub behind : Meaning → Option Meaning
-behind (reads t region) = Some t
-behind (writes t region) = Some t
-behind t = None
+abbrev pub target_behind : Meaning → Option Meaning
+target_behind (reads t region) = Some t
+target_behind (writes t region) = Some t
+target_behind t = None
 
 -- ---- written types
 

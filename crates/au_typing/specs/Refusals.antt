@@ -12,9 +12,9 @@ use Rattle.au_typing.specs.Statements.{GoodBlock}
 use Rattle.au_typing.specs.Trees.{NotedStatements, erase_block}
 
 -- a block behind another one
-abbrev pub behind : {N T C : Type 0} → Statements N T C → Statements N T C → Statements N T C
-behind no_statements next = next
-behind (statements s rest) next = statements s (behind rest next)
+abbrev pub statements_behind : {N T C : Type 0} → Statements N T C → Statements N T C → Statements N T C
+statements_behind no_statements next = next
+statements_behind (statements s rest) next = statements s (statements_behind rest next)
 
 -- what is in scope behind the statements of a block
 abbrev pub after_all : {T C : Type 0} → Statements Bytes T C → Scope → Scope
@@ -27,7 +27,7 @@ pub record IsRefused (ss : PlainStatements) (sc : Scope) (fault : StatementFault
   pub front : NotedStatements
   pub first : PlainStatement
   pub rest : PlainStatements
-  pub splits : ss ≡ behind (erase_block front) (statements first rest)
+  pub splits : ss ≡ statements_behind (erase_block front) (statements first rest)
   pub good : GoodBlock front sc
   pub cause : ((block_returns front ≡ true) × (fault ≡ refused (place_of first) after_return))
       ⊎ ((block_returns front ≡ false) × (note_statement first (after_all front sc) ≡ Err fault))

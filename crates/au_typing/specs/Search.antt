@@ -22,7 +22,8 @@ use Rattle.au_typing.specs.Faults.{integer_wanted, range_wanted, reference_wante
 use Rattle.au_typing.specs.Faults.{arguments_wanted, labels_wanted}
 use Rattle.au_typing.specs.Good.{count_of, labels_of}
 use Rattle.au_typing.specs.Limits.{within, types_noted}
-use Rattle.au_typing.specs.Lookups.{behind, is_free_in, record_part, value_type, variable_type, written_type}
+use Rattle.au_typing.specs.Lookups.{target_behind, is_free_in, record_part, value_type}
+use Rattle.au_typing.specs.Lookups.{variable_type, written_type}
 use Rattle.au_typing.specs.Notes.{Mode, Note, NotedArguments, NotedExpression, NotedExpressions, noted_at}
 use Rattle.au_typing.specs.Notes.{type_of}
 use Rattle.au_typing.specs.Operands.{Noter, of_one_type, paired}
@@ -93,11 +94,11 @@ module _ (scope : Scope) where
   -- the note of a part behind a reference of this type
   abbrev pub arrow_note : Mode → List (Placed Bytes) → Meaning → Noting Note
   arrow_note mode fields t =
-      known_or (shape reference_wanted) (behind t) >>= λ target. part_note mode target fields
+      known_or (shape reference_wanted) (target_behind t) >>= λ target. part_note mode target fields
 
   -- the note of what is copied from behind a reference of this type
   abbrev pub dereference_note : Mode → Meaning → Noting Note
-  dereference_note mode t = known_or (shape reference_wanted) (behind t) >>= read_note mode
+  dereference_note mode t = known_or (shape reference_wanted) (target_behind t) >>= read_note mode
 
   -- the note of a reference to a part, from a reference of this type
   abbrev pub borrow_part_note : Mode → List (Placed Bytes) → Meaning → Noting Note

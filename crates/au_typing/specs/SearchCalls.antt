@@ -12,7 +12,7 @@ use Rattle.au_matching.specs.Substituted.{substituted}
 use Rattle.au_judged_types.specs.Bounds.{parameters}
 use Rattle.au_instances.specs.Pairs.{Pair}
 use Rattle.au_typing.specs.Scopes.{Callable, Scope, Typed}
-use Rattle.au_typing.specs.Calls.{begun, first_lacking, first_left, first_misfit, types_of_call, wanted_of}
+use Rattle.au_typing.specs.Calls.{begun, first_lacking, first_misfit, first_unfixed, types_of_call, wanted_of}
 use Rattle.au_typing.specs.Faults.{Noting, ◌>>=◌, Why, why, known_or, unknown, different, unfixed}
 use Rattle.au_typing.specs.Faults.{no_instance, not_free, shape, labels_wanted, linear_wanted, region_wanted}
 use Rattle.au_typing.specs.Limits.{within}
@@ -124,7 +124,7 @@ module _ (scope : Scope) where
   -- the note of a call, where the rules after those on arguments hold
   abbrev pub called_note : Mode → Callable → Bindings → Noting Note
   called_note mode called s =
-      unless_why unfixed (first_left s (parameters called.generics))
+      unless_why unfixed (first_unfixed s (parameters called.generics))
       (within (types_of_call mode called s)
       (unless_why (misfit s) (first_misfit scope s (parameters called.generics))
       (unless_why lacks (first_lacking scope s (wanted_of called)) (Ok (call_note mode called s)))))
