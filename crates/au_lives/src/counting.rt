@@ -93,8 +93,7 @@ fn counts_of_argument<P: Phase>(x: &Name, free: bool, argument: &Argument<P>) ->
 }
 
 /// Whether an expression is a variable or a constant alone, or that in parentheses.
-#[tactic(auto, using(crate::proofs::CountLemmas::alone, au_syntax::proofs::ExpressionLemmas::expression_steps))]
-fn is_variable<P: Phase>(e: &Expr<P>) -> bool
+pub fn is_variable<P: Phase>(e: &Expr<P>) -> bool
     ensures { result ≡ spec.is_variable (plain_expression P.name_bytes (expression P.Phase e.now)) }
 {
     match e {

@@ -9,7 +9,7 @@ pub mod steps;
 pub mod tallies;
 pub mod use_laws;
 
-pub use counting::counts;
+pub use counting::{counts, is_variable};
 pub use readings::choices;
 pub use steps::{State, Verdict, step};
 pub use tallies::{Few, Tally};
