@@ -8,7 +8,7 @@ use Rattle.au_runs.specs.Calls as calls
 use Rattle.au_runs.specs.Calls.{IsCut, Rose, Runs, Says}
 use Rattle.au_runs.specs.declared.ends.End.{End}
 use Rattle.au_runs.specs.declared.ends.End.TheVariants as end
-use Rattle.au_running.specs.Came.{CameSo, IsAbort, ran_of}
+use Rattle.au_running.specs.Came.{CodeEnds, IsAbort, ran_of}
 use Rattle.au_running.specs.Ran.{is_read_fault, is_write_fault}
 use Rattle.au_running.specs.declared.ran.Ran.{Ran}
 use Rattle.au_running.specs.declared.ran.Ran.TheVariants as how
@@ -57,7 +57,7 @@ abort_quiet end.WriteFault reads reads' writes writes' read written none = absur
 -- what is answered of a run, by how the call of the machine ended
 pub said_came : (code : Code) (ended : End) (limit : ℕ) (told left out out' : Option (List ℕ))
     (events : List (Deed ℕ)) → Says ended (low_run false code) limit told left out out' events
-    → CameSo code (ran_of code ended) limit told left out out'
+    → CodeEnds code (ran_of code ended) limit told left out out'
 said_came code (end.Exit success) limit told left out out' events says =
     record { ending = ending.Exit success; answer = refl; events = events; made = says }
 said_came code (end.Abort why) limit told left out out' events says =
@@ -71,7 +71,7 @@ said_came code end.WriteFault limit told left out out' events says = says
 
 -- a run of code of which no more is told than that a front of what it writes was written
 pub came_cut : (code : Code) (ran : Ran) (limit : ℕ) (told left out out' : Option (List ℕ))
-    → CameSo code ran limit told left out out' → IsCut (low_run false code) limit told out out'
+    → CodeEnds code ran limit told left out out' → IsCut (low_run false code) limit told out out'
 came_cut code how.ReadFault limit told left out out' came =
     waited_cut code limit told left out out' came.0 came.1
 came_cut code how.WriteFault limit told left out out' came = came

@@ -9,12 +9,12 @@ use Rattle.au_lowering.specs.Closed.{code_of}
 use Rattle.au_meaning.specs.Laws.{Begins}
 use Rattle.au_meaning.specs.Worlds.{Ending, Outcome, exit, abort, running, stuck}
 use Rattle.au_runs.specs.Calls.{IsCut}
-use Rattle.au_running.specs.Came.{CameSo}
+use Rattle.au_running.specs.Came.{CodeEnds}
 use Rattle.au_running.specs.Fronts.{CutRunsWriteFronts, IsStuckAsMeant, RunsWriteFronts, StuckAnswersAreMeant}
 use Rattle.au_running.specs.Fronts.{StuckRunsAreMeant, WaitingRunsShow, WaitsAsMeant, WritesFront}
 use Rattle.au_running.specs.Meant.{means}
-use Rattle.au_running.specs.Runs.{RunsShow, ran_by}
-use Rattle.au_running.specs.Shown.{Shows}
+use Rattle.au_running.specs.Runs.{Refines, ran_by}
+use Rattle.au_running.specs.Shown.{AnswerShows}
 use Rattle.au_running.specs.declared.ran.Ran.{Ran}
 use Rattle.au_running.specs.declared.ran.Ran.TheVariants as how
 use Rattle.au_running.proofs.AnswerLemmas.{came_cut}
@@ -41,7 +41,7 @@ stuck_answered code low_ending.Stuck is = refl
 
 -- what a run shows was written begins what is meant
 shown_begins : (ran : Ran) (meant : ℕ → Outcome) (limit : ℕ) (written left : List ℕ)
-    → Shows ran meant limit written left → Begins written (meant limit).world.output
+    → AnswerShows ran meant limit written left → Begins written (meant limit).world.output
 shown_begins how.NoEntry meant limit written left shows = absurd shows
 shown_begins (how.Limit passed) meant limit written left shows = absurd shows
 shown_begins (how.Exit success) meant limit written left shows =
@@ -57,7 +57,7 @@ shown_begins how.WriteFault meant limit written left shows = absurd shows
 
 -- ---- of code each run of which shows what is meant
 
-module _ (code : Code) (meant : List ℕ → ℕ → Outcome) (runs : RunsShow code meant) where
+module _ (code : Code) (meant : List ℕ → ℕ → Outcome) (runs : Refines code meant) where
   cut_front : (steps : ℕ) (told out out' : Option (List ℕ)) → IsCut (low_run false code) steps told out out'
       → WritesFront meant steps told out out'
   cut_front steps told out out' cut = record {
@@ -72,7 +72,7 @@ module _ (code : Code) (meant : List ℕ → ℕ → Outcome) (runs : RunsShow c
   }
 
   waiting_shows : (steps : ℕ) (told left out out' : Option (List ℕ))
-      → CameSo code how.ReadFault steps told left out out' → WaitsAsMeant meant steps told left out out'
+      → CodeEnds code how.ReadFault steps told left out out' → WaitsAsMeant meant steps told left out out'
   waiting_shows steps told left out out' came =
       let waited = came.1 in
       record {
@@ -84,7 +84,7 @@ module _ (code : Code) (meant : List ℕ → ℕ → Outcome) (runs : RunsShow c
         within = waited.within;
         so_far = λ rest unstuck.
             let input = waited.taken ++ rest in
-            subst (λ (o : low.Outcome). Shows (ran_by code o.ending) (meant input) waited.made o.output
+            subst (λ (o : low.Outcome). AnswerShows (ran_by code o.ending) (meant input) waited.made o.output
             o.left) (waited.so_far rest) (runs input waited.made unstuck);
       }
 
@@ -97,11 +97,11 @@ module _ (code : Code) (meant : List ℕ → ℕ → Outcome) (runs : RunsShow c
       by (inl so) = so
       by (inr unstuck) =
           let run = low_run false code input limit in
-          absurd (subst (λ (end : low_endings.Ending). Shows (ran_by code end) (meant input) limit
+          absurd (subst (λ (end : low_endings.Ending). AnswerShows (ran_by code end) (meant input) limit
           run.output run.left) is (runs input limit unstuck))
 
   stuck_as_meant : (steps : ℕ) (told left out out' : Option (List ℕ))
-      → CameSo code how.Stuck steps told left out out' → IsStuckAsMeant meant steps told left
+      → CodeEnds code how.Stuck steps told left out out' → IsStuckAsMeant meant steps told left
   stuck_as_meant steps told left out out' came = record {
     taken = came.made.taken;
     rest = came.made.rest;

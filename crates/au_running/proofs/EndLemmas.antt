@@ -25,8 +25,8 @@ use Rattle.au_lowered.proofs.BetweenLemmas.{between, ends_so, seen_within}
 use Rattle.au_lowered.proofs.EndLemmas.{has_ended}
 use Rattle.au_lowered.proofs.RunLemmas.{runs_follow}
 use Rattle.au_lowered.specs.FollowPrograms.{GoodProgram}
-use Rattle.au_running.specs.Runs.{RunShows, kind_words, ran_by}
-use Rattle.au_running.specs.Shown.{IsSeen, Shows, fault_words}
+use Rattle.au_running.specs.Runs.{RefinesOn, kind_words, ran_by}
+use Rattle.au_running.specs.Shown.{IsSeen, AnswerShows, fault_words}
 use Rattle.au_running.proofs.NamedLemmas.{abort_named}
 use Rattle.au_syntax.specs.Plain.{Bytes}
 
@@ -107,13 +107,14 @@ module _ {T C : Type 0} (told : ClosedType → LowType) (functions : List (Funct
   }
 
   -- by how it ended
-  shown_by : (end : Ending) → full.ending ≡ end → Shows (ran_by code end) meant limit plain.output plain.left
-      → RunShows code meant input limit
+  shown_by : (end : Ending) → full.ending ≡ end
+      → AnswerShows (ran_by code end) meant limit plain.output plain.left
+      → RefinesOn code meant input limit
   shown_by end e shows =
-      subst (λ (end : Ending). Shows (ran_by code end) meant limit plain.output plain.left)
+      subst (λ (end : Ending). AnswerShows (ran_by code end) meant limit plain.output plain.left)
       (sym (ends_alike ∙ e)) shows
 
-  exit_shown : (success : Bool) → full.ending ≡ low_ending.Exit success → RunShows code meant input limit
+  exit_shown : (success : Bool) → full.ending ≡ low_ending.Exit success → RefinesOn code meant input limit
   exit_shown success e =
       let over = has_ended told functions good input limit unstuck (λ cut. not_steps (sym e ∙ cut)) in
       shown_by (low_ending.Exit success) e (
@@ -124,7 +125,7 @@ module _ {T C : Type 0} (told : ClosedType → LowType) (functions : List (Funct
       not_steps : low_ending.Exit success ≡ low_ending.Steps → ⊥
       not_steps e = grind arith
 
-  abort_shown : (why : AbortKind) → full.ending ≡ low_ending.Abort why → RunShows code meant input limit
+  abort_shown : (why : AbortKind) → full.ending ≡ low_ending.Abort why → RefinesOn code meant input limit
   abort_shown why e =
       let over = has_ended told functions good input limit unstuck (λ cut. not_steps (sym e ∙ cut)) in
       let back = abort_back (texts_in functions) (meant limit).ending why (sym over.agrees.ending ∙ e) in
@@ -142,7 +143,7 @@ module _ {T C : Type 0} (told : ClosedType → LowType) (functions : List (Funct
       not_steps : low_ending.Abort why ≡ low_ending.Steps → ⊥
       not_steps e = grind arith
 
-  stuck_shown : full.ending ≡ low_ending.Stuck → RunShows code meant input limit
+  stuck_shown : full.ending ≡ low_ending.Stuck → RefinesOn code meant input limit
   stuck_shown e =
       let over = has_ended told functions good input limit unstuck (λ cut. not_steps (sym e ∙ cut)) in
       absurd (unstuck (stuck_back (texts_in functions) (meant limit).ending (sym over.agrees.ending ∙ e)))
@@ -169,7 +170,7 @@ module _ {T C : Type 0} (told : ClosedType → LowType) (functions : List (Funct
           let within : follows.steps ≤ limit = omega (arith, made, most, few, eighth) in
           absurd (ends_so told functions good input limit 0 m follows o fewer within cut_off)
 
-  cut_shown : full.ending ≡ low_ending.Steps → RunShows code meant input limit
+  cut_shown : full.ending ≡ low_ending.Steps → RefinesOn code meant input limit
   cut_shown e =
       let lies = between told functions good input limit fewer unstuck e in
       let same : full.output ≡ plain.output = sym (ap (λ (o : low.Outcome). o.output) muted) in
@@ -179,7 +180,7 @@ module _ {T C : Type 0} (told : ClosedType → LowType) (functions : List (Funct
         to = subst (λ xs. Begins xs (meant limit).world.output) same lies.output_to;
       })
 
-  any_shown : (end : Ending) → full.ending ≡ end → RunShows code meant input limit
+  any_shown : (end : Ending) → full.ending ≡ end → RefinesOn code meant input limit
   any_shown (low_ending.Exit success) e = exit_shown success e
   any_shown (low_ending.Abort why) e = abort_shown why e
   any_shown low_ending.Steps e = cut_shown e
@@ -189,7 +190,8 @@ module _ {T C : Type 0} (told : ClosedType → LowType) (functions : List (Funct
 pub good_shows : {T C : Type 0} (told : ClosedType → LowType) (functions : List (Function ℕ T C))
     → GoodProgram told functions → (input : List ℕ) (limit : ℕ)
     → ((mean (λ i. slice_get functions i) 0 input limit).ending ≡ stuck → ⊥)
-    → RunShows (lowered told functions) (λ ticks. mean (λ i. slice_get functions i) 0 input ticks) input limit
+    → RefinesOn (lowered told functions) (λ ticks. mean (λ i. slice_get functions i) 0 input ticks) input
+    limit
 good_shows told functions good input limit unstuck =
     any_shown told functions good input limit unstuck
     (low_run true (lowered told functions) input limit).ending refl

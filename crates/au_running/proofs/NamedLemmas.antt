@@ -108,8 +108,8 @@ module _ {T C : Type 0} (told : ClosedType → LowType) (fn : Function ℕ T C) 
 
   -- ---- a run with the other numbers
 
-  -- after some steps a run ends so, and stays as it is
-  pub record EndsSo (input : List ℕ) (end : Ending) : Type 0 where
+  -- in some number of steps a run comes to this end, and stays as it is
+  pub record EndsInSteps (input : List ℕ) (end : Ending) : Type 0 where
     pub steps : ℕ
     pub ends : (low_run true code input steps).ending ≡ ending_of other end
     pub stays : is_over end ≡ true → (more : ℕ)
@@ -117,7 +117,7 @@ module _ {T C : Type 0} (told : ClosedType → LowType) (fn : Function ℕ T C) 
 
   ends_so : (input : List ℕ) (s : Spot) (meant : Outcome)
       → ((limit : ℕ) → low_run true code input limit ≡ exec code limit (run_at s 0))
-      → Shows other s meant → EndsSo input meant.ending
+      → Shows other s meant → EndsInSteps input meant.ending
   ends_so input s meant is shows = record {
     steps = shows.steps;
     ends = ap (λ (o : runs.Outcome). o.ending) (is shows.steps ∙ shows.here);
@@ -131,7 +131,7 @@ module _ {T C : Type 0} (told : ClosedType → LowType) (fn : Function ℕ T C) 
 
   entry_ends : (input : List ℕ) (ticks : ℕ) (params : List Field) → fn.parameters ≡ params
       → ((mean (λ i. slice_get (fn ∷ rest) i) 0 input ticks).ending ≡ stuck → ⊥)
-      → EndsSo input (mean (λ i. slice_get (fn ∷ rest) i) 0 input ticks).ending
+      → EndsInSteps input (mean (λ i. slice_get (fn ∷ rest) i) 0 input ticks).ending
   unfolding call_at follows
   entry_ends input ticks [] is claim =
       let functions = λ (i : ℕ). slice_get (fn ∷ rest) i in

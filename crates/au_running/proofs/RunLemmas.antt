@@ -28,7 +28,7 @@ use Rattle.au_running.proofs.GoodLemmas.{guarded_good}
 use Rattle.au_running.proofs.JoinedLemmas.{in_order}
 use Rattle.au_running.proofs.MeaningLemmas.{means_same}
 use Rattle.au_running.specs.Meant.{means}
-use Rattle.au_running.specs.Runs.{IsRunnable, LoweredProgramsRun, RunShows, RunsShow}
+use Rattle.au_running.specs.Runs.{IsRunnable, LoweredProgramsRun, RefinesOn, Refines}
 use Rattle.au_running.proofs.EndLemmas.{good_shows}
 use Rattle.au_running.proofs.FollowedLemmas.{all_of, names_same, round_in, rows_follow}
 use Rattle.au_running.proofs.NumberingLemmas.{code_same}
@@ -89,7 +89,7 @@ module _ (program : List ModuleParts) (noted : List NotedParts) (owner name : By
       closes.functions (types_of c.types) (made_rows program c.functions c.types closes.types)
       runnable.plain once fields numbers begins
 
-  run_shown : RunsShow (code_of c) (means program noted closes.entry)
+  run_shown : Refines (code_of c) (means program noted closes.entry)
   run_shown input limit claim =
       let told = told_in c.types in
       let followed = are_followed input limit claim in
@@ -103,8 +103,8 @@ module _ (program : List ModuleParts) (noted : List NotedParts) (owner name : By
       ∙ sym (code_same (map body_seen c.functions) (map row_seen c.types) told c.functions (λ n. 0) numbers) in
       let shown = good_shows told guards good input limit
       (λ e. claim (ap (λ (o : Outcome). o.ending) (meant limit) ∙ e)) in
-      subst (λ (m : ℕ → Outcome). RunShows (code_of c) m input limit) (λ i ticks. sym (meant ticks) i)
-      (subst (λ (k : Code). RunShows k (λ ticks. mean (λ i. slice_get guards i) 0 input ticks) input limit)
+      subst (λ (m : ℕ → Outcome). RefinesOn (code_of c) m input limit) (λ i ticks. sym (meant ticks) i)
+      (subst (λ (k : Code). RefinesOn k (λ ticks. mean (λ i. slice_get guards i) 0 input ticks) input limit)
       same shown)
 
 -- every run of the code that a program is lowered to shows what the program means

@@ -13,9 +13,9 @@ use Rattle.au_noting_programs.specs.Faults.{IsDerived}
 use Rattle.au_rules.specs.Good.{AllDeclarationsAreGood}
 use Rattle.au_runs.specs.Calls.{IsCut}
 use Rattle.au_running.specs.Asked.{CallsArePlain}
-use Rattle.au_running.specs.Came.{CameSo, RanWhole}
+use Rattle.au_running.specs.Came.{CodeEnds, CodeCompletes}
 use Rattle.au_running.specs.Coded.{HasCode}
-use Rattle.au_running.specs.Ran.{HasRun, HasRunSo, IsBroken, IsLowered, RanAsMeant}
+use Rattle.au_running.specs.Ran.{CompletesAsMeant, IsLowered, ProgramEnds, ProgramIsCut}
 use Rattle.au_running.specs.Runs.{LoweredProgramsRun, ran_by}
 use Rattle.au_running.specs.declared.ran.Ran.{Ran}
 use Rattle.au_running.specs.declared.ran.Ran.TheVariants as how
@@ -38,8 +38,8 @@ unlimited code limit ending.Stuck is = absurd cc
 module _ (program : List ModuleParts) (noted : List NotedParts) (owner name : Bytes) where
   -- what a run of its code says of a program
   ran_so : (it : IsLowered program noted owner name) (ran : Ran) (steps : ℕ)
-      (told left out out' : Option (List ℕ)) → CameSo (code_of it.c) ran steps told left out out'
-      → HasRunSo program noted owner name ran steps told left out out'
+      (told left out out' : Option (List ℕ)) → CodeEnds (code_of it.c) ran steps told left out out'
+      → ProgramEnds program noted owner name ran steps told left out out'
   ran_so it how.NoEntry steps told left out out' came = begun (code_of it.c) came.ending came.answer
   ran_so it (how.Limit limit) steps told left out out' came =
       unlimited (code_of it.c) limit came.ending came.answer
@@ -47,16 +47,16 @@ module _ (program : List ModuleParts) (noted : List NotedParts) (owner name : By
 
   -- a run of which no more is told than that a front of what it writes was written
   pub ran_broken : (ran : Ran) (steps : ℕ) (told left out out' : Option (List ℕ))
-      → HasRun program noted owner name ran steps told left out out'
-      → IsBroken program noted owner name steps told out out'
+      → (it : IsLowered program noted owner name) × CodeEnds (code_of it.c) ran steps told left out out'
+      → ProgramIsCut program noted owner name steps told out out'
   ran_broken ran steps told left out out' run =
       (run.0, came_cut (code_of run.0.c) ran steps told left out out' run.1)
 
   -- where its declarations are good, its runs are spoken of
   pub as_meant : IsDerived program noted → AllDeclarationsAreGood program → (ran : Ran) (steps : ℕ)
       (told left out out' : Option (List ℕ)) → (it : IsLowered program noted owner name)
-      → RanWhole (code_of it.c) ran steps told left out out'
-      → RanAsMeant program noted owner name ran steps told left out out'
+      → CodeCompletes (code_of it.c) ran steps told left out out'
+      → CompletesAsMeant program noted owner name ran steps told left out out'
   as_meant derived declared ran steps told left out out' it run = record {
     it = it;
     run = run;
@@ -78,15 +78,15 @@ module _ (program : List ModuleParts) (noted : List NotedParts) (owner name : By
 
     -- what is answered of a run of its code
     pub came_so : (ran : Ran) (steps : ℕ) (told left out out' : Option (List ℕ))
-        → CameSo code ran steps told left out out'
-        → HasRunSo program noted owner name ran steps told left out out'
+        → CodeEnds code ran steps told left out out'
+        → ProgramEnds program noted owner name ran steps told left out out'
     came_so ran steps told left out out' came =
         ran_so lowered ran steps told left out out'
-        (subst (λ (code : Code). CameSo code ran steps told left out out') has.3 came)
+        (subst (λ (code : Code). CodeEnds code ran steps told left out out') has.3 came)
 
     -- a run of its code that was cut off
     pub cut_so : (steps : ℕ) (told out out' : Option (List ℕ))
         → IsCut (low_run false code) steps told out out'
-        → IsBroken program noted owner name steps told out out'
+        → ProgramIsCut program noted owner name steps told out out'
     cut_so steps told out out' cut =
         (lowered, subst (λ (code : Code). IsCut (low_run false code) steps told out out') has.3 cut)

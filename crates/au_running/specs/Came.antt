@@ -29,19 +29,19 @@ IsAbort end.Stuck = ⊥
 IsAbort end.ReadFault = ⊥
 IsAbort end.WriteFault = ⊥
 
--- The whole run of code was made, for at most so many steps, and this is answered of how it ended: all that
--- it writes stands on the sink, and what it leaves of the input is what is left.
-pub record RanWhole (code : Code) (ran : Ran) (steps : ℕ) (told left out out' : Option (List ℕ))
+-- A run of code was completed, for at most so many steps, and this is answered of how it ended: all that it
+-- writes stands on the sink, and what it leaves of the input is what is left.
+pub record CodeCompletes (code : Code) (ran : Ran) (steps : ℕ) (told left out out' : Option (List ℕ))
     : Type 0 where
   pub ending : Ending
   pub answer : ran ≡ ran_by code ending
   pub events : List (Deed ℕ)
   pub made : IsMade ending (low_run false code) steps told left out out' events
 
--- What an answer says of a run of code, for at most so many steps: the run waits for a byte that couldn't be
--- read; a front of what it writes stands on a sink that failed; or the whole run was made.
-abbrev pub CameSo : Code → Ran → ℕ → (told left out out' : Option (List ℕ)) → Type 0
-CameSo code ran.ReadFault steps told left out out' =
+-- A run of code, for at most so many steps, ended with this answer: the run waits for a byte that couldn't be
+-- read; a front of what it writes stands on a sink that failed; or it was completed.
+abbrev pub CodeEnds : Code → Ran → ℕ → (told left out out' : Option (List ℕ)) → Type 0
+CodeEnds code ran.ReadFault steps told left out out' =
     (events : List (Deed ℕ)) × HasWaited (low_run false code) steps told left out out' events
-CameSo code ran.WriteFault steps told left out out' = IsCut (low_run false code) steps told out out'
-CameSo code other steps told left out out' = RanWhole code other steps told left out out'
+CodeEnds code ran.WriteFault steps told left out out' = IsCut (low_run false code) steps told out out'
+CodeEnds code other steps told left out out' = CodeCompletes code other steps told left out out'

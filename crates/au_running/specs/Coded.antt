@@ -6,7 +6,7 @@ use Rattle.au_typing.specs.Trees.{NotedParts}
 use Rattle.au_low.specs.declared.code.Code.{Code}
 use Rattle.au_lowering.specs.Closed.{code_of, is_too_long}
 use Rattle.au_modules.specs.Programs.{ModuleParts}
-use Rattle.au_running.specs.Ran.{HasNoEntry, PassesSo}
+use Rattle.au_running.specs.Ran.{HasNoEntry, IsOverLimit}
 use Rattle.au_running.specs.declared.coding.Uncoded.{Uncoded}
 use Rattle.au_running.specs.declared.coding.Uncoded.TheVariants as uncoded
 use Rattle.au_syntax.specs.Plain.{Bytes}
@@ -19,5 +19,5 @@ HasCode program noted owner name (Ok code) =
     (c : ClosedProgram) × ClosesWithin program noted owner name c × (is_too_long c ≡ false)
     × (code ≡ code_of c)
 HasCode program noted owner name (Err uncoded.NoEntry) = HasNoEntry program noted owner name
-HasCode program noted owner name (Err (uncoded.Limit limit)) = PassesSo program noted owner name limit
+HasCode program noted owner name (Err (uncoded.Limit limit)) = IsOverLimit program noted owner name limit
 HasCode program noted owner name (Err uncoded.Memory) = Unit {0}

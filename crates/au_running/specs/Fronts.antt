@@ -11,7 +11,7 @@ use Rattle.au_low.specs.declared.endings.Ending.TheVariants as ending
 use Rattle.au_lowering.specs.Closed.{code_of}
 use Rattle.au_meaning.specs.Worlds.{Outcome, stuck}
 use Rattle.au_modules.specs.Programs.{ModuleParts}
-use Rattle.au_running.specs.Came.{CameSo}
+use Rattle.au_running.specs.Came.{CodeEnds}
 use Rattle.au_running.specs.Meant.{means}
 use Rattle.au_running.specs.Runs.{IsRunnable}
 use Rattle.au_running.specs.Shown.{IsCutOff}
@@ -68,7 +68,7 @@ OfLoweredPrograms P =
 abbrev pub RunsWriteFronts : Type 0
 RunsWriteFronts = OfLoweredPrograms (λ code meant.
     (ran : Ran) (steps : ℕ) (told left out out' : Option (List ℕ))
-    → CameSo code ran steps told left out out' → WritesFront meant steps told out out')
+    → CodeEnds code ran steps told left out out' → WritesFront meant steps told out out')
 
 -- So it was where a run was cut off, by a sink that failed or since memory ran out.
 abbrev pub CutRunsWriteFronts : Type 0
@@ -80,7 +80,7 @@ CutRunsWriteFronts = OfLoweredPrograms (λ code meant.
 abbrev pub WaitingRunsShow : Type 0
 WaitingRunsShow = OfLoweredPrograms (λ code meant.
     (steps : ℕ) (told left out out' : Option (List ℕ))
-    → CameSo code ran.ReadFault steps told left out out' → WaitsAsMeant meant steps told left out out')
+    → CodeEnds code ran.ReadFault steps told left out out' → WaitsAsMeant meant steps told left out out')
 
 -- A run of code that is stuck is one of a meaning that is stuck within as many ticks as it may make steps.
 abbrev pub StuckRunsAreMeant : Type 0
@@ -92,4 +92,4 @@ StuckRunsAreMeant = OfLoweredPrograms (λ code meant.
 abbrev pub StuckAnswersAreMeant : Type 0
 StuckAnswersAreMeant = OfLoweredPrograms (λ code meant.
     (steps : ℕ) (told left out out' : Option (List ℕ))
-    → CameSo code ran.Stuck steps told left out out' → IsStuckAsMeant meant steps told left)
+    → CodeEnds code ran.Stuck steps told left out out' → IsStuckAsMeant meant steps told left)

@@ -12,9 +12,9 @@ use Rattle.au_low.specs.Runs.{low_run}
 use Rattle.au_lowering.specs.Answers.{too_long}
 use Rattle.au_lowering.specs.Closed.{code_of, is_too_long}
 use Rattle.au_running.specs.Asked.{CallsArePlain}
-use Rattle.au_running.specs.Came.{CameSo, RanWhole}
+use Rattle.au_running.specs.Came.{CodeEnds, CodeCompletes}
 use Rattle.au_running.specs.Meant.{means}
-use Rattle.au_running.specs.Runs.{IsRunnable, RunsShow}
+use Rattle.au_running.specs.Runs.{IsRunnable, Refines}
 use Rattle.au_runs.specs.Calls.{IsCut}
 use Rattle.au_running.specs.declared.ran.Ran.{Ran}
 use Rattle.au_running.specs.declared.ran.Ran.TheVariants as ran
@@ -31,10 +31,10 @@ module _ (program : List ModuleParts) (noted : List NotedParts) (owner name : By
       (entry_of program owner name ≡ nowhere)
       ⊎ ((at : Pos) × (entry_of program owner name ≡ not_of_the_form at))
 
-  -- An instance that is reached from the entry passes a limit, or there are too many; or the code of what the
-  -- program closes to is too long.
-  abbrev pub PassesSo : Limit → Type 0
-  PassesSo limit =
+  -- The program is over this limit: an instance that is reached from the entry passes it, or there are too
+  -- many; or the code of what the program closes to is too long.
+  abbrev pub IsOverLimit : Limit → Type 0
+  IsOverLimit limit =
       Passes program noted owner name limit
       ⊎ ((c : ClosedProgram) × ClosesWithin program noted owner name c × (is_too_long c ≡ true)
       × (limit ≡ too_long))
@@ -48,31 +48,28 @@ module _ (program : List ModuleParts) (noted : List NotedParts) (owner name : By
     pub plain : CallsArePlain c.functions
     pub short : is_too_long c ≡ false
     pub meant : IsRunnable program noted c
-        → RunsShow (code_of c) (means program noted closes.closes.entry)
+        → Refines (code_of c) (means program noted closes.closes.entry)
 
-  -- The program ran as code, for at most so many steps, and this is answered of the run.
-  abbrev pub HasRun : Ran → ℕ → (told left out out' : Option (List ℕ)) → Type 0
-  HasRun ran steps told left out out' =
-      (it : IsLowered) × CameSo (code_of it.c) ran steps told left out out'
-
-  -- The program ran as code, and its run was broken off: a front of what the code writes within so many steps
+  -- The program ran as code, and its run was cut off: a front of what the code writes within so many steps
   -- was written.
-  abbrev pub IsBroken : ℕ → (told out out' : Option (List ℕ)) → Type 0
-  IsBroken steps told out out' =
+  abbrev pub ProgramIsCut : ℕ → (told out out' : Option (List ℕ)) → Type 0
+  ProgramIsCut steps told out out' =
       (it : IsLowered) × IsCut (low_run false (code_of it.c)) steps told out out'
 
-  -- The whole run of the program's code was made, and this is answered of it. And where what the program
+  -- A run of the program's code was completed, and this is answered of it. And where what the program
   -- means isn't stuck within as many ticks as the run had steps, it shows that, as every run of the code does.
-  pub record RanAsMeant (ran : Ran) (steps : ℕ) (told left out out' : Option (List ℕ)) : Type 0 where
+  pub record CompletesAsMeant (ran : Ran) (steps : ℕ) (told left out out' : Option (List ℕ)) : Type 0 where
     pub it : IsLowered
-    pub run : RanWhole (code_of it.c) ran steps told left out out'
-    pub shows : RunsShow (code_of it.c) (means program noted it.closes.closes.entry)
+    pub run : CodeCompletes (code_of it.c) ran steps told left out out'
+    pub shows : Refines (code_of it.c) (means program noted it.closes.closes.entry)
 
-  -- what a call with so many steps has done, by what it answered
-  abbrev pub HasRunSo : Ran → ℕ → (told left out out' : Option (List ℕ)) → Type 0
-  HasRunSo ran.NoEntry steps told left out out' = HasNoEntry × IsIdle told left out out'
-  HasRunSo (ran.Limit limit) steps told left out out' = PassesSo limit × IsIdle told left out out'
-  HasRunSo other steps told left out out' = HasRun other steps told left out out'
+  -- What an answer says of a call that was to run the program for at most so many steps: there is no such
+  -- entry, or a limit is passed, and nothing was done; or the program ran as code, and its run ended so.
+  abbrev pub ProgramEnds : Ran → ℕ → (told left out out' : Option (List ℕ)) → Type 0
+  ProgramEnds ran.NoEntry steps told left out out' = HasNoEntry × IsIdle told left out out'
+  ProgramEnds (ran.Limit limit) steps told left out out' = IsOverLimit limit × IsIdle told left out out'
+  ProgramEnds other steps told left out out' =
+      (it : IsLowered) × CodeEnds (code_of it.c) other steps told left out out'
 
 -- whether a call of the source failed, and whether one of the sink did
 abbrev pub is_read_fault : Ran → Bool

@@ -16,7 +16,7 @@ use Rattle.au_low.specs.Runs.{low_run}
 use Rattle.au_lowering.specs.Closed.{code_of}
 use Rattle.au_meaning.specs.Worlds.{Outcome, stuck}
 use Rattle.au_running.specs.Meant.{means}
-use Rattle.au_running.specs.Shown.{Shows}
+use Rattle.au_running.specs.Shown.{AnswerShows}
 use Rattle.au_running.specs.declared.ran.Ran.{Ran}
 use Rattle.au_running.specs.declared.ran.Ran.TheVariants as ran
 use Rattle.au_syntax.specs.Plain.{Bytes}
@@ -36,17 +36,18 @@ ran_by code (ending.Abort why) = ran.Abort (kind_words code why)
 ran_by code ending.Steps = ran.Steps
 ran_by code ending.Stuck = ran.Stuck
 
--- A run of code with so many steps shows what is meant, on an input.
-abbrev pub RunShows : Code → (ℕ → Outcome) → List ℕ → ℕ → Type 0
-RunShows code meant input limit =
-    Shows (ran_by code (low_run false code input limit).ending) meant limit
+-- A run of code refines what is meant, on an input and with so many steps: its answer shows that.
+abbrev pub RefinesOn : Code → (ℕ → Outcome) → List ℕ → ℕ → Type 0
+RefinesOn code meant input limit =
+    AnswerShows (ran_by code (low_run false code input limit).ending) meant limit
     (low_run false code input limit).output (low_run false code input limit).left
 
--- Every run of code shows what is meant, where that isn't stuck within as many ticks as the run has steps.
-abbrev pub RunsShow : Code → (List ℕ → ℕ → Outcome) → Type 0
-RunsShow code meant =
+-- Code refines what is meant: every run of it shows that, where it isn't stuck within as many ticks as the
+-- run has steps.
+abbrev pub Refines : Code → (List ℕ → ℕ → Outcome) → Type 0
+Refines code meant =
     (input : List ℕ) (limit : ℕ) → ((meant input limit).ending ≡ stuck → ⊥)
-    → RunShows code (meant input) input limit
+    → RefinesOn code (meant input) input limit
 
 -- What is asked of a program whose runs are spoken of: it is derived, its declarations are good, and what it
 -- closes to calls none of the shipped functions of references, boxes, buffers and the terminal.
@@ -61,4 +62,4 @@ abbrev pub LoweredProgramsRun : Type 0
 LoweredProgramsRun =
     (program : List ModuleParts) (noted : List NotedParts) (owner name : Bytes) (c : ClosedProgram)
     → (closes : Closes program noted owner name c) → IsRunnable program noted c
-    → RunsShow (code_of c) (means program noted closes.entry)
+    → Refines (code_of c) (means program noted closes.entry)

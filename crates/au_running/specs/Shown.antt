@@ -28,14 +28,14 @@ pub record IsCutOff (meant : ℕ → Outcome) (limit : ℕ) (written : List ℕ)
   pub from : Begins (meant (limit / 8)).world.output written
   pub to : Begins written (meant limit).world.output
 
--- This is answered of a run with so many steps, which had written these bytes and left those of its input: it
--- returned success or failure, or aborted for a cause that is told in these words, and so does what is meant
--- in as many ticks; or its steps were spent. It isn't stuck.
-abbrev pub Shows : Ran → (ℕ → Outcome) → ℕ → List ℕ → List ℕ → Type 0
-Shows (ran.Exit success) meant limit written left =
+-- What an answer shows of the meaning. It is that of a run with so many steps, which had written these bytes
+-- and left those of its input: it returned success or failure, or aborted for a cause that is told in these
+-- words, and so does what is meant in as many ticks; or its steps were spent. It isn't stuck.
+abbrev pub AnswerShows : Ran → (ℕ → Outcome) → ℕ → List ℕ → List ℕ → Type 0
+AnswerShows (ran.Exit success) meant limit written left =
     ((meant limit).ending ≡ exit success) × IsSeen (meant limit) written left
-Shows (ran.Abort words) meant limit written left =
+AnswerShows (ran.Abort words) meant limit written left =
     ((fault : Fault) × ((meant limit).ending ≡ abort fault) × (fault_words fault ≡ words))
     × IsSeen (meant limit) written left
-Shows ran.Steps meant limit written left = IsCutOff meant limit written
-Shows other meant limit written left = ⊥
+AnswerShows ran.Steps meant limit written left = IsCutOff meant limit written
+AnswerShows other meant limit written left = ⊥

@@ -5,7 +5,7 @@ ghost use Rattle.au_low.specs.Instructions.{text_bytes};
 ghost use Rattle.au_low.specs.Runs.{low_run};
 ghost use Rattle.au_running.specs.Runs.{kind_words};
 ghost use Rattle.au_runs.specs.Calls.{IsCut, Rose};
-ghost use Rattle.au_running.specs.Came.{CameSo, IsAbort, ran_of};
+ghost use Rattle.au_running.specs.Came.{CodeEnds, IsAbort, ran_of};
 ghost use Rattle.au_running.specs.Ran.{is_read_fault, is_write_fault};
 
 use crate::ran::Ran;
@@ -72,7 +72,7 @@ pub fn run_code<I: Source, O: Sink>(
     input: &mut I,
     out: &mut O,
 ) -> Result<Ran, Memory>
-    ensures came { IfOk result (λ ran. CameSo code.now ran steps (I.left input.old) (I.left input.new)
+    ensures came { IfOk result (λ ran. CodeEnds code.now ran steps (I.left input.old) (I.left input.new)
         (O.written out.old) (O.written out.new)) }
     ensures read { IfOk result (λ ran. Rose (is_read_fault ran) (I.faults input.old) (I.faults input.new)) }
     ensures written { IfOk result (λ ran. Rose (is_write_fault ran) (O.faults out.old) (O.faults out.new)) }

@@ -5,7 +5,7 @@ ghost use Rattle.au_typing.specs.Trees.{NotedParts};
 ghost use Rattle.au_modules.specs.Slots as slots;
 ghost use Rattle.au_noting_programs.specs.Faults.{IsDerived};
 ghost use Rattle.au_running.specs.Asked.{ClosesPlainly};
-ghost use Rattle.au_running.specs.Ran.{HasRunSo, IsBroken, IsIdle, is_read_fault, is_write_fault};
+ghost use Rattle.au_running.specs.Ran.{ProgramEnds, ProgramIsCut, IsIdle, is_read_fault, is_write_fault};
 ghost use Rattle.au_runs.specs.Calls.{Rose};
 
 use crate::coding::{Uncoded, closed_code};
@@ -33,14 +33,14 @@ pub fn run_program<I: Source, O: Sink>(
 ) -> Result<Ran, Memory>
     requires { ClosesPlainly (slots.modules program.now) entry.now.module entry.now.function }
     ensures ran { IfOk result (λ ran. (noted : List NotedParts) × IsDerived (slots.modules program.now) noted
-        × HasRunSo (slots.modules program.now) noted entry.now.module entry.now.function ran steps
+        × ProgramEnds (slots.modules program.now) noted entry.now.module entry.now.function ran steps
         (I.left input.old) (I.left input.new) (O.written out.old) (O.written out.new)) }
     ensures read { IfOk result (λ ran. Rose (is_read_fault ran) (I.faults input.old) (I.faults input.new)) }
     ensures written { IfOk result (λ ran. Rose (is_write_fault ran) (O.faults out.old) (O.faults out.new)) }
     ensures broken { OnErr result (
         IsIdle (I.left input.old) (I.left input.new) (O.written out.old) (O.written out.new)
         ⊎ ((noted : List NotedParts) × IsDerived (slots.modules program.now) noted
-        × IsBroken (slots.modules program.now) noted entry.now.module entry.now.function steps
+        × ProgramIsCut (slots.modules program.now) noted entry.now.module entry.now.function steps
         (I.left input.old) (O.written out.old) (O.written out.new))) }
     ensures quiet { OnErr result
         ((I.faults input.new ≡ I.faults input.old) × (O.faults out.new ≡ O.faults out.old)) }

@@ -22,8 +22,8 @@ use Rattle.au_outcomes.specs.declared.outcomes.Aim.TheVariants as aims
 use Rattle.au_outcomes.specs.declared.outcomes.Outcome.{Outcome}
 use Rattle.au_outcomes.specs.declared.outcomes.Outcome.TheVariants as outcome
 use Rattle.au_outcomes.proofs.AcceptedLemmas.{not_both}
-use Rattle.au_top.specs.Calls.{Aborts, Call, CameTo, ComesToRun, GoesBehind, HasEndedAsRun, HasPaid}
-use Rattle.au_top.specs.Calls.{HasProgram, IsDecided, IsDone, IsPaid, IsRefused, LacksMemory, RanTo}
+use Rattle.au_top.specs.Calls.{Aborts, Call, HasOutcome, ComesToRun, GoesBehind, HasRunItsProgram, HasPaid}
+use Rattle.au_top.specs.Calls.{HasProgram, IsDecided, IsDone, IsPaid, IsRefused, LacksMemory, ReportsRun}
 use Rattle.au_top.specs.Calls.{LosesSink, LosesSource, MissesFile, PassesLimit, ShelfMissedNone}
 use Rattle.au_top.specs.Calls.{ShelfNeverFailed, Succeeds, Tells, is_decided}
 use Rattle.au_top.specs.Dues.{Arises, Due, IsAcceptedJob, IsCheck, IsExplain, IsRun, IsUnread, Owes}
@@ -115,7 +115,7 @@ module _ (call : Call) where
       (one.0, inl (p.files, p.are_told, (p.names, p.arisen, p.arises, one.1)), one.2)
 
   -- words and files came to an outcome, of which this holds
-  paid_came : (P : List (List ℕ) → Outcome → Type 0) (p : Paid) → P p.names p.arisen → CameTo call P
+  paid_came : (P : List (List ℕ) → Outcome → Type 0) (p : Paid) → P p.names p.arisen → HasOutcome call P
   paid_came P p holds = (p.files, p.are_told, p.names, p.arisen, p.arises, holds)
 
   -- the same of the files that are told
@@ -139,11 +139,11 @@ module _ (call : Call) where
       (told_same call.shelf.files r.files files is r.are_told)
       (due.run_arises call.words r.files r.task r.program r.job r.comes)
 
-  whole_as : Whole → HasEndedAsRun call
+  whole_as : Whole → HasRunItsProgram call
   whole_as r =
       run_with call r (record { ran = r.run.ran; status = r.run.status; done = r.run.done })
 
-  pub whole_to : (r : Whole) (ran : Ran) → r.run.ran ≡ ran → RanTo call ran
+  pub whole_to : (r : Whole) (ran : Ran) → r.run.ran ≡ ran → ReportsRun call ran
   whole_to r ran is =
       run_with call r
       (subst (λ one. IsTold (run_of r.task (slots.modules r.program)) call.streams one) is r.run.done)
@@ -380,7 +380,7 @@ module _ (call : Call) where
         (whole_status r.0 status.Success is)))
   ]
 
-  pub ended_failure : Ending → call.status ≡ status.Failure → RanTo call (how.Exit false)
+  pub ended_failure : Ending → call.status ≡ status.Failure → ReportsRun call (how.Exit false)
   ended_failure h is = elim (decided h (ap is_decided is)) [
     | inl p ↦ paid_not status.Failure p refl is
     | inr r ↦
@@ -395,7 +395,7 @@ module _ (call : Call) where
         (why.0, whole_to r.0 (how.Abort why.0) why.1)
   ]
 
-  pub ended_steps : Ending → call.status ≡ status.Steps → RanTo call how.Steps
+  pub ended_steps : Ending → call.status ≡ status.Steps → ReportsRun call how.Steps
   ended_steps h is = elim (decided h (ap is_decided is)) [
     | inl p ↦ paid_not status.Steps p refl is
     | inr r ↦ whole_to r.0 how.Steps (run.steps_ran r.0.run.ran (whole_status r.0 status.Steps is))
@@ -449,7 +449,7 @@ module _ (call : Call) where
 
   -- the input failed while a program ran
   whole_read : (r : Whole) → call.status ≡ status.ReadFault
-      → RanTo call how.ReadFault × HasFailed call.streams.input
+      → ReportsRun call how.ReadFault × HasFailed call.streams.input
   whole_read r is =
       let failed = run.read_ran r.run.ran (whole_status r status.ReadFault is) in (
         whole_to r how.ReadFault failed,

@@ -11,7 +11,7 @@ use Rattle.au_modules.specs.Programs.{ModuleParts}
 use Rattle.au_modules.specs.Slots as slots
 use Rattle.au_typing.specs.Trees.{NotedParts}
 use Rattle.au_running.specs.Programs.{ClosedProgram, Closes}
-use Rattle.au_running.specs.Ran.{HasNoEntry, HasRunSo}
+use Rattle.au_running.specs.Ran.{HasNoEntry, ProgramEnds}
 use Rattle.au_running.specs.declared.ran.Ran.{Ran}
 use Rattle.au_running.specs.declared.ran.Ran.TheVariants as how
 use Rattle.au_outcomes.specs.Accepted.{Accepted, is_behind}
@@ -22,7 +22,8 @@ use Rattle.au_outcomes.specs.declared.outcomes.Aim.TheVariants as aims
 use Rattle.au_outcomes.specs.declared.outcomes.Outcome.{Outcome}
 use Rattle.au_outcomes.specs.declared.outcomes.Outcome.TheVariants as outcome
 use Rattle.au_outcomes.proofs.AcceptedLemmas.{behind_accepted, comes_asked}
-use Rattle.au_top.specs.Calls.{Call, ComesToRun, HasSucceeded, IsDecided, IsRunEnd, RanTo, ShelfMissedNone}
+use Rattle.au_top.specs.Calls.{Call, ComesToRun, HasSucceeded, IsDecided, IsRunEnd, ReportsRun}
+use Rattle.au_top.specs.Calls.{ShelfMissedNone}
 use Rattle.au_top.specs.Calls.{ShelfNeverFailed, Tells, is_decided, is_run_end}
 use Rattle.au_top.specs.Dues.{Arises, AsksForNoFile, AsksForTooMany, IsRun}
 use Rattle.au_top.specs.Ends.{HasEnded, HasPaidAll, IsRunWhole}
@@ -47,7 +48,7 @@ module _ (program : List ModuleParts) (noted : List NotedParts) (owner name : By
 
   -- what ran to an end of its own has its entry
   end_entry : (ran : Ran) (told left out out' : Option (List ℕ)) → is_run_end (run_status ran) ≡ true
-      → HasRunSo program noted owner name ran steps told left out out'
+      → ProgramEnds program noted owner name ran steps told left out out'
       → HasNoEntry program noted owner name → ⊥
   end_entry how.NoEntry told left out out' end h none = cc
   end_entry (how.Limit limit) told left out out' end h none = cc
@@ -60,14 +61,14 @@ module _ (program : List ModuleParts) (noted : List NotedParts) (owner name : By
 
   -- what is stuck has its entry
   stuck_entry : (told left out out' : Option (List ℕ))
-      → HasRunSo program noted owner name how.Stuck steps told left out out'
+      → ProgramEnds program noted owner name how.Stuck steps told left out out'
       → HasNoEntry program noted owner name → ⊥
   stuck_entry told left out out' h none = closes_entry h.0.c h.0.closes.closes none
 
   -- what has its entry, and ran without a limit that is passed, and without a failure, ended so or is stuck
   entry_ends : (ran : Ran) (told left out out' : Option (List ℕ)) → is_decided (run_status ran) ≡ true
       → (run_status ran ≡ status.Limit → ⊥)
-      → HasRunSo program noted owner name ran steps told left out out'
+      → ProgramEnds program noted owner name ran steps told left out out'
       → (HasNoEntry program noted owner name → ⊥)
       → (is_run_end (run_status ran) ≡ true) ⊎ (ran ≡ how.Stuck)
   entry_ends how.NoEntry told left out out' good no_limit h has = absurd (has h.0)
@@ -194,7 +195,7 @@ module _ (call : Call) (files : Files) (task : Task) (is : Tells call files)
       call.streams.input.old call.streams.input.new call.streams.out.old call.streams.out.new
       (sym (ap is_run_end r.run.status) ∙ end) runs.done)
 
-  stuck_can : RanTo call how.Stuck → CanRun files task
+  stuck_can : ReportsRun call how.Stuck → CanRun files task
   stuck_can r =
       ran_can r (λ noted. stuck_entry (slots.modules r.program) r.run.runs.noted _ _ r.task.steps
       call.streams.input.old call.streams.input.new call.streams.out.old call.streams.out.new r.run.runs.done)
@@ -208,7 +209,7 @@ module _ (call : Call) where
 
   -- a run is stuck
   abbrev pub IsStuck : Type 0
-  IsStuck = RanTo call how.Stuck
+  IsStuck = ReportsRun call how.Stuck
 
   -- no line is paid for it that it succeeded
   paid_run : {T : Type 0} (files : Files) (task : Task) → Tells call files → IsRun call.words task

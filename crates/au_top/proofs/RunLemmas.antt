@@ -12,7 +12,7 @@ use Rattle.au_typing.specs.Trees.{NotedParts}
 use Rattle.au_noting_programs.specs.Faults.{IsDerived}
 use Rattle.au_rules.specs.Good.{AllDeclarationsAreGood}
 use Rattle.au_runs.specs.Calls.{Rose}
-use Rattle.au_running.specs.Ran.{HasRunSo, IsBroken, RanAsMeant, is_read_fault, is_write_fault}
+use Rattle.au_running.specs.Ran.{ProgramEnds, ProgramIsCut, CompletesAsMeant, is_read_fault, is_write_fault}
 use Rattle.au_running.specs.declared.ran.Ran.{Ran}
 use Rattle.au_running.specs.declared.ran.Ran.TheVariants as how
 use Rattle.au_top.specs.Calls.{is_decided}
@@ -166,8 +166,8 @@ decided_read how.WriteFault h = refl
 module _ (program : List ModuleParts) (noted : List NotedParts) (owner name : Bytes) (steps : ℕ) where
   -- a run that was made is one of which a front was written, or nothing was
   front_ran : (ran : Ran) (told left out out' : Option (List ℕ))
-      → HasRunSo program noted owner name ran steps told left out out'
-      → (out' ≡ out) ⊎ IsBroken program noted owner name steps told out out'
+      → ProgramEnds program noted owner name ran steps told left out out'
+      → (out' ≡ out) ⊎ ProgramIsCut program noted owner name steps told out out'
   front_ran how.NoEntry told left out out' h = inl h.1.1
   front_ran (how.Limit limit) told left out out' h = inl h.1.1
   front_ran other told left out out' h =
@@ -197,12 +197,12 @@ module _ (run : Run) where
     -- a run from this entry was made
     pub has_ran : (entry : Entry) (ran : Ran) → entry ≡ entry_of run
         → ((noted : List NotedParts) × IsDerived run.program noted
-        × HasRunSo run.program noted entry.«module» entry.function ran run.steps s.input.old s.input.new
+        × ProgramEnds run.program noted entry.«module» entry.function ran run.steps s.input.old s.input.new
         s.out.old
         s.out.new)
         → Runs run s ran
     has_ran entry ran is h =
-        from_entry (λ program noted owner name. HasRunSo program noted owner name ran run.steps s.input.old
+        from_entry (λ program noted owner name. ProgramEnds program noted owner name ran run.steps s.input.old
         s.input.new s.out.old s.out.new) entry is h
 
     -- nothing was done
@@ -214,7 +214,8 @@ module _ (run : Run) where
     pub run_stopped : (entry : Entry) → entry ≡ entry_of run
         → ((s.input.new ≡ s.input.old) × (s.out.new ≡ s.out.old))
         ⊎ ((noted : List NotedParts) × IsDerived run.program noted
-        × IsBroken run.program noted entry.«module» entry.function run.steps s.input.old s.out.old s.out.new)
+        × ProgramIsCut run.program noted entry.«module» entry.function run.steps s.input.old s.out.old
+        s.out.new)
         → HasStayed s.err → s.out.new_faults ≡ s.out.old_faults → IsRunStopped s run
     run_stopped entry is h err quiet = elim h [
       | inl p ↦ idle_stopped p.1 err quiet
@@ -222,7 +223,7 @@ module _ (run : Run) where
           inr (
             record {
               front =
-                  from_entry (λ program noted owner name. IsBroken program noted owner name run.steps
+                  from_entry (λ program noted owner name. ProgramIsCut program noted owner name run.steps
                   s.input.old
                   s.out.old s.out.new) entry is p;
               err = err;
@@ -305,7 +306,7 @@ module _ (run : Run) where
     module _ (declared : AllDeclarationsAreGood run.program) where
       -- what ran whole shows what is meant
       shown_by : (ran : Ran) (h : Runs run s ran)
-          → RanAsMeant run.program h.noted (entry_of run).«module» (entry_of run).function ran run.steps
+          → CompletesAsMeant run.program h.noted (entry_of run).«module» (entry_of run).function ran run.steps
           s.input.old s.input.new s.out.old s.out.new
           → ShowsMeaning run s ran
       shown_by ran h done = record { noted = h.noted; derived = h.derived; done = done }

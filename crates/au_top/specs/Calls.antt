@@ -148,8 +148,8 @@ IsPaid call = (due : Due) × MayOwe call due × HasPaid call due
 
 -- The words of the call and files, of those that are told, have come to an outcome of which P holds, by the
 -- names of the files.
-abbrev pub CameTo : Call → (List (List ℕ) → Outcome → Type 0) → Type 0
-CameTo call P =
+abbrev pub HasOutcome : Call → (List (List ℕ) → Outcome → Type 0) → Type 0
+HasOutcome call P =
     (files : Files) × AreTold call.shelf.files files × (names : List (List ℕ)) × (arisen : Outcome)
     × Arises call.words files names arisen × P names arisen
 
@@ -194,11 +194,11 @@ HasComeBehind call names arisen = IsTrue (is_behind arisen) × IsSomeAnd (due_of
 
 -- A file is missing.
 abbrev pub MissesFile : Call → Type 0
-MissesFile call = CameTo call (IsMissingSo call.streams)
+MissesFile call = HasOutcome call (IsMissingSo call.streams)
 
 -- Files have come to a program that is to run.
 abbrev pub HasProgram : Call → Type 0
-HasProgram call = CameTo call (λ names arisen. (program : Modules) × (arisen ≡ outcome.Runs program))
+HasProgram call = HasOutcome call (λ names arisen. (program : Modules) × (arisen ≡ outcome.Runs program))
 
 -- ---- runs
 
@@ -213,13 +213,14 @@ pub record ComesToRun (call : Call) (P : Run → Type 0) : Type 0 where
   pub comes : Comes aims.Run files task.files (outcome.Runs program)
   pub run : P (run_of task (slots.modules program))
 
--- The call came to a run, which ran so, and the line that is due stands on `err`.
-abbrev pub RanTo : Call → Ran → Type 0
-RanTo call ran = ComesToRun call (λ run. IsTold run call.streams ran)
+-- The call came to a run, which ended with this answer, and reports that: the line that is due stands on
+-- `err`.
+abbrev pub ReportsRun : Call → Ran → Type 0
+ReportsRun call ran = ComesToRun call (λ run. IsTold run call.streams ran)
 
--- The call came to a run, which ran somehow, and the call ended by how it did.
-abbrev pub HasEndedAsRun : Call → Type 0
-HasEndedAsRun call = ComesToRun call (λ run. EndsAsRun run call.streams call.status)
+-- The call came to a run and has run its program, whatever was answered, and ended by how that ended.
+abbrev pub HasRunItsProgram : Call → Type 0
+HasRunItsProgram call = ComesToRun call (λ run. EndsAsRun run call.streams call.status)
 
 -- A sink failed while a program ran or behind it: `out` did, and the run was broken off; or the program ran,
 -- and a front of its line stands on `err`.
@@ -233,29 +234,31 @@ IsRunCut run s =
 
 -- The call has paid all that it owed, or its program has run and its line stands on `err`.
 abbrev pub IsDone : Call → Type 0
-IsDone call = IsPaid call ⊎ HasEndedAsRun call
+IsDone call = IsPaid call ⊎ HasRunItsProgram call
 
 -- Nothing was refused by the steps that judge whether files are accepted: what came behind them was paid, or
 -- the program has run, whatever the run came to.
 abbrev pub GoesBehind : Call → Type 0
-GoesBehind call = CameTo call (HasComeBehind call) ⊎ HasEndedAsRun call
+GoesBehind call = HasOutcome call (HasComeBehind call) ⊎ HasRunItsProgram call
 
 -- What the words ask for is refused and the line of it stands on `err`, or their program ran, and has no such
 -- entry, or is stuck.
 abbrev pub IsRefused : Call → Type 0
-IsRefused call = CameTo call (IsRefusedSo call.streams) ⊎ (RanTo call how.NoEntry ⊎ RanTo call how.Stuck)
+IsRefused call =
+    HasOutcome call (IsRefusedSo call.streams) ⊎ (ReportsRun call how.NoEntry ⊎ ReportsRun call how.Stuck)
 
 -- The line of a limit stands on `err` that words or files pass, or that their program passes which is to run.
 abbrev pub PassesLimit : Call → Type 0
-PassesLimit call = CameTo call (HasPassed call.streams) ⊎ ((limit : Limit) × RanTo call (how.Limit limit))
+PassesLimit call =
+    HasOutcome call (HasPassed call.streams) ⊎ ((limit : Limit) × ReportsRun call (how.Limit limit))
 
 -- Files are accepted or explained, or their program ran and returned success.
 abbrev pub Succeeds : Call → Type 0
-Succeeds call = CameTo call (HasSucceeded call.streams) ⊎ RanTo call (how.Exit true)
+Succeeds call = HasOutcome call (HasSucceeded call.streams) ⊎ ReportsRun call (how.Exit true)
 
 -- The program ran and aborted.
 abbrev pub Aborts : Call → Type 0
-Aborts call = (text : List ℕ) × RanTo call (how.Abort text)
+Aborts call = (text : List ℕ) × ReportsRun call (how.Abort text)
 
 -- A sink failed: a front of what is due stands there, or of what the program writes, or of its line.
 abbrev pub LosesSink : Call → Type 0
@@ -273,4 +276,4 @@ LacksMemory call =
 abbrev pub LosesSource : Call → Type 0
 LosesSource call =
     (FailsBehind call.words call.shelf.files × ShelfFailed call)
-    ⊎ (RanTo call how.ReadFault × HasFailed call.streams.input)
+    ⊎ (ReportsRun call how.ReadFault × HasFailed call.streams.input)

@@ -9,7 +9,7 @@ use Rattle.au_outcomes.specs.Trees.{ReadFile}
 use Rattle.au_running.specs.declared.ran.Ran.TheVariants as how
 use Rattle.au_top.specs.Calls.{Aborts, Call, GoesBehind, HasPaid, HasProgram, IsDecided, IsDone}
 use Rattle.au_top.specs.Calls.{IsRefused, IsRunEnd, LacksMemory, LosesSink, LosesSource, MissesFile}
-use Rattle.au_top.specs.Calls.{PassesLimit, RanTo, ShelfMissedNone, ShelfNeverFailed, Succeeds, Tells}
+use Rattle.au_top.specs.Calls.{PassesLimit, ReportsRun, ShelfMissedNone, ShelfNeverFailed, Succeeds, Tells}
 use Rattle.au_top.specs.Dues.{AsksForNoFile, AsksForTooMany, Due, IsAcceptedJob, IsCheck, IsExplain, IsRun}
 use Rattle.au_top.specs.Dues.{IsUnread, Owes, accepted_due, explained_due}
 use Rattle.au_top.specs.Entered.{CanRun, IsToRun}
@@ -32,12 +32,12 @@ pub record RunPromises (call : Call) (files : Files) (task : Task) : Type 0 wher
   -- Unless a limit is passed, it ends so, or its run is stuck, exactly where its program can run.
   pub entered :
       IsDecided call → call.status ≢ status.Limit
-      → CanRun files task ↔ (IsRunEnd call ⊎ RanTo call how.Stuck)
+      → CanRun files task ↔ (IsRunEnd call ⊎ ReportsRun call how.Stuck)
   -- Unless a limit is passed or a file is missing, it ends with 2, and not since its run is stuck, exactly
   -- where its program can't run.
   pub not_entered :
       IsDecided call → call.status ≢ status.Limit → call.status ≢ status.Missing
-      → (CanRun files task → ⊥) ↔ ((call.status ≡ status.Refused) × (RanTo call how.Stuck → ⊥))
+      → (CanRun files task → ⊥) ↔ ((call.status ≡ status.Refused) × (ReportsRun call how.Stuck → ⊥))
 
 -- What is promised of a call over files that are told.
 pub record FilePromises (call : Call) (files : Files) : Type 0 where
@@ -83,10 +83,10 @@ pub record Promises (call : Call) : Type 0 where
   -- 0 and 1 come by what the program returns, and 0 where it's checked and accepted, or where the lives of
   -- its variables are told.
   pub success : call.status ≡ status.Success → Succeeds call
-  pub failure : call.status ≡ status.Failure → RanTo call (how.Exit false)
+  pub failure : call.status ≡ status.Failure → ReportsRun call (how.Exit false)
   -- 3 comes by an abort, whose cause its line tells, and 4 where the steps of the run were spent.
   pub abort : call.status ≡ status.Abort → Aborts call
-  pub steps : call.status ≡ status.Steps → RanTo call how.Steps
+  pub steps : call.status ≡ status.Steps → ReportsRun call how.Steps
   -- Where a sink failed, a front of what is due stands there, or of what the program writes, or of its line.
   pub write_fault : call.status ≡ status.WriteFault → LosesSink call
   -- Where memory ran out, nothing was written, or a run was broken off.

@@ -13,7 +13,7 @@ use Rattle.au_typing.specs.Trees.{NotedParts}
 use Rattle.au_noting_programs.specs.Faults.{IsDerived}
 use Rattle.au_outcomes.specs.Lines.{abort_line, limit_line, read_fault_line, refusal_line, steps_line}
 use Rattle.au_outcomes.specs.declared.refusals.Refusal.TheVariants as refusal
-use Rattle.au_running.specs.Ran.{HasRunSo, IsBroken}
+use Rattle.au_running.specs.Ran.{ProgramEnds, ProgramIsCut}
 use Rattle.au_running.specs.declared.ran.Ran.{Ran}
 use Rattle.au_running.specs.declared.ran.Ran.TheVariants as how
 use Rattle.au_top.specs.Streams.{Gains, HasStayed, Streams}
@@ -92,7 +92,7 @@ module _ (run : Run) (s : Streams) where
   -- The program ran so as code: it took from the input, and wrote to `out`.
   abbrev pub Runs : Ran → Type 0
   Runs ran =
-      FromEntry run (λ program noted owner name. HasRunSo program noted owner name ran run.steps
+      FromEntry run (λ program noted owner name. ProgramEnds program noted owner name ran run.steps
       s.input.old s.input.new s.out.old s.out.new)
 
   -- It ran so, and the line that is due stands on `err`.
@@ -109,6 +109,6 @@ module _ (run : Run) (s : Streams) where
   -- It was broken off: a front of what its code writes stands on `out`, and `err` is as it was.
   pub record BreaksOff : Type 0 where
     pub front :
-        FromEntry run (λ program noted owner name. IsBroken program noted owner name run.steps s.input.old
+        FromEntry run (λ program noted owner name. ProgramIsCut program noted owner name run.steps s.input.old
         s.out.old s.out.new)
     pub err : HasStayed s.err

@@ -4,7 +4,7 @@ use Rattle.au_base.specs.declared.statuses.Status.{Status}
 use Rattle.au_base.specs.declared.statuses.Status.TheVariants as status
 use Rattle.au_syntax.specs.Plain.{Bytes}
 use Rattle.au_outcomes.specs.Lines.{abort_line, steps_line}
-use Rattle.au_running.specs.Ran.{RanAsMeant}
+use Rattle.au_running.specs.Ran.{CompletesAsMeant}
 use Rattle.au_running.specs.declared.ran.Ran.{Ran}
 use Rattle.au_running.specs.declared.ran.Ran.TheVariants as how
 use Rattle.au_top.specs.Runs.{FromEntry, Run}
@@ -15,7 +15,7 @@ module _ (run : Run) (s : Streams) where
   -- The program ran whole as code, this is answered of the run, and it shows what the program means.
   abbrev pub ShowsMeaning : Ran → Type 0
   ShowsMeaning ran =
-      FromEntry run (λ program noted owner name. RanAsMeant program noted owner name ran run.steps
+      FromEntry run (λ program noted owner name. CompletesAsMeant program noted owner name ran run.steps
       s.input.old s.input.new s.out.old s.out.new)
 
   -- What a status of a call says of the run: it returned success or failure, aborted for the cause that its

@@ -4,7 +4,7 @@ use Rattle.std.proofs.lemmas.Result.{IfOk-weaker, on_err_weaker}
 use Rattle.au_low.specs.Runs.{low_run}
 use Rattle.au_runs.specs.Calls.{IsCut, Rose, Says}
 use Rattle.au_runs.specs.Loaded.{Loaded}
-use Rattle.au_running.specs.Came.{CameSo, ran_of}
+use Rattle.au_running.specs.Came.{CodeEnds, ran_of}
 use Rattle.au_running.specs.Ran.{is_read_fault, is_write_fault}
 use Rattle.au_running.specs.declared.ran.Ran.{Ran}
 use Rattle.au_running.proofs.AnswerLemmas.{abort_cut, abort_quiet, read_told, said_came, write_told}
@@ -34,8 +34,8 @@ returns-clause-came g c =
     let out' = g.O.Sink.written c.run.new.out in
     let events = c.run.new.self.events in
     IfOk-weaker c.answer_of.result (λ ran. ran ≡ ran_of code ended)
-    (λ ran. CameSo code ran c.args.steps told left out out')
-    (λ ran is. subst (λ (ran : Ran). CameSo code ran c.args.steps told left out out') (sym is)
+    (λ ran. CodeEnds code ran c.args.steps told left out out')
+    (λ ran is. subst (λ (ran : Ran). CodeEnds code ran c.args.steps told left out out') (sym is)
     (said_came code ended c.args.steps told left out out' events
     (subst (λ (m : Loaded). Says ended (low_run m.keeps m.code) c.args.steps told left out out' events)
     c.in_ok-machine.ensures c.in_ok-end.ensures.says)))

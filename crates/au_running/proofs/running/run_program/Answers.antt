@@ -6,8 +6,8 @@ use Rattle.au_low.specs.Runs.{low_run}
 use Rattle.au_modules.specs.Slots as slots
 use Rattle.au_noting_programs.specs.Faults.{IsDerived}
 use Rattle.au_runs.specs.Calls.{IsCut}
-use Rattle.au_running.specs.Came.{CameSo}
-use Rattle.au_running.specs.Ran.{HasRunSo, IsBroken, IsIdle}
+use Rattle.au_running.specs.Came.{CodeEnds}
+use Rattle.au_running.specs.Ran.{ProgramEnds, ProgramIsCut, IsIdle}
 use Rattle.au_running.proofs.ShownLemmas.{came_so, cut_so}
 use Rattle.au_running.proofs.running.run_program.Goals as goal
 
@@ -21,9 +21,9 @@ returns-in-Ok-clause-ran g c =
     let out = g.O.Sink.written c.args.out.now in
     let out' = g.O.Sink.written c.run_code.new.out in
     let has = c.in-Ok.ensures in
-    IfOk-weaker c.run_code.result (λ ran. CameSo c.in-Ok.code ran c.args.steps told left out out')
+    IfOk-weaker c.run_code.result (λ ran. CodeEnds c.in-Ok.code ran c.args.steps told left out out')
     (λ ran. (noted : List NotedParts) × IsDerived program noted
-    × HasRunSo program noted owner name ran c.args.steps told left out out')
+    × ProgramEnds program noted owner name ran c.args.steps told left out out')
     (λ ran came. (
       has.0,
       has.1,
@@ -45,7 +45,7 @@ returns-in-Ok-clause-broken g c =
     let has = c.in-Ok.ensures in
     on_err_weaker {P = IsCut (low_run false c.in-Ok.code) c.args.steps told out out'}
     {Q = IsIdle told left out out' ⊎ ((noted : List NotedParts) × IsDerived program noted
-    × IsBroken program noted owner name c.args.steps told out out')} c.run_code.result
+    × ProgramIsCut program noted owner name c.args.steps told out out')} c.run_code.result
     (λ cut. inr (
       has.0,
       has.1,
