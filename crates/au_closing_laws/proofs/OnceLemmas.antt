@@ -1,4 +1,5 @@
--- What the rule on names that are declared again says of two declarations of one type in a module, and of the type parameters of one.
+-- What the rule on names that are declared again says of two declarations of one type in a module, and of
+-- the type parameters of one.
 use Rattle.std.proofs.Common.{◌≡◌, ◌⊎◌, inl, inr, ℕ, zero, suc, ◌+◌, ◌<◌, ◌≤◌, Bool, true, false, true≢false}
 use Rattle.std.proofs.Common.{List, [], ◌∷◌, ◌++◌, map, Option, None, Some, refl, sym, ap, ◌∙◌, subst}
 use Rattle.std.proofs.Common.{append_assoc, cond, arith}

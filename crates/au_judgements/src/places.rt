@@ -8,7 +8,7 @@ ghost use Rattle.au_syntax.specs.Views.{statement, statement_all};
 
 use crate::refusals::Refused;
 use au_base::Pos;
-use au_noting::Cause;
+use au_sights::Why;
 use au_syntax::{Parsed, Phase, Stmt};
 
 /// The place of a statement's first token.
@@ -55,7 +55,7 @@ fn follows_nothing(rest: &[Stmt<Parsed>]) -> Result<(), Refused>
     match rest.first() {
         Some(next) => Err(Refused::Statement {
             at: place_of(next),
-            cause: Cause::AfterReturn,
+            cause: Why::AfterReturn,
         }),
         None => Ok(()),
     }

@@ -5,7 +5,9 @@ ghost use Rattle.au_judgements.specs.Refusing.{refused_with};
 ghost use Rattle.au_judgements.specs.declared.refusals.Refused.TheVariants as told;
 
 use au_base::{Limit, Memory, Pos};
-use au_noting::{Cause, Fault};
+use au_noting::Fault;
+use au_sights::Why;
+use au_types::{DeclAt, Ty};
 
 /// Why noting a statement stops.
 #[derive(Drop)]
@@ -15,7 +17,7 @@ pub enum Refused {
         /// The place of the statement.
         at: Pos,
         /// The clause that fails.
-        cause: Cause,
+        cause: Why<Ty, DeclAt>,
     },
     /// A type of a note passes a limit.
     Limit(Limit),

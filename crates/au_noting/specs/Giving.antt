@@ -2,10 +2,12 @@
 use Rattle.std.specs.Prelude.{◌≡◌, Bool, true, false, Option, None, Some, Result, Ok, Err}
 use Rattle.au_sights.specs.declared.faults.Form as code
 use Rattle.au_sights.specs.declared.faults.Form.TheVariants as form
-use Rattle.au_noting.specs.declared.faults.Cause.{Cause}
-use Rattle.au_noting.specs.declared.faults.Cause.TheVariants as cause
+use Rattle.au_sights.specs.declared.faults.Why as clause
+use Rattle.au_sights.specs.declared.faults.Why.TheVariants as cause
 use Rattle.au_noting.specs.declared.faults.Fault as told
 use Rattle.au_noting.specs.declared.faults.Fault.TheVariants as fault
+use Rattle.au_types.specs.declared.types.DeclAt.{DeclAt}
+use Rattle.au_types.specs.declared.types.Ty.{Ty}
 use Rattle.au_types.specs.Views.{meaning}
 use Rattle.au_typing.specs.Faults as faults
 use Rattle.au_typing.specs.Faults.{Noting, Why}
@@ -26,7 +28,7 @@ form_said form.Arms = faults.arms_wanted
 form_said (form.Range kind) = faults.range_wanted kind
 
 -- the clause that fails
-abbrev pub cause_said : Cause → Why
+abbrev pub cause_said : clause.Why Ty DeclAt → Why
 cause_said (cause.Unknown name) = faults.unknown name
 cause_said (cause.Different wanted found) = faults.different (meaning wanted) (meaning found)
 cause_said (cause.Unfixed name) = faults.unfixed name

@@ -18,13 +18,13 @@ ghost use Rattle.au_types.specs.Views.{argument, meaning};
 ghost use Rattle.au_typing.specs.Calls as spec;
 ghost use Rattle.au_typing.specs.SearchCalls as search;
 
-use crate::faults::{Cause, Fault, not_free, other_form, unfixed};
+use crate::faults::{Fault, not_free, other_form, unfixed};
 use crate::rules::{full_note, limit_among};
 use crate::scopes::{Scope, constraints};
 use au_base::{Memory, Name};
 use au_instances::ClassAt;
 use au_matching::{Substitution, fits, substitute};
-use au_sights::{Callable, Form, Notes};
+use au_sights::{Callable, Form, Notes, Why};
 use au_syntax::Universe;
 use au_types::{Arg, Parameter, Params, Ty, copy_type};
 use std::alloc::Global;
@@ -317,7 +317,7 @@ fn held_note(
         (node.held_note (scope_said scope.now) (wanted mode.entry) (callable_said one.now) s) }
 {
     match lacking_of(alloc, scope, one, &s)? {
-        Some((class, of)) => Err(Fault::Why(Cause::NoInstance { class, of })),
+        Some((class, of)) => Err(Fault::Why(Why::NoInstance { class, of })),
         None => call_note(alloc, mode, one, s),
     }
 }

@@ -9,46 +9,15 @@ ghost use Rattle.au_typing.specs.Faults as spec;
 
 use au_base::{Limit, Memory, Name};
 use au_judged_types::Reason;
-use au_sights::Form;
+use au_sights::{Form, Why};
 use au_types::{DeclAt, Ty, copy_type};
 use std::alloc::Global;
-
-/// The clause of a rule that fails, with types as they are.
-#[derive(Drop)]
-pub enum Cause {
-    /// The name means nothing there.
-    Unknown(Name),
-    /// Another type is wanted than is found.
-    Different {
-        /// The type that is wanted.
-        wanted: Ty,
-        /// The type that is found.
-        found: Ty,
-    },
-    /// The call leaves this type parameter unfixed.
-    Unfixed(Name),
-    /// The class has no instance at the type.
-    NoInstance {
-        /// The class.
-        class: DeclAt,
-        /// The type.
-        of: Ty,
-    },
-    /// The type isn't Free.
-    NotFree(Ty),
-    /// Another form is wanted.
-    Shape(Form),
-    /// The statement stands after a return.
-    AfterReturn,
-    /// A path through the function ends without a return.
-    FallsOut,
-}
 
 /// Why noting stops.
 #[derive(Drop)]
 pub enum Fault {
     /// A clause fails.
-    Why(Cause),
+    Why(Why<Ty, DeclAt>),
     /// A type of a note passes a limit.
     Limit(Limit),
     /// No memory was found.
@@ -68,7 +37,7 @@ pub fn unknown(alloc: Global, name: &Name) -> Fault
     ensures { Tells (spec.unknown name.now) result }
 {
     match name.copy(alloc) {
-        Ok(name) => Fault::Why(Cause::Unknown(name)),
+        Ok(name) => Fault::Why(Why::Unknown(name)),
         Err(_) => Fault::Memory,
     }
 }
@@ -78,7 +47,7 @@ pub fn unfixed(alloc: Global, name: &Name) -> Fault
     ensures { Tells (spec.unfixed name.now) result }
 {
     match name.copy(alloc) {
-        Ok(name) => Fault::Why(Cause::Unfixed(name)),
+        Ok(name) => Fault::Why(Why::Unfixed(name)),
         Err(_) => Fault::Memory,
     }
 }
@@ -88,7 +57,7 @@ pub fn different(alloc: Global, goal: &Ty, found: &Ty) -> Fault
     ensures { Tells (spec.different (meaning goal.now) (meaning found.now)) result }
 {
     match two_types(alloc, goal, found) {
-        Ok((wanted, found)) => Fault::Why(Cause::Different { wanted, found }),
+        Ok((wanted, found)) => Fault::Why(Why::Different { wanted, found }),
         Err(_) => Fault::Memory,
     }
 }
@@ -108,7 +77,7 @@ pub fn not_free(alloc: Global, of: &Ty) -> Fault
     ensures { Tells (spec.not_free (meaning of.now)) result }
 {
     match copy_type(alloc, of) {
-        Ok(of) => Fault::Why(Cause::NotFree(of)),
+        Ok(of) => Fault::Why(Why::NotFree { of }),
         Err(_) => Fault::Memory,
     }
 }
@@ -117,7 +86,7 @@ pub fn not_free(alloc: Global, of: &Ty) -> Fault
 pub fn other_form(form: Form) -> Fault
     ensures { Tells (spec.shape (form_said form)) result }
 {
-    Fault::Why(Cause::Shape(form))
+    Fault::Why(Why::Shape { wanted: form })
 }
 
 /// Why a written type isn't well formed.
@@ -125,10 +94,10 @@ pub fn ill_formed(why: Reason) -> Fault
     ensures { Tells (spec.reason_why (reason why)) result }
 {
     match why {
-        Reason::Unknown(name) => Fault::Why(Cause::Unknown(name)),
-        Reason::Arguments(number) => Fault::Why(Cause::Shape(Form::Arguments(number))),
-        Reason::RegionWanted => Fault::Why(Cause::Shape(Form::Region)),
-        Reason::NotFree(of) => Fault::Why(Cause::NotFree(of)),
-        Reason::LinearWanted => Fault::Why(Cause::Shape(Form::Linear)),
+        Reason::Unknown(name) => Fault::Why(Why::Unknown(name)),
+        Reason::Arguments(number) => other_form(Form::Arguments(number)),
+        Reason::RegionWanted => other_form(Form::Region),
+        Reason::NotFree(of) => Fault::Why(Why::NotFree { of }),
+        Reason::LinearWanted => other_form(Form::Linear),
     }
 }

@@ -13,5 +13,5 @@ pub mod rules;
 pub mod scopes;
 
 pub use au_typing::{Variable, Variables};
-pub use faults::{Cause, Fault};
+pub use faults::Fault;
 pub use scopes::{Bounds, Scope};

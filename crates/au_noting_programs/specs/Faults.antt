@@ -1,5 +1,5 @@
 -- What a program is refused for whose statements have no good notes, as it is told.
-use Rattle.std.specs.Prelude.{List, Option, None, Some, Ok, Err}
+use Rattle.std.specs.Prelude.{ℕ, List, Option, None, Some, Ok, Err}
 use Rattle.au_modules.specs.Programs.{ModuleParts}
 use Rattle.au_names.specs.HeadsOf.{heads_of}
 use Rattle.au_sights.specs.declared.faults.TypeFault.{TypeFault}
@@ -23,7 +23,7 @@ abbrev pub IsDerived : List ModuleParts → List NotedParts → Type 0
 IsDerived program noted = Derives (outside_of program) program noted
 
 -- why a statement has no good notes: types and classes by their texts
-abbrev pub cause_told : List ModuleParts → Why → told.Why
+abbrev pub cause_told : List ModuleParts → Why → told.Why (List ℕ) (List ℕ)
 cause_told program cause = why_told (heads_of program) (class_text program) cause
 
 -- a fault of the search

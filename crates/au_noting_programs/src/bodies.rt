@@ -18,9 +18,9 @@ use au_judged_types::Generics;
 use au_judgements::returning::block_returns;
 use au_judgements::{Refused, refused_at};
 use au_noting::lookups::written_type;
-use au_noting::{Bounds, Cause, Fault, Scope, Variable, Variables};
+use au_noting::{Bounds, Fault, Scope, Variable, Variables};
 use au_noting_statements::note_block;
-use au_sights::{Noted, Surroundings};
+use au_sights::{Noted, Surroundings, Why};
 use au_syntax::{Block, Field, Generic, Parsed, Signature, TypeText};
 use au_types::Ty;
 use std::alloc::Global;
@@ -142,7 +142,7 @@ fn note_inside(
     } else {
         Err(Refused::Statement {
             at: stop,
-            cause: Cause::FallsOut,
+            cause: Why::FallsOut,
         })
     }
 }

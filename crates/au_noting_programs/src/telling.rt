@@ -13,7 +13,6 @@ ghost use Rattle.au_typing.specs.Faults as faults;
 use au_base::{Memory, Pos, Text};
 use au_imports::Resolved;
 use au_judgements::Refused;
-use au_noting::Cause;
 use au_sights::{TypeFault, Why};
 use au_type_texts::type_text;
 use au_types::{DeclAt, Ty};
@@ -28,7 +27,12 @@ fn text_of_type(alloc: Global, program: &Resolved, of: &Ty) -> Result<Text, Memo
 }
 
 /// That another type is wanted than is found.
-fn different(alloc: Global, program: &Resolved, goal: &Ty, other: &Ty) -> Result<Why, Memory>
+fn different(
+    alloc: Global,
+    program: &Resolved,
+    goal: &Ty,
+    other: &Ty,
+) -> Result<Why<Text, Text>, Memory>
     ensures { IfOk result (λ why. why ≡ spec.cause_told (slots.modules program.now)
         (faults.different (meaning goal.now) (meaning other.now))) }
 {
@@ -38,7 +42,12 @@ fn different(alloc: Global, program: &Resolved, goal: &Ty, other: &Ty) -> Result
 }
 
 /// That a class has no instance at a type.
-fn no_instance(alloc: Global, program: &Resolved, class: DeclAt, of: &Ty) -> Result<Why, Memory>
+fn no_instance(
+    alloc: Global,
+    program: &Resolved,
+    class: DeclAt,
+    of: &Ty,
+) -> Result<Why<Text, Text>, Memory>
     ensures { IfOk result (λ why. why
         ≡ spec.cause_told (slots.modules program.now) (faults.no_instance class (meaning of.now))) }
 {
@@ -48,7 +57,7 @@ fn no_instance(alloc: Global, program: &Resolved, class: DeclAt, of: &Ty) -> Res
 }
 
 /// That a type isn't Free.
-fn not_free(alloc: Global, program: &Resolved, of: &Ty) -> Result<Why, Memory>
+fn not_free(alloc: Global, program: &Resolved, of: &Ty) -> Result<Why<Text, Text>, Memory>
     ensures { IfOk result (λ why. why
         ≡ spec.cause_told (slots.modules program.now) (faults.not_free (meaning of.now))) }
 {
@@ -57,23 +66,27 @@ fn not_free(alloc: Global, program: &Resolved, of: &Ty) -> Result<Why, Memory>
 }
 
 /// What is wrong with a statement, as it is told.
-fn why_of(alloc: Global, program: &Resolved, cause: Cause) -> Result<Why, Memory>
+fn why_of(
+    alloc: Global,
+    program: &Resolved,
+    cause: Why<Ty, DeclAt>,
+) -> Result<Why<Text, Text>, Memory>
     ensures { IfOk result (λ why. why ≡ spec.cause_told (slots.modules program.now) (cause_said cause)) }
 {
     match cause {
-        Cause::Unknown(name) => Ok(Why::Unknown(name)),
-        Cause::Different { wanted, found } => different(alloc, program, &wanted, &found),
-        Cause::Unfixed(name) => Ok(Why::Unfixed(name)),
-        Cause::NoInstance { class, of } => no_instance(alloc, program, class, &of),
-        Cause::NotFree(of) => not_free(alloc, program, &of),
-        Cause::Shape(wanted) => Ok(Why::Shape { wanted }),
-        Cause::AfterReturn => Ok(Why::AfterReturn),
-        Cause::FallsOut => Ok(Why::FallsOut),
+        Why::Unknown(name) => Ok(Why::Unknown(name)),
+        Why::Different { wanted, found } => different(alloc, program, &wanted, &found),
+        Why::Unfixed(name) => Ok(Why::Unfixed(name)),
+        Why::NoInstance { class, of } => no_instance(alloc, program, class, &of),
+        Why::NotFree { of } => not_free(alloc, program, &of),
+        Why::Shape { wanted } => Ok(Why::Shape { wanted }),
+        Why::AfterReturn => Ok(Why::AfterReturn),
+        Why::FallsOut => Ok(Why::FallsOut),
     }
 }
 
 /// A fault of the statement at a place, as it is told.
-fn statement_fault(alloc: Global, program: &Resolved, at: Pos, cause: Cause) -> TypeFault
+fn statement_fault(alloc: Global, program: &Resolved, at: Pos, cause: Why<Ty, DeclAt>) -> TypeFault
     ensures { IsTold (slots.modules program.now) (Refused.Statement at cause) result }
 {
     match why_of(alloc, program, cause) {

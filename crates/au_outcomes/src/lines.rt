@@ -9,7 +9,7 @@ ghost use Rattle.au_outcomes.specs.Refusals.{is_class_refusal, is_declaration_re
 ghost use Rattle.au_outcomes.specs.Refusals.{is_life_refusal, is_module_refusal, is_refusal, is_type_refusal};
 
 use crate::refusals::{Refusal, Unbuilt};
-use au_base::{Entry, Limit, LimitKind, Memory, Name, Pos};
+use au_base::{Entry, Limit, LimitKind, Memory, Name, Pos, Text};
 use au_classes::ClassFault;
 use au_imports::ImportFault;
 use au_modules::ModuleFault;
@@ -151,7 +151,7 @@ fn add_statement(
     alloc: Global,
     text: &mut Vec<u8>,
     at: Pos,
-    why: &Why,
+    why: &Why<Text, Text>,
     files: &[String],
 ) -> Result<(), Memory>
     ensures { OnOk result (text.new.items

@@ -22,7 +22,7 @@ form_text form.Arms = codes "other arms"
 form_text (form.Range kind) = codes "a value of " ++ kind_name kind
 
 -- what is wrong
-abbrev pub why_text : Why → List ℕ
+abbrev pub why_text : Why (List ℕ) (List ℕ) → List ℕ
 why_text (why.Unknown name) = codes "unknown " ++ name
 why_text (why.Different wanted found) = codes "wanted " ++ wanted ++ codes ", found " ++ found
 why_text (why.Unfixed name) = codes "not fixed " ++ name

@@ -34,7 +34,7 @@ form_told (faults.range_wanted kind) = form.Range kind
 
 -- Why a statement isn't well typed, as the code tells it: types by their texts over the rows of declared
 -- types, and classes by the texts that they are given.
-abbrev pub why_told : List (DeclAt × Head) → (DeclAt → List ℕ) → faults.Why → told.Why
+abbrev pub why_told : List (DeclAt × Head) → (DeclAt → List ℕ) → faults.Why → told.Why (List ℕ) (List ℕ)
 why_told heads class_text (faults.unknown name) = why.Unknown name
 why_told heads class_text (faults.different wanted found) =
     why.Different (text_of heads wanted) (text_of heads found)

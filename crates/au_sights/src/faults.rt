@@ -35,31 +35,32 @@ pub enum Form {
     Range(IntKind),
 }
 
-/// Why a statement isn't well typed. Types and classes are told by their texts.
+/// Why a statement isn't well typed: the clause of a rule that fails. While notes are looked for, it names
+/// types and classes as they are; where it is told, by their texts.
 #[derive(Debug, Drop)]
-pub enum Why {
+pub enum Why<Type, Class> {
     /// The name means nothing there.
     Unknown(Name),
     /// Another type is wanted than is found.
     Different {
-        /// The text of the type that is wanted.
-        wanted: Text,
-        /// The text of the type that is found.
-        found: Text,
+        /// The type that is wanted.
+        wanted: Type,
+        /// The type that is found.
+        found: Type,
     },
     /// The call leaves this type parameter unfixed.
     Unfixed(Name),
     /// The class has no instance at the type.
     NoInstance {
-        /// The text of the class.
-        class: Text,
-        /// The text of the type.
-        of: Text,
+        /// The class.
+        class: Class,
+        /// The type.
+        of: Type,
     },
     /// The type isn't Free.
     NotFree {
-        /// The text of the type.
-        of: Text,
+        /// The type.
+        of: Type,
     },
     /// Another form is wanted.
     Shape {
@@ -81,7 +82,7 @@ pub enum TypeFault {
         /// The place of the statement.
         at: Pos,
         /// What is wrong with it.
-        why: Why,
+        why: Why<Text, Text>,
     },
     /// A type that is noted passes a limit.
     #[error("a limit is passed")]

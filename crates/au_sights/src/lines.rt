@@ -5,7 +5,7 @@ ghost use Rattle.au_sights.specs.Lines as lines;
 ghost use Rattle.au_type_texts.specs.Texts as texts;
 
 use crate::faults::{Form, Why};
-use au_base::{IntKind, Memory};
+use au_base::{IntKind, Memory, Text};
 use itoa::Buffer;
 use std::alloc::Global;
 
@@ -14,7 +14,7 @@ use std::alloc::Global;
 /// # Errors
 ///
 /// `Memory` when memory runs out.
-pub fn why_text(alloc: Global, why: &Why) -> Result<Vec<u8>, Memory>
+pub fn why_text(alloc: Global, why: &Why<Text, Text>) -> Result<Vec<u8>, Memory>
     ensures { IfOk result (λ text. text.items ≡ lines.why_text why.now) }
 {
     let mut text = Vec::new(alloc);
@@ -23,7 +23,7 @@ pub fn why_text(alloc: Global, why: &Why) -> Result<Vec<u8>, Memory>
 }
 
 /// Adds what is wrong.
-fn add_why(text: &mut Vec<u8>, why: &Why) -> Result<(), Memory>
+fn add_why(text: &mut Vec<u8>, why: &Why<Text, Text>) -> Result<(), Memory>
     ensures { OnOk result (text.new.items ≡ text.old.items ++ lines.why_text why.now) }
 {
     match why {
