@@ -1,3 +1,4 @@
 pub mod Seen
 pub mod Standing
 pub mod Lendings
+pub mod Walked

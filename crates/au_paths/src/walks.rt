@@ -5,8 +5,9 @@ ghost use Rattle.au_lives.specs.Walks as walks;
 ghost use Rattle.au_lives.specs.Walks.{walk, walk_block, walk_branches, walk_step, does, turned, joined};
 ghost use Rattle.au_lives.specs.Walks.{checked};
 ghost use Rattle.au_lives.specs.Lives.{held_from, unlent};
-ghost use Rattle.au_lives.specs.Paths.{bound_names, declared, lent, opening};
-ghost use Rattle.au_paths.specs.Lendings.{held_within};
+ghost use Rattle.au_lives.specs.Paths as paths;
+ghost use Rattle.au_lives.specs.Paths.{bound_names, declared, opening};
+ghost use Rattle.au_paths.specs.Walked.{held_in};
 ghost use Rattle.au_paths.specs.Seen.{seen_name, seen_expression, seen_statement, seen_statements};
 ghost use Rattle.au_paths.specs.Seen.{seen_block, seen_branches, seen_arms, seen_binds};
 ghost use Rattle.au_paths.specs.Standing.{reach_of, Gives, Forks, Branches, walk_case, then_on};
@@ -24,78 +25,92 @@ use au_lives::lives::Sort;
 use au_syntax::{Access, Arm, Block, Branch, Ident, Phase, Stmt};
 use std::alloc::Global;
 
+/// The variable that is walked for, as a step sees it.
+#[derive(Clone, Copy)]
+pub(crate) struct Walked<'a> {
+    /// Its name.
+    pub name: &'a Name,
+    /// Its sort.
+    pub sort: Sort,
+    /// Whether its name is that of another variable there.
+    pub hidden: bool,
+}
+
+/// What a borrow statement lends, how, and the reference to it.
+#[derive_where(Clone, Copy)]
+struct Lent<'a, P: Phase> {
+    access: Access,
+    variable: &'a Ident<P>,
+    reference: &'a Ident<P>,
+}
+
 /// The walk over a statement.
 #[tactic(auto, using(au_syntax::proofs::StatementLemmas::statement_steps))]
 #[cycle(walk)]
 fn walk<'a, P: Phase>(
     alloc: Global,
-    x: &Name,
-    sort: Sort,
-    hidden: bool,
+    of: &Walked,
     borrows: &mut OpenBorrows<'a>,
     stmt: &'a Stmt<P>,
     reach: Reached,
 ) -> Result<Reached, Stop>
     ensures gives { Gives result
-        (walk x.now sort (seen_statement P.Phase stmt.now) (held_within x.now hidden borrows.old)
+        (walk of.now.name.now of.now.sort (seen_statement P.Phase stmt.now) (held_in of.now borrows.old)
         (reach_of reach)) }
     ensures closed { OnOk result (borrows.new ≡ borrows.old) }
 {
-    let hold = borrows.hold(x, hidden);
+    let hold = borrows.hold(of.name, of.hidden);
     match stmt {
         Stmt::Skip(_) => Ok(reach),
-        Stmt::Let(_, _, _, _, e) => meet(x, sort, hold, e, reach),
-        Stmt::Destructure(_, _, e) => meet(x, sort, hold, e, reach),
-        Stmt::Assign(_, name, _, e) => meet_assignment(x, sort, hold, e, name, reach),
-        Stmt::AssignThrough(_, name, _, e) => meet_assignment_through(
-            x, sort, hold, e, name, reach,
-        ),
+        Stmt::Let(_, _, _, _, e) => meet(of.name, of.sort, hold, e, reach),
+        Stmt::Destructure(_, _, e) => meet(of.name, of.sort, hold, e, reach),
+        Stmt::Assign(_, name, _, e) => meet_assignment(of.name, of.sort, hold, e, name, reach),
+        Stmt::AssignThrough(_, name, _, e) => {
+            meet_assignment_through(of.name, of.sort, hold, e, name, reach)
+        }
         Stmt::If(_, branches) => {
-            let fork = walk_branches(alloc, x, sort, hidden, borrows, branches, reach)?;
+            let fork = walk_branches(alloc, of, borrows, branches, reach)?;
             walk_past(alloc, branches, fork)
         }
         Stmt::IfElse(_, branches, block) => {
-            let fork = walk_branches(alloc, x, sort, hidden, borrows, branches, reach)?;
-            walk_else(alloc, x, sort, hidden, borrows, block, branches, fork)
+            let fork = walk_branches(alloc, of, borrows, branches, reach)?;
+            walk_else(alloc, of, borrows, block, branches, fork)
         }
         Stmt::Case(_, e, arms) => {
-            let behind = meet_boxed(x, sort, hold, e, reach)?;
-            walk_case(alloc, x, sort, hidden, borrows, arms, behind)
+            let behind = meet_boxed(of.name, of.sort, hold, e, reach)?;
+            walk_case(alloc, of, borrows, arms, behind)
         }
         Stmt::While(_, e, block) => {
-            let behind = meet(x, sort, hold, e, reach)?;
-            walk_turn(alloc, x, sort, hidden, borrows, block, behind)
+            let behind = meet(of.name, of.sort, hold, e, reach)?;
+            walk_turn(alloc, of, borrows, block, behind)
         }
         Stmt::For(_, name, start, end, block) => {
-            let behind = meet_both(x, sort, hold, start, end, reach)?;
-            let inside = hidden_beside(x, name, hidden);
-            walk_turn(alloc, x, sort, inside, borrows, block, behind)
+            let behind = meet_both(of.name, of.sort, hold, start, end, reach)?;
+            let hidden = hidden_beside(of.name, name, of.hidden);
+            let inside = Walked { hidden, ..*of };
+            walk_turn(alloc, &inside, borrows, block, behind)
         }
         Stmt::Borrow(_, access, names, block, _) => {
-            let behind = meet_opening(x, sort, hold, *access, &names.variable, reach)?;
-            let lent = &names.variable;
-            walk_lent(
-                alloc,
-                x,
-                sort,
-                hidden,
-                borrows,
-                *access,
-                lent,
-                &names.reference,
-                block,
-                behind,
-            )
+            let behind = meet_opening(of.name, of.sort, hold, *access, &names.variable, reach)?;
+            let lent = Lent {
+                access: *access,
+                variable: &names.variable,
+                reference: &names.reference,
+            };
+            walk_lent(alloc, of, borrows, &lent, block, behind)
         }
-        Stmt::BorrowTyped(_, reference, _, mode, lent, block, _) => {
+        Stmt::BorrowTyped(_, reference, _, mode, variable, block, _) => {
             let access = access_of(*mode);
-            let behind = meet_opening(x, sort, hold, access, lent, reach)?;
-            walk_lent(
-                alloc, x, sort, hidden, borrows, access, lent, reference, block, behind,
-            )
+            let behind = meet_opening(of.name, of.sort, hold, access, variable, reach)?;
+            let lent = Lent {
+                access,
+                variable,
+                reference,
+            };
+            walk_lent(alloc, of, borrows, &lent, block, behind)
         }
-        Stmt::Call(_, e) => meet(x, sort, hold, e, reach),
-        Stmt::Return(_, e) => meet_return(x, sort, hold, e, reach),
+        Stmt::Call(_, e) => meet(of.name, of.sort, hold, e, reach),
+        Stmt::Return(_, e) => meet_return(of.name, of.sort, hold, e, reach),
     }
 }
 
@@ -103,29 +118,25 @@ fn walk<'a, P: Phase>(
 #[cycle(walk)]
 fn walk_lent<'a, P: Phase>(
     alloc: Global,
-    x: &Name,
-    sort: Sort,
-    hidden: bool,
+    of: &Walked,
     borrows: &mut OpenBorrows<'a>,
-    access: Access,
-    variable: &'a Ident<P>,
-    reference: &'a Ident<P>,
+    lent: &Lent<'a, P>,
     block: &'a Block<P>,
     reach: Reached,
 ) -> Result<Reached, Stop>
     ensures gives { Gives result
-        (walk_block x.now sort (seen_block P.Phase block.now)
-        (held_from x.now (declared (seen_name P.Phase reference.now).name
-        ∷ lent access (seen_name P.Phase variable.now).name ∷ []) (held_within x.now hidden borrows.old))
-        (reach_of reach)) }
+        (walk_block of.now.name.now of.now.sort (seen_block P.Phase block.now)
+        (held_from of.now.name.now (declared (seen_name P.Phase lent.now.reference.now).name
+        ∷ paths.lent lent.now.access (seen_name P.Phase lent.now.variable.now).name ∷ [])
+        (held_in of.now borrows.old)) (reach_of reach)) }
     ensures closed { OnOk result (borrows.new ≡ borrows.old) }
 {
     borrows.push(
-        P::bytes_of(&variable.name),
-        access,
-        P::bytes_of(&reference.name),
+        P::bytes_of(&lent.variable.name),
+        lent.access,
+        P::bytes_of(&lent.reference.name),
     )?;
-    let behind = walk_block(alloc, x, sort, hidden, borrows, block, reach)?;
+    let behind = walk_block(alloc, of, borrows, block, reach)?;
     borrows.pop();
     Ok(behind)
 }
@@ -134,23 +145,22 @@ fn walk_lent<'a, P: Phase>(
 #[cycle(walk)]
 fn walk_block<'a, P: Phase>(
     alloc: Global,
-    x: &Name,
-    sort: Sort,
-    hidden: bool,
+    of: &Walked,
     borrows: &mut OpenBorrows<'a>,
     block: &'a Block<P>,
     reach: Reached,
 ) -> Result<Reached, Stop>
     ensures gives { Gives result
-        (walk_block x.now sort (seen_block P.Phase block.now) (held_within x.now hidden borrows.old)
+        (walk_block of.now.name.now of.now.sort (seen_block P.Phase block.now) (held_in of.now borrows.old)
         (reach_of reach)) }
     ensures closed { OnOk result (borrows.new ≡ borrows.old) }
 {
     let mut at = reach;
-    let mut hides = hidden;
+    let mut hidden = of.hidden;
     for one in &block.statements {
-        at = walk(alloc, x, sort, hides, borrows, one, at)?;
-        hides = hidden_after(x, one, hides);
+        let here = Walked { hidden, ..*of };
+        at = walk(alloc, &here, borrows, one, at)?;
+        hidden = hidden_after(of.name, one, hidden);
     }
     Ok(at)
 }
@@ -159,21 +169,19 @@ fn walk_block<'a, P: Phase>(
 #[cycle(walk)]
 fn walk_turn<'a, P: Phase>(
     alloc: Global,
-    x: &Name,
-    sort: Sort,
-    hidden: bool,
+    of: &Walked,
     borrows: &mut OpenBorrows<'a>,
     block: &'a Block<P>,
     reach: Reached,
 ) -> Result<Reached, Stop>
     ensures gives { Gives result
         (turned
-        (walk_block x.now sort (seen_block P.Phase block.now) (held_within x.now hidden borrows.old))
+        (walk_block of.now.name.now of.now.sort (seen_block P.Phase block.now) (held_in of.now borrows.old))
         (reach_of reach)) }
     ensures closed { OnOk result (borrows.new ≡ borrows.old) }
 {
     let entry = choose(alloc, 1, &reach)?;
-    let _inside = walk_block(alloc, x, sort, hidden, borrows, block, entry)?;
+    let _inside = walk_block(alloc, of, borrows, block, entry)?;
     leave(alloc, &reach)
 }
 
@@ -189,16 +197,14 @@ fn leave(alloc: Global, reach: &Reached) -> Result<Reached, Stop>
 #[cycle(walk)]
 fn walk_branches<'a, P: Phase>(
     alloc: Global,
-    x: &Name,
-    sort: Sort,
-    hidden: bool,
+    of: &Walked,
     borrows: &mut OpenBorrows<'a>,
     branches: &'a Vec<Branch<P>>,
     reach: Reached,
 ) -> Result<Fork, Stop>
     ensures forks { Forks result (length branches.now.items)
-        (λ other. walk_branches x.now sort (seen_branches P.Phase branches.now.items)
-        (held_within x.now hidden borrows.old) other 0 (reach_of reach) walks.nowhere) }
+        (λ other. walk_branches of.now.name.now of.now.sort (seen_branches P.Phase branches.now.items)
+        (held_in of.now borrows.old) other 0 (reach_of reach) walks.nowhere) }
     ensures closed { OnOk result (borrows.new ≡ borrows.old) }
 {
     let mut fork = Fork {
@@ -206,7 +212,7 @@ fn walk_branches<'a, P: Phase>(
         out: nowhere(),
     };
     for (number, one) in branches.iter().enumerate() {
-        fork = walk_branch(alloc, x, sort, hidden, borrows, number, one, fork)?;
+        fork = walk_branch(alloc, of, borrows, number, one, fork)?;
     }
     Ok(fork)
 }
@@ -215,23 +221,21 @@ fn walk_branches<'a, P: Phase>(
 #[cycle(walk)]
 fn walk_branch<'a, P: Phase>(
     alloc: Global,
-    x: &Name,
-    sort: Sort,
-    hidden: bool,
+    of: &Walked,
     borrows: &mut OpenBorrows<'a>,
     number: usize,
     branch: &'a Branch<P>,
     fork: Fork,
 ) -> Result<Fork, Stop>
-    ensures next { Branches x.now sort (held_within x.now hidden borrows.old) result
+    ensures next { Branches of.now.name.now of.now.sort (held_in of.now borrows.old) result
         (seen_expression P.Phase branch.now.test.value) (seen_block P.Phase branch.now.block) number fork }
     ensures closed { OnOk result (borrows.new ≡ borrows.old) }
 {
     let Fork { at, out } = fork;
-    let hold = borrows.hold(x, hidden);
-    let tested = meet_test(number, x, sort, hold, &branch.test, at)?;
+    let hold = borrows.hold(of.name, of.hidden);
+    let tested = meet_test(number, of.name, of.sort, hold, &branch.test, at)?;
     let entry = choose(alloc, number, &tested)?;
-    let one = walk_block(alloc, x, sort, hidden, borrows, &branch.block, entry)?;
+    let one = walk_block(alloc, of, borrows, &branch.block, entry)?;
     Ok(Fork {
         at: tested,
         out: merge(out, one),
@@ -255,9 +259,7 @@ fn walk_past<P: Phase>(
 #[cycle(walk)]
 fn walk_else<'a, P: Phase>(
     alloc: Global,
-    x: &Name,
-    sort: Sort,
-    hidden: bool,
+    of: &Walked,
     borrows: &mut OpenBorrows<'a>,
     block: &'a Block<P>,
     branches: &Vec<Branch<P>>,
@@ -265,14 +267,14 @@ fn walk_else<'a, P: Phase>(
 ) -> Result<Reached, Stop>
     ensures gives { Gives result
         (then_on
-        (walk_block x.now sort (seen_block P.Phase block.now) (held_within x.now hidden borrows.old)
+        (walk_block of.now.name.now of.now.sort (seen_block P.Phase block.now) (held_in of.now borrows.old)
         (walks.choose (length branches.now.items) (reach_of fork.at)))
         (joined (reach_of fork.out))) }
     ensures closed { OnOk result (borrows.new ≡ borrows.old) }
 {
     let Fork { at, out } = fork;
     let entry = choose(alloc, branches.len(), &at)?;
-    let one = walk_block(alloc, x, sort, hidden, borrows, block, entry)?;
+    let one = walk_block(alloc, of, borrows, block, entry)?;
     Ok(merge(out, one))
 }
 
@@ -280,21 +282,19 @@ fn walk_else<'a, P: Phase>(
 #[cycle(walk)]
 fn walk_case<'a, P: Phase>(
     alloc: Global,
-    x: &Name,
-    sort: Sort,
-    hidden: bool,
+    of: &Walked,
     borrows: &mut OpenBorrows<'a>,
     arms: &'a Vec<Arm<P>>,
     reach: Reached,
 ) -> Result<Reached, Stop>
     ensures gives { Gives result
-        (walk_case x.now sort (seen_arms P.Phase arms.now.items) (held_within x.now hidden borrows.old)
+        (walk_case of.now.name.now of.now.sort (seen_arms P.Phase arms.now.items) (held_in of.now borrows.old)
         (reach_of reach)) }
     ensures closed { OnOk result (borrows.new ≡ borrows.old) }
 {
     let mut out = nowhere();
     for (number, one) in arms.iter().enumerate() {
-        out = walk_arm(alloc, x, sort, hidden, borrows, number, one, &reach, out)?;
+        out = walk_arm(alloc, of, borrows, number, one, &reach, out)?;
     }
     behind_arms(alloc, arms, &reach, out)
 }
@@ -320,9 +320,7 @@ fn behind_arms<P: Phase>(
 #[cycle(walk)]
 fn walk_arm<'a, P: Phase>(
     alloc: Global,
-    x: &Name,
-    sort: Sort,
-    hidden: bool,
+    of: &Walked,
     borrows: &mut OpenBorrows<'a>,
     number: usize,
     arm: &'a Arm<P>,
@@ -331,16 +329,17 @@ fn walk_arm<'a, P: Phase>(
 ) -> Result<Reached, Stop>
     ensures gives { Gives result
         (then_on
-        (walk_block x.now sort (seen_block P.Phase arm.now.block)
-        (held_from x.now (bound_names (seen_binds P.Phase arm.now.binds.items))
-        (held_within x.now hidden borrows.old))
+        (walk_block of.now.name.now of.now.sort (seen_block P.Phase arm.now.block)
+        (held_from of.now.name.now (bound_names (seen_binds P.Phase arm.now.binds.items))
+        (held_in of.now borrows.old))
         (walks.choose number (reach_of reach.now)))
         (joined (reach_of out))) }
     ensures closed { OnOk result (borrows.new ≡ borrows.old) }
 {
-    let inside = hidden_beside_binds(x, &arm.binds, hidden);
+    let hidden = hidden_beside_binds(of.name, &arm.binds, of.hidden);
+    let inside = Walked { hidden, ..*of };
     let entry = choose(alloc, number, reach)?;
-    let one = walk_block(alloc, x, sort, inside, borrows, &arm.block, entry)?;
+    let one = walk_block(alloc, &inside, borrows, &arm.block, entry)?;
     Ok(merge(out, one))
 }
 
@@ -363,11 +362,16 @@ fn walk_rest<P: Phase>(
         spent: None,
     };
     let mut borrows = OpenBorrows::new(alloc);
-    let mut hides = false;
+    let mut hidden = false;
     for index in from..block.statements.len() {
         let one = &block.statements[index];
-        at = walk(alloc, x, sort, hides, &mut borrows, one, at)?;
-        hides = hidden_after(x, one, hides);
+        let here = Walked {
+            name: x,
+            sort,
+            hidden,
+        };
+        at = walk(alloc, &here, &mut borrows, one, at)?;
+        hidden = hidden_after(x, one, hidden);
     }
     Ok(at)
 }

@@ -17,13 +17,13 @@ loop-index-preserved g c =
           lemmas.block_goes g.P.Phase x c.args.sort c.args.block.now.statements.items c.loop-index.index
           c.index-one.result.now c.index-one.ensures
           (omega (arith, c.loop-index-test.true, c.len-index-end.ensures))
-          (held_within x c.loop-index.hides []) (held_within x c.hidden_after-hides.result [])
+          (held_within x c.loop-index.hidden []) (held_within x c.hidden_after-hidden.result [])
           (reach_of c.loop-index.at) (reach_of c.in_ok-at.at) _ inv.left
           (subst
           (λ (b : List Lending). walk x c.args.sort (seen_statement g.P.Phase c.index-one.result.now)
-          (held_within x c.loop-index.hides b) (reach_of c.loop-index.at) ≡ Ok (reach_of c.in_ok-at.at))
+          (held_within x c.loop-index.hidden b) (reach_of c.loop-index.at) ≡ Ok (reach_of c.in_ok-at.at))
           inv.none c.in_ok-at.ensures.gives)
-          (c.hidden_after-hides.ensures []);
+          (c.hidden_after-hidden.ensures []);
     }
 
 pub returns-in_err-at : goal.returns-in_err-at
@@ -34,14 +34,14 @@ returns-in_err-at g c =
     rw (p.1, p.2) (lemmas.block_stops g.P.Phase x c.args.sort c.args.block.now.statements.items
     c.loop-index.index c.index-one.result.now c.index-one.ensures
     (omega (arith, c.loop-index-test.true, c.len-index-end.ensures))
-    (held_within x c.loop-index.hides []) (reach_of c.loop-index.at) _ c.in_err-at.field-0.0 inv.left
+    (held_within x c.loop-index.hidden []) (reach_of c.loop-index.at) _ c.in_err-at.field-0.0 inv.left
     (subst
     (λ (b : List Lending). Stops c.in_err-at.field-0.0 (walk x c.args.sort
-    (seen_statement g.P.Phase c.index-one.result.now) (held_within x c.loop-index.hides b)
+    (seen_statement g.P.Phase c.index-one.result.now) (held_within x c.loop-index.hidden b)
     (reach_of c.loop-index.at))) inv.none c.in_err-at.ensures.gives))
 
 pub returns : goal.returns
 returns g c =
     lemmas.block_ends g.P.Phase c.args.x.now c.args.sort c.args.block.now.statements.items c.loop-index.index
     (omega (arith, c.loop-index-test.false, c.len-index-end.ensures))
-    (held_within c.args.x.now c.loop-index.hides []) (reach_of c.loop-index.at) _ c.loop-index.invariant.left
+    (held_within c.args.x.now c.loop-index.hidden []) (reach_of c.loop-index.at) _ c.loop-index.invariant.left

@@ -11,7 +11,7 @@ abbrev pub invariant-loop-index : goal.invariant-loop-index
 invariant-loop-index g l = record {
   none : l.borrows ≡ [];
   left : walk_block l.x l.sort (seen_statements g.P.Phase (drop l.index l.block.statements.items))
-      (held_within l.x l.hides []) (reach_of l.at)
+      (held_within l.x l.hidden []) (reach_of l.at)
       ≡ walk_block l.x l.sort (seen_statements g.P.Phase (drop l.from l.block.statements.items)) unlent
       (reach (Some []) None);
 }
