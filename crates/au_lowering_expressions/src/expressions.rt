@@ -201,29 +201,39 @@ fn write_compared<R: Lookup>(
     put_compare(order, first, out)
 }
 
-/// Writes an operation behind its first operand, by the notes of the whole and of that operand.
+/// An operation, and what its code depends on.
+#[derive(Clone, Copy)]
+struct Operated<'a> {
+    /// What it does.
+    operation: Operation,
+    /// The note of the whole.
+    whole: &'a ClosedNote,
+    /// The note of its first operand.
+    first: &'a ClosedNote,
+}
+
+/// Writes an operation behind its first operand.
 #[cycle(write)]
 fn write_second<R: Lookup>(
     alloc: Global,
     lookup: &R,
     scope: &[Local],
-    operation: Operation,
-    whole: &ClosedNote,
-    first: &ClosedNote,
+    of: &Operated,
     second: &Expr<ClosedTrees>,
     out: &mut Vec<Draft>,
 ) -> Result<(), Memory>
     ensures { OnOk result (drafts_said out.new.items
-        ≡ wrote (parts.second_of (operation_said operation) (closed_note whole.now) (closed_note first.now)
+        ≡ wrote (parts.second_of (operation_said of.now.operation) (closed_note of.now.whole.now)
+        (closed_note of.now.first.now)
         (code (view_in (R.round lookup.now)) (scope_said scope.now) (expression closed second.now)))
         (drafts_said out.old.items)) }
 {
-    match operation {
+    match of.operation {
         Operation::And => write_and(alloc, lookup, scope, second, out),
         Operation::Or => write_or(alloc, lookup, scope, second, out),
-        Operation::Computes(op) => write_computed(alloc, lookup, scope, op, whole, second, out),
+        Operation::Computes(op) => write_computed(alloc, lookup, scope, op, of.whole, second, out),
         Operation::Compares(order) => {
-            write_compared(alloc, lookup, scope, order, first, second, out)
+            write_compared(alloc, lookup, scope, order, of.first, second, out)
         }
     }
 }
@@ -292,11 +302,12 @@ fn write<R: Lookup>(
         }
         Expr::Binary(site, operator, first, second) => {
             write(alloc, lookup, scope, first, out)?;
-            let operation = operation_of(*operator);
-            let note = note_of(first);
-            write_second(
-                alloc, lookup, scope, operation, &site.note, note, second, out,
-            )
+            let operated = Operated {
+                operation: operation_of(*operator),
+                whole: &site.note,
+                first: note_of(first),
+            };
+            write_second(alloc, lookup, scope, &operated, second, out)
         }
         Expr::Not(_, inner) => {
             write(alloc, lookup, scope, inner, out)?;
