@@ -23,7 +23,7 @@ use au_closed_meanings::Lookup;
 use au_closed_programs::ClosedFunction;
 use au_closed_trees::{ClosedField, ClosedTrees};
 use au_lowering_expressions::{Draft, Local};
-use au_lowering_statements::{declare, further, room_of_block, write_block};
+use au_lowering_statements::{Writer, declare, further, room_of_block, write_block};
 use au_syntax::Block;
 use au_type_texts::copy_closed;
 use std::alloc::Global;
@@ -74,7 +74,13 @@ fn body_of<R: Lookup>(
         (block closed of.now) 0) }
 {
     let mut out = Vec::new(alloc);
-    write_block(alloc, lookup, 0, params, scope, of, &mut out)?;
+    let by = Writer {
+        alloc,
+        lookup,
+        around: 0,
+        slot: params,
+    };
+    write_block(&by, scope, of, &mut out)?;
     Ok(out)
 }
 

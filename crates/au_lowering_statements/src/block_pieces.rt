@@ -17,6 +17,7 @@ ghost use Rattle.au_meaning.specs.Names.{variable_of, with_name};
 ghost use Rattle.au_syntax.specs.Views.{expression};
 
 use crate::entering::{declare, declare_noted, further};
+use crate::writers::Writer;
 use au_base::{Memory, Name, Sequence};
 use au_closed_meanings::Lookup;
 use au_closed_trees::{ClosedNote, ClosedTrees};
@@ -171,64 +172,57 @@ pub fn declare_counter(
     declare_noted(alloc, scope, name, variable, note)
 }
 
-/// Writes an expression, and what pops it into a slot.
+/// Writes an expression, and what pops it into the next slot.
 pub fn write_stored<R: Lookup>(
-    alloc: Global,
-    lookup: &R,
+    by: &Writer<R>,
     scope: &[Local],
-    around: u32,
-    slot: u32,
     of: &Expr<ClosedTrees>,
     out: &mut Vec<Draft>,
 ) -> Result<(), Memory>
     ensures { OnOk result (drafts_said out.new.items
-        ≡ wrote (does (Store slot))
-        (wrote (whole (view_in (R.round lookup.now)) around (scope_said scope.now) (expression closed of.now))
-        (drafts_said out.old.items))) }
+        ≡ wrote (does (Store by.now.slot))
+        (wrote (whole (view_in (R.round by.now.lookup.now)) by.now.around (scope_said scope.now)
+        (expression closed of.now)) (drafts_said out.old.items))) }
 {
-    write_whole(alloc, lookup, scope, around, of, out)?;
-    put(out, Instr::Store(slot))
+    write_whole(by.alloc, by.lookup, scope, by.around, of, out)?;
+    put(out, Instr::Store(by.slot))
 }
 
 /// Writes the bounds of `for`.
 pub fn write_bounds<R: Lookup>(
-    alloc: Global,
-    lookup: &R,
+    by: &Writer<R>,
     scope: &[Local],
-    around: u32,
-    slot: u32,
     from: &Expr<ClosedTrees>,
     to: &Expr<ClosedTrees>,
     out: &mut Vec<Draft>,
 ) -> Result<(), Memory>
     ensures { OnOk result (drafts_said out.new.items
-        ≡ wrote (does (Store (slot + 1)))
-        (wrote (whole (view_in (R.round lookup.now)) around (scope_said scope.now) (expression closed to.now))
-        (wrote (does (Store slot))
-        (wrote (whole (view_in (R.round lookup.now)) around (scope_said scope.now)
+        ≡ wrote (does (Store (by.now.slot + 1)))
+        (wrote (whole (view_in (R.round by.now.lookup.now)) by.now.around (scope_said scope.now)
+        (expression closed to.now))
+        (wrote (does (Store by.now.slot))
+        (wrote (whole (view_in (R.round by.now.lookup.now)) by.now.around (scope_said scope.now)
         (expression closed from.now))
         (drafts_said out.old.items))))) }
 {
-    write_stored(alloc, lookup, scope, around, slot, from, out)?;
-    let last = further(slot, 1)?;
-    write_stored(alloc, lookup, scope, around, last, to, out)
+    write_stored(by, scope, from, out)?;
+    let slot = further(by.slot, 1)?;
+    write_stored(&Writer { slot, ..*by }, scope, to, out)
 }
 
 /// Writes the test of a loop, and answers its place.
 pub fn begin_loop<R: Lookup>(
-    alloc: Global,
-    lookup: &R,
+    by: &Writer<R>,
     scope: &[Local],
-    around: u32,
     test: &Expr<ClosedTrees>,
     out: &mut Vec<Draft>,
 ) -> Result<u32, Memory>
     ensures at { IfOk result (λ start. start ≡ length (drafts_said out.old.items)) }
     ensures code { OnOk result (drafts_said out.new.items
-        ≡ wrote (whole (view_in (R.round lookup.now)) around (scope_said scope.now)
+        ≡ wrote (whole (view_in (R.round by.now.lookup.now)) by.now.around (scope_said scope.now)
         (expression closed test.now)) (drafts_said out.old.items)) }
 {
     let start = here(out)?;
-    write_whole(alloc, lookup, scope, around, test, out)?;
+    write_whole(by.alloc, by.lookup, scope, by.around, test, out)?;
     Ok(start)
 }

@@ -11,7 +11,9 @@ pub mod pieces;
 pub mod rooms;
 pub mod simple;
 pub mod statements;
+pub mod writers;
 
 pub use entering::{declare, further};
 pub use rooms::room_of_block;
 pub use statements::write_block;
+pub use writers::Writer;

@@ -28,6 +28,7 @@ use crate::entering::{enter, further, kept};
 use crate::jumps::{either, end_jumps, is_last, put_end, put_unless};
 use crate::pieces::put_bind;
 use crate::simple::write_simple;
+use crate::writers::Writer;
 use au_base::{Memory, Name};
 use au_closed_meanings::Lookup;
 use au_closed_trees::{ClosedNote, ClosedTrees};
@@ -35,15 +36,11 @@ use au_judgements::returning::block_returns;
 use au_low::Instr;
 use au_lowering_expressions::{Draft, Local, end_test, here, note_of, put, write_whole};
 use au_syntax::{Access, Arm, Block, BorrowMode, BorrowNames, Branch, Expr, Stmt};
-use std::alloc::Global;
 
 /// Writes a `while`.
 #[cycle(write)]
 fn write_while<R: Lookup>(
-    alloc: Global,
-    lookup: &R,
-    around: u32,
-    slot: u32,
+    by: &Writer<R>,
     scope: &mut Vec<Local>,
     body: &Block<ClosedTrees>,
     test: &Expr<ClosedTrees>,
@@ -51,16 +48,16 @@ fn write_while<R: Lookup>(
 ) -> Result<(), Memory>
     ensures code { OnOk result (drafts_said out.new.items
         ≡ wrote (pieces.looped (returning.block_returns (block closed body.now))
-        (whole (view_in (R.round lookup.now)) around (scope_said scope.old.items)
+        (whole (view_in (R.round by.now.lookup.now)) by.now.around (scope_said scope.old.items)
         (expression closed test.now))
-        (spec.block (view_in (R.round lookup.now)) around slot (scope_said scope.old.items)
-        (block closed body.now))) (drafts_said out.old.items)) }
+        (spec.block (view_in (R.round by.now.lookup.now)) by.now.around by.now.slot
+        (scope_said scope.old.items) (block closed body.now))) (drafts_said out.old.items)) }
     ensures same { OnOk result (scope.new.items ≡ scope.old.items) }
 {
-    let start = begin_loop(alloc, lookup, scope, around, test, out)?;
+    let start = begin_loop(by, scope, test, out)?;
     let at = out.len();
     put(out, Instr::JumpNot(0))?;
-    write_block(alloc, lookup, around, slot, scope, body, out)?;
+    write_block(by, scope, body, out)?;
     put_unless(out, block_returns(body), Instr::Jump(start))?;
     end_test(out, at)?;
     Ok(())
@@ -69,80 +66,68 @@ fn write_while<R: Lookup>(
 /// Writes the block of `for`, and what ends a turn.
 #[cycle(write)]
 fn write_counted<R: Lookup>(
-    alloc: Global,
-    lookup: &R,
-    around: u32,
-    slot: u32,
+    by: &Writer<R>,
     start: u32,
     scope: &mut Vec<Local>,
     body: &Block<ClosedTrees>,
     out: &mut Vec<Draft>,
 ) -> Result<(), Memory>
     ensures code { OnOk result (drafts_said out.new.items
-        ≡ wrote (pieces.counted (returning.block_returns (block closed body.now)) slot start
-        (spec.block (view_in (R.round lookup.now)) around (slot + 3) (scope_said scope.old.items)
-        (block closed body.now))) (drafts_said out.old.items)) }
+        ≡ wrote (pieces.counted (returning.block_returns (block closed body.now)) by.now.slot start
+        (spec.block (view_in (R.round by.now.lookup.now)) by.now.around (by.now.slot + 3)
+        (scope_said scope.old.items) (block closed body.now))) (drafts_said out.old.items)) }
     ensures same { OnOk result (scope.new.items ≡ scope.old.items) }
 {
-    let inner = further(slot, 3)?;
-    write_block(alloc, lookup, around, inner, scope, body, out)?;
-    put_step(out, block_returns(body), slot, start)?;
+    let slot = further(by.slot, 3)?;
+    write_block(&Writer { slot, ..*by }, scope, body, out)?;
+    put_step(out, block_returns(body), by.slot, start)?;
     Ok(())
 }
 
 /// Writes one turn of `for`, where the variable is in scope.
 #[cycle(write)]
 fn write_turn<R: Lookup>(
-    alloc: Global,
-    lookup: &R,
-    around: u32,
-    slot: u32,
+    by: &Writer<R>,
     scope: &mut Vec<Local>,
     body: &Block<ClosedTrees>,
     out: &mut Vec<Draft>,
 ) -> Result<(), Memory>
     ensures code { OnOk result (drafts_said out.new.items
-        ≡ wrote (ends.turn_from (returning.block_returns (block closed body.now)) slot
-        (spec.block (view_in (R.round lookup.now)) around (slot + 3) (scope_said scope.old.items)
-        (block closed body.now))) (drafts_said out.old.items)) }
+        ≡ wrote (ends.turn_from (returning.block_returns (block closed body.now)) by.now.slot
+        (spec.block (view_in (R.round by.now.lookup.now)) by.now.around (by.now.slot + 3)
+        (scope_said scope.old.items) (block closed body.now))) (drafts_said out.old.items)) }
     ensures same { OnOk result (scope.new.items ≡ scope.old.items) }
 {
     let start = here(out)?;
-    put_counter(alloc, out, slot)?;
-    write_counted(alloc, lookup, around, slot, start, scope, body, out)?;
+    put_counter(by.alloc, out, by.slot)?;
+    write_counted(by, start, scope, body, out)?;
     Ok(())
 }
 
 /// Writes the turns of `for`, where the variable is in scope.
 #[cycle(write)]
 fn write_range<R: Lookup>(
-    alloc: Global,
-    lookup: &R,
-    around: u32,
-    slot: u32,
+    by: &Writer<R>,
     scope: &mut Vec<Local>,
     body: &Block<ClosedTrees>,
     out: &mut Vec<Draft>,
 ) -> Result<(), Memory>
     ensures code { OnOk result (drafts_said out.new.items
-        ≡ wrote (spec.turns (returning.block_returns (block closed body.now)) slot
-        (spec.block (view_in (R.round lookup.now)) around (slot + 3) (scope_said scope.old.items)
-        (block closed body.now))) (drafts_said out.old.items)) }
+        ≡ wrote (spec.turns (returning.block_returns (block closed body.now)) by.now.slot
+        (spec.block (view_in (R.round by.now.lookup.now)) by.now.around (by.now.slot + 3)
+        (scope_said scope.old.items) (block closed body.now))) (drafts_said out.old.items)) }
     ensures same { OnOk result (scope.new.items ≡ scope.old.items) }
 {
-    let at = put_range(out, slot)?;
-    write_turn(alloc, lookup, around, slot, scope, body, out)?;
-    end_range(out, at, slot)?;
+    let at = put_range(out, by.slot)?;
+    write_turn(by, scope, body, out)?;
+    end_range(out, at, by.slot)?;
     Ok(())
 }
 
 /// Writes a `for`, by the name of its variable.
 #[cycle(write)]
 fn write_for<R: Lookup>(
-    alloc: Global,
-    lookup: &R,
-    around: u32,
-    slot: u32,
+    by: &Writer<R>,
     scope: &mut Vec<Local>,
     body: &Block<ClosedTrees>,
     name: &Name,
@@ -151,19 +136,20 @@ fn write_for<R: Lookup>(
     out: &mut Vec<Draft>,
 ) -> Result<(), Memory>
     ensures code { OnOk result (drafts_said out.new.items
-        ≡ wrote (spec.turns (returning.block_returns (block closed body.now)) slot
-        (spec.block (view_in (R.round lookup.now)) around (slot + 3)
-        (with_name name.now (slot + 2) (Some (meant.note_of (expression closed from.now)).of)
+        ≡ wrote (spec.turns (returning.block_returns (block closed body.now)) by.now.slot
+        (spec.block (view_in (R.round by.now.lookup.now)) by.now.around (by.now.slot + 3)
+        (with_name name.now (by.now.slot + 2) (Some (meant.note_of (expression closed from.now)).of)
         (scope_said scope.old.items))
         (block closed body.now)))
-        (pieces.with_bounds (view_in (R.round lookup.now)) around slot (scope_said scope.old.items)
+        (pieces.with_bounds (view_in (R.round by.now.lookup.now)) by.now.around by.now.slot
+        (scope_said scope.old.items)
         (expression closed from.now) (expression closed to.now) (drafts_said out.old.items))) }
     ensures same { OnOk result (scope.new.items ≡ scope.old.items) }
 {
-    write_bounds(alloc, lookup, scope, around, slot, from, to, out)?;
+    write_bounds(by, scope, from, to, out)?;
     let depth = scope.len();
-    declare_counter(alloc, scope, name, slot, note_of(from))?;
-    write_range(alloc, lookup, around, slot, scope, body, out)?;
+    declare_counter(by.alloc, scope, name, by.slot, note_of(from))?;
+    write_range(by, scope, body, out)?;
     scope.truncate(depth);
     Ok(())
 }
@@ -171,34 +157,33 @@ fn write_for<R: Lookup>(
 /// Writes the block of a borrow statement, and what ends the borrow.
 #[cycle(write)]
 fn write_lent<R: Lookup>(
-    alloc: Global,
-    lookup: &R,
-    around: u32,
-    slot: u32,
+    by: &Writer<R>,
     scope: &mut Vec<Local>,
     body: &Block<ClosedTrees>,
     out: &mut Vec<Draft>,
 ) -> Result<(), Memory>
     ensures code { OnOk result (drafts_said out.new.items
-        ≡ wrote (ends.lent (returning.block_returns (block closed body.now)) around
-        (spec.block (view_in (R.round lookup.now)) (around + 1) (slot + 1) (scope_said scope.old.items)
-        (block closed body.now))) (drafts_said out.old.items)) }
+        ≡ wrote (ends.lent (returning.block_returns (block closed body.now)) by.now.around
+        (spec.block (view_in (R.round by.now.lookup.now)) (by.now.around + 1) (by.now.slot + 1)
+        (scope_said scope.old.items) (block closed body.now))) (drafts_said out.old.items)) }
     ensures same { OnOk result (scope.new.items ≡ scope.old.items) }
 {
-    let inner = further(around, 1)?;
-    let next = further(slot, 1)?;
-    write_block(alloc, lookup, inner, next, scope, body, out)?;
-    put_unless(out, block_returns(body), Instr::Close(around))?;
+    let around = further(by.around, 1)?;
+    let slot = further(by.slot, 1)?;
+    let inner = Writer {
+        around,
+        slot,
+        ..*by
+    };
+    write_block(&inner, scope, body, out)?;
+    put_unless(out, block_returns(body), Instr::Close(by.around))?;
     Ok(())
 }
 
 /// Writes a borrow statement.
 #[cycle(write)]
 fn write_borrow<R: Lookup>(
-    alloc: Global,
-    lookup: &R,
-    around: u32,
-    slot: u32,
+    by: &Writer<R>,
     scope: &mut Vec<Local>,
     mode: BorrowMode,
     variable: &Name,
@@ -207,17 +192,17 @@ fn write_borrow<R: Lookup>(
     out: &mut Vec<Draft>,
 ) -> Result<(), Memory>
     ensures code { OnOk result (drafts_said out.new.items
-        ≡ wrote (spec.lends (returning.block_returns (block closed body.now)) around slot mode
+        ≡ wrote (spec.lends (returning.block_returns (block closed body.now)) by.now.around by.now.slot mode
         (variable_of (scope_said scope.old.items) variable.now)
-        (spec.block (view_in (R.round lookup.now)) (around + 1) (slot + 1)
-        (slots.with_reference mode (variable_of (scope_said scope.old.items) variable.now) slot name.now
-        (scope_said scope.old.items)) (block closed body.now))) (drafts_said out.old.items)) }
+        (spec.block (view_in (R.round by.now.lookup.now)) (by.now.around + 1) (by.now.slot + 1)
+        (slots.with_reference mode (variable_of (scope_said scope.old.items) variable.now) by.now.slot
+        name.now (scope_said scope.old.items)) (block closed body.now))) (drafts_said out.old.items)) }
     ensures same { OnOk result (scope.new.items ≡ scope.old.items) }
 {
     let depth = scope.len();
-    put_bind(scope, mode, variable, slot, out)?;
-    declare_reference(alloc, mode, variable, slot, name, scope)?;
-    write_lent(alloc, lookup, around, slot, scope, body, out)?;
+    put_bind(scope, mode, variable, by.slot, out)?;
+    declare_reference(by.alloc, mode, variable, by.slot, name, scope)?;
+    write_lent(by, scope, body, out)?;
     scope.truncate(depth);
     Ok(())
 }
@@ -225,10 +210,7 @@ fn write_borrow<R: Lookup>(
 /// Writes a borrow statement that names no type.
 #[cycle(write)]
 fn write_borrow_as<R: Lookup>(
-    alloc: Global,
-    lookup: &R,
-    around: u32,
-    slot: u32,
+    by: &Writer<R>,
     scope: &mut Vec<Local>,
     access: Access,
     names: &BorrowNames<ClosedTrees>,
@@ -236,12 +218,12 @@ fn write_borrow_as<R: Lookup>(
     out: &mut Vec<Draft>,
 ) -> Result<(), Memory>
     ensures code { OnOk result (drafts_said out.new.items
-        ≡ wrote (spec.lends (returning.block_returns (block closed body.now)) around slot
+        ≡ wrote (spec.lends (returning.block_returns (block closed body.now)) by.now.around by.now.slot
         (slots.mode_of access)
         (variable_of (scope_said scope.old.items) (placed closed names.now.variable).name)
-        (spec.block (view_in (R.round lookup.now)) (around + 1) (slot + 1)
+        (spec.block (view_in (R.round by.now.lookup.now)) (by.now.around + 1) (by.now.slot + 1)
         (slots.with_reference (slots.mode_of access)
-        (variable_of (scope_said scope.old.items) (placed closed names.now.variable).name) slot
+        (variable_of (scope_said scope.old.items) (placed closed names.now.variable).name) by.now.slot
         (placed closed names.now.reference).name
         (scope_said scope.old.items)) (block closed body.now))) (drafts_said out.old.items)) }
     ensures same { OnOk result (scope.new.items ≡ scope.old.items) }
@@ -249,19 +231,14 @@ fn write_borrow_as<R: Lookup>(
     let mode = mode_of(access);
     let variable = &names.variable.name;
     let name = &names.reference.name;
-    write_borrow(
-        alloc, lookup, around, slot, scope, mode, variable, name, body, out,
-    )?;
+    write_borrow(by, scope, mode, variable, name, body, out)?;
     Ok(())
 }
 
 /// Writes a branch behind its test, and its jump to the end where something follows it.
 #[cycle(write)]
 fn write_branch<R: Lookup>(
-    alloc: Global,
-    lookup: &R,
-    around: u32,
-    slot: u32,
+    by: &Writer<R>,
     scope: &mut Vec<Local>,
     followed: bool,
     body: &Block<ClosedTrees>,
@@ -270,14 +247,14 @@ fn write_branch<R: Lookup>(
 ) -> Result<(), Memory>
     ensures code { OnOk result (ends.Holed
         (λ m. ends.branch_upto followed (returning.block_returns (block closed body.now)) m
-        (spec.block (view_in (R.round lookup.now)) around slot (scope_said scope.old.items)
-        (block closed body.now)))
+        (spec.block (view_in (R.round by.now.lookup.now)) by.now.around by.now.slot
+        (scope_said scope.old.items) (block closed body.now)))
         jumps.old.items (drafts_said out.old.items) jumps.new.items (drafts_said out.new.items)) }
     ensures same { OnOk result (scope.new.items ≡ scope.old.items) }
 {
     let test = out.len();
     put(out, Instr::JumpNot(0))?;
-    write_block(alloc, lookup, around, slot, scope, body, out)?;
+    write_block(by, scope, body, out)?;
     put_end(out, jumps, is_last(block_returns(body), followed))?;
     end_test(out, test)?;
     Ok(())
@@ -286,10 +263,7 @@ fn write_branch<R: Lookup>(
 /// Writes a test and its branch.
 #[cycle(write)]
 fn write_test<R: Lookup>(
-    alloc: Global,
-    lookup: &R,
-    around: u32,
-    slot: u32,
+    by: &Writer<R>,
     scope: &mut Vec<Local>,
     followed: bool,
     of: &Branch<ClosedTrees>,
@@ -298,27 +272,22 @@ fn write_test<R: Lookup>(
 ) -> Result<(), Memory>
     ensures code { OnOk result (ends.Holed
         (pieces.test_upto followed (returning.block_returns (block closed of.now.block))
-        (whole (view_in (R.round lookup.now)) around (scope_said scope.old.items)
+        (whole (view_in (R.round by.now.lookup.now)) by.now.around (scope_said scope.old.items)
         (expression closed of.now.test.value))
-        (spec.block (view_in (R.round lookup.now)) around slot (scope_said scope.old.items)
-        (block closed of.now.block)))
+        (spec.block (view_in (R.round by.now.lookup.now)) by.now.around by.now.slot
+        (scope_said scope.old.items) (block closed of.now.block)))
         jumps.old.items (drafts_said out.old.items) jumps.new.items (drafts_said out.new.items)) }
     ensures same { OnOk result (scope.new.items ≡ scope.old.items) }
 {
-    write_whole(alloc, lookup, scope, around, &of.test, out)?;
-    write_branch(
-        alloc, lookup, around, slot, scope, followed, &of.block, jumps, out,
-    )?;
+    write_whole(by.alloc, by.lookup, scope, by.around, &of.test, out)?;
+    write_branch(by, scope, followed, &of.block, jumps, out)?;
     Ok(())
 }
 
 /// Writes tests with their branches, by whether something follows where none is true.
 #[cycle(write)]
 fn write_tests<R: Lookup>(
-    alloc: Global,
-    lookup: &R,
-    around: u32,
-    slot: u32,
+    by: &Writer<R>,
     scope: &mut Vec<Local>,
     more: bool,
     branches: &Vec<Branch<ClosedTrees>>,
@@ -326,7 +295,8 @@ fn write_tests<R: Lookup>(
     out: &mut Vec<Draft>,
 ) -> Result<(), Memory>
     ensures code { OnOk result (ends.Holed
-        (λ m. ends.tests_upto (view_in (R.round lookup.now)) around slot (scope_said scope.old.items) m more
+        (λ m. ends.tests_upto (view_in (R.round by.now.lookup.now)) by.now.around by.now.slot
+        (scope_said scope.old.items) m more
         (branch_all closed branches.now.items))
         jumps.old.items (drafts_said out.old.items) jumps.new.items (drafts_said out.new.items)) }
     ensures same { OnOk result (scope.new.items ≡ scope.old.items) }
@@ -335,9 +305,7 @@ fn write_tests<R: Lookup>(
     for one in branches {
         left -= 1;
         let followed = either(more, left > 0);
-        write_test(
-            alloc, lookup, around, slot, scope, followed, one, jumps, out,
-        )?;
+        write_test(by, scope, followed, one, jumps, out)?;
     }
     Ok(())
 }
@@ -345,24 +313,19 @@ fn write_tests<R: Lookup>(
 /// Writes a conditional without `else`.
 #[cycle(write)]
 fn write_conditional<R: Lookup>(
-    alloc: Global,
-    lookup: &R,
-    around: u32,
-    slot: u32,
+    by: &Writer<R>,
     scope: &mut Vec<Local>,
     branches: &Vec<Branch<ClosedTrees>>,
     out: &mut Vec<Draft>,
 ) -> Result<(), Memory>
     ensures code { OnOk result (drafts_said out.new.items
-        ≡ wrote (unwrap_or (spec.tests_of (view_in (R.round lookup.now)) around slot
+        ≡ wrote (unwrap_or (spec.tests_of (view_in (R.round by.now.lookup.now)) by.now.around by.now.slot
         (scope_said scope.old.items)
         (branch_all closed branches.now.items) None) nothing) (drafts_said out.old.items)) }
     ensures same { OnOk result (scope.new.items ≡ scope.old.items) }
 {
-    let mut jumps = Vec::new(alloc);
-    write_tests(
-        alloc, lookup, around, slot, scope, false, branches, &mut jumps, out,
-    )?;
+    let mut jumps = Vec::new(by.alloc);
+    write_tests(by, scope, false, branches, &mut jumps, out)?;
     end_jumps(out, &jumps)?;
     Ok(())
 }
@@ -370,34 +333,27 @@ fn write_conditional<R: Lookup>(
 /// Writes the tests of a conditional with `else`, and answers where its jumps to the end stand.
 #[cycle(write)]
 fn write_jumps<R: Lookup>(
-    alloc: Global,
-    lookup: &R,
-    around: u32,
-    slot: u32,
+    by: &Writer<R>,
     scope: &mut Vec<Local>,
     branches: &Vec<Branch<ClosedTrees>>,
     out: &mut Vec<Draft>,
 ) -> Result<Vec<usize>, Memory>
     ensures code { IfOk result (λ jumps. ends.Holed
-        (λ m. ends.tests_upto (view_in (R.round lookup.now)) around slot (scope_said scope.old.items) m true
+        (λ m. ends.tests_upto (view_in (R.round by.now.lookup.now)) by.now.around by.now.slot
+        (scope_said scope.old.items) m true
         (branch_all closed branches.now.items))
         [] (drafts_said out.old.items) jumps.items (drafts_said out.new.items)) }
     ensures same { OnOk result (scope.new.items ≡ scope.old.items) }
 {
-    let mut jumps = Vec::new(alloc);
-    write_tests(
-        alloc, lookup, around, slot, scope, true, branches, &mut jumps, out,
-    )?;
+    let mut jumps = Vec::new(by.alloc);
+    write_tests(by, scope, true, branches, &mut jumps, out)?;
     Ok(jumps)
 }
 
 /// Writes the block behind `else`, and lets the jumps at these places go to the end.
 #[cycle(write)]
 fn write_last<R: Lookup>(
-    alloc: Global,
-    lookup: &R,
-    around: u32,
-    slot: u32,
+    by: &Writer<R>,
     scope: &mut Vec<Local>,
     last: &Block<ClosedTrees>,
     jumps: &Vec<usize>,
@@ -405,11 +361,11 @@ fn write_last<R: Lookup>(
 ) -> Result<(), Memory>
     ensures code { OnOk result (drafts_said out.new.items
         ≡ pieces.ended jumps.now.items
-        (wrote (spec.block (view_in (R.round lookup.now)) around slot (scope_said scope.old.items)
-        (block closed last.now)) (drafts_said out.old.items))) }
+        (wrote (spec.block (view_in (R.round by.now.lookup.now)) by.now.around by.now.slot
+        (scope_said scope.old.items) (block closed last.now)) (drafts_said out.old.items))) }
     ensures same { OnOk result (scope.new.items ≡ scope.old.items) }
 {
-    write_block(alloc, lookup, around, slot, scope, last, out)?;
+    write_block(by, scope, last, out)?;
     end_jumps(out, jumps)?;
     Ok(())
 }
@@ -418,10 +374,7 @@ fn write_last<R: Lookup>(
 /// needed.
 #[cycle(write)]
 fn write_arm_block<R: Lookup>(
-    alloc: Global,
-    lookup: &R,
-    around: u32,
-    slot: u32,
+    by: &Writer<R>,
     scope: &mut Vec<Local>,
     last: bool,
     body: &Block<ClosedTrees>,
@@ -430,12 +383,12 @@ fn write_arm_block<R: Lookup>(
 ) -> Result<(), Memory>
     ensures code { OnOk result (ends.Holed
         (pieces.arm_to (returning.block_returns (block closed body.now) || last)
-        (spec.block (view_in (R.round lookup.now)) around slot (scope_said scope.old.items)
-        (block closed body.now)))
+        (spec.block (view_in (R.round by.now.lookup.now)) by.now.around by.now.slot
+        (scope_said scope.old.items) (block closed body.now)))
         jumps.old.items (drafts_said out.old.items) jumps.new.items (drafts_said out.new.items)) }
     ensures same { OnOk result (scope.new.items ≡ scope.old.items) }
 {
-    write_block(alloc, lookup, around, slot, scope, body, out)?;
+    write_block(by, scope, body, out)?;
     put_end(out, jumps, either(block_returns(body), last))?;
     Ok(())
 }
@@ -443,10 +396,7 @@ fn write_arm_block<R: Lookup>(
 /// Writes an arm of a case, of a value that has this note.
 #[cycle(write)]
 fn write_arm<R: Lookup>(
-    alloc: Global,
-    lookup: &R,
-    around: u32,
-    slot: u32,
+    by: &Writer<R>,
     scope: &mut Vec<Local>,
     note: &ClosedNote,
     last: bool,
@@ -456,17 +406,18 @@ fn write_arm<R: Lookup>(
 ) -> Result<(), Memory>
     ensures code { OnOk result (ends.Holed
         (pieces.arm_to (returning.block_returns (block closed of.now.block) || last)
-        (ends.arm_block (view_in (R.round lookup.now)) around slot (scope_said scope.old.items)
+        (ends.arm_block (view_in (R.round by.now.lookup.now)) by.now.around by.now.slot
+        (scope_said scope.old.items)
         (closed_note note.now) (placed closed of.now.case).name (map (bound closed) of.now.binds.items)
         (block closed of.now.block)))
         jumps.old.items (drafts_said out.old.items) jumps.new.items (drafts_said out.new.items)) }
     ensures same { OnOk result (scope.new.items ≡ scope.old.items) }
 {
     let depth = scope.len();
-    let inner = enter_arm(alloc, lookup, slot, note, &of.case.name, &of.binds, scope)?;
-    write_arm_block(
-        alloc, lookup, around, inner, scope, last, &of.block, jumps, out,
-    )?;
+    let name = &of.case.name;
+    let slot = enter_arm(by.alloc, by.lookup, by.slot, note, name, &of.binds, scope)?;
+    let inner = Writer { slot, ..*by };
+    write_arm_block(&inner, scope, last, &of.block, jumps, out)?;
     scope.truncate(depth);
     Ok(())
 }
@@ -474,10 +425,7 @@ fn write_arm<R: Lookup>(
 /// Writes the arms of a case, of a value that has this note, and puts where each begins behind others.
 #[cycle(write)]
 fn write_arms<R: Lookup>(
-    alloc: Global,
-    lookup: &R,
-    around: u32,
-    slot: u32,
+    by: &Writer<R>,
     scope: &mut Vec<Local>,
     note: &ClosedNote,
     arms: &Vec<Arm<ClosedTrees>>,
@@ -486,13 +434,15 @@ fn write_arms<R: Lookup>(
     out: &mut Vec<Draft>,
 ) -> Result<(), Memory>
     ensures code { OnOk result (ends.Holed
-        (λ m p. (ends.arms_upto (view_in (R.round lookup.now)) around slot (scope_said scope.old.items) m
+        (λ m p. (ends.arms_upto (view_in (R.round by.now.lookup.now)) by.now.around by.now.slot
+        (scope_said scope.old.items) m
         (closed_note note.now) (arm_all closed arms.now.items) p).code)
         jumps.old.items (drafts_said out.old.items) jumps.new.items (drafts_said out.new.items)) }
     ensures starts { OnOk result (pieces.Begun jumps.old.items (drafts_said out.old.items)
         (starts_said starts.new.items)
         (starts_said starts.old.items
-        ++ (ends.arms_upto (view_in (R.round lookup.now)) around slot (scope_said scope.old.items) 0
+        ++ (ends.arms_upto (view_in (R.round by.now.lookup.now)) by.now.around by.now.slot
+        (scope_said scope.old.items) 0
         (closed_note note.now) (arm_all closed arms.now.items)
         (length (drafts_said out.old.items))).starts)) }
     ensures same { OnOk result (scope.new.items ≡ scope.old.items) }
@@ -501,10 +451,8 @@ fn write_arms<R: Lookup>(
     for one in arms {
         left -= 1;
         let last = is_last(false, left > 0);
-        put_start(lookup, note, &one.case.name, starts, out)?;
-        write_arm(
-            alloc, lookup, around, slot, scope, note, last, one, jumps, out,
-        )?;
+        put_start(by.lookup, note, &one.case.name, starts, out)?;
+        write_arm(by, scope, note, last, one, jumps, out)?;
     }
     Ok(())
 }
@@ -512,32 +460,27 @@ fn write_arms<R: Lookup>(
 /// Writes a `case`.
 #[cycle(write)]
 fn write_case<R: Lookup>(
-    alloc: Global,
-    lookup: &R,
-    around: u32,
-    slot: u32,
+    by: &Writer<R>,
     scope: &mut Vec<Local>,
     arms: &Vec<Arm<ClosedTrees>>,
     value: &Expr<ClosedTrees>,
     out: &mut Vec<Draft>,
 ) -> Result<(), Memory>
     ensures code { OnOk result (drafts_said out.new.items
-        ≡ wrote (spec.cases slot (spec.arms_of (view_in (R.round lookup.now)) around slot
+        ≡ wrote (spec.cases by.now.slot (spec.arms_of (view_in
+        (R.round by.now.lookup.now)) by.now.around by.now.slot
         (scope_said scope.old.items) (meant.note_of (expression closed value.now))
         (arm_all closed arms.now.items)))
-        (wrote (whole (view_in (R.round lookup.now)) around (scope_said scope.old.items)
+        (wrote (whole (view_in (R.round by.now.lookup.now)) by.now.around (scope_said scope.old.items)
         (expression closed value.now)) (drafts_said out.old.items))) }
     ensures same { OnOk result (scope.new.items ≡ scope.old.items) }
 {
-    write_whole(alloc, lookup, scope, around, value, out)?;
-    let mut starts = Vec::new(alloc);
-    let mut jumps = Vec::new(alloc);
-    let at = put_case(alloc, out, slot)?;
+    write_whole(by.alloc, by.lookup, scope, by.around, value, out)?;
+    let mut starts = Vec::new(by.alloc);
+    let mut jumps = Vec::new(by.alloc);
+    let at = put_case(by.alloc, out, by.slot)?;
     write_arms(
-        alloc,
-        lookup,
-        around,
-        slot,
+        by,
         scope,
         note_of(value),
         arms,
@@ -545,49 +488,40 @@ fn write_case<R: Lookup>(
         &mut jumps,
         out,
     )?;
-    end_case(alloc, out, at, slot, &starts, &jumps)?;
+    end_case(by.alloc, out, at, by.slot, &starts, &jumps)?;
     Ok(())
 }
 
 /// Writes a statement.
 #[cycle(write)]
 fn write_statement<R: Lookup>(
-    alloc: Global,
-    lookup: &R,
-    around: u32,
-    slot: u32,
+    by: &Writer<R>,
     scope: &mut Vec<Local>,
     of: &Stmt<ClosedTrees>,
     out: &mut Vec<Draft>,
 ) -> Result<(), Memory>
     ensures code { OnOk result (drafts_said out.new.items
-        ≡ wrote (spec.statement (view_in (R.round lookup.now)) around slot (scope_said scope.old.items)
-        (statement closed of.now)) (drafts_said out.old.items)) }
+        ≡ wrote (spec.statement (view_in (R.round by.now.lookup.now)) by.now.around by.now.slot
+        (scope_said scope.old.items) (statement closed of.now)) (drafts_said out.old.items)) }
     ensures same { OnOk result (scope.new.items ≡ scope.old.items) }
 {
     match of {
-        Stmt::If(_, tests) => write_conditional(alloc, lookup, around, slot, scope, tests, out),
+        Stmt::If(_, tests) => write_conditional(by, scope, tests, out),
         Stmt::IfElse(_, branches, last) => {
-            let jumps = write_jumps(alloc, lookup, around, slot, scope, branches, out)?;
-            write_last(alloc, lookup, around, slot, scope, last, &jumps, out)?;
+            let jumps = write_jumps(by, scope, branches, out)?;
+            write_last(by, scope, last, &jumps, out)?;
             Ok(())
         }
-        Stmt::Case(_, value, arms) => {
-            write_case(alloc, lookup, around, slot, scope, arms, value, out)
+        Stmt::Case(_, value, arms) => write_case(by, scope, arms, value, out),
+        Stmt::While(_, test, body) => write_while(by, scope, body, test, out),
+        Stmt::For(_, name, from, to, body) => write_for(by, scope, body, &name.name, from, to, out),
+        Stmt::Borrow(_, access, names, body, _) => {
+            write_borrow_as(by, scope, *access, names, body, out)
         }
-        Stmt::While(_, test, body) => {
-            write_while(alloc, lookup, around, slot, scope, body, test, out)
+        Stmt::BorrowTyped(_, name, _, mode, lent, body, _) => {
+            write_borrow(by, scope, *mode, &lent.name, &name.name, body, out)
         }
-        Stmt::For(_, name, from, to, body) => write_for(
-            alloc, lookup, around, slot, scope, body, &name.name, from, to, out,
-        ),
-        Stmt::Borrow(_, access, names, body, _) => write_borrow_as(
-            alloc, lookup, around, slot, scope, *access, names, body, out,
-        ),
-        Stmt::BorrowTyped(_, name, _, mode, lent, body, _) => write_borrow(
-            alloc, lookup, around, slot, scope, *mode, &lent.name, &name.name, body, out,
-        ),
-        _ => write_simple(alloc, lookup, scope, around, slot, of, out),
+        _ => write_simple(by, scope, of, out),
     }
 }
 
@@ -599,25 +533,22 @@ fn write_statement<R: Lookup>(
 /// Only for want of memory. It is also what is answered where a place or a slot has more than 32 bits.
 #[cycle(write)]
 pub fn write_block<R: Lookup>(
-    alloc: Global,
-    lookup: &R,
-    around: u32,
-    slot: u32,
+    by: &Writer<R>,
     scope: &mut Vec<Local>,
     of: &Block<ClosedTrees>,
     out: &mut Vec<Draft>,
 ) -> Result<(), Memory>
     ensures code { OnOk result (drafts_said out.new.items
-        ≡ wrote (spec.block (view_in (R.round lookup.now)) around slot (scope_said scope.old.items)
-        (block closed of.now)) (drafts_said out.old.items)) }
+        ≡ wrote (spec.block (view_in (R.round by.now.lookup.now)) by.now.around by.now.slot
+        (scope_said scope.old.items) (block closed of.now)) (drafts_said out.old.items)) }
     ensures same { OnOk result (scope.new.items ≡ scope.old.items) }
 {
     let depth = scope.len();
-    let mut slot = slot;
+    let mut slot = by.slot;
     for one in &of.statements {
-        write_statement(alloc, lookup, around, slot, scope, one, out)?;
-        enter(alloc, lookup, slot, one, scope)?;
-        slot = further(slot, kept(lookup, one))?;
+        write_statement(&Writer { slot, ..*by }, scope, one, out)?;
+        enter(by.alloc, by.lookup, slot, one, scope)?;
+        slot = further(slot, kept(by.lookup, one))?;
     }
     scope.truncate(depth);
     Ok(())

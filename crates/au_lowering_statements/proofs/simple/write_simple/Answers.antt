@@ -29,6 +29,6 @@ returns-in_default g c =
     let d = drafts_said c.args.out.now.items in
     sym (wrote_nothing d)
     ∙ sym (ap (λ w. wrote w d)
-    (lemmas.simple_none (g.R.Lookup.round c.args.lookup.now) c.args.around c.args.slot
+    (lemmas.simple_none (g.R.Lookup.round c.args.by.now.lookup.now) c.args.by.now.around c.args.by.now.slot
     (scope_said c.args.scope.now) c.args.of.now k.not-Let k.not-Destructure k.not-Assign k.not-AssignThrough
     k.not-Call k.not-Return))

@@ -61,49 +61,55 @@ write_statement-returns-in-BorrowTyped-clause-code g t c = grind (arith, lemmas.
 pub write_statement-returns-in_default-clause-code :
     goal.write_statement-returns-in_default-clause-code
 write_statement-returns-in_default-clause-code g t c =
-    let round = g.R.Lookup.round c.args.lookup.now in
+    let round = g.R.Lookup.round c.args.by.now.lookup.now in
+    let around = c.args.by.now.around in
+    let slot = c.args.by.now.slot in
     let k = c.in_default in
     subst (λ w. OnOk c.write_simple.result (drafts_said c.write_simple.new.out.items
     ≡ wrote w (drafts_said c.args.out.now.items)))
-    (ap (λ s. said_simple round c.args.around c.args.slot (scope_said s) c.args.of.now)
+    (ap (λ s. said_simple round around slot (scope_said s) c.args.of.now)
     c.deref-in_default.ensures.value
-    ∙ simple_all round c.args.around c.args.slot (scope_said c.args.scope.now.items) c.args.of.now
+    ∙ simple_all round around slot (scope_said c.args.scope.now.items) c.args.of.now
     k.not-If k.not-IfElse k.not-Case k.not-While k.not-For k.not-Borrow k.not-BorrowTyped)
     c.write_simple.ensures
 
 pub write_statement-returns-in_ok-write_last-in-IfElse-clause-code :
     goal.write_statement-returns-in_ok-write_last-in-IfElse-clause-code
 write_statement-returns-in_ok-write_last-in-IfElse-clause-code g t c =
-    let round = g.R.Lookup.round c.args.lookup.now in
+    let round = g.R.Lookup.round c.args.by.now.lookup.now in
+    let around = c.args.by.now.around in
+    let slot = c.args.by.now.slot in
     let scope = scope_said c.args.scope.now.items in
     let d = drafts_said c.args.out.now.items in
     let p = c.in-IfElse in
-    loops.last_is round c.args.around c.args.slot scope p.branches.items
-    (said_block round c.args.around c.args.slot scope p.last) _ d _ _ (drafts_said c.write_last.new.out.items)
+    loops.last_is round around slot scope p.branches.items
+    (said_block round around slot scope p.last) _ d _ _ (drafts_said c.write_last.new.out.items)
     c.in_ok-jumps-in-IfElse.ensures.code refl
     (c.in_ok-write_last-in-IfElse.ensures.code
     ∙ ap (λ s. ended c.in_ok-jumps-in-IfElse.jumps.items
-    (wrote (spec.block (view_in round) c.args.around c.args.slot (scope_said s) (block closed p.last))
+    (wrote (spec.block (view_in round) around slot (scope_said s) (block closed p.last))
     (drafts_said c.write_jumps.new.out.items)))
     c.in_ok-jumps-in-IfElse.ensures.same)
-    ∙ sym (lemmas.if_else_code round c.args.around c.args.slot scope d p.field-0 p.branches p.last)
-    ∙ sym (ap (λ s. wrote (said_statement round c.args.around c.args.slot scope s) d) p.is)
+    ∙ sym (lemmas.if_else_code round around slot scope d p.field-0 p.branches p.last)
+    ∙ sym (ap (λ s. wrote (said_statement round around slot scope s) d) p.is)
 
 -- ---- loops
 
 pub write_while-returns-clause-code : goal.write_while-returns-clause-code
 write_while-returns-clause-code g t c =
-    let round = g.R.Lookup.round c.args.lookup.now in
+    let round = g.R.Lookup.round c.args.by.now.lookup.now in
+    let around = c.args.by.now.around in
+    let slot = c.args.by.now.slot in
     let scope = scope_said c.args.scope.now.items in
     let returns = block_returns (block closed c.args.body.now) in
-    let body = said_block round c.args.around c.args.slot scope c.args.body.now in
+    let body = said_block round around slot scope c.args.body.now in
     let start = c.in_ok-start.start in
     let d = drafts_said c.args.out.now.items in
     let d1 = drafts_said c.begin_loop.new.out.items in
-    loop_written returns (said_whole round c.args.around c.args.slot scope c.args.test.now) body
+    loop_written returns (said_whole round around slot scope c.args.test.now) body
     d d1 (drafts_said c.end_test.new.out.items) start c.in_ok-start.ensures.at
     (c.in_ok-start.ensures.code
-    ∙ ap (λ s. wrote (whole (view_in round) c.args.around (scope_said s)
+    ∙ ap (λ s. wrote (whole (view_in round) around (scope_said s)
     (expression closed c.args.test.now)) d) c.deref.ensures.value)
     (when_written (turn_from returns start body) d1 (drafts_said c.put.new.out.items)
     (drafts_said c.put_unless.new.out.items) (drafts_said c.end_test.new.out.items) c.len-at.result
@@ -118,31 +124,35 @@ write_while-returns-clause-code g t c =
 
 pub write_counted-returns-clause-code : goal.write_counted-returns-clause-code
 write_counted-returns-clause-code g t c =
-    let see = view_in (g.R.Lookup.round c.args.lookup.now) in
+    let see = view_in (g.R.Lookup.round c.args.by.now.lookup.now) in
+    let around = c.args.by.now.around in
+    let slot = c.args.by.now.slot in
     let scope = scope_said c.args.scope.now.items in
     let d = drafts_said c.args.out.now.items in
     let returns = block_returns (block closed c.args.body.now) in
-    let step = ForStep c.args.slot (c.args.slot + 1) c.args.start in
+    let step = ForStep slot (slot + 1) c.args.start in
     c.in_ok-put_step.ensures
     ∙ ap (λ r. wrote (unless r step) (drafts_said c.write_block.new.out.items)) c.block_returns.ensures
     ∙ ap (wrote (unless returns step))
     (c.in_ok-write_block.ensures.code
-    ∙ ap (λ n. wrote (spec.block see c.args.around n scope (block closed c.args.body.now)) d)
-    c.in_ok-inner.ensures)
-    ∙ sym (wrote_row (spec.block see c.args.around (c.args.slot + 3) scope (block closed c.args.body.now))
+    ∙ ap (λ n. wrote (spec.block see around n scope (block closed c.args.body.now)) d)
+    c.in_ok-slot.ensures)
+    ∙ sym (wrote_row (spec.block see around (slot + 3) scope (block closed c.args.body.now))
     (unless returns step) d)
 
 pub write_turn-returns-clause-code : goal.write_turn-returns-clause-code
 write_turn-returns-clause-code g t c =
-    let see = view_in (g.R.Lookup.round c.args.lookup.now) in
+    let see = view_in (g.R.Lookup.round c.args.by.now.lookup.now) in
+    let around = c.args.by.now.around in
+    let slot = c.args.by.now.slot in
     let scope = scope_said c.args.scope.now.items in
     let returns = block_returns (block closed c.args.body.now) in
-    let body = spec.block see c.args.around (c.args.slot + 3) scope (block closed c.args.body.now) in
+    let body = spec.block see around (slot + 3) scope (block closed c.args.body.now) in
     let d = drafts_said c.args.out.now.items in
-    let look = does (Look c.args.slot []) in
-    let store = does (Store (c.args.slot + 2)) in
-    let block = counted returns c.args.slot c.in_ok-start.start body in
-    turn_written returns c.args.slot body d (drafts_said c.write_counted.new.out.items)
+    let look = does (Look slot []) in
+    let store = does (Store (slot + 2)) in
+    let block = counted returns slot c.in_ok-start.start body in
+    turn_written returns slot body d (drafts_said c.write_counted.new.out.items)
     c.in_ok-start.start c.in_ok-start.ensures
     (c.in_ok-write_counted.ensures.code
     ∙ ap (wrote block) c.in_ok-put_counter.ensures
@@ -151,80 +161,90 @@ write_turn-returns-clause-code g t c =
 
 pub write_range-returns-clause-code : goal.write_range-returns-clause-code
 write_range-returns-clause-code g t c =
-    let see = view_in (g.R.Lookup.round c.args.lookup.now) in
+    let see = view_in (g.R.Lookup.round c.args.by.now.lookup.now) in
+    let around = c.args.by.now.around in
+    let slot = c.args.by.now.slot in
     let scope = scope_said c.args.scope.now.items in
-    turns_written (block_returns (block closed c.args.body.now)) c.args.slot
-    (spec.block see c.args.around (c.args.slot + 3) scope (block closed c.args.body.now))
+    turns_written (block_returns (block closed c.args.body.now)) slot
+    (spec.block see around (slot + 3) scope (block closed c.args.body.now))
     (drafts_said c.args.out.now.items) (drafts_said c.put_range.new.out.items)
     (drafts_said c.write_turn.new.out.items) (drafts_said c.end_range.new.out.items) c.in_ok-at.at
     c.in_ok-at.ensures.at c.in_ok-at.ensures.code c.in_ok-write_turn.ensures.code c.in_ok-end_range.ensures
 
 pub write_for-returns-clause-code : goal.write_for-returns-clause-code
 write_for-returns-clause-code g t c =
-    let see = view_in (g.R.Lookup.round c.args.lookup.now) in
+    let see = view_in (g.R.Lookup.round c.args.by.now.lookup.now) in
+    let around = c.args.by.now.around in
+    let slot = c.args.by.now.slot in
     let scope = scope_said c.args.scope.now.items in
     let first = expression closed c.args.from.now in
     let last = expression closed c.args.to.now in
-    let counting = λ (inner : Scope). spec.turns (block_returns (block closed c.args.body.now)) c.args.slot
-    (spec.block see c.args.around (c.args.slot + 3) inner (block closed c.args.body.now)) in
+    let counting = λ (inner : Scope). spec.turns (block_returns (block closed c.args.body.now)) slot
+    (spec.block see around (slot + 3) inner (block closed c.args.body.now)) in
     c.in_ok-write_range.ensures.code
     ∙ ap (λ s. wrote (counting s) (drafts_said c.write_bounds.new.out.items))
     (c.in_ok-declare_counter.ensures.said
-    ∙ ap (λ (note : ClosedNote). with_name c.args.name.now (c.args.slot + 2) (Some note.of) scope)
+    ∙ ap (λ (note : ClosedNote). with_name c.args.name.now (slot + 2) (Some note.of) scope)
     c.note_of.ensures)
-    ∙ ap (wrote (counting (with_name c.args.name.now (c.args.slot + 2) (Some (note_of first).of) scope)))
+    ∙ ap (wrote (counting (with_name c.args.name.now (slot + 2) (Some (note_of first).of) scope)))
     (c.in_ok-write_bounds.ensures
-    ∙ ap (λ s. with_bounds see c.args.around c.args.slot (scope_said s) first last
+    ∙ ap (λ s. with_bounds see around slot (scope_said s) first last
     (drafts_said c.args.out.now.items)) c.deref.ensures.value)
 
 -- ---- borrow statements
 
 pub write_lent-returns-clause-code : goal.write_lent-returns-clause-code
 write_lent-returns-clause-code g t c =
-    let see = view_in (g.R.Lookup.round c.args.lookup.now) in
+    let see = view_in (g.R.Lookup.round c.args.by.now.lookup.now) in
+    let around = c.args.by.now.around in
+    let slot = c.args.by.now.slot in
     let scope = scope_said c.args.scope.now.items in
     let d = drafts_said c.args.out.now.items in
     let returns = block_returns (block closed c.args.body.now) in
-    let close = Close c.args.around in
+    let close = Close around in
     c.in_ok-put_unless.ensures
     ∙ ap (λ r. wrote (unless r close) (drafts_said c.write_block.new.out.items)) c.block_returns.ensures
     ∙ ap (wrote (unless returns close))
     (c.in_ok-write_block.ensures.code
-    ∙ ap (λ n. wrote (spec.block see n c.in_ok-next.next scope (block closed c.args.body.now)) d)
-    c.in_ok-inner.ensures
-    ∙ ap (λ n. wrote (spec.block see (c.args.around + 1) n scope (block closed c.args.body.now)) d)
-    c.in_ok-next.ensures)
-    ∙ sym (wrote_row (spec.block see (c.args.around + 1) (c.args.slot + 1) scope
+    ∙ ap (λ n. wrote (spec.block see n c.in_ok-slot.slot scope (block closed c.args.body.now)) d)
+    c.in_ok-around.ensures
+    ∙ ap (λ n. wrote (spec.block see (around + 1) n scope (block closed c.args.body.now)) d)
+    c.in_ok-slot.ensures)
+    ∙ sym (wrote_row (spec.block see (around + 1) (slot + 1) scope
     (block closed c.args.body.now)) (unless returns close) d)
 
 pub write_borrow-returns-clause-code : goal.write_borrow-returns-clause-code
 write_borrow-returns-clause-code g t c =
-    let round = g.R.Lookup.round c.args.lookup.now in
+    let round = g.R.Lookup.round c.args.by.now.lookup.now in
+    let around = c.args.by.now.around in
+    let slot = c.args.by.now.slot in
     let see = view_in round in
     let scope = scope_said c.args.scope.now.items in
     let d = drafts_said c.args.out.now.items in
     let returns = block_returns (block closed c.args.body.now) in
     let variable = variable_of scope c.args.variable.now in
-    let body = spec.block see (c.args.around + 1) (c.args.slot + 1)
-    (with_reference c.args.mode variable c.args.slot c.args.name.now scope) (block closed c.args.body.now) in
+    let body = spec.block see (around + 1) (slot + 1)
+    (with_reference c.args.mode variable slot c.args.name.now scope) (block closed c.args.body.now) in
     c.in_ok-write_lent.ensures.code
-    ∙ ap (λ s. wrote (lent returns c.args.around (spec.block see (c.args.around + 1) (c.args.slot + 1) s
+    ∙ ap (λ s. wrote (lent returns around (spec.block see (around + 1) (slot + 1) s
     (block closed c.args.body.now))) (drafts_said c.put_bind.new.out.items))
     c.in_ok-declare_reference.ensures.said
-    ∙ ap (wrote (lent returns c.args.around body))
+    ∙ ap (wrote (lent returns around body))
     (c.in_ok-put_bind.ensures
-    ∙ ap (λ s. wrote (binds c.args.mode c.args.slot (variable_of (scope_said s) c.args.variable.now)) d)
+    ∙ ap (λ s. wrote (binds c.args.mode slot (variable_of (scope_said s) c.args.variable.now)) d)
     c.deref.ensures.value)
-    ∙ sym (lemmas.lends_row round c.args.around c.args.slot scope d returns c.args.mode variable body)
+    ∙ sym (lemmas.lends_row round around slot scope d returns c.args.mode variable body)
 
 -- ---- conditionals
 
 pub write_branch-returns-clause-code : goal.write_branch-returns-clause-code
 write_branch-returns-clause-code g t c =
-    let round = g.R.Lookup.round c.args.lookup.now in
+    let round = g.R.Lookup.round c.args.by.now.lookup.now in
+    let around = c.args.by.now.around in
+    let slot = c.args.by.now.slot in
     let scope = scope_said c.args.scope.now.items in
     let returns = block_returns (block closed c.args.body.now) in
-    holed_branch c.args.followed returns (said_block round c.args.around c.args.slot scope c.args.body.now)
+    holed_branch c.args.followed returns (said_block round around slot scope c.args.body.now)
     c.args.jumps.now.items c.put_end.new.jumps.items (drafts_said c.args.out.now.items)
     (drafts_said c.put.new.out.items) (drafts_said c.write_block.new.out.items)
     (drafts_said c.put_end.new.out.items) (drafts_said c.end_test.new.out.items) c.len-test.result
@@ -238,11 +258,13 @@ write_branch-returns-clause-code g t c =
 
 pub write_test-returns-clause-code : goal.write_test-returns-clause-code
 write_test-returns-clause-code g t c =
-    let round = g.R.Lookup.round c.args.lookup.now in
+    let round = g.R.Lookup.round c.args.by.now.lookup.now in
+    let around = c.args.by.now.around in
+    let slot = c.args.by.now.slot in
     let scope = scope_said c.args.scope.now.items in
     let returns = block_returns (block closed c.args.of.now.block) in
-    let test = said_whole round c.args.around c.args.slot scope c.args.of.now.test.value in
-    let body = said_block round c.args.around c.args.slot scope c.args.of.now.block in
+    let test = said_whole round around slot scope c.args.of.now.test.value in
+    let body = said_block round around slot scope c.args.of.now.block in
     holed_row (λ m. test) (λ m. branch_upto c.args.followed returns m body)
     c.args.jumps.now.items c.args.jumps.now.items c.write_branch.new.jumps.items
     (drafts_said c.args.out.now.items) (drafts_said c.write_whole.new.out.items)
@@ -250,9 +272,9 @@ write_test-returns-clause-code g t c =
     (holed_plain test c.args.jumps.now.items (drafts_said c.args.out.now.items)
     (drafts_said c.write_whole.new.out.items)
     (c.in_ok-write_whole.ensures
-    ∙ ap (λ s. wrote (whole (view_in round) c.args.around (scope_said s)
+    ∙ ap (λ s. wrote (whole (view_in round) around (scope_said s)
     (expression closed c.deref-2.result.now)) (drafts_said c.args.out.now.items)) c.deref.ensures.value
-    ∙ ap (λ e. wrote (said_whole round c.args.around c.args.slot scope e) (drafts_said c.args.out.now.items))
+    ∙ ap (λ e. wrote (said_whole round around slot scope e) (drafts_said c.args.out.now.items))
     c.deref-2.ensures))
     c.in_ok-write_branch.ensures.code
 
@@ -261,7 +283,9 @@ write_tests-loop-one-init g t c = (omega (arith, c.deref-one-items.ensures), (re
 
 pub write_tests-loop-one-preserved : goal.write_tests-loop-one-preserved
 write_tests-loop-one-preserved g t c =
-    let round = g.R.Lookup.round c.args.lookup.now in
+    let round = g.R.Lookup.round c.args.by.now.lookup.now in
+    let around = c.args.by.now.around in
+    let slot = c.args.by.now.slot in
     let scope = scope_said c.args.scope.now.items in
     let xs = c.deref-one-items.result.now in
     let x = c.one-item.result in
@@ -273,13 +297,13 @@ write_tests-loop-one-preserved g t c =
         c.in_ok-write_test.ensures.same ∙ before.1.0,
         λ all after h.
             before.1.1 all after
-            (tests_step round c.args.around c.args.slot scope c.args.more c.either-followed.result xs i x
+            (tests_step round around slot scope c.args.more c.either-followed.result xs i x
             c.loop-one.jumps.items c.write_test.new.jumps.items all
             (drafts_said c.loop-one.out.items) (drafts_said c.write_test.new.out.items) after
             c.loop-one-test.true c.one-item.is
             (tests_follow c.args.more _ _ xs i c.either-followed.ensures count)
             (subst (λ s. Holed
-            (one_test round c.args.around c.args.slot (scope_said s) c.either-followed.result x)
+            (one_test round around slot (scope_said s) c.either-followed.result x)
             c.loop-one.jumps.items (drafts_said c.loop-one.out.items)
             c.write_test.new.jumps.items (drafts_said c.write_test.new.out.items))
             before.1.0 c.in_ok-write_test.ensures.code)
@@ -289,34 +313,40 @@ write_tests-loop-one-preserved g t c =
 
 pub write_tests-returns-clause-code : goal.write_tests-returns-clause-code
 write_tests-returns-clause-code g t c =
-    let round = g.R.Lookup.round c.args.lookup.now in
+    let round = g.R.Lookup.round c.args.by.now.lookup.now in
+    let around = c.args.by.now.around in
+    let slot = c.args.by.now.slot in
     let scope = scope_said c.args.scope.now.items in
-    subst (λ xs. Holed (tests_left round c.args.around c.args.slot scope c.args.more xs)
+    subst (λ xs. Holed (tests_left round around slot scope c.args.more xs)
     c.args.jumps.now.items (drafts_said c.args.out.now.items)
     c.loop-one.jumps.items (drafts_said c.loop-one.out.items))
     c.deref-one-items.ensures.value
     (c.loop-one.invariant.1.1 c.loop-one.jumps.items (drafts_said c.loop-one.out.items)
-    (loops.tests_end round c.args.around c.args.slot scope c.args.more c.deref-one-items.result.now
+    (loops.tests_end round around slot scope c.args.more c.deref-one-items.result.now
     c.loop-one.one-index c.loop-one.jumps.items (drafts_said c.loop-one.out.items) c.loop-one-test.false))
 
 pub write_conditional-returns-clause-code : goal.write_conditional-returns-clause-code
 write_conditional-returns-clause-code g t c =
-    let round = g.R.Lookup.round c.args.lookup.now in
+    let round = g.R.Lookup.round c.args.by.now.lookup.now in
+    let around = c.args.by.now.around in
+    let slot = c.args.by.now.slot in
     let scope = scope_said c.args.scope.now.items in
     let d = drafts_said c.args.out.now.items in
     let d1 = drafts_said c.write_tests.new.out.items in
     let all = c.write_tests.new.jumps.items in
-    loops.none_is round c.args.around c.args.slot scope c.args.branches.now.items all d d1
+    loops.none_is round around slot scope c.args.branches.now.items all d d1
     (drafts_said c.end_jumps.new.out.items)
-    (subst (λ j. Holed (tests_left round c.args.around c.args.slot scope false c.args.branches.now.items)
+    (subst (λ j. Holed (tests_left round around slot scope false c.args.branches.now.items)
     j d all d1) c.new-jumps.ensures.items c.in_ok-write_tests.ensures.code)
     c.in_ok-end_jumps.ensures
 
 pub write_jumps-returns-clause-code : goal.write_jumps-returns-clause-code
 write_jumps-returns-clause-code g t c =
-    let round = g.R.Lookup.round c.args.lookup.now in
+    let round = g.R.Lookup.round c.args.by.now.lookup.now in
+    let around = c.args.by.now.around in
+    let slot = c.args.by.now.slot in
     let scope = scope_said c.args.scope.now.items in
-    subst (λ j. Holed (tests_left round c.args.around c.args.slot scope true c.args.branches.now.items)
+    subst (λ j. Holed (tests_left round around slot scope true c.args.branches.now.items)
     j (drafts_said c.args.out.now.items) c.write_tests.new.jumps.items
     (drafts_said c.write_tests.new.out.items)) c.new-jumps.ensures.items c.in_ok-write_tests.ensures.code
 
@@ -324,10 +354,12 @@ write_jumps-returns-clause-code g t c =
 
 pub write_arm_block-returns-clause-code : goal.write_arm_block-returns-clause-code
 write_arm_block-returns-clause-code g t c =
-    let round = g.R.Lookup.round c.args.lookup.now in
+    let round = g.R.Lookup.round c.args.by.now.lookup.now in
+    let around = c.args.by.now.around in
+    let slot = c.args.by.now.slot in
     let scope = scope_said c.args.scope.now.items in
     let returns = block_returns (block closed c.args.body.now) in
-    let body = said_block round c.args.around c.args.slot scope c.args.body.now in
+    let body = said_block round around slot scope c.args.body.now in
     holed_row (λ m. body) (λ m. unless (returns || c.args.last) (Jump m))
     c.args.jumps.now.items c.args.jumps.now.items c.put_end.new.jumps.items
     (drafts_said c.args.out.now.items) (drafts_said c.write_block.new.out.items)
@@ -341,19 +373,21 @@ write_arm_block-returns-clause-code g t c =
 
 pub write_arm-returns-clause-code : goal.write_arm-returns-clause-code
 write_arm-returns-clause-code g t c =
-    let see = view_in (g.R.Lookup.round c.args.lookup.now) in
+    let see = view_in (g.R.Lookup.round c.args.by.now.lookup.now) in
+    let around = c.args.by.now.around in
+    let slot = c.args.by.now.slot in
     let arm = c.args.of.now in
     let scope = scope_said c.args.scope.now.items in
     let note = closed_note c.args.note.now in
     let name = (placed closed arm.case).name in
     let fields = fields_of_case see note name in
     let holed = λ (n : ℕ) (sc : Scope). Holed (arm_to (block_returns (block closed arm.block) || c.args.last)
-    (spec.block see c.args.around n sc (block closed arm.block)))
+    (spec.block see around n sc (block closed arm.block)))
     c.args.jumps.now.items (drafts_said c.args.out.now.items)
     c.write_arm_block.new.jumps.items (drafts_said c.write_arm_block.new.out.items) in
-    subst (λ n. holed n (with_fields fields c.args.slot (map (bound closed) arm.binds.items) scope))
-    c.in_ok-inner.ensures.next
-    (subst (λ sc. holed c.in_ok-inner.inner sc) c.in_ok-inner.ensures.said
+    subst (λ n. holed n (with_fields fields slot (map (bound closed) arm.binds.items) scope))
+    c.in_ok-slot.ensures.next
+    (subst (λ sc. holed c.in_ok-slot.slot sc) c.in_ok-slot.ensures.said
     c.in_ok-write_arm_block.ensures.code)
 
 pub write_arms-loop-one-init : goal.write_arms-loop-one-init
@@ -362,7 +396,9 @@ write_arms-loop-one-init g t c =
 
 pub write_arms-loop-one-preserved : goal.write_arms-loop-one-preserved
 write_arms-loop-one-preserved g t c =
-    let round = g.R.Lookup.round c.args.lookup.now in
+    let round = g.R.Lookup.round c.args.by.now.lookup.now in
+    let around = c.args.by.now.around in
+    let slot = c.args.by.now.slot in
     let scope = scope_said c.args.scope.now.items in
     let note = closed_note c.args.note.now in
     let xs = c.deref-one-items.result.now in
@@ -371,7 +407,7 @@ write_arms-loop-one-preserved g t c =
     let before = c.loop-one.invariant in
     let count : c.loop-one.left - 1 + (i + 1) ≡ length xs = omega (arith, before.0, c.loop-one-test.true) in
     let flag = arm_is_last _ _ xs i c.is_last-last.ensures count in
-    let holed = subst (λ s. Holed (one_arm round c.args.around c.args.slot (scope_said s) note
+    let holed = subst (λ s. Holed (one_arm round around slot (scope_said s) note
     c.is_last-last.result x)
     c.loop-one.jumps.items (drafts_said c.loop-one.out.items)
     c.write_arm.new.jumps.items (drafts_said c.write_arm.new.out.items))
@@ -382,14 +418,14 @@ write_arms-loop-one-preserved g t c =
         (
           (λ all after h.
               before.1.1.0 all after
-              (arms_step round c.args.around c.args.slot scope note c.is_last-last.result xs i x
+              (arms_step round around slot scope note c.is_last-last.result xs i x
               c.loop-one.jumps.items c.write_arm.new.jumps.items all
               (drafts_said c.loop-one.out.items) (drafts_said c.write_arm.new.out.items) after
               c.loop-one-test.true c.one-item.is flag holed h)),
           (λ b.
               let below = before.1.1.1 b in (
                 holed.below below.0,
-                loops.begins_step round c.args.around c.args.slot scope note c.is_last-last.result xs i x
+                loops.begins_step round around slot scope note c.is_last-last.result xs i x
                     c.loop-one.jumps.items c.write_arm.new.jumps.items
                     (drafts_said c.loop-one.out.items) (drafts_said c.write_arm.new.out.items) _ _ _
                     c.loop-one-test.true c.one-item.is flag below.0 holed c.in_ok-put_start.ensures below.1,
@@ -400,33 +436,39 @@ write_arms-loop-one-preserved g t c =
 
 pub write_arms-returns-clause-code : goal.write_arms-returns-clause-code
 write_arms-returns-clause-code g t c =
-    let round = g.R.Lookup.round c.args.lookup.now in
+    let round = g.R.Lookup.round c.args.by.now.lookup.now in
+    let around = c.args.by.now.around in
+    let slot = c.args.by.now.slot in
     let scope = scope_said c.args.scope.now.items in
     let note = closed_note c.args.note.now in
-    subst (λ xs. Holed (arms_left round c.args.around c.args.slot scope note xs)
+    subst (λ xs. Holed (arms_left round around slot scope note xs)
     c.args.jumps.now.items (drafts_said c.args.out.now.items)
     c.loop-one.jumps.items (drafts_said c.loop-one.out.items))
     c.deref-one-items.ensures.value
     (c.loop-one.invariant.1.1.0 c.loop-one.jumps.items (drafts_said c.loop-one.out.items)
-    (loops.arms_end round c.args.around c.args.slot scope note c.deref-one-items.result.now
+    (loops.arms_end round around slot scope note c.deref-one-items.result.now
     c.loop-one.one-index c.loop-one.jumps.items (drafts_said c.loop-one.out.items) c.loop-one-test.false))
 
 pub write_arms-returns-clause-starts : goal.write_arms-returns-clause-starts
 write_arms-returns-clause-starts g t c = λ b.
-    let round = g.R.Lookup.round c.args.lookup.now in
+    let round = g.R.Lookup.round c.args.by.now.lookup.now in
+    let around = c.args.by.now.around in
+    let slot = c.args.by.now.slot in
     let scope = scope_said c.args.scope.now.items in
     let note = closed_note c.args.note.now in
-    loops.begins_end round c.args.around c.args.slot scope note c.deref-one-items.result.now
+    loops.begins_end round around slot scope note c.deref-one-items.result.now
     c.loop-one.one-index (length (drafts_said c.loop-one.out.items)) _ _ c.loop-one-test.false
     (c.loop-one.invariant.1.1.1 b).1
     ∙ ap (λ xs. starts_said c.args.starts.now.items
-    ++ loops.begins_at round c.args.around c.args.slot scope note xs
+    ++ loops.begins_at round around slot scope note xs
     (length (drafts_said c.args.out.now.items)))
     c.deref-one-items.ensures.value
 
 pub write_case-returns-clause-code : goal.write_case-returns-clause-code
 write_case-returns-clause-code g t c =
-    let round = g.R.Lookup.round c.args.lookup.now in
+    let round = g.R.Lookup.round c.args.by.now.lookup.now in
+    let around = c.args.by.now.around in
+    let slot = c.args.by.now.slot in
     let scope = scope_said c.args.scope.now.items in
     let note = closed_note c.note_of.result.now in
     let d = drafts_said c.write_whole.new.out.items in
@@ -434,14 +476,14 @@ write_case-returns-clause-code g t c =
     let d2 = drafts_said c.write_arms.new.out.items in
     let all = c.write_arms.new.jumps.items in
     let starts = starts_said c.write_arms.new.starts.items in
-    let cases = λ (n : ClosedNote). spec.cases c.args.slot
-    (spec.arms_of (view_in round) c.args.around c.args.slot scope n (arm_all closed c.args.arms.now.items)) in
-    loops.case_is round c.args.around c.args.slot scope note c.args.arms.now.items all starts
+    let cases = λ (n : ClosedNote). spec.cases slot
+    (spec.arms_of (view_in round) around slot scope n (arm_all closed c.args.arms.now.items)) in
+    loops.case_is round around slot scope note c.args.arms.now.items all starts
     d d1 d2 (drafts_said c.end_case.new.out.items) c.in_ok-at.at c.in_ok-at.ensures.at c.in_ok-at.ensures.code
-    (subst (λ j. Holed (arms_left round c.args.around c.args.slot scope note c.args.arms.now.items) j d1 all
+    (subst (λ j. Holed (arms_left round around slot scope note c.args.arms.now.items) j d1 all
     d2) c.new-jumps.ensures.items c.in_ok-write_arms.ensures.code)
     (subst (λ s. starts ≡ starts_said s
-    ++ loops.begins_at round c.args.around c.args.slot scope note c.args.arms.now.items (length d1))
+    ++ loops.begins_at round around slot scope note c.args.arms.now.items (length d1))
     c.new-starts.ensures.items
     (c.in_ok-write_arms.ensures.starts
     (subst (λ j. AllBelow j (length d1)) (sym c.new-jumps.ensures.items) tt)))
@@ -449,7 +491,7 @@ write_case-returns-clause-code g t c =
     ∙ ap (λ n. wrote (cases n) d) c.note_of.ensures
     ∙ ap (wrote (cases (note_of (expression closed c.args.value.now))))
     (c.in_ok-write_whole.ensures
-    ∙ ap (λ s. wrote (whole (view_in round) c.args.around (scope_said s)
+    ∙ ap (λ s. wrote (whole (view_in round) around (scope_said s)
     (expression closed c.args.value.now)) (drafts_said c.args.out.now.items)) c.deref.ensures.value)
 
 -- ---- blocks
@@ -459,12 +501,13 @@ write_block-loop-one-init g t c = (begins_same c.args.scope.now.items, refl)
 
 pub write_block-loop-one-preserved : goal.write_block-loop-one-preserved
 write_block-loop-one-preserved g t c =
-    let round = g.R.Lookup.round c.args.lookup.now in
+    let round = g.R.Lookup.round c.args.by.now.lookup.now in
+    let around = c.args.by.now.around in
     let same = c.in_ok-write_statement.ensures.same in (
       begins_more c.args.scope.now.items c.loop-one.scope.items c.enter.new.scope.items
           c.loop-one.invariant.0
           (subst (λ s. Begins s c.enter.new.scope.items) same c.in_ok-enter.ensures.keeps),
-      block_step round c.args.around c.deref-one-items.result.now c.loop-one.one-index c.one-item.result
+      block_step round around c.deref-one-items.result.now c.loop-one.one-index c.one-item.result
           c.loop-one.slot c.in_ok-slot.slot (scope_said c.loop-one.scope.items)
           (scope_said c.enter.new.scope.items) (drafts_said c.loop-one.out.items)
           (drafts_said c.write_statement.new.out.items) _ c.loop-one-test.true c.one-item.is
@@ -479,10 +522,12 @@ write_block-loop-one-preserved g t c =
 
 pub write_block-returns-clause-code : goal.write_block-returns-clause-code
 write_block-returns-clause-code g t c =
-    let round = g.R.Lookup.round c.args.lookup.now in
+    let round = g.R.Lookup.round c.args.by.now.lookup.now in
+    let around = c.args.by.now.around in
+    let slot = c.args.by.now.slot in
     let scope = scope_said c.args.scope.now.items in
-    block_end round c.args.around c.deref-one-items.result.now c.loop-one.one-index c.loop-one.slot
+    block_end round around c.deref-one-items.result.now c.loop-one.one-index c.loop-one.slot
     (scope_said c.loop-one.scope.items) (drafts_said c.loop-one.out.items) _ c.loop-one-test.false
     (c.loop-one.invariant.1
-    ∙ ap (λ xs. wrote (spec.block (view_in round) c.args.around c.args.slot scope (statement_all closed xs))
+    ∙ ap (λ xs. wrote (spec.block (view_in round) around slot scope (statement_all closed xs))
     (drafts_said c.args.out.now.items)) c.deref-one-items.ensures.value)
