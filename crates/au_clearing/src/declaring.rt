@@ -72,7 +72,6 @@ pub(crate) fn pile_binds<P: Phase>(
 /// # Errors
 ///
 /// `Memory` when memory runs out.
-#[tactic(auto, using(au_syntax::proofs::StatementLemmas::statement_steps))]
 pub(crate) fn pile_declared<P: Phase>(
     pile_of: &mut Vec<Life>,
     stmt: &Stmt<P>,
@@ -124,7 +123,6 @@ pub(crate) fn forget_binds<P: Phase>(deals: &mut Deals, binds: &Vec<Bind<P>>)
 }
 
 /// Forgets the names that a statement declares in front of a part.
-#[tactic(auto, using(au_syntax::proofs::StatementLemmas::statement_steps))]
 pub(crate) fn forget_declared<P: Phase>(deals: &mut Deals, stmt: &Stmt<P>)
     ensures { Sums deals.new
         (λ x free h. seen_at deals.old x free
