@@ -11,6 +11,7 @@ ghost use Rattle.au_clearing.specs.Deals.{touch_or_none, by_touch, touch_in, Mee
 use crate::tables::Table;
 use crate::touches::{Touch, Touches, alone, borrowed, both};
 use au_base::Memory;
+use au_lives::is_variable;
 use au_syntax::{Argument, BinaryOperator, Expr, Ident, Phase};
 use std::alloc::Global;
 
@@ -62,32 +63,6 @@ fn mention_as<P: Phase>(
         free: touch,
     };
     mention(alloc, table, name, more)
-}
-
-/// Whether an expression is a variable or a constant alone, or that in parentheses.
-#[tactic(auto, using(au_lives::proofs::CountLemmas::alone, au_syntax::proofs::ExpressionLemmas::expression_steps))]
-fn is_variable<P: Phase>(e: &Expr<P>) -> bool
-    ensures { result ≡ mentions.is_variable (seen_expression P.Phase e.now) }
-{
-    match e {
-        Expr::Path(_, _, fields) => fields.is_empty(),
-        Expr::Parenthesized(_, inner) => is_variable(inner),
-        Expr::Number(_, _) => false,
-        Expr::Negative(_, _) => false,
-        Expr::Text(_, _) => false,
-        Expr::Bool(_, _) => false,
-        Expr::Nil(_) => false,
-        Expr::Arrow(_, _, _) => false,
-        Expr::Borrow(_, _, _) => false,
-        Expr::BorrowPart(_, _, _) => false,
-        Expr::Call(_, _, _, _) => false,
-        Expr::NamedCall(_, _, _, _) => false,
-        Expr::Dereference(_, _) => false,
-        Expr::Not(_, _) => false,
-        Expr::Typed(_, _, _) => false,
-        Expr::Binary(_, _, _, _) => false,
-        Expr::If(_, _, _, _) => false,
-    }
 }
 
 /// Whether the operator may leave out its right side.

@@ -12,6 +12,7 @@ ghost use Rattle.au_paths.specs.Standing.{hold_of};
 ghost use Rattle.au_linear.specs.Firsts.{first_of, sought_at};
 
 use au_base::{Name, Pos};
+use au_lives::is_variable;
 use au_lives::lives::Sort;
 use au_paths::{Hold, is_free, is_named};
 use au_syntax::{Argument, BinaryOperator, Expr, Ident, Phase};
@@ -116,32 +117,6 @@ fn place_of_path<P: Phase>(
         Some(at)
     } else {
         None
-    }
-}
-
-/// Whether an expression is a variable or a constant alone, or that in parentheses.
-#[tactic(auto, using(au_lives::proofs::CountLemmas::alone, au_syntax::proofs::ExpressionLemmas::expression_steps))]
-fn is_variable<P: Phase>(e: &Expr<P>) -> bool
-    ensures { result ≡ mentions.is_variable (seen_expression P.Phase e.now) }
-{
-    match e {
-        Expr::Path(_, _, fields) => fields.is_empty(),
-        Expr::Parenthesized(_, inner) => is_variable(inner),
-        Expr::Number(_, _) => false,
-        Expr::Negative(_, _) => false,
-        Expr::Text(_, _) => false,
-        Expr::Bool(_, _) => false,
-        Expr::Nil(_) => false,
-        Expr::Arrow(_, _, _) => false,
-        Expr::Borrow(_, _, _) => false,
-        Expr::BorrowPart(_, _, _) => false,
-        Expr::Call(_, _, _, _) => false,
-        Expr::NamedCall(_, _, _, _) => false,
-        Expr::Dereference(_, _) => false,
-        Expr::Not(_, _) => false,
-        Expr::Typed(_, _, _) => false,
-        Expr::Binary(_, _, _, _) => false,
-        Expr::If(_, _, _, _) => false,
     }
 }
 
