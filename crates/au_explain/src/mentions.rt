@@ -11,29 +11,10 @@ use au_base::{Memory, Name};
 use au_syntax::{Argument, Expr, Parsed};
 
 /// Whether an expression is a variable or a constant alone, or that in parentheses.
-#[tactic(auto, using(crate::proofs::StatementLemmas::alone, au_syntax::proofs::ExpressionLemmas::expression_steps))]
 fn is_variable(e: &Expr<Parsed>) -> bool
     ensures { result ≡ lives.is_variable (expression_said e.now) }
 {
-    match e {
-        Expr::Path(_, _, fields) => fields.is_empty(),
-        Expr::Parenthesized(_, inner) => is_variable(inner),
-        Expr::Number(_, _) => false,
-        Expr::Negative(_, _) => false,
-        Expr::Text(_, _) => false,
-        Expr::Bool(_, _) => false,
-        Expr::Nil(_) => false,
-        Expr::Arrow(_, _, _) => false,
-        Expr::Borrow(_, _, _) => false,
-        Expr::BorrowPart(_, _, _) => false,
-        Expr::Call(_, _, _, _) => false,
-        Expr::NamedCall(_, _, _, _) => false,
-        Expr::Dereference(_, _) => false,
-        Expr::Not(_, _) => false,
-        Expr::Typed(_, _, _) => false,
-        Expr::Binary(_, _, _, _) => false,
-        Expr::If(_, _, _, _) => false,
-    }
+    au_lives::is_variable(e)
 }
 
 /// Adds the mentions in an expression, by whether variables alone are only looked at.
