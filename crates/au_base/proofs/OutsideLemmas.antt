@@ -1,9 +1,11 @@
 -- What several calls of a sink add, one after another.
-use Rattle.std.proofs.Common.{◌≡◌, ◌≤◌, ◌+◌, ◌-◌, ℕ, List, [], ◌++◌, length, take, drop, Option, Some, None}
-use Rattle.std.proofs.Common.{ap, ◌∙◌, sym, refl, append_assoc, arith, length-drop}
-use Rattle.std.proofs.lemmas.List.{append-nil, take-append-drop, take_all, length-take-le}
+use Rattle.std.proofs.Common.{◌≡◌, ◌≤◌, ◌+◌, ◌-◌, ℕ, min, List, [], ◌++◌, length, take, drop, Option, Some}
+use Rattle.std.proofs.Common.{None, Result, Ok, Err, OnErr, ap, ◌∙◌, sym, refl, subst, append_assoc, arith}
+use Rattle.std.proofs.Common.{length-drop}
+use Rattle.std.proofs.lemmas.List.{append-nil, take-append-drop, take-append-le, take_all, take_min}
+use Rattle.std.proofs.lemmas.List.{length-take-le}
 use Rattle.std.proofs.Math.Seq.{take-append-add}
-use Rattle.au_base.specs.Outside.{Adds, written_more}
+use Rattle.au_base.specs.Outside.{Adds, AddsFront, written_more}
 
 -- one piece behind another
 written_twice : (old : Option (List ℕ)) (x y : List ℕ) → written_more (written_more old x) y ≡ written_more old (x ++ y)
@@ -19,6 +21,19 @@ adds_both old between new x y first second = second ∙ ap (λ w. written_more w
 pub adds_none : (old : Option (List ℕ)) → Adds old old []
 adds_none None = refl
 adds_none (Some bytes) = ap Some (sym (append-nil bytes))
+
+-- a front of what is added first is a front of the whole
+pub front_first : (old new : Option (List ℕ)) (x y : List ℕ) → AddsFront old new x
+    → AddsFront old new (x ++ y)
+front_first old new x y front =
+    let n : ℕ = min front.0 (length x) in
+    let same : take n (x ++ y) ≡ take front.0 x = take-append-le n x y (omega arith) ∙ take_min front.0 x in
+    (n, subst (Adds old new) (sym same) front.1)
+
+-- a fact at an `Err`
+pub on_err : {T E P : Type 0} (r : Result T E) → P → OnErr r P
+on_err (Ok x) p = tt
+on_err (Err e) p = p
 
 -- the front of a list, cut in two
 pub take_split : {X : Type 0} (i n : ℕ) (xs : List X) → i ≤ length xs → take (i + n) xs ≡ take i xs

@@ -7,6 +7,7 @@ use Rattle.std.proofs.lemmas.List.{length-map, map-set, take_rest}
 use Rattle.std.proofs.lemmas.Option.{slice_get_past, slice_get_read}
 use Rattle.std.specs.Global.{Global}
 use Rattle.std.specs.declared.boxed.Box.{Box}
+use Rattle.au_base.proofs.ListLemmas.{set_twice}
 use Rattle.au_effects.specs.Values.{made, field_then, fields_of}
 use Rattle.au_effects.specs.Parts.{along, nth_field, field, part, with_nth, with_part}
 use Rattle.au_cells.specs.declared.cells.Parts.{Parts}
@@ -77,13 +78,6 @@ pub past_old : (path : List ℕ) (cells : List Cell) (i : ℕ) → length cells 
 past_old path cells i h =
     sym (ap (λ (found : Option Low). along found (part path)) (nth_low cells i
     ∙ ap (option_map low) (slice_get_past cells i h)))
-
--- an item that is set twice
-set_twice : {X : Type 0} (xs : List X) (i : ℕ) (x y : X)
-    → slice_set (slice_set xs i x) i y ≡ slice_set xs i y
-set_twice [] i x y = refl
-set_twice (z ∷ xs) zero x y = refl
-set_twice (z ∷ xs) (suc i) x y = ap (λ (ys : List _). z ∷ ys) (set_twice xs i x y)
 
 -- a field that is there
 cell_there : (cells : List Cell) (i : ℕ) (old : Cell) → i < length cells → old ≡ get_or cells i old

@@ -3,7 +3,7 @@ use Rattle.std.proofs.Common.{◌≡◌, ℕ, zero, suc, ◌+◌, ◌-◌, ◌<�
 use Rattle.std.proofs.Common.{get_or, Some, slice_get, slice_set, refl, sym, ap, subst, ◌∙◌, arith}
 use Rattle.std.proofs.Math.Seq.{take-length}
 use Rattle.std.proofs.lemmas.List.{length-take, length-take-le, drop-take, drop-set-add, drop-set-lt}
-use Rattle.std.proofs.lemmas.List.{get_or-take, get_or-drop}
+use Rattle.std.proofs.lemmas.List.{get_or-take, get_or-drop, take-take}
 use Rattle.std.proofs.lemmas.Option.{slice_get_read, get_or_from_slice_get}
 use Rattle.au_cells.specs.Piles.{peeled, IsRising, piles_in, end_at, pile_at, with_below}
 
@@ -13,13 +13,6 @@ begins_within [] size i h = omega arith
 begins_within (base ∷ bases) size zero h = h.0
 begins_within (base ∷ bases) size (suc i) h = let more = begins_within bases base i h.1 in omega
     (arith, more, h.0)
-
--- the front of a front
-take_less : {T : Type 0} (n m : ℕ) (xs : List T) → n ≤ m → take n (take m xs) ≡ take n xs
-take_less zero m xs h = refl
-take_less (suc n) zero xs h = absurd (omega arith)
-take_less (suc n) (suc m) [] h = refl
-take_less (suc n) (suc m) (x ∷ xs) h = ap (λ (ys : List _). x ∷ ys) (take_less n m xs (omega arith))
 
 end_next : (bases : List ℕ) (base i : ℕ) → end_at bases base i ≡ get_or (base ∷ bases) i 0
 end_next bases base zero = refl
@@ -41,7 +34,7 @@ peeled_at {T} (base ∷ bases) items (suc i) h lt =
     let from = get_or bases i 0 in
     peeled_at bases (take base items) i (subst (IsRising bases) (sym size) h.1) (omega arith)
     ∙ ap (λ n. Some (drop from (take (end_at bases n i) (take base items)))) size
-    ∙ ap (λ (xs : List T). Some (drop from xs)) (take_less (end_at bases base i) base items
+    ∙ ap (λ (xs : List T). Some (drop from xs)) (take-take (end_at bases base i) base items
     (ends_within bases base i h.1))
     ∙ ap (λ n. Some (drop from (take n items))) (end_next bases base i)
 
@@ -106,7 +99,7 @@ pile_is {T} bases base items i within h lt =
     let rise : from + (to - from) ≡ to = (let low = start_below bases base i h lt in omega arith) in
     peeled_at bases (take base items) i (subst (IsRising bases) (sym size) h) lt
     ∙ ap (λ n. Some (drop from (take (end_at bases n i) (take base items)))) size
-    ∙ ap (λ (xs : List T). Some (drop from xs)) (take_less to base items (ends_within bases base i h))
+    ∙ ap (λ (xs : List T). Some (drop from xs)) (take-take to base items (ends_within bases base i h))
     ∙ ap (λ n. Some (drop from (take n items))) (sym rise)
     ∙ ap (λ (xs : List T). Some xs) (drop-take from (to - from) items)
 

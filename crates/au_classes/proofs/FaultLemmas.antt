@@ -1,11 +1,11 @@
 -- What one instance, and instances in order, are refused for.
-use Rattle.std.proofs.Common.{◌≡◌, ◌⊎◌, inl, inr, arith, ℕ, ◌+◌, ◌<◌, ◌≤◌, suc, Bool, true, false, List, []}
+use Rattle.std.proofs.Common.{◌≡◌, ℕ, ◌+◌, ◌<◌, ◌≤◌, suc, Bool, true, false, List, []}
 use Rattle.std.proofs.Common.{◌∷◌, ◌++◌, length, map, drop, get_or, Option, None, Some, refl, sym, ap, ◌∙◌}
 use Rattle.std.proofs.Common.{subst, add-one, drop-cons, append_assoc}
 use Rattle.std.specs.Prelude.{slice_get}
 use Rattle.std.specs.Option.{option_or, option_to_list}
 use Rattle.std.proofs.lemmas.List.{append-nil, drop_all, map-append}
-use Rattle.std.proofs.lemmas.Option.{none-some, same_Some, slice_get_cases}
+use Rattle.std.proofs.lemmas.Option.{none-some, same_Some}
 use Rattle.au_base.specs.declared.places.Pos.{Pos}
 use Rattle.au_syntax.specs.declared.modules.Part.TheVariants.{Body}
 use Rattle.au_syntax.specs.Plain.{Bytes}
@@ -67,17 +67,6 @@ module _ (text : InstanceText) (names : List (Bytes × DeclAt)) (heads : List (D
   read_stands row is = stands_in (class_meant [] names heads text.name.name) row is
 
 -- ---- one instance in its module
-
--- the module at a place
-pub module_there : (program : List ModuleParts) (place : ℕ) → place < length program → (m : ModuleParts)
-    × (slice_get program place ≡ Some m)
-module_there program place within = by (slice_get_cases program place).1
-  where
-    by : ((m : ModuleParts) × (place < length program) × (slice_get program place ≡ Some m)
-        × (get_or program place m ≡ m)) ⊎ ((length program ≤ place) × (slice_get program place ≡ None))
-        → (m : ModuleParts) × (slice_get program place ≡ Some m)
-    by (inl found) = (found.0, found.2)
-    by (inr past) = absurd (omega (arith, past.0, within))
 
 -- nothing is there
 pub none_of : (o : Option ClassFault) → ((x : ClassFault) → o ≡ Some x → ⊥) → o ≡ None

@@ -5,6 +5,7 @@ use Rattle.std.proofs.Common.{drop-cons, arith}
 use Rattle.std.specs.Prelude.{slice_get}
 use Rattle.std.proofs.lemmas.List.{append-nil, drop_all, map-append}
 use Rattle.std.proofs.lemmas.Option.{slice_get_within, get_or_from_slice_get, slice_get_cases}
+use Rattle.au_base.proofs.ListLemmas.{seen_left}
 use Rattle.au_syntax.specs.declared.modules.Part.TheVariants.{Interface, Body}
 use Rattle.au_syntax.specs.Plain.{Bytes, PlainDeclaration}
 use Rattle.au_types.specs.declared.headings.Head.{Head}
@@ -14,7 +15,6 @@ use Rattle.au_modules.specs.Seen.{interface_tree, body_tree}
 use Rattle.au_names.specs.Exporting.{declarations_seen as declarations_of}
 use Rattle.au_names.specs.HeadsOf.{heads_of}
 use Rattle.au_promises.specs.Agreeing.{sight_of, visible}
-use Rattle.au_promises.proofs.DefinitionLemmas.{seen_left}
 use Rattle.au_classes.specs.declared.instance_texts.InstanceText as code
 use Rattle.au_classes.specs.Indices.{is_among}
 use Rattle.au_classes.specs.Texts.{InstanceText, declared_at, defined, defined_from, definition_at}

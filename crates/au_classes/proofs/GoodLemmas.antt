@@ -3,7 +3,7 @@ use Rattle.std.proofs.Common.{◌≡◌, ◌⊎◌, inl, inr, ℕ, Bool, true, f
 use Rattle.std.proofs.Common.{map, flat_map, Option, None, Some, refl, sym, ap, ◌∙◌, subst, true≢false}
 use Rattle.std.proofs.Common.{append_assoc}
 use Rattle.std.specs.Prelude.{◌||◌, ◌==◌, Contains, slice_get}
-use Rattle.std.specs.Option.{option_map, option_or}
+use Rattle.std.specs.Option.{option_map}
 use Rattle.std.proofs.lemmas.Bool.{and_parts, and_from, eq-eqb}
 use Rattle.std.proofs.lemmas.Bool.Decides.{eqb_tells}
 use Rattle.std.proofs.lemmas.Grind.{flat_map-append}
@@ -11,6 +11,7 @@ use Rattle.std.proofs.lemmas.List.{append-nil}
 use Rattle.std.proofs.lemmas.Option.{none-some, same_Some}
 use lib.Dec.{eqb}
 use Rattle.au_base.specs.declared.places.Pos.{Pos}
+use Rattle.au_base.proofs.OptionLemmas.{map_none, or_first, or_second, or_neither}
 use Rattle.au_syntax.specs.declared.modules.Part.TheVariants.{Body}
 use Rattle.au_syntax.specs.Plain.{Bytes, PlainMethod}
 use Rattle.au_types.specs.declared.headings.Head.{Head}
@@ -46,26 +47,11 @@ use Rattle.au_classes.specs.Good.{InstancesAreGood, IsGood}
 use Rattle.au_classes.specs.Rows.{row_in, row_of, row_seen}
 use Rattle.au_classes.proofs.FaultLemmas.{fault_cons, fault_nil}
 
--- ---- options
-
-or_first : {A : Type 0} (o p : Option A) → option_or o p ≡ None → o ≡ None
-or_first None p h = refl
-or_first (Some x) p h = cc
-
-or_second : {A : Type 0} (o p : Option A) → option_or o p ≡ None → p ≡ None
-or_second None p h = h
-or_second (Some x) p h = cc
-
-or_neither : {A : Type 0} (o p : Option A) → o ≡ None → p ≡ None → option_or o p ≡ None
-or_neither o p h k = ap (λ one. option_or one p) h ∙ k
+-- ---- a test that holds
 
 holds_from : (b : Bool) (fault : ClassFault) → unless b fault ≡ None → b ≡ true
 holds_from true fault h = refl
 holds_from false fault h = cc
-
-none_from : {A B : Type 0} (f : A → B) (o : Option A) → option_map f o ≡ None → o ≡ None
-none_from f None h = refl
-none_from f (Some x) h = absurd (none-some (f x) (sym h))
 
 -- ---- homes
 
@@ -194,8 +180,8 @@ module _ (program : List ModuleParts) (before : List InstanceText) (text : Insta
       (or_first (unless (is_home place row) (Orphan text.at)) _ rest) in
       let others = or_second (unless (is_home place row) (Orphan text.at)) _ rest in
       let apart : first_like known row ≡ None =
-      none_from place_of (first_like known row)
-      (none_from (Overlap text.at) (option_map place_of (first_like known row))
+      map_none place_of (first_like known row)
+      (map_none (Overlap text.at) (option_map place_of (first_like known row))
       (or_first (overlap text.at (option_map place_of (first_like known row))) _ others)) in
       let written_ok = holds_from (are_written heads own class row text.methods) (MethodDiffers text.at)
       (or_second (overlap text.at (option_map place_of (first_like known row))) _ others) in

@@ -1,43 +1,22 @@
 -- Where the first of some items stands that passes a test, and tables that find it by a key.
 use Rattle.std.proofs.Common.{◌≡◌, ℕ, ◌+◌, ◌<◌, ◌≤◌, zero, suc, Bool, true, false, cond, List, [], ◌∷◌, ◌++◌}
-use Rattle.std.proofs.Common.{length, map, take, drop, get_or, find, Option, None, Some, is_some, refl, sym}
-use Rattle.std.proofs.Common.{ap, ◌∙◌, subst, true≢false, add-zero, zero-add, arith}
+use Rattle.std.proofs.Common.{length, map, take, drop, get_or, find, Option, None, Some, refl, sym}
+use Rattle.std.proofs.Common.{ap, ◌∙◌, add-zero, zero-add, arith}
 use Rattle.std.specs.Prelude.{slice_get}
 use Rattle.std.specs.List.{position_from}
 use Rattle.std.specs.Option.{option_or}
 use Rattle.std.specs.Str.{bytes_eq}
-use Rattle.std.proofs.lemmas.List.{drop_all, take_more, take_all, map-append, length-map, length-take-le}
+use Rattle.std.proofs.lemmas.List.{drop_all, take_all, length-map, length-take-le}
 use Rattle.std.proofs.lemmas.Option.{none-some, same_Some}
-use Rattle.std.proofs.lemmas.Slice.Eq.{bytes_eq-Decides}
+use Rattle.au_base.proofs.ListLemmas.{position_push, seen_left, seen_more}
+use Rattle.au_base.proofs.OptionLemmas.{or_none}
 use Rattle.au_syntax.specs.Plain.{Bytes}
 use Rattle.au_types.specs.Tables as tables
-use Rattle.au_types.specs.Tables.{has_name, with_pair}
-use Rattle.au_types.proofs.TableLemmas.{with_pair-old, with_pair-new}
 use Rattle.au_promises.specs.Promises.{is_name}
-use Rattle.au_promises.proofs.DefinitionLemmas.{seen_left}
+use Rattle.au_promises.proofs.DefinitionLemmas.{find_put}
 use Rattle.au_classes.specs.Indices.{at_index, first_index, has_key, with_key, FindsFirst}
 
-or_none : {A : Type 0} (o : Option A) → option_or o None ≡ o
-or_none None = refl
-or_none (Some x) = refl
-
 -- ---- the first index
-
--- in a list with one more item
-index_behind : {A : Type 0} (t : A → Bool) (i : ℕ) (xs : List A) (x : A)
-    → position_from t i (xs ++ x ∷ []) ≡ option_or (position_from t i xs) (cond (t x) (Some (i + length xs)) None)
-index_behind t i [] x = ap (λ n. cond (t x) (Some n) None) (sym (add-zero i))
-index_behind t i (y ∷ ys) x = by (t y) (index_behind t (i + 1) ys x)
-  where
-    by : (b : Bool) → position_from t (i + 1) (ys ++ x ∷ []) ≡ option_or (position_from t (i + 1) ys)
-        (cond (t x) (Some (i + 1 + length ys)) None)
-        → cond b (Some i) (position_from t (i + 1) (ys ++ x ∷ []))
-        ≡ option_or (cond b (Some i) (position_from t (i + 1) ys))
-        (cond (t x) (Some (i + length (y ∷ ys))) None)
-    by true rest = refl
-    by false rest =
-        let same : i + 1 + length ys ≡ i + suc (length ys) = omega arith in
-        rest ∙ ap (λ n. option_or (position_from t (i + 1) ys) (cond (t x) (Some n) None)) same
 
 -- none passes a test where none passes a weaker one
 pub none_weaker : {A : Type 0} (p q : A → Bool) → ((x : A) → q x ≡ false → p x ≡ false) → (i : ℕ) (xs : List A)
@@ -128,43 +107,6 @@ found_there t i (suc k) (x ∷ xs) found = by (t x) refl (λ rest. found_there t
 
 -- ---- tables
 
-module _ {V : Type 0} where
-  find_behind : (name : Bytes) (pairs more : List (Bytes × V)) → tables.find name (pairs ++ more)
-      ≡ option_or (tables.find name pairs) (tables.find name more)
-  find_behind name [] more = refl
-  find_behind name (q ∷ qs) more = by (bytes_eq name q.0) (find_behind name qs more)
-    where
-      by : (b : Bool) → tables.find name (qs ++ more) ≡ option_or (tables.find name qs) (tables.find name more)
-          → cond b (Some q.1) (tables.find name (qs ++ more))
-          ≡ option_or (cond b (Some q.1) (tables.find name qs)) (tables.find name more)
-      by true rest = refl
-      by false rest = rest
-
-  there_stays : (o : Option V) (c : Option V) → is_some o ≡ true → option_or o c ≡ o
-  there_stays None c has = absurd (true≢false (sym has))
-  there_stays (Some v) c has = refl
-
-  -- what is found once a value is put under a name
-  find_put : (name : Bytes) (pairs : List (Bytes × V)) (other : Bytes) (value : V)
-      → tables.find name (with_pair pairs other value) ≡ option_or (tables.find name pairs)
-      (cond (bytes_eq name other) (Some value) None)
-  find_put name pairs other value = by (has_name other pairs) (bytes_eq name other) refl refl
-    where
-      by : (h b : Bool) → has_name other pairs ≡ h → bytes_eq name other ≡ b
-          → tables.find name (with_pair pairs other value) ≡ option_or (tables.find name pairs)
-          (cond (bytes_eq name other) (Some value) None)
-      by false b e k = ap (tables.find name) (with_pair-new pairs other value e)
-          ∙ find_behind name pairs ((other, value) ∷ [])
-      by true false e k =
-          ap (tables.find name) (with_pair-old pairs other value e)
-          ∙ sym (ap (λ c. option_or (tables.find name pairs) (cond c (Some value) None)) k
-          ∙ or_none (tables.find name pairs))
-      by true true e k =
-          let has : Bytes → Type 0 = λ n. has_name n pairs ≡ true in
-          let there : has_name name pairs ≡ true = subst has (sym ((bytes_eq-Decides name other).0 k)) e in
-          ap (tables.find name) (with_pair-old pairs other value e)
-          ∙ sym (there_stays (tables.find name pairs) (cond (bytes_eq name other) (Some value) None) there)
-
 -- a table finds the first item of each key, with one more item
 module _ {A : Type 0} (key_of : A → Option Bytes) (items : List A) (x : A) (table : List (Bytes × ℕ))
     (old : FindsFirst key_of items table) where
@@ -181,20 +123,11 @@ module _ {A : Type 0} (key_of : A → Option Bytes) (items : List A) (x : A) (ta
   first_more name =
       put_found name (key_of x)
       ∙ sym
-      (index_behind (has_key key_of name) 0 items x
+      (position_push (has_key key_of name) 0 items x
       ∙ ap (λ n. option_or (first_index (has_key key_of name) items)
       (cond (has_key key_of name x) (Some n) None)) (zero-add (length items)))
 
 module _ {A B C : Type 0} (p : B → C) (v : A → B) where
-  -- what is seen so far, and one more
-  pub seen_more : (xs : List A) (i : ℕ) (x : A) → i < length xs → x ≡ get_or xs i x →
-      map p (map v (take (i + 1) xs)) ≡ map p (map v (take i xs)) ++ p (v x) ∷ []
-  seen_more xs i x h here =
-      ap (λ r. map p (map v r)) (take_more xs i x h)
-      ∙ ap (λ y. map p (map v (take i xs ++ y ∷ []))) (sym here)
-      ∙ ap (map p) (map-append v (take i xs) (x ∷ []))
-      ∙ map-append p (map v (take i xs)) (v x ∷ [])
-
   seen_count : (xs : List A) (i : ℕ) → i < length xs → length (map p (map v (take i xs))) ≡ i
   seen_count xs i h =
       let within : i ≤ length xs = omega (arith, h) in
@@ -209,7 +142,7 @@ module _ {A B C : Type 0} (p : B → C) (v : A → B) where
       let some = map p (map v (take i xs)) in
       ap (tables.find name) (new ∙ ap (λ n. with_key before (key_of (p (v x))) n) (sym (seen_count xs i h)))
       ∙ first_more key_of some (p (v x)) before old name
-      ∙ ap (λ r. first_index (has_key key_of name) r) (sym (seen_more xs i x h here))
+      ∙ ap (λ r. first_index (has_key key_of name) r) (sym (seen_more p v xs i x h here))
 
   -- all are visited
   pub first_all : (key_of : C → Option Bytes) (table : List (Bytes × ℕ)) (xs : List A) (i : ℕ) → length xs ≤ i

@@ -5,8 +5,9 @@ use Rattle.std.proofs.Common.{ap, ◌∙◌, add-one, drop-cons}
 use Rattle.std.specs.Prelude.{slice_get}
 use Rattle.std.specs.Option.{option_map}
 use Rattle.std.proofs.lemmas.List.{drop_all}
-use Rattle.std.proofs.lemmas.Option.{none-some, slice_get_cases}
+use Rattle.std.proofs.lemmas.Option.{slice_get_cases}
 use Rattle.au_base.specs.declared.places.Pos.{Pos}
+use Rattle.au_base.proofs.OptionLemmas.{map_none}
 use Rattle.au_types.specs.declared.types.DeclAt.{DeclAt}
 use Rattle.au_instances.specs.declared.constructors.Constructor.{Constructor}
 use Rattle.au_instances.specs.declared.rows.Row as code
@@ -35,16 +36,12 @@ rows_found class one (at ∷ places) (row ∷ rows) same =
     by true rest = refl
     by false rest = rest
 
-none_of : {A B : Type 0} (f : A → B) (o : Option A) → option_map f o ≡ None → o ≡ None
-none_of f None e = refl
-none_of f (Some x) e = absurd (none-some (f x) (sym e))
-
 -- none is found where no row is
 pub none_like : (class : DeclAt) (one : Constructor) (places : List Pos) (rows : List Row) →
     length places ≡ length rows → row_of rows class one ≡ None
     → find (is_like class (Some one)) (known_rows places rows) ≡ None
 none_like class one places rows same none =
-    none_of row_in (find (is_like class (Some one)) (known_rows places rows))
+    map_none row_in (find (is_like class (Some one)) (known_rows places rows))
     (rows_found class one places rows same ∙ none)
 
 -- no row is found where none is

@@ -7,8 +7,8 @@ use Rattle.std.specs.List.{list_all, list_any, position_from}
 use Rattle.std.proofs.lemmas.Bool.{and_parts, and_from}
 use Rattle.std.proofs.lemmas.List.{drop_all}
 use Rattle.std.proofs.lemmas.Option.{none-some, same_Some}
-use Rattle.au_names.proofs.AmongLemmas.{Among}
-use Rattle.au_promises.proofs.DefinitionLemmas.{seen_left}
+use Rattle.au_base.proofs.ListLemmas.{seen_left}
+use Rattle.au_names.proofs.AmongLemmas.{Among, any_found, any_there}
 
 -- an index is found where an item passes
 pub some_index : {A : Type 0} (t : A → Bool) (i : ℕ) (xs : List A) → is_some (position_from t i xs) ≡ list_any t xs
@@ -29,10 +29,6 @@ pub or_second : (a b : Bool) → (a || b) ≡ false → b ≡ false
 or_second true b h = absurd (true≢false h)
 or_second false b h = h
 
-pub or_neither : (a b : Bool) → a ≡ false → b ≡ false → (a || b) ≡ false
-or_neither true b h k = absurd (true≢false h)
-or_neither false b h k = k
-
 module _ {A : Type 0} (t : A → Bool) where
   -- all pass
   pub all_pass : (xs : List A) → list_all t xs ≡ true → (x : A) → Among x xs → t x ≡ true
@@ -44,40 +40,19 @@ module _ {A : Type 0} (t : A → Bool) where
   pass_all [] h = refl
   pass_all (y ∷ ys) h = and_from (t y) (list_all t ys) (h y (inl refl)) (pass_all ys (λ x m. h x (inr m)))
 
-  -- one passes
-  pub one_passes : (xs : List A) → list_any t xs ≡ true → (x : A) × Among x xs × (t x ≡ true)
-  one_passes [] h = absurd (true≢false (sym h))
-  one_passes (y ∷ ys) h = by (t y) refl (λ rest. one_passes ys rest)
-    where
-      by : (b : Bool) → t y ≡ b → (list_any t ys ≡ true → (x : A) × Among x ys × (t x ≡ true)) → (x : A)
-          × Among x (y ∷ ys) × (t x ≡ true)
-      by true e later = (y, inl refl, e)
-      by false e later =
-          let found : (x : A) × Among x ys × (t x ≡ true) = later (sym (ap (λ b. b || list_any t ys) e) ∙ h) in
-          (found.0, inr found.1, found.2)
-
-  pub passes_one : (xs : List A) (x : A) → Among x xs → t x ≡ true → list_any t xs ≡ true
-  passes_one [] x m h = absurd m
-  passes_one (y ∷ ys) x (inl here) h = ap (λ b. b || list_any t ys) (subst (λ z. t z ≡ true) (sym here) h)
-  passes_one (y ∷ ys) x (inr later) h = by (t y) (passes_one ys x later h)
-    where
-      by : (b : Bool) → list_any t ys ≡ true → (b || list_any t ys) ≡ true
-      by true rest = refl
-      by false rest = rest
-
   -- none passes
   pub none_passes : (xs : List A) → list_any t xs ≡ false → (x : A) → Among x xs → t x ≡ false
   none_passes xs h x m = by (t x) refl
     where
       by : (b : Bool) → t x ≡ b → t x ≡ false
-      by true e = absurd (true≢false (sym (passes_one xs x m e) ∙ h))
+      by true e = absurd (true≢false (sym (any_there t xs x m e) ∙ h))
       by false e = e
 
   pub pass_none : (xs : List A) → ((x : A) → Among x xs → t x ≡ true → ⊥) → list_any t xs ≡ false
   pass_none xs h = by (list_any t xs) refl
     where
       by : (b : Bool) → list_any t xs ≡ b → list_any t xs ≡ false
-      by true e = let found : (x : A) × Among x xs × (t x ≡ true) = one_passes xs e
+      by true e = let found : (x : A) × Among x xs × (t x ≡ true) = any_found t xs e
           in absurd (h found.0 found.1 found.2)
       by false e = e
 

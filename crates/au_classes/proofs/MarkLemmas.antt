@@ -8,16 +8,13 @@ use Rattle.std.proofs.lemmas.Bool.Decides.{eqb_tells}
 use Rattle.std.proofs.lemmas.List.{take_more, take_all, get_or-replicate, get_or-set_same, get_or-set_other}
 use Rattle.std.proofs.lemmas.List.{length-replicate, length-set}
 use Rattle.std.proofs.lemmas.List.Folds.{list_any-append}
+use Rattle.au_base.proofs.BoolLemmas.{or_false}
 use Rattle.au_classes.specs.Indices.{is_among, is_index, with_mark, MarkAmong}
 
 -- So many marks are set as stand for some indices.
 pub record MarkSoFar (some : List (Option ℕ)) (count : ℕ) (marks : List Bool) : Type 0 where
   pub many : length marks ≡ count
   pub marked : MarkAmong some count marks
-
-or_false : (b : Bool) → (b || false) ≡ b
-or_false true = refl
-or_false false = refl
 
 or_true : (b : Bool) → (b || true) ≡ true
 or_true true = refl

@@ -7,6 +7,7 @@ use Rattle.std.specs.Borrow.{Bor}
 use Rattle.std.specs.List.{list_any}
 use Rattle.std.specs.Option.{option_copied}
 use Rattle.std.proofs.lemmas.List.{drop_all, take_all}
+use Rattle.au_base.proofs.ListLemmas.{seen_left, seen_more}
 use Rattle.au_syntax.specs.contracts.parsed.ParsedPhase.TheImpl.{ghosts as parsed}
 use Rattle.au_syntax.specs.declared.declarations.Method.{Method}
 use Rattle.au_syntax.specs.declared.parsed.Parsed.{Parsed}
@@ -15,10 +16,9 @@ use Rattle.au_syntax.specs.Plain.{Bytes, PlainMethod, plain_method}
 use Rattle.au_syntax.specs.Views.{method_body}
 use Rattle.au_types.specs.Tables as tables
 use Rattle.au_types.specs.Tables.{has_name}
-use Rattle.au_promises.proofs.DefinitionLemmas.{seen_left}
 use Rattle.au_classes.specs.Indices.{FindsFirst, first_index, has_key, with_key}
 use Rattle.au_classes.specs.InstanceViews.{methods_of}
-use Rattle.au_classes.proofs.IndexLemmas.{first_next, found_none, found_there, seen_more}
+use Rattle.au_classes.proofs.IndexLemmas.{first_next, found_none, found_there}
 use Rattle.au_classes.specs.Methods.{doubled_from, is_called, is_doubled, is_named}
 use Rattle.au_classes.specs.Views.{called_by, method_of, named_by}
 use Rattle.au_classes.proofs.ListLemmas.{or_second, some_index}

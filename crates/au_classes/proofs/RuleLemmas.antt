@@ -1,60 +1,27 @@
 -- The test for methods decides the rule on them.
-use Rattle.std.proofs.Common.{◌≡◌, ◌⊎◌, inl, inr, Bool, true, false, ◌&&◌, List, [], ◌∷◌, ◌++◌, find, Option}
+use Rattle.std.proofs.Common.{◌≡◌, ◌⊎◌, inl, inr, true, false, ◌&&◌, List, [], ◌∷◌, ◌++◌, find, Option}
 use Rattle.std.proofs.Common.{None, Some, refl, sym, ap, ◌∙◌, subst, true≢false, append_assoc}
 use Rattle.std.specs.Prelude.{◌||◌, Contains, not}
 use Rattle.std.specs.Bool.{Decides}
 use Rattle.std.specs.List.{list_all, list_any}
 use Rattle.std.specs.Str.{bytes_eq}
-use Rattle.std.proofs.lemmas.Bool.{and_parts, and_from}
-use Rattle.std.proofs.lemmas.Option.{none-some, same_Some}
+use Rattle.std.proofs.lemmas.Bool.{and_parts, and_from, or_from, not-true, not_from_false}
 use Rattle.std.proofs.lemmas.Slice.Eq.{bytes_eq-Decides}
+use Rattle.std.proofs.lemmas.Bool.Decides.{Decides-and}
 use Rattle.au_syntax.specs.Modules.{Header}
 use Rattle.au_syntax.specs.Plain.{Bytes, PlainMethod}
 use Rattle.au_syntax.specs.Types.{WrittenType, Labelled}
 use Rattle.au_types.specs.Types.{Meaning}
-use Rattle.au_types.proofs.SameLemmas.{same_decides}
-use Rattle.au_names.proofs.AmongLemmas.{Among, among, contains, among-append_left}
-use Rattle.au_promises.specs.Agreeing.{all_agree, same_meaning, same_name}
-use Rattle.au_promises.specs.Fulfilled.{Each}
+use Rattle.au_names.proofs.AmongLemmas.{Among, among, contains, among-append_left, any_found, any_there}
+use Rattle.au_promises.specs.Agreeing.{all_agree, same_name}
+use Rattle.au_promises.proofs.DecidingLemmas.{meaning_decides, each_decides}
 use Rattle.au_classes.specs.Methods.{AreMethods, SameLabelled, SameSignature, are_methods, doubled_from}
 use Rattle.au_classes.specs.Methods.{has_signature, is_called, is_declared, is_defined, is_doubled, is_named}
 use Rattle.au_classes.specs.Methods.{same_labelled, same_signature, same_type}
-use Rattle.au_classes.proofs.ListLemmas.{all_pass, found_passes, none_passes, one_passes, only_found}
-use Rattle.au_classes.proofs.ListLemmas.{or_first, or_neither, or_second, pass_all, pass_none, passes_one}
-
--- ---- tests of two parts
-
-both_decide : {P Q : Type 0} (a b : Bool) → Decides a P → Decides b Q → Decides (a && b) (P × Q)
-both_decide a b one other =
-    (λ e. let parts = and_parts a b e in (one.0 parts.0, other.0 parts.1), λ h. and_from a b (one.1 h.0) (other.1 h.1))
-
-never_decides : {P : Type 0} → (P → ⊥) → Decides false P
-never_decides never = (λ e. absurd (true≢false (sym e)), λ h. absurd (never h))
-
-module _ {A B : Type 0} (agree : A → B → Bool) (R : A → B → Type 0)
-    (decides : (x : A) (y : B) → Decides (agree x y) (R x y)) where
-  each_decides : (xs : List A) (ys : List B) → Decides (all_agree agree xs ys) (Each R xs ys)
-  unfolding all_agree
-  each_decides [] [] = (λ e. tt, λ h. refl)
-  each_decides [] (y ∷ ys) = never_decides (λ h. h)
-  each_decides (x ∷ xs) [] = never_decides (λ h. h)
-  each_decides (x ∷ xs) (y ∷ ys) = both_decide (agree x y) (all_agree agree xs ys) (decides x y) (each_decides xs ys)
-
-meaning_decides : (o p : Option Meaning) → Decides (same_meaning o p) (o ≡ p)
-meaning_decides (Some a) (Some b) = (λ e. ap Some ((same_decides a b).0 e), λ e. (same_decides a b).1 (same_Some a b e))
-meaning_decides None None = (λ e. refl, λ e. refl)
-meaning_decides (Some a) None = never_decides (λ h. none-some a (sym h))
-meaning_decides None (Some b) = never_decides (λ h. none-some b h)
+use Rattle.au_classes.proofs.ListLemmas.{all_pass, found_passes, none_passes, only_found}
+use Rattle.au_classes.proofs.ListLemmas.{or_first, or_second, pass_all, pass_none}
 
 -- ---- methods of one name
-
-not_is : (b : Bool) → not b ≡ true → b ≡ false
-not_is true h = sym h
-not_is false h = refl
-
-is_not : (b : Bool) → b ≡ false → not b ≡ true
-is_not true h = sym h
-is_not false h = refl
 
 -- no method has the name of one before it
 single : (before pre post : List PlainMethod) (m : PlainMethod) → doubled_from before (pre ++ m ∷ post)
@@ -78,7 +45,7 @@ none_doubled : (before ms : List PlainMethod)
     → doubled_from before ms ≡ false
 none_doubled before [] once = refl
 none_doubled before (m ∷ rest) once =
-    or_neither (list_any (is_named m.header.name.name) before) (doubled_from (before ++ m ∷ []) rest)
+    or_from (list_any (is_named m.header.name.name) before) (doubled_from (before ++ m ∷ []) rest)
     (pass_none (is_named m.header.name.name) before
     (λ other one named. once [] rest m other refl (among-append_left before [] other one)
     ((bytes_eq-Decides m.header.name.name other.header.name.name).0 named)))
@@ -91,12 +58,12 @@ none_doubled before (m ∷ rest) once =
 module _ (wanted given : WrittenType → Option Meaning) where
   labelled_decides : (a b : Labelled Bytes) → Decides (same_labelled wanted given a b) (SameLabelled wanted given a b)
   labelled_decides a b =
-      both_decide (same_name a.name b.name) (same_type wanted given a.of b.of)
+      Decides-and (same_name a.name b.name) (same_type wanted given a.of b.of)
       (bytes_eq-Decides a.name.name b.name.name) (meaning_decides (wanted a.of) (given b.of))
 
   signature_decides : (h k : Header Bytes) → Decides (same_signature wanted given h k) (SameSignature wanted given h k)
   signature_decides h k =
-      both_decide (all_agree (same_labelled wanted given) h.parameters k.parameters)
+      Decides-and (all_agree (same_labelled wanted given) h.parameters k.parameters)
       (same_type wanted given h.result k.result)
       (each_decides (same_labelled wanted given) (SameLabelled wanted given) labelled_decides h.parameters
       k.parameters) (meaning_decides (wanted h.result) (given k.result))
@@ -129,12 +96,13 @@ module _ (wanted given : WrittenType → Option Meaning) where
               );
           declared = λ m c.
               let one : (h : Header Bytes) × Among h class × (is_called m.header.name.name h ≡ true) =
-              one_passes (is_called m.header.name.name) class
+              any_found (is_called m.header.name.name) class
               (all_pass (is_declared class) methods others.1 m (among methods m c)) in
               (one.0, contains class one.0 one.1, (bytes_eq-Decides m.header.name.name one.0.name.name).0 one.2);
           once = λ before after m other split c same.
               let single_one : list_any (is_named m.header.name.name) before ≡ false =
-              single [] before after m (ap (doubled_from []) (sym split) ∙ not_is (is_doubled methods) both.0) in
+              single [] before after m (ap (doubled_from []) (sym split)
+              ∙ not-true (is_doubled methods) both.0) in
               let isnt : is_named m.header.name.name other ≡ false = none_passes (is_named m.header.name.name)
               before single_one other (among before other c) in
               absurd (true≢false (sym ((bytes_eq-Decides m.header.name.name other.header.name.name).1 same) ∙ isnt));
@@ -144,7 +112,7 @@ module _ (wanted given : WrittenType → Option Meaning) where
     are_to are =
         and_from (not (is_doubled methods))
         (list_all (is_defined wanted given methods) class && list_all (is_declared class) methods)
-        (is_not (is_doubled methods) (none_doubled [] methods
+        (not_from_false (is_doubled methods) (none_doubled [] methods
         (λ pre post m other split one same. are.once pre post m other split (contains pre other one) same)))
         (and_from (list_all (is_defined wanted given methods) class) (list_all (is_declared class) methods)
         (pass_all (is_defined wanted given methods) class
@@ -152,7 +120,7 @@ module _ (wanted given : WrittenType → Option Meaning) where
         (pass_all (is_declared class) methods (λ m one.
         let its : (h : Header Bytes) × Contains class h × (m.header.name.name ≡ h.name.name) =
         are.declared m (contains methods m one) in
-        passes_one (is_called m.header.name.name) class its.0 (among class its.0 its.1)
+        any_there (is_called m.header.name.name) class its.0 (among class its.0 its.1)
         ((bytes_eq-Decides m.header.name.name its.0.name.name).1 its.2))))
       where
         defined_one : (h : Header Bytes) → (m : PlainMethod) × Contains methods m

@@ -1,8 +1,9 @@
 -- What isn't mentioned isn't touched.
 use Rattle.std.proofs.Common.{◌≡◌, ℕ, ◌+◌, ◌==◌, Bool, true, false, not, ◌||◌, ◌&&◌, List, [], ◌∷◌, refl, ap}
 use Rattle.std.proofs.Common.{◌∙◌, arith, if◌then◌else◌}
-use Rattle.std.proofs.lemmas.Bool.{eqb-true}
+use Rattle.std.proofs.lemmas.Bool.{eqb-true, and_right}
 use Rattle.std.specs.Str.{bytes_eq}
+use Rattle.au_base.proofs.BoolLemmas.{and_first, and_second}
 use Rattle.au_syntax.specs.declared.expressions.BorrowMode.{BorrowMode}
 use Rattle.au_syntax.specs.declared.expressions.BorrowMode.TheVariants as modes
 use Rattle.au_syntax.specs.declared.types.Access.{Access}
@@ -28,7 +29,6 @@ use Rattle.au_clearing.specs.Dealings.{mention, cased, deal, deal_block, deal_br
 use Rattle.au_clearing.specs.Dealings.{returns_in_block, returns_in_branches, returns_in_arms}
 use Rattle.au_clearing.specs.Absent.{LeavesAlone, absent_in, absent, absent_block, absent_branches}
 use Rattle.au_clearing.specs.Absent.{absent_arms, is_other}
-use Rattle.au_clearing.proofs.BooleanLemmas.{and_left, and_right}
 
 -- how often a variable is mentioned
 abbrev all : Counts → ℕ
@@ -36,13 +36,13 @@ all k = k.consumed + (k.written + (k.read + k.looked))
 
 none_of_all : (k : Counts) → is_untouched k ≡ true → all k ≡ 0
 none_of_all k h =
-    let more = and_right (k.consumed == 0) ((k.written == 0) && ((k.read == 0) && (k.looked == 0))) h in
-    let last = and_right (k.written == 0) ((k.read == 0) && (k.looked == 0)) more in
+    let more = and_second (k.consumed == 0) ((k.written == 0) && ((k.read == 0) && (k.looked == 0))) h in
+    let last = and_second (k.written == 0) ((k.read == 0) && (k.looked == 0)) more in
     let c = eqb-true k.consumed 0
-    (and_left (k.consumed == 0) ((k.written == 0) && ((k.read == 0) && (k.looked == 0))) h) in
-    let w = eqb-true k.written 0 (and_left (k.written == 0) ((k.read == 0) && (k.looked == 0)) more) in
-    let r = eqb-true k.read 0 (and_left (k.read == 0) (k.looked == 0) last) in
-    let l = eqb-true k.looked 0 (and_right (k.read == 0) (k.looked == 0) last) in
+    (and_first (k.consumed == 0) ((k.written == 0) && ((k.read == 0) && (k.looked == 0))) h) in
+    let w = eqb-true k.written 0 (and_first (k.written == 0) ((k.read == 0) && (k.looked == 0)) more) in
+    let r = eqb-true k.read 0 (and_first (k.read == 0) (k.looked == 0) last) in
+    let l = eqb-true k.looked 0 (and_second (k.read == 0) (k.looked == 0) last) in
     omega (arith, c, w, r, l)
 
 -- how often it is mentioned in two parts
@@ -143,17 +143,13 @@ alone_nothing = record { touches = refl; spends = refl }
 alone_never : LeavesAlone never
 alone_never = record { touches = refl; spends = refl }
 
-and_false : (a b : Bool) → b ≡ false → (a && b) ≡ false
-and_false true b h = h
-and_false false b h = refl
-
 alone_chain : (n : ℕ) (d e : Dealing) → LeavesAlone d → LeavesAlone e → LeavesAlone (chain n d e)
 alone_chain n d e f g = record {
   touches =
       ap (λ t. worse t (behind_spent d.spends e.touch)) f.touches ∙ ap (λ s. behind_spent s e.touch) f.spends
       ∙ g.touches;
   spends =
-      ap (λ s. (s && e.lives) || (d.lives && e.spends)) f.spends ∙ and_false d.lives e.spends g.spends;
+      ap (λ s. (s && e.lives) || (d.lives && e.spends)) f.spends ∙ and_right d.lives e.spends g.spends;
 }
 
 alone_fork : (d e : Dealing) → LeavesAlone d → LeavesAlone e → LeavesAlone (fork d e)
@@ -180,10 +176,10 @@ module _ (x : Bytes) (free : Bool) where
   absent_all : (free : Bool) (e : PlainExpression) → absent_in x e ≡ true → all (counts_in x free e) ≡ 0
   absent_all true e a =
       none_of_all (counts_in x true e)
-      (and_left (is_untouched (counts_in x true e)) (is_untouched (counts_in x false e)) a)
+      (and_first (is_untouched (counts_in x true e)) (is_untouched (counts_in x false e)) a)
   absent_all false e a =
       none_of_all (counts_in x false e)
-      (and_right (is_untouched (counts_in x true e)) (is_untouched (counts_in x false e)) a)
+      (and_second (is_untouched (counts_in x true e)) (is_untouched (counts_in x false e)) a)
 
   untouched_at : (h : Hold) (e : PlainExpression) → absent_in x e ≡ true → touched_at x free h e ≡ Untouched
   untouched_at h e a = ap (unless_hidden h) (untouched x free false e (absent_all free e a)) ∙ hidden_none h
@@ -207,48 +203,48 @@ module _ (x : Bytes) (free : Bool) where
     left_alone (destructure at binds e) h a = alone_on h e a
     left_alone (assign at name fields e) h a =
         alone_chain 0 (on h e) (mention x free name.name Written h)
-        (alone_on h e (and_left (absent_in x e) (is_other x name.name) a))
-        (alone_mention name.name Written h (and_right (absent_in x e) (is_other x name.name) a))
+        (alone_on h e (and_first (absent_in x e) (is_other x name.name) a))
+        (alone_mention name.name Written h (and_second (absent_in x e) (is_other x name.name) a))
     left_alone (assign_through at name fields e) h a =
         alone_chain 0 (on h e) (mention x free name.name Quiet h)
-        (alone_on h e (and_left (absent_in x e) (is_other x name.name) a))
-        (alone_mention name.name Quiet h (and_right (absent_in x e) (is_other x name.name) a))
+        (alone_on h e (and_first (absent_in x e) (is_other x name.name) a))
+        (alone_mention name.name Quiet h (and_second (absent_in x e) (is_other x name.name) a))
     left_alone (conditional at bs) h a = left_alone_branches bs nothing 0 h alone_nothing a
     left_alone (conditional_else at bs b) h a =
         left_alone_branches bs (deal_block x free b h) (returns_in_block b) h
-        (left_alone_block b h (and_right (absent_branches x bs) (absent_block x b) a))
-        (and_left (absent_branches x bs) (absent_block x b) a)
+        (left_alone_block b h (and_second (absent_branches x bs) (absent_block x b) a))
+        (and_first (absent_branches x bs) (absent_block x b) a)
     left_alone (case_of at e rest) h a =
         alone_chain (returns_in_arms rest) (on h e) (cased x free rest (deal_arms x free rest h))
-        (alone_on h e (and_left (absent_in x e) (absent_arms x rest) a))
+        (alone_on h e (and_first (absent_in x e) (absent_arms x rest) a))
         (left_alone_cased rest (deal_arms x free rest h)
-        (left_alone_arms rest h (and_right (absent_in x e) (absent_arms x rest) a)))
+        (left_alone_arms rest h (and_second (absent_in x e) (absent_arms x rest) a)))
     left_alone (while_loop at e b) h a =
         alone_chain (returns_in_block b) (once (kept (touched_at x free h e))) (turns (deal_block x free b h))
         (alone_once (kept (touched_at x free h e))
-        (ap kept (untouched_at h e (and_left (absent_in x e) (absent_block x b) a))))
+        (ap kept (untouched_at h e (and_first (absent_in x e) (absent_block x b) a))))
         (alone_turns (deal_block x free b h)
-        (left_alone_block b h (and_right (absent_in x e) (absent_block x b) a)))
+        (left_alone_block b h (and_second (absent_in x e) (absent_block x b) a)))
     left_alone (for_loop at name y z b) h a =
         let n = returns_in_block b in
         let inner = held_from x (declared name.name ∷ []) h in
-        let more = and_right (absent_in x y) (absent_in x z && absent_block x b) a in
+        let more = and_second (absent_in x y) (absent_in x z && absent_block x b) a in
         alone_chain n (on h y) (chain n (on h z) (turns (deal_block x free b inner)))
-        (alone_on h y (and_left (absent_in x y) (absent_in x z && absent_block x b) a))
+        (alone_on h y (and_first (absent_in x y) (absent_in x z && absent_block x b) a))
         (alone_chain n (on h z) (turns (deal_block x free b inner))
-        (alone_on h z (and_left (absent_in x z) (absent_block x b) more))
+        (alone_on h z (and_first (absent_in x z) (absent_block x b) more))
         (alone_turns (deal_block x free b inner)
-        (left_alone_block b inner (and_right (absent_in x z) (absent_block x b) more))))
+        (left_alone_block b inner (and_second (absent_in x z) (absent_block x b) more))))
     left_alone (borrow_in at access y r region b stop) h a =
         let inner = held_from x (declared r.name ∷ lent access y.name ∷ []) h in
         alone_lend (bytes_eq y.name x) access h (deal_block x free b inner)
-        (and_left (is_other x y.name) (absent_block x b) a)
-        (left_alone_block b inner (and_right (is_other x y.name) (absent_block x b) a))
+        (and_first (is_other x y.name) (absent_block x b) a)
+        (left_alone_block b inner (and_second (is_other x y.name) (absent_block x b) a))
     left_alone (borrow_typed at r t mode y b stop) h a =
         let inner = held_from x (declared r.name ∷ lent (access_of mode) y.name ∷ []) h in
         alone_lend (bytes_eq y.name x) (access_of mode) h (deal_block x free b inner)
-        (and_left (is_other x y.name) (absent_block x b) a)
-        (left_alone_block b inner (and_right (is_other x y.name) (absent_block x b) a))
+        (and_first (is_other x y.name) (absent_block x b) a)
+        (left_alone_block b inner (and_second (is_other x y.name) (absent_block x b) a))
     left_alone (discard at e) h a = alone_on h e a
     left_alone (return_of at e) h a = alone_chain 1 (on h e) never (alone_on h e a) alone_never
 
@@ -258,20 +254,21 @@ module _ (x : Bytes) (free : Bool) where
     left_alone_block (statements s more) h a =
         let inner = held_from x (declared_by s) h in
         alone_chain (returns_in_block more) (deal x free s h) (deal_block x free more inner)
-        (left_alone s h (and_left (absent x s) (absent_block x more) a))
-        (left_alone_block more inner (and_right (absent x s) (absent_block x more) a))
+        (left_alone s h (and_first (absent x s) (absent_block x more) a))
+        (left_alone_block more inner (and_second (absent x s) (absent_block x more) a))
 
     left_alone_branches : (bs : PlainBranches) (other : Dealing) (n : ℕ) (h : Hold) → LeavesAlone other →
         absent_branches x bs ≡ true → LeavesAlone (deal_branches x free bs other n h)
     left_alone_branches no_branches other n h f a = f
     left_alone_branches (branches e b more) other n h f a =
-        let behind = and_right (absent_in x e) (absent_block x b && absent_branches x more) a in
+        let behind = and_second (absent_in x e) (absent_block x b && absent_branches x more) a in
         alone_chain (sum (returns_in_block b) (returns_in_branches more n)) (on h e)
         (fork (deal_block x free b h) (deal_branches x free more other n h))
-        (alone_on h e (and_left (absent_in x e) (absent_block x b && absent_branches x more) a))
+        (alone_on h e (and_first (absent_in x e) (absent_block x b && absent_branches x more) a))
         (alone_fork (deal_block x free b h) (deal_branches x free more other n h)
-        (left_alone_block b h (and_left (absent_block x b) (absent_branches x more) behind))
-        (left_alone_branches more other n h f (and_right (absent_block x b) (absent_branches x more) behind)))
+        (left_alone_block b h (and_first (absent_block x b) (absent_branches x more) behind))
+        (left_alone_branches more other n h f
+        (and_second (absent_block x b) (absent_branches x more) behind)))
 
     left_alone_arms : (rest : PlainArms) (h : Hold) → absent_arms x rest ≡ true →
         LeavesAlone (deal_arms x free rest h)
@@ -279,8 +276,8 @@ module _ (x : Bytes) (free : Bool) where
     left_alone_arms (arms when' name binds b more) h a =
         let inner = held_from x (bound_names binds) h in
         alone_fork (deal_block x free b inner) (deal_arms x free more h)
-        (left_alone_block b inner (and_left (absent_block x b) (absent_arms x more) a))
-        (left_alone_arms more h (and_right (absent_block x b) (absent_arms x more) a))
+        (left_alone_block b inner (and_first (absent_block x b) (absent_arms x more) a))
+        (left_alone_arms more h (and_second (absent_block x b) (absent_arms x more) a))
 
     left_alone_cased : (rest : PlainArms) (d : Dealing) → LeavesAlone d → LeavesAlone (cased x free rest d)
     left_alone_cased no_arms d f = alone_nothing

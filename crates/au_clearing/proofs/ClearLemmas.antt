@@ -2,6 +2,7 @@
 use Rattle.std.proofs.Common.{◌≡◌, ℕ, ◌≤◌, ◌<◌, ◌==◌, Bool, true, false, not, ◌&&◌, [], Some, None, nat_lt}
 use Rattle.std.proofs.Common.{refl, sym, ap, ◌∙◌, arith}
 use Rattle.std.proofs.lemmas.Bool.{eqb-true, ltb-true}
+use Rattle.au_base.proofs.BoolLemmas.{and_first, and_second}
 use Rattle.au_syntax.specs.Plain.{Bytes, PlainStatements}
 use Rattle.au_lives.specs.declared.lives.Sort.{Sort}
 use Rattle.au_lives.specs.declared.lives.Sort.TheVariants as sorts
@@ -13,7 +14,6 @@ use Rattle.au_lives.specs.Scopes.{Scope}
 use Rattle.au_clearing.specs.declared.dealings.Life.{Life}
 use Rattle.au_clearing.specs.Dealings.{Dealing, deal_block, returns_in_block, is_whole, is_spent, clears}
 use Rattle.au_clearing.specs.Dealings.{by_type, life_of}
-use Rattle.au_clearing.proofs.BooleanLemmas.{and_left, and_right}
 use Rattle.au_clearing.proofs.TouchLemmas.{rank, parts_kept}
 use Rattle.au_clearing.proofs.DealingLemmas.{most}
 use Rattle.au_clearing.proofs.KeepingLemmas.{each_block, loops_block}
@@ -34,18 +34,18 @@ whole_rank Broken h = absurd (cc)
 clears_whole : (sort : Sort) (n : ℕ) (d : Dealing) → clears sort n d ≡ true → is_whole d.touch ≡ true
 clears_whole sorts.Free n d h = h
 clears_whole sorts.WriteReference n d h = h
-clears_whole sorts.Linear n d h = and_left (is_whole d.touch) (is_spent n d) h
+clears_whole sorts.Linear n d h = and_first (is_whole d.touch) (is_spent n d) h
 
 clears_spent : (sort : Sort) (n : ℕ) (d : Dealing) → clears sort n d ≡ true → sort ≡ sorts.Linear →
     is_spent n d ≡ true
 clears_spent sort n d h e =
-    and_right (is_whole d.touch) (is_spent n d) (sym (ap (λ s. clears s n d) e) ∙ h)
+    and_second (is_whole d.touch) (is_spent n d) (sym (ap (λ s. clears s n d) e) ∙ h)
 
 spared_all : (n : ℕ) (d : Dealing) → is_spent n d ≡ true → (d.spared ≡ n) × (n < most)
 spared_all n d h =
-    let both = and_right (not d.lives) ((d.spared == n) && nat_lt n most) h in
-    let less = and_right (d.spared == n) (nat_lt n most) both in
-    (eqb-true d.spared n (and_left (d.spared == n) (nat_lt n most) both), ltb-true n most less)
+    let both = and_second (not d.lives) ((d.spared == n) && nat_lt n most) h in
+    let less = and_second (d.spared == n) (nat_lt n most) both in
+    (eqb-true d.spared n (and_first (d.spared == n) (nat_lt n most) both), ltb-true n most less)
 
 module _ (x : Bytes) (sort : Sort) (b : PlainStatements) where
   abbrev d : Dealing
@@ -62,7 +62,7 @@ module _ (x : Bytes) (sort : Sort) (b : PlainStatements) where
       }) in
       let end = finish_goes sort gone.0 (λ o p.
       not_true d.lives
-      (and_left (not d.lives) _ (clears_spent sort (returns_in_block b) d h o))
+      (and_first (not d.lives) _ (clears_spent sort (returns_in_block b) d h o))
       (alive gone.0 gone.1.1 p)) in
       record {
         paths = yes_good x sort b end.0 loops (ap (λ q. q >>= finish sort) gone.1.0 ∙ end.1);

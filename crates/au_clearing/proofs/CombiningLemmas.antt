@@ -2,6 +2,7 @@
 use Rattle.std.proofs.Common.{◌≡◌, ℕ, Bool, true, false, cond, List, [], ◌∷◌, Option, None, Some, refl, sym}
 use Rattle.std.proofs.Common.{ap, ◌∙◌, if◌then◌else◌}
 use Rattle.std.specs.Str.{bytes_eq}
+use Rattle.au_base.proofs.TextLemmas.{bytes_same}
 use Rattle.au_syntax.specs.declared.types.Access.{Access}
 use Rattle.au_syntax.specs.declared.types.Access.TheVariants as accesses
 use Rattle.au_syntax.specs.Plain.{Bytes}
@@ -20,7 +21,6 @@ use Rattle.au_clearing.specs.Dealings.{dealing, nothing, once, chain, turns, len
 use Rattle.au_clearing.specs.Deals.{or_rest, seen_at, by_touch, touch_or_none, touch_in, kept_if, by, by_both}
 use Rattle.au_clearing.specs.Deals.{alike, settled, or_alike, absorbed, stepped}
 use Rattle.au_clearing.specs.Tables.{find, Changes}
-use Rattle.au_clearing.proofs.TableLemmas.{equal_names}
 
 -- what is found in a table after a change
 pub found_here : {V : Type 0} (old new : List (Bytes × V)) (name x : Bytes) (value : Option V) →
@@ -33,7 +33,7 @@ found_other old new name x value h e = h x ∙ ap (λ b. cond b value (find x ol
 
 same_found : {V : Type 0} (table : List (Bytes × V)) (name x : Bytes) → bytes_eq name x ≡ true →
     find x table ≡ find name table
-same_found table name x e = ap (λ n. find n table) (sym (equal_names name x e))
+same_found table name x e = ap (λ n. find n table) (sym (bytes_same name x e))
 
 module _ {A : Type 0} (change : A → Dealings → Dealings) (rest : Dealing) where
   -- one name more is absorbed

@@ -1,6 +1,7 @@
 -- What a dealing says of the walk over a part, and of parts that are put together.
 use Rattle.std.proofs.Common.{◌≡◌, ℕ, ◌+◌, ◌≤◌, ◌<◌, Bool, true, false, not, ◌||◌, ◌&&◌, List, Option, None}
 use Rattle.std.proofs.Common.{Some, Ok, ◌⊎◌, inl, inr, refl, sym, ap, subst, ◌∙◌, arith, if◌then◌else◌}
+use Rattle.std.proofs.lemmas.Bool.{and_from, or_left, or_right}
 use Rattle.au_syntax.specs.declared.types.Access.{Access}
 use Rattle.au_syntax.specs.declared.types.Access.TheVariants as access
 use Rattle.au_lives.specs.declared.lives.Sort.{Sort}
@@ -51,18 +52,6 @@ has_either (Some p) b h = inl refl
 
 wrong : {A : Type 0} → false ≡ true → A
 wrong h = absurd (cc)
-
-or_left : (a b : Bool) → a ≡ true → (a || b) ≡ true
-or_left true b h = refl
-or_left false b h = wrong h
-
-or_right : (a b : Bool) → b ≡ true → (a || b) ≡ true
-or_right true b h = refl
-or_right false b h = h
-
-both_are : (a b : Bool) → a ≡ true → b ≡ true → (a && b) ≡ true
-both_are true b g h = h
-both_are false b g h = g
 
 -- The states behind a part come from those before it, or from those of other ways.
 pub record Gathers (r out o : Reach) (d : Dealing) : Type 0 where
@@ -282,14 +271,14 @@ module _ (sort : Sort) where
       live : Has out.live ⊎ (Has o.live × (e.lives ≡ true)) →
           Has out.live ⊎ (Has r.live × ((d.lives && e.lives) ≡ true))
       live (inl h) = inl h
-      live (inr h) = let k = landed_live r o d l h.0 in inr (k.0, both_are d.lives e.lives k.1 h.1)
+      live (inr h) = let k = landed_live r o d l h.0 in inr (k.0, and_from d.lives e.lives k.1 h.1)
 
       kept_spent : e.lives ≡ true → (Has r.spent × (d.lives ≡ true)) ⊎ (Has r.live × (d.spends ≡ true)) →
           (Has r.spent × ((d.lives && e.lives) ≡ true))
           ⊎ (Has r.live × (((d.spends && e.lives) || (d.lives && e.spends)) ≡ true))
-      kept_spent f (inl k) = inl (k.0, both_are d.lives e.lives k.1 f)
+      kept_spent f (inl k) = inl (k.0, and_from d.lives e.lives k.1 f)
       kept_spent f (inr k) =
-          inr (k.0, or_left (d.spends && e.lives) (d.lives && e.spends) (both_are d.spends e.lives k.1 f))
+          inr (k.0, or_left (d.spends && e.lives) (d.lives && e.spends) (and_from d.spends e.lives k.1 f))
 
       spent : Has out.spent ⊎ ((Has o.spent × (e.lives ≡ true)) ⊎ (Has o.live × (e.spends ≡ true))) →
           Has out.spent
@@ -301,7 +290,7 @@ module _ (sort : Sort) where
           let k = landed_live r o d l h.0 in
           inr (inr (
             k.0,
-            or_right (d.spends && e.lives) (d.lives && e.spends) (both_are d.lives e.spends k.1 h.1),
+            or_right (d.spends && e.lives) (d.lives && e.spends) (and_from d.lives e.spends k.1 h.1),
           ))
 
   -- the first part goes, then the second

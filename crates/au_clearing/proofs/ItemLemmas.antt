@@ -1,15 +1,6 @@
 -- Items of lists, by their numbers.
-use Rattle.std.proofs.Common.{◌≡◌, ℕ, suc, ◌+◌, ◌-◌, ◌<◌, ◌≤◌, List, ◌∷◌, length, drop, get_or, sym, ap, ◌∙◌}
+use Rattle.std.proofs.Common.{◌≡◌, ℕ, suc, ◌-◌, ◌<◌, ◌≤◌, List, ◌∷◌, length, drop, get_or, sym, ap, ◌∙◌}
 use Rattle.std.proofs.Common.{arith, drop-cons}
-
--- an item and those behind it
-pub item_here : {A : Type 0} (xs : List A) (i : ℕ) (a : A) → a ≡ get_or xs i a → i < length xs →
-    drop i xs ≡ a ∷ drop (i + 1) xs
-item_here xs i a is within =
-    let e : suc i ≡ i + 1 = omega arith in
-    drop-cons xs i a within
-    ∙ ap (λ one. one ∷ drop (suc i) xs) (sym is)
-    ∙ ap (λ n. a ∷ drop n xs) e
 
 -- an item and those behind it, from the last to the first
 pub item_before : {A : Type 0} (xs : List A) (left : ℕ) (a : A) → a ≡ get_or xs (left - 1) a → 0 < left →

@@ -1,5 +1,4 @@
 pub mod AbsentLemmas
-pub mod BooleanLemmas
 pub mod ClearLemmas
 pub mod CombiningLemmas
 pub mod DealingLemmas

@@ -4,6 +4,8 @@ use Rattle.std.proofs.Common.{length, drop, get_or, Option, None, Some, Result, 
 use Rattle.std.proofs.Common.{◌∙◌, arith, drop-cons, if◌then◌else◌}
 use Rattle.std.proofs.lemmas.List.{drop_all}
 use Rattle.std.specs.Str.{bytes_eq}
+use Rattle.au_base.proofs.ListLemmas.{next_item}
+use Rattle.au_base.proofs.TextLemmas.{bytes_same}
 use Rattle.au_syntax.specs.declared.phases.Phase.{Ghosts}
 use Rattle.au_syntax.specs.declared.expressions.Expr.{Expr}
 use Rattle.au_syntax.specs.declared.expressions.Argument.{Argument}
@@ -16,8 +18,6 @@ use Rattle.au_clearing.specs.Touches.{both, alone, where_named, touched}
 use Rattle.au_clearing.specs.Deals.{by_touch, touch_or_none, touch_in, Meets}
 use Rattle.au_clearing.specs.Tables.{find, Changes}
 use Rattle.au_clearing.proofs.CombiningLemmas.{found_here, found_other}
-use Rattle.au_clearing.proofs.ItemLemmas.{item_here}
-use Rattle.au_clearing.proofs.TableLemmas.{equal_names}
 
 pub both_assoc : (s t u : Touch) → both (both s t) u ≡ both s (both t u)
 both_assoc Untouched t u = refl
@@ -144,7 +144,7 @@ mentioned old new name was more value is owned frees put x free = by (bytes_eq n
         ap (touch_or_none free) (found_here old new name x (Some value) put e)
         ∙ value_is free
         ∙ ap (λ t. both t (by_touch free more))
-        (is free ∙ ap (λ n. touch_or_none free (find n old)) (equal_names name x e))
+        (is free ∙ ap (λ n. touch_or_none free (find n old)) (bytes_same name x e))
         ∙ ap (λ b. both (touch_in old x free) (cond b (by_touch free more) Untouched)) (sym e)
     by false e =
         ap (touch_or_none free) (found_other old new name x (Some value) put e)
@@ -194,7 +194,7 @@ module _ {A : Type 0} (all : List A → Bytes → Bool → Touch) (one : A → B
       ∙ both_assoc (touch_in mid x free) (one a x free) (all rest x free)
       ∙ ap (both (touch_in mid x free))
       (sym (more a rest x free)
-      ∙ ap (λ l. all l x free) (sym (item_here xs i a is within)))
+      ∙ ap (λ l. all l x free) (sym (next_item xs i a is within)))
       ∙ before x free
 
   pub items_met : ((x : Bytes) (free : Bool) → all [] x free ≡ Untouched) → (xs : List A) (i : ℕ) →
@@ -206,10 +206,6 @@ module _ {A : Type 0} (all : List A → Bytes → Bool → Touch) (one : A → B
       sym (ap (both (touch_in mid x free)) (ap (λ l. all l x free) (drop_all i xs past) ∙ none x free)
       ∙ both_none (touch_in mid x free))
       ∙ before x free
-
-pub or_false : (free : Bool) → (free || false) ≡ free
-or_false true = refl
-or_false false = refl
 
 -- the same step of another tree that says the same
 pub met_as : {T E : Type 0} (r : Result T E) (old new : List (Bytes × Touches)) (looked part : Bool)

@@ -3,6 +3,7 @@ use Rattle.std.proofs.Common.{◌≡◌, ℕ, suc, ◌+◌, ◌-◌, ◌<◌, �
 use Rattle.std.proofs.Common.{◌∷◌, ◌++◌, length, drop, map, reverse, get_or, append_assoc, Option, None, Some}
 use Rattle.std.proofs.Common.{Result, Ok, Err, IfOk, OnOk, refl, sym, ap, subst, ◌∙◌, arith, drop-cons}
 use Rattle.std.proofs.lemmas.List.{append-nil, drop_all, map-append, reverse-append}
+use Rattle.au_base.proofs.ListLemmas.{next_item}
 use Rattle.au_syntax.specs.Plain.{Bytes, PlainExpression, PlainStatement, PlainStatements, PlainBranches, PlainArms}
 use Rattle.au_syntax.specs.Statements.{statements, no_statements, branches, no_branches, arms, no_arms}
 use Rattle.au_syntax.specs.Names.{Placed}
@@ -27,7 +28,7 @@ use Rattle.au_clearing.specs.Dealings.{returns_in_branches, returns_in_arms, lif
 use Rattle.au_clearing.specs.Deals.{seen_at, or_rest, or_alike, Sums, SumsBlock, SumsStatement, Piles}
 use Rattle.au_clearing.specs.Tables.{find}
 use Rattle.au_clearing.proofs.CombiningLemmas.{loan_seen}
-use Rattle.au_clearing.proofs.ItemLemmas.{item_here, item_before}
+use Rattle.au_clearing.proofs.ItemLemmas.{item_before}
 
 -- Piles.
 
@@ -102,7 +103,7 @@ forgotten_bind g old new binds i one name is within same forgets x free h =
     forgets x free rest
     ∙ ap (λ n. seen_at old x free (held_from x (declared n ∷ []) rest)) same
     ∙ ap (λ l. seen_at old x free (held_from x (bound_names (seen_binds g l)) h))
-    (sym (item_here binds i one is within))
+    (sym (next_item binds i one is within))
 
 -- Sums.
 

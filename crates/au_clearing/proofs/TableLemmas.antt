@@ -4,24 +4,16 @@ use Rattle.std.proofs.Common.{sym, ap, ◌∙◌, true≢false, length, suc, is_
 use Rattle.std.specs.Option.{option_to_list}
 use Rattle.std.specs.Map.{lookup, KeepsOthers}
 use Rattle.std.specs.Str.{bytes_eq}
-use Rattle.std.specs.Cmp.Lexicographic.{nat_list_eq_equiv}
-use Rattle.std.proofs.lemmas.Slice.Eq.{bytes_eq-Decides}
+use Rattle.au_base.proofs.TextLemmas.{bytes_self, bytes_same}
 use Rattle.au_clearing.specs.Tables.{pairs_by, find, Changes}
-
--- a name is equal to itself
-pub same_name : (name : List ℕ) → bytes_eq name name ≡ true
-same_name name = nat_list_eq_equiv.refl name
-
-pub equal_names : (a b : List ℕ) → bytes_eq a b ≡ true → a ≡ b
-equal_names a b h = (bytes_eq-Decides a b).0 h
 
 other_name : (x name key : List ℕ) → bytes_eq name x ≡ false → bytes_eq name key ≡ true → bytes_eq x key ≡ false
 other_name x name key apart is = by (bytes_eq x key) refl
   where
     by : (r : Bool) → bytes_eq x key ≡ r → bytes_eq x key ≡ false
     by true e =
-        let same : name ≡ x = equal_names name key is ∙ sym (equal_names x key e) in
-        absurd (true≢false (sym (same_name x) ∙ ap (λ n. bytes_eq n x) (sym same) ∙ apart))
+        let same : name ≡ x = bytes_same name key is ∙ sym (bytes_same x key e) in
+        absurd (true≢false (sym (bytes_self x) ∙ ap (λ n. bytes_eq n x) (sym same) ∙ apart))
     by false e = e
 
 module _ {K V : Type 0} (name_of : K → List ℕ) where
@@ -47,11 +39,11 @@ module _ {K V : Type 0} (name_of : K → List ℕ) where
       by : (b : Bool) → bytes_eq name x ≡ b →
           lookup (λ k. bytes_eq x (name_of k)) new ≡ cond (bytes_eq name x) value (find x (pairs_by old name_of))
       by true e =
-          ap (λ n. lookup (λ k. bytes_eq n (name_of k)) new) (sym (equal_names name x e)) ∙ here
+          ap (λ n. lookup (λ k. bytes_eq n (name_of k)) new) (sym (bytes_same name x e)) ∙ here
           ∙ sym (ap (λ b. cond b value (find x (pairs_by old name_of))) e)
       by false e =
           others (λ k. bytes_eq x (name_of k))
-          (λ a b h. ap (λ n. bytes_eq n (name_of b)) (equal_names x (name_of a) h))
+          (λ a b h. ap (λ n. bytes_eq n (name_of b)) (bytes_same x (name_of a) h))
           (λ k h. other_name x name (name_of k) e h)
           ∙ sym (find_pairs x old)
           ∙ sym (ap (λ b. cond b value (find x (pairs_by old name_of))) e)
@@ -81,4 +73,4 @@ module _ {K V : Type 0} (name_of : K → List ℕ) where
   popped_found old new (Some p) e h =
       find_pairs (name_of p.0) old
       ∙ ap (lookup (λ k. bytes_eq (name_of p.0) (name_of k))) e
-      ∙ lookup_last (λ k. bytes_eq (name_of p.0) (name_of k)) new p.0 p.1 h (same_name (name_of p.0))
+      ∙ lookup_last (λ k. bytes_eq (name_of p.0) (name_of k)) new p.0 p.1 h (bytes_self (name_of p.0))

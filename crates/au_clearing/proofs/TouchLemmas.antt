@@ -2,6 +2,8 @@
 use Rattle.std.proofs.Common.{◌≡◌, ℕ, ◌+◌, ◌≤◌, ◌==◌, Bool, true, false, ◌||◌, ◌&&◌, [], ◌∷◌, refl, sym, ap}
 use Rattle.std.proofs.Common.{subst, ◌∙◌, arith, List, if◌then◌else◌}
 use Rattle.std.specs.Str.{bytes_eq}
+use Rattle.std.proofs.lemmas.Bool.{or_left, and_from}
+use Rattle.au_base.proofs.NumberLemmas.{sum_none}
 use Rattle.au_syntax.specs.declared.types.Access.{Access}
 use Rattle.au_syntax.specs.declared.types.Access.TheVariants as access
 use Rattle.au_syntax.specs.declared.expressions.BorrowMode.{BorrowMode}
@@ -17,6 +19,7 @@ use Rattle.au_lives.specs.Mentions.{is_kept, keeps_parts, keeps_parts_of_all, ke
 use Rattle.au_lives.specs.Mentions as mentions
 use Rattle.au_lives.specs.Lives.{Hold, unlent, read_lent, write_lent, hidden}
 use Rattle.au_lives.specs.Lives as lives
+use Rattle.au_lives.proofs.FreeLemmas.{none_borrowed}
 use Rattle.au_clearing.specs.Touches.{Touch, Fits, Untouched, Quiet, Written, Consumed, Broken, both, worse}
 use Rattle.au_clearing.specs.Touches.{kept, behind_spent, lent, unless_hidden, alone, borrowed, touched}
 use Rattle.au_clearing.specs.Touches.{touched_in_all, touched_in_arguments}
@@ -249,10 +252,6 @@ module _ (x : Bytes) where
 
 -- Parts of expressions that may be left out.
 
-pub and_both : (a b : Bool) → a ≡ true → b ≡ true → (a && b) ≡ true
-and_both true b g h = h
-and_both false b g h = g
-
 pub zero_is : (n : ℕ) → n ≡ 0 → (n == 0) ≡ true
 zero_is n h = ap (λ n. n == 0) h
 
@@ -274,11 +273,6 @@ if_parted : (b : Bool) (t : Touch) (k : Counts) (part : Bool) → (rank t ≤ 3 
 if_parted true t k part f h p = f h p
 if_parted false t k part f h p = refl
 
-borrow_parted : (mode : BorrowMode) → (borrowed_by mode).consumed ≡ 0
-borrow_parted modes.Read = refl
-borrow_parted modes.Write = refl
-borrow_parted modes.Reborrow = refl
-
 -- a right side that may be left out
 right_parted : (part skips : Bool) (consumed : ℕ) (keeps : Bool) → Parted (part || skips) consumed keeps →
     (if skips then (consumed == 0) else keeps) ≡ true
@@ -286,13 +280,6 @@ right_parted true true n keeps p = zero_is n (p.0 refl)
 right_parted false true n keeps p = zero_is n (p.0 refl)
 right_parted true false n keeps p = p.1
 right_parted false false n keeps p = p.1
-
-or_true : (part skips : Bool) → part ≡ true → (part || skips) ≡ true
-or_true true skips h = refl
-or_true false skips h = absurd (cc)
-
-sum_none : (m n : ℕ) → m ≡ 0 → n ≡ 0 → m + n ≡ 0
-sum_none m n g h = omega (arith, g, h)
 
 -- a variable alone has no parts
 alone_keeps : (x : Bytes) (free : Bool) (e : PlainExpression) → is_variable e ≡ true →
@@ -344,7 +331,7 @@ module _ (x : Bytes) where
         let p = touched_parts (free || is_variable e) part e h in
         (p.0, looked_keeps x free (is_variable e) e refl p.1)
     touched_parts free part (borrow node mode name) h = (
-      if_parted (bytes_eq name.name x) (borrowed mode) (borrowed_by mode) part (λ r p. borrow_parted mode) h,
+      if_parted (bytes_eq name.name x) (borrowed mode) (borrowed_by mode) part (λ r p. none_borrowed mode) h,
       refl,
     )
     touched_parts free part (borrow_part node name fields) h =
@@ -355,8 +342,8 @@ module _ (x : Bytes) where
         let p = touched_parts free part a r.0 in
         let q = touched_parts free (part || may_skip operator) b r.1 in (
           (λ e. sum_none (counts_in x free a).consumed (counts_in x free b).consumed (p.0 e)
-              (q.0 (or_true part (may_skip operator) e))),
-          and_both (keeps_parts x free a)
+              (q.0 (or_left part (may_skip operator) e))),
+          and_from (keeps_parts x free a)
               (if may_skip operator then is_kept x free b else keeps_parts x free b)
               p.1
               (right_parted part (may_skip operator) (counts_in x free b).consumed (keeps_parts x free b) q),
@@ -373,8 +360,8 @@ module _ (x : Bytes) where
           (λ e. sum_none (counts_in x free c).consumed
               ((counts_in x free a).consumed + (counts_in x free b).consumed) (p.0 e)
               (sum_none (counts_in x free a).consumed (counts_in x free b).consumed (q.0 refl) (t.0 refl))),
-          and_both (keeps_parts x free c) (is_kept x free a && is_kept x free b) p.1
-              (and_both (is_kept x free a) (is_kept x free b)
+          and_from (keeps_parts x free c) (is_kept x free a && is_kept x free b) p.1
+              (and_from (is_kept x free a) (is_kept x free b)
               (zero_is (counts_in x free a).consumed (q.0 refl))
               (zero_is (counts_in x free b).consumed (t.0 refl))),
         )
@@ -388,7 +375,7 @@ module _ (x : Bytes) where
         let p = touched_parts free part e r.0 in
         let q = touched_all_parts free part rest r.1 in (
           (λ w. sum_none (counts_in x free e).consumed (counts_in_all x free rest).consumed (p.0 w) (q.0 w)),
-          and_both (keeps_parts x free e) (keeps_parts_of_all x free rest) p.1 q.1,
+          and_from (keeps_parts x free e) (keeps_parts_of_all x free rest) p.1 q.1,
         )
 
     touched_arguments_parts : (free part : Bool) (es : PlainArguments) →
@@ -401,7 +388,7 @@ module _ (x : Bytes) where
         let q = touched_arguments_parts free part rest r.1 in (
           (λ w. sum_none (counts_in x free e).consumed (counts_in_arguments x free rest).consumed (p.0 w)
               (q.0 w)),
-          and_both (keeps_parts x free e) (keeps_parts_of_arguments x free rest) p.1 q.1,
+          and_from (keeps_parts x free e) (keeps_parts_of_arguments x free rest) p.1 q.1,
         )
 
 -- a step that isn't broken consumes in no part that may be left out

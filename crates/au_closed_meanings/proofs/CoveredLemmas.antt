@@ -1,7 +1,8 @@
 -- What holds of all that is said of the notes of a tree in one way holds of what is said in another.
-use Rattle.std.proofs.Common.{arith, ⊎_elim, List, [], ◌++◌}
+use Rattle.std.proofs.Common.{⊎_elim, List, [], ◌++◌}
 use Rattle.std.specs.Prelude.{Contains}
 use Rattle.std.proofs.lemmas.List.Elements.{Contains-append_cases, Contains-append_left, Contains-append_right}
+use Rattle.au_base.proofs.ListLemmas.{nothing_there}
 use Rattle.au_syntax.specs.Expressions.{Expression, Expressions, Arguments, number, negative, text, truth}
 use Rattle.au_syntax.specs.Expressions.{nil, path, arrow, call, named_call, parenthesized, dereference}
 use Rattle.au_syntax.specs.Expressions.{borrow, borrow_part, binary, negation, typed, choice, no_expressions}
@@ -17,12 +18,8 @@ use Rattle.au_closed_trees.specs.Notes.{said_in_block, said_in_branches, said_in
 pub record AllOf {X : Type 0} (P : X → Type 0) (xs : List X) : Type 0 where
   pub each : (x : X) → Contains xs x → P x
 
--- no element stands in no list
-pub nothing : {X : Type 0} (x : X) → Contains [] x → ⊥
-nothing x h = omega (arith, h.1)
-
 pub none_of : {X : Type 0} (P : X → Type 0) → AllOf P []
-none_of P = record { each = λ x h. absurd (nothing x h) }
+none_of P = record { each = λ x h. absurd (nothing_there x h) }
 
 -- of two lists one after another
 two : {A B : Type 0} {P : A → Type 0} {Q : B → Type 0} {us vs : List A} {us2 vs2 : List B}

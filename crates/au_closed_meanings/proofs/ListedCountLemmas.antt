@@ -3,6 +3,7 @@ use Rattle.std.proofs.Common.{◌≡◌, ℕ, zero, suc, Bool, true, false, List
 use Rattle.std.specs.Prelude.{Contains, if◌then◌else◌}
 use Rattle.std.proofs.lemmas.List.Elements.{Contains-append_left, Contains-append_right, Contains-push}
 use Rattle.std.proofs.lemmas.List.Elements.{Contains-push_cases}
+use Rattle.au_base.proofs.ListLemmas.{nothing_there}
 use Rattle.au_closed_trees.specs.Occurring.{counts_in, follows, occurring, all_occurring, occurring_in_cases}
 use Rattle.au_closed_trees.specs.Occurring.{occurring_in_fields}
 use Rattle.au_closed_trees.specs.Parts.{ClosedCase, ClosedField, cases_of}
@@ -18,7 +19,7 @@ use Rattle.au_closed_trees.specs.Types.{types_noted}
 use Rattle.au_types.specs.declared.types.DeclAt.{DeclAt}
 use Rattle.au_closed_meanings.specs.Generic.{case_seen, field_seen, fields_in}
 use Rattle.au_closed_meanings.specs.Listed.{ListedCount, counts_by}
-use Rattle.au_closed_meanings.proofs.CoveredLemmas.{AllOf, block_all, nothing}
+use Rattle.au_closed_meanings.proofs.CoveredLemmas.{AllOf, block_all}
 
 module _ (all : List ClosedType) (counts : DeclAt → Bool) where
   -- a type counts where what occurs in it is listed
@@ -82,7 +83,7 @@ note_counts program all n h =
     let is = type_counts all (counts_in true (heads_of program)) n.of h.each in
     record {
       each = λ of k.
-          ⊎_elim (λ none. absurd (nothing of none)) (λ e. subst (λ t. counts_by all t ≡ true) e is)
+          ⊎_elim (λ none. absurd (nothing_there of none)) (λ e. subst (λ t. counts_by all t ≡ true) e is)
           (Contains-push_cases [] n.of of k);
     }
 

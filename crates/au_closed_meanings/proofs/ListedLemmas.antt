@@ -2,6 +2,7 @@
 use Rattle.std.proofs.Common.{◌≡◌, Bool, true, false, ◌⊎◌, inl, inr, ⊎_elim, List, [], ◌∷◌, map, Some, None}
 use Rattle.std.proofs.Common.{refl, sym, ap, ◌∙◌}
 use Rattle.std.specs.Prelude.{cond}
+use Rattle.std.proofs.lemmas.Bool.{or_cases}
 use Rattle.au_closed_trees.specs.Parts.{ClosedCase, cases_of}
 use Rattle.au_type_texts.proofs.SameLemmas.{same_is, same_self}
 use Rattle.au_type_texts.specs.Same.{same}
@@ -10,7 +11,6 @@ use Rattle.au_closed_meanings.specs.Programs.{Row, case_from, fields_at, linear_
 use Rattle.au_effects.specs.Parts.{along}
 use Rattle.au_modules.specs.Programs.{ModuleParts}
 use Rattle.au_graphs.specs.Reached.{Has, has}
-use Rattle.au_graphs.proofs.HasLemmas.{or_split}
 use Rattle.au_closed_meanings.specs.Generic.{case_seen}
 use Rattle.au_closed_meanings.specs.Listed.{RowsMadeSay, counts_by, row_for, rows_for}
 
@@ -44,7 +44,7 @@ module _ (program : List ModuleParts) where
           ⊎_elim
           (λ here. let wrong : false ≡ true = sym e ∙ ap (λ t. same k t)
           (same_is of k here) ∙ same_self k in absurd cc)
-          later (or_split (same of k) (has same all of) h)
+          later (or_cases (same of k) (has same all of) h)
 
   -- a type that counts has its own row, or no row and no case
   abbrev Stands : List ClosedType → ClosedType → Type 0

@@ -5,6 +5,7 @@ use Rattle.std.proofs.Common.{length-append}
 use Rattle.std.specs.Prelude.{find, slice_get, if◌then◌else◌}
 use Rattle.std.specs.List.{flat_map}
 use Rattle.std.specs.Option.{option_and_then, option_map}
+use Rattle.au_base.proofs.ListLemmas.{get_right, get_front}
 use Rattle.au_syntax.specs.Modules.{Constrained, constant, opaque_type, record_type, union_type, function}
 use Rattle.au_syntax.specs.Modules.{class, instance, constant_body, function_body, instance_body}
 use Rattle.au_syntax.specs.Plain.{Bytes}
@@ -20,19 +21,6 @@ use Rattle.au_closed_meanings.specs.Numbers.{place_standing}
 
 -- ---- lists
 
-get_front : {Y : Type 0} (us vs : List Y) (m : ℕ) (y : Y) → slice_get us m ≡ Some y
-    → slice_get (us ++ vs) m ≡ Some y
-get_front [] vs m y e = absurd cc
-get_front (u ∷ us) vs zero y e = e
-get_front (u ∷ us) vs (suc m) y e = get_front us vs m y e
-
-get_back : {Y : Type 0} (us vs : List Y) (m : ℕ) → slice_get (us ++ vs) (length us + m) ≡ slice_get vs m
-get_back [] vs m = ap (slice_get vs) (let same : 0 + m ≡ m = omega arith in same)
-get_back (u ∷ us) vs m =
-    ap (slice_get (u ∷ (us ++ vs)))
-    (let same : length (u ∷ us) + m ≡ suc (length us + m) = omega arith in same)
-    ∙ get_back us vs m
-
 -- what stands in one of several lists stands in all of them, behind those before
 flat_there : {X Y : Type 0} (f : X → List Y) (xs : List X) (i m : ℕ) (x : X) (y : Y) → slice_get xs i ≡ Some x
     → slice_get (f x) m ≡ Some y
@@ -47,7 +35,7 @@ flat_there f (x0 ∷ xs) (suc i) m x y e h =
     ap (slice_get (f x0 ++ flat_map f xs))
     (let same : length (f x0 ++ before) + m ≡ length (f x0) + (length before + m) =
     omega (arith, length-append (f x0) before) in same)
-    ∙ get_back (f x0) (flat_map f xs) (length before + m)
+    ∙ get_right (f x0) (flat_map f xs) (length before + m)
     ∙ flat_there f xs i m x y e h
 
 -- ---- methods and declarations

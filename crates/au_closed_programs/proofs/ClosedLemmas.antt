@@ -29,7 +29,7 @@ use Rattle.au_closed_programs.proofs.OrderLemmas.{one_order, same_numbers, secon
 pub rows_total : IsTotalOrder row_cmp
 rows_total = then_total (on_texts (λ (r : TypeRow). r.text)) (on_texts (λ (r : TypeRow). r.key))
 
-key_tells : (t u : ClosedType) → key_of t ≡ key_of u → t ≡ u
+pub key_tells : (t u : ClosedType) → key_of t ≡ key_of u → t ≡ u
 key_tells t u e = (key_one t u [] [] (append-nil (key_of t) ∙ e ∙ sym (append-nil (key_of u)))).0
 
 types_told : TellsSame same

@@ -1,8 +1,9 @@
 -- What the calls in lists of a tree lead to, where one more stands behind the others.
-use Rattle.std.proofs.Common.{◌≡◌, ℕ, Bool, List, [], ◌++◌, Vec, append_assoc, ap, ◌∙◌, sym, refl}
+use Rattle.std.proofs.Common.{◌≡◌, ℕ, Bool, List, [], ◌++◌, Vec, ap, refl}
 use Rattle.std.specs.Global.{Global}
 use Rattle.std.proofs.lemmas.List.{append-nil}
 use Rattle.au_base.specs.declared.places.Pos.{Pos}
+use Rattle.au_base.proofs.ListLemmas.{added_behind}
 use Rattle.au_sights.specs.contracts.noted.NotedPhase.TheImpl.{ghosts as noted}
 use Rattle.au_syntax.specs.declared.expressions.BinaryOperator.{BinaryOperator}
 use Rattle.au_syntax.specs.declared.expressions.BorrowMode.{BorrowMode}
@@ -29,31 +30,27 @@ use Rattle.au_syntax.specs.Statements.{branches, no_branches, arms, no_arms}
 use Rattle.au_closed_trees.specs.Calls.{calls_in, calls_in_all, calls_in_arguments, calls_in_arms}
 use Rattle.au_closed_trees.specs.Calls.{calls_in_block, calls_in_branches, calls_in_statement}
 
--- what stands behind others, before more
-behind : {A : Type 0} (first others last whole : List A) → whole ≡ others ++ last
-    → first ++ whole ≡ (first ++ others) ++ last
-behind first others last whole is = ap (λ r. first ++ r) is ∙ sym (append_assoc first others last)
-
 module _ {N T C A : Type 0} (leads : T → C → N → List A) where
   pub expressions_lead : (es : Expressions N T C) (e : Expression N T C)
       → calls_in_all leads (snoc_expressions es e) ≡ calls_in_all leads es ++ calls_in leads e
   expressions_lead no_expressions e = append-nil (calls_in leads e)
   expressions_lead (expressions one rest) e =
-      behind (calls_in leads one) (calls_in_all leads rest) (calls_in leads e) _ (expressions_lead rest e)
+      added_behind (calls_in leads one) (calls_in_all leads rest) (calls_in leads e) _
+      (expressions_lead rest e)
 
   pub arguments_lead : (es last : Arguments N T C)
       → calls_in_arguments leads (snoc_arguments es last)
       ≡ calls_in_arguments leads es ++ calls_in_arguments leads last
   arguments_lead no_arguments last = refl
   arguments_lead (arguments label one rest) last =
-      behind (calls_in leads one) (calls_in_arguments leads rest) (calls_in_arguments leads last) _
+      added_behind (calls_in leads one) (calls_in_arguments leads rest) (calls_in_arguments leads last) _
       (arguments_lead rest last)
 
   pub statements_lead : (b : Statements N T C) (s : Statement N T C)
       → calls_in_block leads (snoc_statements b s) ≡ calls_in_block leads b ++ calls_in_statement leads s
   statements_lead no_statements s = append-nil (calls_in_statement leads s)
   statements_lead (statements one rest) s =
-      behind (calls_in_statement leads one) (calls_in_block leads rest) (calls_in_statement leads s) _
+      added_behind (calls_in_statement leads one) (calls_in_block leads rest) (calls_in_statement leads s) _
       (statements_lead rest s)
 
   pub branches_lead : (all last : Branches N T C)
@@ -61,14 +58,14 @@ module _ {N T C A : Type 0} (leads : T → C → N → List A) where
       ≡ calls_in_branches leads all ++ calls_in_branches leads last
   branches_lead no_branches last = refl
   branches_lead (branches e b rest) last =
-      behind (calls_in leads e ++ calls_in_block leads b) (calls_in_branches leads rest)
+      added_behind (calls_in leads e ++ calls_in_block leads b) (calls_in_branches leads rest)
       (calls_in_branches leads last) _ (branches_lead rest last)
 
   pub arms_lead : (all last : Arms N T C)
       → calls_in_arms leads (snoc_arms all last) ≡ calls_in_arms leads all ++ calls_in_arms leads last
   arms_lead no_arms last = refl
   arms_lead (arms at name binds b rest) last =
-      behind (calls_in_block leads b) (calls_in_arms leads rest) (calls_in_arms leads last) _
+      added_behind (calls_in_block leads b) (calls_in_arms leads rest) (calls_in_arms leads last) _
       (arms_lead rest last)
 
 -- ---- what each variant leads to

@@ -2,7 +2,8 @@
 use Rattle.std.proofs.Common.{◌≡◌, ℕ, ◌+◌, ◌<◌, ◌≤◌, true, false, List, [], ◌∷◌, ◌++◌, drop, length, get_or}
 use Rattle.std.proofs.Common.{map, refl, sym, ap, ◌∙◌, append_assoc}
 use Rattle.std.specs.Prelude.{if◌then◌else◌}
-use Rattle.std.proofs.lemmas.List.{append-nil, drop_all, drop_more}
+use Rattle.std.proofs.lemmas.List.{append-nil, drop_all}
+use Rattle.au_base.proofs.ListLemmas.{next_item}
 use Rattle.au_syntax.specs.Plain.{Bytes}
 use Rattle.au_types.specs.declared.parameters.Parameter.{Parameter}
 use Rattle.au_type_texts.specs.declared.types.Closed.{Closed}
@@ -33,11 +34,6 @@ no_arguments_left (name ∷ names) = refl
 
 -- ---- along type parameters and arguments
 
--- what is left after one more
-next_left : {A : Type 0} (xs : List A) (i : ℕ) (x : A) → i < length xs → x ≡ get_or xs i x
-    → drop i xs ≡ x ∷ drop (i + 1) xs
-next_left xs i x inside is = drop_more xs i x inside ∙ ap (λ y. y ∷ drop (i + 1) xs) (sym is)
-
 module _ (made whole : Given) (params : List Parameter) (args : List Closed) (i k : ℕ) where
   -- what is given for the type parameters from a place on, with the arguments from another
   abbrev rest : ℕ → ℕ → Given
@@ -51,7 +47,7 @@ module _ (made whole : Given) (params : List Parameter) (args : List Closed) (i 
         ap (λ l. made ++ l)
         (sym
         (ap (λ l. given_over (type_names l) (map closed_meaning (drop k args)))
-        (next_left params i p inside is)
+        (next_item params i p is inside)
         ∙ over_region p (drop (i + 1) params) (map closed_meaning (drop k args)) region))
         ∙ so_far
 
@@ -63,10 +59,10 @@ module _ (made whole : Given) (params : List Parameter) (args : List Closed) (i 
         let one : Bytes × ClosedType = (p.name, closed_meaning t) in
         let step : rest i k ≡ one ∷ rest (i + 1) (k + 1) =
         ap (λ l. given_over (type_names l) (map closed_meaning (drop k args)))
-        (next_left params i p inside is)
+        (next_item params i p is inside)
         ∙ over_type p (drop (i + 1) params) (map closed_meaning (drop k args)) no_region
         ∙ ap (λ l. given_over (p.name ∷ type_names (drop (i + 1) params)) (map closed_meaning l))
-        (next_left args k t within at) in
+        (next_item args k t at within) in
         ap (λ l. l ++ rest (i + 1) (k + 1)) grows
         ∙ append_assoc made (one ∷ []) (rest (i + 1) (k + 1))
         ∙ ap (λ l. made ++ l) (sym step)

@@ -1,8 +1,9 @@
 -- What is said of the notes in lists of a tree, where one more stands behind the others.
-use Rattle.std.proofs.Common.{◌≡◌, ℕ, Bool, List, [], ◌++◌, Vec, append_assoc, ap, ◌∙◌, sym, refl}
+use Rattle.std.proofs.Common.{◌≡◌, ℕ, Bool, List, [], ◌++◌, Vec, ap, refl}
 use Rattle.std.specs.Global.{Global}
 use Rattle.std.proofs.lemmas.List.{append-nil}
 use Rattle.au_base.specs.declared.places.Pos.{Pos}
+use Rattle.au_base.proofs.ListLemmas.{added_behind}
 use Rattle.au_closed_trees.specs.contracts.phase.ClosedTreesPhase.TheImpl.{ghosts as closed}
 use Rattle.au_closed_trees.specs.declared.notes.Callee.{Callee}
 use Rattle.au_closed_trees.specs.declared.notes.ClosedNote as found
@@ -39,31 +40,26 @@ use Rattle.au_syntax.specs.Statements.{branches, no_branches, arms, no_arms}
 use Rattle.au_closed_trees.specs.Notes.{said_in, said_in_all, said_in_arguments, said_in_arms, said_in_block}
 use Rattle.au_closed_trees.specs.Notes.{said_in_branches, said_in_statement}
 
--- what stands behind others, before more
-behind : {A : Type 0} (first others last whole : List A) → whole ≡ others ++ last
-    → first ++ whole ≡ (first ++ others) ++ last
-behind first others last whole is = ap (λ r. first ++ r) is ∙ sym (append_assoc first others last)
-
 module _ {N T C A : Type 0} (said : T → List A) where
   pub expressions_told : (es : Expressions N T C) (e : Expression N T C)
       → said_in_all said (snoc_expressions es e) ≡ said_in_all said es ++ said_in said e
   expressions_told no_expressions e = append-nil (said_in said e)
   expressions_told (expressions one rest) e =
-      behind (said_in said one) (said_in_all said rest) (said_in said e) _ (expressions_told rest e)
+      added_behind (said_in said one) (said_in_all said rest) (said_in said e) _ (expressions_told rest e)
 
   pub arguments_told : (es last : Arguments N T C)
       → said_in_arguments said (snoc_arguments es last)
       ≡ said_in_arguments said es ++ said_in_arguments said last
   arguments_told no_arguments last = refl
   arguments_told (arguments label one rest) last =
-      behind (said_in said one) (said_in_arguments said rest) (said_in_arguments said last) _
+      added_behind (said_in said one) (said_in_arguments said rest) (said_in_arguments said last) _
       (arguments_told rest last)
 
   pub statements_told : (b : Statements N T C) (s : Statement N T C)
       → said_in_block said (snoc_statements b s) ≡ said_in_block said b ++ said_in_statement said s
   statements_told no_statements s = append-nil (said_in_statement said s)
   statements_told (statements one rest) s =
-      behind (said_in_statement said one) (said_in_block said rest) (said_in_statement said s) _
+      added_behind (said_in_statement said one) (said_in_block said rest) (said_in_statement said s) _
       (statements_told rest s)
 
   pub branches_told : (all last : Branches N T C)
@@ -71,14 +67,14 @@ module _ {N T C A : Type 0} (said : T → List A) where
       ≡ said_in_branches said all ++ said_in_branches said last
   branches_told no_branches last = refl
   branches_told (branches e b rest) last =
-      behind (said_in said e ++ said_in_block said b) (said_in_branches said rest)
+      added_behind (said_in said e ++ said_in_block said b) (said_in_branches said rest)
       (said_in_branches said last) _ (branches_told rest last)
 
   pub arms_told : (all last : Arms N T C)
       → said_in_arms said (snoc_arms all last) ≡ said_in_arms said all ++ said_in_arms said last
   arms_told no_arms last = refl
   arms_told (arms at name binds b rest) last =
-      behind (said_in_block said b) (said_in_arms said rest) (said_in_arms said last) _
+      added_behind (said_in_block said b) (said_in_arms said rest) (said_in_arms said last) _
       (arms_told rest last)
 
 -- ---- items of a tree

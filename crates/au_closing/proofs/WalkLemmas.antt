@@ -5,6 +5,7 @@ use Rattle.std.proofs.Common.{ltb-false}
 use Rattle.std.specs.List.{position, prefix_len}
 use Rattle.std.specs.Str.{bytes_eq}
 use Rattle.std.proofs.lemmas.List.{length-map}
+use Rattle.std.proofs.lemmas.List.Sums.{prefix_len-le-length}
 use Rattle.au_closing.specs.Instances.{Instance, place_in, same_instance}
 use Rattle.au_closing.proofs.ClosesLemmas.{instances_told}
 use Rattle.au_closing.specs.Keys.{instance_key}
@@ -21,14 +22,6 @@ same_key : (x y : Instance) → by_key instance_key x y ≡ same_instance x y
 same_key x y = ap (λ (test : Instance → Instance → Bool). test x y) by_keys
 
 -- ---- numbers
-
-front_size : {A : Type 0} (test : A → Bool) (all : List A) → prefix_len test all ≤ length all
-front_size test [] = omega arith
-front_size test (x ∷ all) = by (test x) (front_size test all)
-  where
-    by : (b : Bool) → prefix_len test all ≤ length all → cond b (1 + prefix_len test all) 0 ≤ length (x ∷ all)
-    by true rest = omega arith
-    by false rest = omega arith
 
 place_at : (b : Bool) (p n : ℕ) → nat_lt p n ≡ b → p ≤ n → unwrap_or (cond b (Some p) None) n ≡ p
 place_at true p n is within = refl
@@ -61,7 +54,7 @@ number_is one all keys key count these is many =
     let same_count : count ≡ length (map instance_key all) = many ∙ sym size in
     (λ i. unwrap_or (position (bytes_eq (is i)) (these i)) (same_count i))
     ∙ place_at (nat_lt p (length (map instance_key all))) p (length (map instance_key all)) refl
-    (front_size test (map instance_key all))
+    (prefix_len-le-length test (map instance_key all))
     ∙ front_place one all
 
 -- ---- what the walk by keys from these starts says, the walk by instances says from equal ones

@@ -3,19 +3,16 @@ use Rattle.std.proofs.Common.{◌≡◌, ◌⊎◌, inl, inr, ℕ, ◌+◌, suc,
 use Rattle.std.proofs.Common.{ap, ◌∙◌, subst, arith}
 use Rattle.std.specs.Prelude.{◌<◌, ◌≤◌, Contains, IsTrue}
 use Rattle.au_base.specs.Outside.{Files}
+use Rattle.au_base.proofs.ListLemmas.{nothing_there, Contains-cases}
 use Rattle.au_shipped.specs.Shipped.{shipped_files}
 use Rattle.au_syntax.specs.Forms.{formed_module}
 use Rattle.au_modules.specs.Accepted.{IsProgram}
 use Rattle.au_modules.specs.Programs.{Entry}
-use Rattle.au_instances.proofs.TableLemmas.{Contains-cases}
 use Rattle.au_outcomes.specs.Accepted.{AreAcceptedAs}
 use Rattle.au_outcomes.specs.Outcomes.{AreFiles}
 use Rattle.au_outcomes.specs.Programs.{entries, program_modules, shipped_entries}
 use Rattle.au_outcomes.specs.Trees.{AreRead, ReadFile}
 use Rattle.au_closing_laws.specs.Gathered.{IsGathered, IsParsed, entry_of}
-
-nothing_there : {A : Type 0} (x : A) → Contains [] x → ⊥
-nothing_there x c = omega arith
 
 -- a file that was read has a number among those of the files, and its tree is formed
 read_there : (file : ℕ) (all : List (List ℕ)) (reads : List ReadFile) → AreRead file all reads → (e : Entry) →

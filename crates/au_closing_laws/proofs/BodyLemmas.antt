@@ -1,7 +1,7 @@
 -- Each body of a derived program is good, in a scope with what its module's body sees and with its type
 -- parameters.
 use Rattle.std.proofs.Common.{◌≡◌, ℕ, zero, suc, ◌+◌, Bool, true, false, cond, List, [], ◌∷◌, find, Option}
-use Rattle.std.proofs.Common.{None, Some, Ok, Err, refl, subst, arith}
+use Rattle.std.proofs.Common.{None, Some, Ok, Err, refl, subst, arith, zero-add}
 use Rattle.std.specs.Prelude.{Contains, slice_get}
 use Rattle.std.specs.Option.{option_and_then, option_map}
 use Rattle.std.proofs.lemmas.Option.{none-some, same_Some}
@@ -79,9 +79,6 @@ call_in_good outside generics body same good one there =
 
 -- ---- which bodies are good
 
-zero_before : (n : ℕ) → 0 + n ≡ n
-zero_before n = omega arith
-
 -- the body of a module of good modules is good
 good_at : (outside : ℕ → Part → Outside) (place k : ℕ) (noted : List NotedParts) (m : NotedParts) →
     GoodModules outside place noted → slice_get noted k ≡ Some m → GoodPart (outside (place + k) Body) m.body
@@ -157,7 +154,7 @@ module _ (outside : ℕ → Part → Outside) (noted : List NotedParts) (good : 
           GoodDeclaration (seen_there place) d
       by None is e = absurd (none-some d e)
       by (Some m) is e = within m m.body
-          (subst (λ n. GoodPart (outside n Body) m.body) (zero_before place)
+          (subst (λ n. GoodPart (outside n Body) m.body) (zero-add place)
           (good_at outside 0 place noted m good is)) e
 
   good_defining : (program : List ModuleParts) (name : Bytes) (d : Standing) (body : BodyOf) →

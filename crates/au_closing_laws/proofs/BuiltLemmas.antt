@@ -44,8 +44,10 @@ use Rattle.au_closing.specs.Bodies.{BodyOf, body_in, body_of, is_method, method_
 use Rattle.au_closing_laws.specs.Gathered.{IsGathered, entry_of}
 use Rattle.au_closing_laws.specs.Targets.{Call, calls_listed}
 use Rattle.au_closing_laws.proofs.CallLemmas.{one_call}
-use Rattle.au_closing_laws.proofs.GatheredLemmas.{among_find, among_get, module_is, own_isnt}
+use Rattle.au_closing_laws.proofs.GatheredLemmas.{among_get, module_is, own_isnt}
 use Rattle.au_closing_laws.proofs.GenericsLemmas.{body_stands, erased_there}
+use Rattle.au_classes.proofs.ListLemmas.{found_passes}
+use Rattle.au_imports.proofs.MentionLemmas.{among-map_from}
 
 -- ---- lists of places in which none is
 
@@ -61,11 +63,6 @@ nothing_of : {A B : Type 0} (f : A → List B) (xs : List A) (x : A) → flat_ma
 nothing_of f [] x e m = absurd m
 nothing_of f (y ∷ xs) x e (inl here) = ap f (sym here) ∙ nothing_left (f y) (flat_map f xs) e
 nothing_of f (y ∷ xs) x e (inr later) = nothing_of f xs x (nothing_right (f y) (flat_map f xs) e) later
-
-among_mapped : {A B : Type 0} (f : A → B) (xs : List A) (x : A) → Among x xs → Among (f x) (map f xs)
-among_mapped f [] x m = absurd m
-among_mapped f (y ∷ xs) x (inl here) = inl (ap f here)
-among_mapped f (y ∷ xs) x (inr later) = inr (among_mapped f xs x later)
 
 -- ---- calls in trees
 
@@ -268,7 +265,8 @@ module _ (unbuilt_type unbuilt_call : Bytes → Bool) where
           option_map (method_body place generics) o ≡ Some body → IsBuilt place body
       by None found is = absurd (none-some body is)
       by (Some m) found is =
-          let listed = among_mapped erase_method methods m (among_find (is_method name) methods m found).0 in
+          let listed = among-map_from erase_method methods m (found_passes (is_method name) methods m found).0
+          in
           let each = nothing_right (in_type unbuilt_type t)
           (flat_map (in_method unbuilt_type unbuilt_call) (map erase_method methods)) e in
           subst (IsBuilt place) (same_Some (method_body place generics m) body is) (

@@ -3,6 +3,7 @@ use Rattle.std.proofs.Common.{◌≡◌, ◌⊎◌, inl, inr, Bool, List, [], �
 use Rattle.std.specs.Prelude.{Contains}
 use Rattle.std.specs.List.{flat_map}
 use Rattle.std.proofs.lemmas.Grind.{flat_map-append}
+use Rattle.au_base.proofs.ListLemmas.{Contains-first, Contains-rest}
 use Rattle.au_syntax.specs.Expressions.{Expression, Expressions, Arguments, call, named_call, parenthesized}
 use Rattle.au_syntax.specs.Expressions.{dereference, binary, negation, typed, choice, no_expressions}
 use Rattle.au_syntax.specs.Expressions.{expressions, no_arguments, arguments}
@@ -11,7 +12,6 @@ use Rattle.au_syntax.specs.Statements.{Statement, Statements, Branches, Arms, de
 use Rattle.au_syntax.specs.Statements.{assign_through, conditional, conditional_else, case_of, while_loop}
 use Rattle.au_syntax.specs.Statements.{for_loop, borrow_in, borrow_typed, discard, return_of, no_statements}
 use Rattle.au_syntax.specs.Statements.{statements, no_branches, branches, no_arms, arms}
-use Rattle.au_instances.proofs.TableLemmas.{Contains-first, Contains-rest}
 use Rattle.au_typing.specs.Notes.{Note}
 use Rattle.au_graphs.specs.Reached.{Has}
 use Rattle.au_graphs.proofs.HasLemmas.{has_split}

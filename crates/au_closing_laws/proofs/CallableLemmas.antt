@@ -1,11 +1,12 @@
 -- What a name means that is called is declared under its own name.
 use Rattle.std.proofs.Common.{◌≡◌, ◌⊎◌, inl, inr, ℕ, suc, ◌+◌, Bool, true, false, cond, List, [], ◌∷◌, ◌++◌}
 use Rattle.std.proofs.Common.{map, find, Option, None, Some, refl, sym, ap, ◌∙◌, subst, arith}
-use Rattle.std.specs.Prelude.{filter, nat_lt, position, slice_get}
+use Rattle.std.specs.Prelude.{filter, position, slice_get}
 use Rattle.std.specs.Option.{option_map}
 use Rattle.std.specs.Str.{bytes_eq}
 use Rattle.std.proofs.lemmas.Option.{none-some, same_Some, slice_get-map}
 use Rattle.std.proofs.lemmas.Slice.Eq.{bytes_eq-Decides}
+use Rattle.au_base.proofs.ListLemmas.{get_front}
 use Rattle.au_syntax.specs.declared.modules.Part.{Part}
 use Rattle.au_syntax.specs.declared.modules.Part.TheVariants.{Interface, Body}
 use Rattle.au_syntax.specs.Modules.{Header, Importing, constant, opaque_type, record_type, union_type}
@@ -20,7 +21,7 @@ use Rattle.au_types.proofs.TableLemmas.{find-firsts}
 use Rattle.au_types.specs.declared.types.DeclAt.{DeclAt}
 use Rattle.au_modules.specs.Programs.{ModuleParts}
 use Rattle.au_names.specs.declared.targets.Target.{Target}
-use Rattle.au_names.specs.Importing.{along, brings, brought, brought_from, earlier, given_name, imported}
+use Rattle.au_names.specs.Importing.{along, brings, brought, brought_from, given_name, imported}
 use Rattle.au_names.specs.Importing.{is_type, members, members_of, place_of, renamed, source}
 use Rattle.au_names.specs.Meanings.{imports_in, meanings, offered, part_of, pervasive}
 use Rattle.au_names.specs.Owned.{declarations_in, declarations_of, exported, interface_of, own, target, targets}
@@ -28,9 +29,10 @@ use Rattle.au_names.specs.Standing.{Standing, module_standing, standing_at, stan
 use Rattle.au_names.proofs.AmongLemmas.{Among, among-append, among-flat_map}
 use Rattle.au_typing.specs.Called.{is_case, is_method}
 use Rattle.au_typing.specs.Written.{seen_at, seen_in}
+use Rattle.au_typing.proofs.OfferedLemmas.{source_there}
 use Rattle.au_closing.specs.Leading.{Called, a_function, a_maker, a_method, called_of, function_called, method_called}
-use Rattle.au_closing_laws.proofs.GatheredLemmas.{among_filter, among_find, among_map}
-use Rattle.au_closing_laws.proofs.ShippedMethodLemmas.{get_left}
+use Rattle.au_closing_laws.proofs.GatheredLemmas.{among_filter, among_map}
+use Rattle.au_classes.proofs.ListLemmas.{found_passes}
 
 -- ---- what stands under a number
 
@@ -173,7 +175,7 @@ module _ (program : List ModuleParts) where
 
     of_interface : (i : ℕ) (says : PlainDeclaration) → slice_get (declarations_in m.interface) i ≡ Some says →
         slice_get (both_parts m) i ≡ Some says
-    of_interface i says e = get_left (declarations_in m.interface) (declarations_in m.body) i says e
+    of_interface i says e = get_front (declarations_in m.interface) (declarations_in m.body) i says e
 
     own_named : AreNamed (own Callables place m)
     own_named = targets_named (both_parts m) (λ i says e. e) (names_in Callables (declarations_of m))
@@ -201,7 +203,7 @@ module _ (program : List ModuleParts) where
             (λ p among.
             let its = among_map (λ (n : Bytes). (n, d.0)) p (members d.1) among in (
               d,
-              (among_find (is_type name) (interface_of m) d e).0,
+              (found_passes (is_type name) (interface_of m) d e).0,
               ap (λ (x : Bytes × ℕ). x.1) its.2,
               subst (λ n. Among n (callable_names d.1)) (sym (ap (λ (x : Bytes × ℕ). x.0) its.2))
                   (members_called d.1 its.0 its.1),
@@ -215,22 +217,6 @@ module _ (program : List ModuleParts) where
         (renamed_named item.name.name (given_name item) (exported Callables place m) exported_named)
         (along_named item.name.name)
 
-  earlier_there : (place : ℕ) (o : Option ℕ) (r : ℕ × ModuleParts) → earlier program place o ≡ Some r →
-      slice_get program r.0 ≡ Some r.1
-  earlier_there place None r e = absurd (none-some r e)
-  earlier_there place (Some other) r e = by (nat_lt other place) e
-    where
-      found : (o : Option ModuleParts) → slice_get program other ≡ o → option_map (λ m. (other, m)) o
-          ≡ Some r → slice_get program r.0 ≡ Some r.1
-      found None is e = absurd (none-some r e)
-      found (Some m) is e = subst (λ (x : ℕ × ModuleParts). slice_get program x.0 ≡ Some x.1)
-          (same_Some (other, m) r e) is
-
-      by : (b : Bool) → cond b (option_map (λ m. (other, m)) (slice_get program other)) None ≡ Some r →
-          slice_get program r.0 ≡ Some r.1
-      by true e = found (slice_get program other) refl e
-      by false e = absurd (none-some r e)
-
   import_named : (place : ℕ) (i : Importing Bytes) → AreNamed (brings Callables program place i)
   import_named place i = by (source program place i) refl
     where
@@ -238,7 +224,8 @@ module _ (program : List ModuleParts) where
       by None e q listed = absurd listed
       by (Some other) e q listed =
           let from = among-flat_map (brought Callables other.0 other.1) i.items q listed in
-          brought_named other.0 other.1 (earlier_there place (place_of program (joined i.from)) other e) from.0 q from.2
+          brought_named other.0 other.1 (source_there program place (place_of program (joined i.from)) other
+          e) from.0 q from.2
 
   imports_named : (place : ℕ) (imports : List (Importing Bytes)) → AreNamed (imported Callables program place imports)
   imports_named place imports q listed =
@@ -312,7 +299,7 @@ called_named name (class at n p methods) called e m = by (find (is_method name) 
     by None is e = absurd (none-some called e)
     by (Some h) is e =
         sym (same_called (method_called p.name.name h) called name e)
-        ∙ sym ((bytes_eq-Decides name h.name.name).0 (among_find (is_method name) methods h is).1)
+        ∙ sym ((bytes_eq-Decides name h.name.name).0 (found_passes (is_method name) methods h is).1)
 called_named name (record_type at n ps u fields) called e m = sym (same_called (a_maker 0) called name e)
 called_named name (union_type at n ps u cases) called e m = by (position (is_case name) cases) e
   where

@@ -7,6 +7,7 @@ use Rattle.std.specs.Option.{option_and_then, option_map}
 use Rattle.std.proofs.lemmas.List.Folds.{find_at}
 use Rattle.std.proofs.lemmas.Option.{get_or_from_slice_get, none-some, same_Some, slice_get-map, slice_get_within}
 use Rattle.au_base.specs.declared.places.Pos.{Pos}
+use Rattle.au_base.proofs.OptionLemmas.{map_some}
 use Rattle.au_syntax.specs.declared.modules.Part.{Part}
 use Rattle.au_syntax.specs.declared.modules.Part.TheVariants.{Interface, Body}
 use Rattle.au_syntax.specs.Modules.{Constrained, Header, constant, opaque_type, record_type, union_type}
@@ -36,11 +37,6 @@ append_at : {A : Type 0} (xs ys : List A) (n : ℕ) (x : A) → slice_get (xs ++
 append_at [] ys n x e = inr (n, e)
 append_at (y ∷ xs) ys zero x e = inl e
 append_at (y ∷ xs) ys (suc n) x e = append_at xs ys n x e
-
-mapped : {A B : Type 0} (f : A → B) (o : Option A) (y : B) → option_map f o ≡ Some y → (x : A) × (o ≡ Some x)
-    × (f x ≡ y)
-mapped f None y e = absurd (none-some y e)
-mapped f (Some x) y e = (x, refl, same_Some (f x) y e)
 
 pub listed_at : {A : Type 0} (xs : List A) (i : ℕ) (x : A) → slice_get xs i ≡ Some x → Contains xs x
 listed_at xs i x e = (i, slice_get_within xs i x e, get_or_from_slice_get xs i x x e)
@@ -117,7 +113,7 @@ noted_in : (o : Option NotedEntry) (index : ℕ) (says : PlainDeclaration) →
     → (d : NotedDeclaration) × (slice_get (declared_in o) index ≡ Some d) × (erase_declaration d ≡ says)
 noted_in None index says e = absurd (none-some says e)
 noted_in (Some entry) index says e =
-    mapped erase_declaration (slice_get entry.tree.declarations index) says
+    map_some erase_declaration (slice_get entry.tree.declarations index) says
     (sym (slice_get-map erase_declaration entry.tree.declarations index) ∙ e)
 
 pub noted_there : (program : List ModuleParts) (noted : List NotedParts) → erase_program noted ≡ program →
@@ -125,7 +121,7 @@ pub noted_there : (program : List ModuleParts) (noted : List NotedParts) → era
     → slice_get (declarations_in m.body) index ≡ Some says → (d : NotedDeclaration)
     × (slice_get (body_at noted place) index ≡ Some d) × (erase_declaration d ≡ says)
 noted_there program noted erased place index m says is e =
-    let its = mapped erase_parts (slice_get noted place) m
+    let its = map_some erase_parts (slice_get noted place) m
     (sym (slice_get-map erase_parts noted place) ∙ ap (λ p. slice_get p place) erased ∙ is) in
     let found = noted_in its.0.body index says
     (ap (λ (x : ModuleParts). slice_get (declarations_in x.body) index) its.2 ∙ e) in

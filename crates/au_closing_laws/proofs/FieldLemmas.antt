@@ -2,11 +2,11 @@
 use Rattle.std.proofs.Common.{◌≡◌, ◌⊎◌, inl, inr, ℕ, Bool, true, false, ◌&&◌, cond, true≢false, List, [], ◌∷◌}
 use Rattle.std.proofs.Common.{map, find, Option, None, Some, refl, sym, ap, ◌∙◌, subst}
 use Rattle.std.specs.Prelude.{IsTrue, slice_get, is_none, ◌||◌, ◌==◌}
-use Rattle.std.specs.Option.{option_map}
 use Rattle.std.specs.Str.{bytes_eq}
 use Rattle.std.proofs.lemmas.Bool.{and_parts}
 use Rattle.std.proofs.lemmas.Option.{none-some, same_Some}
 use Rattle.std.proofs.lemmas.Slice.Eq.{bytes_eq-Decides}
+use Rattle.au_base.proofs.OptionLemmas.{map_some}
 use Rattle.au_syntax.specs.declared.declarations.Universe.{Universe}
 use Rattle.au_syntax.specs.declared.modules.Part.TheVariants.{Interface, Body}
 use Rattle.au_syntax.specs.Forms.{formed_declaration}
@@ -47,11 +47,6 @@ use Rattle.au_closing_laws.specs.Standing.{EachStand, FieldsStand}
 use Rattle.au_closing_laws.proofs.DefinitionLemmas.{IsThere, stands_in}
 use Rattle.au_closing_laws.proofs.HeadLemmas.{Declares, row_stands}
 use Rattle.au_closing_laws.proofs.OutsideStandLemmas.{typed_stand}
-
-mapped : {A B : Type 0} (f : A → B) (o : Option A) (y : B) → option_map f o ≡ Some y → (x : A) × (o ≡ Some x)
-    × (f x ≡ y)
-mapped f None y e = absurd (none-some y e)
-mapped f (Some x) y e = (x, refl, same_Some (f x) y e)
 
 -- ---- arguments for type parameters
 
@@ -216,7 +211,7 @@ module _ (program : List ModuleParts) (parts : AreOfParts program) (good : IsGoo
       by None has fit = absurd (true≢false (sym fit))
       by (Some head) has fit =
           let same = params_agree at d defined head has (a_type false n.name ps u) (ap type_declared is) in
-          let its = mapped (map (typed_under (with_arguments (map parameter ps) args)))
+          let its = map_some (map (typed_under (with_arguments (map parameter ps) args)))
           (all_typed program d (map parameter ps) written) fields e in
           subst (EachStand (heads_of program) params) its.2
           (under_stand (heads_of program) params (map parameter ps) args

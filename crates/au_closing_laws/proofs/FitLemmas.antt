@@ -8,6 +8,7 @@ use Rattle.std.specs.Str.{bytes_eq}
 use Rattle.std.proofs.lemmas.List.Elements.{Contains-append_left, Contains-append_right}
 use Rattle.std.proofs.lemmas.Option.{none-some, same_Some}
 use Rattle.std.proofs.lemmas.Slice.Eq.{bytes_eq-Decides}
+use Rattle.au_base.proofs.ListLemmas.{nothing_there, Contains-first, Contains-cases}
 use Rattle.au_syntax.specs.declared.declarations.Universe.{Universe}
 use Rattle.au_syntax.specs.declared.declarations.Universe.TheVariants as universes
 use Rattle.au_syntax.specs.Plain.{Bytes}
@@ -25,14 +26,12 @@ use Rattle.au_instances.specs.Instances.{Holds, Known}
 use Rattle.au_instances.specs.Pairs.{Pair, constraints_of}
 use Rattle.au_instances.specs.Tables.{IsTable}
 use Rattle.au_instances.proofs.PairLemmas.{constraint_listed, none_holds}
-use Rattle.au_instances.proofs.TableLemmas.{Contains-cases, Contains-first}
 use Rattle.au_typing.specs.Scopes.{Scope, Typed}
 use Rattle.au_typing.specs.Calls.{GoodCall, Shown, first_lacking, first_misfit, first_unfixed, is_fixed}
 use Rattle.au_typing.specs.Calls.{lacking_at, value_fits, wanted_of}
 use Rattle.au_typing.specs.Lookups.{parameters_in}
 use Rattle.au_typing.specs.Notes.{Note}
 use Rattle.au_closed_trees.specs.TypeNames.{is_region}
-use Rattle.au_closing_laws.proofs.TypedCallLemmas.{nothing_there}
 
 -- ---- each type parameter stands for a type
 

@@ -5,7 +5,7 @@ use Rattle.std.proofs.Common.{subst, arith}
 use Rattle.std.specs.Prelude.{◌<◌, Contains, IsTrue, filter, slice_get, is_some}
 use Rattle.std.specs.List.{list_all}
 use Rattle.std.specs.Str.{bytes_eq}
-use Rattle.std.proofs.lemmas.Bool.{and_parts, leb-false, leb-true, lt-leb}
+use Rattle.std.proofs.lemmas.Bool.{and_parts, leb-false, leb-true, lt-leb, not-true}
 use Rattle.std.proofs.lemmas.Option.{none-some, same_Some}
 use Rattle.au_base.specs.declared.places.Pos.{Pos}
 use Rattle.au_shipped.specs.declared.prims.ShippedCall.{ShippedCall}
@@ -24,6 +24,7 @@ use Rattle.au_modules.specs.Programs.{is_shipped, is_user_body, module_of, modul
 use Rattle.au_names.proofs.AmongLemmas.{Among, among-append, among-append_left, among-append_right, contains}
 use Rattle.au_names.specs.Owned.{declarations_in}
 use Rattle.au_closing_laws.specs.Gathered.{IsGathered, IsParsed, entry_of}
+use Rattle.au_classes.proofs.ListLemmas.{found_passes}
 
 -- ---- lists
 
@@ -46,15 +47,6 @@ pub among_get : {A : Type 0} (xs : List A) (i : ℕ) (x : A) → slice_get xs i 
 among_get [] i x e = absurd (none-some x e)
 among_get (y ∷ xs) zero x e = inl (same_Some y x e)
 among_get (y ∷ xs) (suc i) x e = inr (among_get xs i x e)
-
-pub among_find : {A : Type 0} (t : A → Bool) (xs : List A) (x : A) → find t xs ≡ Some x → Among x xs × (t x ≡ true)
-among_find t [] x e = absurd (none-some x e)
-among_find t (y ∷ xs) x e = by (t y) refl (among_find t xs x) e
-  where
-    by : (b : Bool) → t y ≡ b → (find t xs ≡ Some x → Among x xs × (t x ≡ true)) → cond b (Some y) (find t xs)
-        ≡ Some x → Among x (y ∷ xs) × (t x ≡ true)
-    by true is later e = let same = same_Some y x e in (inl same, ap t (sym same) ∙ is)
-    by false is later e = let its = later e in (inr its.0, its.1)
 
 pub all_among : {A : Type 0} (t : A → Bool) (x : A) (xs : List A) → list_all t xs ≡ true → Among x xs → t x ≡ true
 all_among t x [] h m = absurd m
@@ -90,10 +82,6 @@ part_is Body e = cc
 part_is_body : (p : Part) → is_interface p ≡ false → p ≡ Body
 part_is_body Interface e = cc
 part_is_body Body e = refl
-
-not_true : (b : Bool) → not b ≡ true → b ≡ false
-not_true true e = cc
-not_true false e = refl
 
 declared_formed : (e : Entry) → formed_module e.tree ≡ true → list_all (formed_declaration e.tree.part)
     e.tree.declarations ≡ true
@@ -160,9 +148,9 @@ module _ (program : List ModuleParts) (is : IsGathered program) where
           let both = and_parts (not (is_shipped its.0)) (not (is_interface its.0.tree.part)) from.1 in
           inr (
             its.0,
-            other its.0 (not_true (is_shipped its.0) both.0)
+            other its.0 (not-true (is_shipped its.0) both.0)
                 (among-append shipped is.own its.0 from.0),
-            not_true (is_interface its.0.tree.part) both.1,
+            not-true (is_interface its.0.tree.part) both.1,
             its.2,
           )
 
@@ -185,7 +173,7 @@ module _ (program : List ModuleParts) (is : IsGathered program) where
           slice_get (declarations_in o) index ≡ Some says → formed_declaration Interface says ≡ true
       within name None found at = absurd (none-some says at)
       within name (Some x) found at =
-          let its = among_find (is_interface_of name) files x found in
+          let its = found_passes (is_interface_of name) files x found in
           in_formed x Interface its.0 (part_is x.tree.part
           (and_parts (is_interface x.tree.part) (bytes_eq name (joined x.tree.name)) its.1).0) index says at
 

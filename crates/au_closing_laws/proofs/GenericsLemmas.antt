@@ -5,6 +5,7 @@ use Rattle.std.specs.Prelude.{◌≢◌, Contains, if◌then◌else◌, is_some,
 use Rattle.std.specs.Option.{option_and_then, option_map, option_or}
 use Rattle.std.proofs.lemmas.List.Elements.{Contains-append_left, Contains-append_right}
 use Rattle.std.proofs.lemmas.Option.{none-some, same_Some, slice_get-map}
+use Rattle.au_base.proofs.ListLemmas.{Contains-first, Contains-rest}
 use Rattle.au_syntax.specs.declared.declarations.Universe.{Universe}
 use Rattle.au_syntax.specs.declared.declarations.Universe.TheVariants as universes
 use Rattle.au_syntax.specs.declared.modules.Part.{Part}
@@ -32,7 +33,6 @@ use Rattle.au_formed.specs.Text.{Spot, module_spots, spots_from, text_from, visi
 use Rattle.au_formed.specs.Writings.{Writing, a_class, a_universe, bound_writings, class_writings}
 use Rattle.au_formed.specs.Writings.{generic_writings, header_writings, instance_writings, writings}
 use Rattle.au_rules.specs.Good.{AllDeclarationsAreGood}
-use Rattle.au_instances.proofs.TableLemmas.{Contains-first, Contains-rest}
 use Rattle.au_typing.specs.Written.{seen_in, types_at}
 use Rattle.au_typing.specs.Bodies.{generics_in}
 use Rattle.au_typing.specs.Trees.{NotedDeclaration, NotedEntry, NotedMethod, NotedParts, erase_declaration}

@@ -1,5 +1,5 @@
 -- The row of a declared type has the type parameters that its declaration has, and what defines it.
-use Rattle.std.proofs.Common.{◌≡◌, ◌⊎◌, inl, inr, ℕ, zero, suc, ◌+◌, Bool, true, false, not, cond, List, []}
+use Rattle.std.proofs.Common.{◌≡◌, ◌⊎◌, inl, inr, ℕ, suc, ◌+◌, Bool, true, false, not, cond, List, []}
 use Rattle.std.proofs.Common.{◌∷◌, ◌++◌, length, map, find, Option, None, Some, refl, sym, ap, ◌∙◌, subst}
 use Rattle.std.proofs.Common.{arith}
 use Rattle.std.specs.Prelude.{Contains, filter, slice_get}
@@ -8,6 +8,7 @@ use Rattle.std.specs.Map.{lookup}
 use Rattle.std.specs.Option.{option_map}
 use Rattle.std.specs.Str.{bytes_eq}
 use Rattle.std.proofs.lemmas.Option.{none-some, same_Some}
+use Rattle.au_base.proofs.ListLemmas.{in_either}
 use Rattle.au_syntax.specs.declared.modules.Part.TheVariants.{Interface, Body}
 use Rattle.au_syntax.specs.Plain.{Bytes, PlainDeclaration}
 use Rattle.au_types.specs.DeclaredNames.{numbered, type_names}
@@ -58,17 +59,6 @@ lookup_among (row ∷ rows) at head e = by (same_place at row.0) refl e (lookup_
     by true is e later = inl (ap (λ a. (a, row.1)) (sym (place_is at row.0 is))
         ∙ ap (λ h. (at, h)) (same_Some row.1 head e))
     by false is e later = inr (later e)
-
-pub in_either : {A : Type 0} (xs ys : List A) (k : ℕ) (x : A) → slice_get (xs ++ ys) k ≡ Some x →
-    (slice_get xs k ≡ Some x) ⊎ ((j : ℕ) × (k ≡ length xs + j) × (slice_get ys j ≡ Some x))
-in_either [] ys k x e = let same : k ≡ 0 + k = omega arith in inr (k, same, e)
-in_either (y ∷ xs) ys zero x e = inl e
-in_either (y ∷ xs) ys (suc k) x e = on (in_either xs ys k x e)
-  where
-    on : (slice_get xs k ≡ Some x) ⊎ ((j : ℕ) × (k ≡ length xs + j) × (slice_get ys j ≡ Some x))
-        → (slice_get (y ∷ xs) (suc k) ≡ Some x) ⊎ ((j : ℕ) × (suc k ≡ length (y ∷ xs) + j) × (slice_get ys j ≡ Some x))
-    on (inl here) = inl here
-    on (inr r) = let next : suc k ≡ suc (length xs) + r.0 = omega (arith, r.1) in inr (r.0, next, r.2)
 
 -- ---- the declaration of a row
 

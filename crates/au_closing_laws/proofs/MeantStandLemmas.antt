@@ -8,6 +8,7 @@ use Rattle.std.specs.Str.{bytes_eq}
 use Rattle.std.proofs.lemmas.Bool.{and_from}
 use Rattle.std.proofs.lemmas.Option.{none-some, same_Some}
 use Rattle.au_base.specs.declared.kinds.IntKind.TheVariants.{Nat8}
+use Rattle.au_base.proofs.OptionLemmas.{map_some}
 use Rattle.au_syntax.specs.declared.declarations.Universe.{Universe}
 use Rattle.au_syntax.specs.declared.declarations.Universe.TheVariants as universes
 use Rattle.au_syntax.specs.declared.types.Access.{Access}
@@ -28,21 +29,11 @@ use Rattle.au_types.specs.Universes.{universe_in}
 use Rattle.au_matching.specs.Forming.{StandsOver, all_fit, all_formed, argument_formed, fit_row, fits_in_kind}
 use Rattle.au_matching.specs.Forming.{is_formed}
 use Rattle.au_matching.specs.Universes.{of_parameter}
-use Rattle.au_types.specs.Meant.{Given, all_given, applied, argument_meant, arguments_meant, followed, meant}
+use Rattle.au_types.specs.Meant.{Given, all_given, applied, argument_meant, arguments_meant, meant}
 use Rattle.au_types.specs.Meant.{refers, region_meant, region_of, span_of}
 use Rattle.au_types.specs.Senses.{Sense, a_class, a_region, a_span, a_type, built_in, declared}
 use Rattle.au_types.specs.Senses.{declared_sense, open_region, outer_sense, parameter_sense, sense_of}
-
-mapped : {A B : Type 0} (f : A → B) (o : Option A) (y : B) → option_map f o ≡ Some y → (x : A) × (o ≡ Some x)
-    × (f x ≡ y)
-mapped f None y e = absurd (none-some y e)
-mapped f (Some x) y e = (x, refl, same_Some (f x) y e)
-
-both : (o : Option Argument) (p : Option Arguments) (args : Arguments) → followed o p ≡ Some args →
-    (one : Argument) × (rest : Arguments) × (o ≡ Some one) × (p ≡ Some rest) × (mean.arguments one rest ≡ args)
-both None p args e = absurd (none-some args e)
-both (Some one) None args e = absurd (none-some args e)
-both (Some one) (Some rest) args e = (one, rest, refl, refl, same_Some (mean.arguments one rest) args e)
+use Rattle.au_types.proofs.MeantLemmas.{followed_both}
 
 referred : (kind : Access) (o : Option Meaning) (r : Option Region) (t : Meaning) → refers kind o r ≡ Some t →
     (to : Meaning) × (o ≡ Some to)
@@ -154,22 +145,22 @@ module _ (opened : List Bytes) (params : List Parameter) (visible : List (Bytes 
       → (fits_in_kind u one ≡ true) × (argument_formed fits_in_kind heads params one ≡ true)
   unfolding argument_formed
   type_fits universes.Region given one e stands =
-      let its = mapped in_region given.as_region one e in (
+      let its = map_some in_region given.as_region one e in (
         subst (λ a. fits_in_kind universes.Region a ≡ true) its.2 refl,
         subst (λ a. argument_formed fits_in_kind heads params a ≡ true) its.2 refl,
       )
   type_fits universes.Free given one e stands =
-      let its = mapped of_type given.as_type one e in (
+      let its = map_some of_type given.as_type one e in (
         subst (λ a. fits_in_kind universes.Free a ≡ true) its.2 refl,
         subst (λ a. argument_formed fits_in_kind heads params a ≡ true) its.2 (stands its.0 its.1),
       )
   type_fits universes.Linear given one e stands =
-      let its = mapped of_type given.as_type one e in (
+      let its = map_some of_type given.as_type one e in (
         subst (λ a. fits_in_kind universes.Linear a ≡ true) its.2 refl,
         subst (λ a. argument_formed fits_in_kind heads params a ≡ true) its.2 (stands its.0 its.1),
       )
   type_fits universes.AnyType given one e stands =
-      let its = mapped of_type given.as_type one e in (
+      let its = map_some of_type given.as_type one e in (
         subst (λ a. fits_in_kind universes.AnyType a ≡ true) its.2 refl,
         subst (λ a. argument_formed fits_in_kind heads params a ≡ true) its.2 (stands its.0 its.1),
       )
@@ -193,7 +184,8 @@ module _ (opened : List Bytes) (params : List Parameter) (visible : List (Bytes 
             (all_fit fits_in_kind ps list ≡ true) × (all_formed fits_in_kind heads params list ≡ true))
             → Stands t
         by args (Some (declared at ps)) fine e each =
-            let its = mapped (mean.named at) (arguments_meant ps (all_given opened params visible heads args)) t e in
+            let its = map_some (mean.named at)
+            (arguments_meant ps (all_given opened params visible heads args)) t e in
             let parts = each ps its.0 its.1 in
             subst Stands its.2 (and_from (fit_row fits_in_kind (head_of heads at) its.0)
             (all_formed fits_in_kind heads params its.0)
@@ -221,7 +213,7 @@ module _ (opened : List Bytes) (params : List Parameter) (visible : List (Bytes 
     arguments_stand [] (types w rest) list e = absurd (none-some list e)
     arguments_stand (p ∷ ps) no_types list e = absurd (none-some list e)
     arguments_stand (p ∷ ps) (types w rest) list e =
-        let its = both (argument_meant p.universe
+        let its = followed_both (argument_meant p.universe
         (record {
           as_type = meant opened params visible heads w;
           as_region =

@@ -1,6 +1,6 @@
 -- Each row that gives a class at a closed type has each method of the class there.
 use Rattle.std.proofs.Common.{◌≡◌, ◌⊎◌, inl, inr, ℕ, zero, suc, ◌+◌, Bool, true, false, cond, List, [], ◌∷◌}
-use Rattle.std.proofs.Common.{◌++◌, length, map, find, Option, None, Some, refl, sym, ap, ◌∙◌, subst, arith}
+use Rattle.std.proofs.Common.{◌++◌, length, map, find, Option, None, Some, refl, sym, ap, ◌∙◌, subst}
 use Rattle.std.specs.Prelude.{Contains, slice_get}
 use Rattle.std.specs.List.{position, position_or_len}
 use Rattle.std.specs.Option.{option_and_then, option_map}
@@ -9,6 +9,7 @@ use Rattle.std.proofs.lemmas.List.Folds.{find_at}
 use Rattle.std.proofs.lemmas.Option.{none-some, same_Some}
 use Rattle.std.proofs.lemmas.Slice.Eq.{bytes_eq-Decides}
 use Rattle.au_base.specs.declared.places.Pos.{Pos}
+use Rattle.au_base.proofs.ListLemmas.{nothing_there, Contains-cases}
 use Rattle.au_syntax.specs.declared.modules.Part.TheVariants.{Interface, Body}
 use Rattle.au_syntax.specs.Modules.{Constrained, Header, InUniverse, constant, opaque_type, record_type}
 use Rattle.au_syntax.specs.Modules.{union_type, function, class, instance, constant_body, function_body}
@@ -33,7 +34,6 @@ use Rattle.au_promises.proofs.DecidingLemmas.{keeps_decides}
 use Rattle.au_promises.proofs.FulfilledLemmas.{kept_passes}
 use Rattle.au_instances.specs.ClosedInstances.{ClosedInstance, by_row}
 use Rattle.au_instances.specs.Rows.{Row}
-use Rattle.au_instances.proofs.TableLemmas.{Contains-cases, Contains-first, Contains-rest}
 use Rattle.au_classes.specs.Classes.{ClassText, class_at, class_in, class_standing, visible_at}
 use Rattle.au_classes.specs.Methods.{AreMethods}
 use Rattle.au_classes.specs.Texts.{InstanceText, instances_of, methods_in}
@@ -58,9 +58,6 @@ use Rattle.au_closing_laws.proofs.MeantLemmas.{placed}
 use Rattle.au_closing_laws.proofs.ShippedMethodLemmas.{shipped_methods, stands_defined, stands_promised}
 use Rattle.au_closing_laws.proofs.TableLemmas.{read_of}
 use Rattle.au_closing_laws.proofs.TextLemmas.{IsDefined, IsPromised, Says, row_read, text_stands}
-
-nothing_there : {A : Type 0} (x : A) → Contains [] x → ⊥
-nothing_there x c = omega arith
 
 -- ---- lists
 

@@ -8,6 +8,7 @@ use Rattle.std.specs.Str.{bytes_eq}
 use Rattle.std.proofs.lemmas.List.Elements.{Contains-append_cases}
 use Rattle.std.proofs.lemmas.Option.{none-some, same_Some}
 use Rattle.au_base.specs.declared.kinds.IntKind.{IntKind}
+use Rattle.au_base.proofs.ListLemmas.{nothing_there, Contains-cases}
 use Rattle.au_syntax.specs.declared.declarations.Universe.{Universe}
 use Rattle.au_syntax.specs.declared.expressions.BinaryOperator.{BinaryOperator}
 use Rattle.au_syntax.specs.declared.expressions.BorrowMode.{BorrowMode}
@@ -60,7 +61,6 @@ use Rattle.au_typing.specs.InScope.{with_variable}
 use Rattle.au_typing.specs.Parts.{access_of, borrow_type, lent, mode_for}
 use Rattle.au_typing.specs.Statements.{GoodArmBlocks, GoodBlock, GoodBranches, GoodStatement, IsReference}
 use Rattle.au_typing.specs.Trees.{NotedArms, NotedBranches, NotedStatement, NotedStatements}
-use Rattle.au_instances.proofs.TableLemmas.{Contains-cases}
 use Rattle.au_closed_trees.specs.Calls.{calls_in, calls_in_all, calls_in_arguments, calls_in_arms}
 use Rattle.au_closed_trees.specs.Calls.{calls_in_block, calls_in_branches, calls_in_statement}
 use Rattle.au_closing_laws.specs.Targets.{Call}
@@ -68,7 +68,6 @@ use Rattle.au_closing_laws.specs.Standing.{EachStand, OutsideStands}
 use Rattle.au_closing_laws.proofs.StandLemmas.{EachLasts, EachMode, ModeStands, Stands as StandsThere}
 use Rattle.au_closing_laws.proofs.StandLemmas.{TakesWell, ValuesStand, by_labels_well, call_stands}
 use Rattle.au_closing_laws.proofs.StandLemmas.{in_order_well, named_stand}
-use Rattle.au_closing_laws.proofs.TypedCallLemmas.{nothing_there}
 
 -- a call, as it is listed
 abbrev listed : Note → Unit {0} → Bytes → List Call

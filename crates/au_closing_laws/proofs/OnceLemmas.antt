@@ -9,6 +9,7 @@ use Rattle.std.specs.Str.{bytes_eq}
 use Rattle.std.proofs.lemmas.Grind.{flat_map-append}
 use Rattle.std.proofs.lemmas.Option.{none-some, same_Some}
 use Rattle.std.proofs.lemmas.Slice.Eq.{bytes_eq-Decides}
+use Rattle.std.proofs.lemmas.List.{map-append}
 use Rattle.au_base.specs.declared.places.Pos.{Pos}
 use Rattle.au_syntax.specs.declared.declarations.Universe.{Universe}
 use Rattle.au_syntax.specs.declared.modules.Part.{Part}
@@ -36,10 +37,6 @@ use Rattle.au_rules.specs.Once.{opened, text_of}
 use Rattle.au_rules.specs.Outside.{outside}
 
 -- ---- lists
-
-pub map_append : {A B : Type 0} (f : A → B) (xs ys : List A) → map f (xs ++ ys) ≡ map f xs ++ map f ys
-map_append f [] ys = refl
-map_append f (x ∷ xs) ys = ap (λ l. f x ∷ l) (map_append f xs ys)
 
 -- a list that is cut before an item lies in one of two
 cut : {A : Type 0} (xs ys : List A) (x : A) (first rest : List A) → xs ++ ys ≡ first ++ x ∷ rest
@@ -294,7 +291,7 @@ marks_apart all a c ps new e qs q rest is = by (universe_in (map parameter qs) q
     at_q : all ≡ (a ++ map parameter_mark qs) ++ parameter_mark q ∷ (map parameter_mark rest ++ c)
     at_q =
         e ∙ ap (λ l. a ++ (map parameter_mark l ++ c)) is
-        ∙ ap (λ l. a ++ (l ++ c)) (map_append parameter_mark qs (q ∷ rest))
+        ∙ ap (λ l. a ++ (l ++ c)) (map-append parameter_mark qs (q ∷ rest))
         ∙ ap (λ l. a ++ l) (append_assoc (map parameter_mark qs) (parameter_mark q ∷ map parameter_mark rest) c)
         ∙ sym (append_assoc a (map parameter_mark qs) (parameter_mark q ∷ (map parameter_mark rest ++ c)))
 
@@ -314,7 +311,7 @@ marks_apart all a c ps new e qs q rest is = by (universe_in (map parameter qs) q
           map parameter_mark behind,
           p.name.at,
           ap (λ l. a ++ map parameter_mark l) its.3
-              ∙ ap (λ l. a ++ l) (map_append parameter_mark before (p ∷ behind))
+              ∙ ap (λ l. a ++ l) (map-append parameter_mark before (p ∷ behind))
               ∙ sym (append_assoc a (map parameter_mark before) (parameter_mark p ∷ map parameter_mark behind))
               ∙ ap (λ n. (a ++ map parameter_mark before) ++ Declares Local Types n p.name.at ∷ map
               parameter_mark behind) its.4,

@@ -1,8 +1,8 @@
 -- What a part of a module sees outside of functions stands, where the types of records and unions do and the
 -- fields of types that stand.
 use Rattle.std.proofs.Common.{◌≡◌, ℕ, false, List, [], ◌∷◌, find, map, Option, None, Some, refl, sym, ap, ◌∙◌, subst}
-use Rattle.std.specs.Option.{option_map}
 use Rattle.std.proofs.lemmas.Option.{none-some, same_Some}
+use Rattle.au_base.proofs.OptionLemmas.{map_some}
 use Rattle.au_syntax.specs.declared.modules.Part.{Part}
 use Rattle.au_syntax.specs.Modules.{Constrained, Header, Variant, constant, opaque_type, record_type}
 use Rattle.au_syntax.specs.Modules.{union_type, function, class, instance, constant_body, function_body}
@@ -33,11 +33,6 @@ use Rattle.au_typing.specs.Written.{all_typed, followed, meant_in, seen_at, type
 use Rattle.au_typing.proofs.MakerLemmas.{made}
 use Rattle.au_closing_laws.specs.Standing.{EachStand, FieldsStand, OutsideStands, OwnTypesStand}
 use Rattle.au_closing_laws.proofs.MeantStandLemmas.{meant_stands}
-
-mapped : {A B : Type 0} (f : A → B) (o : Option A) (y : B) → option_map f o ≡ Some y → (x : A) × (o ≡ Some x)
-    × (f x ≡ y)
-mapped f None y e = absurd (none-some y e)
-mapped f (Some x) y e = (x, refl, same_Some (f x) y e)
 
 -- what is called has parameters and a result that stand
 abbrev CallableStandsIn : List ModuleParts → Callable → Type 0
@@ -72,7 +67,8 @@ module _ (program : List ModuleParts) (d : Standing) where
       by None is p its e later = absurd (none-some out e)
       by (Some x) is None its e later = absurd (none-some out e)
       by (Some x) is (Some others) its e later =
-          let from = mapped (λ t. record { name = one.name.name; of = t }) (meant_in program d params one.of) x is in
+          let from = map_some (λ t. record { name = one.name.name; of = t })
+          (meant_in program d params one.of) x is in
           subst (All params) (same_Some (x ∷ others) out e) (
             subst (Stands params) (ap (λ (y : Typed). y.of) from.2) (in_stands params one.of from.0 from.1),
             later others its,

@@ -1,5 +1,5 @@
 -- The type of a record or union, with its type parameters as arguments, stands over these.
-use Rattle.std.proofs.Common.{◌≡◌, ◌⊎◌, inl, inr, ℕ, zero, suc, ◌+◌, ◌<◌, Bool, true, false, ◌&&◌, cond, List}
+use Rattle.std.proofs.Common.{◌≡◌, ◌⊎◌, inl, inr, ℕ, zero, suc, ◌+◌, ◌<◌, Bool, true, false, cond, List}
 use Rattle.std.proofs.Common.{[], ◌∷◌, ◌++◌, length, map, find, Option, None, Some, refl, sym, ap, ◌∙◌, subst}
 use Rattle.std.proofs.Common.{append_assoc, arith}
 use Rattle.std.specs.Prelude.{is_some, slice_get}
@@ -9,6 +9,9 @@ use Rattle.std.specs.Option.{option_map}
 use Rattle.std.specs.Str.{bytes_eq}
 use Rattle.std.proofs.lemmas.Option.{none-some, same_Some}
 use Rattle.std.proofs.lemmas.Slice.Eq.{bytes_eq-Decides}
+use Rattle.std.proofs.lemmas.Bool.{and_from}
+use Rattle.au_base.proofs.OptionLemmas.{map_some}
+use Rattle.au_base.proofs.ListLemmas.{in_either, get_right}
 use Rattle.au_syntax.specs.declared.declarations.Universe.{Universe}
 use Rattle.au_syntax.specs.declared.declarations.Universe.TheVariants as universes
 use Rattle.au_syntax.specs.declared.modules.Part.{Part}
@@ -42,6 +45,7 @@ use Rattle.au_names.specs.Standing.{definition_of, is_named, is_whole, module_st
 use Rattle.au_names.specs.Standing.{standing_at, standing_from, standing_in, whole_name}
 use Rattle.au_names.proofs.AmongLemmas.{Among, among-append_left, among-append_right, among-flat_map}
 use Rattle.au_names.proofs.AmongLemmas.{among-flat_map_from}
+use Rattle.au_names.proofs.DefinitionLemmas.{named as whole_is}
 use Rattle.au_rules.specs.Marks.{type_role}
 use Rattle.au_rules.specs.Once.{AllNamesAreOnce, AreNew}
 use Rattle.au_rules.specs.declared.marks.Role.{Role}
@@ -53,19 +57,9 @@ use Rattle.au_closing_laws.specs.Standing.{OwnTypesStand}
 use Rattle.au_closing_laws.proofs.DefinitionLemmas.{IsThere, stands_in}
 use Rattle.au_closing_laws.proofs.FieldLemmas.{params_agree}
 use Rattle.au_closing_laws.proofs.GatheredLemmas.{among_map}
-use Rattle.au_closing_laws.proofs.HeadLemmas.{in_either, numbered_among, standing_numbered}
-use Rattle.au_closing_laws.proofs.OnceLemmas.{AreApart, map_append, module_new, nothing, parameters_apart}
+use Rattle.au_closing_laws.proofs.HeadLemmas.{numbered_among, standing_numbered}
+use Rattle.au_closing_laws.proofs.OnceLemmas.{AreApart, module_new, nothing, parameters_apart}
 use Rattle.au_closing_laws.proofs.OnceLemmas.{role_of, said, two_types}
-use Rattle.au_closing_laws.proofs.ShippedMethodLemmas.{get_right}
-
-mapped : {A B : Type 0} (f : A → B) (o : Option A) (y : B) → option_map f o ≡ Some y → (x : A) × (o ≡ Some x)
-    × (f x ≡ y)
-mapped f None y e = absurd (none-some y e)
-mapped f (Some x) y e = (x, refl, same_Some (f x) y e)
-
-both : (a b : Bool) → a ≡ true → b ≡ true → (a && b) ≡ true
-both true b p q = q
-both false b p q = absurd cc
 
 ordered : (i j : ℕ) → (i < j) ⊎ ((i ≡ j) ⊎ (j < i))
 ordered zero zero = inr (inl refl)
@@ -104,7 +98,7 @@ all_fit_themselves : (ps : List (InUniverse Bytes)) → all_fit fits_in_kind (ma
     (as_arguments (map parameter ps)) ≡ true
 all_fit_themselves [] = refl
 all_fit_themselves (p ∷ ps) =
-    both (fits_in_kind p.universe (as_argument (parameter p)))
+    and_from (fits_in_kind p.universe (as_argument (parameter p)))
     (all_fit fits_in_kind (map parameter ps) (as_arguments (map parameter ps)))
     (fits_itself p.name.name p.universe) (all_fit_themselves ps)
 
@@ -123,7 +117,7 @@ module _ (heads : List (DeclAt × Head)) where
   unfolding all_formed
   all_formed_themselves ps apart qs [] e = refl
   all_formed_themselves ps apart qs (q ∷ rest) e =
-      both (argument_formed fits_in_kind heads (map parameter ps) (as_argument (parameter q)))
+      and_from (argument_formed fits_in_kind heads (map parameter ps) (as_argument (parameter q)))
       (all_formed fits_in_kind heads (map parameter ps) (as_arguments (map parameter rest)))
       (formed_itself (map parameter ps) q.name.name q.universe
       (ap (λ l. universe_in (map parameter l) q.name.name) e ∙ universe_at qs q rest (apart qs q rest e)))
@@ -135,7 +129,7 @@ module _ (heads : List (DeclAt × Head)) where
       → StandsOver heads (map parameter ps) (named at (as_arguments (map parameter ps)))
   unfolding is_formed
   itself_stands at head ps has same apart =
-      both (fit_row fits_in_kind (head_of heads at) (as_arguments (map parameter ps)))
+      and_from (fit_row fits_in_kind (head_of heads at) (as_arguments (map parameter ps)))
       (all_formed fits_in_kind heads (map parameter ps) (as_arguments (map parameter ps)))
       (ap (λ o. fit_row fits_in_kind o (as_arguments (map parameter ps))) has
       ∙ ap (λ qs. all_fit fits_in_kind qs (as_arguments (map parameter ps))) same ∙ all_fit_themselves ps)
@@ -287,10 +281,6 @@ definition_in_body Interface (opaque_type at n ps u) is = absurd cc
 definition_in_body Interface (record_type at n ps u fields) is = absurd cc
 definition_in_body Interface (union_type at n ps u cases) is = absurd cc
 definition_in_body Interface other is = absurd cc
-
-whole_is : (name : Bytes) (o : Option Bytes) → is_named name o ≡ true → o ≡ Some name
-whole_is name None e = absurd cc
-whole_is name (Some other) e = ap (λ x. Some x) (sym ((bytes_eq-Decides name other).0 e))
 
 of_part : (place first : ℕ) (part : Part) (ds : List PlainDeclaration) (k : ℕ) (d : Standing) →
     slice_get (standing_from place part first ds) k ≡ Some d → d.part ≡ part
@@ -491,7 +481,7 @@ module _ (program : List ModuleParts) (parts : AreOfParts program) (good : IsGoo
 
     own_here : (t : Meaning) → d.place ≡ at.«module» →
         type_itself program d.place name (map parameter one.parameters) ≡ Some t → Stands t
-    own_here t place itself = on (mapped (λ x. named x (as_arguments (map parameter one.parameters)))
+    own_here t place itself = on (map_some (λ x. named x (as_arguments (map parameter one.parameters)))
         (type_number program d.place name) t itself)
       where
         last : (x : DeclAt) → named x (as_arguments (map parameter one.parameters)) ≡ t → (meant : Target) →
@@ -514,7 +504,7 @@ module _ (program : List ModuleParts) (parts : AreOfParts program) (good : IsGoo
 
         on : (x : DeclAt) × (type_number program d.place name ≡ Some x)
             × (named x (as_arguments (map parameter one.parameters)) ≡ t) → Stands t
-        on (x, number, is) = to x is (mapped (λ (y : Target). y.at)
+        on (x, number, is) = to x is (map_some (λ (y : Target). y.at)
             (tables.find name (owned Types d.place (slice_get program d.place))) x number)
 
   pub own_types_hold : OwnTypesStand program

@@ -1,5 +1,5 @@
 -- In an accepted program that holds nothing that isn't built, each shipped call that a call leads to is plain.
-use Rattle.std.proofs.Common.{◌≡◌, ◌⊎◌, inl, inr, ℕ, suc, ◌+◌, ◌<◌, Bool, true, false, true≢false, not, ◌&&◌}
+use Rattle.std.proofs.Common.{◌≡◌, ◌⊎◌, inl, inr, ℕ, ◌+◌, ◌<◌, Bool, true, false, true≢false, not, ◌&&◌}
 use Rattle.std.proofs.Common.{◌||◌, List, [], ◌∷◌, ◌++◌, length, map, Option, None, Some, refl, sym, ap, ◌∙◌}
 use Rattle.std.proofs.Common.{subst, arith}
 use Rattle.std.specs.Prelude.{Contains, if◌then◌else◌, slice_get, unwrap_or}
@@ -11,6 +11,8 @@ use Rattle.std.proofs.lemmas.Option.{none-some, slice_get_within}
 use Rattle.std.proofs.lemmas.Slice.Eq.{bytes_eq-Decides}
 use Rattle.au_base.specs.declared.kinds.IntKind.{IntKind}
 use Rattle.au_base.specs.Outside.{Files}
+use Rattle.au_base.proofs.ListLemmas.{get_front, get_right}
+use Rattle.au_base.proofs.OptionLemmas.{map_some}
 use Rattle.au_shipped.specs.declared.prims.ShippedCall.{ShippedCall}
 use Rattle.au_shipped.specs.declared.prims.ShippedCall.TheVariants as prim
 use Rattle.au_shipped.specs.Calls.{call_in, calls, found, prim_of}
@@ -66,9 +68,10 @@ use Rattle.au_closing_laws.proofs.BuiltLemmas.{calls_built}
 use Rattle.au_closing_laws.proofs.CallableLemmas.{IsNamed, called_named, name_in, seen_named}
 use Rattle.au_closing_laws.proofs.FactLemmas.{name_there}
 use Rattle.au_closing_laws.proofs.GatheredLemmas.{all_among, among_map, module_is, ships}
-use Rattle.au_closing_laws.proofs.ShippedMethodLemmas.{class_is_here, get_left, get_right, mapped}
+use Rattle.au_closing_laws.proofs.ShippedMethodLemmas.{class_is_here}
 use Rattle.au_closing_laws.proofs.TableLemmas.{good_table, read_of}
 use Rattle.au_closing_laws.proofs.TextLemmas.{IsDefined, IsPromised, Says, row_read, text_stands}
+use Rattle.au_formed.proofs.GraphLemmas.{among_at}
 
 -- ---- the shipped calls of names that are built
 
@@ -135,11 +138,6 @@ leads_shipped (Some other) one call e = let same : other ≡ call = cc in ap Som
 
 -- ---- shipped modules
 
-at_among : {A : Type 0} (xs : List A) (x : A) → Among x xs → (i : ℕ) × (slice_get xs i ≡ Some x)
-at_among [] x m = absurd m
-at_among (y ∷ xs) x (inl here) = (0, ap Some here)
-at_among (y ∷ xs) x (inr later) = let its = at_among xs x later in (suc its.0, its.1)
-
 found_name : {A : Type 0} (name : Bytes) (modules : List (Bytes × A)) (one : A) → found modules name
     ≡ Some one → Among name (map (λ (row : Bytes × A). row.0) modules)
 found_name name [] one e = absurd (none-some one e)
@@ -176,11 +174,11 @@ module _ (program : List ModuleParts) (is : IsGathered program)
   -- no file of the user's has the name of a shipped module
   other_name : (e x : Entry) → Among e ships_here → Among x is.own → files.module_name e ≡ files.module_name x → ⊥
   other_name e x a b same =
-      let early = at_among ships_here e a in
-      let late = at_among is.own x b in
+      let early = among_at ships_here e a in
+      let late = among_at is.own x b in
       let inside : early.0 < length ships_here = slice_get_within ships_here early.0 e early.1 in
       let once = whole.once early.0 (length ships_here + late.0) e x (before early.0 (length ships_here) late.0 inside)
-      (get_left ships_here is.own early.0 e early.1) (get_right ships_here is.own late.0 ∙ late.1)
+      (get_front ships_here is.own early.0 e early.1) (get_right ships_here is.own late.0 ∙ late.1)
       (is.parsed x (contains is.own x b)).own same in
       true≢false (sym (ships e a) ∙ not_shipped e once.0)
     where
@@ -284,7 +282,7 @@ module _ (program : List ModuleParts) (is : IsGathered program)
           → is_plain call ≡ true
       row_plain name same t row is_row e =
           let home = module_name program row.instance.«module» in
-          let its = mapped (at_type t) (prim_of home name (kind_of t)) call
+          let its = map_some (at_type t) (prim_of home name (kind_of t)) call
           (leads_shipped (option_map (at_type t) (prim_of home name (kind_of t))) _ call e) in
           let of_class = row_here target.at t row
           (closed_row_gave (rows_of program) (heads_of program) table target.at t row is_row) name

@@ -19,12 +19,13 @@ use Rattle.au_names.specs.Standing.{standing_at}
 use Rattle.au_rules.specs.Good.{AllDeclarationsAreGood}
 use Rattle.au_typing.specs.Scopes.{Outside, Scope, Variable}
 use Rattle.au_typing.specs.Outsides.{outside_of}
-use Rattle.au_typing.specs.Faults.{Noting, ◌>>=◌}
+use Rattle.au_typing.specs.Faults.{Noting}
 use Rattle.au_typing.specs.Lookups.{variable_of, written_type}
 use Rattle.au_typing.specs.Notes.{Note}
 use Rattle.au_typing.specs.Bodies.{GoodBody, body_scope, generics_in, outer_scope, with_parameters, with_result}
 use Rattle.au_typing.specs.InScope.{fixed_variable, with_variable}
 use Rattle.au_typing.specs.Trees.{NotedParts}
+use Rattle.au_typing.proofs.Steps.{bind_ok}
 use Rattle.au_outcomes.specs.Faults.{IsDerived}
 use Rattle.au_closing.specs.Bodies.{BodyOf, body_of}
 use Rattle.au_closing_laws.specs.Calls.{IsGoodIn, outside_at, put_for}
@@ -42,11 +43,6 @@ abbrev kept : {A : Type 0} → Noting A → Option A
 kept (Ok x) = Some x
 kept (Err why) = None
 
-then_ok : {A B : Type 0} (o : Noting A) (f : A → Noting B) (y : B) → (o >>= f) ≡ Ok y → (x : A) × (o ≡ Ok x)
-    × (f x ≡ Ok y)
-then_ok (Ok x) f y e = (x, refl, e)
-then_ok (Err why) f y e = absurd (none-some y (ap kept e))
-
 module _ (outside : Outside) (generics : List Bounded) (known : OutsideStands outside) where
   outer_stands : ScopeStands outside generics known (outer_scope outside generics)
   unfolding is_formed
@@ -63,7 +59,7 @@ module _ (outside : Outside) (generics : List Bounded) (known : OutsideStands ou
   parameters_stand [] sc scope stands e = subst (ScopeStands outside generics known)
       (same_Some sc scope (ap kept e)) stands
   parameters_stand (p ∷ rest) sc scope stands e =
-      let its = then_ok (written_type sc p.of)
+      let its = bind_ok (written_type sc p.of)
       (λ of. with_parameters rest (with_variable (fixed_variable p.name.name of) sc)) scope e in
       parameters_stand rest (with_variable (fixed_variable p.name.name its.0) sc) scope
       (variable_added outside generics known (fixed_variable p.name.name its.0) sc stands
@@ -72,7 +68,7 @@ module _ (outside : Outside) (generics : List Bounded) (known : OutsideStands ou
   result_stands : (t : WrittenType) (sc scope : Scope) → ScopeStands outside generics known sc →
       with_result t sc ≡ Ok scope → ScopeStands outside generics known scope
   result_stands t sc scope stands e =
-      let its = then_ok (written_type sc t) (λ of. Ok (record sc { result = of })) scope e in
+      let its = bind_ok (written_type sc t) (λ of. Ok (record sc { result = of })) scope e in
       subst (ScopeStands outside generics known) (same_Some (record sc { result = its.0 }) scope (ap kept its.2))
       (record {
         of_outside = stands.of_outside;
@@ -87,7 +83,7 @@ body_stands : (outside : Outside) (generics : List (Constrained Bytes)) (header 
     (known : OutsideStands outside) (scope : Scope) → body_scope outside generics header ≡ Ok scope
     → ScopeStands outside (generics_in outside generics) known scope
 body_stands outside generics header known scope e =
-    let its = then_ok (with_parameters header.parameters (outer_scope outside (generics_in outside generics)))
+    let its = bind_ok (with_parameters header.parameters (outer_scope outside (generics_in outside generics)))
     (λ sc. with_result header.result sc) scope e in
     result_stands outside (generics_in outside generics) known header.result its.0 scope
     (parameters_stand outside (generics_in outside generics) known header.parameters

@@ -1,6 +1,6 @@
 -- What calls and rows give for type parameters.
 use Rattle.std.proofs.Common.{◌≡◌, ◌⊎◌, inl, inr, ◌||◌, Bool, true, false, cond, List, [], ◌∷◌, Option, None}
-use Rattle.std.proofs.Common.{Some, map, refl, sym, ap, subst, ◌∙◌, true≢false, arith}
+use Rattle.std.proofs.Common.{Some, map, refl, sym, ap, subst, ◌∙◌, true≢false}
 use Rattle.std.specs.Prelude.{Contains, if◌then◌else◌}
 use Rattle.std.specs.List.{list_any}
 use Rattle.std.specs.Map.{lookup}
@@ -8,6 +8,7 @@ use Rattle.std.specs.Str.{bytes_eq}
 use Rattle.std.proofs.lemmas.Bool.{and_parts}
 use Rattle.std.proofs.lemmas.Option.{same_Some}
 use Rattle.std.proofs.lemmas.Slice.Eq.{bytes_eq-Decides}
+use Rattle.au_base.proofs.ListLemmas.{nothing_there, Contains-first, Contains-rest, Contains-cases}
 use Rattle.au_syntax.specs.declared.declarations.Universe.{Universe}
 use Rattle.au_syntax.specs.declared.declarations.Universe.TheVariants as universes
 use Rattle.au_syntax.specs.Plain.{Bytes}
@@ -34,17 +35,12 @@ use Rattle.au_instances.specs.Tables.{IsTable, row_with}
 use Rattle.au_instances.proofs.BecomingLemmas.{parameter_stands}
 use Rattle.au_instances.proofs.ClosedLemmas.{closed_row_is, closed_row_there, if_gives_gave}
 use Rattle.au_instances.proofs.FormLemmas.{form_over}
-use Rattle.au_instances.proofs.TableLemmas.{Contains-cases, Contains-first, Contains-rest}
 use Rattle.au_type_texts.specs.Given.{Given, closed_or_unit, closed_under, given_by, given_for}
 use Rattle.au_closed_trees.specs.TypeNames.{is_region, listed, type_names}
 use Rattle.au_closing.specs.Instances.{given_of_row, pair_before, paired, picked, types_within}
 use Rattle.au_closing_laws.specs.Targets.{IsTypeOf}
 
 -- ---- names
-
--- nothing stands in the empty list
-pub nothing_there : {A : Type 0} (x : A) → Contains [] x → ⊥
-nothing_there x c = omega arith
 
 -- a type parameter that isn't a region is named
 pub type_named : (params : List Parameter) (name : Bytes) (universe : Universe) → universe_in params name

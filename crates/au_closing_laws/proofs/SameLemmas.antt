@@ -5,6 +5,7 @@ use Rattle.std.specs.Prelude.{if◌then◌else◌, is_some, option_to_list}
 use Rattle.std.specs.Option.{option_map, option_or}
 use Rattle.std.specs.Str.{bytes_eq}
 use Rattle.std.proofs.lemmas.Option.{none-some, same_Some}
+use Rattle.au_base.proofs.OptionLemmas.{or_both}
 use Rattle.au_syntax.specs.declared.declarations.Universe.{Universe}
 use Rattle.au_syntax.specs.declared.declarations.Universe.TheVariants as universes
 use Rattle.au_syntax.specs.Modules.{Constrained}
@@ -23,6 +24,7 @@ use Rattle.au_judged_types.specs.declared.reading.Misfit.TheVariants.{NoClass, O
 use Rattle.au_judged_types.specs.Meanings.{class_in, class_meant, classes_meant, first_misfit}
 use Rattle.au_judged_types.specs.Meanings.{is_constrained_region, misfit_of, name_misfit, no_class, parameter}
 use Rattle.au_judged_types.specs.Meanings.{with_classes, written_params}
+use Rattle.au_judged_types.proofs.MeaningLemmas.{no_other}
 
 -- ---- the class that a name means is a declaration that is seen
 
@@ -79,14 +81,6 @@ module _ (heads : List (DeclAt × Head)) where
 
 -- ---- nothing is wrong with any
 
-none_of_both : {A : Type 0} (a b : Option A) → option_or a b ≡ None → (a ≡ None) × (b ≡ None)
-none_of_both None b none = (refl, none)
-none_of_both (Some found) b none = cc
-
-no_other : (b : Bool) (found : Misfit) (o : Option Misfit) → (if b then Some found else o) ≡ None → o ≡ None
-no_other true found o none = cc
-no_other false found o none = none
-
 is_meant : (o : Option DeclAt) (fault : Misfit) → (if is_some o then None else Some fault) ≡ None →
     (at : DeclAt) × (o ≡ Some at)
 is_meant None fault none = cc
@@ -115,8 +109,8 @@ module _ (sight : Sight) (params others : List Parameter) where
       → classes_meant class_promised names ≡ classes_meant class_defined bs
   same_classes [] [] same first second = refl
   same_classes (a ∷ names) (b ∷ bs) same first second =
-      let one = none_of_both (name_misfit class_promised a) (no_class class_promised names) first in
-      let other = none_of_both (name_misfit class_defined b) (no_class class_defined bs) second in
+      let one = or_both (name_misfit class_promised a) (no_class class_promised names) first in
+      let other = or_both (name_misfit class_defined b) (no_class class_defined bs) second in
       ap (λ o. option_to_list o ++ classes_meant class_promised names) (one_class a b same.0 one.0 other.0)
       ∙ ap (λ rest. option_to_list (class_defined b.name) ++ rest) (same_classes names bs same.1 one.1 other.1)
   same_classes [] (b ∷ bs) same first second = absurd same
@@ -127,8 +121,8 @@ module _ (sight : Sight) (params others : List Parameter) where
       → map (with_classes class_promised) gs ≡ map (with_classes class_defined) ks
   same_bounds [] [] same first second = refl
   same_bounds (g ∷ gs) (k ∷ ks) same first second =
-      let one = none_of_both (misfit_of class_promised g) (first_misfit class_promised gs) first in
-      let other = none_of_both (misfit_of class_defined k) (first_misfit class_defined ks) second in
+      let one = or_both (misfit_of class_promised g) (first_misfit class_promised gs) first in
+      let other = or_both (misfit_of class_defined k) (first_misfit class_defined ks) second in
       let no_one = no_other (is_constrained_region g.parameter.universe g.classes)
       (OfRegion g.parameter.name.at) (no_class class_promised g.classes) one.0 in
       let no_two = no_other (is_constrained_region k.parameter.universe k.classes)

@@ -1,13 +1,15 @@
 -- What is given for the type parameters in scope as a substitution, by which what holds in a body holds of what
 -- its types close to.
-use Rattle.std.proofs.Common.{◌≡◌, ◌⊎◌, inl, inr, ◌&&◌, arith, Bool, true, false, cond, List, [], ◌∷◌, Option}
-use Rattle.std.proofs.Common.{None, Some, refl, sym, ap, subst, ◌∙◌, true≢false}
+use Rattle.std.proofs.Common.{◌≡◌, ◌⊎◌, inl, inr, ◌&&◌, Bool, true, false, cond, List, [], ◌∷◌, Option}
+use Rattle.std.proofs.Common.{None, Some, refl, sym, ap, subst, ◌∙◌}
 use Rattle.std.specs.Prelude.{is_some, unwrap_or, Contains}
 use Rattle.std.specs.List.{list_all}
 use Rattle.std.specs.Str.{bytes_eq}
 use Rattle.std.proofs.lemmas.Bool.{and_parts, and_from, or_cases}
 use Rattle.std.proofs.lemmas.Option.{same_Some}
 use Rattle.std.proofs.lemmas.Slice.Eq.{bytes_eq-Decides}
+use Rattle.au_base.proofs.ListLemmas.{Contains-first, Contains-rest, each_passes, all_pass}
+use Rattle.au_base.proofs.TextLemmas.{bytes_differ}
 use Rattle.au_syntax.specs.declared.declarations.Universe.{Universe}
 use Rattle.au_syntax.specs.declared.declarations.Universe.TheVariants as universes
 use Rattle.au_syntax.specs.Plain.{Bytes}
@@ -25,11 +27,10 @@ use Rattle.au_matching.specs.Bindings.{Bindings, value_of}
 use Rattle.au_matching.specs.Substituted.{substituted, type_for, EachNameOfAll, OfRegion}
 use Rattle.au_matching.specs.Fitting.{stand_in, BindingsFit}
 use Rattle.au_matching.proofs.SubstitutingUniverseLemmas.{universe_kept}
-use Rattle.au_matching.specs.declared.universes.TypeUniverse.{TypeUniverse}
-use Rattle.au_matching.specs.declared.universes.TypeUniverse.TheVariants.{Free, Linear, AnyUniverse}
+use Rattle.au_matching.specs.declared.universes.TypeUniverse.TheVariants.{Free, Linear}
 use Rattle.au_matching.specs.Forming.{StandsOver, fits, fits_in_kind, is_formed, all_formed, takes, wants_region}
-use Rattle.au_matching.specs.Replaced.{may_be}
 use Rattle.au_matching.specs.Universes.{of_parameter, universe_of}
+use Rattle.au_matching.proofs.SubstitutingFormedLemmas.{takes_kept}
 use Rattle.au_type_texts.specs.Closing.{closed}
 use Rattle.au_type_texts.specs.Types.{ClosedType}
 use Rattle.au_judged_types.specs.Bounds.{Bounded, classes_of, constrains, is_among, parameters}
@@ -44,35 +45,12 @@ use Rattle.au_instances.proofs.AfterClosingLemmas.{holds_closed}
 use Rattle.au_instances.proofs.ClosedLemmas.{closed_row_gave, closed_row_there, opened, opened_closes, universe_closed}
 use Rattle.au_instances.proofs.PairLemmas.{class_among, in_classes, listed_constrains}
 use Rattle.au_instances.proofs.StandingLemmas.{arguments_stand, first_stands}
-use Rattle.au_instances.proofs.TableLemmas.{Contains-cases, Contains-first, Contains-rest}
 use Rattle.au_type_texts.specs.Given.{Closes, Given, closed_under, given_for}
 use Rattle.au_type_texts.proofs.GivenLemmas.{closing_substituted}
 use Rattle.au_closed_trees.specs.TypeNames.{is_region}
 use Rattle.au_closing_laws.specs.Targets.{IsTypeOf}
 
--- ---- tests of lists
-
-each_passes : (test : DeclAt → Bool) (classes : List DeclAt) (class : DeclAt) → Contains classes class →
-    list_all test classes ≡ true → test class ≡ true
-each_passes test [] class c all = absurd (nothing c)
-  where
-    nothing : Contains [] class → ⊥
-    nothing h = omega arith
-each_passes test (one ∷ rest) class c all =
-    let both = and_parts (test one) (list_all test rest) all in
-    by both.0 (λ h. each_passes test rest class h both.1) (Contains-cases one rest class c)
-  where
-    by : test one ≡ true → (Contains rest class → test class ≡ true) → (one ≡ class) ⊎ Contains rest class →
-        test class ≡ true
-    by mine others (inl is) = subst (λ k. test k ≡ true) is mine
-    by mine others (inr h) = others h
-
-all_pass : (test : DeclAt → Bool) (classes : List DeclAt) →
-    ((class : DeclAt) → Contains classes class → test class ≡ true) → list_all test classes ≡ true
-all_pass test [] each = refl
-all_pass test (one ∷ rest) each =
-    and_from (test one) (list_all test rest) (each one (Contains-first one rest))
-    (all_pass test rest (λ class c. each class (Contains-rest one rest class c)))
+-- ---- classes that constrain
 
 -- a class that is known to constrain a name is listed so
 known_listed : (known : Known) (name : Bytes) (class : DeclAt) → is_known known name class ≡ true →
@@ -92,25 +70,6 @@ known_listed (one ∷ rest) name class e =
         subst (Contains (one ∷ rest)) (λ i. (named_so i, placed_so i)) (Contains-first one rest)
     by later (inr there) = Contains-rest one rest (name, class) (later there)
 
-differ : (a b : Bytes) → bytes_eq a b ≡ false → bytes_eq b a ≡ false
-differ a b fails = by (bytes_eq b a) refl
-  where
-    by : (t : Bool) → bytes_eq b a ≡ t → t ≡ false
-    by true e = absurd (true≢false (sym ((bytes_eq-Decides a b).1 (sym ((bytes_eq-Decides b a).0 e))) ∙ fails))
-    by false e = refl
-
--- what takes a universe takes each that a type of it may have
-takes_after : (wanted : Universe) (u v : TypeUniverse) → may_be u v ≡ true → takes wanted u ≡ true →
-    takes wanted v ≡ true
-takes_after universes.Free Free v may taken = may
-takes_after universes.Free Linear v may taken = absurd cc
-takes_after universes.Free AnyUniverse v may taken = absurd cc
-takes_after universes.Linear Linear v may taken = may
-takes_after universes.Linear Free v may taken = absurd cc
-takes_after universes.Linear AnyUniverse v may taken = absurd cc
-takes_after universes.AnyType u v may taken = refl
-takes_after universes.Region u v may taken = absurd cc
-
 region_wanted : (universe : Universe) → is_region universe ≡ true → wants_region universe ≡ true
 region_wanted universes.Free e = absurd cc
 region_wanted universes.Linear e = absurd cc
@@ -118,7 +77,8 @@ region_wanted universes.AnyType e = absurd cc
 region_wanted universes.Region e = refl
 
 -- what has a universe as a type parameter isn't a region
-type_universe : (universe : Universe) → is_some (of_parameter (Some universe)) ≡ true → is_region universe ≡ false
+pub type_universe : (universe : Universe) → is_some (of_parameter (Some universe)) ≡ true → is_region universe
+    ≡ false
 type_universe universes.Free e = refl
 type_universe universes.Linear e = refl
 type_universe universes.AnyType e = refl
@@ -154,7 +114,7 @@ module _ (all : Given) where
           ∙ (λ i. Some (stand_for (sort i) (same i)))
       by false is later e =
           ap (λ b. cond b (Some (stand_for p.universe p.name)) (value_of name (bindings params)))
-          (differ p.name name is)
+          (bytes_differ p.name name is)
           ∙ later e
 
   -- a type that stands for a name is the one that is given for a type parameter
@@ -192,7 +152,7 @@ module _ (all : Given) where
             found.0,
             record {
               declared =
-                  ap (λ b. cond b (Some p.universe) (universe_in params name)) (differ name p.name is)
+                  ap (λ b. cond b (Some p.universe) (universe_in params name)) (bytes_differ name p.name is)
                   ∙ found.1.declared;
               is_type = found.1.is_type;
             },
@@ -327,7 +287,7 @@ module _ (rows : List Row) (heads : List (DeclAt × Head)) (table : IsTable rows
     taken_given universe t stands taken =
         subst (λ u. takes universe u ≡ true)
         (universe_closed heads [] (substituted s t) (closed_under all t) (closes t stands))
-        (takes_after universe (universe_of heads scope t) (universe_of heads [] (substituted s t))
+        (takes_kept universe (universe_of heads scope t) (universe_of heads [] (substituted s t))
         (universe_kept heads scope [] s fit t stands) taken)
 
     -- what is one for a type parameter of others closes to what suits it

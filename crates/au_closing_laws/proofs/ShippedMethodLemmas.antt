@@ -8,8 +8,11 @@ use Rattle.std.specs.Option.{option_map}
 use Rattle.std.specs.Str.{bytes_eq}
 use Rattle.std.proofs.lemmas.Bool.{and_parts}
 use Rattle.std.proofs.lemmas.Option.{none-some, same_Some}
+use Rattle.std.proofs.lemmas.List.{append-nil}
 use Rattle.au_base.specs.declared.kinds.IntKind.{IntKind}
 use Rattle.au_base.specs.declared.places.Pos.{Pos}
+use Rattle.au_base.proofs.ListLemmas.{get_front, get_right}
+use Rattle.au_base.proofs.OptionLemmas.{map_some}
 use Rattle.au_shipped.specs.declared.prims.ShippedCall.{ShippedCall}
 use Rattle.au_shipped.specs.Calls.{calls, prim_of}
 use Rattle.au_shipped.specs.Shipped.{is_shipped as has_shipped, shipped_files}
@@ -24,7 +27,7 @@ use Rattle.au_syntax.specs.Types.{WrittenType}
 use Rattle.au_types.specs.declared.spaces.Space.TheVariants.{Types}
 use Rattle.au_types.specs.DeclaredNames.{names_in, numbered}
 use Rattle.au_types.specs.Tables as tables
-use Rattle.au_types.proofs.TableLemmas.{find-firsts}
+use Rattle.au_types.proofs.TableLemmas.{find-firsts, find-front}
 use Rattle.au_types.specs.declared.headings.Head.{Head}
 use Rattle.au_types.specs.declared.types.DeclAt.{DeclAt}
 use Rattle.au_types.specs.Rows.{head_of}
@@ -35,6 +38,8 @@ use Rattle.au_names.specs.Meanings.{declared_by, imports_in, meanings, part_of, 
 use Rattle.au_names.specs.Owned.{declarations_in, own, targets}
 use Rattle.au_names.specs.Standing.{Standing, body_standing, standing_at, standing_from, standing_in}
 use Rattle.au_names.proofs.AmongLemmas.{Among, among}
+use Rattle.au_names.proofs.StandingLemmas.{from_length}
+use Rattle.au_names.proofs.DeclaredByLemmas.{find_declared}
 use Rattle.au_types.specs.Senses.{declared_sense}
 use Rattle.au_judged_types.specs.Meanings.{class_in, class_meant}
 use Rattle.au_promises.specs.Agreeing.{visible}
@@ -64,23 +69,6 @@ standing_get place part first (d ∷ ds) (suc k) says e =
     shifted : (n k : ℕ) → (n + 1) + k ≡ n + suc k
     shifted n k = omega arith
 
-pub get_left : {A : Type 0} (xs ys : List A) (k : ℕ) (x : A) → slice_get xs k ≡ Some x → slice_get (xs ++ ys) k ≡ Some x
-get_left [] ys k x e = absurd (none-some x e)
-get_left (y ∷ xs) ys zero x e = e
-get_left (y ∷ xs) ys (suc k) x e = get_left xs ys k x e
-
-pub get_right : {A : Type 0} (xs ys : List A) (j : ℕ) → slice_get (xs ++ ys) (length xs + j) ≡ slice_get ys j
-get_right [] ys j = let same : 0 + j ≡ j = omega arith in ap (slice_get ys) same
-get_right (x ∷ xs) ys j =
-    let next : suc (length xs) + j ≡ suc (length xs + j) = omega arith in
-    ap (slice_get (x ∷ xs ++ ys)) next ∙ get_right xs ys j
-
-counted : (place : ℕ) (part : Part) (first : ℕ) (ds : List PlainDeclaration) →
-    length (standing_from place part first ds) ≡ length ds
-unfolding standing_from
-counted place part first [] = refl
-counted place part first (d ∷ ds) = ap suc (counted place part (first + 1) ds)
-
 -- a declaration of an interface stands at its index
 pub stands_promised : (program : List ModuleParts) (at : DeclAt) (m : ModuleParts) (says : PlainDeclaration) →
     slice_get program at.«module» ≡ Some m
@@ -88,7 +76,7 @@ pub stands_promised : (program : List ModuleParts) (at : DeclAt) (m : ModulePart
     → standing_at program at ≡ Some (record { place = at.«module»; part = Interface; index = at.decl; says = says })
 stands_promised program at m says is there =
     ap (standing_in at.«module» at.decl) is
-    ∙ get_left (standing_from at.«module» Interface 0 (declarations_in m.interface))
+    ∙ get_front (standing_from at.«module» Interface 0 (declarations_in m.interface))
     (body_standing at.«module» m) at.decl
     (record { place = at.«module»; part = Interface; index = 0 + at.decl; says = says })
     (standing_get at.«module» Interface 0 (declarations_in m.interface) at.decl says there)
@@ -106,7 +94,7 @@ stands_defined program at m index says is numbered there =
     ap (standing_in at.«module» at.decl) is
     ∙ ap (slice_get (standing_from at.«module» Interface 0 (declarations_in m.interface)
     ++ body_standing at.«module» m))
-    (numbered ∙ ap (λ n. n + index) (sym (counted at.«module» Interface 0 (declarations_in m.interface))))
+    (numbered ∙ ap (λ n. n + index) (sym (from_length at.«module» Interface 0 (declarations_in m.interface))))
     ∙ get_right (standing_from at.«module» Interface 0 (declarations_in m.interface))
     (body_standing at.«module» m) index
     ∙ standing_get at.«module» Body 0 (declarations_in m.body) index says there
@@ -139,17 +127,6 @@ shipped_are_covered = refl
 
 -- ---- names
 
-find_declared : (name : Bytes) (pairs : List (Bytes × Target)) → tables.find name (declared_by pairs)
-    ≡ option_map (λ (t : Target). t.at) (tables.find name pairs)
-find_declared name [] = refl
-find_declared name (p ∷ ps) = by (bytes_eq name p.0) (find_declared name ps)
-  where
-    by : (b : Bool) → tables.find name (declared_by ps) ≡ option_map (λ (t : Target). t.at) (tables.find name ps)
-        → cond b (Some p.1.at) (tables.find name (declared_by ps)) ≡ option_map (λ (t : Target). t.at)
-        (cond b (Some p.1) (tables.find name ps))
-    by true later = refl
-    by false later = later
-
 find_target : (place : ℕ) (name : Bytes) (pairs : List (Bytes × ℕ)) →
     option_map (λ (t : Target). t.at) (tables.find name (targets place pairs))
     ≡ option_map (λ n. record { «module» = place; decl = n }) (tables.find name pairs)
@@ -164,22 +141,6 @@ find_target place name (p ∷ ps) = by (bytes_eq name p.0) (find_target place na
         ≡ option_map (λ n. record { «module» = place; decl = n }) (cond b (Some p.1) (tables.find name ps))
     by true later = refl
     by false later = later
-
-find_left : {V : Type 0} (name : Bytes) (xs ys : List (Bytes × V)) (v : V) → tables.find name xs ≡ Some v →
-    tables.find name (xs ++ ys) ≡ Some v
-find_left name [] ys v e = absurd (none-some v e)
-find_left {V} name (x ∷ xs) ys v e = by (bytes_eq name x.0) e (find_left name xs ys v)
-  where
-    by : (b : Bool) → cond b (Some x.1) (tables.find name xs) ≡ Some v →
-        (tables.find name xs ≡ Some v → tables.find name (xs ++ ys) ≡ Some v) →
-        cond b (Some x.1) (tables.find name (xs ++ ys)) ≡ Some v
-    by true e later = e
-    by false e later = later e
-
-pub mapped : {A B : Type 0} (f : A → B) (o : Option A) (y : B) → option_map f o ≡ Some y → (x : A)
-    × (o ≡ Some x) × (f x ≡ y)
-mapped f None y e = absurd (none-some y e)
-mapped f (Some x) y e = (x, refl, same_Some (f x) y e)
 
 -- a declaration that is a class is the one that is seen
 class_seen : (heads : List (DeclAt × Head)) (o : Option DeclAt) (at : DeclAt) → declared_class heads o
@@ -199,10 +160,6 @@ class_seen heads (Some other) at e = by (head_of heads other) refl e
     by (Some head) is e = absurd (none-some at (sym (headed head is) ∙ e))
 
 -- ---- the methods
-
-empty_end : (ds : List PlainDeclaration) → ds ++ [] ≡ ds
-empty_end [] = refl
-empty_end (d ∷ ds) = ap (λ rest. d ∷ rest) (empty_end ds)
 
 some_call : (o : Option ShippedCall) → is_some o ≡ true → (call : ShippedCall) × (o ≡ Some call)
 some_call None k = cc
@@ -267,11 +224,11 @@ module _ (program : List ModuleParts) (is : IsGathered program) (place : ℕ) (m
             where
               own_is : own Types place m ≡ targets place (names_in Types (numbered 0 x.tree.declarations))
               own_is = ap (own Types place) same ∙ ap (λ ds. targets place (names_in Types (numbered 0 ds)))
-                  (empty_end x.tree.declarations)
+                  (append-nil x.tree.declarations)
 
               own_found : (target : Target) × (tables.find name.name (own Types place m) ≡ Some target)
                   × (target.at ≡ record { «module» = place; decl = number })
-              own_found = mapped (λ (y : Target). y.at) (tables.find name.name (own Types place m))
+              own_found = map_some (λ (y : Target). y.at) (tables.find name.name (own Types place m))
                   (record { «module» = place; decl = number })
                   (ap (λ xs. option_map (λ (y : Target). y.at) (tables.find name.name xs)) own_is
                   ∙ find_target place name.name (names_in Types (numbered 0 x.tree.declarations))
@@ -283,10 +240,10 @@ module _ (program : List ModuleParts) (is : IsGathered program) (place : ℕ) (m
                   ∙ find_declared name.name (seen Types program place m Interface)
                   ∙ ap (option_map (λ (y : Target). y.at))
                   (find-firsts name.name (meanings Types program place m Interface)
-                  ∙ find_left name.name (own Types place m
+                  ∙ find-front name.name (own Types place m
                   ++ imported Types program place (imports_in (part_of Interface m)))
                   (pervasive Types program) own_found.0
-                  (find_left name.name (own Types place m)
+                  (find-front name.name (own Types place m)
                   (imported Types program place (imports_in (part_of Interface m))) own_found.0
                   own_found.1))
                   ∙ ap Some own_found.2)

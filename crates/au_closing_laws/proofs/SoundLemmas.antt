@@ -4,6 +4,7 @@ use Rattle.std.proofs.Common.{sym, ap, subst}
 use Rattle.std.specs.Prelude.{Contains, unwrap_or}
 use Rattle.std.specs.Option.{option_map}
 use Rattle.std.proofs.lemmas.Bool.{or_cases, or_left, or_right}
+use Rattle.au_base.proofs.ListLemmas.{nothing_there}
 use Rattle.au_shipped.specs.declared.prims.ShippedCall.{ShippedCall}
 use Rattle.au_shipped.specs.Calls.{prim_of}
 use Rattle.au_syntax.specs.declared.declarations.Universe.{Universe}
@@ -39,7 +40,7 @@ use Rattle.au_closing_laws.specs.Targets.{MethodIsThere, MethodIsTyped, bounds_o
 use Rattle.au_closing_laws.specs.Targets.{function_has_body, function_is_shipped, method_has_body}
 use Rattle.au_closing_laws.specs.Targets.{method_is_shipped, scope_of}
 use Rattle.au_closing_laws.proofs.CallLemmas.{in_block, some_call}
-use Rattle.au_closing_laws.proofs.RowLemmas.{given_found, nothing_there, row_suits, type_named}
+use Rattle.au_closing_laws.proofs.RowLemmas.{given_found, row_suits, type_named}
 use Rattle.au_closing_laws.proofs.ScopeLemmas.{holds_given, suited}
 
 module _ (program : List ModuleParts) (noted : List NotedParts) (typed : IsTyped program noted) where

@@ -8,7 +8,6 @@ use Rattle.std.specs.Str.{bytes_eq}
 use Rattle.std.proofs.lemmas.Bool.{and_from, and_parts}
 use Rattle.std.proofs.lemmas.Option.{none-some, same_Some}
 use Rattle.au_syntax.specs.declared.declarations.Universe.{Universe}
-use Rattle.au_syntax.specs.declared.declarations.Universe.TheVariants as universes
 use Rattle.au_syntax.specs.Plain.{Bytes}
 use Rattle.au_types.specs.declared.headings.Head.{Head}
 use Rattle.au_types.specs.declared.parameters.Parameter.{Parameter}
@@ -22,13 +21,14 @@ use Rattle.au_types.specs.Types.{reads, writes, of_type, in_region, no_arguments
 use Rattle.au_types.specs.Universes.{universe_in}
 use Rattle.au_matching.specs.Bindings.{Bindings, value_of, with_pair}
 use Rattle.au_matching.specs.Fixed.{all_fixed, argument_fixed, fixed, is_a_type, region_fixed}
-use Rattle.au_matching.specs.Matched.{all_matched, and_then, argument_matched, bound, matched, only_if, region_matched}
+use Rattle.au_matching.specs.Matched.{all_matched, argument_matched, bound, matched, only_if, region_matched}
 use Rattle.au_matching.specs.Substituted.{all_substituted, argument_substituted, substituted, type_for}
 use Rattle.au_matching.proofs.BindingLemmas.{value_of-with}
 use Rattle.au_matching.specs.Forming.{ArgumentStandsOver, StandsOver, all_fit, all_formed, argument_formed}
 use Rattle.au_matching.specs.Forming.{fit_row, fits_in_kind, is_formed}
 use Rattle.au_matching.specs.Universes.{of_parameter}
-use Rattle.au_matching.proofs.SubstitutingFormedLemmas.{formed_kept}
+use Rattle.au_matching.proofs.SubstitutingFormedLemmas.{formed_kept, kind_kept}
+use Rattle.au_matching.proofs.MatchedLemmas.{and_then_gave}
 use Rattle.au_judged_types.specs.Bounds.{parameters}
 use Rattle.au_typing.specs.Scopes.{Callable, Scope, Typed}
 use Rattle.au_typing.specs.Calls.{FirstStep, GoodCall, Passes, SecondStep, Shown, Taken, TakenBare, begun}
@@ -36,9 +36,9 @@ use Rattle.au_typing.specs.Calls.{by_labels, each_is_named_once, first_unfixed, 
 use Rattle.au_typing.specs.Lookups.{type_of_name}
 use Rattle.au_typing.specs.Notes.{Mode, Note}
 use Rattle.au_typing.specs.Rules.{int32}
-use Rattle.au_closed_trees.specs.TypeNames.{is_region}
 use Rattle.au_closing_laws.specs.Standing.{EachStand}
 use Rattle.au_closing_laws.proofs.FitLemmas.{value_there}
+use Rattle.au_closing_laws.proofs.ScopeLemmas.{type_universe}
 
 module _ (heads : List (DeclAt × Head)) (params : List Parameter) where
   abbrev pub Stands : Meaning → Type 0
@@ -81,11 +81,6 @@ module _ (heads : List (DeclAt × Head)) (params : List Parameter) where
   region_stand (Named name) q s r e values = bound_stand name (in_region q) (value_of name s) s r e tt values
   region_stand Anonymous q s r e values = only_same (same_region Anonymous q) s r e values
 
-  then_some : (o : Option Bindings) (f : Bindings → Option Bindings) (r : Bindings) → and_then o f ≡ Some r →
-      (x : Bindings) × (o ≡ Some x) × (f x ≡ Some r)
-  then_some None f r e = absurd (none-some r e)
-  then_some (Some x) f r e = (x, refl, e)
-
   if_some : (b : Bool) (o : Option Bindings) (r : Bindings) → (if b then o else None) ≡ Some r → o ≡ Some r
   if_some true o r e = e
   if_some false o r e = absurd (none-some r e)
@@ -113,7 +108,7 @@ module _ (heads : List (DeclAt × Head)) (params : List Parameter) where
     matched_stand (named a args) (reads to region) s r e stands values = absurd (none-some r e)
     matched_stand (named a args) (writes to region) s r e stands values = absurd (none-some r e)
     matched_stand (reads p q) (reads t region) s r e stands values =
-        let its = then_some (matched p t s) (region_matched q region) r e in
+        let its = and_then_gave (matched p t s) (region_matched q region) r e in
         region_stand q region its.0 r its.2 (matched_stand p t s its.0 its.1 stands values)
     matched_stand (reads p q) unit s r e stands values = absurd (none-some r e)
     matched_stand (reads p q) truth s r e stands values = absurd (none-some r e)
@@ -123,7 +118,7 @@ module _ (heads : List (DeclAt × Head)) (params : List Parameter) where
     matched_stand (reads p q) (named b others) s r e stands values = absurd (none-some r e)
     matched_stand (reads p q) (writes to region) s r e stands values = absurd (none-some r e)
     matched_stand (writes p q) (writes t region) s r e stands values =
-        let its = then_some (matched p t s) (region_matched q region) r e in
+        let its = and_then_gave (matched p t s) (region_matched q region) r e in
         region_stand q region its.0 r its.2 (matched_stand p t s its.0 its.1 stands values)
     matched_stand (writes p q) unit s r e stands values = absurd (none-some r e)
     matched_stand (writes p q) truth s r e stands values = absurd (none-some r e)
@@ -144,7 +139,7 @@ module _ (heads : List (DeclAt × Head)) (params : List Parameter) where
         all_formed fits_in_kind heads params t ≡ true → ValuesStand s → ValuesStand r
     all_stand no_arguments no_arguments s r e stands values = subst ValuesStand (same_Some s r e) values
     all_stand (arguments p args) (arguments t others) s r e stands values =
-        let its = then_some (argument_matched p t s) (all_matched args others) r e in
+        let its = and_then_gave (argument_matched p t s) (all_matched args others) r e in
         let parts = and_parts (argument_formed fits_in_kind heads params t)
         (all_formed fits_in_kind heads params others) stands in
         all_stand args others its.0 r its.2 parts.1 (argument_stand p t s its.0 its.1 parts.0 values)
@@ -154,11 +149,6 @@ module _ (heads : List (DeclAt × Head)) (params : List Parameter) where
   -- ---- substituting
 
   module _ (inner : List Parameter) (s : Bindings) (values : ValuesStand s) where
-    kind_kept : (wanted : Universe) (one : Argument) → fits_in_kind wanted one ≡ true →
-        fits_in_kind wanted (argument_substituted s one) ≡ true
-    kind_kept wanted (of_type t) fit = fit
-    kind_kept wanted (in_region region) fit = fit
-
     fit_kept : (expected : List Parameter) (args : Arguments) → all_fit fits_in_kind expected args ≡ true →
         all_fit fits_in_kind expected (all_substituted s args) ≡ true
     fit_kept [] no_arguments fit = refl
@@ -167,7 +157,7 @@ module _ (heads : List (DeclAt × Head)) (params : List Parameter) where
     fit_kept (one ∷ more) (arguments first rest) fit =
         let both = and_parts (fits_in_kind one.universe first) (all_fit fits_in_kind more rest) fit in
         and_from (fits_in_kind one.universe (argument_substituted s first))
-        (all_fit fits_in_kind more (all_substituted s rest)) (kind_kept one.universe first both.0)
+        (all_fit fits_in_kind more (all_substituted s rest)) (kind_kept s one.universe first both.0)
         (fit_kept more rest both.1)
 
     row_kept : (row : Option Head) (args : Arguments) → fit_row fits_in_kind row args ≡ true →
@@ -217,23 +207,17 @@ module _ (heads : List (DeclAt × Head)) (params : List Parameter) where
           (fixed_all rest fs.1 parts.1)
 
     -- where each type parameter is given something
-    not_region : (universe : Universe) → is_some (of_parameter (Some universe)) ≡ true → is_region universe ≡ false
-    not_region universes.Free e = refl
-    not_region universes.Linear e = refl
-    not_region universes.AnyType e = refl
-    not_region universes.Region e = absurd cc
-
     pub given_stand : first_unfixed s inner ≡ None → (t : Meaning) → StandsOver heads inner t → Stands (substituted s t)
     given_stand none t stands =
         formed_kept fits_in_kind fits_in_kind heads inner params s
         (λ name some. by name (universe_in inner name) refl some)
-        (λ wanted one formed fit. kind_kept wanted one fit) t stands
+        (λ wanted one formed fit. kind_kept s wanted one fit) t stands
       where
         by : (name : List ℕ) (o : Option Universe) → universe_in inner name ≡ o → is_some (of_parameter o)
             ≡ true → Stands (type_for (value_of name s) name)
         by name None is some = absurd cc
         by name (Some universe) is some =
-            let gives = value_there s inner name universe none is (not_region universe some) in
+            let gives = value_there s inner name universe none is (type_universe universe some) in
             subst (λ o. Stands (type_for o name)) (sym gives.1) (values name (of_type gives.0) gives.1)
 
   -- ---- the arguments of a call

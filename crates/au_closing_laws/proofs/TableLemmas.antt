@@ -7,12 +7,12 @@ use Rattle.std.proofs.lemmas.Grind.{flat_map-append}
 use Rattle.std.proofs.lemmas.List.{append-nil}
 use Rattle.std.proofs.lemmas.List.Elements.{Contains-append_cases, Contains-get_or, Contains-push_cases}
 use Rattle.std.proofs.lemmas.List.Quantifiers.{all_pairs_push}
+use Rattle.au_base.proofs.ListLemmas.{only_item, nothing_there, Contains-first, Contains-rest}
 use Rattle.au_modules.specs.Programs.{ModuleParts}
 use Rattle.au_classes.specs.Texts.{InstanceText, instances_of}
 use Rattle.au_instances.specs.Forms.{HasForm}
 use Rattle.au_instances.specs.Rows.{Row}
 use Rattle.au_instances.specs.Tables.{AreApart, IsTable}
-use Rattle.au_instances.proofs.TableLemmas.{Contains-cases, Contains-first, Contains-rest}
 use Rattle.au_classes.specs.Good.{InstancesAreGood, IsGood}
 use Rattle.au_classes.specs.Rows.{row_of, rows_of, rows_read}
 
@@ -28,17 +28,6 @@ table_push rows row table form apart = record {
     formed_so : (other : Row) → Contains rows other ⊎ (row ≡ other) → HasForm other.generics other.head
     formed_so other (inl listed) = table.formed other listed
     formed_so other (inr is) = subst (λ r. HasForm r.generics r.head) is form
-
--- nothing stands in the empty list, and one in a list of one
-nothing_there : {A : Type 0} (x : A) → Contains [] x → ⊥
-nothing_there x c = omega arith
-
-only : {A : Type 0} (one x : A) → Contains (one ∷ []) x → one ≡ x
-only one x c = by (Contains-cases one [] x c)
-  where
-    by : (one ≡ x) ⊎ Contains [] x → one ≡ x
-    by (inl is) = is
-    by (inr none) = absurd (nothing_there x none)
 
 -- no row is a table
 table_empty : IsTable []
@@ -71,7 +60,8 @@ module _ (program : List ModuleParts) where
           → (t : InstanceText) × Contains (text ∷ rest) t × (row_of program t ≡ Some row)
       by o e (inr behind) later = later behind
       by None e (inl here) later = absurd (nothing_there row here)
-      by (Some one) e (inl here) later = (text, Contains-first text rest, e ∙ ap Some (only one row here))
+      by (Some one) e (inl here) later =
+          (text, Contains-first text rest, e ∙ ap Some (only_item one row here))
 
   module _ (good : InstancesAreGood program) where
     step : (before : List InstanceText) (text : InstanceText) → IsTable (rows_read program before) →

@@ -7,6 +7,7 @@ use Rattle.std.specs.Option.{option_map}
 use Rattle.std.proofs.lemmas.List.Elements.{Contains-append_cases}
 use Rattle.std.proofs.lemmas.Option.{none-some, same_Some, slice_get-map}
 use Rattle.au_base.specs.declared.places.Pos.{Pos}
+use Rattle.au_base.proofs.ListLemmas.{nothing_there, Contains-cases}
 use Rattle.au_syntax.specs.declared.modules.Part.{Part}
 use Rattle.au_syntax.specs.declared.modules.Part.TheVariants.{Interface, Body}
 use Rattle.au_syntax.specs.Modules.{Constrained, constant, opaque_type, record_type, union_type, function}
@@ -28,7 +29,6 @@ use Rattle.au_judged_types.specs.Meanings.{class_meant, generics_meant}
 use Rattle.au_promises.specs.Agreeing.{scope_of, sight_of}
 use Rattle.au_promises.specs.Promises.{instance_defined}
 use Rattle.au_instances.specs.Rows.{Row}
-use Rattle.au_instances.proofs.TableLemmas.{Contains-cases}
 use Rattle.au_classes.specs.Classes.{visible_at}
 use Rattle.au_classes.specs.Indices.{first_index, is_among}
 use Rattle.au_classes.specs.Texts.{InstanceText, declared_at, defined, defined_from, definition_at}
@@ -37,9 +37,6 @@ use Rattle.au_classes.specs.Texts.{instances_of, methods_at, methods_in, module_
 use Rattle.au_classes.specs.Texts.{promised_from, put_before, unless_promised}
 use Rattle.au_classes.proofs.IndexLemmas.{found_none, found_there}
 use Rattle.au_classes.specs.Rows.{row_in, row_of, row_of_class, row_over, row_seen, row_with}
-
-nothing_there : {A : Type 0} (x : A) → Contains [] x → ⊥
-nothing_there x c = omega arith
 
 -- ---- what a row says
 

@@ -1,8 +1,9 @@
 -- Each call of a good block is good by the rule of calls, in a scope with what is outside of the function and
 -- with its type parameters.
-use Rattle.std.proofs.Common.{◌≡◌, ◌⊎◌, inl, inr, Bool, false, List, [], ◌∷◌, ◌++◌, Ok, Err, subst, arith}
+use Rattle.std.proofs.Common.{◌≡◌, ◌⊎◌, inl, inr, Bool, false, List, [], ◌∷◌, ◌++◌, Ok, Err, subst}
 use Rattle.std.specs.Prelude.{Contains}
 use Rattle.std.proofs.lemmas.List.Elements.{Contains-append_cases}
+use Rattle.au_base.proofs.ListLemmas.{nothing_there, Contains-cases}
 use Rattle.au_syntax.specs.Expressions.{number, negative, text, truth, nil, path, arrow, call, named_call}
 use Rattle.au_syntax.specs.Expressions.{parenthesized, dereference, borrow, borrow_part, binary, negation}
 use Rattle.au_syntax.specs.Expressions.{typed, choice, no_expressions, expressions, no_arguments, arguments}
@@ -26,7 +27,6 @@ use Rattle.au_typing.specs.InScope.{with_variable}
 use Rattle.au_typing.specs.Parts.{borrow_type, mode_for}
 use Rattle.au_typing.specs.Statements.{GoodArmBlocks, GoodBlock, GoodBranches, GoodStatement}
 use Rattle.au_typing.specs.Trees.{NotedArms, NotedBranches, NotedStatement, NotedStatements}
-use Rattle.au_instances.proofs.TableLemmas.{Contains-cases}
 use Rattle.au_closed_trees.specs.Calls.{calls_in, calls_in_all, calls_in_arguments, calls_in_arms}
 use Rattle.au_closed_trees.specs.Calls.{calls_in_block, calls_in_branches, calls_in_statement}
 use Rattle.au_closing_laws.specs.Targets.{Call}
@@ -35,9 +35,6 @@ use Rattle.au_closing_laws.specs.Calls.{IsGoodCall}
 -- a call, as it is listed
 abbrev listed : Note → Unit {0} → Bytes → List Call
 listed note c name = (note, name) ∷ []
-
-pub nothing_there : {A : Type 0} (x : A) → Contains [] x → ⊥
-nothing_there x c = omega arith
 
 either : {A : Type 0} (xs ys : List A) (x : A) {P : Type 0} → (Contains xs x → P) → (Contains ys x → P) →
     Contains (xs ++ ys) x → P

@@ -8,6 +8,7 @@ use Rattle.std.proofs.lemmas.List.Folds.{find_at}
 use Rattle.std.proofs.lemmas.Option.{none-some, same_Some}
 use Rattle.std.proofs.lemmas.Slice.Eq.{bytes_eq-Decides}
 use Rattle.au_base.specs.declared.places.Pos.{Pos}
+use Rattle.au_base.proofs.ListLemmas.{Contains-first}
 use Rattle.au_syntax.specs.declared.declarations.Universe.{Universe}
 use Rattle.au_syntax.specs.declared.declarations.Universe.TheVariants as universes
 use Rattle.au_syntax.specs.declared.modules.Part.TheVariants.{Interface, Body}
@@ -26,7 +27,6 @@ use Rattle.au_promises.specs.Fulfilled.{AllFulfil}
 use Rattle.au_judged_types.specs.Bounds.{Bounded, parameters}
 use Rattle.au_judged_types.specs.Meanings.{parameter}
 use Rattle.au_formed.specs.Writings.{a_universe, writings}
-use Rattle.au_instances.proofs.TableLemmas.{Contains-first}
 use Rattle.au_classes.specs.Good.{InstancesAreGood}
 use Rattle.au_rules.specs.Good.{AllDeclarationsAreGood}
 use Rattle.au_typing.specs.Scopes.{Callable, Typed}

@@ -1,16 +1,10 @@
 -- What is put behind others, item by item.
-use Rattle.std.proofs.Common.{◌≡◌, Bool, true, false, ◌||◌, ℕ, suc, ◌+◌, ◌<◌, ◌≤◌, List, [], ◌∷◌, ◌++◌}
-use Rattle.std.proofs.Common.{append_assoc, length, drop, drop-cons, get_or, sym, ap, subst, ◌∙◌, arith}
+use Rattle.std.proofs.Common.{◌≡◌, Bool, true, false, ◌||◌, ℕ, ◌+◌, ◌<◌, ◌≤◌, List, [], ◌∷◌, ◌++◌}
+use Rattle.std.proofs.Common.{append_assoc, length, drop, get_or, sym, ap, subst, ◌∙◌}
 use Rattle.std.proofs.lemmas.List.{append-nil, drop_all}
 use Rattle.std.specs.Prelude.{OnOk, Result}
 use Rattle.au_base.specs.declared.faults.Memory.{Memory}
-
--- an item of a list and those behind it
-pub next_item : {A : Type 0} (xs : List A) (i : ℕ) (a : A) → a ≡ get_or xs i a → i < length xs →
-    drop i xs ≡ a ∷ drop (i + 1) xs
-next_item xs i a is lt =
-    let e : suc i ≡ i + 1 = omega arith in
-    drop-cons xs i a lt ∙ ap (λ one. one ∷ drop (suc i) xs) (sym is) ∙ ap (λ n. a ∷ drop n xs) e
+use Rattle.au_base.proofs.ListLemmas.{next_item}
 
 module _ {A B : Type 0} (all : List A → List B) (xs : List A) (i : ℕ) where
   -- an item is put, and those behind it are left
@@ -68,7 +62,3 @@ then_put r old one two made new first h =
 pub put_as : {B : Type 0} (r : Result (Unit {0}) Memory) (old new one other : List B) → other ≡ one →
     OnOk r (new ≡ old ++ one) → OnOk r (new ≡ old ++ other)
 put_as r old new one other e h = subst (λ l. OnOk r (new ≡ old ++ l)) (sym e) h
-
--- nothing is put
-pub nothing_put : {B : Type 0} (old all : List B) → all ≡ [] → old ≡ old ++ all
-nothing_put old all e = sym (ap (λ l. old ++ l) e ∙ append-nil old)

@@ -1,5 +1,6 @@
 -- One turn of the walk over the statements of a block.
 use Rattle.std.proofs.Common.{◌≡◌, ℕ, ◌+◌, ◌<◌, List, ◌++◌, append_assoc, length, drop, get_or, ap, sym, ◌∙◌}
+use Rattle.au_base.proofs.ListLemmas.{next_item}
 use Rattle.au_typing.specs.InScope.{after}
 use Rattle.au_explain.specs.declared.lists.VariableLives.{VariableLives}
 use Rattle.au_explain.specs.Said.{statement_said, statements_said}
@@ -32,5 +33,5 @@ block_turn xs i x is lt rest here within next made one two whole left same befor
     ∙ append_assoc made (listed_inside s here ++ listed_after s (statements_said more) behind)
     (listed_in (statements_said more) behind)
     ∙ ap (λ (l : List VariableLives). made ++ l)
-    (sym (ap (λ (zs : List ParsedStmt). listed_in (statements_said zs) here) (puts.next_item xs i x is lt)))
+    (sym (ap (λ (zs : List ParsedStmt). listed_in (statements_said zs) here) (next_item xs i x is lt)))
     ∙ before

@@ -19,10 +19,6 @@ use Rattle.au_formed.specs.Graphs.{declarer, declarer_from, graph_by, graph_of, 
 
 -- ---- tables
 
-pub none_of : {A : Type 0} (o : Option A) → is_some o ≡ false → o ≡ None
-none_of None h = refl
-none_of (Some x) h = absurd (true≢false h)
-
 -- one more at the end
 pub index_push : (t : List (DeclAt × ℕ)) (at : DeclAt) (i : ℕ) (a : DeclAt)
     → index_at (t ++ (at, i) ∷ []) a ≡ option_or (index_at t a) (where_so (same_place a at) i)

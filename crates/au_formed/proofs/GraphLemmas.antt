@@ -133,7 +133,7 @@ beyond [] i e = omega arith
 beyond (x ∷ xs) zero e = absurd (none-some x (sym e))
 beyond (x ∷ xs) (suc i) e = let rest = beyond xs i e in omega arith
 
-among_at : {A : Type 0} (xs : List A) (x : A) → Among x xs → (i : ℕ) × (slice_get xs i ≡ Some x)
+pub among_at : {A : Type 0} (xs : List A) (x : A) → Among x xs → (i : ℕ) × (slice_get xs i ≡ Some x)
 among_at [] x m = absurd m
 among_at (y ∷ ys) x (inl here) = (0, ap Some here)
 among_at (y ∷ ys) x (inr later) = let rest = among_at ys x later in (suc rest.0, rest.1)

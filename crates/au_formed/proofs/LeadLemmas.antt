@@ -9,28 +9,12 @@ use Rattle.std.proofs.lemmas.List.{length-map}
 use Rattle.au_types.specs.declared.types.DeclAt.{DeclAt}
 use Rattle.au_types.specs.Rows.{same_place}
 use Rattle.au_types.proofs.SameLemmas.{place_is, place_self}
-use Rattle.au_names.proofs.AmongLemmas.{Among, among, contains}
+use Rattle.au_names.proofs.AmongLemmas.{Among, among, contains, any_found, any_there}
 use Rattle.au_formed.specs.declared.namings.Naming.{Naming}
 use Rattle.au_formed.specs.Infinite.{Leads, directly, onward, Names, is_infinite, leads_by, names_of}
 use Rattle.au_formed.specs.Infinite.{types_declared}
 
 -- ---- some item passes
-
-pub any_there : {A : Type 0} (p : A → Bool) (xs : List A) (x : A) → Among x xs → p x ≡ true
-    → list_any p xs ≡ true
-any_there p [] x m h = absurd m
-any_there p (y ∷ ys) x (inl here) h = or_left (p y) (list_any p ys) (ap p here ∙ h)
-any_there p (y ∷ ys) x (inr later) h = or_right (p y) (list_any p ys) (any_there p ys x later h)
-
-pub any_found : {A : Type 0} (p : A → Bool) (xs : List A) → list_any p xs ≡ true
-    → (x : A) × Among x xs × (p x ≡ true)
-any_found p [] h = absurd (true≢false (sym h))
-any_found p (y ∷ ys) h = by (or_cases (p y) (list_any p ys) h) (any_found p ys)
-  where
-    by : (p y ≡ true) ⊎ (list_any p ys ≡ true) → (list_any p ys ≡ true → (x : _) × Among x ys × (p x ≡ true))
-        → (x : _) × Among x (y ∷ ys) × (p x ≡ true)
-    by (inl here) on = (y, inl refl, here)
-    by (inr later) on = let rest = on later in (rest.0, inr rest.1, rest.2)
 
 any_more : {A : Type 0} (p q : A → Bool) → ((x : A) → p x ≡ true → q x ≡ true) → (xs : List A)
     → list_any p xs ≡ true → list_any q xs ≡ true

@@ -6,6 +6,7 @@ use Rattle.std.specs.Option.{option_map, option_or}
 use Rattle.std.proofs.lemmas.Bool.{not-true, not-false, both_ways}
 use Rattle.std.proofs.lemmas.Option.{none-some, same_Some}
 use Rattle.au_base.specs.declared.places.Pos.{Pos}
+use Rattle.au_base.proofs.OptionLemmas.{map_none, none_map, or_first, or_second, or_neither}
 use Rattle.au_syntax.specs.declared.declarations.Universe.{Universe}
 use Rattle.au_syntax.specs.declared.declarations.Universe.TheVariants as universes
 use Rattle.au_syntax.specs.Modules.{Variant, constant, opaque_type, record_type, union_type, function, class}
@@ -29,15 +30,7 @@ use Rattle.au_types.specs.Meant.{meant}
 use Rattle.au_types.specs.Senses.{Sense, a_type as type_sense, a_span, a_region, declared}
 use Rattle.au_types.specs.Senses.{a_class as class_sense, sense_of}
 use Rattle.au_imports.specs.Choices.{first_of, where_so}
-use Rattle.au_names.proofs.AmongLemmas.{
-  Among,
-  among,
-  among-flat_map_from,
-  contains,
-  or_first,
-  or_neither,
-  or_second,
-}
+use Rattle.au_names.proofs.AmongLemmas.{Among, among, among-flat_map_from, contains}
 use Rattle.au_imports.proofs.ChoiceLemmas.{first_from, first_to, so_from, so_to}
 use Rattle.au_formed.specs.declared.faults.FormFault.{FormFault}
 use Rattle.au_formed.specs.declared.faults.FormFault.TheVariants.{Malformed, EmptyUnion, UniverseBelow}
@@ -48,15 +41,6 @@ use Rattle.au_formed.specs.Good.{FieldFits, FieldsFit, HasCase, Holds, IsFormed,
 use Rattle.au_formed.specs.Malformed.{ill_place, is_class, is_failure, is_ill, malformed}
 use Rattle.au_formed.specs.Writings.{Writing, a_type, a_class, a_universe, case_writings, field_writings}
 use Rattle.au_formed.specs.Writings.{place_of, writings}
-
--- ---- options
-
-map_none : {A B : Type 0} (f : A → B) (o : Option A) → option_map f o ≡ None → o ≡ None
-map_none f None h = refl
-map_none f (Some x) h = absurd cc
-
-none_map : {A B : Type 0} (f : A → B) (o : Option A) → o ≡ None → option_map f o ≡ None
-none_map f o h = ap (option_map f) h
 
 -- ---- universes
 

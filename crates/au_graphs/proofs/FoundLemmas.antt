@@ -3,10 +3,11 @@ use Rattle.std.proofs.Common.{◌≡◌, ◌≤◌, ◌<◌, ◌+◌, ◌==◌, 
 use Rattle.std.proofs.Common.{Option, None, Ok, length, take, drop, take_all, append-nil, append_assoc}
 use Rattle.std.proofs.Common.{take-append-drop, length-append, refl, sym, ap, ◌∙◌, subst, eqb-true, arith}
 use Rattle.std.proofs.lemmas.List.{take-append-le, length_push}
+use Rattle.std.proofs.lemmas.Bool.{or_left}
 use Rattle.au_graphs.specs.Reached.{TellsSame, has, Has, put_new, adds, all_next, Reached, start, follows, Lists}
 use Rattle.au_graphs.specs.Walks.{Walked, on_ok, unless, room, at_first, IsWithin, put_within, adds_within}
 use Rattle.au_graphs.specs.Walks.{walk, listed}
-use Rattle.au_graphs.proofs.HasLemmas.{or_left, has_front, has_back, has_it, adds_more, adds_both, adds_takes}
+use Rattle.au_graphs.proofs.HasLemmas.{has_front, has_back, has_it, adds_more, adds_both, adds_takes}
 use Rattle.au_graphs.proofs.OrderLemmas.{added_once, all_next_both, has_next, at_place, at_end, found_more}
 
 module _ {A : Type 0} (same : A → A → Bool) (tells : TellsSame same) (next : A → List A) (starts : List A) where

@@ -1,21 +1,8 @@
 -- What stands in lists to which elements are added.
-use Rattle.std.proofs.Common.{◌≡◌, Bool, true, false, ◌||◌, ◌⊎◌, List, [], ◌∷◌, ◌++◌, refl, sym, ◌∙◌, subst}
+use Rattle.std.proofs.Common.{◌≡◌, Bool, true, false, ◌⊎◌, List, [], ◌∷◌, ◌++◌, refl, sym, ◌∙◌, subst}
 use Rattle.std.proofs.Common.{inl, inr, ⊎_elim, append_assoc, append-nil}
+use Rattle.std.proofs.lemmas.Bool.{or_cases, or_left, or_right}
 use Rattle.au_graphs.specs.Reached.{TellsSame, has, Has, put_new, adds}
-
--- ---- the two forms of a test
-
-pub or_left : (a b : Bool) → a ≡ true → (a || b) ≡ true
-or_left true b h = refl
-or_left false b h = absurd cc
-
-pub or_right : (a b : Bool) → b ≡ true → (a || b) ≡ true
-or_right true b h = refl
-or_right false b h = h
-
-pub or_split : (a b : Bool) → (a || b) ≡ true → (a ≡ true) ⊎ (b ≡ true)
-or_split true b h = inl refl
-or_split false b h = inr h
 
 module _ {A : Type 0} (same : A → A → Bool) where
   -- ---- two lists joined
@@ -25,7 +12,7 @@ module _ {A : Type 0} (same : A → A → Bool) where
   has_front (a ∷ us) vs x h =
       ⊎_elim (or_left (same x a) (has same (us ++ vs) x))
       (λ rest. or_right (same x a) (has same (us ++ vs) x) (has_front us vs x rest))
-      (or_split (same x a) (has same us x) h)
+      (or_cases (same x a) (has same us x) h)
 
   pub has_back : (us vs : List A) (x : A) → Has same vs x → Has same (us ++ vs) x
   has_back [] vs x h = h
@@ -36,7 +23,7 @@ module _ {A : Type 0} (same : A → A → Bool) where
   has_split (a ∷ us) vs x h =
       ⊎_elim (λ here. inl (or_left (same x a) (has same us x) here))
       (λ rest. ⊎_elim (λ front. inl (or_right (same x a) (has same us x) front)) inr
-      (has_split us vs x rest)) (or_split (same x a) (has same (us ++ vs) x) h)
+      (has_split us vs x rest)) (or_cases (same x a) (has same (us ++ vs) x) h)
 
   -- ---- elements that are added
 
@@ -91,4 +78,4 @@ module _ {A : Type 0} (same : A → A → Bool) where
         ⊎_elim (λ here. adds_keeps (put_new same (has same ks y) ks y) xs x
         (subst (λ z. Has same (put_new same (has same ks y) ks y) z) (sym (tells.agrees x y here))
         (put_takes (has same ks y) ks y refl))) (adds_takes (put_new same (has same ks y) ks y) xs x)
-        (or_split (same x y) (has same xs x) h)
+        (or_cases (same x y) (has same xs x) h)

@@ -21,10 +21,6 @@ pub was_new : (fresh there found : Bool) → fresh ≡ not there → fresh ≡ t
 was_new fresh false found says is same = sym same
 was_new fresh true found says is same = absurd cc
 
-pub not_old : (fresh : Bool) → not fresh ≡ true → fresh ≡ false
-not_old false is = refl
-not_old true is = absurd cc
-
 among : (key : List ℕ) → List (List ℕ) → Bool
 among key [] = false
 among key (k ∷ ks) = bytes_eq key k || among key ks

@@ -3,8 +3,9 @@ use Rattle.std.proofs.Common.{◌≡◌, ◌<◌, ◌+◌, ℕ, Bool, true, fals
 use Rattle.std.proofs.Common.{refl, sym, ap, ◌∙◌, subst, ⊎_elim, append_assoc, append-nil, length-drop}
 use Rattle.std.proofs.Common.{take_all, take-append-drop, arith}
 use Rattle.std.proofs.lemmas.List.{take_more, drop_more, take-append-le}
+use Rattle.std.proofs.lemmas.Bool.{or_cases}
 use Rattle.au_graphs.specs.Reached.{TellsSame, has, Has, put_new, adds, all_next, Reached, follows}
-use Rattle.au_graphs.proofs.HasLemmas.{or_split, has_front, has_back, has_it, adds_split, adds_more, adds_both}
+use Rattle.au_graphs.proofs.HasLemmas.{has_front, has_back, has_it, adds_split, adds_more, adds_both}
 
 module _ {A : Type 0} (same : A → A → Bool) where
   -- behind these, no element stands twice
@@ -58,7 +59,7 @@ module _ {A : Type 0} (next : A → List A) where
         ⊎_elim (λ here. has_front same (next j) (all_next next ks) x
         (subst (λ z. Has same (next z) x) (tells.agrees k j here) there))
         (λ rest. has_back same (next j) (all_next next ks) x (has_next ks k x rest there))
-        (or_split (same k j) (has same ks k) h)
+        (or_cases (same k j) (has same ks k) h)
 
 -- ---- an element in its place
 

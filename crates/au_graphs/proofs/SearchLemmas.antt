@@ -6,22 +6,21 @@ use Rattle.std.proofs.lemmas.Bool.{both_ways}
 use Rattle.std.proofs.lemmas.List.{length_push}
 use Rattle.std.proofs.lemmas.List.Elements.{Contains-append_left, Contains-append_right}
 use Rattle.std.proofs.lemmas.List.Elements.{Contains-append_cases, Contains-push, Contains-push_cases}
+use Rattle.au_base.proofs.ListLemmas.{nothing_there}
 use Rattle.au_graphs.specs.Cycles.{successors, Names, Leads, directly, onward, IsOnCycle}
 use Rattle.au_graphs.specs.Marks.{IsMarked, IsClosed, Entered}
 use Rattle.au_graphs.proofs.CycleLemmas.{one_more}
 use Rattle.au_graphs.proofs.MarkLemmas.{set_here, set_stays, set_only, set_left}
 
--- nothing is in an empty list, and one thing in a list of one
-contains_none : (x : ℕ) → Contains [] x → ⊥
-contains_none x is = let within = is.1 in omega arith
-
+-- one thing is in a list of one
 contains_one : (y x : ℕ) → Contains (y ∷ []) x → x ≡ y
-contains_one y x is = ⊎_elim (λ none. absurd (contains_none x none)) (λ same. sym same) (Contains-push_cases [] y x is)
+contains_one y x is = ⊎_elim (λ none. absurd (nothing_there x none)) (λ same. sym same)
+    (Contains-push_cases [] y x is)
 
 pub entered_none : (seen : List Bool) (work : List ℕ) → Entered [] seen work seen work
 entered_none seen work = record {
   stay = λ a marked. marked;
-  enters = λ a is. absurd (contains_none a is);
+  enters = λ a is. absurd (nothing_there a is);
   only = λ a marked. inl marked;
   kept = λ a is. is;
   added = λ a is. inl is;
@@ -136,10 +135,10 @@ module _ (graph : List (List ℕ)) (done : List Bool) (k : ℕ) (seen : List Boo
 all_met : (graph : List (List ℕ)) (done : List Bool) (k : ℕ) (seen : List Bool) (a c : ℕ) →
     Searched graph done k seen [] → (a ≡ k) ⊎ IsMarked seen a → Leads graph a c → IsMarked seen c
 all_met graph done k seen a c searched met (directly x y names) =
-    ⊎_elim (λ waits. absurd (contains_none x waits)) (λ all. all y names) (searched.closed x met)
+    ⊎_elim (λ waits. absurd (nothing_there x waits)) (λ all. all y names) (searched.closed x met)
 all_met graph done k seen a c searched met (onward x b y names rest) =
     ⊎_elim
-    (λ waits. absurd (contains_none x waits))
+    (λ waits. absurd (nothing_there x waits))
     (λ all. all_met graph done k seen b y searched (inr (all b names)) rest)
     (searched.closed x met)
 

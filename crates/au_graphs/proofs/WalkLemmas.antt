@@ -3,10 +3,11 @@ use Rattle.std.proofs.Common.{◌≡◌, ◌≤◌, ◌+◌, ◌==◌, ℕ, zero
 use Rattle.std.proofs.Common.{Option, None, Some, Ok, Err, length, take, drop, take_all, append-nil, refl}
 use Rattle.std.proofs.Common.{sym, ap, ◌∙◌, subst, ⊎_elim, eq-eqb, arith}
 use Rattle.std.proofs.lemmas.List.{length_push}
+use Rattle.std.proofs.lemmas.Bool.{or_cases}
 use Rattle.au_graphs.specs.Reached.{TellsSame, has, Has, put_new, adds, all_next, start, Lists}
 use Rattle.au_graphs.specs.Walks.{Walked, on_ok, unless, room, at_first, IsWithin, put_within, adds_within}
 use Rattle.au_graphs.specs.Walks.{walk, listed}
-use Rattle.au_graphs.proofs.HasLemmas.{or_split, has_split, adds_split}
+use Rattle.au_graphs.proofs.HasLemmas.{has_split, adds_split}
 use Rattle.au_graphs.proofs.OrderLemmas.{at_place, at_end, Begun, goes_on}
 
 -- going on gave an answer: so there was a list
@@ -26,7 +27,7 @@ module _ {A W : Type 0} (same : A → A → Bool) (over : A → Option W) (full 
         subst (IsWithin same over most) more (record {
           each = λ k h. ⊎_elim (fine.each k)
               (λ one. ap over (tells.agrees k x
-              (⊎_elim (λ here. here) (λ none. absurd cc) (or_split (same k x) false one))) ∙ free)
+              (⊎_elim (λ here. here) (λ none. absurd cc) (or_cases (same k x) false one))) ∙ free)
               (has_split same ks (x ∷ []) k h);
           few = by size;
         }),

@@ -27,8 +27,9 @@ use Rattle.std.proofs.Common.{
 use Rattle.std.specs.Str.{bytes_eq}
 use Rattle.std.proofs.lemmas.Option.{none-some, same_Some}
 use Rattle.std.proofs.lemmas.Slice.Eq.{bytes_eq-Decides}
+use Rattle.au_base.proofs.OptionLemmas.{some_of, or_first, or_second, or_neither}
 use Rattle.au_types.specs.Tables.{find, has_name}
-use Rattle.au_names.proofs.AmongLemmas.{Among, among-append, or_first, or_second, or_neither}
+use Rattle.au_names.proofs.AmongLemmas.{Among, among-append}
 use Rattle.au_imports.specs.Choices.{first_of, where_so}
 
 -- ---- nothing is the first
@@ -54,10 +55,6 @@ pub so_to : {A : Type 0} (b : Bool) (x : A) → b ≡ false → where_so b x ≡
 so_to b x h = ap (λ c. where_so c x) h
 
 -- ---- what is found
-
-pub has_some : {A : Type 0} (o : Option A) → is_some o ≡ true → (x : A) × (o ≡ Some x)
-has_some None h = absurd (true≢false (sym h))
-has_some (Some x) h = (x, refl)
 
 module _ {V : Type 0} (name : List ℕ) where
   pub found_among : (pairs : List (List ℕ × V)) (v : V) → find name pairs ≡ Some v → Among (name, v) pairs
@@ -97,7 +94,7 @@ module _ {V : Type 0} (name : List ℕ) where
 
   pub has_among : (pairs : List (List ℕ × V)) → has_name name pairs ≡ true → (v : V) × Among (name, v) pairs
   has_among pairs h =
-      let some = has_some (find name pairs) h in
+      let some = some_of (find name pairs) h in
       (some.0, found_among pairs some.0 some.1)
 
 -- ---- pairs whose values keep an order

@@ -21,11 +21,11 @@ use Rattle.std.specs.Prelude.{slice_get}
 use Rattle.std.specs.Option.{option_or}
 use Rattle.std.proofs.lemmas.List.{drop_all}
 use Rattle.std.proofs.lemmas.Option.{none-some, same_Some}
+use Rattle.au_base.proofs.ListLemmas.{drop_at}
 use Rattle.au_syntax.specs.declared.modules.Part.{Part}
 use Rattle.au_syntax.specs.Plain.{PlainModule}
 use Rattle.au_modules.specs.Programs.{Entry, ModuleParts}
 use Rattle.au_names.specs.Meanings.{part_of}
-use Rattle.au_names.proofs.PutLemmas.{drop_at}
 use Rattle.au_imports.specs.declared.name_faults.NameFault.{NameFault}
 use Rattle.au_imports.specs.Choices.{first_of}
 use Rattle.au_imports.specs.NameFaults.{

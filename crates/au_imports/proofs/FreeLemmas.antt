@@ -2,6 +2,7 @@
 -- something, and nothing that is brought or declared clashes.
 use Rattle.std.proofs.Common.{◌≡◌, ℕ, false, List, Option, Some, None, refl}
 use Rattle.au_base.specs.declared.places.Pos.{Pos}
+use Rattle.au_base.proofs.OptionLemmas.{or_first, or_second, or_neither}
 use Rattle.au_syntax.specs.declared.modules.Part.{Part}
 use Rattle.au_syntax.specs.Modules.{Importing}
 use Rattle.au_syntax.specs.Plain.{Bytes, PlainDeclaration}
@@ -25,7 +26,7 @@ use Rattle.au_imports.specs.NameFaults.{
   part_fault,
 }
 use Rattle.au_imports.specs.Good.{IsSourced}
-use Rattle.au_names.proofs.AmongLemmas.{or_first, or_second, or_neither, Among, contains}
+use Rattle.au_names.proofs.AmongLemmas.{Among, contains}
 use Rattle.au_imports.proofs.ChoiceLemmas.{first_from, first_to, so_from, so_to}
 use Rattle.au_imports.proofs.MentionLemmas.{declared_of_mention, mention_of_declared}
 use Rattle.au_imports.proofs.SourceLemmas.{IsBrought, brought_item, item_brings}

@@ -1,11 +1,12 @@
 -- Names are refused for nothing exactly where they are good by the rules.
 use Rattle.std.proofs.Common.{◌≡◌, ℕ, List, None}
+use Rattle.au_base.proofs.OptionLemmas.{or_first, or_second, or_neither}
 use Rattle.au_modules.specs.Programs.{ModuleParts}
 use Rattle.au_syntax.specs.declared.modules.Part.{Part}
 use Rattle.au_syntax.specs.declared.modules.Part.TheVariants.{Interface, Body}
 use Rattle.au_imports.specs.NameFaults.{part_fault, module_fault, faults_from, name_fault}
 use Rattle.au_imports.specs.Good.{AllNamesAreGood}
-use Rattle.au_names.proofs.AmongLemmas.{nothing_all, nothing_at, or_first, or_second, or_neither}
+use Rattle.au_names.proofs.AmongLemmas.{nothing_all, nothing_at}
 use Rattle.au_imports.proofs.FindingLemmas.{faults_cons, faults_none}
 use Rattle.au_imports.proofs.FreeLemmas.{IsFree, free_from, free_to}
 use Rattle.au_imports.proofs.RuleLemmas.{good_of_free, free_of_good}

@@ -39,6 +39,7 @@ use Rattle.std.proofs.lemmas.Bool.{
 }
 use Rattle.std.proofs.lemmas.Option.{none-some}
 use Rattle.std.proofs.lemmas.Slice.Eq.{bytes_eq-Decides}
+use Rattle.au_base.proofs.OptionLemmas.{or_first, or_second, or_neither}
 use Rattle.au_syntax.specs.declared.modules.Part.{Part}
 use Rattle.au_syntax.specs.Modules.{Importing}
 use Rattle.au_syntax.specs.Names.{Placed, Renaming}
@@ -83,16 +84,8 @@ use Rattle.au_imports.specs.NameFaults.{
   import_fault,
 }
 use Rattle.au_imports.specs.Good.{IsOffered, IsSourced}
-use Rattle.au_names.proofs.AmongLemmas.{
-  or_first,
-  or_second,
-  or_neither,
-  Among,
-  among,
-  among-append,
-  among-append_left,
-  among-append_right,
-}
+use Rattle.au_names.proofs.AmongLemmas.{Among, among, among-append, among-append_left}
+use Rattle.au_names.proofs.AmongLemmas.{among-append_right}
 use Rattle.au_imports.proofs.ChoiceLemmas.{first_from, first_to, so_from, so_to, found_among, among_found}
 use Rattle.au_imports.proofs.NumberLemmas.{one_number, one_number_to}
 use Rattle.au_imports.proofs.SourceLemmas.{renamed_among, renamed_from, place_there}

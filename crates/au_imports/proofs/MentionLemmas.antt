@@ -58,7 +58,7 @@ among-map f (x ∷ xs) y (inr later) =
     let found = among-map f xs y later in
     (found.0, inr found.1, found.2)
 
-among-map_from : {A B : Type 0} (f : A → B) (xs : List A) (x : A) → Among x xs → Among (f x) (map f xs)
+pub among-map_from : {A B : Type 0} (f : A → B) (xs : List A) (x : A) → Among x xs → Among (f x) (map f xs)
 among-map_from f [] x m = absurd m
 among-map_from f (y ∷ ys) x (inl here) = inl (ap f here)
 among-map_from f (y ∷ ys) x (inr later) = inr (among-map_from f ys x later)

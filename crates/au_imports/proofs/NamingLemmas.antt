@@ -1,28 +1,9 @@
 -- The imports of a whole file name modules, each by a name within the limit.
-use Rattle.std.proofs.Common.{
-  ◌≡◌,
-  ℕ,
-  zero,
-  suc,
-  ◌<◌,
-  ◌≤◌,
-  ◌&&◌,
-  Bool,
-  true,
-  List,
-  [],
-  ◌∷◌,
-  length,
-  map,
-  get_or,
-  refl,
-  ap,
-  ◌∙◌,
-  arith,
-}
+use Rattle.std.proofs.Common.{◌≡◌, ℕ, zero, suc, ◌<◌, ◌≤◌, true, List, [], ◌∷◌, length, map, get_or, refl, ap}
+use Rattle.std.proofs.Common.{◌∙◌, arith}
 use Rattle.std.specs.Prelude.{IsTrue}
 use Rattle.std.specs.List.{list_all}
-use Rattle.std.proofs.lemmas.Bool.{and_parts, leb-true}
+use Rattle.std.proofs.lemmas.Bool.{and_parts, leb-true, and_from}
 use Rattle.au_base.specs.Limits.{most_name_bytes}
 use Rattle.au_syntax.specs.contracts.parsed.ParsedPhase.TheImpl.{ghosts as parsed}
 use Rattle.au_syntax.specs.declared.modules.Import.{Import}
@@ -48,9 +29,6 @@ within_limit names h =
 
 -- ---- those of imports
 
-and_true : (a b : Bool) → a ≡ true → b ≡ true → (a && b) ≡ true
-and_true a b p q = ap (λ x. x && b) p ∙ q
-
 both : (imports : List (Importing Bytes)) → list_all formed_import imports ≡ true
     → list_all (λ (i : Importing Bytes). fits_name i.from) imports ≡ true
     → name_modules imports ≡ true
@@ -58,7 +36,7 @@ both [] formed fit = refl
 both (i ∷ rest) formed fit =
     let one : some i.from ≡ true = (and_parts _ _ (and_parts _ _ formed).0).0 in
     let short : fits_name i.from ≡ true = (and_parts _ _ fit).0 in
-    and_true (is_module_name i.from) (name_modules rest) (and_true (some i.from) (fits_name i.from) one short)
+    and_from (is_module_name i.from) (name_modules rest) (and_from (some i.from) (fits_name i.from) one short)
     (both rest (and_parts _ _ formed).1 (and_parts _ _ fit).1)
 
 pub modules_named : (m : PlainModule) → IsTrue (formed_module m) → IsTrue (fits m)

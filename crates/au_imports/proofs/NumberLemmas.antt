@@ -1,34 +1,7 @@
 -- The numbers of declarations rise along a file, so that the first and the last declaration of a name have
 -- one number exactly where all declarations of the name have it.
-use Rattle.std.proofs.Common.{
-  ◌≡◌,
-  ℕ,
-  ◌+◌,
-  ◌≤◌,
-  ◌⊎◌,
-  inl,
-  inr,
-  false,
-  not,
-  ◌==◌,
-  List,
-  [],
-  ◌∷◌,
-  ◌++◌,
-  reverse,
-  Option,
-  Some,
-  None,
-  refl,
-  ap,
-  sym,
-  ◌∙◌,
-  subst,
-  arith,
-  append_assoc,
-  eqb-true,
-  eq-eqb,
-}
+use Rattle.std.proofs.Common.{◌≡◌, ℕ, ◌+◌, ◌≤◌, ◌⊎◌, inl, inr, false, not, ◌==◌, List, [], ◌∷◌, ◌++◌, reverse}
+use Rattle.std.proofs.Common.{Option, Some, None, refl, ap, sym, ◌∙◌, subst, arith, eqb-true, eq-eqb}
 use Rattle.std.proofs.lemmas.Bool.{not-false, not_from_true}
 use mathlib.Core.List.{reverse-cons}
 use Rattle.au_syntax.specs.Plain.{Bytes, PlainDeclaration}
@@ -37,6 +10,7 @@ use Rattle.au_types.specs.DeclaredNames.{declared_names, given, names_in, number
 use Rattle.au_types.specs.Tables.{find}
 use Rattle.au_imports.specs.NameFaults.{is_apart}
 use Rattle.au_names.proofs.AmongLemmas.{Among, among-append, among-append_left, among-append_right}
+use Rattle.au_names.proofs.SeenLemmas.{names_in-append}
 use Rattle.au_imports.proofs.ChoiceLemmas.{found_among, among_found, Ordered, ordered-append, first_bounds}
 
 -- ---- the names of one declaration
@@ -145,14 +119,6 @@ reverse-names_in space es q m =
     let there : Among (q.0, found.0.0) (names_in space (reverse es)) =
     among-names_in_from space (reverse es) found.0 q.0 (reverse-among es found.0 found.1) found.3 in
     subst (λ k. Among (q.0, k) (names_in space (reverse es))) found.2 there
-
-names_in-append : (space : Space) (es fs : List (ℕ × PlainDeclaration))
-    → names_in space (es ++ fs) ≡ names_in space es ++ names_in space fs
-unfolding names_in
-names_in-append space [] fs = refl
-names_in-append space (e ∷ es) fs =
-    ap (λ r. given e.0 (declared_names space e.1) ++ r) (names_in-append space es fs)
-    ∙ sym (append_assoc (given e.0 (declared_names space e.1)) (names_in space es) (names_in space fs))
 
 -- ---- order
 

@@ -44,6 +44,7 @@ use Rattle.std.proofs.lemmas.Option.{
   slice_get-get_or,
   get_or_from_slice_get,
 }
+use Rattle.au_base.proofs.ListLemmas.{drop_at}
 use Rattle.au_syntax.specs.Plain.{Bytes, PlainDeclaration, PlainModule}
 use Rattle.au_types.specs.declared.name_tables.NameTables.{NameTables}
 use Rattle.au_types.specs.declared.spaces.Space.{Space}
@@ -51,21 +52,17 @@ use Rattle.au_types.specs.declared.spaces.Space.TheVariants.{Values, Callables, 
 use Rattle.au_types.specs.Tables.{find, with_all, firsts}
 use Rattle.au_types.specs.DeclaredNames.{declared_names, given, numbered, names_in, table_of}
 use Rattle.au_types.proofs.TableLemmas.{find-firsts, with_all-none, with_all-firsts}
-use Rattle.au_types.proofs.DeclaredLemmas.{numbered-append}
+use Rattle.au_types.proofs.DeclaredLemmas.{numbered-append, one_number}
 use Rattle.au_modules.specs.Programs.{ModuleParts}
 use Rattle.au_modules.specs.Seen.{interface_tree}
 use Rattle.au_names.specs.Exporting.{in_space, declarations_seen}
 use Rattle.au_names.specs.Owned.{interface_of}
 use Rattle.au_names.proofs.ExportLemmas.{interface_seen, nothing}
-use Rattle.au_names.proofs.PutLemmas.{drop_at, with_all-append}
+use Rattle.au_names.proofs.PutLemmas.{with_all-append}
 use Rattle.au_imports.specs.Clashing.{first_offered, last_offered}
 use Rattle.au_imports.specs.Gathered.{last_offers, last_tables}
 
 -- ---- tables of the last declarations
-
-one_number : (first : ℕ) (d : PlainDeclaration) → numbered first (d ∷ []) ≡ (first, d) ∷ []
-unfolding numbered
-one_number first d = refl
 
 names_in-cons : (space : Space) (d : ℕ × PlainDeclaration) (ds : List (ℕ × PlainDeclaration))
     → names_in space (d ∷ ds) ≡ given d.0 (declared_names space d.1) ++ names_in space ds

@@ -43,6 +43,7 @@ use Rattle.std.proofs.lemmas.Bool.{
   or_parts,
 }
 use Rattle.std.proofs.lemmas.Option.{none-some}
+use Rattle.au_base.proofs.OptionLemmas.{some_of}
 use Rattle.au_syntax.specs.declared.modules.Part.{Part}
 use Rattle.au_syntax.specs.declared.modules.Part.TheVariants.{Interface, Body}
 use Rattle.au_syntax.specs.Modules.{Importing}
@@ -77,7 +78,7 @@ use Rattle.au_names.proofs.AmongLemmas.{
   among-append_left,
   among-append_right,
 }
-use Rattle.au_imports.proofs.ChoiceLemmas.{found_among, among_has, has_among, has_some}
+use Rattle.au_imports.proofs.ChoiceLemmas.{found_among, among_has, has_among}
 use Rattle.au_imports.proofs.NumberLemmas.{
   among-names_in,
   among-names_in_from,
@@ -114,7 +115,7 @@ is_pervasive_to : (space : Space) (o : Option ModuleParts) (name : Bytes)
     → is_pervasive space o name ≡ true → (t : Target) × (find name (offered space 0 o) ≡ Some t)
 is_pervasive_to space None name h = absurd (true≢false (sym h))
 is_pervasive_to space (Some m) name h =
-    let number = has_some (find name (names_in space (interface_of m))) h in (
+    let number = some_of (find name (names_in space (interface_of m))) h in (
       target 0 name number.0,
       find-targets 0 (names_in space (interface_of m)) name
           ∙ ap (option_map (λ k. target 0 name k)) number.1,

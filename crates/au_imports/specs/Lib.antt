@@ -8,3 +8,4 @@ pub mod Importing
 pub mod NameFaults
 pub mod Parts
 pub mod Written
+pub mod Judging

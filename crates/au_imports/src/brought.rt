@@ -12,6 +12,7 @@ ghost use Rattle.au_imports.specs.Written.{IsAt};
 
 use au_base::Memory;
 use au_modules::Modules;
+use au_names::exports::Source;
 use au_names::imports::put_imported;
 use au_names::{Exports, Target};
 use au_syntax::{Parsed, Part, Whole};
@@ -44,7 +45,8 @@ fn table_brought(
         ≡ firsts (imported space (slots.modules modules.now) place (imports_seen (tree_seen file.entry)))) }
 {
     let mut table = Table::new(alloc);
-    put_imported(alloc, &mut table, modules, exports, space, place, file)?;
+    let source = Source { modules, exports };
+    put_imported(alloc, &mut table, &source, space, place, file)?;
     Ok(table)
 }
 

@@ -2,23 +2,23 @@
 
 ghost use Rattle.std.specs.Prelude.{◌≡◌, ◌<◌, ◌==◌, IfOk, Some, length};
 ghost use Rattle.au_modules.specs.Programs.{ModuleParts};
-ghost use Rattle.au_modules.specs.Slots as slots;
 ghost use Rattle.au_imports.specs.Choices.{first_of, where_so};
 ghost use Rattle.au_imports.specs.Declaring.{clashes_at, declaration_fault_at, is_brought_by};
 ghost use Rattle.au_imports.specs.Declaring.{means_nothing_at, mention_fault_at};
-ghost use Rattle.au_imports.specs.Gathered.{AreBroughtTo, AreOffers, brought_in};
+ghost use Rattle.au_imports.specs.Gathered.{AreOffers, brought_in};
+ghost use Rattle.au_imports.specs.Judging.{AreBroughtBy, IsJudged, program_of};
 ghost use Rattle.au_imports.specs.NameFaults.{declaration_fault};
 ghost use Rattle.au_names.specs.Exporting as exporting;
 ghost use Rattle.au_syntax.specs.Views.{declaration};
 ghost use Rattle.au_types.specs.Tables.{has_name};
-ghost use Rattle.au_imports.specs.Written.{IsAt, all_declared, declared_of};
+ghost use Rattle.au_imports.specs.Written.{all_declared, declared_of};
 
 use crate::brought::{Brought, brought_in};
 use crate::built_in::is_built_in;
+use crate::judged::Judged;
 use crate::name_faults::NameFault;
-use crate::offers::Offers;
 use au_base::{Memory, Name, Pos};
-use au_names::{NamedModules as Resolved, in_space};
+use au_names::in_space;
 use au_promises::{Mention, mentions_of, type_parameters};
 use au_syntax::{Decl, Parsed, Part};
 use au_types::{DeclAt, Heads, NameTables, Params, Scope, Space, Table, sense_of};
@@ -192,7 +192,7 @@ fn first_fault(
     Ok(None)
 }
 
-/// What the declarations of a part of the module at a place are refused for, the first in the order of
+/// What the declarations of a part of a module are refused for, the first in the order of
 /// the text: names that they bring in and that mean something else before them, and names that they write
 /// for types, classes and regions and that mean nothing.
 ///
@@ -201,31 +201,27 @@ fn first_fault(
 /// Only for want of memory.
 pub fn declarations_fault(
     alloc: Global,
-    resolved: &Resolved,
-    offers: &Offers,
-    interface: &Brought,
-    body: &Brought,
-    place: usize,
+    judged: &Judged,
     part: Part,
     declarations: &Vec<Decl<Parsed>>,
 ) -> Result<Option<NameFault>, Memory>
-    requires within { place < length (slots.modules resolved.now) }
-    requires made { AreOffers (slots.modules resolved.now) offers.now }
-    requires by_interface { AreBroughtTo resolved.now place Part.Interface interface.now }
-    requires by_body { AreBroughtTo resolved.now place Part.Body body.now }
-    ensures { (m : ModuleParts) → IsAt resolved.now place m
-        → IfOk result (λ found. found ≡ first_of (declaration_fault (slots.modules resolved.now) place m part)
-        (all_declared declarations.now.items)) }
+    requires within { judged.now.place < length (program_of judged.now) }
+    requires made { AreOffers (program_of judged.now) judged.now.offers.now }
+    requires by_interface { AreBroughtBy judged.now Part.Interface judged.now.interface.now }
+    requires by_body { AreBroughtBy judged.now Part.Body judged.now.body.now }
+    ensures { (m : ModuleParts) → IsJudged judged.now m
+        → IfOk result (λ found. found ≡ first_of (declaration_fault (program_of judged.now) judged.now.place m
+        part) (all_declared declarations.now.items)) }
 {
-    let names = resolved.names(place, part);
+    let names = judged.resolved.names(judged.place, part);
     let site = Site {
         part,
-        first: place == 0,
-        pervasive: &offers.exports.interfaces[0],
-        interface,
-        body,
+        first: judged.place == 0,
+        pervasive: &judged.offers.exports.interfaces[0],
+        interface: judged.interface,
+        body: judged.body,
         names: &names.types,
-        heads: resolved.heads_ref(),
+        heads: judged.resolved.heads_ref(),
     };
     first_fault(alloc, &site, declarations)
 }

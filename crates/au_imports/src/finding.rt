@@ -3,7 +3,8 @@
 ghost use Rattle.std.specs.Prelude.{◌≡◌, ◌<◌, ℕ, List, IfOk, IsTrue, Some, length};
 ghost use Rattle.au_modules.specs.Programs.{ModuleParts};
 ghost use Rattle.au_modules.specs.Slots as slots;
-ghost use Rattle.au_imports.specs.Gathered.{AreBrought, AreBroughtTo, AreOffers};
+ghost use Rattle.au_imports.specs.Gathered.{AreBrought, AreOffers};
+ghost use Rattle.au_imports.specs.Judging.{AreBroughtBy, IsJudged, program_of};
 ghost use Rattle.au_imports.specs.NameFaults as spec;
 ghost use Rattle.au_imports.specs.Parts.{tree_fault};
 ghost use Rattle.au_syntax.specs.Files.{is_formed, is_within, says};
@@ -14,6 +15,7 @@ ghost use Rattle.au_imports.specs.Written.{IsAt};
 use crate::brought::{Brought, brought_to};
 use crate::declaring::declarations_fault;
 use crate::importing::imports_fault;
+use crate::judged::Judged;
 use crate::name_faults::NameFault;
 use crate::offers::{Offers, offers_of};
 use au_base::Memory;
@@ -33,98 +35,71 @@ fn of_part<'a>(interface: &'a Brought, body: &'a Brought, part: Part) -> &'a Bro
     }
 }
 
-/// What the tree of a part of the module at a place is refused for.
+/// What the tree of a part of a module is refused for.
 fn tree_fault(
     alloc: Global,
-    resolved: &Resolved,
-    offers: &Offers,
-    interface: &Brought,
-    body: &Brought,
-    place: usize,
+    judged: &Judged,
     part: Part,
     tree: &Module<Parsed>,
 ) -> Result<Option<NameFault>, Memory>
     requires formed { IsTrue (is_formed parsed tree.now) }
     requires sized { IsTrue (is_within parsed tree.now) }
-    requires within { place < length (slots.modules resolved.now) }
-    requires offers { AreOffers (slots.modules resolved.now) offers.now }
-    requires interface { AreBroughtTo resolved.now place parts.Interface interface.now }
-    requires body { AreBroughtTo resolved.now place parts.Body body.now }
-    ensures { (m : ModuleParts) → IsAt resolved.now place m
-        → IfOk result (λ found. found ≡ tree_fault (slots.modules resolved.now) place m part
+    requires within { judged.now.place < length (program_of judged.now) }
+    requires offers { AreOffers (program_of judged.now) judged.now.offers.now }
+    requires interface { AreBroughtBy judged.now parts.Interface judged.now.interface.now }
+    requires body { AreBroughtBy judged.now parts.Body judged.now.body.now }
+    ensures { (m : ModuleParts) → IsJudged judged.now m
+        → IfOk result (λ found. found ≡ tree_fault (program_of judged.now) judged.now.place m part
         (says parsed tree.now)) }
 {
-    let brought = of_part(interface, body, part);
-    let modules = resolved.modules();
-    match imports_fault(alloc, modules, offers, brought, place, part, &tree.imports)? {
+    let brought = of_part(judged.interface, judged.body, part);
+    let modules = judged.resolved.modules();
+    let imports = &tree.imports;
+    match imports_fault(
+        alloc,
+        modules,
+        judged.offers,
+        brought,
+        judged.place,
+        part,
+        imports,
+    )? {
         Some(fault) => Ok(Some(fault)),
-        None => declarations_fault(
-            alloc,
-            resolved,
-            offers,
-            interface,
-            body,
-            place,
-            part,
-            &tree.declarations,
-        ),
+        None => declarations_fault(alloc, judged, part, &tree.declarations),
     }
 }
 
-/// What a part of the module at a place is refused for.
-fn part_fault(
-    alloc: Global,
-    resolved: &Resolved,
-    offers: &Offers,
-    interface: &Brought,
-    body: &Brought,
-    place: usize,
-    part: Part,
-) -> Result<Option<NameFault>, Memory>
-    requires within { place < length (slots.modules resolved.now) }
-    requires offers { AreOffers (slots.modules resolved.now) offers.now }
-    requires interface { AreBroughtTo resolved.now place parts.Interface interface.now }
-    requires body { AreBroughtTo resolved.now place parts.Body body.now }
-    ensures { (m : ModuleParts) → IsAt resolved.now place m
-        → IfOk result (λ found. found ≡ spec.part_fault (slots.modules resolved.now) place m part) }
+/// What a part of a module is refused for.
+fn part_fault(alloc: Global, judged: &Judged, part: Part) -> Result<Option<NameFault>, Memory>
+    requires within { judged.now.place < length (program_of judged.now) }
+    requires offers { AreOffers (program_of judged.now) judged.now.offers.now }
+    requires interface { AreBroughtBy judged.now parts.Interface judged.now.interface.now }
+    requires body { AreBroughtBy judged.now parts.Body judged.now.body.now }
+    ensures { (m : ModuleParts) → IsJudged judged.now m
+        → IfOk result (λ found. found ≡ spec.part_fault (program_of judged.now) judged.now.place m part) }
 {
-    match resolved.modules().part(place, part) {
+    match judged.resolved.modules().part(judged.place, part) {
         None => Ok(None),
         Some(file) => {
             let tree = file.tree();
-            tree_fault(alloc, resolved, offers, interface, body, place, part, tree)
+            tree_fault(alloc, judged, part, tree)
         }
     }
 }
 
-/// What the two parts of the module at a place are refused for.
-fn parts_fault(
-    alloc: Global,
-    resolved: &Resolved,
-    offers: &Offers,
-    interface: &Brought,
-    body: &Brought,
-    place: usize,
-) -> Result<Option<NameFault>, Memory>
-    requires within { place < length (slots.modules resolved.now) }
-    requires offers { AreOffers (slots.modules resolved.now) offers.now }
-    requires interface { AreBroughtTo resolved.now place parts.Interface interface.now }
-    requires body { AreBroughtTo resolved.now place parts.Body body.now }
-    ensures { (m : ModuleParts) → IsAt resolved.now place m
-        → IfOk result (λ found. found ≡ spec.module_fault (slots.modules resolved.now) place m) }
+/// What the two parts of a module are refused for.
+fn parts_fault(alloc: Global, judged: &Judged) -> Result<Option<NameFault>, Memory>
+    requires within { judged.now.place < length (program_of judged.now) }
+    requires offers { AreOffers (program_of judged.now) judged.now.offers.now }
+    requires interface { AreBroughtBy judged.now parts.Interface judged.now.interface.now }
+    requires body { AreBroughtBy judged.now parts.Body judged.now.body.now }
+    ensures { (m : ModuleParts) → IsJudged judged.now m
+        → IfOk result (λ found. found ≡ spec.module_fault (program_of judged.now) judged.now.place m) }
 {
-    let first = part_fault(
-        alloc,
-        resolved,
-        offers,
-        interface,
-        body,
-        place,
-        Part::Interface,
-    )?;
+    let first = part_fault(alloc, judged, Part::Interface)?;
     match first {
         Some(fault) => Ok(Some(fault)),
-        None => part_fault(alloc, resolved, offers, interface, body, place, Part::Body),
+        None => part_fault(alloc, judged, Part::Body),
     }
 }
 
@@ -143,7 +118,14 @@ fn module_fault(
     let modules = resolved.modules();
     let interface = brought_to(alloc, modules, &offers.exports, place, Part::Interface)?;
     let body = brought_to(alloc, modules, &offers.exports, place, Part::Body)?;
-    parts_fault(alloc, resolved, offers, &interface, &body, place)
+    let judged = Judged {
+        resolved,
+        offers,
+        interface: &interface,
+        body: &body,
+        place,
+    };
+    parts_fault(alloc, &judged)
 }
 
 /// What the names of a program are refused for, the first in the order of the text: modules by their

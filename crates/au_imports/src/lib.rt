@@ -10,6 +10,7 @@ pub mod declaring;
 pub mod faults;
 pub mod finding;
 pub mod importing;
+pub mod judged;
 pub mod laws;
 mod members;
 pub mod name_faults;

@@ -4,7 +4,6 @@ use Rattle.std.proofs.Common.{sym, ap, subst, ◌∙◌}
 use Rattle.std.specs.Str.{bytes_eq}
 use Rattle.std.proofs.lemmas.Slice.Eq.{bytes_eq-Decides}
 use Rattle.au_syntax.specs.declared.declarations.Universe.{Universe}
-use Rattle.au_syntax.specs.declared.declarations.Universe.TheVariants as universes
 use Rattle.au_syntax.specs.Plain.{Bytes}
 use Rattle.au_types.specs.declared.headings.Head.{Head}
 use Rattle.au_types.specs.declared.parameters.Parameter.{Parameter}
@@ -22,11 +21,9 @@ use Rattle.au_matching.proofs.ComposedLemmas.{twice}
 use Rattle.au_matching.proofs.SubstitutedLemmas.{each_so, fixes_suits}
 use Rattle.au_matching.specs.Fitting.{stand_in, BindingsFit}
 use Rattle.au_matching.proofs.SubstitutingUniverseLemmas.{universe_kept}
-use Rattle.au_matching.specs.declared.universes.TypeUniverse.{TypeUniverse}
-use Rattle.au_matching.specs.declared.universes.TypeUniverse.TheVariants.{Free, Linear, AnyUniverse}
-use Rattle.au_matching.specs.Forming.{ArgumentStandsOver, StandsOver, all_formed, fits, fits_in_kind, takes}
-use Rattle.au_matching.specs.Replaced.{may_be}
+use Rattle.au_matching.specs.Forming.{ArgumentStandsOver, StandsOver, all_formed, fits, fits_in_kind}
 use Rattle.au_matching.specs.Universes.{universe_of}
+use Rattle.au_matching.proofs.SubstitutingFormedLemmas.{takes_kept}
 use Rattle.au_type_texts.specs.Closing.{closed}
 use Rattle.au_type_texts.specs.Types.{ClosedType}
 use Rattle.au_judged_types.specs.Bounds.{constrains, parameters}
@@ -104,18 +101,6 @@ arguments_substituted s (named at args) one e = refl
 arguments_substituted s (reads to region) one e = refl
 arguments_substituted s (writes to region) one e = refl
 
--- what takes a universe takes each that a type of it may have
-takes_after : (wanted : Universe) (u v : TypeUniverse) → may_be u v ≡ true → takes wanted u ≡ true →
-    takes wanted v ≡ true
-takes_after universes.Free Free v may taken = may
-takes_after universes.Free Linear v may taken = absurd cc
-takes_after universes.Free AnyUniverse v may taken = absurd cc
-takes_after universes.Linear Linear v may taken = may
-takes_after universes.Linear Free v may taken = absurd cc
-takes_after universes.Linear AnyUniverse v may taken = absurd cc
-takes_after universes.AnyType u v may taken = refl
-takes_after universes.Region u v may taken = absurd cc
-
 module _ (heads : List (DeclAt × Head)) (scope : List Parameter) where
   arguments_of_stand : (t : Meaning) → StandsOver heads scope t →
       all_formed fits_in_kind heads scope (arguments_of t) ≡ true
@@ -162,7 +147,7 @@ module _ (heads : List (DeclAt × Head)) (scope : List Parameter) where
   module _ (s : Bindings) (fit : BindingsFit heads scope [] s) where
     fits_after : (wanted : Universe) (value : Argument) → ArgumentStandsOver heads scope value →
         fits heads scope wanted value ≡ true → fits heads [] wanted (argument_substituted s value) ≡ true
-    fits_after wanted (of_type t) stands taken = takes_after wanted (universe_of heads scope t)
+    fits_after wanted (of_type t) stands taken = takes_kept wanted (universe_of heads scope t)
         (universe_of heads [] (substituted s t)) (universe_kept heads scope [] s fit t stands) taken
     fits_after wanted (in_region region) stands taken = taken
 

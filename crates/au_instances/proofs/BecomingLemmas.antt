@@ -2,8 +2,9 @@
 use Rattle.std.proofs.Common.{◌≡◌, ◌⊎◌, Bool, true, false, cond, not, List, [], ◌∷◌, Option, None, Some, refl}
 use Rattle.std.proofs.Common.{sym, ap, subst, ◌∙◌, inl, inr, true≢false}
 use Rattle.std.specs.Str.{bytes_eq}
-use Rattle.std.proofs.lemmas.Bool.{and_parts, and_from, or_cases, or_parts, not-true, false_from_ne_true}
+use Rattle.std.proofs.lemmas.Bool.{and_parts, and_from, or_cases, or_parts, not-true}
 use Rattle.std.proofs.lemmas.Slice.Eq.{bytes_eq-Decides}
+use Rattle.au_base.proofs.TextLemmas.{bytes_differ, bytes_self}
 use Rattle.au_syntax.specs.declared.declarations.Universe.{Universe}
 use Rattle.au_syntax.specs.Plain.{Bytes}
 use Rattle.au_types.specs.declared.headings.Head.{Head}
@@ -80,20 +81,12 @@ abbrev pub Gives : Bindings → Arguments → Arguments → Type 0
 Gives s (arguments name names) (arguments one rest) = GivesOne s (name_of name) one × Gives s names rest
 Gives s names args = Unit {0}
 
-name_self : (name : Bytes) → bytes_eq name name ≡ true
-name_self name = (bytes_eq-Decides name name).1 refl
-
-other_name : (a b : Bytes) → bytes_eq a b ≡ false → bytes_eq b a ≡ false
-other_name a b e = false_from_ne_true (bytes_eq b a)
-    (λ h. true≢false (sym (subst (λ c. bytes_eq a c ≡ true) (sym ((bytes_eq-Decides b a).0 h)) (name_self a))
-    ∙ e))
-
 -- a pair in front changes nothing of other names
 one_past : (s : Bindings) (name : Bytes) (value : Argument) (o : Option Bytes) (one : Argument) →
     is_called name o ≡ false → GivesOne s o one → GivesOne ((name, value) ∷ s) o one
 one_past s name value None one other gives = tt
 one_past s name value (Some known) one other gives = ap (λ b. cond b (Some value) (value_of known s))
-    (other_name name known other) ∙ gives
+    (bytes_differ name known other) ∙ gives
 
 gives_past : (s : Bindings) (name : Bytes) (value : Argument) (names args : Arguments) → stands_in name names
     ≡ false → Gives s names args → Gives ((name, value) ∷ s) names args
@@ -115,7 +108,7 @@ bound_gives (arguments name names) (arguments one rest) distinct =
         names rest
     by None again others = (tt, others)
     by (Some known) again others = (
-      ap (λ b. cond b (Some one) (value_of known (bound_to names rest))) (name_self known),
+      ap (λ b. cond b (Some one) (value_of known (bound_to names rest))) (bytes_self known),
       gives_past (bound_to names rest) known one names rest (not-true (stands_in known names) again)
           others,
     )

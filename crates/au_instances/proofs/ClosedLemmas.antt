@@ -1,9 +1,11 @@
 -- The row that is found for a class at a closed type is the one that gives the instance there.
-use Rattle.std.proofs.Common.{◌≡◌, ◌⊎◌, Bool, true, false, cond, List, [], ◌∷◌, ◌++◌, Option, None, Some}
-use Rattle.std.proofs.Common.{Contains, refl, sym, ap, subst, ◌∙◌, inl, inr, arith, Vec, length}
+use Rattle.std.proofs.Common.{◌≡◌, Bool, true, false, cond, List, [], ◌∷◌, ◌++◌, Option, None, Some}
+use Rattle.std.proofs.Common.{refl, sym, ap, subst, ◌∙◌, arith, Vec, length}
 use lib.Dec.{eqb}
 use Rattle.std.specs.Global.{Global}
 use Rattle.std.proofs.lemmas.Bool.{ne_eqb}
+use Rattle.au_base.proofs.OptionLemmas.{map_some}
+use Rattle.au_base.proofs.ListLemmas.{each_passes, all_pass}
 use Rattle.au_type_texts.specs.declared.types.Closed.{Closed, Named as Named-of, Named'}
 use Rattle.au_type_texts.specs.declared.types.Closed.TheBlock.{backs-Closed, shown-the_row-Closed-0}
 use Rattle.au_type_texts.specs.Views.{closed_meaning}
@@ -51,39 +53,10 @@ use Rattle.au_instances.proofs.BecomingLemmas.{all_back, bound_to, bound_gives, 
 use Rattle.au_instances.proofs.ConstructorLemmas.{constructor_stays}
 use Rattle.au_instances.proofs.FormLemmas.{OverParameters, closed_each, form_closed, form_over}
 use Rattle.au_instances.proofs.PairLemmas.{class_among, in_classes}
-use Rattle.au_instances.proofs.TableLemmas.{row_gave, row_there, Contains-cases, Contains-first, Contains-rest}
+use Rattle.au_instances.proofs.TableLemmas.{row_gave, row_there}
 use Rattle.au_matching.proofs.SubstitutedLemmas.{untouched}
 
--- each of a list passes a test that all pass
-each_passes : (test : DeclAt → Bool) (classes : List DeclAt) (class : DeclAt) → Contains classes class →
-    list_all test classes ≡ true → test class ≡ true
-each_passes test [] class c all = absurd (nothing c)
-  where
-    nothing : Contains [] class → ⊥
-    nothing h = omega arith
-each_passes test (one ∷ rest) class c all =
-    let both = and_parts (test one) (list_all test rest) all in
-    by both.0 (λ h. each_passes test rest class h both.1) (Contains-cases one rest class c)
-  where
-    by : test one ≡ true → (Contains rest class → test class ≡ true) → (one ≡ class) ⊎ Contains rest class →
-        test class ≡ true
-    by mine others (inl is) = subst (λ k. test k ≡ true) is mine
-    by mine others (inr h) = others h
-
--- all of a list pass a test that each passes
-all_pass : (test : DeclAt → Bool) (classes : List DeclAt) →
-    ((class : DeclAt) → Contains classes class → test class ≡ true) → list_all test classes ≡ true
-all_pass test [] each = refl
-all_pass test (one ∷ rest) each =
-    and_from (test one) (list_all test rest) (each one (Contains-first one rest))
-    (all_pass test rest (λ class h. each class (Contains-rest one rest class h)))
-
 -- ---- what closes
-
-map_gave : {A B : Type 0} (f : A → B) (o : Option A) (y : B) → option_map f o ≡ Some y → (x : A)
-    × (o ≡ Some x) × (f x ≡ y)
-map_gave f None y e = absurd cc
-map_gave f (Some x) y e = (x, refl, same_Some (f x) y e)
 
 front_gave : (o : Option ClosedType) (rest : Option ClosedTypes) (list : ClosedTypes) →
     in_front o rest ≡ Some list → (first : ClosedType) × (others : ClosedTypes) × (o ≡ Some first)
@@ -99,11 +72,11 @@ closed_constructor_is whole.truth c e = ap closed_constructor (same_Some truth c
 closed_constructor_is (whole.integer kind) c e = ap closed_constructor (same_Some (integer kind) c e)
 closed_constructor_is whole.text c e = ap closed_constructor (same_Some text c e)
 closed_constructor_is (whole.parameter name) c e = absurd cc
-closed_constructor_is (whole.named at args) c e = let there = map_gave (named at) (all_closed args) c e
+closed_constructor_is (whole.named at args) c e = let there = map_some (named at) (all_closed args) c e
     in ap closed_constructor there.2
-closed_constructor_is (whole.reads to region) c e = let there = map_gave reads (closed to) c e
+closed_constructor_is (whole.reads to region) c e = let there = map_some reads (closed to) c e
     in ap closed_constructor there.2
-closed_constructor_is (whole.writes to region) c e = let there = map_gave writes (closed to) c e
+closed_constructor_is (whole.writes to region) c e = let there = map_some writes (closed to) c e
     in ap closed_constructor there.2
 
 -- a type that closes to a closed one
@@ -153,12 +126,12 @@ module _ (heads : List (DeclAt × Head)) (params : List Parameter) where
     universe_closed whole.text c e = ap (closed_universe heads) (same_Some text c e)
     universe_closed (whole.parameter name) c e = absurd cc
     universe_closed (whole.named at args) c e =
-        let there = map_gave (named at) (all_closed args) c e in
+        let there = map_some (named at) (all_closed args) c e in
         ap (λ all. of_row (head_of heads at) (judged all)) (universes_closed args there.0 there.1)
         ∙ ap (closed_universe heads) there.2
-    universe_closed (whole.reads to region) c e = let there = map_gave reads (closed to) c e
+    universe_closed (whole.reads to region) c e = let there = map_some reads (closed to) c e
         in ap (closed_universe heads) there.2
-    universe_closed (whole.writes to region) c e = let there = map_gave writes (closed to) c e
+    universe_closed (whole.writes to region) c e = let there = map_some writes (closed to) c e
         in ap (closed_universe heads) there.2
 
     argument_universe_closed : (one : Argument) (rest : Option ClosedTypes) (list : ClosedTypes) →
@@ -498,7 +471,7 @@ module _ (rows : List Row) (heads : List (DeclAt × Head)) where
 
       there : (list : ClosedTypes) × (all_closed (all_substituted made.by over.args) ≡ Some list)
           × (named over.at list ≡ t)
-      there = map_gave (named over.at) (all_closed (all_substituted made.by over.args)) t
+      there = map_some (named over.at) (all_closed (all_substituted made.by over.args)) t
           (subst (λ u. closed u ≡ Some t) is made.closes)
 
       stand : (list : ClosedTypes) → all_closed (all_substituted made.by over.args) ≡ Some list →
@@ -513,7 +486,7 @@ module _ (rows : List Row) (heads : List (DeclAt × Head)) where
           option_map (named over.at) (all_closed (all_substituted made.by over.args)) ≡ Some t →
           all_closed_stand heads generics (types_in (arguments_of head)) (parts_in rows heads t) ≡ true
       by list (named at others) known e closes =
-          let inner = map_gave (named over.at) (all_closed (all_substituted made.by over.args))
+          let inner = map_some (named over.at) (all_closed (all_substituted made.by over.args))
           (named at others) closes in
           let same_list : inner.0 ≡ others = cc in
           stand others (inner.1 ∙ ap Some same_list) known

@@ -4,6 +4,7 @@ use Rattle.std.proofs.Common.{ap, ◌∙◌, inl, inr, true≢false}
 use Rattle.std.specs.Prelude.{is_some, IsTrue}
 use Rattle.std.specs.Bool.{Decides}
 use Rattle.std.proofs.lemmas.Bool.{and_parts, and_from, or_cases, or_left, or_right}
+use Rattle.au_base.proofs.OptionLemmas.{some_of}
 use Rattle.au_syntax.specs.Plain.{Bytes}
 use Rattle.au_types.specs.declared.parameters.Parameter.{Parameter}
 use Rattle.au_types.specs.declared.types.DeclAt.{DeclAt}
@@ -21,10 +22,6 @@ use Rattle.au_instances.specs.Forms.{is_called, name_of, type_name, is_one_of}
 
 -- ---- the test decides
 
-there_is : {X : Type 0} (o : Option X) → is_some o ≡ true → (x : X) × (o ≡ Some x)
-there_is None e = absurd cc
-there_is (Some x) e = (x, refl)
-
 module _ (generics : List Bounded) (head : Meaning) where
   formed : has_form generics head ≡ true → HasForm generics head
   formed e =
@@ -34,7 +31,7 @@ module _ (generics : List Bounded) (head : Meaning) where
       ((is_closed head || (are_parameters params args && are_distinct args)) && all_stand params args) e in
       let rest = and_parts (is_closed head || (are_parameters params args && are_distinct args))
       (all_stand params args) both.1 in
-      let there = there_is (constructor_of head) both.0 in
+      let there = some_of (constructor_of head) both.0 in
       record {
         constructor = there.0;
         heads = there.1;

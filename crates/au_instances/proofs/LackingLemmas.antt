@@ -2,10 +2,11 @@
 use Rattle.std.proofs.Common.{◌≡◌, ℕ, ◌+◌, ◌<◌, ◌≤◌, Bool, true, false, cond, List, [], ◌∷◌, ◌++◌, length}
 use Rattle.std.proofs.Common.{drop, get_or, Option, None, Some, refl, sym, ap, subst, ◌∙◌, Vec}
 use Rattle.std.specs.Global.{Global}
+use Rattle.au_base.proofs.ListLemmas.{drop_at}
 use Rattle.au_types.specs.declared.headings.Head.{Head}
-use Rattle.au_types.specs.declared.types.Arg.{Arg, Of}
-use Rattle.au_types.proofs.TypeLemmas.{named_means, type_argument_means}
-use Rattle.au_matching.specs.Forming.{ArgumentStandsOver, StandsOver, all_formed, fits_in_kind}
+use Rattle.au_types.specs.declared.types.Arg.{Arg}
+use Rattle.au_types.proofs.TypeLemmas.{named_means}
+use Rattle.au_matching.specs.Forming.{StandsOver, all_formed, fits_in_kind}
 use Rattle.std.specs.Prelude.{slice_get, is_none, if◌then◌else◌, unwrap_or}
 use Rattle.std.specs.List.{flat_map}
 use Rattle.std.specs.Option.{option_map, option_or}
@@ -30,7 +31,7 @@ use Rattle.au_types.specs.declared.types.Arg.TheBlock.{backs-Ty, shown-the_row-A
 use Rattle.au_instances.specs.Views.{first_in, lacking_among, lacking_at, lacking_in, lacking_of, parts_in}
 use Rattle.au_instances.proofs.PairLemmas.{nothing_below, pairs_are}
 use Rattle.au_instances.proofs.StandingLemmas.{arguments_stand}
-use Rattle.au_instances.proofs.WalkLemmas.{dropped, item_left}
+use Rattle.au_instances.proofs.WalkLemmas.{item_left}
 
 module _ (sight : Sight) where
   -- one list of pairs before another
@@ -78,7 +79,7 @@ module _ (sight : Sight) where
           by None at e = absurd cc
           by (Some g) at e =
               let is : g.parameter ≡ p = same_Some g.parameter p e in
-              ap (λ gs. led_all (flat_map constraints_by gs)) (dropped some i g at)
+              ap (λ gs. led_all (flat_map constraints_by gs)) (drop_at some i g at)
               ∙ ap (first_in sight) (flat_map-append led (constraints_by g)
               (flat_map constraints_by (drop (i + 1) some)))
               ∙ first_both (flat_map led (constraints_by g))
@@ -164,10 +165,6 @@ module _ (sight : Sight) where
 -- ---- parts of types stand as the types do
 
 module _ (heads : List (DeclAt × Head)) (scope : List Parameter) where
-  pub type_stands : (one : Arg) (of : Ty) → one ≡ Of of → ArgumentStandsOver heads scope (argument one) →
-      StandsOver heads scope (meaning of)
-  type_stands one of is h = subst (ArgumentStandsOver heads scope) (ap argument is ∙ type_argument_means of) h
-
   pub arguments_of_stand : (of : Ty) (at : DeclAt) (args : Vec Arg Global) → of ≡ Named-of at args →
       StandsOver heads scope (meaning of) → all_formed fits_in_kind heads scope (argument_all args.items) ≡ true
   arguments_of_stand of at args is h = arguments_stand heads scope at (argument_all args.items)

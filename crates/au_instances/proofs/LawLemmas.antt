@@ -5,6 +5,7 @@ use Rattle.std.specs.Prelude.{if◌then◌else◌}
 use Rattle.std.specs.List.{flat_map}
 use Rattle.std.proofs.lemmas.Option.{same_Some}
 use Rattle.std.proofs.lemmas.Slice.Eq.{bytes_eq-Decides}
+use Rattle.au_base.proofs.ListLemmas.{Contains-first, Contains-rest}
 use Rattle.au_syntax.specs.Plain.{Bytes}
 use Rattle.au_types.specs.declared.headings.Head.{Head}
 use Rattle.au_types.specs.declared.parameters.Parameter.{Parameter}
@@ -30,7 +31,7 @@ use Rattle.au_instances.proofs.ConstructorLemmas.{constructor_stays}
 use Rattle.au_instances.proofs.FormLemmas.{form_over}
 use Rattle.au_instances.proofs.PairLemmas.{constrained_stands, listed_constrains, pairs_are}
 use Rattle.au_instances.proofs.RowLemmas.{row_for_gave, row_for_there}
-use Rattle.au_instances.proofs.TableLemmas.{Contains-first, Contains-rest, row_there}
+use Rattle.au_instances.proofs.TableLemmas.{row_there}
 
 -- ---- one row
 

@@ -9,6 +9,8 @@ use Rattle.std.proofs.lemmas.Bool.{and_parts, or_cases, or_left, or_right}
 use Rattle.std.proofs.lemmas.List.Elements.{Contains-append_cases, Contains-append_left, Contains-append_right}
 use Rattle.std.proofs.lemmas.List.Folds.{find-append}
 use Rattle.std.proofs.lemmas.Slice.Eq.{bytes_eq-Decides}
+use Rattle.au_base.proofs.OptionLemmas.{or_both}
+use Rattle.au_base.proofs.ListLemmas.{Contains-first, Contains-rest, Contains-cases}
 use Rattle.au_syntax.specs.Plain.{Bytes}
 use Rattle.au_types.specs.declared.headings.Head.{Head}
 use Rattle.au_types.specs.declared.parameters.Parameter.{Parameter}
@@ -31,7 +33,6 @@ use Rattle.au_instances.specs.Rows.{Row}
 use Rattle.au_instances.specs.Tables.{IsTable, row_for}
 use Rattle.au_instances.proofs.FormLemmas.{form_over}
 use Rattle.au_instances.proofs.RowLemmas.{row_for_gave, row_for_there}
-use Rattle.au_instances.proofs.TableLemmas.{Contains-cases, Contains-first, Contains-rest}
 
 -- ---- lists of lists
 
@@ -44,17 +45,13 @@ module _ {X Y : Type 0} (test : Y → Bool) (f : X → List Y) where
       ∙ ap (λ o. option_or o (find test (flat_map f xs))) (none x (Contains-first x xs))
       ∙ flat_none xs (λ y c. none y (Contains-rest x xs y c))
 
-  both_none : (o other : Option Y) → option_or o other ≡ None → (o ≡ None) × (other ≡ None)
-  both_none None other e = (refl, e)
-  both_none (Some y) other e = absurd cc
-
   pub each_none : (xs : List X) (x : X) → find test (flat_map f xs) ≡ None → Contains xs x → find test (f x) ≡ None
   each_none [] x e c = absurd (nothing c)
     where
       nothing : Contains [] x → ⊥
       nothing h = omega arith
   each_none (y ∷ ys) x e c =
-      let both = both_none (find test (f y)) (find test (flat_map f ys))
+      let both = or_both (find test (f y)) (find test (flat_map f ys))
       (sym (find-append test (f y) (flat_map f ys)) ∙ e) in
       by both.0 (each_none ys x both.1) (Contains-cases y ys x c)
     where

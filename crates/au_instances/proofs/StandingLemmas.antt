@@ -7,10 +7,11 @@ use Rattle.au_types.specs.declared.parameters.Parameter.{Parameter}
 use Rattle.au_types.specs.declared.types.Arg.{Arg}
 use Rattle.au_types.specs.declared.types.DeclAt.{DeclAt}
 use Rattle.au_types.specs.Rows.{head_of}
-use Rattle.au_types.specs.Types.{Argument, Arguments, named, of_type, in_region, no_arguments, arguments}
+use Rattle.au_types.specs.Types.{Argument, Arguments, named, no_arguments, arguments}
 use Rattle.au_types.specs.Views.{argument, argument_all}
 use Rattle.au_matching.specs.Forming.{ArgumentStandsOver, StandsOver, fit_row, fits_in_kind, is_formed}
 use Rattle.au_matching.specs.Forming.{argument_formed, all_formed}
+use Rattle.au_judged_types.proofs.FittingLemmas.{argument_stands}
 
 -- the first of the arguments that are left, and the others
 pub arguments_left : (xs : List Arg) (i : ℕ) (d : Arg) → i < length xs → argument_all (drop i xs)
@@ -27,12 +28,6 @@ module _ (heads : List (DeclAt × Head)) (scope : List Parameter) where
   arguments_stand at args h = (and_parts (fit_row fits_in_kind (head_of heads at) args)
       (all_formed fits_in_kind heads scope args) h).1
 
-  argument_stands : (one : Argument) → argument_formed fits_in_kind heads scope one ≡ true →
-      ArgumentStandsOver heads scope one
-  unfolding argument_formed
-  argument_stands (of_type t) h = h
-  argument_stands (in_region region) h = tt
-
   pub first_stands : (one : Argument) (rest : Arguments) →
       all_formed fits_in_kind heads scope (arguments one rest) ≡ true → ArgumentStandsOver heads scope one
       × (all_formed fits_in_kind heads scope rest ≡ true)
@@ -40,7 +35,7 @@ module _ (heads : List (DeclAt × Head)) (scope : List Parameter) where
   first_stands one rest h =
       let both = and_parts (argument_formed fits_in_kind heads scope one)
       (all_formed fits_in_kind heads scope rest) h in
-      (argument_stands one both.0, both.1)
+      (argument_stands heads scope one both.0, both.1)
 
   -- of arguments that are left, the first stands over them, and so do the others
   pub left_stands : (args items : List Arg) (i : ℕ) (item : Arg) →

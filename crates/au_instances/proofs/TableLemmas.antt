@@ -1,11 +1,11 @@
 -- Rows of a table are told apart by class and constructor.
-use Rattle.std.proofs.Common.{◌≡◌, ◌⊎◌, ℕ, ◌<◌, Bool, true, false, cond, List, [], ◌∷◌, get_or, Option, None}
+use Rattle.std.proofs.Common.{◌≡◌, ◌⊎◌, ◌<◌, Bool, true, false, cond, List, [], ◌∷◌, get_or, Option, None}
 use Rattle.std.proofs.Common.{Some, Contains, refl, sym, ap, subst, ◌∙◌, inl, inr, arith, true≢false}
 use Rattle.std.specs.List.{find}
 use Rattle.std.proofs.lemmas.Bool.{and_parts, and_from, cases_order}
 use Rattle.std.proofs.lemmas.Option.{same_Some}
 use Rattle.std.proofs.lemmas.List.{get_or_default}
-use Rattle.std.proofs.lemmas.List.Elements.{Contains-get_or, Contains-append_cases, Contains-append_right}
+use Rattle.au_base.proofs.ListLemmas.{Contains-first, Contains-rest, Contains-cases}
 use Rattle.au_types.specs.declared.types.DeclAt.{DeclAt}
 use Rattle.au_types.specs.Rows.{same_place}
 use Rattle.au_types.proofs.SameLemmas.{place_is, place_self}
@@ -16,26 +16,6 @@ use Rattle.au_instances.specs.Tables.{IsTable, is_row_of, row_of}
 use Rattle.au_instances.proofs.ConstructorLemmas.{is_that, that_is}
 
 -- ---- what is found in lists
-
--- an element of a list in front of which one stands is that one or one of the others
-pub Contains-cases : {X : Type 0} (x : X) (xs : List X) (y : X) → Contains (x ∷ xs) y → (x ≡ y) ⊎ Contains xs y
-Contains-cases x xs y c = by (Contains-append_cases (x ∷ []) xs y c)
-  where
-    only : Contains (x ∷ []) y → x ≡ y
-    only (k, within, is) = is' k within is
-      where
-        is' : (k : ℕ) → k < 1 → get_or (x ∷ []) k y ≡ y → x ≡ y
-        is' k within is = let zero_is : k ≡ 0 = omega arith in sym (ap (λ i. get_or (x ∷ []) i y) zero_is) ∙ is
-
-    by : Contains (x ∷ []) y ⊎ Contains xs y → (x ≡ y) ⊎ Contains xs y
-    by (inl h) = inl (only h)
-    by (inr h) = inr h
-
-pub Contains-first : {X : Type 0} (x : X) (xs : List X) → Contains (x ∷ xs) x
-Contains-first x xs = Contains-get_or (x ∷ xs) 0 x (omega arith)
-
-pub Contains-rest : {X : Type 0} (x : X) (xs : List X) (y : X) → Contains xs y → Contains (x ∷ xs) y
-Contains-rest x xs y c = Contains-append_right (x ∷ []) xs y c
 
 -- what is found is in the list and passes the test
 pub find_gave : {X : Type 0} (p : X → Bool) (xs : List X) (y : X) → find p xs ≡ Some y → Contains xs y × (p y ≡ true)

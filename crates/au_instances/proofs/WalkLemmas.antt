@@ -4,18 +4,14 @@ use Rattle.std.proofs.Common.{length, drop, get_or, Option, None, Some, refl, sy
 use Prim.Native.Nat.{zero}
 use Rattle.std.specs.Prelude.{slice_get}
 use Rattle.std.proofs.lemmas.List.{drop_more, drop_all}
-use Rattle.std.proofs.lemmas.Option.{slice_get_within, get_or_from_slice_get, slice_get-get_or}
+use Rattle.std.proofs.lemmas.Option.{slice_get-get_or}
+use Rattle.au_base.proofs.ListLemmas.{drop_at}
 use Rattle.au_types.specs.declared.types.Arg.{Arg}
 use Rattle.au_types.specs.declared.types.Region.{Region}
 use Rattle.au_types.specs.Types.{Meaning, of_type, in_region}
 use Rattle.au_types.specs.Views.{argument, argument_all}
 use Rattle.au_instances.specs.ClosedInstances.{type_in, types_in}
 use Rattle.au_instances.proofs.StandingLemmas.{arguments_left}
-
--- an element, and those behind it
-pub dropped : {X : Type 0} (xs : List X) (i : ℕ) (x : X) → slice_get xs i ≡ Some x → drop i xs ≡ x ∷ drop (i + 1) xs
-dropped xs i x is = drop_more xs i x (slice_get_within xs i x is)
-    ∙ ap (λ y. y ∷ drop (i + 1) xs) (get_or_from_slice_get xs i x x is)
 
 pub item_left : {X : Type 0} (xs items : List X) (i : ℕ) (x : X) → items ≡ xs → i < length items →
     x ≡ get_or items i x → drop i xs ≡ x ∷ drop (i + 1) xs
@@ -34,7 +30,7 @@ module _ {A B : Type 0} (F : List A → List B → Bool) (G : A → B → Bool)
       → F xs ys ≡ (G a b && F (drop (i + 1) xs) (drop (i + 1) ys))
   zip_step xs ys items i a b rest here same inside is =
       rest
-      ∙ ap (λ zs. F zs (drop i ys)) (dropped xs i a here)
+      ∙ ap (λ zs. F zs (drop i ys)) (drop_at xs i a here)
       ∙ ap (F (a ∷ drop (i + 1) xs)) (item_left ys items i b same inside is)
       ∙ both a (drop (i + 1) xs) b (drop (i + 1) ys)
 

@@ -5,6 +5,7 @@ use Rattle.std.specs.Prelude.{◌&&◌, ◌↔◌, if◌then◌else◌}
 use Rattle.std.specs.Option.{option_map}
 use Rattle.std.proofs.lemmas.Bool.Decides.{eqb_tells}
 use Rattle.au_base.specs.declared.kinds.IntKind.TheVariants as kinds
+use Rattle.au_base.proofs.BoolLemmas.{and_true, and_false}
 use Rattle.au_syntax.specs.declared.declarations.Universe.{Universe}
 use Rattle.au_syntax.specs.declared.declarations.Universe.TheVariants as universes
 use Rattle.au_syntax.specs.declared.types.Access.{Access}
@@ -26,6 +27,7 @@ use Rattle.au_types.specs.Meant as meant
 use Rattle.au_types.specs.Meant.{followed, region_of, region_meant, arguments_meant, argument_meant}
 use Rattle.au_types.specs.Meant.{all_given as all_meant, applied as applied_meant, meant as type_meant}
 use Rattle.au_types.specs.Senses.{Sense, a_type, a_span, a_region, declared, a_class, sense_of}
+use Rattle.au_types.proofs.MeantLemmas.{followed_none}
 use Rattle.au_judged_types.specs.Agreement.{found, only_formed}
 use Rattle.au_judged_types.specs.Judging.{Given, alone, all_given, applied, argument_judged, arguments_judged}
 use Rattle.au_judged_types.specs.Judging.{declared_judged, first_unfit, fitted, judged, refers, region_judged}
@@ -237,10 +239,6 @@ module _ (heads : List (DeclAt × Head)) (params : List Parameter) where
       all_only (arguments_meant expected others) all
       (sym (ap found is) ∙ arguments_found expected args others lengths agree)
 
-  none_follows : (one : Option Argument) → followed one None ≡ None
-  none_follows None = refl
-  none_follows (Some x) = refl
-
   unequal_meant : (expected : List Parameter) (args : List Given) (others : List meant.Given) →
       (length args ≡ length expected → ⊥) → Agree args others → arguments_meant expected others ≡ None
   unequal_meant [] [] [] unequal agree = absurd (unequal refl)
@@ -251,17 +249,9 @@ module _ (heads : List (DeclAt × Head)) (params : List Parameter) where
   unequal_meant (first ∷ expected) (one ∷ rest) (other ∷ more) unequal agree =
       ap (followed (argument_meant first.universe other))
       (unequal_meant expected rest more (λ e. unequal (ap suc e)) agree.2)
-      ∙ none_follows (argument_meant first.universe other)
+      ∙ followed_none (argument_meant first.universe other)
 
   -- ---- declared types
-
-  and_true : (b : Bool) → (b && true) ≡ b
-  and_true true = refl
-  and_true false = refl
-
-  and_false : (b : Bool) → (b && false) ≡ false
-  and_false true = refl
-  and_false false = refl
 
   named_formed : (at : DeclAt) (all : Arguments) → formed (mean.named at all)
       ≡ (fit_row (fits heads params) (head_of heads at) all && all_formed (fits heads params) heads params all)

@@ -2,8 +2,8 @@
 use Rattle.std.proofs.Common.{◌≡◌, ℕ, suc, ◌+◌, ◌<◌, true, false, List, [], ◌∷◌, length, drop, get_or, map}
 use Rattle.std.proofs.Common.{slice_get, Some, if◌then◌else◌, refl, ap, subst, sym, ◌∙◌}
 use Rattle.std.specs.Str.{bytes_eq}
-use Rattle.std.proofs.lemmas.List.{drop_more}
-use Rattle.std.proofs.lemmas.Option.{slice_get_within, slice_get_read, get_or_from_slice_get}
+use Rattle.std.proofs.lemmas.Option.{slice_get_read}
+use Rattle.au_base.proofs.ListLemmas.{drop_at}
 use Rattle.au_syntax.specs.Plain.{Bytes}
 use Rattle.au_types.specs.declared.parameters.Parameter.{Parameter}
 use Rattle.au_types.specs.declared.types.DeclAt.{DeclAt}
@@ -27,10 +27,6 @@ pub of_each : {A : Type 0} (f : A → Parameter) (g : A → List DeclAt) (xs : L
 of_each f g [] = refl
 of_each f g (x ∷ xs) = ap (λ rest. record { parameter = f x; classes = g x } ∷ rest) (of_each f g xs)
 
-dropped : {X : Type 0} (xs : List X) (i : ℕ) (x : X) → slice_get xs i ≡ Some x → drop i xs ≡ x ∷ drop (i + 1) xs
-dropped xs i x is = drop_more xs i x (slice_get_within xs i x is)
-    ∙ ap (λ y. y ∷ drop (i + 1) xs) (get_or_from_slice_get xs i x x is)
-
 -- the first of the type parameters that are left has the name, or the others decide
 classes_step : (ps : List Parameter) (all : List (List DeclAt)) (name : Bytes) (i : ℕ) (p : Parameter)
     (classes : List DeclAt) →
@@ -39,8 +35,8 @@ classes_step : (ps : List Parameter) (all : List (List DeclAt)) (name : Bytes) (
     ≡ (if bytes_eq p.name name then Some classes else classes_of
     (bounded (drop (i + 1) ps) (drop (i + 1) all)) name)
 classes_step ps all name i p classes here there =
-    ap (λ xs. classes_of (bounded xs (drop i all)) name) (dropped ps i p here)
-    ∙ ap (λ xs. classes_of (bounded (p ∷ drop (i + 1) ps) xs) name) (dropped all i classes there)
+    ap (λ xs. classes_of (bounded xs (drop i all)) name) (drop_at ps i p here)
+    ∙ ap (λ xs. classes_of (bounded (p ∷ drop (i + 1) ps) xs) name) (drop_at all i classes there)
 
 module _ (ps : List Parameter) (all items : List (List DeclAt)) (name : Bytes) (i : ℕ) (p : Parameter)
     (classes : List DeclAt) where

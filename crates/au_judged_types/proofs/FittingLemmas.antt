@@ -5,7 +5,7 @@ use Rattle.std.specs.Prelude.{slice_get}
 use Rattle.std.specs.Option.{option_or}
 use Rattle.std.proofs.lemmas.Bool.{and_from, and_parts}
 use Rattle.std.proofs.lemmas.List.{drop_more, drop_all}
-use Rattle.std.proofs.lemmas.Option.{slice_get_within, get_or_from_slice_get}
+use Rattle.au_base.proofs.ListLemmas.{drop_at}
 use Rattle.au_syntax.specs.declared.declarations.Universe.{Universe}
 use Rattle.au_syntax.specs.declared.declarations.Universe.TheVariants as universes
 use Rattle.au_types.specs.declared.headings.Head.{Head}
@@ -49,7 +49,7 @@ module _ (heads : List (DeclAt × Head)) (params : List Parameter) where
       (all_formed fits_in_kind heads params (argument_all rest)) formed
 
   -- an argument that is formed stands over the rows
-  argument_stands : (one : Argument) → argument_formed fits_in_kind heads params one ≡ true →
+  pub argument_stands : (one : Argument) → argument_formed fits_in_kind heads params one ≡ true →
       ArgumentStandsOver heads params one
   unfolding argument_formed
   argument_stands (mean.of_type t) formed = formed
@@ -71,12 +71,6 @@ module _ (heads : List (DeclAt × Head)) (params : List Parameter) where
       )
 
   -- what is left begins with what stands at the index
-  expected_left : (expected : List Parameter) (i : ℕ) (one : Parameter) → slice_get expected i ≡ Some one →
-      drop i expected ≡ one ∷ drop (i + 1) expected
-  expected_left expected i one stands =
-      drop_more expected i one (slice_get_within expected i one stands)
-      ∙ ap (λ p. p ∷ drop (i + 1) expected) (get_or_from_slice_get expected i one one stands)
-
   args_left : (args items : List Arg) (i : ℕ) (item : Arg) → items ≡ args → i < length items →
       item ≡ get_or items i item → drop i args ≡ item ∷ drop (i + 1) args
   args_left args items i item same inside is =
@@ -96,7 +90,7 @@ module _ (heads : List (DeclAt × Head)) (params : List Parameter) where
       let at_both : StandFor heads params (one ∷ drop (i + 1) expected)
       (argument_all (item ∷ drop (i + 1) args)) =
       subst (λ ps. StandFor heads params ps (argument_all (item ∷ drop (i + 1) args)))
-      (expected_left expected i one stands) at_args in
+      (drop_at expected i one stands) at_args in
       stand_parts one (drop (i + 1) expected) item (drop (i + 1) args) at_both
 
   pub step_unfit : (expected : List Parameter) (args items : List Arg) (i : ℕ) (one : Parameter) (item : Arg)
@@ -109,7 +103,7 @@ module _ (heads : List (DeclAt × Head)) (params : List Parameter) where
       ≡ option_or why (first_unfit heads params (drop (i + 1) expected) (argument_all (drop (i + 1) args)))
   step_unfit expected args items i one item why so_far stands same inside is found =
       so_far
-      ∙ ap (λ ps. first_unfit heads params ps (argument_all (drop i args))) (expected_left expected i one stands)
+      ∙ ap (λ ps. first_unfit heads params ps (argument_all (drop i args))) (drop_at expected i one stands)
       ∙ ap (λ xs. first_unfit heads params (one ∷ drop (i + 1) expected) (argument_all xs))
       (args_left args items i item same inside is)
       ∙ ap (λ o. option_or o (first_unfit heads params (drop (i + 1) expected)

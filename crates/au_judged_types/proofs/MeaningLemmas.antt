@@ -3,6 +3,7 @@ use Rattle.std.proofs.Common.{◌≡◌, ℕ, ◌+◌, ◌<◌, length, drop, ge
 use Rattle.std.proofs.Common.{false, Option, None, Some, is_some, if◌then◌else◌, refl, ap, sym, ◌∙◌}
 use Rattle.std.proofs.lemmas.List.{at_drop_more}
 use Rattle.std.specs.Option.{option_or, option_to_list}
+use Rattle.au_base.proofs.OptionLemmas.{or_both}
 use Rattle.au_syntax.specs.Modules.{Constrained}
 use Rattle.au_syntax.specs.Names.{Placed}
 use Rattle.au_syntax.specs.Plain.{Bytes}
@@ -40,11 +41,8 @@ pub parameters_written : (class_of : Bytes → Option DeclAt) (written : List (C
 parameters_written class_of [] = refl
 parameters_written class_of (p ∷ rest) = ap (λ ps. parameter p.parameter ∷ ps) (parameters_written class_of rest)
 
-none_of_both : (a b : Option Misfit) → option_or a b ≡ None → (a ≡ None) × (b ≡ None)
-none_of_both None b none = (refl, none)
-none_of_both (Some found) b none = absurd cc
-
-no_other : (b : Bool) (found : Misfit) (o : Option Misfit) → (if b then Some found else o) ≡ None → o ≡ None
+pub no_other : (b : Bool) (found : Misfit) (o : Option Misfit) → (if b then Some found else o) ≡ None →
+    o ≡ None
 no_other true found o none = absurd cc
 no_other false found o none = none
 
@@ -53,7 +51,7 @@ names_kept : (class_of : Bytes → Option DeclAt) (names : List (Placed Bytes)) 
     ≡ None → map Some (classes_meant class_of names) ≡ map (λ one. class_of one.name) names
 names_kept class_of [] none = refl
 names_kept class_of (one ∷ rest) none =
-    let both = none_of_both (name_misfit class_of one) (no_class class_of rest) none in
+    let both = or_both (name_misfit class_of one) (no_class class_of rest) none in
     by (class_of one.name) both.0 (names_kept class_of rest both.1)
   where
     by : (o : Option DeclAt) → (if is_some o then None else Some (NoClass one.at)) ≡ None
@@ -67,7 +65,7 @@ constraints_kept : (class_of : Bytes → Option DeclAt) (written : List (Constra
     → map (λ g. map Some g.classes) (map (with_classes class_of) written) ≡ named_classes class_of written
 constraints_kept class_of [] none = refl
 constraints_kept class_of (p ∷ rest) none =
-    let both = none_of_both (misfit_of class_of p) (first_misfit class_of rest) none in
+    let both = or_both (misfit_of class_of p) (first_misfit class_of rest) none in
     let named = no_other (is_constrained_region p.parameter.universe p.classes) (OfRegion p.parameter.name.at)
     (no_class class_of p.classes) both.0 in
     ap (λ first. first ∷ map (λ g. map Some g.classes) (map (with_classes class_of) rest))

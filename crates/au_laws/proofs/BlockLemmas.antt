@@ -14,7 +14,7 @@ use Rattle.au_types.specs.Types as mean
 use Rattle.au_types.specs.Types.{Meaning}
 use Rattle.au_typing.specs.Scopes.{Scope}
 use Rattle.au_typing.specs.Bare.{is_bare}
-use Rattle.au_typing.specs.Faults.{Fault, Noting, ◌>>=◌, after_return, check, known_or, shape, integer_wanted}
+use Rattle.au_typing.specs.Faults.{Fault, Noting, ◌>>=◌, check, known_or, shape, integer_wanted}
 use Rattle.au_typing.specs.Faults.{not_free, record_wanted}
 use Rattle.au_typing.specs.Good.{IsNoting}
 use Rattle.au_typing.specs.Lookups.{is_free_in, outcome_noted, written_means, written_type}
@@ -25,7 +25,7 @@ use Rattle.au_typing.specs.Search.{note}
 use Rattle.au_typing.proofs.Refused.{noting_is_given}
 use Rattle.au_typing.proofs.Sound.{sound}
 use Rattle.au_typing.proofs.Steps.{bind_found, bind_ok, ok_same}
-use Rattle.au_typing.specs.DerivationFaults.{Judged, ◌then◌, StatementFault, fault_at, placed, refused}
+use Rattle.au_typing.specs.DerivationFaults.{Judged, ◌then◌, StatementFault, fault_at, placed}
 use Rattle.au_typing.specs.InScope.{after, fixed_variable, with_bound, with_reference, with_variable}
 use Rattle.au_typing.specs.Parts.{borrow_type, heads_of, mode_for}
 use Rattle.au_typing.specs.Returns.{returns}
@@ -40,6 +40,8 @@ use Rattle.au_typing.proofs.PartLemmas.{borrow_found, bounds_found, case_found, 
 use Rattle.au_typing.proofs.SoundLemmas.{block_sound, statement_sound}
 use Rattle.au_typing.proofs.SoundPartLemmas.{borrow_sound, bounds_sound, case_sound, lent_sound}
 use Rattle.au_typing.proofs.StepLemmas.{placed_gave, then_gave}
+use Rattle.au_typing.proofs.RefusalLemmas.{fault_is, then_failed, next_failed}
+use Rattle.au_typing.proofs.OrderLemmas.{bind_fails}
 use Rattle.au_laws.specs.FirstFaults.{FirstFault}
 use Rattle.au_laws.specs.FirstInStatements.{BehindTest, BlockNext, BlockNoted, BlocksNoted, ExpressionNext}
 use Rattle.au_laws.specs.FirstInStatements.{FaultIn, FaultOf, InArm, OwnFault, StatementBreaks}
@@ -55,7 +57,7 @@ use Rattle.au_laws.specs.FirstInStatements.{of_destructured, of_for, of_return, 
 use Rattle.au_laws.specs.FirstInStatements.{of_the_first, of_the_rest, of_the_statement, of_while}
 use Rattle.au_laws.specs.StatementClauses.{of_assigned, of_borrow_into, of_bounds, of_case, of_free, of_lent}
 use Rattle.au_laws.specs.StatementClauses.{of_put, of_taken}
-use Rattle.au_laws.proofs.ClauseLemmas.{bind_fails, fails_first, first_fails}
+use Rattle.au_laws.proofs.ClauseLemmas.{fails_first, first_fails}
 use Rattle.au_laws.proofs.NodeLemmas.{pair_fails, pair_given}
 use Rattle.au_laws.proofs.OwnLemmas.{assigned_failed, assigned_given, bounds_failed, case_failed}
 use Rattle.au_laws.proofs.OwnLemmas.{declared_failed, put_failed, put_given, result_failed, taken_failed}
@@ -65,14 +67,6 @@ use Rattle.au_laws.proofs.StatementClauseLemmas.{only_lent_tells, put_tells, res
 use Rattle.au_laws.proofs.TellLemmas.{fault_fails}
 
 -- ---- steps
-
-pub same_judged : {A : Type 0} (f g : StatementFault) → ◌≡◌ {A = Judged A} (Err f) (Err g) → f ≡ g
-same_judged f g h = cc
-
-pub then_failed : {A B : Type 0} (r : Judged A) (next : A → Judged B) (f : StatementFault)
-    → (r then next) ≡ Err f → (r ≡ Err f) ⊎ ((x : A) × (r ≡ Ok x) × (next x ≡ Err f))
-then_failed (Ok x) next f h = inr (x, refl, h)
-then_failed (Err g) next f h = inl (ap Err (same_judged g f h))
 
 pub then_fails : {A B : Type 0} {r : Judged A} {f : StatementFault} (next : A → Judged B) → r ≡ Err f
     → (r then next) ≡ Err f
@@ -85,7 +79,7 @@ then_found next h = ap (λ r. r then next) h
 pub placed_failed : {A : Type 0} (at : Pos) (r : Noting A) (f : StatementFault) → placed at r ≡ Err f
     → (g : Fault) × (r ≡ Err g) × (f ≡ fault_at at g)
 placed_failed at (Ok x) f h = absurd cc
-placed_failed at (Err g) f h = (g, refl, sym (same_judged (fault_at at g) f h))
+placed_failed at (Err g) f h = (g, refl, sym (fault_is (fault_at at g) f h))
 
 -- what stands behind a step that fails at its place
 pub own_fails : {A B : Type 0} (at : Pos) {r : Noting A} {f : Fault} (next : A → Judged B) → r ≡ Err f
@@ -99,7 +93,7 @@ own_found at next h = ap (λ r. placed at r then next) h
 pub only_then : {A B : Type 0} (r : Judged A) (g : A → B) (f : StatementFault)
     → (r then λ x. Ok (g x)) ≡ Err f → r ≡ Err f
 only_then (Ok x) g f h = absurd cc
-only_then (Err k) g f h = ap Err (same_judged k f h)
+only_then (Err k) g f h = ap Err (fault_is k f h)
 
 -- ---- from the first fault to the search
 
@@ -377,14 +371,6 @@ with_own_alone s sc f r made own h =
   where
     never : (a : NotedStatement) → ◌≡◌ {A = Judged NotedStatement} (Ok a) (Err f) → ⊥
     never a h = cc
-
-next_failed : (b : Bool) (rest : PlainStatements) (f : StatementFault) → judge_next b rest ≡ Err f
-    → (next : PlainStatement) × (more : PlainStatements) × (rest ≡ statements next more) × (b ≡ true)
-    × (f ≡ refused (place_of next) after_return)
-next_failed true (statements next more) f h =
-    (next, more, refl, refl, sym (same_judged (refused (place_of next) after_return) f h))
-next_failed true no_statements f h = absurd cc
-next_failed false rest f h = absurd cc
 
 goes_on : (b : Bool) (rest : PlainStatements) (sc : Scope) (u : Unit {0}) (f : StatementFault)
     → judge_next b rest ≡ Ok u → note_block rest sc ≡ Err f → b ≡ false

@@ -36,13 +36,15 @@ use Rattle.au_laws.specs.FirstInPrograms.{in_its_header, its_type, its_value, no
 use Rattle.au_laws.specs.FirstInPrograms.{of_a_function, of_an_instance, of_header, of_parameters}
 use Rattle.au_laws.specs.StatementClauses.{formed}
 use Rattle.au_laws.proofs.BlockLemmas.{block_given, block_tells, fault_in_fails, only_then, own_fails}
-use Rattle.au_laws.proofs.BlockLemmas.{own_found, placed_failed, same_judged, then_failed, then_fails}
+use Rattle.au_laws.proofs.BlockLemmas.{own_found, placed_failed, then_fails}
 use Rattle.au_laws.proofs.BlockLemmas.{then_found}
-use Rattle.au_laws.proofs.ClauseLemmas.{Tells, bind_failed, bind_fails, fails_first, fault_of, first_fails, in_turn}
+use Rattle.au_laws.proofs.ClauseLemmas.{Tells, bind_failed, fails_first, fault_of, first_fails, in_turn}
 use Rattle.au_laws.proofs.PassLemmas.{same_fault}
 use Rattle.au_laws.proofs.StatementClauseLemmas.{formed_tells}
 use Rattle.au_laws.proofs.TellLemmas.{fault_fails, not_meant, tells}
 use Rattle.au_typing.proofs.SoundLemmas.{block_sound}
+use Rattle.au_typing.proofs.RefusalLemmas.{fault_is, then_failed}
+use Rattle.au_typing.proofs.OrderLemmas.{bind_fails}
 use Rattle.au_laws.specs.FirstInStatements.{BlockNoted}
 
 -- ---- headers
@@ -70,7 +72,7 @@ module _ (outside : Outside) where
 
   end_failed : (b : Bool) (stop : Pos) (f : StatementFault) → judge_end b stop ≡ Err f
       → (b ≡ false) × (f ≡ refused stop falls_out)
-  end_failed false stop f h = (refl, sym (same_judged (refused stop falls_out) f h))
+  end_failed false stop f h = (refl, sym (fault_is (refused stop falls_out) f h))
   end_failed true stop f h = absurd cc
 
   pub body_fails : (at : Pos) (generics : List (Constrained Bytes)) (header : Header Bytes)

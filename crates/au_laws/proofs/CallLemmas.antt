@@ -1,6 +1,7 @@
 -- What stops the noting of a call, both ways.
 use Rattle.std.proofs.Common.{◌≡◌, ◌⊎◌, inl, inr, ℕ, zero, suc, Bool, true, false, List, [], ◌∷◌, refl, sym}
 use Rattle.std.proofs.Common.{ap, subst, ◌∙◌, Option, Some, None, Ok, Err, length}
+use Rattle.au_base.proofs.BoolLemmas.{never_both}
 use Rattle.au_syntax.specs.Plain.{Bytes, PlainExpression}
 use Rattle.au_types.specs.Types.{Meaning}
 use Rattle.au_matching.specs.Bindings.{Bindings}
@@ -16,10 +17,11 @@ use Rattle.au_typing.specs.Search.{note_expression}
 use Rattle.au_typing.specs.SearchCalls.{Half, Operand, first, first_step, half_of, put_before, second}
 use Rattle.au_typing.specs.SearchCalls.{second_step, taken, taken_bare}
 use Rattle.au_typing.proofs.Steps.{bind_found, bind_ok, ok_same}
+use Rattle.au_typing.proofs.OrderLemmas.{bind_fails}
 use Rattle.au_laws.specs.CallClauses.{ComesTo, FirstTaken, GoesOver, SecondTaken, at_first, behind_one}
 use Rattle.au_laws.specs.CallClauses.{is_taken, is_taken_bare, waits, was_taken}
 use Rattle.au_laws.specs.FirstFaults.{FirstFault}
-use Rattle.au_laws.proofs.ClauseLemmas.{bind_failed, bind_fails}
+use Rattle.au_laws.proofs.ClauseLemmas.{bind_failed}
 use Rattle.au_laws.proofs.PassLemmas.{EachTells, FailsFirst, FailsSecond, none_left, ops_of, same_fault}
 use Rattle.au_laws.proofs.PassLemmas.{suc_is, taken_bare_failed, taken_bare_gave, taken_bare_goes}
 use Rattle.au_laws.proofs.PassLemmas.{taken_failed, taken_gave, taken_goes}
@@ -186,17 +188,13 @@ module _ (scope : Scope) where
       let k = taken_bare_gave scope (fixed s t) p t s z h in
       is_taken_bare p t s z.1 z.0 is k.0 k.1 k.2
 
-  differ : {X : Type 0} (b : Bool) → b ≡ true → b ≡ false → X
-  differ true x y = absurd cc
-  differ false x y = absurd cc
-
   second_step_goes : (half : Half) (p : PlainExpression) (t : Meaning) (s q : Bindings) → IsHalf p half
       → SecondTaken scope p t s q
       → (a : NotedExpression) × (second_step half (note_expression scope p) t s ≡ Ok (a, q))
   second_step_goes (Some x) p t s q is (was_taken e u r bare) = (x, refl)
-  second_step_goes None p t s q is (was_taken e u r bare) = differ (is_bare e) is bare
+  second_step_goes None p t s q is (was_taken e u r bare) = never_both (is_bare e) is bare
   second_step_goes (Some x) p t s q is (is_taken_bare e u r m a bare good erased h) =
-      differ (is_bare e) bare is
+      never_both (is_bare e) bare is
   second_step_goes None p t s q is (is_taken_bare e u r m a bare good erased h) =
       (a, taken_bare_goes scope (fixed r u) e a u r m good erased h)
 
@@ -286,7 +284,7 @@ module _ (scope : Scope) where
   second_fails_at ps (None ∷ halves) ts s d t r f is (at_first p more u others q) bare h =
       bind_fails (λ (w : NotedExpression × Bindings). second (ops_of scope more) halves others w.1 >>= put_before w.0) h
   second_fails_at ps (Some a ∷ halves) ts s d t r f is (at_first p more u others q) bare h =
-      differ (is_bare d) bare is.0
+      never_both (is_bare d) bare is.0
   second_fails_at ps (half ∷ halves) ts s d t r f is (behind_one p e more u v others a q b step comes) bare h =
       let one = second_step_goes half p u a q is.0 step in
       bind_found (λ (w : NotedExpression × Bindings). second (ops_of scope more) halves others w.1 >>= put_before w.0)

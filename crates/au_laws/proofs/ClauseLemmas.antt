@@ -1,6 +1,7 @@
 -- Steps of the search tell what the first clause tells that doesn't hold.
 use Rattle.std.proofs.Common.{◌≡◌, ◌⊎◌, inl, inr, ℤ, Bool, true, false, List, [], ◌∷◌, refl, sym, ap, subst}
 use Rattle.std.proofs.Common.{◌∙◌, Option, Some, None, Ok, Err, if◌then◌else◌}
+use Rattle.std.proofs.lemmas.Option.{same_Some}
 use Rattle.au_base.specs.declared.limits.Limit.{Limit}
 use Rattle.au_ints.specs.Ranges.{is_of_kind}
 use Rattle.au_syntax.specs.declared.expressions.BinaryOperator.{BinaryOperator}
@@ -44,14 +45,11 @@ first_told (one ∷ rest) = if one.holds then first_told rest else Some one.told
 abbrev pub Tells : {A : Type 0} → Noting A → List Clause → Type 0
 Tells r cs = fault_of r ≡ first_told cs
 
-fault_is : (f g : Fault) → Some f ≡ Some g → f ≡ g
-fault_is f g h = cc
-
 by_test : (b : Bool) (told : Fault) (rest : List Clause) (f : Fault)
     → (first_told rest ≡ Some f → TellsFirst rest f) → (if b then first_told rest else Some told) ≡ Some f
     → ((b ≡ false) × (f ≡ told)) ⊎ ((b ≡ true) × TellsFirst rest f)
 by_test true told rest f more h = inr (refl, more h)
-by_test false told rest f more h = inl (refl, sym (fault_is told f h))
+by_test false told rest f more h = inl (refl, sym (same_Some told f h))
 
 pub tells_first : (cs : List Clause) (f : Fault) → first_told cs ≡ Some f → TellsFirst cs f
 tells_first [] f h = absurd cc
@@ -71,7 +69,7 @@ first_is (one ∷ rest) f h = of_test one.holds one.told rest f (first_is rest f
 
 err_of : {A : Type 0} (r : Noting A) (f : Fault) → fault_of r ≡ Some f → r ≡ Err f
 err_of (Ok x) f h = absurd cc
-err_of (Err g) f h = ap Err (fault_is g f h)
+err_of (Err g) f h = ap Err (same_Some g f h)
 
 -- where a step tells what clauses tell, it fails just as the first of them that doesn't hold
 pub fails_first : {A : Type 0} (r : Noting A) (cs : List Clause) (f : Fault) → Tells r cs → r ≡ Err f
@@ -90,11 +88,7 @@ bind_failed (Ok x) next f h = inr (x, refl, h)
 bind_failed {A} (Err g) next f h = inl (same_fault g f h)
   where
     same_fault : {B : Type 0} (g f : Fault) → ◌≡◌ {A = Noting B} (Err g) (Err f) → ◌≡◌ {A = Noting A} (Err g) (Err f)
-    same_fault g f h = ap Err (fault_is g f (ap fault_of h))
-
-pub bind_fails : {A B : Type 0} {r : Noting A} {f : Fault} (next : A → Noting B) → r ≡ Err f
-    → (r >>= next) ≡ Err f
-bind_fails next h = ap (λ r. r >>= next) h
+    same_fault g f h = ap Err (same_Some g f (ap fault_of h))
 
 -- two steps after one are one after two
 pub in_turn : {A B C : Type 0} (r : Noting A) (f : A → Noting B) (g : B → Noting C)

@@ -1,5 +1,6 @@
 -- The sorts of a derived body are those of the types that its variables have in scope.
 use Rattle.std.proofs.Common.{◌≡◌, List, [], ◌∷◌, ◌++◌, refl, sym, ap, ◌∙◌, Some}
+use Rattle.au_base.proofs.ListLemmas.{both_appended}
 use Rattle.au_lives.specs.declared.lives.Sort.TheVariants as asks
 use Rattle.au_lives.specs.Paths as lives
 use Rattle.au_typing.specs.Scopes.{Scope, Case, Variable}
@@ -30,9 +31,6 @@ use Rattle.au_program_lives.specs.Sorts.{reference_sort, region_written, bound_s
 use Rattle.au_program_lives.specs.Sorts.{sorts_inside, sorts_of_branches, sorts_of_arms}
 use Rattle.au_laws.proofs.DeclaredLemmas.{Declares, beyond, one_more, bound_declares, after_declares}
 use Rattle.au_laws.proofs.DeclaredLemmas.{integer_asks, reference_asks, reference_beyond}
-
-both : {A : Type 0} (a b c d : List A) → a ≡ c → b ≡ d → a ++ b ≡ c ++ d
-both a b c d p q = ap (λ l. l ++ b) p ∙ ap (λ l. c ++ l) q
 
 -- the two words for the access of a borrow are one
 one_access : (mode : BorrowMode) → lives.access_of mode ≡ access_of mode
@@ -72,11 +70,11 @@ mutual
   block_derived (statements s rest) sc good =
       let d : Declares sc sc.variables (after s sc) (sorts_after (erase_statement s) (types_in sc)) =
       after_declares s sc good.0 in
-      both (sorts_after (erase_statement s) (types_in sc))
+      both_appended (sorts_after (erase_statement s) (types_in sc))
       (sorts_inside (erase_statement s) (types_in sc) ++ sorts (erase_block rest) (types_in sc))
       (sorts_beyond (after s sc) sc) (derived_inside s sc good.0 ++ derived_sorts rest (after s sc) good.2)
       (sym (beyond sc (after s sc) (sorts_after (erase_statement s) (types_in sc)) d))
-      (both (sorts_inside (erase_statement s) (types_in sc)) (sorts (erase_block rest) (types_in sc))
+      (both_appended (sorts_inside (erase_statement s) (types_in sc)) (sorts (erase_block rest) (types_in sc))
       (derived_inside s sc good.0) (derived_sorts rest (after s sc) good.2)
       (inside_derived s sc good.0)
       (ap (sorts (erase_block rest)) (sym (ap types_in d.is)) ∙ block_derived rest (after s sc) good.2))
@@ -90,7 +88,8 @@ mutual
   inside_derived (assign_through at r path e) sc good = refl
   inside_derived (conditional at tests) sc good = branches_derived tests sc good
   inside_derived (conditional_else at tests block) sc good =
-      both (sorts_of_branches (erase_branches tests) (types_in sc)) (sorts (erase_block block) (types_in sc))
+      both_appended (sorts_of_branches (erase_branches tests) (types_in sc))
+      (sorts (erase_block block) (types_in sc))
       (derived_branches tests sc good.0) (derived_sorts block sc good.1)
       (branches_derived tests sc good.0) (block_derived block sc good.1)
   inside_derived (case_of at e all) sc good = arms_derived all sc good.0.cases good.0.good good.1
@@ -98,7 +97,7 @@ mutual
   inside_derived (for_loop at name first last block) sc good =
       let one : Variable = fixed_variable name.name (type_of first) in
       let inner : Scope = with_variable one sc in
-      both (asks.Free ∷ []) (sorts (erase_block block) (types_in sc)) (sorts_beyond inner sc)
+      both_appended (asks.Free ∷ []) (sorts (erase_block block) (types_in sc)) (sorts_beyond inner sc)
       (derived_sorts block inner good.1)
       (sym (beyond sc inner (asks.Free ∷ [])
       (one_more sc one asks.Free (integer_asks sc (type_of first) good.0.integer))))
@@ -107,14 +106,15 @@ mutual
       let of : Meaning = borrow_type (mode_for kind) region.name good.0 in
       let one : Variable = fixed_variable r.name of in
       let inner : Scope = with_reference r.name region.name of sc in
-      both (reference_sort kind ∷ []) (sorts (erase_block block) (opened_in region.name (types_in sc)))
+      both_appended (reference_sort kind ∷ [])
+      (sorts (erase_block block) (opened_in region.name (types_in sc)))
       (sorts_beyond inner sc) (derived_sorts block inner good.2)
       (sym (reference_beyond sc r.name region.name of (reference_sort kind)
       (ap reference_sort (sym (same_access kind)) ∙ borrow_asks sc (mode_for kind) region.name good.0)))
       (block_derived block inner good.2)
   inside_derived (borrow_typed at r t mode x block stop) sc good =
       let inner : Scope = with_reference r.name good.0 good.1 sc in
-      both (reference_sort (lives.access_of mode) ∷ [])
+      both_appended (reference_sort (lives.access_of mode) ∷ [])
       (sorts (erase_block block) (opened_by (region_written t) (types_in sc)))
       (sorts_beyond inner sc) (derived_sorts block inner good.3)
       (sym (reference_beyond sc r.name good.0 good.1 (reference_sort (lives.access_of mode))
@@ -128,7 +128,8 @@ mutual
       sorts_of_branches (erase_branches all) (types_in sc) ≡ derived_branches all sc good
   branches_derived no_branches sc good = refl
   branches_derived (branches e block rest) sc good =
-      both (sorts (erase_block block) (types_in sc)) (sorts_of_branches (erase_branches rest) (types_in sc))
+      both_appended (sorts (erase_block block) (types_in sc))
+      (sorts_of_branches (erase_branches rest) (types_in sc))
       (derived_sorts block sc good.1) (derived_branches rest sc good.2)
       (block_derived block sc good.1) (branches_derived rest sc good.2)
 
@@ -140,11 +141,11 @@ mutual
       let inner : Scope = with_bound binds sc in
       let d : Declares sc sc.variables inner (bound_sorts binds (types_in sc)) =
       bound_declares sc heads.0.one.fields binds heads.0.bound sc.variables in
-      both (bound_sorts binds (types_in sc))
+      both_appended (bound_sorts binds (types_in sc))
       (sorts (erase_block block) (types_in sc) ++ sorts_of_arms (erase_arms rest) (types_in sc))
       (sorts_beyond inner sc) (derived_sorts block inner good.0 ++ derived_arms rest sc good.1)
       (sym (beyond sc inner (bound_sorts binds (types_in sc)) d))
-      (both (sorts (erase_block block) (types_in sc)) (sorts_of_arms (erase_arms rest) (types_in sc))
+      (both_appended (sorts (erase_block block) (types_in sc)) (sorts_of_arms (erase_arms rest) (types_in sc))
       (derived_sorts block inner good.0) (derived_arms rest sc good.1)
       (ap (sorts (erase_block block)) (sym (ap types_in d.is)) ∙ block_derived block inner good.0)
       (arms_derived rest sc cases heads.1 good.1))

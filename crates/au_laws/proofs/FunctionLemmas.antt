@@ -1,7 +1,9 @@
 -- The sorts of a function are those of the types that its variables have in scope.
-use Rattle.std.proofs.Common.{◌≡◌, List, [], ◌∷◌, ◌++◌, map, reverse, refl, sym, ap, subst, ◌∙◌, Ok, Option, Some, None}
+use Rattle.std.proofs.Common.{◌≡◌, List, [], ◌∷◌, map, reverse, refl, sym, ap, subst, ◌∙◌, Ok, Option, Some}
+use Rattle.std.proofs.Common.{None}
 use Rattle.std.specs.Prelude.{slice_get}
 use Rattle.std.proofs.lemmas.List.{append-nil}
+use Rattle.au_base.proofs.ListLemmas.{both_appended}
 use Rattle.au_formed.specs.Text.{Spot, visible_at, visible_in}
 use Rattle.au_judged_types.specs.Bounds.{parameters}
 use Rattle.au_judged_types.specs.Meanings.{with_classes, class_meant, written_params}
@@ -51,9 +53,6 @@ parameters_declare (p ∷ rest) sc vs inner h =
     (sym (written_asks sc p.of found.0 found.1))
     (before sc vs one inner (parameter_sorts rest (types_in sc)) (parameters_declare rest sc (one ∷ vs) inner found.2))
 
-both : {A : Type 0} (a b c d : List A) → a ≡ c → b ≡ d → a ++ b ≡ c ++ d
-both a b c d p q = ap (λ l. l ++ b) p ∙ ap (λ l. c ++ l) q
-
 -- ---- functions
 
 -- the scope of a body has the parameters beside what is outside, and a result
@@ -89,7 +88,8 @@ pub function_derived : (outside : Outside) (generics : List (Constrained Bytes))
 function_derived outside generics header body good =
     let outer : Scope = outer_scope outside (generics_in outside generics) in
     let found = in_body outside generics header good.scope good.formed in
-    both (parameter_sorts header.parameters (types_in outer)) (sorts (erase_block body) (types_in outer))
+    both_appended (parameter_sorts header.parameters (types_in outer))
+    (sorts (erase_block body) (types_in outer))
     (sorts_of_types good.scope (reverse good.scope.variables)) (derived_sorts body good.scope good.good)
     (found.3 ∙ sym (ap (λ (sc : Scope). sorts_of_types sc (reverse sc.variables)) found.2))
     (ap (sorts (erase_block body)) (sym (ap types_in found.2)) ∙ block_derived body good.scope good.good)

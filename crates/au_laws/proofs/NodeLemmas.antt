@@ -25,10 +25,11 @@ use Rattle.au_typing.proofs.Refused.{noting_is_given}
 use Rattle.au_typing.proofs.Sound.{sound}
 use Rattle.au_typing.proofs.SoundParts.{paired_sound}
 use Rattle.au_typing.proofs.Steps.{bind_found}
+use Rattle.au_typing.proofs.OrderLemmas.{bind_fails}
 use Rattle.au_laws.specs.Clauses.{Clause, TellsFirst, has_type}
 use Rattle.au_laws.specs.FirstFaults.{FirstFault, PairNoted, a_leaf, of_a_part, of_the_node}
 use Rattle.au_laws.specs.NodeClauses.{of_arrow, of_borrow, of_borrowed_part, of_leaf, of_path}
-use Rattle.au_laws.proofs.ClauseLemmas.{Tells, arrow_tells, bind_failed, bind_fails, borrow_part_tells}
+use Rattle.au_laws.proofs.ClauseLemmas.{Tells, arrow_tells, bind_failed, borrow_part_tells}
 use Rattle.au_laws.proofs.ClauseLemmas.{borrow_tells, fails_first, first_fails, known_tells, literal_tells}
 use Rattle.au_laws.proofs.ClauseLemmas.{noted_tells, path_tells}
 

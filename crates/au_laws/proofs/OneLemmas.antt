@@ -15,10 +15,11 @@ use Rattle.au_typing.specs.DerivationSearch.{note_block}
 use Rattle.au_typing.specs.Trees.{NotedParts, NotedStatements}
 use Rattle.au_typing.proofs.ProgramLemmas.{not_refused, program_sound}
 use Rattle.au_typing.proofs.SoundLemmas.{block_sound}
+use Rattle.au_typing.proofs.RefusalLemmas.{fault_is}
 use Rattle.au_laws.specs.FirstFaults.{FirstFault}
 use Rattle.au_laws.specs.FirstInPrograms.{ProgramFault}
 use Rattle.au_laws.specs.FirstInStatements.{BlockNoted, FaultIn}
-use Rattle.au_laws.proofs.BlockLemmas.{block_given, block_tells, fault_in_fails, same_judged}
+use Rattle.au_laws.proofs.BlockLemmas.{block_given, block_tells, fault_in_fails}
 use Rattle.au_laws.proofs.PassLemmas.{same_fault}
 use Rattle.au_laws.proofs.ProgramLemmas.{program_fails, program_tells}
 use Rattle.au_laws.proofs.TellLemmas.{fault_fails, tells}
@@ -31,12 +32,12 @@ one_of_expression scope e mode f g one other =
 pub one_of_block : (ss : PlainStatements) (sc : Scope) (f g : StatementFault) → FaultIn ss sc f → FaultIn ss sc g
     → f ≡ g
 one_of_block ss sc f g one other =
-    same_judged f g (sym (fault_in_fails ss sc f one) ∙ fault_in_fails ss sc g other)
+    fault_is f g (sym (fault_in_fails ss sc f one) ∙ fault_in_fails ss sc g other)
 
 pub one_of_program : (outside : ℕ → Part → Outside) (program : List ModuleParts) (f g : StatementFault)
     → ProgramFault outside program f → ProgramFault outside program g → f ≡ g
 one_of_program outside program f g one other =
-    same_judged f g (sym (program_fails outside program f one) ∙ program_fails outside program g other)
+    fault_is f g (sym (program_fails outside program f one) ∙ program_fails outside program g other)
 
 pub no_noting : (scope : Scope) (e : PlainExpression) (mode : Mode)
     → ((f : Fault) × FirstFault scope e mode f) ↔ (¬ ((a : NotedExpression) × IsNoting scope e mode a))

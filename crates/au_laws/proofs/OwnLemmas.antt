@@ -1,7 +1,9 @@
 -- A statement's own notes are refused for just what its first fault tells.
 use Rattle.std.proofs.Common.{◌≡◌, ◌⊎◌, inl, inr, Bool, true, false, List, [], ◌∷◌, refl, sym, ap, subst, ◌∙◌}
 use Rattle.std.proofs.Common.{Option, Some, None, Ok, Err, is_some}
+use Rattle.std.proofs.lemmas.Option.{same_Some}
 use Rattle.au_base.specs.declared.places.Pos.{Pos}
+use Rattle.au_base.proofs.OptionLemmas.{some_of}
 use Rattle.au_syntax.specs.declared.statements.Binding.{Binding}
 use Rattle.au_syntax.specs.Names.{Placed}
 use Rattle.au_syntax.specs.Plain.{Bytes, PlainArms, PlainBranches, PlainExpression, PlainStatement, PlainStatements}
@@ -17,9 +19,8 @@ use Rattle.au_typing.specs.Scopes.{Scope, Typed, Variable}
 use Rattle.au_typing.specs.Bare.{is_bare}
 use Rattle.au_typing.specs.Faults.{Fault, Noting, ◌>>=◌, check, known_or, why, reason_why, shape, not_free}
 use Rattle.au_typing.specs.Faults.{integer_wanted, record_wanted, write_reference_wanted, assignable_wanted}
-use Rattle.au_typing.specs.Faults.{unknown}
 use Rattle.au_typing.specs.Good.{IsNoting}
-use Rattle.au_typing.specs.Lookups.{IsPart, field_type, is_free_in, is_record, outcome_noted, part_type}
+use Rattle.au_typing.specs.Lookups.{IsPart, is_free_in, is_record, outcome_noted, part_type}
 use Rattle.au_typing.specs.Lookups.{record_part, value_type, variable_of, written_means, written_type}
 use Rattle.au_typing.specs.Notes.{Mode, NotedExpression, type_of}
 use Rattle.au_typing.specs.Operands.{of_one_type, paired}
@@ -30,13 +31,15 @@ use Rattle.au_typing.proofs.FoundParts.{part_found}
 use Rattle.au_typing.proofs.Refused.{noting_is_given}
 use Rattle.au_typing.proofs.Sound.{sound}
 use Rattle.au_typing.proofs.SoundParts.{outcome_sound}
-use Rattle.au_typing.proofs.Steps.{bind_found, bind_ok, check_found, check_ok, known_found, known_ok, ok_same}
+use Rattle.au_typing.proofs.Steps.{bind_found, bind_ok, check_found, check_ok, known_found, known_ok}
 use Rattle.au_typing.specs.Parts.{heads_of}
 use Rattle.au_typing.specs.DerivationSearch.{free_place, judge_assigned, judge_binds, judge_heads, judge_put}
 use Rattle.au_typing.specs.DerivationSearch.{judge_union, not_assignable, not_writing, note_assigned}
 use Rattle.au_typing.specs.DerivationSearch.{note_bounds, note_case, note_declared, note_discarded, note_put}
 use Rattle.au_typing.specs.DerivationSearch.{note_taken, note_test, note_tests, place_type, written_through}
-use Rattle.au_typing.proofs.PartLemmas.{place_found}
+use Rattle.au_typing.proofs.PartLemmas.{place_found, free_found}
+use Rattle.au_typing.proofs.OrderLemmas.{bind_fails}
+use Rattle.au_typing.proofs.SoundPartLemmas.{part_sound, place_sound, free_sound}
 use Rattle.au_laws.specs.FirstFaults.{FirstFault, PairNoted}
 use Rattle.au_laws.specs.FirstInStatements.{AssignsTo, ExpressionNext, OwnFault, PutsTo, StatementBreaks}
 use Rattle.au_laws.specs.FirstInStatements.{TestNext, TestsNoted, a_case, a_declared_type, a_destructuring}
@@ -46,49 +49,18 @@ use Rattle.au_laws.specs.FirstInStatements.{of_case_of, of_declared, of_destruct
 use Rattle.au_laws.specs.FirstInStatements.{of_tests, of_tests_with_else, of_the_statement, of_while}
 use Rattle.au_laws.specs.FirstInStatements.{this_test}
 use Rattle.au_laws.specs.StatementClauses.{of_assigned, of_bounds, of_case, of_free, of_put, of_taken}
-use Rattle.au_laws.proofs.ClauseLemmas.{bind_failed, bind_fails, fails_first, first_fails}
+use Rattle.au_laws.proofs.ClauseLemmas.{bind_failed, fails_first, first_fails}
 use Rattle.au_laws.proofs.NodeLemmas.{pair_failed, pair_given, pair_made}
 use Rattle.au_laws.proofs.PassLemmas.{same_fault}
 use Rattle.au_laws.proofs.StatementClauseLemmas.{assigned_tells, bounds_tell, case_tells, put_tells}
 use Rattle.au_laws.proofs.StatementClauseLemmas.{result_tells, taken_tells}
 use Rattle.au_laws.proofs.TellLemmas.{fault_fails, not_meant, tells}
 
-known_some : {A : Type 0} (o : Option A) → is_some o ≡ true → (x : A) × (o ≡ Some x)
-known_some None h = absurd cc
-known_some (Some x) h = (x, refl)
-
 some_known : {A : Type 0} (o : Option A) (x : A) → o ≡ Some x → is_some o ≡ true
 some_known o x h = ap is_some h
 
 module _ (sc : Scope) where
   -- ---- places that may be assigned to
-
-  part_is : (t : Meaning) (path : List (Placed Bytes)) (of : Meaning) → part_type sc t path ≡ Ok of
-      → IsPart sc t path of
-  part_is t [] of h = sym (ok_same t of h)
-  part_is t (field ∷ path) of h =
-      let step = bind_ok (known_or (unknown field.name) (field_type sc t field.name))
-      (λ (next : Meaning). part_type sc next path) of h in (
-        step.0,
-        known_ok (unknown field.name) (field_type sc t field.name) step.0 step.1,
-        part_is step.0 path of step.2,
-      )
-
-  place_is : (t : Meaning) (path : List (Placed Bytes)) (of : Meaning) → place_type sc t path ≡ Ok of
-      → IsPart sc t path of
-  place_is t [] of h = sym (ok_same t of h)
-  place_is t (field ∷ path) of h =
-      part_is t (field ∷ path) of
-      (check_ok (is_record sc t) (shape record_wanted) (part_type sc t (field ∷ path)) of h).1
-
-  free_is : (t of : Meaning) → free_place sc t ≡ Ok of → (is_free_in sc of ≡ true) × (t ≡ of)
-  free_is t of h =
-      let step = check_ok (is_free_in sc t) (not_free t) (Ok t) of h in
-      let is : t ≡ of = ok_same t of step.1 in
-      (subst (λ u. is_free_in sc u ≡ true) is step.0, is)
-
-  free_given : (of : Meaning) → is_free_in sc of ≡ true → free_place sc of ≡ Ok of
-  free_given of h = check_found (not_free of) (Ok of) h
 
   pub assigned_given : (x : Bytes) (path : List (Placed Bytes)) (of : Meaning) → AssignsTo sc x path of
       → judge_assigned sc x path ≡ Ok of
@@ -100,7 +72,7 @@ module _ (sc : Scope) where
       ∙ (bind_found (λ (t : Meaning). free_place sc t)
       (check_found (shape assignable_wanted) (place_type sc g.variable.of path) g.assignable
       ∙ place_found sc g.variable.of path of g.part)
-      ∙ free_given of g.free)
+      ∙ free_found sc of g.free)
 
   assigned_is : (x : Bytes) (path : List (Placed Bytes)) (of : Meaning) → judge_assigned sc x path ≡ Ok of
       → AssignsTo sc x path of
@@ -112,12 +84,12 @@ module _ (sc : Scope) where
       let part = bind_ok (check one.assignable (shape assignable_wanted) (place_type sc one.of path))
       (λ (t : Meaning). free_place sc t) of known.2 in
       let test = check_ok one.assignable (shape assignable_wanted) (place_type sc one.of path) part.0 part.1 in
-      let free = free_is part.0 of part.2 in
+      let free = free_sound sc part.0 of part.2 in
       record {
         variable = one;
         known = known_ok (not_assignable x (value_type sc x)) (variable_of sc x) one known.1;
         assignable = test.0;
-        part = subst (IsPart sc one.of path) free.1 (place_is one.of path part.0 test.1);
+        part = subst (IsPart sc one.of path) free.1 (place_sound sc one.of path part.0 test.1);
         free = free.0;
       }
 
@@ -134,13 +106,10 @@ module _ (sc : Scope) where
       (check_found (shape record_wanted) (part_type sc g.to path)
       (some_known (sc.outside.fields g.to) g.fields g.is_record)
       ∙ part_found sc g.to path of g.part)
-      ∙ free_given of g.free))
-
-  same_some : (t u : Meaning) → Some t ≡ Some u → t ≡ u
-  same_some t u h = cc
+      ∙ free_found sc of g.free))
 
   writes_to : (t to : Meaning) → written_through t ≡ Some to → (region : Region) × (t ≡ mean.writes to region)
-  writes_to (mean.writes t region) to h = (region, ap (λ u. mean.writes u region) (same_some t to h))
+  writes_to (mean.writes t region) to h = (region, ap (λ u. mean.writes u region) (same_Some t to h))
   writes_to t to h = absurd cc
 
   put_is : (r : Bytes) (path : List (Placed Bytes)) (of : Meaning) → judge_put sc r path ≡ Ok of
@@ -155,10 +124,10 @@ module _ (sc : Scope) where
       let to : Meaning = writes.0 in
       let part = bind_ok (record_part sc to path) (λ (t : Meaning). free_place sc t) of writes.2 in
       let test = check_ok (is_record sc to) (shape record_wanted) (part_type sc to path) part.0 part.1 in
-      let free = free_is part.0 of part.2 in
+      let free = free_sound sc part.0 of part.2 in
       let behind = writes_to one.of to
       (known_ok (shape write_reference_wanted) (written_through one.of) to writes.1) in
-      let fields = known_some (sc.outside.fields to) test.0 in
+      let fields = some_of (sc.outside.fields to) test.0 in
       record {
         variable = one;
         known = known_ok (not_writing r (value_type sc r)) (variable_of sc r) one known.1;
@@ -167,7 +136,7 @@ module _ (sc : Scope) where
         writes = behind.1;
         fields = fields.0;
         is_record = fields.1;
-        part = subst (IsPart sc to path) free.1 (part_is to path part.0 test.1);
+        part = subst (IsPart sc to path) free.1 (part_sound sc to path part.0 test.1);
         free = free.0;
       }
 

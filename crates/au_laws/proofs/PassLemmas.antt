@@ -1,11 +1,9 @@
 -- The two passes over the arguments of a call: what they go over, and where they fail.
 use Rattle.std.proofs.Common.{◌≡◌, ◌⊎◌, inl, inr, ℕ, suc, ◌==◌, Bool, true, false, List, [], ◌∷◌, refl, sym}
-use Rattle.std.proofs.Common.{ap, subst, ◌∙◌, Option, Some, None, Ok, Err, length, map, option_map}
-use Rattle.std.proofs.Common.{option_and_then, if◌then◌else◌}
-use borrow.Author.Tests.{eqb-true}
-use Rattle.std.proofs.lemmas.List.{length-map}
+use Rattle.std.proofs.Common.{ap, subst, ◌∙◌, Option, Some, None, Ok, Err, length}
+use Rattle.std.proofs.Common.{if◌then◌else◌}
 use Rattle.au_syntax.specs.Expressions.{no_expressions, expressions, no_arguments, arguments}
-use Rattle.au_syntax.specs.Plain.{Bytes, PlainArguments, PlainExpression, PlainExpressions}
+use Rattle.au_syntax.specs.Plain.{PlainArguments, PlainExpression, PlainExpressions}
 use Rattle.au_types.specs.Types.{Meaning, parameter, unit, truth, integer, text, named, reads, writes}
 use Rattle.au_matching.specs.Bindings.{Bindings}
 use Rattle.au_matching.specs.Fixed.{fixed}
@@ -16,7 +14,6 @@ use Rattle.au_typing.specs.Bare.{is_bare}
 use Rattle.au_typing.specs.Calls.{Taken, TakenBare, by_labels, each_is_named_once, in_order, labelled_types}
 use Rattle.au_typing.specs.Faults.{Fault, Noting, ◌>>=◌, Why, why, known_or, different}
 use Rattle.au_typing.specs.Good.{AllGood, IsNoting, count_of, items_of, labels_of, values_of}
-use Rattle.au_typing.specs.Lookups.{type_of_name}
 use Rattle.au_typing.specs.Notes.{Mode, NotedExpression, erase, mode_of, note_of, type_of}
 use Rattle.au_typing.specs.Rules.{int32}
 use Rattle.au_typing.specs.Search.{labelled_operands, note_expression, operands}
@@ -25,10 +22,11 @@ use Rattle.au_typing.specs.SearchCalls.{second_step, taken, taken_as, taken_bare
 use Rattle.au_typing.proofs.Refused.{noting_is_given}
 use Rattle.au_typing.proofs.Sound.{sound}
 use Rattle.au_typing.proofs.Steps.{bind_found, bind_ok, known_found, known_ok, ok_same}
+use Rattle.au_typing.proofs.LabelledLemmas.{where_named, labelled_length, ordered}
 use Rattle.au_laws.specs.CallClauses.{ComesTo, FirstTaken, GoesOver, SecondTaken, at_first, behind_one}
 use Rattle.au_laws.specs.CallClauses.{is_taken, is_taken_bare, waits, wanted_under, was_taken}
 use Rattle.au_laws.specs.FirstFaults.{BareWants, FirstFault, is_parameter, its_type, nothing}
-use Rattle.au_laws.proofs.ClauseLemmas.{bind_failed, bind_fails, fault_of}
+use Rattle.au_laws.proofs.ClauseLemmas.{bind_failed, fault_of}
 
 pub same_fault : {A : Type 0} (f g : Fault) → ◌≡◌ {A = Noting A} (Err f) (Err g) → f ≡ g
 same_fault f g h = cc
@@ -39,38 +37,6 @@ known_failed cause None f h = (refl, sym (same_fault (why cause) f h))
 known_failed cause (Some x) f h = absurd cc
 
 -- ---- there are as many types as arguments
-
-ordered : (b : Bool) (n : ℕ) (params : List Typed) (types : List Meaning) → (length params == n) ≡ b
-    → (if b then Some (map (λ (one : Typed). one.of) params) else None) ≡ Some types → length types ≡ n
-ordered true n params types is h =
-    let made : map (λ (one : Typed). one.of) params ≡ types = cc in
-    sym (ap length made) ∙ (length-map params (λ (one : Typed). one.of) ∙ eqb-true (length params) n is)
-ordered false n params types is h = absurd cc
-
-one_more : (o : Option Meaning) (r : Option (List Meaning)) (n : ℕ) (types : List Meaning)
-    → ((ts : List Meaning) → r ≡ Some ts → length ts ≡ n)
-    → option_and_then (λ (t : Meaning). option_map (λ (ts : List Meaning). t ∷ ts) r) o ≡ Some types
-    → length types ≡ suc n
-one_more None r n types k h = absurd cc
-one_more (Some t) None n types k h = absurd cc
-one_more (Some t) (Some ts) n types k h =
-    let made : t ∷ ts ≡ types = cc in
-    sym (ap length made) ∙ ap suc (k ts refl)
-
-labelled_length : (labels : List Bytes) (params : List Typed) (types : List Meaning)
-    → labelled_types labels params ≡ Some types → length types ≡ length labels
-labelled_length [] params types h =
-    let none : [] ≡ types = cc in
-    sym (ap length none)
-labelled_length (label ∷ labels) params types h =
-    one_more (type_of_name label params) (labelled_types labels params) (length labels) types
-    (λ ts is. labelled_length labels params ts is) h
-
-where_named : (b : Bool) (r : Option (List Meaning)) (n : ℕ) (types : List Meaning)
-    → ((ts : List Meaning) → r ≡ Some ts → length ts ≡ n) → (if b then r else None) ≡ Some types
-    → length types ≡ n
-where_named true r n types k h = k types h
-where_named false r n types k h = absurd cc
 
 items_length : (es : PlainExpressions) → count_of es ≡ length (items_of es)
 items_length no_expressions = refl

@@ -18,12 +18,13 @@ use Rattle.au_typing.specs.ProgramSearch.{note_methods, note_module, note_module
 use Rattle.au_typing.specs.ProgramSearch.{noted_entry}
 use Rattle.au_typing.specs.Trees.{NotedDeclaration, NotedEntry, NotedMethod, NotedParts, NotedStatements}
 use Rattle.au_typing.specs.Trees.{erase_block, erase_declaration, erase_program}
-use Rattle.au_typing.proofs.ProgramLemmas.{program_found, program_sound}
+use Rattle.au_typing.proofs.ProgramLemmas.{program_found, program_sound, body_sound}
 use Rattle.au_typing.proofs.StepLemmas.{then_gave}
+use Rattle.au_typing.proofs.RefusalLemmas.{then_failed}
 use Rattle.au_laws.specs.FirstInPrograms.{DeclarationFault, DeclarationNoted, EachNoted, FirstAmong}
 use Rattle.au_laws.specs.FirstInPrograms.{MethodFault, MethodNoted, ModulesFault, PartFault, PartNoted}
 use Rattle.au_laws.specs.FirstInPrograms.{ProgramFault, of_a_constant, of_a_function, of_an_instance}
-use Rattle.au_laws.proofs.BlockLemmas.{only_then, own_fails, placed_failed, then_failed, then_fails, then_found}
+use Rattle.au_laws.proofs.BlockLemmas.{only_then, own_fails, placed_failed, then_fails, then_found}
 use Rattle.au_laws.proofs.BodyLemmas.{body_fails, body_tells, constant_fails, constant_tells}
 
 -- ---- a program of one declaration
@@ -113,15 +114,6 @@ module _ (outside : Outside) where
   body_in d (function_body at generics header body stop) = body
   body_in d other = d
 
-  method_is : (at : Pos) (generics : List (Constrained Bytes)) (header : Header Bytes) (body : PlainStatements)
-      (stop : Pos) (b : NotedStatements) → note_body outside at generics header body stop ≡ Ok b
-      → GoodBody outside generics header b × (erase_block b ≡ body)
-  method_is at generics header body stop b h =
-      let g = declaration_is (function_body at generics header body stop)
-      (function_body at generics header b stop)
-      (then_found (λ (x : NotedStatements). Ok (function_body at generics header x stop)) h) in
-      (g.0, ap (body_in body) g.1)
-
   only_body : (at : Pos) (generics : List (Constrained Bytes)) (header : Header Bytes) (stop : Pos)
       (r : Judged NotedStatements) (x : NotedDeclaration)
       → (r then λ b. Ok (function_body at generics header b stop)) ≡ Ok x
@@ -179,7 +171,7 @@ module _ (outside : Outside) where
       by more (inl failed) =
           inl (body_tells outside m.header.name.at generics m.header m.body m.stop f failed)
       by more (inr (b, noted, failed)) =
-          let g = method_is m.header.name.at generics m.header m.body m.stop b noted in
+          let g = body_sound outside m.header.name.at generics m.header m.body m.stop b noted in
           inr (
             (b, g.0, g.1),
             more (only_then (note_methods outside generics rest)

@@ -1,11 +1,13 @@
 -- What is tested of written types and of constraints is what the rules say.
 use Rattle.std.proofs.Common.{◌≡◌, ◌⊎◌, inl, inr, Bool, true, false, ◌&&◌, cond, List, [], ◌∷◌, Option, None}
-use Rattle.std.proofs.Common.{Some, Ok, Err, refl, sym, ap, ◌∙◌, subst, arith}
+use Rattle.std.proofs.Common.{Some, Ok, Err, refl, sym, ap, ◌∙◌, subst}
 use Rattle.std.specs.Prelude.{Contains}
 use Rattle.std.specs.Option.{option_map, option_or}
 use Rattle.std.proofs.lemmas.Bool.{and_parts}
 use Rattle.std.proofs.lemmas.Option.{none-some, same_Some}
 use Rattle.au_base.specs.declared.kinds.IntKind.TheVariants.{Nat8}
+use Rattle.au_base.proofs.OptionLemmas.{map_some, or_both}
+use Rattle.au_base.proofs.ListLemmas.{Contains-first, Contains-rest, Contains-cases, nothing_there}
 use Rattle.au_syntax.specs.declared.declarations.Universe.{Universe}
 use Rattle.au_syntax.specs.declared.declarations.Universe.TheVariants as universes
 use Rattle.au_syntax.specs.declared.types.Access.{Access}
@@ -27,14 +29,14 @@ use Rattle.au_matching.specs.Forming.{wants_region}
 use Rattle.au_types.specs.Meant.{Given, all_given, applied, argument_meant, arguments_meant, followed, meant}
 use Rattle.au_types.specs.Meant.{refers as refers_if, region_meant, region_of, span_of}
 use Rattle.au_types.specs.Senses.{Sense, a_type, a_span, a_region, declared, a_class, sense_of}
+use Rattle.au_types.proofs.MeantLemmas.{followed_both}
 use Rattle.au_judged_types.specs.Judging.{judged, refers}
 use Rattle.au_judged_types.specs.Reasons.{Outcome, means, fails}
 use Rattle.au_judged_types.proofs.AgreementLemmas.{judged_is_meant, meant_is_judged}
 use Rattle.au_instances.specs.Instances.{Holds, Known}
-use Rattle.au_instances.specs.Pairs.{Pair, constraints_of}
+use Rattle.au_instances.specs.Pairs.{constraints_of}
 use Rattle.au_instances.specs.Tables.{IsTable}
 use Rattle.au_instances.proofs.PairLemmas.{holds_none, none_holds}
-use Rattle.au_instances.proofs.TableLemmas.{Contains-cases, Contains-first, Contains-rest}
 use Rattle.au_typing.specs.Scopes.{Scope}
 use Rattle.au_typing.specs.Calls.{first_lacking, lacking_at}
 use Rattle.au_typing.specs.Faults.{Noting}
@@ -66,18 +68,6 @@ module _ (opened : List Bytes) (params : List Parameter) (visible : List (Bytes 
   pub is_region : (w : WrittenType) (region : Region) → IsRegion sense w region →
       region_meant opened params visible heads w ≡ Some region
   is_region w region (a_name name r is) = ap region_of is
-
-  mapped : {A B : Type 0} (f : A → B) (o : Option A) (y : B) → option_map f o ≡ Some y → (x : A)
-      × (o ≡ Some x) × (f x ≡ y)
-  mapped f None y e = absurd (none-some y e)
-  mapped f (Some x) y e = (x, refl, same_Some (f x) y e)
-
-  both : (o : Option Argument) (p : Option Arguments) (args : Arguments) → followed o p ≡ Some args →
-      (one : Argument) × (rest : Arguments) × (o ≡ Some one) × (p ≡ Some rest)
-      × (mean.arguments one rest ≡ args)
-  both None p args e = absurd (none-some args e)
-  both (Some one) None args e = absurd (none-some args e)
-  both (Some one) (Some rest) args e = (one, rest, refl, refl, same_Some (mean.arguments one rest) args e)
 
   referred : (kind : Access) (o : Option Meaning) (r : Option Region) (t : Meaning) → refers_if kind o r
       ≡ Some t → (to : Meaning) × (region : Region) × (o ≡ Some to) × (r ≡ Some region)
@@ -134,7 +124,8 @@ module _ (opened : List Bytes) (params : List Parameter) (visible : List (Bytes 
             MeanArguments sense ps args list)
             → ((to : Meaning) → FirstMeans args to) → Means sense (named name args) t
         by args (Some (declared at ps)) is e each first =
-            let its = mapped (mean.named at) (arguments_meant ps (all_given opened params visible heads args)) t e in
+            let its = map_some (mean.named at)
+            (arguments_meant ps (all_given opened params visible heads args)) t e in
             subst (Means sense (named name args)) its.2 (with_arguments name at ps args its.0 is (each ps its.0 its.1))
         by no_types (Some (a_type to)) is e each first = subst (Means sense (named name no_types))
             (same_Some to t e) (alone name to is)
@@ -161,7 +152,7 @@ module _ (opened : List Bytes) (params : List Parameter) (visible : List (Bytes 
     arguments_mean [] (types w rest) list e = absurd (none-some list e)
     arguments_mean (p ∷ ps) no_types list e = absurd (none-some list e)
     arguments_mean (p ∷ ps) (types w rest) list e =
-        let its = both (argument_meant p.universe
+        let its = followed_both (argument_meant p.universe
         (record {
           as_type = meant opened params visible heads w;
           as_region =
@@ -177,7 +168,7 @@ module _ (opened : List Bytes) (params : List Parameter) (visible : List (Bytes 
             MeanArguments sense ps rest its → MeanArguments sense (p ∷ ps) (types w rest)
             (mean.arguments one its)
         a_type_there its u is isnt one e each others =
-            let x = mapped of_type (meant opened params visible heads w) one e in
+            let x = map_some of_type (meant opened params visible heads w) one e in
             subst (λ a. MeanArguments sense (p ∷ ps) (types w rest) (mean.arguments a its)) x.2
             (type_first p ps w rest x.0 its (ap wants_region is ∙ isnt) (each x.0 x.1) others)
 
@@ -191,7 +182,7 @@ module _ (opened : List Bytes) (params : List Parameter) (visible : List (Bytes 
             MeanArguments sense ps rest its → MeanArguments sense (p ∷ ps) (types w rest)
             (mean.arguments one its)
         by {its} universes.Region is one e each others =
-            let x = mapped in_region (region_meant opened params visible heads w) one e in
+            let x = map_some in_region (region_meant opened params visible heads w) one e in
             subst (λ a. MeanArguments sense (p ∷ ps) (types w rest) (mean.arguments a its)) x.2
             (region_first p ps w rest x.0 its is (region_is w x.0 x.1) others)
         by {its} universes.Free is one e each others = a_type_there its universes.Free is refl one e each others
@@ -278,18 +269,11 @@ rule_formed scope w t is =
 
 -- ---- constraints
 
-nothing_there : {A : Type 0} (x : A) → Contains [] x → ⊥
-nothing_there x c = omega arith
-
 module _ (scope : Scope) (table : IsTable scope.outside.instances) (s : Bindings) where
-  lacks_none : (o p : Option Pair) → option_or o p ≡ None → (o ≡ None) × (p ≡ None)
-  lacks_none None p e = (refl, e)
-  lacks_none (Some pair) p e = absurd (none-some pair (sym e))
-
   pub none_hold : (wanted : Known) → first_lacking scope s wanted ≡ None → AllHold scope s wanted
   none_hold [] e name class t c is = absurd (nothing_there (name, class) c)
   none_hold (one ∷ wanted) e name class t c is =
-      let parts = lacks_none (lacking_at scope one.1 (value_of one.0 s)) (first_lacking scope s wanted) e in
+      let parts = or_both (lacking_at scope one.1 (value_of one.0 s)) (first_lacking scope s wanted) e in
       by (Contains-cases one wanted (name, class) c) (λ later. none_hold wanted parts.1 name class t later is) parts.0
     where
       by : (one ≡ (name, class)) ⊎ Contains wanted (name, class) →

@@ -27,7 +27,7 @@ use Rattle.au_typing.specs.Search.{another_number, arithmetic_note, binary_noted
 use Rattle.au_typing.specs.Search.{dereference_note, labelled, labelled_operands, listed, note_expression}
 use Rattle.au_typing.specs.Search.{operands, other_labels}
 use Rattle.au_typing.specs.SearchCalls.{call_noted}
-use Rattle.au_typing.proofs.OrderLemmas.{next_fails}
+use Rattle.au_typing.proofs.OrderLemmas.{next_fails, bind_fails, settled}
 use Rattle.au_typing.proofs.Refused.{noting_is_given}
 use Rattle.au_typing.proofs.Sound.{sound}
 use Rattle.au_typing.proofs.SoundParts.{outcome_sound}
@@ -42,7 +42,7 @@ use Rattle.au_laws.specs.FirstFaults.{of_an_argument, of_the_node, parentheses}
 use Rattle.au_laws.specs.NodeClauses as clauses
 use Rattle.au_laws.specs.NodeClauses.{of_arithmetic, of_comparison, of_dereference}
 use Rattle.au_laws.proofs.CallTellLemmas.{call_tells}
-use Rattle.au_laws.proofs.ClauseLemmas.{Tells, arithmetic_tells, bind_failed, bind_fails, check_tells}
+use Rattle.au_laws.proofs.ClauseLemmas.{Tells, arithmetic_tells, bind_failed, check_tells}
 use Rattle.au_laws.proofs.ClauseLemmas.{comparison_tells, dereference_tells, fails_first, first_fails}
 use Rattle.au_laws.proofs.ClauseLemmas.{noted_tells}
 use Rattle.au_laws.proofs.NodeLemmas.{Telling, leaf_failed, leaf_fails, not_logical, one_operand, pair_given}
@@ -70,17 +70,6 @@ choice_tells mode x y next quiet =
     (has_type mode (type_of x) []) (noted_tells mode (type_of x) next [] quiet)
 
 module _ (scope : Scope) where
-  -- a binary operation with its tests settled
-  settled : (u : Node (Unit {0})) (op : BinaryOperator) (a b : PlainExpression) (mode : Mode) (x y : Bool)
-      → is_arithmetic op ≡ x → is_logical op ≡ y
-      → note_expression scope (binary u op a b) mode
-      ≡ binary_noted scope x y u op (is_bare a) (is_bare b) (note_expression scope a) (note_expression scope b) mode
-  settled u op a b mode x y arithmetic logical =
-      ap (λ (t : Bool). binary_noted scope t (is_logical op) u op (is_bare a) (is_bare b)
-      (note_expression scope a) (note_expression scope b) mode) arithmetic
-      ∙ ap (λ (t : Bool). binary_noted scope x t u op (is_bare a) (is_bare b) (note_expression scope a)
-      (note_expression scope b) mode) logical
-
   -- ---- from the first fault to the search
 
   breaks_fail : (e : PlainExpression) (mode : Mode) (f : Fault) → Breaks scope e mode f
@@ -119,7 +108,7 @@ module _ (scope : Scope) where
       ∙ first_fails (noted m of >>= next) (has_type m of []) g (noted_tells m of next [] (λ n. refl)) h)
   breaks_fail e mode f (an_arithmetic u op a b m g x y arithmetic pair h) =
       let next = λ (n : Note). Ok (binary (noted_at u n) op x y) in
-      settled u op a b m true false arithmetic (not_logical op arithmetic)
+      settled scope u op a b m true false arithmetic (not_logical op arithmetic)
       ∙ (bind_found (λ (z : NotedExpression × NotedExpression). of_one_type z.0 z.1
       (arithmetic_note m (type_of z.0)) >>= λ (n : Note). Ok (binary (noted_at u n) op z.0 z.1))
       (pair_given scope a b m x y pair)
@@ -127,7 +116,7 @@ module _ (scope : Scope) where
       (arithmetic_tells m x y next (λ n. refl)) h)
   breaks_fail e mode f (a_logical u op a b m g x y arithmetic logical left right h) =
       let next = λ (n : Note). Ok (binary (noted_at u n) op x y) in
-      settled u op a b m false true arithmetic logical
+      settled scope u op a b m false true arithmetic logical
       ∙ (bind_found (λ (l : NotedExpression). note_expression scope b (Some mean.truth) >>=
       λ (r : NotedExpression). noted m mean.truth >>= λ (n : Note). Ok (binary (noted_at u n) op l r))
       (noting_is_given scope a (Some mean.truth) x left)
@@ -137,7 +126,7 @@ module _ (scope : Scope) where
       (noted_tells m mean.truth next [] (λ n. refl)) h))
   breaks_fail e mode f (a_comparison u op a b m g x y arithmetic logical pair h) =
       let next = λ (n : Note). Ok (binary (noted_at u n) op x y) in
-      settled u op a b m false false arithmetic logical
+      settled scope u op a b m false false arithmetic logical
       ∙ (bind_found (λ (z : NotedExpression × NotedExpression). comparison_note op m z.0 z.1 >>=
       λ (n : Note). Ok (binary (noted_at u n) op z.0 z.1))
       (pair_given scope a b None x y pair)
@@ -240,13 +229,13 @@ module _ (scope : Scope) where
       → note_expression scope (binary u op a b) mode ≡ Err f → FirstFault scope (binary u op a b) mode f
   binary_failed true y u op a b mode f is logical tells_a tells_b h =
       arithmetic_failed u op a b mode f is tells_a tells_b
-      (sym (settled u op a b mode true false is (not_logical op is)) ∙ h)
+      (sym (settled scope u op a b mode true false is (not_logical op is)) ∙ h)
   binary_failed false true u op a b mode f is logical tells_a tells_b h =
       logical_failed u op a b mode f is logical tells_a tells_b
-      (sym (settled u op a b mode false true is logical) ∙ h)
+      (sym (settled scope u op a b mode false true is logical) ∙ h)
   binary_failed false false u op a b mode f is logical tells_a tells_b h =
       comparison_failed u op a b mode f is logical tells_a tells_b
-      (sym (settled u op a b mode false false is logical) ∙ h)
+      (sym (settled scope u op a b mode false false is logical) ∙ h)
 
   choice_failed : (u : Node (Unit {0})) (c a b : PlainExpression) (mode : Mode) (f : Fault) → Telling scope c
       → Telling scope a → Telling scope b → note_expression scope (choice u c a b) mode ≡ Err f

@@ -24,6 +24,7 @@ use Rattle.au_typing.specs.SearchCalls.{misfit, result_differs, second, taken, t
 use Rattle.au_typing.specs.SearchCalls.{unless_why, with_arguments}
 use Rattle.au_typing.proofs.Refused.{noting_is_given}
 use Rattle.au_typing.proofs.Steps.{bind_found, known_found, known_ok}
+use Rattle.au_typing.proofs.OrderLemmas.{bind_fails}
 use Rattle.au_laws.specs.CallClauses.{Begins, Call, ComesTo, FirstTaken, GoesOver, IsCall, SecondTaken}
 use Rattle.au_laws.specs.CallClauses.{by_label, by_position, of_called, of_callee, wanted_under}
 use Rattle.au_laws.specs.Clauses.{Clause, TellsFirst, broken, in_limits, must_be, must_lack}
@@ -33,7 +34,7 @@ use Rattle.au_laws.specs.FirstFaults.{no_parameter, nothing, of_an_argument, of_
 use Rattle.au_laws.proofs.CallLemmas.{AreHalves, FailsInFirst, FailsInSecond, first_failed, first_fails_at}
 use Rattle.au_laws.proofs.CallLemmas.{first_gave, first_goes, second_failed, second_fails_at, second_gave}
 use Rattle.au_laws.proofs.CallLemmas.{second_goes}
-use Rattle.au_laws.proofs.ClauseLemmas.{Tells, bind_failed, bind_fails, fails_first, first_fails}
+use Rattle.au_laws.proofs.ClauseLemmas.{Tells, bind_failed, fails_first, first_fails}
 use Rattle.au_laws.proofs.ClauseLemmas.{unless_tells, within_tells}
 use Rattle.au_laws.proofs.PassLemmas.{EachTells, by_labels_length, in_order_length, known_failed}
 use Rattle.au_laws.proofs.PassLemmas.{labelled_are, operands_are, ops_of, wants_it}

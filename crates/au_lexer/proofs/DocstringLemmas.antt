@@ -3,10 +3,10 @@ use Rattle.std.proofs.Common.{◌≡◌, ℕ, suc, ◌+◌, ◌<◌, false, nat_
 use Rattle.std.proofs.Common.{Option, Some, None, ap, ◌∙◌, sym, refl, arith, inl, inr, drop-cons}
 use Rattle.std.specs.List.{starts_with}
 use Rattle.std.specs.Option.{option_map}
-use Rattle.std.proofs.lemmas.Bool.{or_parts, or_from}
+use Rattle.std.proofs.lemmas.Bool.{or_parts, or_from, cond-false}
+use Rattle.au_base.proofs.BoolLemmas.{cond_cases}
 use Rattle.au_lexer.specs.Pieces.{three_quotes, has_three_quotes}
 use Rattle.au_lexer.specs.Reading.{docstring_size}
-use Rattle.au_lexer.proofs.RunLemmas.{chosen, when_false}
 use Rattle.au_lexer.proofs.SignLemmas.{begun}
 
 moved : (index : ℕ) (o : Option ℕ) → option_map (λ size. index + 1 + size) o
@@ -25,7 +25,7 @@ one_further inside index within none so_far =
     let split : drop index inside ≡ byte ∷ rest = drop-cons inside index 0 within in
     let next : suc index ≡ index + 1 = omega arith in
     let here : docstring_size (byte ∷ rest) ≡ option_map (λ size. size + 1) (docstring_size rest) =
-    when_false _ _ _ (ap (λ r. starts_with nat_eq r three_quotes) (sym split) ∙ none) in
+    cond-false _ _ _ (ap (λ r. starts_with nat_eq r three_quotes) (sym split) ∙ none) in
     ap (λ n. option_map (λ size. index + 1 + size) (docstring_size (drop n inside))) (sym next)
     ∙ moved index (docstring_size rest)
     ∙ ap (option_map (λ size. index + size)) (sym here ∙ ap docstring_size (sym split))
@@ -46,7 +46,7 @@ pub docstring_again : (inside rest : List ℕ) → has_three_quotes (inside ++ 3
 docstring_again [] rest h = ap Some (let e : 3 ≡ 0 + 3 = omega arith in e)
 docstring_again (byte ∷ inside) rest h =
     let parts = or_parts _ _ h in
-    when_false _ _ _ (no_front inside rest byte parts.0)
+    cond-false _ _ _ (no_front inside rest byte parts.0)
     ∙ ap (option_map (λ size. size + 1)) (docstring_again inside rest parts.1)
     ∙ ap Some (let e : length inside + 3 + 1 ≡ length (byte ∷ inside) + 3 = omega arith in e)
 
@@ -84,7 +84,7 @@ mapped (Some x) y h = (x, refl, cc)
 pub docstring_found : (bytes : List ℕ) (size : ℕ) → docstring_size bytes ≡ Some size → IsDocstring bytes size
 docstring_found [] size h = cc
 docstring_found (byte ∷ bytes) size h =
-    elim (chosen (starts_with nat_eq (byte ∷ bytes) three_quotes) (Some 3) _ (Some size) h) [
+    elim (cond_cases (starts_with nat_eq (byte ∷ bytes) three_quotes) (Some 3) _ (Some size) h) [
       | inl w ↦
           let e : 3 ≡ size = (let g = w.1 in cc) in
           record {

@@ -6,14 +6,16 @@ use Rattle.std.specs.List.{list_all, prefix_len, starts_with}
 use Rattle.std.proofs.Math.Seq.{take-append-add}
 use Rattle.std.proofs.lemmas.List.{append-nil, take-append-drop, length-take-le}
 use Rattle.std.proofs.lemmas.Bool.{and_parts, and_left, or_left, both_ways, ne_eqb, eqb-false, eqb-true}
-use Rattle.std.proofs.lemmas.Bool.{cases_eq, cases_Bool, and_from}
+use Rattle.std.proofs.lemmas.Bool.{cases_eq, cases_Bool, and_from, cond-true, cond-false}
 use Rattle.std.proofs.lemmas.Bool.Decides.{nat_tests}
+use Rattle.std.proofs.lemmas.List.Sums.{prefix_len-le-length}
 use Rattle.au_base.specs.declared.tokens.Keyword.{Keyword}
 use Rattle.au_base.specs.declared.tokens.Sign.{Sign as SignOf}
 use Rattle.au_base.specs.declared.tokens.What.{What}
 use Rattle.au_base.specs.declared.tokens.What.TheVariants.{Word, Sign, Name, Number, Text}
 use Rattle.au_base.specs.Places.{is_newline}
 use Rattle.au_base.specs.Tokens.{keyword_spelling, sign_spelling}
+use Rattle.au_base.proofs.BoolLemmas.{cond_cases}
 use Rattle.au_lexer.specs.Bytes.{is_space, is_letter, is_digit, is_name_byte, is_text_byte}
 use Rattle.au_lexer.specs.Pieces.{Piece, blank, comment, docstring, number, token, three_quotes}
 use Rattle.au_lexer.specs.Pieces.{has_three_quotes, spelling, IsWord, IsNumber, number_of, what_of}
@@ -25,7 +27,7 @@ use Rattle.au_lexer.specs.Reading.{Reads, FindsPiece, IsLongest, Front, piece, s
 use Rattle.au_lexer.specs.Reading.{number_front, digits_at, docstring_front, docstring_size, word_front}
 use Rattle.au_lexer.specs.Reading.{word_what, word_at, text_front, text_at, sign_front, sign_of, keyword_of}
 use Rattle.au_lexer.specs.Reading.{is_comment, comment_size}
-use Rattle.au_lexer.proofs.RunLemmas.{chosen, when_true, when_false, prefix_pass, prefix_all, prefix_within}
+use Rattle.au_lexer.proofs.RunLemmas.{prefix_pass, prefix_all}
 use Rattle.au_lexer.proofs.WordLemmas.{keyword_found, keyword_none, keyword_again, keyword_word}
 use Rattle.au_lexer.proofs.StringLemmas.{text_again, text_found, written}
 use Rattle.au_lexer.proofs.DocstringLemmas.{docstring_again, docstring_found}
@@ -49,7 +51,7 @@ finds_as : (read same : Front) (other : Piece) → read ≡ same → Finds same 
 finds_as read same other e found = subst (λ r. Finds r other) (sym e) found
 
 finds_blank : (byte : ℕ) (rest : List ℕ) → is_space byte ≡ true → Finds (front (byte ∷ rest)) (blank byte)
-finds_blank byte rest h = (1, None, front_is byte rest ∙ when_true _ _ _ h, inl (refl, refl))
+finds_blank byte rest h = (1, None, front_is byte rest ∙ cond-true _ _ _ h, inl (refl, refl))
 
 -- a run that goes on behind what is given is longer
 more_or_none : (m n : ℕ) → (m ≡ 0) ⊎ (n < n + m)
@@ -81,7 +83,7 @@ front_word (first ∷ word) rest h =
     let at : word_at (first ∷ word ++ rest) ≡ first ∷ word ++ take (prefix_len is_name_byte rest) rest =
     ap (λ n. take n (first ∷ word ++ rest)) (prefix_pass is_name_byte (first ∷ word) rest all)
     ∙ take-append-add (first ∷ word) rest (prefix_len is_name_byte rest) in
-    front_is first (word ++ rest) ∙ when_false _ _ _ (letter_no_space first h.0) ∙ when_true _ _ _ h.0
+    front_is first (word ++ rest) ∙ cond-false _ _ _ (letter_no_space first h.0) ∙ cond-true _ _ _ h.0
     ∙ ap word_front at
 
 -- a word is found where it begins, or a longer one
@@ -91,7 +93,7 @@ finds_word word rest what h is spelled =
     let m : ℕ = prefix_len is_name_byte rest in
     let whole : List ℕ = word ++ take m rest in
     let size : length whole ≡ length word + m = length-append word (take m rest)
-    ∙ ap (λ n. length word + n) (length-take-le m rest (prefix_within is_name_byte rest)) in
+    ∙ ap (λ n. length word + n) (length-take-le m rest (prefix_len-le-length is_name_byte rest)) in
     let long : length (spelling (token what)) ≡ length word = ap length spelled in
     finds_as _ _ (token what) (front_word word rest h) (
       length whole,
@@ -119,8 +121,8 @@ front_number (first ∷ digits) rest h =
     ap (λ n. take n (first ∷ digits ++ rest)) (prefix_pass is_digit (first ∷ digits) rest h.1)
     ∙ take-append-add (first ∷ digits) rest (prefix_len is_digit rest) in
     let apart = digit_first first digit in
-    front_is first (digits ++ rest) ∙ when_false _ _ _ apart.0 ∙ when_false _ _ _ apart.1
-    ∙ when_true _ _ _ digit ∙ ap number_front at
+    front_is first (digits ++ rest) ∙ cond-false _ _ _ apart.0 ∙ cond-false _ _ _ apart.1
+    ∙ cond-true _ _ _ digit ∙ ap number_front at
 
 -- a number is found where it begins, or a longer one
 finds_number : (digits rest : List ℕ) → IsNumber digits → Finds (front (digits ++ rest)) (number digits)
@@ -128,7 +130,7 @@ finds_number digits rest h =
     let m : ℕ = prefix_len is_digit rest in
     let whole : List ℕ = digits ++ take m rest in
     let size : length whole ≡ length digits + m = length-append digits (take m rest)
-    ∙ ap (λ n. length digits + n) (length-take-le m rest (prefix_within is_digit rest)) in
+    ∙ ap (λ n. length digits + n) (length-take-le m rest (prefix_len-le-length is_digit rest)) in
     finds_as _ _ (number digits) (front_number digits rest h) (
       length whole,
       Some (number_of whole),
@@ -164,8 +166,8 @@ front_mark : (first : ℕ) (rest : List ℕ) → is_space first ≡ false → is
     front (first ∷ rest) ≡ cond (is_comment (first ∷ rest)) (piece (comment_size (first ∷ rest)) None)
     (sign_front (sign_of (first ∷ rest)))
 front_mark first rest space letter digit quote =
-    front_is first rest ∙ when_false _ _ _ space ∙ when_false _ _ _ letter ∙ when_false _ _ _ digit
-    ∙ when_false _ _ _ (no_quotes first rest quote) ∙ when_false _ _ _ quote
+    front_is first rest ∙ cond-false _ _ _ space ∙ cond-false _ _ _ letter ∙ cond-false _ _ _ digit
+    ∙ cond-false _ _ _ (no_quotes first rest quote) ∙ cond-false _ _ _ quote
 
 comment_long : (bytes : List ℕ) → is_comment bytes ≡ true → 1 < comment_size bytes
 comment_long bytes h =
@@ -184,14 +186,14 @@ finds_sign bytes rest sign h =
       | inl is_one ↦ (
         comment_size bytes,
         None,
-        same ∙ when_true _ _ _ is_one,
+        same ∙ cond-true _ _ _ is_one,
         inr (omega (arith, comment_long bytes is_one, sign_of_comment bytes rest sign h is_one)),
       )
       | inr is_none ↦
           let found = sign_begins bytes sign (begins_so bytes (sign_spelling sign) rest h) in (
             length (sign_spelling found.0),
             Some (Sign found.0),
-            same ∙ when_false _ _ _ is_none ∙ ap sign_front found.1,
+            same ∙ cond-false _ _ _ is_none ∙ ap sign_front found.1,
             elim found.2 [
               | inl e ↦ inl (ap (λ s. length (sign_spelling s)) e, ap (λ s. Some (Sign s)) e)
               | inr
@@ -211,7 +213,8 @@ finds_text text rest h apart =
     omega (arith, length-append (written text) (34 ∷ [])) in (
       length (written text) + 1 + 1,
       Some (Text text),
-      front_is 34 (written text ++ 34 ∷ rest) ∙ when_false _ _ _ quotes ∙ ap text_front (text_again text rest h),
+      front_is 34 (written text ++ 34 ∷ rest) ∙ cond-false _ _ _ quotes
+          ∙ ap text_front (text_again text rest h),
       inl (size, refl),
     )
 
@@ -303,7 +306,7 @@ found_word first rest h size what e =
     let word : List ℕ = first ∷ take m rest in
     let name_byte : is_name_byte first ≡ true = or_left _ _ (or_left _ _ h) in
     let at : word_at bytes ≡ word =
-    ap (λ n. take n bytes) (when_true (is_name_byte first) (1 + m) 0 name_byte
+    ap (λ n. take n bytes) (cond-true (is_name_byte first) (1 + m) 0 name_byte
     ∙ (let g : 1 + m ≡ suc m = omega arith in g)) in
     let whole : bytes ≡ word ++ drop m rest = ap (λ r. first ∷ r) (sym (take-append-drop m rest)) in
     let read : piece (length word) (Some (word_what word (keyword_of word))) ≡ piece size what =
@@ -318,7 +321,7 @@ found_number first rest h size what e =
     let m : ℕ = prefix_len is_digit rest in
     let digits : List ℕ = first ∷ take m rest in
     let at : digits_at bytes ≡ digits =
-    ap (λ n. take n bytes) (when_true (is_digit first) (1 + m) 0 h
+    ap (λ n. take n bytes) (cond-true (is_digit first) (1 + m) 0 h
     ∙ (let g : 1 + m ≡ suc m = omega arith in g)) in
     let whole : bytes ≡ digits ++ drop m rest = ap (λ r. first ∷ r) (sym (take-append-drop m rest)) in
     let read : piece (length digits) (Some (number_of digits)) ≡ piece size what = sym (ap number_front at) ∙ e in
@@ -387,7 +390,7 @@ found_comment bytes size what h e =
             (drop m rest, is ∙ ap (λ r. 45 ∷ 45 ∷ r) (sym (take-append-drop m rest)));
         no_docstring = λ _ t. t;
       };
-      sized = ap (λ n. suc (suc n)) (length-take-le m rest (prefix_within line rest)) ∙ sym sized;
+      sized = ap (λ n. suc (suc n)) (length-take-le m rest (prefix_len-le-length line rest)) ∙ sym sized;
       meant = refl;
     })
 
@@ -415,21 +418,21 @@ pub found_begins : (first : ℕ) (rest : List ℕ) (size : ℕ) (what : Option W
 found_begins first rest size what h =
     let bytes : List ℕ = first ∷ rest in
     let p : Front = piece size what in
-    elim (chosen (is_space first) _ _ p (sym (front_is first rest) ∙ h)) [
+    elim (cond_cases (is_space first) _ _ p (sym (front_is first rest) ∙ h)) [
       | inl w ↦ found_as bytes 1 size None what w.1 (found_blank first rest w.0)
-      | inr w ↦ elim (chosen (is_letter first) _ _ p w.1) [
+      | inr w ↦ elim (cond_cases (is_letter first) _ _ p w.1) [
         | inl w ↦ found_word first rest w.0 size what w.1
-        | inr w ↦ elim (chosen (is_digit first) _ _ p w.1) [
+        | inr w ↦ elim (cond_cases (is_digit first) _ _ p w.1) [
           | inl w ↦ found_number first rest w.0 size what w.1
-          | inr w ↦ elim (chosen (starts_with nat_eq bytes three_quotes) _ _ p w.1) [
+          | inr w ↦ elim (cond_cases (starts_with nat_eq bytes three_quotes) _ _ p w.1) [
             | inl w ↦ found_docstring bytes (docstring_size (drop 3 bytes)) size what refl w.0 w.1
-            | inr v ↦ elim (chosen (first == 34) _ _ p v.1) [
+            | inr v ↦ elim (cond_cases (first == 34) _ _ p v.1) [
               | inl w ↦
                   let is = eqb-true first 34 w.0 in
                   subst (λ f. IsFound (f ∷ rest) size what) (sym is)
                   (found_text rest (text_at false rest) size what refl
                   (subst (λ f. starts_with nat_eq (f ∷ rest) three_quotes ≡ false) is v.0) w.1)
-              | inr w ↦ elim (chosen (is_comment bytes) _ _ p w.1) [
+              | inr w ↦ elim (cond_cases (is_comment bytes) _ _ p w.1) [
                 | inl w ↦ found_comment bytes size what w.0 w.1
                 | inr w ↦ found_sign bytes (sign_of bytes) size what refl w.1
               ]

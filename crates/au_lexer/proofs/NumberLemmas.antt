@@ -4,12 +4,12 @@ use Rattle.std.proofs.Common.{length, drop, get_or, ap, ◌∙◌, sym, arith, d
 use Rattle.std.specs.Char.{digit_value}
 use Rattle.std.specs.List.{list_all}
 use Rattle.std.specs.Str.Parse.{AllDigits, digits_value, digits_value_after}
-use Rattle.std.proofs.lemmas.Bool.{and_parts, leb-true, lt-ltb, le-ltb, cases_Bool, both_ways}
+use Rattle.std.proofs.lemmas.Bool.{and_parts, leb-true, lt-ltb, le-ltb, cases_Bool, both_ways, cond-true}
+use Rattle.std.proofs.lemmas.Bool.{cond-false}
 use Rattle.std.proofs.lemmas.Int.Digits.{digits_value-lt}
 use Rattle.std.proofs.Math.Nat.{pow-le-pow_right}
 use Rattle.std.proofs.lemmas.List.Folds.{list_all_at}
 use Rattle.au_lexer.specs.Bytes.{is_digit}
-use Rattle.au_lexer.proofs.RunLemmas.{when_true, when_false}
 
 -- what a digit is worth
 pub digit_worth : (byte : ℕ) → is_digit byte ≡ true → digit_value byte ≡ byte - 48
@@ -17,14 +17,15 @@ digit_worth byte h =
     let parts = and_parts (nat_le 48 byte) (nat_le byte 57) h in
     let low : 48 ≤ byte = leb-true 48 byte parts.0 in
     let high : byte < 58 = omega (arith, leb-true byte 57 parts.1) in
-    when_false (nat_lt byte 48) _ _ (le-ltb byte 48 low) ∙ when_true (nat_lt byte 58) _ _ (lt-ltb byte 58 high)
+    cond-false (nat_lt byte 48) _ _ (le-ltb byte 48 low)
+    ∙ cond-true (nat_lt byte 58) _ _ (lt-ltb byte 58 high)
 
 digit_below : (byte : ℕ) → is_digit byte ≡ true → digit_value byte < 10
 digit_below byte h =
     let parts = and_parts (nat_le 48 byte) (nat_le byte 57) h in
     omega (arith, digit_worth byte h, leb-true byte 57 parts.1, leb-true 48 byte parts.0)
 
-all_digits : (digits : List ℕ) → list_all is_digit digits ≡ true → AllDigits 10 digits
+pub all_digits : (digits : List ℕ) → list_all is_digit digits ≡ true → AllDigits 10 digits
 all_digits [] h = tt
 all_digits (byte ∷ digits) h =
     let parts = and_parts (is_digit byte) (list_all is_digit digits) h in

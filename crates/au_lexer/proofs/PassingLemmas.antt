@@ -4,6 +4,7 @@ use Rattle.std.proofs.Common.{Some, None, ap, ◌∙◌, sym, refl, arith, inl, 
 use Rattle.std.specs.Prelude.{is_none}
 use Rattle.std.specs.List.{list_all}
 use Rattle.std.proofs.lemmas.Bool.{and_parts, and_from, lt-ltb, ltb-false, both_ways, cases_lt, le-ltb}
+use Rattle.std.proofs.lemmas.Bool.{cond-true, cond-false}
 use Rattle.std.proofs.lemmas.List.Folds.{list_all-append}
 use Rattle.au_base.specs.declared.limits.Limit.{Limit}
 use Rattle.au_base.specs.declared.limits.LimitKind.{LimitKind}
@@ -14,17 +15,17 @@ use Rattle.au_base.specs.declared.tokens.What.{What}
 use Rattle.au_base.specs.declared.tokens.What.TheVariants.{Text}
 use Rattle.au_base.specs.Limits.{most_tokens, most_text_bytes}
 use Rattle.au_base.specs.Places.{place_after}
+use Rattle.au_base.proofs.BoolLemmas.{cond_cases}
 use Rattle.au_lexer.specs.Cut.{tokens_among, token_at}
 use Rattle.au_lexer.specs.Passing.{limit_above, passed, own_limit, limit_passed, is_within, count_of}
 use Rattle.au_lexer.specs.Passing.{count_among, are_within, IsWithinLimits}
 use Rattle.au_lexer.specs.Pieces.{Piece, spelling, what_of}
 use Rattle.au_lexer.specs.Reading.{text_front, text_sizes, token_front}
-use Rattle.au_lexer.proofs.RunLemmas.{chosen, when_true, when_false}
 
 -- a count that passes no limit
 pub not_passed : (kind : LimitKind) (most count : ℕ) → passed kind most count ≡ None → count ≤ most
 not_passed kind most count h =
-    elim (chosen (nat_lt most count) (Some (limit_above kind most)) None None h) [
+    elim (cond_cases (nat_lt most count) (Some (limit_above kind most)) None None h) [
       | inl w ↦ let e = w.1 in absurd cc
       | inr w ↦ ltb-false most count w.0
     ]
@@ -76,13 +77,13 @@ within_own : (before : ℕ) (what : What) → is_none (limit_passed before what)
     × (is_none (own_limit what) ≡ true)
 within_own before what h =
     elim (cases_lt before most_tokens) [
-      | inl lt ↦ (lt, ap is_none (sym (when_true _ _ _ (lt-ltb before most_tokens lt))) ∙ h)
-      | inr ge ↦ absurd (both_ways _ (ap is_none (when_false _ _ _ (le-ltb before most_tokens ge))) h)
+      | inl lt ↦ (lt, ap is_none (sym (cond-true _ _ _ (lt-ltb before most_tokens lt))) ∙ h)
+      | inr ge ↦ absurd (both_ways _ (ap is_none (cond-false _ _ _ (le-ltb before most_tokens ge))) h)
     ]
 
 own_within : (before : ℕ) (what : What) → before < most_tokens → is_none (own_limit what) ≡ true →
     is_none (limit_passed before what) ≡ true
-own_within before what lt h = ap is_none (when_true _ _ _ (lt-ltb before most_tokens lt)) ∙ h
+own_within before what lt h = ap is_none (cond-true _ _ _ (lt-ltb before most_tokens lt)) ∙ h
 
 -- no token among pieces that pass no limit passes one of its own, and they are no more than may be
 abbrev own : Token → Bool

@@ -4,7 +4,7 @@ use Rattle.std.proofs.Common.{◌∷◌, ◌++◌, length, take, drop, Option, S
 use Rattle.std.proofs.Common.{inl, inr, arith}
 use Rattle.std.specs.List.{list_all, starts_with}
 use Rattle.std.specs.Cmp.Lexicographic.{pointwise}
-use Rattle.std.proofs.lemmas.Bool.{and_parts, leb-true, cases_lt, or_cases, both_ways, not-true}
+use Rattle.std.proofs.lemmas.Bool.{and_parts, leb-true, cases_lt, or_cases, both_ways, not-true, cond-true}
 use Rattle.std.proofs.lemmas.Bool.Decides.{Decides-eqb}
 use Rattle.std.proofs.lemmas.Slice.Eq.{starts_is}
 use Rattle.std.proofs.lemmas.List.{take_at, take-append-le}
@@ -16,9 +16,9 @@ use Rattle.au_base.specs.declared.tokens.Sign.TheVariants.{LeftBrace, RightBrace
 use Rattle.au_base.specs.declared.tokens.Sign.TheVariants.{Dot, ReadBorrow, Exclamation, Plus, Minus, Star}
 use Rattle.au_base.specs.declared.tokens.Sign.TheVariants.{Slash, Equal, Less, Greater}
 use Rattle.au_base.specs.Tokens.{signs, sign_spelling}
+use Rattle.au_base.proofs.BoolLemmas.{cond_cases}
 use Rattle.au_lexer.specs.Bytes.{is_space, is_letter, is_digit}
 use Rattle.au_lexer.specs.Reading.{first_begun, sign_of}
-use Rattle.au_lexer.proofs.RunLemmas.{chosen, when_true}
 
 -- bytes that begin with a spelling
 pub begun : (bytes spelled : List ℕ) → starts_with nat_eq bytes spelled ≡ true → bytes ≡ spelled
@@ -454,9 +454,13 @@ finds [] bytes sign f i h = absurd i
 finds (one ∷ table) bytes sign f i h =
     let parts = and_parts (none_longer (length (sign_spelling one)) table) (falls table) f in
     elim i [
-      | inl e ↦ (one, when_true _ _ _ (subst (λ s. starts_with nat_eq bytes (sign_spelling s) ≡ true) e h), inl e)
+      | inl e ↦ (
+        one,
+        cond-true _ _ _ (subst (λ s. starts_with nat_eq bytes (sign_spelling s) ≡ true) e h),
+        inl e,
+      )
       | inr j ↦
-          elim (chosen (starts_with nat_eq bytes (sign_spelling one)) (Some one) (first_begun table bytes)
+          elim (cond_cases (starts_with nat_eq bytes (sign_spelling one)) (Some one) (first_begun table bytes)
           (first_begun (one ∷ table) bytes) refl) [
             | inl w ↦ (one, sym w.1, shorter one sign bytes (among_bound _ table sign parts.0 j) h w.0)
             | inr w ↦ let found = finds table bytes sign parts.1 j h in (found.0, sym w.1 ∙ found.1, found.2)
@@ -477,7 +481,8 @@ first_begun_is : (table : List Sign) (bytes : List ℕ) (sign : Sign) → first_
     starts_with nat_eq bytes (sign_spelling sign) ≡ true
 first_begun_is [] bytes sign h = cc
 first_begun_is (one ∷ table) bytes sign h =
-    elim (chosen (starts_with nat_eq bytes (sign_spelling one)) (Some one) (first_begun table bytes) (Some sign) h) [
+    elim (cond_cases (starts_with nat_eq bytes (sign_spelling one)) (Some one) (first_begun table bytes)
+    (Some sign) h) [
       | inl w ↦ let same : one ≡ sign = (let e = w.1 in cc)
           in subst (λ k. starts_with nat_eq bytes (sign_spelling k) ≡ true) same w.0
       | inr w ↦ first_begun_is table bytes sign w.1

@@ -4,12 +4,13 @@ use Rattle.std.proofs.Common.{Option, Some, None, ap, ◌∙◌, sym, refl, subs
 use Rattle.std.proofs.Common.{length-append}
 use Rattle.std.specs.List.{list_all, flat_map}
 use Rattle.std.specs.Option.{option_map}
-use Rattle.std.proofs.lemmas.Bool.{and_parts, and_from, eqb-true, ltb-false, ne_eqb, cases_Bool}
+use Rattle.std.proofs.lemmas.Bool.{and_parts, and_from, eqb-true, ltb-false, ne_eqb, cases_Bool, cond-false}
 use Rattle.std.proofs.lemmas.Bool.Decides.{nat_tests}
+use Rattle.au_base.proofs.BoolLemmas.{cond_cases}
+use Rattle.au_base.proofs.OptionLemmas.{map_some}
 use Rattle.au_lexer.specs.Bytes.{is_text_byte}
 use Rattle.au_lexer.specs.Pieces.{byte_spelling}
 use Rattle.au_lexer.specs.Reading.{escaped, with_byte, with_escape, text_at}
-use Rattle.au_lexer.proofs.RunLemmas.{chosen, when_false}
 
 -- how a text is written between its quotes
 abbrev pub written : List ℕ → List ℕ
@@ -35,8 +36,8 @@ how_written byte h =
               | inl e ↦ let is = eqb-true byte 92 e in subst Written (sym is) (escape 92 refl refl)
               | inr s ↦
                   plain
-                  (when_false _ _ _ n ∙ when_false _ _ _ r ∙ when_false _ _ _ t ∙ when_false _ _ _ q
-                  ∙ when_false _ _ _ s)
+                  (cond-false _ _ _ n ∙ cond-false _ _ _ r ∙ cond-false _ _ _ t ∙ cond-false _ _ _ q
+                  ∙ cond-false _ _ _ s)
                   (grind (arith, nat_tests)) q s
             ]
           ]
@@ -51,15 +52,15 @@ escaped_is letter byte h =
     let P : ℕ → ℕ → Type 0 = λ l b. (byte_spelling b ≡ 92 ∷ l ∷ []) × (is_text_byte b ≡ true) in
     let go : (l b : ℕ) → letter ≡ l → Some b ≡ Some byte → P l b → P letter byte = λ l b e f p. let g : b
     ≡ byte = cc in subst (λ x. P x byte) (sym e) (subst (P l) g p) in
-    elim (chosen (letter == 110) (Some 10) _ (Some byte) h) [
+    elim (cond_cases (letter == 110) (Some 10) _ (Some byte) h) [
       | inl w ↦ go 110 10 (eqb-true letter 110 w.0) w.1 (refl, refl)
-      | inr w ↦ elim (chosen (letter == 114) (Some 13) _ (Some byte) w.1) [
+      | inr w ↦ elim (cond_cases (letter == 114) (Some 13) _ (Some byte) w.1) [
         | inl w ↦ go 114 13 (eqb-true letter 114 w.0) w.1 (refl, refl)
-        | inr w ↦ elim (chosen (letter == 116) (Some 9) _ (Some byte) w.1) [
+        | inr w ↦ elim (cond_cases (letter == 116) (Some 9) _ (Some byte) w.1) [
           | inl w ↦ go 116 9 (eqb-true letter 116 w.0) w.1 (refl, refl)
-          | inr w ↦ elim (chosen (letter == 34) (Some 34) _ (Some byte) w.1) [
+          | inr w ↦ elim (cond_cases (letter == 34) (Some 34) _ (Some byte) w.1) [
             | inl w ↦ go 34 34 (eqb-true letter 34 w.0) w.1 (refl, refl)
-            | inr w ↦ elim (chosen (letter == 92) (Some 92) None (Some byte) w.1) [
+            | inr w ↦ elim (cond_cases (letter == 92) (Some 92) None (Some byte) w.1) [
               | inl w ↦ go 92 92 (eqb-true letter 92 w.0) w.1 (refl, refl)
               | inr w ↦ let e = w.1 in absurd cc
             ]
@@ -86,8 +87,8 @@ byte_again : (byte : ℕ) (rest : List ℕ) → is_text_byte byte ≡ true →
 unfolding text_more
 byte_again byte rest h = elim (how_written byte h) [
   | plain e low quote slash ↦
-      ap (λ s. text_at false (s ++ rest)) e ∙ when_false _ _ _ quote ∙ when_false _ _ _ slash
-      ∙ when_false _ _ _ low ∙ ap (λ s. option_map
+      ap (λ s. text_at false (s ++ rest)) e ∙ cond-false _ _ _ quote ∙ cond-false _ _ _ slash
+      ∙ cond-false _ _ _ low ∙ ap (λ s. option_map
       (λ (text : List ℕ × ℕ). let p : List ℕ × ℕ = (byte ∷ text.0, text.1 + length s) in p)
       (text_at false rest)) (sym e)
   | escape letter e is ↦
@@ -131,11 +132,6 @@ read_more byte inside text size size' meant longer read = record {
   sized = (let s = read.sized in let l = length-append (byte_spelling byte) (written text) in omega arith);
 }
 
-mapped : {A B : Type 0} (f : A → B) (o : Option A) (y : B) → option_map f o ≡ Some y → (x : A) × (o ≡ Some x)
-    × (f x ≡ y)
-mapped f None y h = cc
-mapped f (Some x) y h = (x, refl, cc)
-
 escape_mapped : (o : Option ℕ) (read : Option (List ℕ × ℕ)) (y : List ℕ × ℕ) → with_escape o read ≡ Some y →
     (byte : ℕ) × (o ≡ Some byte) × (with_byte byte read ≡ Some y)
 escape_mapped None read y h = cc
@@ -168,10 +164,10 @@ read_plain : (byte : ℕ) (bytes : List ℕ) (found y : List ℕ × ℕ) → (by
 read_plain byte bytes found y quote slash low e read =
     let bound : 32 ≤ byte = ltb-false byte 32 low in
     let spelled : byte_spelling byte ≡ byte ∷ [] =
-    when_false _ _ _ (ne_eqb byte 10 (λ (h : byte ≡ 10). omega arith))
-    ∙ when_false _ _ _ (ne_eqb byte 13 (λ (h : byte ≡ 13). omega arith))
-    ∙ when_false _ _ _ (ne_eqb byte 9 (λ (h : byte ≡ 9). omega arith)) ∙ when_false _ _ _ quote
-    ∙ when_false _ _ _ slash in
+    cond-false _ _ _ (ne_eqb byte 10 (λ (h : byte ≡ 10). omega arith))
+    ∙ cond-false _ _ _ (ne_eqb byte 13 (λ (h : byte ≡ 13). omega arith))
+    ∙ cond-false _ _ _ (ne_eqb byte 9 (λ (h : byte ≡ 9). omega arith)) ∙ cond-false _ _ _ quote
+    ∙ cond-false _ _ _ slash in
     let meant : is_text_byte byte ≡ true = grind (arith, nat_tests) in
     read_as (byte ∷ bytes) (byte ∷ y.0) (y.1 + 1) found e
     (subst (λ s. IsRead (s ++ bytes) (byte ∷ y.0) (y.1 + 1)) spelled
@@ -193,10 +189,10 @@ behind_slash : (letter : ℕ) (rest : List ℕ) (found : List ℕ × ℕ) → op
     (byte : ℕ) × (y : List ℕ × ℕ) × (escaped letter ≡ Some byte) × (text_at false rest ≡ Some y)
     × ((byte ∷ y.0, y.1 + 1 + 1) ≡ found)
 behind_slash letter rest found h =
-    let outer = mapped (λ (text : List ℕ × ℕ). let p : List ℕ × ℕ = (text.0, text.1 + 1) in p)
+    let outer = map_some (λ (text : List ℕ × ℕ). let p : List ℕ × ℕ = (text.0, text.1 + 1) in p)
     (text_at true (letter ∷ rest)) found h in
     let inner = escape_mapped (escaped letter) (text_at false rest) outer.0 outer.1 in
-    let last = mapped (λ (text : List ℕ × ℕ). let p : List ℕ × ℕ = (inner.0 ∷ text.0, text.1 + 1) in p)
+    let last = map_some (λ (text : List ℕ × ℕ). let p : List ℕ × ℕ = (inner.0 ∷ text.0, text.1 + 1) in p)
     (text_at false rest) outer.0 inner.2 in (
       inner.0,
       last.0,
@@ -208,32 +204,36 @@ behind_slash letter rest found h =
 pub text_found : (inside : List ℕ) (text : List ℕ × ℕ) → text_at false inside ≡ Some text → IsRead inside text.0 text.1
 text_found [] text h = cc
 text_found (byte ∷ []) text h =
-    elim (chosen (byte == 34) (Some ([], 1)) _ (Some text) h) [
+    elim (cond_cases (byte == 34) (Some ([], 1)) _ (Some text) h) [
       | inl w ↦ read_end byte [] text w.0 w.1
-      | inr w ↦ elim (chosen (byte == 92) (option_map (λ text. (text.0, text.1 + 1)) (text_at true [])) _
+      | inr w ↦ elim (cond_cases (byte == 92) (option_map (λ text. (text.0, text.1 + 1)) (text_at true [])) _
           (Some text) w.1) [
             | inl v ↦ let e = v.1 in cc
-            | inr v ↦ elim (chosen (nat_lt byte 32) None (with_byte byte (text_at false [])) (Some text) v.1) [
-              | inl u ↦ let e = u.1 in cc
-              | inr u ↦ let e = u.1 in cc
-            ]
+            | inr v ↦ elim (cond_cases (nat_lt byte 32) None (with_byte byte (text_at false [])) (Some text)
+                v.1) [
+                  | inl u ↦ let e = u.1 in cc
+                  | inr u ↦ let e = u.1 in cc
+                ]
           ]
     ]
 text_found (byte ∷ next ∷ bytes) text h =
-    elim (chosen (byte == 34) (Some ([], 1)) _ (Some text) h) [
+    elim (cond_cases (byte == 34) (Some ([], 1)) _ (Some text) h) [
       | inl w ↦ read_end byte (next ∷ bytes) text w.0 w.1
-      | inr w ↦ elim (chosen (byte == 92)
+      | inr w ↦ elim (cond_cases (byte == 92)
           (option_map (λ text. (text.0, text.1 + 1)) (text_at true (next ∷ bytes))) _ (Some text) w.1) [
             | inl v ↦
                 let b = behind_slash next bytes text v.1 in
                 subst (λ slash. IsRead (slash ∷ next ∷ bytes) text.0 text.1) (sym (eqb-true byte 92 v.0))
                 (read_escape next b.0 bytes text b.1 b.2 b.4 (text_found bytes b.1 b.3))
-            | inr v ↦ elim (chosen (nat_lt byte 32) None (with_byte byte (text_at false (next ∷ bytes))) (Some text) v.1) [
-              | inl u ↦ let e = u.1 in absurd cc
-              | inr u ↦
-                  let last = mapped (λ (text : List ℕ × ℕ). let p : List ℕ × ℕ = (byte ∷ text.0, text.1 + 1) in p)
-                  (text_at false (next ∷ bytes)) text u.1 in
-                  read_plain byte (next ∷ bytes) text last.0 w.0 v.0 u.0 last.2 (text_found (next ∷ bytes) last.0 last.1)
-            ]
+            | inr v ↦ elim (cond_cases (nat_lt byte 32) None (with_byte byte (text_at false (next ∷ bytes)))
+                (Some text) v.1) [
+                  | inl u ↦ let e = u.1 in absurd cc
+                  | inr u ↦
+                      let last = map_some
+                      (λ (text : List ℕ × ℕ). let p : List ℕ × ℕ = (byte ∷ text.0, text.1 + 1) in p)
+                      (text_at false (next ∷ bytes)) text u.1 in
+                      read_plain byte (next ∷ bytes) text last.0 w.0 v.0 u.0 last.2
+                      (text_found (next ∷ bytes) last.0 last.1)
+                ]
           ]
     ]

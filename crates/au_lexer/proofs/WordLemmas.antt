@@ -13,16 +13,17 @@ use Rattle.au_base.specs.declared.tokens.Keyword.TheVariants.{KwSkip, KwNil, KwT
 use Rattle.au_base.specs.declared.tokens.Keyword.TheVariants.{KwNot, KwFree, KwLinear, KwAnyUniverse}
 use Rattle.au_base.specs.declared.tokens.Keyword.TheVariants.{KwRegion}
 use Rattle.au_base.specs.Tokens.{keywords, keyword_spelling}
+use Rattle.au_base.proofs.BoolLemmas.{cond_cases}
 use Rattle.au_lexer.specs.Pieces.{IsWord}
 use Rattle.au_lexer.specs.Reading.{first_spelled, keyword_of}
-use Rattle.au_lexer.proofs.RunLemmas.{chosen}
 
 -- the keyword that is found is spelled so
 first_spelled_is : (table : List Keyword) (word : List ℕ) (keyword : Keyword) → first_spelled table word
     ≡ Some keyword → keyword_spelling keyword ≡ word
 first_spelled_is [] word keyword h = cc
 first_spelled_is (one ∷ table) word keyword h =
-    elim (chosen (bytes_eq (keyword_spelling one) word) (Some one) (first_spelled table word) (Some keyword) h) [
+    elim (cond_cases (bytes_eq (keyword_spelling one) word) (Some one) (first_spelled table word)
+    (Some keyword) h) [
       | inl w ↦ let same : one ≡ keyword = (let e = w.1 in cc) in subst (λ k. keyword_spelling k ≡ word) same
           ((bytes_eq-Decides (keyword_spelling one) word).0 w.0)
       | inr w ↦ first_spelled_is table word keyword w.1

@@ -3,7 +3,7 @@ use Rattle.std.proofs.Common.{◌≡◌, ℕ, ◌+◌, ◌<◌, ◌≤◌, List,
 use Rattle.std.proofs.Common.{◌∙◌, Option, None, Some}
 use Rattle.std.proofs.lemmas.List.{drop_all}
 use Rattle.au_base.specs.declared.places.Pos.{Pos}
-use Rattle.au_paths.proofs.SeenLemmas.{next_item}
+use Rattle.au_base.proofs.ListLemmas.{next_item}
 use Rattle.au_linear.specs.Firsts.{first_of, or_else}
 
 -- the first place of two parts

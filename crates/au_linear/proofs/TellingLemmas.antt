@@ -3,6 +3,7 @@ use Rattle.std.proofs.Common.{◌≡◌, ℕ, suc, ◌+◌, ◌<◌, ◌≤◌, 
 use Rattle.std.proofs.Common.{append_assoc, get_or, refl, sym, ap, subst, ◌∙◌, arith, Option, None, Some}
 use Rattle.std.proofs.Common.{Result, Ok, Err}
 use Rattle.std.proofs.lemmas.List.{drop_all}
+use Rattle.au_base.proofs.ListLemmas.{next_item}
 use Rattle.au_lives.specs.declared.lives.Sort.{Sort}
 use Rattle.au_lives.specs.Scopes.{Scope}
 use Rattle.au_lives.specs.Refusals.{Refusal, Variable, Refused, refusal, or_later, first_refused}
@@ -17,7 +18,6 @@ use Rattle.au_linear.specs.declared.tasks.Task.TheVariants as tasks
 use Rattle.au_linear.specs.Telling.{asked, sorted, refusal_of, Tells}
 use Rattle.au_linear.specs.Allotting.{Allots, Allotted, asked_task, told_by, first_told, Decides, Sees}
 use Rattle.au_lives.proofs.RefusalLemmas.{good_none}
-use Rattle.au_paths.proofs.SeenLemmas.{next_item}
 
 drop_one_more : {A : Type 0} (n : ℕ) (xs : List A) → drop n (drop 1 xs) ≡ drop (suc n) xs
 drop_one_more n [] = drop_all n [] (omega arith)

@@ -2,6 +2,7 @@
 use Rattle.std.proofs.Common.{◌≡◌, ℕ, zero, suc, ◌+◌, ◌≤◌, Bool, List, [], ◌∷◌, ◌++◌, drop, min, Ok, Err, ◌⊎◌}
 use Rattle.std.proofs.Common.{inl, inr, refl, ap, ◌∙◌, arith, append-nil, zero-add}
 use Rattle.std.proofs.lemmas.List.{append_assoc}
+use Rattle.au_base.proofs.ListLemmas.{nothing_front}
 use Rattle.au_lives.specs.declared.lives.LifeKind.{LifeKind}
 use Rattle.au_lives.specs.Lives.{Fate, going}
 use Rattle.au_lives.specs.Paths.{first}
@@ -10,7 +11,7 @@ use Rattle.au_lives.specs.Walks.{step_by, armed, chosen}
 use Rattle.au_lives.proofs.Summaries.{Has, Falls, Passes, Comes, Broken, Breaks, Sums, Summed, Absorbs}
 use Rattle.au_lives.proofs.Summaries.{fine_onto, falls_onto, later_onto, has_either, has_left, has_right}
 use Rattle.au_lives.proofs.Summaries.{nowhere_has, choose_is, choose_has, step_comes, step_falls}
-use Rattle.au_lives.proofs.Summaries.{nothing_before, pick_falls, pick_breaks, pick_fine, wider}
+use Rattle.au_lives.proofs.Summaries.{pick_falls, pick_breaks, pick_fine, wider}
 
 pub record ArmComes (ms : ℕ → Machine) (last i : ℕ) (r : Reach) (s : Bool) (path : List ℕ) : Type 0 where
   pub from : Bool
@@ -96,7 +97,7 @@ module _ (f : Bool → Fate) (m : Machine) (others : ℕ → Machine) (last i : 
       ArmBreaks all (suc last) i r e.kind (e.path ++ i ∷ [])
   test_breaks e t a =
       let b = t.breaks [] in
-      let none : t.here ≡ [] = nothing_before t.here b.more b.taken in
+      let none : t.here ≡ [] = nothing_front t.here b.more b.taken in
       let path : e.path ≡ t.before = t.splits ∙ ap (λ l. t.before ++ l) none ∙ append-nil t.before in
       let n : i ≡ i + 0 = omega arith in
       record {

@@ -2,9 +2,9 @@
 use Rattle.std.proofs.Common.{◌≡◌, ℕ, zero, suc, ◌+◌, ◌<◌, ◌≤◌, ◌==◌, Bool, true, false, ◌||◌, List, [], ◌∷◌}
 use Rattle.std.proofs.Common.{length, drop, map, ap, ◌∙◌, sym, refl, get_or, arith, add-one, drop-cons, not}
 use Rattle.std.proofs.Common.{if◌then◌else◌}
-use Rattle.std.proofs.lemmas.Bool.{eqb-true}
 use Rattle.std.proofs.lemmas.List.{drop_all}
 use Rattle.std.specs.Str.{bytes_eq}
+use Rattle.au_base.proofs.NumberLemmas.{not_none}
 use Rattle.au_syntax.specs.declared.phases.Phase.{Ghosts}
 use Rattle.au_syntax.specs.declared.expressions.Argument.{Argument}
 use Rattle.au_syntax.specs.declared.expressions.Expr.{Expr}
@@ -74,10 +74,6 @@ pick false k = refl
 pub tally_named : (x name : Bytes) (k : Counts) → tally_of (where_named x name k)
     ≡ (if bytes_eq name x then tally_of k else tally_of unmentioned)
 tally_named x name k = pick (bytes_eq name x) k
-
-not_none : (n : ℕ) (b : Bool) → (suc n == 0) ≡ b → b ≡ false
-not_none n true h = let e : suc n ≡ 0 = eqb-true (suc n) 0 h in absurd (omega (arith, e))
-not_none n false h = refl
 
 some : (n : ℕ) → (suc n == 0) ≡ false
 some n = not_none n (suc n == 0) refl

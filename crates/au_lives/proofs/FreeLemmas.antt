@@ -1,6 +1,7 @@
 -- A variable whose type is Free is never consumed.
-use Rattle.std.proofs.Common.{◌≡◌, ℕ, ◌+◌, Bool, true, false, List, [], ◌∷◌, refl, arith, if◌then◌else◌}
+use Rattle.std.proofs.Common.{◌≡◌, ◌+◌, Bool, true, false, List, [], ◌∷◌, refl, if◌then◌else◌}
 use Rattle.std.specs.Str.{bytes_eq}
+use Rattle.au_base.proofs.NumberLemmas.{sum_none}
 use Rattle.au_syntax.specs.declared.expressions.BorrowMode.{BorrowMode}
 use Rattle.au_syntax.specs.declared.expressions.BorrowMode.TheVariants as modes
 use Rattle.au_syntax.specs.declared.types.Access.{Access}
@@ -25,7 +26,7 @@ none_looked : (fields : List (Placed Bytes)) → (mentioned_with true fields).co
 none_looked [] = refl
 none_looked (field ∷ fields) = refl
 
-none_borrowed : (mode : BorrowMode) → (borrowed_by mode).consumed ≡ 0
+pub none_borrowed : (mode : BorrowMode) → (borrowed_by mode).consumed ≡ 0
 none_borrowed modes.Read = refl
 none_borrowed modes.Write = refl
 none_borrowed modes.Reborrow = refl
@@ -39,9 +40,6 @@ none_seen unlent k e = e
 none_seen read_lent k e = e
 none_seen write_lent k e = e
 none_seen hidden k e = refl
-
-none_both : (a b : ℕ) → a ≡ 0 → b ≡ 0 → a + b ≡ 0
-none_both a b g h = omega (arith, g, h)
 
 module _ (x : Bytes) where
   mutual
@@ -62,24 +60,24 @@ module _ (x : Bytes) where
         none_named (bytes_eq name.name x) (borrowed_by mode) (none_borrowed mode)
     none_in (borrow_part node name fields) = none_named (bytes_eq name.name x) one_look refl
     none_in (binary node operator a b) =
-        none_both (counts_in x true a).consumed (counts_in x true b).consumed (none_in a) (none_in b)
+        sum_none (counts_in x true a).consumed (counts_in x true b).consumed (none_in a) (none_in b)
     none_in (negation node e) = none_in e
     none_in (typed node e t) = none_in e
     none_in (choice node c a b) =
-        none_both (counts_in x true c).consumed
+        sum_none (counts_in x true c).consumed
         ((counts_in x true a).consumed + (counts_in x true b).consumed) (none_in c)
-        (none_both (counts_in x true a).consumed (counts_in x true b).consumed (none_in a) (none_in b))
+        (sum_none (counts_in x true a).consumed (counts_in x true b).consumed (none_in a) (none_in b))
 
     none_in_all : (es : PlainExpressions) → (counts_in_all x true es).consumed ≡ 0
     none_in_all no_expressions = refl
     none_in_all (expressions e rest) =
-        none_both (counts_in x true e).consumed (counts_in_all x true rest).consumed (none_in e)
+        sum_none (counts_in x true e).consumed (counts_in_all x true rest).consumed (none_in e)
         (none_in_all rest)
 
     none_in_arguments : (es : PlainArguments) → (counts_in_arguments x true es).consumed ≡ 0
     none_in_arguments no_arguments = refl
     none_in_arguments (arguments label e rest) =
-        none_both (counts_in x true e).consumed (counts_in_arguments x true rest).consumed (none_in e)
+        sum_none (counts_in x true e).consumed (counts_in_arguments x true rest).consumed (none_in e)
         (none_in_arguments rest)
 
   none_met : (m : Met) → (met_counts x true m).consumed ≡ 0
@@ -91,6 +89,6 @@ module _ (x : Bytes) where
   pub none_consumed : (ss : List Step) → consumptions x sorts.Free ss ≡ 0
   none_consumed [] = refl
   none_consumed (s ∷ ss) =
-      none_both (unless_hidden (held_around x s.around) (met_counts x true s.what)).consumed
+      sum_none (unless_hidden (held_around x s.around) (met_counts x true s.what)).consumed
       (consumptions x sorts.Free ss)
       (none_seen (held_around x s.around) (met_counts x true s.what) (none_met s.what)) (none_consumed ss)

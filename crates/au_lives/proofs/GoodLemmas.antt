@@ -1,9 +1,10 @@
 -- A path keeps the rules exactly where it isn't broken.
-use Rattle.std.proofs.Common.{◌≡◌, ◌≢◌, ℕ, ◌+◌, ◌==◌, Bool, true, false, not, ◌||◌, ◌&&◌, List, [], ◌∷◌, ◌⊎◌}
+use Rattle.std.proofs.Common.{◌≡◌, ◌≢◌, ℕ, ◌+◌, ◌==◌, Bool, true, false, not, ◌||◌, ◌&&◌, List, [], ◌∷◌}
 use Rattle.std.proofs.Common.{inl, inr, IsTrue, refl, sym, ap, ◌∙◌, arith, if◌then◌else◌}
 use Rattle.std.specs.List.{All}
-use Rattle.std.proofs.lemmas.Bool.{eqb-true}
+use Rattle.std.proofs.lemmas.Bool.{eqb-true, and_from, or_cases, and_parts}
 use Rattle.std.proofs.lemmas.List.Elements.{All-nil, All-cons, All-head, All-tail}
+use Rattle.au_base.proofs.BoolLemmas.{never_both}
 use Rattle.au_syntax.specs.Plain.{Bytes}
 use Rattle.au_lives.specs.declared.lives.LifeKind.{LifeKind}
 use Rattle.au_lives.specs.declared.lives.LifeKind.TheVariants as kinds
@@ -16,33 +17,17 @@ use Rattle.au_lives.specs.Lives.{is_exactly, is_untouched, is_ordinary, is_allow
 use Rattle.au_lives.specs.Lives.{UntouchedAfterwards, consumptions, GoodPath, Fate, going, broken, onward}
 use Rattle.au_lives.specs.Lives.{at_end, judge, fate}
 use Rattle.au_lives.proofs.TurnLemmas.{going_same, broken_going}
-use Rattle.au_lives.proofs.KeepingLemmas.{and_true}
 use Rattle.au_lives.proofs.FreeLemmas.{none_consumed}
 
-known : (b : Bool) → (b ≡ true) ⊎ (b ≡ false)
-known true = inl refl
-known false = inr refl
-
-both : (a b : Bool) → a ≡ true → b ≡ true → (a && b) ≡ true
-both true b g h = h
-both false b g h = g
-
-or_true : (a b : Bool) → (a || b) ≡ true → (a ≡ true) ⊎ (b ≡ true)
-or_true true b h = inl refl
-or_true false b h = inr h
-
-either_true : {A : Type 0} (b : Bool) → b ≡ true → b ≡ false → A
-either_true b g h = let wrong : true ≡ false = sym g ∙ h in absurd (cc)
-
 -- What is known of counts.
-quiet_of : (k : Counts) → is_untouched k ≡ true → is_quiet k ≡ true
+pub quiet_of : (k : Counts) → is_untouched k ≡ true → is_quiet k ≡ true
 quiet_of k h =
-    let a = and_true (k.consumed == 0) ((k.written == 0) && ((k.read == 0) && (k.looked == 0))) h in
-    let b = and_true (k.written == 0) ((k.read == 0) && (k.looked == 0)) a.1 in
-    both (k.consumed == 0) (k.written == 0) a.0 b.0
+    let a = and_parts (k.consumed == 0) ((k.written == 0) && ((k.read == 0) && (k.looked == 0))) h in
+    let b = and_parts (k.written == 0) ((k.read == 0) && (k.looked == 0)) a.1 in
+    and_from (k.consumed == 0) (k.written == 0) a.0 b.0
 
 unconsumed_of : (k : Counts) → is_untouched k ≡ true → (k.consumed == 0) ≡ true
-unconsumed_of k h = (and_true (k.consumed == 0) ((k.written == 0) && ((k.read == 0) && (k.looked == 0))) h).0
+unconsumed_of k h = (and_parts (k.consumed == 0) ((k.written == 0) && ((k.read == 0) && (k.looked == 0))) h).0
 
 ordinary_of : (k : Counts) → is_untouched k ≡ true → is_ordinary k ≡ true
 ordinary_of k h = ap (λ b. b || (is_exactly (counts 0 1 0 0) k || is_exactly (counts 1 0 0 0) k))
@@ -56,13 +41,13 @@ allowed_of hidden k e = refl
 
 consumed_once : (k : Counts) → is_ordinary k ≡ true → (k.consumed == 0) ≡ false → k.consumed ≡ 1
 consumed_once k h c =
-    elim (or_true (is_quiet k) (is_exactly (counts 0 1 0 0) k || is_exactly (counts 1 0 0 0) k) h) [
-      | inl q ↦ either_true (k.consumed == 0) (and_true (k.consumed == 0) (k.written == 0) q).0 c
-      | inr m ↦ elim (or_true (is_exactly (counts 0 1 0 0) k) (is_exactly (counts 1 0 0 0) k) m) [
-        | inl w ↦ either_true (k.consumed == 0)
-            (and_true (k.consumed == 0) ((k.written == 1) && ((k.read == 0) && (k.looked == 0))) w).0 c
+    elim (or_cases (is_quiet k) (is_exactly (counts 0 1 0 0) k || is_exactly (counts 1 0 0 0) k) h) [
+      | inl q ↦ never_both (k.consumed == 0) (and_parts (k.consumed == 0) (k.written == 0) q).0 c
+      | inr m ↦ elim (or_cases (is_exactly (counts 0 1 0 0) k) (is_exactly (counts 1 0 0 0) k) m) [
+        | inl w ↦ never_both (k.consumed == 0)
+            (and_parts (k.consumed == 0) ((k.written == 1) && ((k.read == 0) && (k.looked == 0))) w).0 c
         | inr o ↦ eqb-true k.consumed 1
-            (and_true (k.consumed == 1) ((k.written == 0) && ((k.read == 0) && (k.looked == 0))) o).0
+            (and_parts (k.consumed == 1) ((k.written == 0) && ((k.read == 0) && (k.looked == 0))) o).0
       ]
     ]
 

@@ -1,6 +1,7 @@
 -- A part that consumes nothing leaves the state as it is, and what is broken stays so.
 use Rattle.std.proofs.Common.{◌≡◌, ℕ, ◌==◌, Bool, true, false, not, ◌&&◌, [], ◌∷◌, refl, sym, ap, ◌∙◌, if◌then◌else◌}
 use Rattle.std.specs.Str.{bytes_eq}
+use Rattle.std.proofs.lemmas.Bool.{and_from, and_parts}
 use Rattle.au_syntax.specs.declared.types.Access.{Access}
 use Rattle.au_syntax.specs.declared.types.Access.TheVariants as access
 use Rattle.au_syntax.specs.Statements.{skip, declare, destructure, assign, assign_through, conditional}
@@ -25,14 +26,6 @@ use Rattle.au_lives.proofs.Summaries.{Absorbs}
 use Rattle.au_lives.proofs.TurnLemmas.{Keeps, going_same, broken_going, absorbs_onto, absorbs_step}
 use Rattle.au_lives.proofs.TurnLemmas.{absorbs_looping, absorbs_armed, absorbs_chosen, keeps_onto}
 use Rattle.au_lives.proofs.TurnLemmas.{keeps_going, keeps_looping, keeps_armed, keeps_chosen}
-
-pub and_true : (a b : Bool) → (a && b) ≡ true → (a ≡ true) × (b ≡ true)
-and_true true b h = (refl, h)
-and_true false b h = let wrong : false ≡ true = h in absurd (cc)
-
-both_true : (a b : Bool) → a ≡ true → b ≡ true → (a && b) ≡ true
-both_true true b g h = h
-both_true false b g h = g
 
 spent_if : (b t : Bool) → (if b then going true else broken kinds.Again) ≡ going t → t ≡ true
 spent_if true t h = sym (going_same true t h)
@@ -183,19 +176,19 @@ module _ (x : Bytes) (sort : Sort) where
         keeps_chosen (count_of_branches bs) (drive_branches x sort bs h (step_by going))
         (keeps_branches bs h (step_by going) k keeps_going (absorbs_step going))
     keeps_statement (conditional_else at bs b) h k =
-        let w = and_true (each_in_branches x kept bs h) (each_in_block x kept b h) k in
+        let w = and_parts (each_in_branches x kept bs h) (each_in_block x kept b h) k in
         keeps_chosen (count_of_branches bs) (drive_branches x sort bs h (drive_block x sort b h))
         (keeps_branches bs h (drive_block x sort b h) w.0 (keeps_block b h w.1) (absorbs_block b h))
     keeps_statement (case_of at e no_arms) h k =
-        let w = and_true (kept h e) true k in
+        let w = and_parts (kept h e) true k in
         keeps_onto (step_by (does x sort (whole e) h)) (chosen 0 (λ n. step_by going)) (whole_kept e h w.0)
         (keeps_chosen 0 (λ n. step_by going) (λ n. keeps_going))
         (absorbs_chosen 0 (λ n. step_by going) (λ n. absorbs_step going))
     keeps_statement (case_of at e (arms when' name binds b more)) h k =
         let inner = held_from x (bound_names binds) h in
         let this = drive_block x sort b inner in
-        let w = and_true (kept h e) (each_in_block x kept b inner && each_in_arms x kept more h) k in
-        let u = and_true (each_in_block x kept b inner) (each_in_arms x kept more h) w.1 in
+        let w = and_parts (kept h e) (each_in_block x kept b inner && each_in_arms x kept more h) k in
+        let u = and_parts (each_in_block x kept b inner) (each_in_arms x kept more h) w.1 in
         keeps_onto (step_by (does x sort (whole e) h))
         (chosen (count_of_arms more) (drive_arms x sort more h this)) (whole_kept e h w.0)
         (keeps_chosen (count_of_arms more) (drive_arms x sort more h this)
@@ -203,13 +196,13 @@ module _ (x : Bytes) (sort : Sort) where
         (absorbs_chosen (count_of_arms more) (drive_arms x sort more h this)
         (absorbs_arms more h this (absorbs_block b inner)))
     keeps_statement (while_loop at e b) h k =
-        let w = and_true (kept h e) (each_in_block x kept b h) k in
+        let w = and_parts (kept h e) (each_in_block x kept b h) k in
         keeps_looping (does x sort (whole e) h) (drive_block x sort b h) (whole_kept e h w.0)
         (keeps_block b h w.1) (absorbs_block b h)
     keeps_statement (for_loop at name a z b) h k =
         let inner = held_from x (declared name.name ∷ []) h in
-        let w = and_true (kept h a) (kept h z && each_in_block x kept b inner) k in
-        let u = and_true (kept h z) (each_in_block x kept b inner) w.1 in
+        let w = and_parts (kept h a) (kept h z && each_in_block x kept b inner) k in
+        let u = and_parts (kept h z) (each_in_block x kept b inner) w.1 in
         keeps_onto (in_turn (step_by (does x sort (whole a) h)) (step_by (does x sort (whole z) h)))
         (looping (step_by going) (drive_block x sort b inner))
         (keeps_onto (step_by (does x sort (whole a) h)) (step_by (does x sort (whole z) h))
@@ -235,7 +228,7 @@ module _ (x : Bytes) (sort : Sort) where
     keeps_block no_statements h k = keeps_going
     keeps_block (statements s more) h k =
         let inner = held_from x (declared_by s) h in
-        let w = and_true (each_in x kept s h) (each_in_block x kept more inner) k in
+        let w = and_parts (each_in x kept s h) (each_in_block x kept more inner) k in
         keeps_onto (drive x sort s h) (drive_block x sort more inner) (keeps_statement s h w.0)
         (keeps_block more inner w.1) (absorbs_block more inner)
 
@@ -243,8 +236,8 @@ module _ (x : Bytes) (sort : Sort) where
         ≡ true → Keeps other → Absorbs other → (n : ℕ) → Keeps (drive_branches x sort bs h other n)
     keeps_branches no_branches h other k a c n = a
     keeps_branches (branches e b more) h other k a c n =
-        let w = and_true (kept h e) (each_in_block x kept b h && each_in_branches x kept more h) k in
-        let u = and_true (each_in_block x kept b h) (each_in_branches x kept more h) w.1 in
+        let w = and_parts (kept h e) (each_in_block x kept b h && each_in_branches x kept more h) k in
+        let u = and_parts (each_in_block x kept b h) (each_in_branches x kept more h) w.1 in
         keeps_armed (does x sort (whole e) h) (drive_block x sort b h) (drive_branches x sort more h other)
         (whole_kept e h w.0) (keeps_block b h u.0) (absorbs_block b h)
         (keeps_branches more h other u.1 a c) (absorbs_branches more h other c) n
@@ -254,7 +247,7 @@ module _ (x : Bytes) (sort : Sort) where
     keeps_arms no_arms h this k a c n = a
     keeps_arms (arms when' name binds b more) h this k a c n =
         let inner = held_from x (bound_names binds) h in
-        let w = and_true (each_in_block x kept b inner) (each_in_arms x kept more h) k in
+        let w = and_parts (each_in_block x kept b inner) (each_in_arms x kept more h) k in
         let next = drive_block x sort b inner in
         keeps_armed going this (drive_arms x sort more h next) keeps_going a c
         (keeps_arms more h next w.1 (keeps_block b inner w.0) (absorbs_block b inner))
@@ -271,16 +264,16 @@ module _ (x : Bytes) (test : Hold → PlainExpression → Bool) where
     loops_of (assign_through at name fields e) h k = refl
     loops_of (conditional at bs) h k = loops_of_branches bs h k
     loops_of (conditional_else at bs b) h k =
-        let w = and_true (each_in_branches x test bs h) (each_in_block x test b h) k in
-        both_true (each_loop_of_branches x test bs h) (each_loop_of_block x test b h)
+        let w = and_parts (each_in_branches x test bs h) (each_in_block x test b h) k in
+        and_from (each_loop_of_branches x test bs h) (each_loop_of_block x test b h)
         (loops_of_branches bs h w.0) (loops_of_block b h w.1)
     loops_of (case_of at e rest) h k =
-        loops_of_arms rest h (and_true (test h e) (each_in_arms x test rest h) k).1
+        loops_of_arms rest h (and_parts (test h e) (each_in_arms x test rest h) k).1
     loops_of (while_loop at e b) h k = k
     loops_of (for_loop at name a z b) h k =
         let inner = held_from x (declared name.name ∷ []) h in
-        let w = and_true (test h a) (test h z && each_in_block x test b inner) k in
-        (and_true (test h z) (each_in_block x test b inner) w.1).1
+        let w = and_parts (test h a) (test h z && each_in_block x test b inner) k in
+        (and_parts (test h z) (each_in_block x test b inner) w.1).1
     loops_of (borrow_in at access y r region b stop) h k =
         loops_of_block b (held_from x (declared r.name ∷ lent access y.name ∷ []) h) k
     loops_of (borrow_typed at r t mode y b stop) h k =
@@ -293,17 +286,17 @@ module _ (x : Bytes) (test : Hold → PlainExpression → Bool) where
     loops_of_block no_statements h k = refl
     loops_of_block (statements s more) h k =
         let inner = held_from x (declared_by s) h in
-        let w = and_true (each_in x test s h) (each_in_block x test more inner) k in
-        both_true (each_loop x test s h) (each_loop_of_block x test more inner) (loops_of s h w.0)
+        let w = and_parts (each_in x test s h) (each_in_block x test more inner) k in
+        and_from (each_loop x test s h) (each_loop_of_block x test more inner) (loops_of s h w.0)
         (loops_of_block more inner w.1)
 
     loops_of_branches : (bs : PlainBranches) (h : Hold) → each_in_branches x test bs h ≡ true →
         each_loop_of_branches x test bs h ≡ true
     loops_of_branches no_branches h k = refl
     loops_of_branches (branches e b more) h k =
-        let w = and_true (test h e) (each_in_block x test b h && each_in_branches x test more h) k in
-        let u = and_true (each_in_block x test b h) (each_in_branches x test more h) w.1 in
-        both_true (each_loop_of_block x test b h) (each_loop_of_branches x test more h)
+        let w = and_parts (test h e) (each_in_block x test b h && each_in_branches x test more h) k in
+        let u = and_parts (each_in_block x test b h) (each_in_branches x test more h) w.1 in
+        and_from (each_loop_of_block x test b h) (each_loop_of_branches x test more h)
         (loops_of_block b h u.0) (loops_of_branches more h u.1)
 
     loops_of_arms : (rest : PlainArms) (h : Hold) → each_in_arms x test rest h ≡ true →
@@ -311,6 +304,6 @@ module _ (x : Bytes) (test : Hold → PlainExpression → Bool) where
     loops_of_arms no_arms h k = refl
     loops_of_arms (arms when' name binds b more) h k =
         let inner = held_from x (bound_names binds) h in
-        let w = and_true (each_in_block x test b inner) (each_in_arms x test more h) k in
-        both_true (each_loop_of_block x test b inner) (each_loop_of_arms x test more h)
+        let w = and_parts (each_in_block x test b inner) (each_in_arms x test more h) k in
+        and_from (each_loop_of_block x test b inner) (each_loop_of_arms x test more h)
         (loops_of_block b inner w.0) (loops_of_arms more h w.1)

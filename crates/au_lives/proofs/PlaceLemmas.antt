@@ -2,8 +2,9 @@
 use Rattle.std.proofs.Common.{◌≡◌, ℕ, suc, ◌+◌, ◌==◌, Bool, true, false, ◌||◌, ◌&&◌, List, [], ◌∷◌, ◌++◌}
 use Rattle.std.proofs.Common.{length, refl, sym, ap, ◌∙◌, arith, if◌then◌else◌}
 use Rattle.std.specs.Str.{bytes_eq}
-use Rattle.std.proofs.lemmas.Bool.{eqb-true}
+use Rattle.std.proofs.lemmas.List.{length-append}
 use Rattle.au_base.specs.declared.places.Pos.{Pos}
+use Rattle.au_base.proofs.NumberLemmas.{not_none}
 use Rattle.au_syntax.specs.declared.expressions.BorrowMode.{BorrowMode}
 use Rattle.au_syntax.specs.declared.expressions.BorrowMode.TheVariants as modes
 use Rattle.au_syntax.specs.Names.{Placed}
@@ -48,12 +49,8 @@ pair : (a b : Bool) (ps qs : List Pos) → a ≡ is_none ps → b ≡ is_none qs
 pair a b ps qs g h = ap (λ c. c && b) g ∙ ap (λ c. is_none ps && c) h ∙ sym (joined ps qs)
 
 -- How many places there are.
-together : (ps qs : List Pos) → length (ps ++ qs) ≡ length ps + length qs
-together [] qs = omega arith
-together (p ∷ ps) qs = let e = together ps qs in omega (arith, e)
-
 sum_of : (ps qs : List Pos) (m n : ℕ) → length ps ≡ m → length qs ≡ n → length (ps ++ qs) ≡ m + n
-sum_of ps qs m n g h = let e = together ps qs in omega (arith, e, g, h)
+sum_of ps qs m n g h = let e = length-append ps qs in omega (arith, e, g, h)
 
 alone : (free : Bool) (at : Pos) (fields : List (Placed Bytes)) → length (place_of free at fields)
     ≡ (mentioned_with free fields).consumed
@@ -120,13 +117,9 @@ module _ (x : Bytes) where
         sum_of (consumed_at x free e) (consumed_at_arguments x free rest) (counts_in x free e).consumed
         (counts_in_arguments x free rest).consumed (many free e) (many_arguments free rest)
 
-some_left : (n : ℕ) (b : Bool) → (suc n == 0) ≡ b → b ≡ false
-some_left n true h = let e : suc n ≡ 0 = eqb-true (suc n) 0 h in absurd (omega (arith, e))
-some_left n false h = refl
-
 zero_of : (ps : List Pos) (n : ℕ) → length ps ≡ n → (n == 0) ≡ is_none ps
 zero_of [] n h = ap (λ (m : ℕ). m == 0) (sym h)
-zero_of (p ∷ ps) n h = ap (λ (m : ℕ). m == 0) (sym h) ∙ some_left (length ps) (suc (length ps) == 0) refl
+zero_of (p ∷ ps) n h = ap (λ (m : ℕ). m == 0) (sym h) ∙ not_none (length ps) (suc (length ps) == 0) refl
 
 skipped : (c a b : Bool) (ps qs : List Pos) → a ≡ is_none ps → b ≡ is_none qs → (if c then a else b)
     ≡ is_none (if c then ps else qs)

@@ -1,6 +1,6 @@
 -- What a walk says of a machine, and that it says so of one machine after another.
-use Rattle.std.proofs.Common.{◌≡◌, ℕ, Bool, true, false, List, [], ◌∷◌, ◌++◌, length, Option, None, Some, Ok}
-use Rattle.std.proofs.Common.{Err, ◌⊎◌, inl, inr, refl, sym, ap, subst, ◌∙◌, arith, append-nil}
+use Rattle.std.proofs.Common.{◌≡◌, ℕ, Bool, true, false, List, [], ◌∷◌, ◌++◌, Option, None, Some, Ok}
+use Rattle.std.proofs.Common.{Err, ◌⊎◌, inl, inr, refl, sym, ap, subst, ◌∙◌, append-nil}
 use Rattle.std.proofs.lemmas.List.{append_assoc}
 use Rattle.au_lives.specs.declared.lives.LifeKind.{LifeKind}
 use Rattle.au_lives.specs.Lives.{Fate, going, broken}
@@ -405,10 +405,6 @@ step_comes f r s p c =
 pub step_falls : (f : Bool → Fate) (s t : Bool) (cs : List ℕ) → f s ≡ going t →
     Falls (step_by f (going s) cs) t [] cs
 step_falls f s t cs h = record { fate = h; taken = refl; rest = refl; stays = refl }
-
-pub nothing_before : (p q : List ℕ) → [] ≡ p ++ q → p ≡ []
-nothing_before [] q h = refl
-nothing_before (n ∷ p) q h = let e : 0 ≡ length (n ∷ (p ++ q)) = ap length h in absurd (omega (arith, e))
 
 pub pick_falls : (d : Drive) (k n : ℕ) (s : Bool) (p q : List ℕ) → k ≡ n → Falls d s p q →
     Falls (picking k d) s (n ∷ p) q

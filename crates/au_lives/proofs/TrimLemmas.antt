@@ -1,6 +1,7 @@
 -- Zeros at the end of the choices change nothing.
 use Rattle.std.proofs.Common.{◌≡◌, ℕ, zero, suc, ◌≤◌, ◌==◌, Bool, true, false, List, [], ◌∷◌, ◌++◌, length}
 use Rattle.std.proofs.Common.{drop, min, get_or, refl, sym, ap, subst, ◌∙◌, arith, if◌then◌else◌}
+use Rattle.au_base.proofs.ListLemmas.{both_appended}
 use Rattle.au_syntax.specs.Statements.{skip, declare, destructure, assign, assign_through, conditional}
 use Rattle.au_syntax.specs.Statements.{conditional_else, case_of, while_loop, for_loop, borrow_in}
 use Rattle.au_syntax.specs.Statements.{borrow_typed, discard, return_of, no_statements, statements}
@@ -152,9 +153,6 @@ same_chosen m n r s e h =
       rest = h.rest;
     }
 
-appended : (a b c d : List ℕ) → a ≡ b → c ≡ d → a ++ c ≡ b ++ d
-appended a b c d g h = ap (λ l. l ++ c) g ∙ ap (λ l. b ++ l) h
-
 same_on : (b c : Bool) (ss ts : List Step) (t u cs ds : List ℕ) (k l : List ℕ → Run) → ss ≡ ts → t ≡ u → b
     ≡ c → Alike cs ds → Same (k cs) (l ds) →
     Same (and_then (record { steps = ss; taken = t; rest = cs; returned = b }) k)
@@ -162,7 +160,7 @@ same_on : (b c : Bool) (ss ts : List Step) (t u cs ds : List ℕ) (k l : List �
 same_on true true ss ts t u cs ds k l e f g al h = record { steps = e; taken = f; returned = refl; rest = al }
 same_on false false ss ts t u cs ds k l e f g al h = record {
   steps = ap (λ s. s ++ (k cs).steps) e ∙ ap (λ s. ts ++ s) h.steps;
-  taken = appended t u (k cs).taken (l ds).taken f h.taken;
+  taken = both_appended t (k cs).taken u (l ds).taken f h.taken;
   returned = h.returned;
   rest = h.rest;
 }

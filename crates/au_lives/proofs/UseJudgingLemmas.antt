@@ -1,5 +1,6 @@
 -- What the table says of a step, and what the step does to a fate.
-use Rattle.std.proofs.Common.{◌≡◌, ◌==◌, Bool, true, false, not, ◌||◌, ◌&&◌, refl, ap, ◌∙◌, if◌then◌else◌}
+use Rattle.std.proofs.Common.{◌≡◌, ◌==◌, Bool, true, false, not, ◌||◌, refl, ap, ◌∙◌, if◌then◌else◌}
+use Rattle.std.proofs.lemmas.Bool.{and_parts}
 use Rattle.au_lives.specs.declared.lives.LifeKind.TheVariants as kinds
 use Rattle.au_lives.specs.Lives.{Hold, unlent, read_lent, write_lent, hidden, is_quiet, is_exactly}
 use Rattle.au_lives.specs.Lives.{is_untouched, is_ordinary, going, broken, verdict}
@@ -7,26 +8,13 @@ use Rattle.au_lives.specs.Mentions.{Counts, counts}
 use Rattle.au_lives.specs.declared.steps.Verdict.TheVariants.{Stay, Spend, Bad}
 use Rattle.au_lives.specs.Judging.{state_of, Leads}
 use Rattle.au_lives.specs.Steps.{verdict_on}
-
-both_parts : (a b : Bool) → (a && b) ≡ true → (a ≡ true) × (b ≡ true)
-both_parts true b h = (refl, h)
-both_parts false b h = let wrong : false ≡ true = h in absurd (cc)
-
-both_hold : (a b : Bool) → a ≡ true → b ≡ true → (a && b) ≡ true
-both_hold true b g h = h
-both_hold false b g h = g
+use Rattle.au_lives.proofs.GoodLemmas.{quiet_of}
 
 quiet_kept : (k : Counts) → is_quiet k ≡ true → (k.consumed == 0) ≡ true
-quiet_kept k h = (both_parts (k.consumed == 0) (k.written == 0) h).0
+quiet_kept k h = (and_parts (k.consumed == 0) (k.written == 0) h).0
 
 quiet_ordinary : (k : Counts) → is_quiet k ≡ true → is_ordinary k ≡ true
 quiet_ordinary k h = ap (λ b. b || (is_exactly (counts 0 1 0 0) k || is_exactly (counts 1 0 0 0) k)) h
-
-untouched_quiet : (k : Counts) → is_untouched k ≡ true → is_quiet k ≡ true
-untouched_quiet k h =
-    let a = both_parts (k.consumed == 0) ((k.written == 0) && ((k.read == 0) && (k.looked == 0))) h in
-    let b = both_parts (k.written == 0) ((k.read == 0) && (k.looked == 0)) a.1 in
-    both_hold (k.consumed == 0) (k.written == 0) a.0 b.0
 
 shut_leads : (b : Bool) →
     Leads (if b then Stay else Bad) true (if b then going true else broken kinds.Again)
@@ -56,5 +44,5 @@ judged read_lent k false =
     lent_leads (is_quiet k) (is_ordinary k) (k.consumed == 0) (quiet_ordinary k) (quiet_kept k)
 judged write_lent k false =
     lent_leads (is_untouched k) (is_ordinary k) (k.consumed == 0)
-    (λ u. quiet_ordinary k (untouched_quiet k u)) (λ u. quiet_kept k (untouched_quiet k u))
+    (λ u. quiet_ordinary k (quiet_of k u)) (λ u. quiet_kept k (quiet_of k u))
 judged hidden k false = live_leads (is_ordinary k) (k.consumed == 0)

@@ -1,5 +1,6 @@
 -- What the walk says of each block.
 use Rattle.std.proofs.Common.{◌≡◌, ℕ, ◌+◌, Bool, true, [], ◌∷◌, Ok, refl}
+use Rattle.std.proofs.lemmas.Bool.{and_parts}
 use Rattle.au_syntax.specs.Statements.{skip, declare, destructure, assign, assign_through, conditional}
 use Rattle.au_syntax.specs.Statements.{conditional_else, case_of, while_loop, for_loop, borrow_in}
 use Rattle.au_syntax.specs.Statements.{borrow_typed, discard, return_of, no_statements, statements}
@@ -19,7 +20,7 @@ use Rattle.au_lives.specs.Walks.{walk_arms}
 use Rattle.au_lives.proofs.Summaries.{Summed, Absorbs, seq_sum, step_sum, end_sum, going_sums}
 use Rattle.au_lives.proofs.ChoosingLemmas.{ArmsSummed, arms_base, arms_step, chosen_sum}
 use Rattle.au_lives.proofs.TurnLemmas.{keeps_going, absorbs_step, absorbs_chosen, absorbs_looping, loop_sum, test_sum}
-use Rattle.au_lives.proofs.KeepingLemmas.{and_true, verdict_kept, absorbs_block, absorbs_arms, keeps_block}
+use Rattle.au_lives.proofs.KeepingLemmas.{verdict_kept, absorbs_block, absorbs_arms, keeps_block}
 use Rattle.au_lives.proofs.KeepingLemmas.{loops_of_block}
 
 module _ (x : Bytes) (sort : Sort) where
@@ -55,7 +56,7 @@ module _ (x : Bytes) (sort : Sort) where
         (walk_branches x sort bs h Ok 0 r nowhere)
         (sum_branches bs h (step_by going) Ok k (absorbs_step going) going_sums 0 r nowhere)
     sum (conditional_else at bs b) h k r =
-        let w = and_true (each_loop_of_branches x kept bs h) (each_loop_of_block x kept b h) k in
+        let w = and_parts (each_loop_of_branches x kept bs h) (each_loop_of_block x kept b h) k in
         chosen_sum (drive_branches x sort bs h (drive_block x sort b h)) (count_of_branches bs) r
         (walk_branches x sort bs h (walk_block x sort b h) 0 r nowhere)
         (sum_branches bs h (drive_block x sort b h) (walk_block x sort b h) w.0 (absorbs_block x sort b h)
@@ -68,7 +69,7 @@ module _ (x : Bytes) (sort : Sort) where
         (arms_base (step_by going) 0 q nowhere (Ok (choose 0 q)) (going_sums (choose 0 q))))
     sum (case_of at e (arms when' name binds b more)) h k r =
         let inner = held_from x (bound_names binds) h in
-        let w = and_true (each_loop_of_block x kept b inner) (each_loop_of_arms x kept more h) k in
+        let w = and_parts (each_loop_of_block x kept b inner) (each_loop_of_arms x kept more h) k in
         let this = drive_block x sort b inner in
         let ms = drive_arms x sort more h this in
         seq_sum (step_by (on e h)) (chosen (count_of_arms more) ms) r (walk_step (on e h) r)
@@ -80,7 +81,7 @@ module _ (x : Bytes) (sort : Sort) where
         (sum_arms more h this (walk_block x sort b inner) w.1 (absorbs_block x sort b inner)
         (sum_block b inner w.0) 0 q nowhere))
     sum (while_loop at e b) h k r =
-        let w = and_true (kept h e) (each_in_block x kept b h) k in
+        let w = and_parts (kept h e) (each_in_block x kept b h) k in
         test_sum (on e h) (drive_block x sort b h) r (walk_step (on e h) r) (turned (walk_block x sort b h))
         (absorbs_block x sort b h) (step_sum (on e h) r)
         (λ q t. loop_sum (on e h) (drive_block x sort b h) r q
@@ -114,7 +115,7 @@ module _ (x : Bytes) (sort : Sort) where
     sum_block no_statements h k r = going_sums r
     sum_block (statements s more) h k r =
         let inner = held_from x (declared_by s) h in
-        let w = and_true (each_loop x kept s h) (each_loop_of_block x kept more inner) k in
+        let w = and_parts (each_loop x kept s h) (each_loop_of_block x kept more inner) k in
         seq_sum (drive x sort s h) (drive_block x sort more inner) r (walk x sort s h r)
         (walk_block x sort more inner) (absorbs_block x sort more inner) (sum s h w.0 r)
         (sum_block more inner w.1)
@@ -127,7 +128,7 @@ module _ (x : Bytes) (sort : Sort) where
     sum_branches no_branches h other w k a g i r out =
         arms_base other i r out (w (choose i r)) (g (choose i r))
     sum_branches (branches e b more) h other w k a g i r out =
-        let u = and_true (each_loop_of_block x kept b h) (each_loop_of_branches x kept more h) k in
+        let u = and_parts (each_loop_of_block x kept b h) (each_loop_of_branches x kept more h) k in
         arms_step (on e h) (drive_block x sort b h) (drive_branches x sort more h other)
         (count_of_branches more) i r out (absorbs_block x sort b h)
         (walk_step (on e h) r) (walk_block x sort b h) (walk_branches x sort more h w (i + 1))
@@ -143,7 +144,7 @@ module _ (x : Bytes) (sort : Sort) where
     sum_arms no_arms h this w k a g i r out = arms_base this i r out (w (choose i r)) (g (choose i r))
     sum_arms (arms when' name binds b more) h this w k a g i r out =
         let inner = held_from x (bound_names binds) h in
-        let u = and_true (each_loop_of_block x kept b inner) (each_loop_of_arms x kept more h) k in
+        let u = and_parts (each_loop_of_block x kept b inner) (each_loop_of_arms x kept more h) k in
         let next = drive_block x sort b inner in
         arms_step going this (drive_arms x sort more h next) (count_of_arms more) i r out a
         (Ok r) w (walk_arms x sort more h (walk_block x sort b inner) (i + 1)) (going_sums r) g

@@ -1,6 +1,6 @@
 -- A shipped call tells more, and unsays nothing.
 use Rattle.std.proofs.Common.{ℕ, ◌-◌, Bool, true, false, if◌then◌else◌, List, [], ◌∷◌, ◌++◌, length, Option}
-use Rattle.std.proofs.Common.{Some, None, slice_get, set, refl, sym, ap, ◌∙◌, append-nil, append_assoc, codes}
+use Rattle.std.proofs.Common.{Some, None, slice_get, set, refl, codes}
 use Rattle.std.proofs.Common.{pos}
 use Rattle.au_shipped.specs.declared.prims.ShippedCall.{ShippedCall}
 use Rattle.au_shipped.specs.declared.prims.ShippedCall.TheVariants as prim
@@ -17,12 +17,7 @@ use Rattle.au_effects.specs.Values.{Value, Place, name_of, content_of, unit, num
 use Rattle.au_effects.specs.Worlds.{World, Held, Deed, tells, bears, ends, spends, born, consumed, used}
 use Rattle.au_effects.specs.Worlds.{nothing, content, elements}
 use Rattle.au_meaning.specs.Laws.{Begins}
-
-pub begins_refl : {A : Type 0} (xs : List A) → Begins xs xs
-begins_refl xs = ([], sym (append-nil xs))
-
-pub begins_trans : {A : Type 0} (xs ys zs : List A) → Begins xs ys → Begins ys zs → Begins xs zs
-begins_trans xs ys zs p q = (p.0 ++ q.0, q.1 ∙ ap (λ l. l ++ q.0) p.1 ∙ append_assoc xs p.0 q.0)
+use Rattle.au_meaning.proofs.Growing.{begins_refl, begins_trans}
 
 module _ {T B : Type 0} where
   pub begins_told : (deed : Deed B) (w : World T B) → Begins w.deeds (tells deed w).deeds

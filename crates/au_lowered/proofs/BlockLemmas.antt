@@ -3,6 +3,7 @@ use Rattle.std.proofs.Common.{◌≡◌, ℕ, suc, ◌+◌, ◌<◌, ◌≤◌, 
 use Rattle.std.proofs.Common.{Option, Some, None, refl, sym, ap, subst, ◌∙◌, arith, unwrap_or, ℤ, length}
 use Rattle.std.proofs.Common.{slice_get, nat_lt, if◌then◌else◌, ltb-true, ltb-false}
 use Rattle.std.proofs.lemmas.List.{length-map}
+use Rattle.std.proofs.lemmas.Bool.{or_from}
 use Rattle.au_base.specs.declared.kinds.IntKind.{IntKind}
 use Rattle.au_type_texts.specs.Types.{ClosedType}
 use Rattle.au_typing.specs.Returns as out
@@ -37,6 +38,7 @@ use Rattle.au_syntax.specs.Statements.{assign, assign_through, conditional, cond
 use Rattle.au_syntax.specs.Statements.{while_loop, for_loop, borrow_in, borrow_typed, discard, return_of}
 use Rattle.au_syntax.specs.Statements.{no_statements, statements, no_branches, branches, no_arms, arms}
 use Rattle.au_base.specs.declared.places.Pos.{Pos}
+use Rattle.au_base.proofs.BoolLemmas.{and_false}
 use Rattle.au_syntax.specs.Names.{Placed as Placed_name}
 use Rattle.au_syntax.specs.Plain.{Bytes}
 use Rattle.au_syntax.specs.Types.{Bound}
@@ -65,12 +67,9 @@ use Rattle.au_lowered.proofs.TakeLemmas.{filled, named, named_is}
 use Rattle.au_lowered.proofs.TakeRowLemmas.{consumed, consumed_meant, taken_low, counted_is, none_counted, opened}
 use Rattle.au_lowered.proofs.ExpressionLemmas.{expression_runs}
 use Rattle.au_lowered.proofs.FlowLemmas.{flow_holds, then_runs, leaves_run, agree_emptied, whole_runs}
-use Rattle.au_lowered.proofs.LoopLemmas.{and_false, branch_does, while_does}
+use Rattle.au_lowered.proofs.LoopLemmas.{branch_does, while_does}
 use Rattle.au_lowered.proofs.StatementLemmas.{stuck_does, skip_does, none_declared, declare_does}
 use Rattle.au_lowered.proofs.StatementLemmas.{discard_does, return_does, assign_does}
-
-or_false : (a b : Bool) → a ≡ false → b ≡ false → (a || b) ≡ false
-or_false a b p q = ap (λ x. x || b) p ∙ q
 
 and_assoc : (a b c : Bool) → (a && (b && c)) ≡ ((a && b) && c)
 and_assoc true b c = refl
@@ -697,7 +696,7 @@ module _ {T C : Type 0} (by : Coding) (see : View ℕ T C) (invoke : ℕ → Lis
           more.slots_are row.second in
           flow_holds by f (run_all see invoke depth number2 numbers2 rest (world by f names c) l)
           (λ names slots k. (
-            or_false (out.returns s) (out.block_returns rest) h.0 k.0,
+            or_from (out.returns s) (out.block_returns rest) h.0 k.0,
             record {
               names_are = k.1.names_are;
               slots_are = k.1.slots_are;

@@ -3,6 +3,7 @@ use Rattle.std.proofs.Common.{◌≡◌, ℕ, zero, suc, ◌<◌, ◌≤◌, Boo
 use Rattle.std.proofs.Common.{length, Option, Some, None, refl, sym, ap, subst, ◌∙◌, arith, slice_get, nat_lt}
 use Rattle.std.proofs.Common.{eqb-true, true≢false, ltb-true, ltb-false}
 use Rattle.std.proofs.lemmas.List.{length-append}
+use Rattle.au_base.proofs.ListLemmas.{get_left}
 use Rattle.au_low.specs.declared.instructions.Instr.TheVariants as instr
 use Rattle.au_lowered.specs.Drafts.{Draft, unless}
 use Rattle.au_lowered.specs.Standing.{Stands, ArmsStand}
@@ -21,11 +22,6 @@ use Rattle.au_lowered.proofs.SimLemmas.{sim_spare}
 use Rattle.au_lowered.specs.Flows.{flow_aim, Behind}
 use Rattle.au_lowered.specs.Premises.{EachIn, Placed}
 use Rattle.au_lowered.proofs.FlowLemmas.{jump_runs}
-
-get_left : {A : Type 0} (xs ys : List A) (n : ℕ) → n < length xs → slice_get (xs ++ ys) n ≡ slice_get xs n
-get_left [] ys n h = absurd (omega (arith, h))
-get_left (x ∷ xs) ys zero h = refl
-get_left (x ∷ xs) ys (suc n) h = get_left xs ys n (omega (arith, h))
 
 labels_length : (n : ℕ) (starts : List (Option ℕ × ℕ)) → length (labels_of n starts) ≡ n
 labels_length zero starts = refl

@@ -9,7 +9,8 @@ use Rattle.au_low.specs.Instructions.{answered}
 use Rattle.au_low.specs.Runs.{Outcome, Run, exec, fetched, next_if, next, heard_if, heard, after, on_next}
 use Rattle.au_low.specs.Runs.{byte_taken, rest_of, stepped, run_from, not_begun, low_run, first}
 use Rattle.au_meaning.specs.Laws.{Begins}
-use Rattle.au_lowered.proofs.AnswerLemmas.{begins_refl, begins_trans, tells_one, byte_tells}
+use Rattle.au_meaning.proofs.Growing.{begins_refl, begins_trans}
+use Rattle.au_lowered.proofs.AnswerLemmas.{tells_one, byte_tells}
 use Rattle.au_lowered.proofs.TellLemmas.{Tells, tells_all, tells_having, tells_answered, act_tells}
 
 -- an outcome goes on from another, and from a run

@@ -1,6 +1,7 @@
 -- Branches and `while`.
-use Rattle.std.proofs.Common.{◌≡◌, ℕ, zero, suc, ◌+◌, ◌<◌, ◌≤◌, Bool, true, false, ◌&&◌, List, [], ◌∷◌}
+use Rattle.std.proofs.Common.{ℕ, zero, suc, ◌+◌, ◌<◌, ◌≤◌, Bool, false, ◌&&◌, List, [], ◌∷◌}
 use Rattle.std.proofs.Common.{Option, Some, None, refl, ap, ◌∙◌, arith, unwrap_or}
+use Rattle.au_base.proofs.BoolLemmas.{and_false}
 use Rattle.au_low.specs.declared.instructions.Instr.TheVariants as instr
 use Rattle.au_lowered.specs.Drafts.{Draft, plain, Written, ◌>>◌, nothing, when, either, branch, loop}
 use Rattle.au_lowered.specs.Standing.{Stands, InLoop, PartsStandIn}
@@ -20,10 +21,6 @@ use Rattle.au_lowered.proofs.MoveLemmas.{choose_by}
 use Rattle.au_lowered.specs.Premises.{Placed}
 use Rattle.au_lowered.specs.Flows.{falls, flow_aim, Behind, Does, Whole}
 use Rattle.au_lowered.proofs.FlowLemmas.{flow_holds, then_runs, jump_runs}
-
-pub and_false : (b : Bool) → (b && false) ≡ false
-and_false true = refl
-and_false false = refl
 
 module _ (by : Coding) (f : Frame) (get : ℕ → Option Draft) (placed : Placed by f.function get) (depth wide
     room : ℕ) where

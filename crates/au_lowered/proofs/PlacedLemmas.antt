@@ -8,11 +8,12 @@ use Rattle.std.specs.Str.{bytes_eq}
 use Rattle.std.proofs.lemmas.List.{length-map}
 use Rattle.std.proofs.lemmas.Option.{slice_get-map, slice_get_within, get_or_from_slice_get}
 use Rattle.std.proofs.lemmas.Slice.Eq.{bytes_eq-Decides}
+use Rattle.std.proofs.lemmas.Bool.{or_cases, or_left, or_right}
 use Rattle.au_type_texts.specs.Same.{same}
 use Rattle.au_type_texts.specs.Types.{ClosedType}
 use Rattle.au_type_texts.proofs.SameLemmas.{same_is, same_self}
 use Rattle.au_graphs.specs.Reached.{has, Has, adds, TellsSame}
-use Rattle.au_graphs.proofs.HasLemmas.{or_left, or_right, or_split, has_front, has_back, adds_takes}
+use Rattle.au_graphs.proofs.HasLemmas.{has_front, has_back, adds_takes}
 use Rattle.au_low.specs.declared.code.LowType.{LowType}
 use Rattle.au_low.specs.declared.instructions.Instr.{Instr}
 use Rattle.au_low.specs.Instructions.{instructions}
@@ -53,7 +54,7 @@ module _ {A : Type 0} (same_as : A → A → Bool) (tells : TellsSame same_as) w
           let n = position_or_len (λ one. same_as one x) ys in
           let more : 1 + n ≡ suc n = omega arith in
           let later : Has same_as ys x = ⊎_elim (λ t. absurd (true≢false (sym (same_back x y t)
-          ∙ e))) (λ k. k) (or_split (same_as x y) (has same_as ys x) h) in
+          ∙ e))) (λ k. k) (or_cases (same_as x y) (has same_as ys x) h) in
           ap (λ b. slice_get (y ∷ ys) (cond (not b) (1 + n) 0)) e ∙ ap (λ k. slice_get (y ∷ ys) k) more
           ∙ ih later
 
@@ -119,14 +120,14 @@ has_type (makes_case t tag order home ∷ rest) (suc p) draft of e n = or_right 
 has_type (ships_birth call t order ∷ rest) (suc p) draft of e n = or_right (same of t) (has same
     (types_named rest) of) (has_type rest p draft of e n)
 
-texts_both : (xs ys : List Draft) → texts_named (xs ++ ys) ≡ texts_named xs ++ texts_named ys
+pub texts_both : (xs ys : List Draft) → texts_named (xs ++ ys) ≡ texts_named xs ++ texts_named ys
 texts_both [] ys = refl
 texts_both (plain i ∷ rest) ys = texts_both rest ys
 texts_both (pushes_text t ∷ rest) ys = ap (λ all. t ∷ all) (texts_both rest ys)
 texts_both (makes_case of tag order home ∷ rest) ys = texts_both rest ys
 texts_both (ships_birth call of order ∷ rest) ys = texts_both rest ys
 
-types_both : (xs ys : List Draft) → types_named (xs ++ ys) ≡ types_named xs ++ types_named ys
+pub types_both : (xs ys : List Draft) → types_named (xs ++ ys) ≡ types_named xs ++ types_named ys
 types_both [] ys = refl
 types_both (plain i ∷ rest) ys = types_both rest ys
 types_both (pushes_text t ∷ rest) ys = types_both rest ys

@@ -1,6 +1,8 @@
 -- The labels of what returns on every path lead to places before its end.
-use Rattle.std.proofs.Common.{◌≡◌, ℕ, ◌+◌, Bool, true, false, not, ◌&&◌, ◌||◌, IsTrue, [], length, Option}
+use Rattle.std.proofs.Common.{◌≡◌, ℕ, ◌+◌, Bool, true, false, not, ◌||◌, IsTrue, [], length, Option}
 use Rattle.std.proofs.Common.{Some, None, refl, subst, arith, unwrap_or}
+use Rattle.std.proofs.lemmas.Bool.{or_left, and_parts}
+use Rattle.au_base.proofs.BoolLemmas.{first_holds}
 use Rattle.au_typing.specs.Returns.{returns, block_returns, branches_return, arms_return}
 use Rattle.au_low.specs.declared.instructions.Instr.TheVariants as instr
 use Rattle.au_meaning.specs.Expressions.{note_of}
@@ -23,21 +25,9 @@ use Rattle.au_lowered.proofs.TreeLemmas.{fits_expression, fits_whole, fits_state
 
 -- ---- truth values
 
-both_true : (a b : Bool) → (a && b) ≡ true → (a ≡ true) × (b ≡ true)
-both_true true b e = (refl, e)
-both_true false b e = cc
-
-first_true : (a : Bool) → (a || false) ≡ true → a ≡ true
-first_true true e = refl
-first_true false e = e
-
 second_true : (a b : Bool) → IsTrue (not a) → (a || b) ≡ true → b ≡ true
 second_true true b n e = cc
 second_true false b n e = e
-
-either_true : (a b : Bool) → a ≡ true → (a || b) ≡ true
-either_true true b e = refl
-either_true false b e = cc
 
 -- ---- what is written where something is
 
@@ -77,7 +67,7 @@ module _ {T C : Type 0} (see : View ℕ T C) where
     returning_statement around slot scope (assign_through at r fs v) e h = cc
     returning_statement around slot scope (conditional at tests) e h = cc
     returning_statement around slot scope (conditional_else at tests other) e h =
-        let each = both_true (branches_return tests) (block_returns other) e in
+        let each = and_parts (branches_return tests) (block_returns other) e in
         found (tests_of see around slot scope tests (Some (block see around slot scope other)))
         (returning_tests around slot scope tests _ each.0 h.0 (returning_block around slot scope other each.1 h.1))
     returning_statement around slot scope (case_of at v all) e h =
@@ -99,7 +89,7 @@ module _ {T C : Type 0} (see : View ℕ T C) where
         → BlockTidy b → Fits 1 (block see around slot scope b)
     returning_block around slot scope no_statements e h = cc
     returning_block around slot scope (statements s no_statements) e h =
-        fits_last (returning_statement around slot scope s (first_true (returns s) e) h.0)
+        fits_last (returning_statement around slot scope s (first_holds (returns s) e) h.0)
     returning_block around slot scope (statements s (statements r more)) e h =
         fits_both (fits_statement see around slot scope s)
         (returning_block around _ _ (statements r more)
@@ -110,7 +100,7 @@ module _ {T C : Type 0} (see : View ℕ T C) where
         → Found (tests_of see around slot scope tests (Some other))
     returning_tests around slot scope no_branches other e h fo = fo
     returning_tests around slot scope (branches v body rest) other e h fo =
-        let each = both_true (block_returns body) (branches_return rest) e in
+        let each = and_parts (block_returns body) (branches_return rest) e in
         fits_both (fits_whole see around scope v)
         (returning_branch (block_returns body) (tests_of see around slot scope rest (Some other)) each.0
         (returning_block around slot scope body each.0 h.0)
@@ -120,9 +110,9 @@ module _ {T C : Type 0} (see : View ℕ T C) where
         → ArmsTidy all → ArmsFit 1 (arms_of see around slot scope note all)
     returning_arms around slot scope note no_arms e h = arms_end
     returning_arms around slot scope note (arms at name binds body rest) e h =
-        let each = both_true (block_returns body) (arms_return rest) e in
+        let each = and_parts (block_returns body) (arms_return rest) e in
         returning_arm (block_returns body || is_last rest) (tag_in see note name.name)
-        (either_true (block_returns body) (is_last rest) each.0)
+        (or_left (block_returns body) (is_last rest) each.0)
         (returning_block around _ _ body each.0 h.0)
         (returning_arms around slot scope note rest each.1 h.1)
 

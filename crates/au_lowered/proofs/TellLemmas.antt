@@ -34,7 +34,8 @@ use Rattle.au_low.specs.Instructions.{makes, apart, calls, answered, text_bytes,
 use Rattle.au_low.specs.Instructions.{borrowed, borrowed_place, is_of_slot, exit_in, returns, on_pair}
 use Rattle.au_low.specs.Instructions.{takes_record, goes_to_case}
 use Rattle.au_meaning.specs.Laws.{Begins}
-use Rattle.au_lowered.proofs.AnswerLemmas.{begins_refl, begins_trans, begins_told, begins_bears}
+use Rattle.au_meaning.proofs.Growing.{begins_refl, begins_trans}
+use Rattle.au_lowered.proofs.AnswerLemmas.{begins_told, begins_bears}
 use Rattle.au_lowered.proofs.AnswerLemmas.{begins_spends, AnswerTells, shipped_tells}
 
 -- what comes of an instruction tells more than these

@@ -2,11 +2,10 @@
 use Rattle.std.proofs.Common.{◌≡◌, ℕ, Bool, true, false, not, cond, ◌||◌, List, [], ◌∷◌, ◌++◌, ◌+◌, Some}
 use Rattle.std.proofs.Common.{length, map, nat_lt, refl, sym, ap, ◌∙◌}
 use Rattle.std.specs.Str.{bytes_eq}
-use Rattle.std.proofs.lemmas.List.{append-nil, map-append}
+use Rattle.std.proofs.lemmas.List.{map-append}
 use Rattle.std.proofs.lemmas.Slice.Eq.{bytes_eq-Decides}
 use Rattle.std.specs.Cmp.Lexicographic.{nat_list_eq_equiv}
 use Rattle.au_type_texts.specs.Keys.{key_of}
-use Rattle.au_type_texts.proofs.KeyTellLemmas.{key_one}
 use Rattle.au_type_texts.specs.Same.{same}
 use Rattle.au_type_texts.specs.Types.{ClosedType}
 use Rattle.au_type_texts.proofs.SameLemmas.{same_is, same_self}
@@ -21,11 +20,9 @@ use Rattle.au_lowering.specs.Keyed.{key_number, keyed}
 use Rattle.au_meaning.specs.Views.{Function}
 use Rattle.au_graphs.specs.Reached.{adds, has, put_new}
 use Rattle.au_syntax.specs.Plain.{Bytes}
+use Rattle.au_closed_programs.proofs.ClosedLemmas.{key_tells}
 
 -- ---- types by their keys
-
-key_tells : (t u : ClosedType) → key_of t ≡ key_of u → t ≡ u
-key_tells t u e = (key_one t u [] [] (append-nil (key_of t) ∙ e ∙ sym (append-nil (key_of u)))).0
 
 -- two types are the same where their keys are
 pub same_key : (t u : ClosedType) → bytes_eq (key_of t) (key_of u) ≡ same t u

@@ -4,6 +4,7 @@ use Rattle.std.specs.Str.{bytes_eq}
 use Rattle.au_type_texts.specs.Keys.{key_of}
 use Rattle.au_lowered.specs.Drafts.{Draft, plain, pushes_text, makes_case, ships_birth}
 use Rattle.au_lowered.specs.Programs.{texts_named, types_named}
+use Rattle.au_lowered.proofs.PlacedLemmas.{texts_both, types_both}
 use Rattle.au_graphs.specs.Reached.{adds}
 use Rattle.au_graphs.proofs.HasLemmas.{adds_both}
 use Rattle.std.proofs.lemmas.List.{map-append}
@@ -26,22 +27,6 @@ more_types ks (plain instr) rest = refl
 more_types ks (pushes_text text) rest = refl
 more_types ks (makes_case of tag order home) rest = refl
 more_types ks (ships_birth call of order) rest = refl
-
--- the texts of instructions behind others
-pub texts_both : (a b : List Draft) → texts_named (a ++ b) ≡ texts_named a ++ texts_named b
-texts_both [] b = refl
-texts_both (plain instr ∷ a) b = texts_both a b
-texts_both (pushes_text text ∷ a) b = ap (λ l. text ∷ l) (texts_both a b)
-texts_both (makes_case of tag order home ∷ a) b = texts_both a b
-texts_both (ships_birth call of order ∷ a) b = texts_both a b
-
--- their types
-pub types_both : (a b : List Draft) → types_named (a ++ b) ≡ types_named a ++ types_named b
-types_both [] b = refl
-types_both (plain instr ∷ a) b = types_both a b
-types_both (pushes_text text ∷ a) b = types_both a b
-types_both (makes_case of tag order home ∷ a) b = ap (λ l. of ∷ l) (types_both a b)
-types_both (ships_birth call of order ∷ a) b = ap (λ l. of ∷ l) (types_both a b)
 
 -- the texts of a function and of those behind it
 pub function_texts : (ks : List Bytes) (a b : List Draft)

@@ -2,6 +2,7 @@
 use Rattle.std.proofs.Common.{◌≡◌, ◌≢◌, ℕ, true, false, is_some, List, [], ◌∷◌, ◌++◌, length, Option, Some}
 use Rattle.std.proofs.Common.{None, refl, sym, ap, ◌∙◌, append_assoc, arith}
 use Rattle.std.specs.Option.{option_map}
+use Rattle.std.proofs.lemmas.Bool.{false≢true}
 use Rattle.au_type_texts.specs.Types.{ClosedType}
 use Rattle.au_effects.specs.Parts.{along}
 use Rattle.au_lowered.specs.Drafts.{Draft, Written, given, nothing}
@@ -18,9 +19,6 @@ use Rattle.au_syntax.specs.Expressions.{call, named_call, parenthesized, derefer
 use Rattle.au_syntax.specs.Expressions.{binary, negation, typed, choice}
 use Rattle.au_syntax.specs.Names.{Placed}
 use Rattle.au_syntax.specs.Plain.{Bytes}
-
-false_not_true : false ≡ true → ⊥
-false_not_true e = cc
 
 -- numbers with more behind them
 abbrev pub behind_them : List ℕ → Option (List ℕ) → Option (List ℕ)
@@ -131,7 +129,7 @@ operand_alone scope e other d d1 found is =
   where
     by_found : (o : Option Variable) → is_some o ≡ true → d1 ≡ wrote (looked_at o nothing) d
         → d1 ≡ wrote (looked_at o other) d
-    by_found None some written = absurd (false_not_true some)
+    by_found None some written = absurd (false≢true some)
     by_found (Some x) some written = written
 
 pub operand_other : {T C : Type 0} (scope : Scope) (e : Expression Bytes T C) (other : Written)
@@ -144,4 +142,4 @@ operand_other scope e other d d1 d2 found is more =
     by_found : (o : Option Variable) → is_some o ≡ false → d1 ≡ wrote (looked_at o nothing) d
         → d2 ≡ wrote (looked_at o other) d
     by_found None none written = more ∙ ap (wrote other) (written ∙ wrote_nothing d)
-    by_found (Some x) none written = absurd (false_not_true (sym none))
+    by_found (Some x) none written = absurd (false≢true (sym none))

@@ -9,8 +9,8 @@ use Rattle.au_lowered.specs.Slots.{tag_in}
 use Rattle.au_lowered.specs.Statements.{ArmsWritten, arm_then, arms_of, cases, count_of_cases, is_last, labels_of}
 use Rattle.au_lowering_expressions.specs.Wrote.{wrote}
 use Rattle.au_lowering_statements.specs.Ends.{AllBelow, Apart, Holed, arm_block, arm_upto, arms_upto, with_jumps}
-use Rattle.au_lowering_statements.proofs.JumpLemmas.{apart_below, jumps_apart, jumps_length}
-use Rattle.au_lowering_statements.proofs.TestLemmas.{unless_long, unless_to}
+use Rattle.au_lowering_statements.proofs.JumpLemmas.{apart_below, jumps_apart, jumps_length, unless_length}
+use Rattle.au_lowering_statements.proofs.TestLemmas.{unless_to}
 use Rattle.au_meaning.specs.Names.{Scope}
 use Rattle.au_meaning.specs.Views.{View}
 use Rattle.au_syntax.specs.Plain.{Bytes}
@@ -32,7 +32,7 @@ arm_ends u tag a upto rest ends = record {
       length-append (a p) (unless u (Jump m) next ++ (upto m next).code)
       ∙ ap (λ n. length (a p) + n)
       (length-append (unless u (Jump m) next) (upto m next).code
-      ∙ ap (λ n. n + length (upto m next).code) (unless_long u m next ∙ sym (jump_long jump next))
+      ∙ ap (λ n. n + length (upto m next).code) (unless_length u m next ∙ sym (jump_long jump next))
       ∙ ap (λ n. length (unless u jump next) + n) (ends.long m next)
       ∙ sym (length-append (unless u jump next) (rest next).code))
       ∙ sym (length-append (a p) (unless u jump next ++ (rest next).code));
@@ -48,7 +48,7 @@ arm_ends u tag a upto rest ends = record {
         is,
         length-append (a p) (unless u (Jump k) next ++ (rest next).code),
         length-append (unless u (Jump k) next) (rest next).code,
-        unless_long u k next,
+        unless_length u k next,
       ) in
       ap (λ j. a p ++ (j ++ (upto m next).code)) (unless_to u m k next next here)
       ∙ ap (λ c. a p ++ (unless u (Jump k) next ++ c)) (ends.end m next here);
@@ -82,7 +82,7 @@ arms_row m u tag a others d =
     let own = a p in
     let next = p + length own + count_unless u in
     let jump = unless u (Jump m) (p + length own) in
-    let jump_long : length jump ≡ count_unless u = unless_long u m (p + length own) in
+    let jump_long : length jump ≡ count_unless u = unless_length u m (p + length own) in
     let long : length (d ++ (own ++ jump)) ≡ next =
     omega (arith, length-append d (own ++ jump), length-append own jump, jump_long) in
     ap (λ j. d ++ (own ++ (j ++ (others next).code))) (unless_to u m m next (p + length own) refl)
@@ -101,7 +101,7 @@ arm_next m u a d =
       arith,
       length-append d (own ++ jump),
       length-append own jump,
-      unless_long u m
+      unless_length u m
           (length d + length own),
     )
 

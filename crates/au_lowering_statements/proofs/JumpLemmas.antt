@@ -130,7 +130,7 @@ holed_some unneeded jumps all before after is more grows =
 
 -- ---- branches
 
-unless_length : (u : Bool) (m p : ℕ) → length (unless u (Jump m) p) ≡ count_unless u
+pub unless_length : (u : Bool) (m p : ℕ) → length (unless u (Jump m) p) ≡ count_unless u
 unless_length true m p = refl
 unless_length false m p = refl
 

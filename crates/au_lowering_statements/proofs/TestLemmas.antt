@@ -10,15 +10,11 @@ use Rattle.au_lowered.specs.Statements.{block, tests_of}
 use Rattle.au_lowering_expressions.specs.Wrote.{wrote}
 use Rattle.au_lowering_expressions.proofs.WroteLemmas.{wrote_nothing, wrote_row}
 use Rattle.au_lowering_statements.specs.Ends.{AllBelow, Holed, first_to, tests_upto, with_jumps}
-use Rattle.au_lowering_statements.proofs.JumpLemmas.{jumps_length, jumps_under}
+use Rattle.au_lowering_statements.proofs.JumpLemmas.{jumps_length, jumps_under, unless_length}
 use Rattle.au_meaning.specs.Names.{Scope}
 use Rattle.au_meaning.specs.Views.{View}
 use Rattle.au_syntax.specs.Plain.{Bytes}
 use Rattle.au_syntax.specs.Statements.{Branches, no_branches, branches}
-
-pub unless_long : (r : Bool) (m p : ℕ) → length (unless r (Jump m) p) ≡ count_unless r
-unless_long true m p = refl
-unless_long false m p = refl
 
 pub unless_to : (r : Bool) (m k p q : ℕ) → m ≡ k → unless r (Jump m) p ≡ unless r (Jump k) q
 unless_to true m k p q is = refl
@@ -38,7 +34,7 @@ module _ (r : Bool) (a b : Written) (x : List Draft) where
       let test = plain (JumpNot l) in
       let jump = unless r (Jump m) (length x) in
       let front = test ∷ (chosen ++ jump) in
-      let jump_long : length jump ≡ count_unless r = unless_long r m (length x) in
+      let jump_long : length jump ≡ count_unless r = unless_length r m (length x) in
       let long : length (x ++ front) ≡ l =
       omega (arith, length-append x front, length-append chosen jump, jump_long) in
       ap (λ n. (x ++ front) ++ b n) long
@@ -59,8 +55,8 @@ module _ (r : Bool) (a b : Written) (x : List Draft) where
         length-append x (test ∷ (chosen ++ (jump ++ b l))),
         length-append chosen (jump ++ b l),
         length-append jump (b l),
-        unless_long r m (length x),
-        unless_long r (l + length (b l)) l,
+        unless_length r m (length x),
+        unless_length r (l + length (b l)) l,
         length-append x (test ∷ (chosen ++ (other ++ b l))),
         length-append chosen (other ++ b l),
         length-append other (b l),
@@ -81,7 +77,7 @@ module _ (r : Bool) (a b : Written) (x : List Draft) where
         length-append x (test ∷ (chosen ++ (other ++ b l))),
         length-append chosen (other ++ b l),
         length-append other (b l),
-        unless_long r (l + length (b l))
+        unless_length r (l + length (b l))
             l,
       ) in
       first_is m

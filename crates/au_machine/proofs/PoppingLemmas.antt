@@ -1,8 +1,8 @@
 -- Operands that are popped together, and arguments that are put into declared order.
 use Rattle.std.proofs.Common.{◌≡◌, ℕ, suc, ◌+◌, ◌<◌, List, [], ◌∷◌, ◌++◌, length, reverse, take, drop, Option}
 use Rattle.std.proofs.Common.{Some, None, slice_get, slice_set, refl, sym, ap, ◌∙◌, arith, length-append}
-use Rattle.std.proofs.Common.{get_or, drop-cons, subst}
-use Rattle.std.specs.Prelude.{IfSome, MatchOption}
+use Rattle.std.proofs.Common.{get_or, drop-cons}
+use Rattle.std.specs.Prelude.{IfSome}
 use Rattle.std.proofs.lemmas.Bool.{lt-ltb, le-ltb}
 use Rattle.std.proofs.lemmas.List.{length-map}
 use Rattle.au_effects.specs.Parts.{along}
@@ -120,12 +120,3 @@ pub begins_at : (xs : List ℕ) (i : ℕ) → i < length xs → drop i xs ≡ ge
 begins_at xs i within =
     let next : suc i ≡ i + 1 = omega arith in
     drop-cons xs i 0 within ∙ ap (λ n. get_or xs i 0 ∷ drop n xs) next
-
--- what is said of an Option, where it is known
-pub some_of : {A : Type 0} (Nothing : Type 0) (Something : A → Type 0) (found : Option A) (one : A)
-    → found ≡ Some one → MatchOption found Nothing Something → Something one
-some_of Nothing Something found one is said = subst (λ it. MatchOption it Nothing Something) is said
-
-pub none_of : {A : Type 0} (Nothing : Type 0) (Something : A → Type 0) (found : Option A) → found ≡ None
-    → MatchOption found Nothing Something → Nothing
-none_of Nothing Something found is said = subst (λ it. MatchOption it Nothing Something) is said

@@ -2,15 +2,12 @@
 use Rattle.std.proofs.Common.{◌≡◌, ℕ, ◌+◌, List, [], ◌∷◌, ◌++◌, reverse, Option, Some, None, refl, ap, ◌∙◌}
 use Rattle.au_effects.specs.Values.{unit}
 use Rattle.au_effects.specs.Answers.{Answer, gives, writes, waits, aborts, none}
-use Rattle.au_effects.specs.Calls.{given, use_of, natural_in}
-use Rattle.au_effects.specs.Numbers.{number_of}
-use Rattle.au_base.specs.declared.kinds.IntKind.TheVariants.{Nat8}
+use Rattle.au_effects.specs.Calls.{given, use_of}
 use Rattle.au_low.specs.Machines as machine
 use Rattle.au_low.specs.Machines.{Low, LowWorld, Machine, onward, in_world, pushed}
 use Rattle.au_low.specs.Instructions.{answered}
 use Rattle.au_cells.specs.declared.cells.Cell.{Cell}
 use Rattle.au_cells.specs.declared.cells.Cell as cell
-use Rattle.au_cells.specs.Cells.{low}
 use Rattle.au_cells.proofs.CellLemmas.{unit_is}
 use Rattle.au_stores.specs.declared.worlds.World.{World}
 use Rattle.au_stores.specs.Stores.{world_of, top_frame, reached_by}
@@ -77,16 +74,6 @@ module _ {A : Type 0} (form : Low → Option A) (w : LowWorld) (go : ℕ → A �
   use_none is =
       ap (λ (it : Option (ℕ × A)). answered (given it (λ pair. go pair.0 pair.1)) m) is
       ∙ ap (λ (a : Answer ℕ ℕ). answered a m) (use_is form w go value)
-
--- the byte that a value is
-pub byte_is : (n : ℕ) → natural_in (number_of Nat8 (low (cell.Nat8 n))) ≡ Some n
-unfolding low
-byte_is n = refl
-
-pub not_byte : (c : Cell) → ((x : ℕ) → c ≡ cell.Nat8 x → ⊥) → natural_in (number_of Nat8 (low c)) ≡ None
-unfolding low
-not_byte (cell.Nat8 x) differs = absurd (differs x refl)
-not_byte c differs = refl
 
 -- bytes are written, with Unit pushed
 pub writes_on : (s : State) (bytes all : List ℕ) (operands : List Cell × List (List Cell)) → bytes ≡ all

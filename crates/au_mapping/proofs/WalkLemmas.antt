@@ -1,37 +1,13 @@
 -- Steps of the walks over trees: loops over parts.
-use Rattle.std.proofs.Common.{◌≡◌, ℕ, ◌+◌, ◌*◌, ◌<◌, ◌≤◌, max, List, [], ◌∷◌, ◌++◌, length, take, get_or}
-use Rattle.std.proofs.Common.{ap, ◌∙◌, sym, arith}
+use Rattle.std.proofs.Common.{◌≡◌, ℕ, ◌+◌, ◌<◌, ◌≤◌, List, [], ◌∷◌, ◌++◌, length, take, get_or}
+use Rattle.std.proofs.Common.{ap, ◌∙◌, sym}
 use Rattle.std.proofs.lemmas.List.{take_all, take_more}
-use denote.Param.Weighed.{most, at_most}
-use borrow.Author.Sizes.{ranked_below}
 use Rattle.au_syntax.specs.declared.phases.Phase as phase
 use Rattle.au_syntax.specs.declared.expressions.Argument.{Argument}
 use Rattle.au_syntax.specs.Expressions.{Arguments, no_arguments, arguments}
 use Rattle.au_syntax.specs.Views.{placed, expression}
 use Rattle.au_mapping.specs.declared.walks.Walk.{Ghosts}
 use Rattle.au_mapping.specs.Seen.{before, after}
-
--- an item is smaller than the list that holds it; functions are ranked where they take one value
-pub item_falls : (ranks low high : ℕ) → low < high → {A : Type 0} (size : A → ℕ) (xs ys : List A) (i : ℕ)
-    (x : A) (t : ℕ) → ranks * most size ys + high ≡ t → xs ≡ ys → i < length xs → x ≡ get_or xs i x →
-    ranks * size x + low < t
-item_falls ranks low high lower size xs ys i x t total same inside is =
-    let small : size (get_or xs i x) ≤ most size xs = at_most size xs i x inside in
-    let here : size x ≡ size (get_or xs i x) = ap size is in
-    let all : most size xs ≡ most size ys = ap (most size) same in
-    let under : ranks * size x + low < ranks * most size ys + high =
-    ranked_below ranks low high (size x) (most size ys) lower (omega (arith, small, here, all)) in
-    omega (arith, under, total)
-
--- an item of a block is smaller than the block
-pub block_item_falls : {A : Type 0} (size : A → ℕ) (xs ys : List A) (i : ℕ) (x : A) (whole t : ℕ)
-    → 2 * whole + 0 ≡ t → whole ≡ max (most size ys) 0 + 1 → xs ≡ ys → i < length xs → x ≡ get_or xs i x
-    → 2 * size x + 0 < t
-block_item_falls size xs ys i x whole t total deep same inside is =
-    let small : size (get_or xs i x) ≤ most size xs = at_most size xs i x inside in
-    let here : size x ≡ size (get_or xs i x) = ap size is in
-    let all : most size xs ≡ most size ys = ap (most size) same in
-    omega (arith, small, here, all, deep, total)
 
 -- a loop over all items has walked them all
 pub all_walked :

@@ -29,7 +29,7 @@ if_gave : (test : Bool) (o : Option Bindings) (q : Bindings) → (if test then o
 if_gave true o q e = (refl, e)
 if_gave false o q e = absurd cc
 
-and_then_gave : (o : Option Bindings) (step : Bindings → Option Bindings) (q : Bindings) →
+pub and_then_gave : (o : Option Bindings) (step : Bindings → Option Bindings) (q : Bindings) →
     and_then o step ≡ Some q → (m : Bindings) × (o ≡ Some m) × (step m ≡ Some q)
 and_then_gave None step q e = absurd cc
 and_then_gave (Some m) step q e = (m, refl, e)

@@ -118,7 +118,7 @@ module _ (test after : Universe → Argument → Bool) (rows : List (DeclAt × H
 
 -- ---- types that stand over rows and type parameters
 
-kind_kept : (s : Bindings) (wanted : Universe) (one : Argument) → fits_in_kind wanted one ≡ true →
+pub kind_kept : (s : Bindings) (wanted : Universe) (one : Argument) → fits_in_kind wanted one ≡ true →
     fits_in_kind wanted (argument_substituted s one) ≡ true
 kind_kept s wanted (of_type t) fit = fit
 kind_kept s wanted (in_region region) fit = fit
@@ -134,7 +134,7 @@ standing_kept rows params others s t stand formed =
 -- ---- types that are well formed
 
 -- what takes a universe takes each that a type of it may have
-takes_kept : (wanted : Universe) (u v : TypeUniverse) → may_be u v ≡ true → takes wanted u ≡ true →
+pub takes_kept : (wanted : Universe) (u v : TypeUniverse) → may_be u v ≡ true → takes wanted u ≡ true →
     takes wanted v ≡ true
 takes_kept universes.Free Free v may taken = may
 takes_kept universes.Free Linear v may taken = absurd cc

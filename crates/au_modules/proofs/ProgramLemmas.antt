@@ -6,9 +6,11 @@ use Rattle.std.specs.Prelude.{if◌then◌else◌, slice_get}
 use Rattle.std.specs.List.{list_any}
 use Rattle.std.specs.Option.{option_or, option_map}
 use Rattle.std.specs.Str.{bytes_eq}
-use Rattle.std.proofs.lemmas.Bool.{and_parts, or_parts, leb-false, lt-leb}
+use Rattle.std.proofs.lemmas.Bool.{and_parts, or_parts, leb-false, lt-leb, not-false}
 use Rattle.std.proofs.lemmas.Option.{none-some, same_Some, slice_get-map}
 use Rattle.std.proofs.lemmas.Slice.Eq.{bytes_eq-Decides}
+use Rattle.std.proofs.lemmas.Map.Keys.{any_passes_from_place}
+use Rattle.au_base.proofs.OptionLemmas.{map_none, or_first, or_second, or_neither}
 use Rattle.au_syntax.specs.declared.modules.Part.{Part}
 use Rattle.au_syntax.specs.declared.modules.Part.TheVariants.{Interface, Body}
 use Rattle.au_modules.specs.declared.faults.ModuleFault.TheVariants.{TwiceGiven, Unsafe, Limit}
@@ -18,23 +20,6 @@ use Rattle.au_modules.specs.Programs.{Entry, first_shipped, is_shipped, given, p
 use Rattle.au_modules.specs.Programs.{first_fault, is_interface, is_same_part, clashes, is_again, first_again}
 use Rattle.au_modules.specs.Programs.{is_body_of, lacks_body, body_fault, first_bodiless, refusal_of}
 use Rattle.au_modules.specs.Accepted.{Stands, module_name, IsOwn, AreOfOne, IsProgram}
-
--- ---- neither of two
-
-or_first : {A : Type 0} (o p : Option A) → option_or o p ≡ None → o ≡ None
-or_first None p h = refl
-or_first (Some x) p h = cc
-
-or_second : {A : Type 0} (o p : Option A) → option_or o p ≡ None → p ≡ None
-or_second None p h = h
-or_second (Some x) p h = cc
-
-or_neither : {A : Type 0} (o p : Option A) → o ≡ None → p ≡ None → option_or o p ≡ None
-or_neither o p h k = ap (λ one. option_or one p) h ∙ k
-
-map_none : {A B : Type 0} (f : A → B) (o : Option A) → option_map f o ≡ None → o ≡ None
-map_none f None h = refl
-map_none f (Some x) h = cc
 
 -- ---- tests along a list
 
@@ -87,16 +72,6 @@ some_any {A} p (y ∷ ys) h = by (p y) refl h (λ k. later (some_any p ys k))
         → PassesAt p (y ∷ ys)
     by true test k on = (0, y, refl, test)
     by false test k on = on k
-
-any_passes : {A : Type 0} (p : A → Bool) (xs : List A) (i : ℕ) (x : A) → slice_get xs i ≡ Some x → p x ≡ true
-    → list_any p xs ≡ true
-any_passes p [] i x here h = absurd (none-some x here)
-any_passes p (y ∷ ys) zero x here h = ap (λ b. b || list_any p ys) (ap p (same_Some y x here) ∙ h)
-any_passes p (y ∷ ys) (suc i) x here h = ap (λ b. p y || b) (any_passes p ys i x here h) ∙ always (p y)
-  where
-    always : (b : Bool) → (b || true) ≡ true
-    always true = refl
-    always false = refl
 
 -- ---- what stands before a place
 
@@ -285,10 +260,6 @@ module _ (files : List Entry) where
   body_is Interface h = absurd (true≢false (sym h))
   body_is Body h = refl
 
-  not_false : (b : Bool) → not b ≡ false → b ≡ true
-  not_false true h = refl
-  not_false false h = absurd (true≢false h)
-
   -- the body of the module of a file stands among the files
   abbrev HasBody : Entry → Type 0
   HasBody e = (k : ℕ) × (b : Entry) × Stands files k b × (b.tree.part ≡ Body) × AreOfOne e b
@@ -316,7 +287,8 @@ module _ (files : List Entry) where
   body_there : (e : Entry) → HasBody e → list_any (is_body_of (module_name e)) all ≡ true
   unfolding all
   body_there e b =
-      any_passes (is_body_of (module_name e)) (map given files) b.0 (given b.1) (given_at files b.0 b.1 b.2)
+      any_passes_from_place (is_body_of (module_name e)) (map given files) b.0 (given b.1)
+      (given_at files b.0 b.1 b.2)
       (ap (λ p. not (is_interface p) && bytes_eq (module_name e) (module_name b.1)) b.3
       ∙ (bytes_eq-Decides (module_name e) (module_name b.1)).1 b.4)
 
@@ -332,7 +304,7 @@ module _ (files : List Entry) where
       let second : not (list_any (is_body_of (module_name e)) (map given files)) ≡ false =
       ap (λ p. is_interface p && not (list_any (is_body_of (module_name e)) (map given files)))
       (sym interface) ∙ first in
-      has_body e (not_false (list_any (is_body_of (module_name e)) (map given files)) second)
+      has_body e (not-false (list_any (is_body_of (module_name e)) (map given files)) second)
 
   bodies_done : BodiesSaid → FailsAt (lacks_body all) all
   unfolding all

@@ -22,7 +22,7 @@ use Rattle.std.proofs.Common.{
   true≢false,
 }
 use Rattle.std.specs.Prelude.{◌||◌, slice_get}
-use Rattle.std.proofs.lemmas.Bool.{and_parts, and_from}
+use Rattle.std.proofs.lemmas.Bool.{and_parts, and_from, or_cases}
 use Rattle.au_syntax.specs.Plain.{Bytes, PlainModule}
 use Rattle.au_types.specs.Tables.{has_name, with_all, with_pair}
 use Rattle.au_types.proofs.TableLemmas.{with_pair-old}
@@ -75,16 +75,12 @@ named-again table (p ∷ ps) h =
 
 -- ---- sets of declarations
 
-or_one : (a b : Bool) → (a || b) ≡ true → (a ≡ true) ⊎ (b ≡ true)
-or_one true b h = inl refl
-or_one false b h = inr h
-
 any_behind : (at one : DeclAt) (some : List DeclAt) → is_among at (some ++ one ∷ []) ≡ true
     → (is_among at some ≡ true) ⊎ (at ≡ one)
-any_behind at one [] h = elim (or_one (same_place at one) false h) as (λ s. (is_among at [] ≡ true)
+any_behind at one [] h = elim (or_cases (same_place at one) false h) as (λ s. (is_among at [] ≡ true)
     ⊎ (at ≡ one)) [ inl e ↦ inr (place_is at one e) | inr e ↦ absurd (true≢false (sym e)) ]
 any_behind at one (x ∷ xs) h = by (same_place at x) refl
-    (or_one (same_place at x) (is_among at (xs ++ one ∷ [])) h) (any_behind at one xs)
+    (or_cases (same_place at x) (is_among at (xs ++ one ∷ [])) h) (any_behind at one xs)
   where
     by : (b : Bool) → same_place at x ≡ b → (same_place at x ≡ true) ⊎ (is_among at (xs ++ one ∷ []) ≡ true)
         → (is_among at (xs ++ one ∷ []) ≡ true → (is_among at xs ≡ true) ⊎ (at ≡ one))

@@ -1,49 +1,12 @@
 -- What is among the items of a list, and where nothing is found.
-use Rattle.std.proofs.Common.{
-  ◌≡◌,
-  ℕ,
-  zero,
-  suc,
-  ◌+◌,
-  ◌<◌,
-  ◌⊎◌,
-  inl,
-  inr,
-  List,
-  [],
-  ◌∷◌,
-  ◌++◌,
-  length,
-  get_or,
-  Option,
-  Some,
-  None,
-  refl,
-  ap,
-  sym,
-  ◌∙◌,
-  subst,
-  Contains,
-  slice_get,
-  arith,
-  zero-add,
-}
-use Rattle.std.specs.List.{flat_map}
+use Rattle.std.proofs.Common.{◌≡◌, ℕ, zero, suc, ◌+◌, ◌<◌, ◌⊎◌, inl, inr, List, [], ◌∷◌, ◌++◌, length, get_or}
+use Rattle.std.proofs.Common.{Option, Some, None, refl, ap, sym, ◌∙◌, subst, Contains, slice_get, arith}
+use Rattle.std.proofs.Common.{zero-add, Bool, true, true≢false}
+use Rattle.std.specs.List.{flat_map, list_any}
 use Rattle.std.specs.Option.{option_or}
 use Rattle.std.proofs.lemmas.Option.{none-some, same_Some}
-
--- ---- neither of two
-
-pub or_first : {A : Type 0} (o p : Option A) → option_or o p ≡ None → o ≡ None
-or_first None p h = refl
-or_first (Some x) p h = cc
-
-pub or_second : {A : Type 0} (o p : Option A) → option_or o p ≡ None → p ≡ None
-or_second None p h = h
-or_second (Some x) p h = cc
-
-pub or_neither : {A : Type 0} (o p : Option A) → o ≡ None → p ≡ None → option_or o p ≡ None
-or_neither o p h k = ap (λ one. option_or one p) h ∙ k
+use Rattle.std.proofs.lemmas.Bool.{or_cases, or_left, or_right}
+use Rattle.au_base.proofs.OptionLemmas.{or_first, or_second, or_neither}
 
 -- ---- one of a list
 
@@ -148,3 +111,23 @@ module _ {A B : Type 0} (one : ℕ → A → Option B) (all : ℕ → List A →
   pub nothing_all : (xs : List A) → ((i : ℕ) (x : A) → slice_get xs i ≡ Some x → one i x ≡ None)
       → all 0 xs ≡ None
   nothing_all xs h = nothing_to 0 xs (λ i x here. ap (λ place. one place x) (zero-add i) ∙ h i x here)
+
+-- ---- tests of lists
+
+-- where one passes a test, one among them does
+pub any_found : {A : Type 0} (p : A → Bool) (xs : List A) → list_any p xs ≡ true
+    → (x : A) × Among x xs × (p x ≡ true)
+any_found p [] h = absurd (true≢false (sym h))
+any_found p (y ∷ ys) h = by (or_cases (p y) (list_any p ys) h) (any_found p ys)
+  where
+    by : (p y ≡ true) ⊎ (list_any p ys ≡ true) → (list_any p ys ≡ true → (x : _) × Among x ys × (p x ≡ true))
+        → (x : _) × Among x (y ∷ ys) × (p x ≡ true)
+    by (inl here) on = (y, inl refl, here)
+    by (inr later) on = let rest = on later in (rest.0, inr rest.1, rest.2)
+
+-- where one among them passes a test, one passes
+pub any_there : {A : Type 0} (p : A → Bool) (xs : List A) (x : A) → Among x xs → p x ≡ true
+    → list_any p xs ≡ true
+any_there p [] x m h = absurd m
+any_there p (y ∷ ys) x (inl here) h = or_left (p y) (list_any p ys) (ap p here ∙ h)
+any_there p (y ∷ ys) x (inr later) h = or_right (p y) (list_any p ys) (any_there p ys x later h)

@@ -1,10 +1,10 @@
 -- What defines a type has the type's name.
 use Rattle.std.proofs.Common.{◌≡◌, ℕ, zero, suc, ◌+◌, Bool, true, false, cond, List, [], ◌∷◌, ◌++◌, length}
-use Rattle.std.proofs.Common.{find, Option, None, Some, refl, sym, ap, ◌∙◌, subst, arith, rules, zero-add}
+use Rattle.std.proofs.Common.{find, Option, None, Some, refl, sym, ap, ◌∙◌, subst, arith, zero-add}
 use Rattle.std.specs.Prelude.{slice_get}
 use Rattle.std.specs.Str.{bytes_eq}
 use Rattle.std.proofs.lemmas.Option.{none-some, same_Some}
-use Rattle.std.proofs.lemmas.Slice.Eq.{bytes_eq-Decides}
+use Rattle.au_base.proofs.TextLemmas.{bytes_same}
 use Rattle.au_syntax.specs.declared.modules.Part.{Part}
 use Rattle.au_syntax.specs.declared.modules.Part.TheVariants.{Interface, Body}
 use Rattle.au_syntax.specs.Modules.{opaque_type, record_type, union_type}
@@ -21,10 +21,7 @@ use Rattle.au_names.specs.Standing.{Standing, body_at, body_standing, defined_by
 use Rattle.au_names.specs.Standing.{definition_of, is_named, is_whole, module_standing, opaque_name}
 use Rattle.au_names.specs.Standing.{standing_at, standing_from, standing_in, whole_name}
 
--- ---- bytes, and what is found
-
-same_bytes : (a b : Bytes) → bytes_eq a b ≡ true → a ≡ b
-same_bytes a b h = search (rules, bytes_eq-Decides)
+-- ---- what is found
 
 -- what is found passes, and stands in the list
 abbrev IsFound : {X : Type 0} → (X → Bool) → List X → X → Type 0
@@ -50,11 +47,11 @@ opaque_named (opaque_type at own_name parameters universe) name h =
 opaque_named other name h = absurd (none-some name h)
 
 -- a name that is this one
-named : (name : Bytes) (found : Option Bytes) → is_named name found ≡ true → found ≡ Some name
+pub named : (name : Bytes) (found : Option Bytes) → is_named name found ≡ true → found ≡ Some name
 named name None h = cc
-named name (Some other) h = ap (λ n. Some n) (sym (same_bytes name other h))
+named name (Some other) h = ap (λ n. Some n) (sym (bytes_same name other h))
 
-whole_named : (d : PlainDeclaration) (name : Bytes) → whole_name d ≡ Some name → type_names d ≡ name ∷ []
+pub whole_named : (d : PlainDeclaration) (name : Bytes) → whole_name d ≡ Some name → type_names d ≡ name ∷ []
 whole_named (record_type at own_name parameters universe fields) name h =
     ap (λ n. n ∷ []) (same_Some own_name.name name h)
 whole_named (union_type at own_name parameters universe cases) name h =
@@ -102,7 +99,7 @@ type_numbers place first (d ∷ ds) name meaning h =
         ≡ Some meaning
         → Numbers place first (d ∷ ds) name meaning
     one x true test names on k =
-        let same : x ≡ name = sym (same_bytes name x test) in
+        let same : x ≡ name = sym (bytes_same name x test) in
         numbers_here place first d ds name meaning
         (sym (same_Some (target place x first) meaning k) ∙ ap (λ n. target place n first) same)
         (names ∙ ap (λ n. n ∷ []) same)

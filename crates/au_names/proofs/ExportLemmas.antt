@@ -11,6 +11,7 @@ use Rattle.std.proofs.lemmas.List.{append-nil, drop_all, length-map}
 use Rattle.std.proofs.lemmas.Option.{none-some, same_Some, slice_get-map, slice_get-get_or}
 use Rattle.std.proofs.lemmas.Option.{get_or_from_slice_get}
 use Rattle.au_base.specs.Limits.{most_tokens}
+use Rattle.au_base.proofs.ListLemmas.{drop_at}
 use Rattle.au_syntax.specs.contracts.parsed.ParsedPhase.TheImpl.{ghosts as parsed}
 use Rattle.au_syntax.specs.declared.modules.Module.{Module}
 use Rattle.au_syntax.specs.declared.parsed.Parsed.{Parsed}
@@ -30,7 +31,7 @@ use Rattle.au_names.specs.Owned.{declarations_in, interface_of}
 use Rattle.au_names.specs.Importing.{place_of}
 use Rattle.au_names.specs.Exporting.{in_space, tables_from, offers, declarations_seen}
 use Rattle.au_names.specs.Placing.{places_from}
-use Rattle.au_names.proofs.PutLemmas.{drop_at, with_all-cons}
+use Rattle.au_names.proofs.PutLemmas.{with_all-cons}
 
 -- ---- places by names
 

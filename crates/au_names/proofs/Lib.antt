@@ -11,3 +11,4 @@ pub mod RowLemmas
 pub mod SeenLemmas
 pub mod StandingLemmas
 pub mod WalkLemmas
+pub mod DeclaredByLemmas

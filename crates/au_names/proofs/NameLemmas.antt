@@ -1,10 +1,12 @@
 -- What names mean in the modules of a program, one place after another.
-use Rattle.std.proofs.Common.{◌≡◌, ℕ, suc, zero, ◌+◌, ◌<◌, ◌≤◌, ◌⊎◌, inl, inr, List, [], ◌∷◌, ◌++◌, length}
+use Rattle.std.proofs.Common.{◌≡◌, ℕ, ◌+◌, ◌<◌, ◌≤◌, ◌⊎◌, inl, inr, List, [], ◌∷◌, ◌++◌, length}
 use Rattle.std.proofs.Common.{get_or, None, Some, refl, sym, ap, ◌∙◌, subst, arith}
 use Rattle.std.specs.Prelude.{slice_get}
 use Rattle.std.specs.Option.{option_map}
 use Rattle.std.proofs.lemmas.Bool.{cases_lt}
 use Rattle.std.proofs.lemmas.Option.{slice_get_cases, slice_get_past, slice_get_within, get_or_from_slice_get}
+use Rattle.std.proofs.lemmas.List.{length_push}
+use Rattle.au_base.proofs.ListLemmas.{get_left, got_last}
 use Rattle.au_syntax.specs.declared.modules.Part.{Part}
 use Rattle.au_syntax.specs.declared.modules.Part.TheVariants.{Interface, Body}
 use Rattle.au_types.specs.declared.spaces.Space.TheVariants.{Values, Callables, Types}
@@ -12,20 +14,7 @@ use Rattle.au_modules.specs.Programs.{ModuleParts}
 use Rattle.au_names.specs.Meanings.{declared_by, seen}
 use Rattle.au_names.specs.declared.part_names.PartNames.{PartNames}
 use Rattle.au_names.specs.declared.module_names.ModuleNames.{ModuleNames}
-use Rattle.au_names.proofs.StandingLemmas.{got_before}
 use Rattle.au_names.specs.Known.{seen_by, names_of, in_part, AreNames}
-
--- ---- lists with one more item
-
-got_last : {X : Type 0} (xs : List X) (y : X) (k : ℕ) → k ≡ length xs → slice_get (xs ++ y ∷ []) k ≡ Some y
-got_last [] y zero h = refl
-got_last [] y (suc k) h = absurd (omega arith)
-got_last (x ∷ xs) y zero h = absurd (omega arith)
-got_last (x ∷ xs) y (suc k) h = got_last xs y k (omega arith)
-
-one_more : {X : Type 0} (xs : List X) (y : X) → length (xs ++ y ∷ []) ≡ length xs + 1
-one_more [] y = refl
-one_more (x ∷ xs) y = omega (arith, one_more xs y)
 
 -- ---- one module
 
@@ -72,7 +61,7 @@ pub below_next : (program : List ModuleParts) (place : ℕ) (all after : List Mo
     → option_map (names_of program place) (slice_get program place) ≡ Some one → after ≡ all ++ one ∷ []
     → AreBelow program (place + 1) after
 below_next program place all after one old here new = record {
-  count = ap length new ∙ one_more all one ∙ ap (λ n. n + 1) old.count;
+  count = ap length new ∙ length_push all one ∙ ap (λ n. n + 1) old.count;
   each = λ k h. by k h (cases_lt k place);
 }
   where
@@ -80,7 +69,7 @@ below_next program place all after one old here new = record {
         → slice_get after k ≡ option_map (names_of program k) (slice_get program k)
     by k h (inl less) =
         let within : k < length all = omega (arith, less, old.count) in
-        ap (λ r. slice_get r k) new ∙ got_before all (one ∷ []) k within ∙ old.each k less
+        ap (λ r. slice_get r k) new ∙ get_left all (one ∷ []) k within ∙ old.each k less
     by k h (inr more) =
         let at_end : k ≡ length all = omega (arith, h, more, old.count) in
         let same : place ≡ k = omega (arith, h, more) in

@@ -3,21 +3,15 @@ use Rattle.std.proofs.Common.{◌≡◌, ℕ, ◌+◌, ◌<◌, Bool, true, fals
 use Rattle.std.proofs.Common.{length, drop, get_or, ◌≤◌, Some, is_some, refl, sym, ap, ◌∙◌, true≢false}
 use Rattle.std.specs.Prelude.{slice_get}
 use Rattle.std.specs.Str.{bytes_eq}
-use Rattle.std.proofs.lemmas.List.{drop_more, drop_all}
-use Rattle.std.proofs.lemmas.Option.{slice_get_within, slice_get_read, get_or_from_slice_get}
+use Rattle.std.proofs.lemmas.List.{drop_all}
+use Rattle.std.proofs.lemmas.Option.{slice_get_read}
 use Rattle.std.proofs.lemmas.Slice.Eq.{bytes_eq-Decides}
+use Rattle.au_base.proofs.ListLemmas.{drop_at}
 use Rattle.au_types.specs.Tables.{find, has_name, with_pair, with_all, without, firsts}
 use Rattle.au_types.proofs.TableLemmas.{with_pair-old, with_pair-new, find-with_pair, with_all-none}
 use Rattle.au_types.proofs.TableLemmas.{with_all-one}
 use Rattle.au_names.specs.declared.targets.Target.{Target}
 use Rattle.au_names.specs.Owned.{target}
-
--- what is left from a place on begins with what stands there
-pub drop_at : {A : Type 0} (xs : List A) (i : ℕ) (x : A) → slice_get xs i ≡ Some x
-    → drop i xs ≡ x ∷ drop (i + 1) xs
-drop_at xs i x h =
-    drop_more xs i x (slice_get_within xs i x h)
-    ∙ ap (λ y. y ∷ drop (i + 1) xs) (get_or_from_slice_get xs i x x h)
 
 module _ {V : Type 0} where
   -- pairs are put in turn

@@ -1,13 +1,14 @@
 -- Rows come one behind another, each of a later declaration than those before it.
 use Rattle.std.proofs.Common.{◌≡◌, ◌≢◌, ℕ, ◌+◌, ◌<◌, ◌≤◌, ◌⊎◌, inl, inr, Bool, true, false, cond, ◌&&◌, ◌==◌}
 use Rattle.std.proofs.Common.{List, [], ◌∷◌, ◌++◌, Option, None, Some, refl, sym, ap, ◌∙◌, subst, zero, suc}
-use Rattle.std.proofs.Common.{arith, eq-eqb}
+use Rattle.std.proofs.Common.{arith}
 use Rattle.std.specs.Prelude.{slice_get}
-use Rattle.std.proofs.lemmas.Bool.{ne_eqb}
+use Rattle.std.proofs.lemmas.Bool.{ne_eqb, and_right}
 use Rattle.std.proofs.lemmas.List.{append-nil}
 use Rattle.au_types.specs.declared.types.DeclAt.{DeclAt}
 use Rattle.au_types.specs.declared.headings.Head.{Head}
 use Rattle.au_types.specs.Rows.{same_place, head_of}
+use Rattle.au_types.proofs.SameLemmas.{place_self}
 use Rattle.au_names.specs.HeadsOf.{row_under}
 use Rattle.au_names.specs.Walks.{IsFreeFrom}
 
@@ -21,14 +22,6 @@ place_at place number = record { «module» = place; decl = number }
 abbrev IsLater : ℕ → ℕ → DeclAt → Type 0
 IsLater place number at = (place < at.«module») ⊎ ((place ≡ at.«module») × (number ≤ at.decl))
 
-same_self : (at : DeclAt) → same_place at at ≡ true
-same_self at =
-    ap (λ b. b && (at.decl == at.decl)) (eq-eqb at.«module» at.«module» refl) ∙ eq-eqb at.decl at.decl refl
-
-and_no : (a b : Bool) → b ≡ false → (a && b) ≡ false
-and_no true b h = h
-and_no false b h = refl
-
 -- a later declaration is another
 other : (place number : ℕ) (at : DeclAt) → IsLater place (number + 1) at
     → same_place at (place_at place number) ≡ false
@@ -37,7 +30,7 @@ other place number at (inl h) =
     ap (λ b. b && (at.decl == number)) (ne_eqb at.«module» place apart)
 other place number at (inr h) =
     let apart : at.decl ≢ number = omega arith in
-    and_no (at.«module» == place) (at.decl == number) (ne_eqb at.decl number apart)
+    and_right (at.«module» == place) (at.decl == number) (ne_eqb at.decl number apart)
 
 earlier : (place number : ℕ) (at : DeclAt) → IsLater place (number + 1) at → IsLater place number at
 earlier place number at (inl h) = inl h
@@ -143,7 +136,7 @@ once_row place number rows (Some y) free once i row h = by (get_push rows (place
         let P : DeclAt × Head → Type 0 = λ r. head_of (rows ++ more) r.0 ≡ Some r.1 in
         subst P (sym same)
         (behind (place_at place number) rows more (free_here place number rows free)
-        ∙ ap (λ b. cond b (Some y) None) (same_self (place_at place number)))
+        ∙ ap (λ b. cond b (Some y) None) (place_self (place_at place number)))
 
 pub once_if : (b : Bool) (place number : ℕ) (rows : List (DeclAt × Head)) (one : Option Head)
     → IsFreeFrom place number rows → IsOnce rows

@@ -1,6 +1,7 @@
 -- What a part of a module sees, and that it is meant.
-use Rattle.std.proofs.Common.{◌≡◌, ℕ, suc, zero, ◌+◌, ◌<◌, Bool, true, false, cond, List, [], ◌∷◌, ◌++◌}
+use Rattle.std.proofs.Common.{◌≡◌, ℕ, suc, zero, ◌<◌, Bool, true, false, cond, List, [], ◌∷◌, ◌++◌}
 use Rattle.std.proofs.Common.{length, get_or, Option, None, Some, refl, sym, ap, ◌∙◌, arith, append_assoc}
+use Rattle.std.proofs.Common.{zero-add}
 use Rattle.std.specs.Prelude.{slice_get, Contains}
 use Rattle.std.specs.Option.{option_map}
 use Rattle.std.specs.Str.{bytes_eq}
@@ -36,16 +37,13 @@ table_put space t place ds =
     ap (with_all t) (sym (firsts-changed (λ p. target place p.0 p.1) (names_in space ds)))
     ∙ firsts-put t (targets place (names_in space ds))
 
-names_in-append : (space : Space) (ds es : List (ℕ × PlainDeclaration))
+pub names_in-append : (space : Space) (ds es : List (ℕ × PlainDeclaration))
     → names_in space (ds ++ es) ≡ names_in space ds ++ names_in space es
 unfolding names_in
 names_in-append space [] es = refl
 names_in-append space (d ∷ ds) es =
     ap (λ r. given d.0 (declared_names space d.1) ++ r) (names_in-append space ds es)
     ∙ sym (append_assoc (given d.0 (declared_names space d.1)) (names_in space ds) (names_in space es))
-
-zero_add : (n : ℕ) → 0 + n ≡ n
-zero_add n = omega arith
 
 -- the names of both parts
 own_is : (space : Space) (place : ℕ) (m : ModuleParts)
@@ -58,7 +56,7 @@ own_is space place m =
     let body = declarations_in m.body in
     ap (λ ds. targets place (names_in space ds))
     (numbered-append 0 interface body
-    ∙ ap (λ n. numbered 0 interface ++ numbered n body) (zero_add (length interface)))
+    ∙ ap (λ n. numbered 0 interface ++ numbered n body) (zero-add (length interface)))
     ∙ ap (targets place) (names_in-append space (numbered 0 interface) (numbered (length interface) body))
     ∙ map-append (λ p. (p.0, target place p.0 p.1)) (names_in space (numbered 0 interface))
     (names_in space (numbered (length interface) body))

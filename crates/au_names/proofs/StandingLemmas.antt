@@ -6,6 +6,7 @@ use Rattle.std.specs.Prelude.{slice_get}
 use Rattle.std.specs.Option.{option_map}
 use Rattle.std.proofs.lemmas.List.{drop_all, drop_more}
 use Rattle.std.proofs.lemmas.Option.{slice_get-map, slice_get_past, slice_get_read}
+use Rattle.au_base.proofs.ListLemmas.{get_left}
 use Rattle.au_syntax.specs.contracts.parsed.ParsedPhase.TheImpl.{ghosts as parsed}
 use Rattle.au_syntax.specs.declared.declarations.Decl.{Decl}
 use Rattle.au_syntax.specs.declared.modules.Part.{Part}
@@ -27,12 +28,6 @@ abbrev pub Written : Type 0
 Written = Decl Parsed (List ℕ) (Unit {0}) (Unit {0})
 
 -- ---- lists behind others
-
-pub got_before : {X : Type 0} (xs ys : List X) (k : ℕ) → k < length xs
-    → slice_get (xs ++ ys) k ≡ slice_get xs k
-got_before [] ys k h = absurd (omega arith)
-got_before (x ∷ xs) ys zero h = refl
-got_before (x ∷ xs) ys (suc k) h = got_before xs ys k (omega arith)
 
 got_behind : {X : Type 0} (xs ys : List X) (k : ℕ) → length xs ≤ k
     → slice_get ys (k - length xs) ≡ slice_get (xs ++ ys) k
@@ -58,7 +53,7 @@ module _ (place : ℕ) (part : Part) where
       let same : first + 1 + i ≡ first + suc i = omega arith in
       from_got (first + 1) ds i ∙ ap (λ n. option_map (stands n) (slice_get ds i)) same
 
-  from_length : (first : ℕ) (ds : List PlainDeclaration)
+  pub from_length : (first : ℕ) (ds : List PlainDeclaration)
       → length (standing_from place part first ds) ≡ length ds
   unfolding standing_from
   from_length first [] = refl
@@ -114,7 +109,7 @@ interface_found place number (Some m) seen is less =
     from_length place Interface 0 (declarations_in m.interface) ∙ ap length (sym same) in
     ap (λ ds. slice_get (standing_from place Interface 0 ds) number) same
     ∙ sym
-    (got_before (standing_from place Interface 0 (declarations_in m.interface)) (body_standing place m)
+    (get_left (standing_from place Interface 0 (declarations_in m.interface)) (body_standing place m)
     number (omega arith))
 
 -- the declarations of the body

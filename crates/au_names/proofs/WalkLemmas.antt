@@ -1,13 +1,14 @@
 -- A walk through the declarations of a module gives the rows of those that count.
 use Rattle.std.proofs.Common.{◌≡◌, ℕ, ◌+◌, ◌<◌, ◌≤◌, Bool, true, false, cond, not, List, [], ◌∷◌, ◌++◌}
-use Rattle.std.proofs.Common.{length, map, drop, get_or, Option, None, Some, is_some, refl, sym, ap, ◌∙◌}
-use Rattle.std.proofs.Common.{append_assoc, suc, zero, subst, add-one, drop-cons, arith}
+use Rattle.std.proofs.Common.{length, map, drop, Option, None, Some, is_some, refl, sym, ap, ◌∙◌}
+use Rattle.std.proofs.Common.{append_assoc, suc, zero, subst, arith}
 use Rattle.std.specs.Prelude.{nat_lt, slice_get, Result, Ok, Err, OnOk}
 use Rattle.std.specs.List.{flat_map}
 use Rattle.std.specs.Str.{bytes_eq}
 use Rattle.std.proofs.lemmas.Bool.{le-ltb, lt-ltb}
 use Rattle.std.proofs.lemmas.List.{append-nil, length-append, map-append}
 use Rattle.std.proofs.lemmas.Grind.{flat_map-append}
+use Rattle.std.proofs.lemmas.Option.{same_Some}
 use Rattle.au_syntax.specs.Modules.{constant}
 use Rattle.au_syntax.specs.Plain.{Bytes, PlainDeclaration, PlainModule}
 use Rattle.au_types.specs.declared.spaces.Space.TheVariants.{Types}
@@ -274,15 +275,6 @@ walk_over-cons w d ds = refl
 
 pub ruleset walk_steps = (rows_on-none, walk_over-none)
 
--- what is left from an item on, of a list that is seen through two views
-pub left : {A B C : Type 0} (p : B → C) (v : A → B) (xs : List A) (i : ℕ) (x : A) → i < length xs
-    → x ≡ get_or xs i x
-    → map p (map v (drop i xs)) ≡ p (v x) ∷ map p (map v (drop (i + 1) xs))
-left p v xs i x h here =
-    ap (λ r. map p (map v r)) (drop-cons xs i x h)
-    ∙ ap (λ y. p (v y) ∷ map p (map v (drop (suc i) xs))) (sym here)
-    ∙ ap (λ n. p (v x) ∷ map p (map v (drop n xs))) (sym (add-one i))
-
 -- the row of one more declaration is put, and what is left stays all
 pub rows_next : (w next : Walk) (owner : Bytes) (d : PlainDeclaration)
     (before after all : List (DeclAt × Head)) (ds es : List PlainDeclaration)
@@ -314,9 +306,6 @@ walk_end w end ds none old = sym (walk_over-none w) ∙ ap (walk_over w) (sym no
 
 -- ---- modules
 
-some_is : {A : Type 0} (x y : A) → Some x ≡ Some y → x ≡ y
-some_is x y h = cc
-
 -- the parts of a module, one behind the other
 module_rows : (place : ℕ) (found : Option ModuleParts) (owner : Bytes) → name_of found ≡ Some owner
     → rows_on (walk_at place owner 0 []) owner (declarations_seen (interface_tree found))
@@ -333,7 +322,7 @@ module_rows place (Some m) owner h =
     (declarations_seen (interface_tree (Some m)) ++ declarations_seen (body_tree (Some m))))
     ∙ ap (λ o. rows_of place o
     (numbered 0 (declarations_seen (interface_tree (Some m)) ++ declarations_seen (body_tree (Some m)))))
-    (sym (some_is m.name owner h))
+    (sym (same_Some m.name owner h))
     ∙ (λ i. rows_of place m.name (numbered 0 (sym (interface_seen m) i ++ sym (body_seen m) i)))
 
 -- a walk over both parts of the module at a place gives the rows of that module

@@ -7,5 +7,6 @@ pub mod Known
 pub mod Meanings
 pub mod Owned
 pub mod Placing
+pub mod Sources
 pub mod Standing
 pub mod Walks

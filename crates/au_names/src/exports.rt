@@ -30,6 +30,15 @@ pub struct Exports {
     pub interfaces: Vec<NameTables>,
 }
 
+/// Where names are brought from.
+#[derive(Clone, Copy)]
+pub struct Source<'a> {
+    /// The modules of a program.
+    pub modules: &'a Modules,
+    /// What their interfaces offer.
+    pub exports: &'a Exports,
+}
+
 /// The names that a file's declarations bring in, numbered from here on.
 pub(crate) fn names_from(
     alloc: Global,

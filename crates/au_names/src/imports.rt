@@ -6,9 +6,10 @@ ghost use Rattle.au_modules.specs.Programs.{ModuleParts};
 ghost use Rattle.au_modules.specs.Seen.{tree_seen};
 ghost use Rattle.au_modules.specs.Slots as slots;
 ghost use Rattle.au_names.specs.Along.{AreAlong, members_in};
-ghost use Rattle.au_names.specs.Exporting.{AreExports, imports_seen};
+ghost use Rattle.au_names.specs.Exporting.{imports_seen};
 ghost use Rattle.au_names.specs.Importing as spec;
 ghost use Rattle.au_names.specs.Importing.{along, brings, brought, imported};
+ghost use Rattle.au_names.specs.Sources.{IsMade, modules_of};
 ghost use Rattle.au_names.specs.Owned.{interface_of};
 ghost use Rattle.au_syntax.specs.Plain.{plain_importing, plain_name, plain_renaming};
 ghost use Rattle.au_syntax.specs.Sizes.{joined};
@@ -17,7 +18,7 @@ ghost use Rattle.au_syntax.specs.contracts.parsed.ParsedPhase.TheImpl.{ghosts as
 ghost use Rattle.au_types.specs.Tables.{find, with_all};
 
 use crate::decl_sets::DeclSet;
-use crate::exports::{Exports, offered_names};
+use crate::exports::{Exports, Source, offered_names};
 use crate::members::put_members_in;
 use crate::putting::put_found;
 use crate::targets::Target;
@@ -93,19 +94,18 @@ fn put_along(
     alloc: Global,
     table: &mut Table<Target>,
     done: &mut DeclSet,
-    modules: &Modules,
-    exports: &Exports,
+    source: &Source,
     other: u16,
     name: &[u8],
 ) -> Result<(), Memory>
-    requires within { other < length (slots.modules modules.now) }
-    requires made { AreExports exports.now (slots.modules modules.now) }
-    requires done { AreAlong (slots.modules modules.now) done.old table.old }
-    ensures along { (m : ModuleParts) → slice_get (slots.modules modules.now) other ≡ Some m
+    requires within { other < length (modules_of source.now) }
+    requires made { IsMade source.now }
+    requires done { AreAlong (modules_of source.now) done.old table.old }
+    ensures along { (m : ModuleParts) → slice_get (modules_of source.now) other ≡ Some m
         → OnOk result (table.new ≡ with_all table.old (along other name.now (interface_of m))) }
-    ensures done { OnOk result (AreAlong (slots.modules modules.now) done.new table.new) }
+    ensures done { OnOk result (AreAlong (modules_of source.now) done.new table.new) }
 {
-    let types = offered_names(exports, other as usize, Space::Types);
+    let types = offered_names(source.exports, other as usize, Space::Types);
     match types.get(name) {
         None => Ok(()),
         Some(number) => {
@@ -113,7 +113,7 @@ fn put_along(
                 module: other,
                 decl: *number,
             };
-            put_once(alloc, table, done, modules, at)
+            put_once(alloc, table, done, source.modules, at)
         }
     }
 }
@@ -123,27 +123,26 @@ fn put_item(
     alloc: Global,
     table: &mut Table<Target>,
     done: &mut DeclSet,
-    modules: &Modules,
-    exports: &Exports,
+    source: &Source,
     space: Space,
     other: u16,
     item: &Renamed<Parsed>,
 ) -> Result<(), Memory>
-    requires within { other < length (slots.modules modules.now) }
-    requires made { AreExports exports.now (slots.modules modules.now) }
-    requires done { AreAlong (slots.modules modules.now) done.old table.old }
-    ensures item { (m : ModuleParts) → slice_get (slots.modules modules.now) other ≡ Some m
+    requires within { other < length (modules_of source.now) }
+    requires made { IsMade source.now }
+    requires done { AreAlong (modules_of source.now) done.old table.old }
+    ensures item { (m : ModuleParts) → slice_get (modules_of source.now) other ≡ Some m
         → OnOk result (table.new ≡ with_all table.old
         (brought space other m (plain_renaming parsed.name_bytes (renaming parsed item.now)))) }
-    ensures done { OnOk result (AreAlong (slots.modules modules.now) done.new table.new) }
+    ensures done { OnOk result (AreAlong (modules_of source.now) done.new table.new) }
 {
     let name = item.name.name.as_bytes();
-    let names = offered_names(exports, other as usize, space);
+    let names = offered_names(source.exports, other as usize, space);
     let local = given_name(item);
     put_found(alloc, table, other, names, name, local)?;
     match space {
         Space::Values => Ok(()),
-        Space::Callables => put_along(alloc, table, done, modules, exports, other, name),
+        Space::Callables => put_along(alloc, table, done, source, other, name),
         Space::Types => Ok(()),
     }
 }
@@ -153,23 +152,22 @@ fn put_items(
     alloc: Global,
     table: &mut Table<Target>,
     done: &mut DeclSet,
-    modules: &Modules,
-    exports: &Exports,
+    source: &Source,
     space: Space,
     other: u16,
     items: &Vec<Renamed<Parsed>>,
 ) -> Result<(), Memory>
-    requires within { other < length (slots.modules modules.now) }
-    requires made { AreExports exports.now (slots.modules modules.now) }
-    requires done { AreAlong (slots.modules modules.now) done.old table.old }
-    ensures items { (m : ModuleParts) → slice_get (slots.modules modules.now) other ≡ Some m
+    requires within { other < length (modules_of source.now) }
+    requires made { IsMade source.now }
+    requires done { AreAlong (modules_of source.now) done.old table.old }
+    ensures items { (m : ModuleParts) → slice_get (modules_of source.now) other ≡ Some m
         → OnOk result (table.new ≡ with_all table.old
         (flat_map (brought space other m) (map (plain_renaming parsed.name_bytes)
         (map (renaming parsed) items.now.items)))) }
-    ensures done { OnOk result (AreAlong (slots.modules modules.now) done.new table.new) }
+    ensures done { OnOk result (AreAlong (modules_of source.now) done.new table.new) }
 {
     for item in items {
-        put_item(alloc, table, done, modules, exports, space, other, item)?;
+        put_item(alloc, table, done, source, space, other, item)?;
     }
     Ok(())
 }
@@ -179,27 +177,26 @@ fn put_import(
     alloc: Global,
     table: &mut Table<Target>,
     done: &mut DeclSet,
-    modules: &Modules,
-    exports: &Exports,
+    source: &Source,
     space: Space,
     place: usize,
     import: &Import<Parsed>,
 ) -> Result<(), Memory>
-    requires within { place < length (slots.modules modules.now) }
-    requires made { AreExports exports.now (slots.modules modules.now) }
-    requires done { AreAlong (slots.modules modules.now) done.old table.old }
+    requires within { place < length (modules_of source.now) }
+    requires made { IsMade source.now }
+    requires done { AreAlong (modules_of source.now) done.old table.old }
     ensures import { OnOk result (table.new ≡ with_all table.old
-        (brings space (slots.modules modules.now) place
+        (brings space (modules_of source.now) place
         (plain_importing parsed.name_bytes (importing parsed import.now)))) }
-    ensures done { OnOk result (AreAlong (slots.modules modules.now) done.new table.new) }
+    ensures done { OnOk result (AreAlong (modules_of source.now) done.new table.new) }
 {
-    let found = place_named(alloc, exports, &import.module)?;
+    let found = place_named(alloc, source.exports, &import.module)?;
     match found {
         None => Ok(()),
         Some(other) => {
             if (other as usize) < place {
                 let items = &import.items;
-                put_items(alloc, table, done, modules, exports, space, other, items)
+                put_items(alloc, table, done, source, space, other, items)
             } else {
                 Ok(())
             }
@@ -212,21 +209,20 @@ fn put_each(
     alloc: Global,
     table: &mut Table<Target>,
     done: &mut DeclSet,
-    modules: &Modules,
-    exports: &Exports,
+    source: &Source,
     space: Space,
     place: usize,
     imports: &Vec<Import<Parsed>>,
 ) -> Result<(), Memory>
-    requires within { place < length (slots.modules modules.now) }
-    requires made { AreExports exports.now (slots.modules modules.now) }
-    requires done { AreAlong (slots.modules modules.now) done.old table.old }
+    requires within { place < length (modules_of source.now) }
+    requires made { IsMade source.now }
+    requires done { AreAlong (modules_of source.now) done.old table.old }
     ensures { OnOk result (table.new ≡ with_all table.old
-        (imported space (slots.modules modules.now) place
+        (imported space (modules_of source.now) place
         (map (plain_importing parsed.name_bytes) (map (importing parsed) imports.now.items)))) }
 {
     for import in imports {
-        put_import(alloc, table, done, modules, exports, space, place, import)?;
+        put_import(alloc, table, done, source, space, place, import)?;
     }
     Ok(())
 }
@@ -235,22 +231,19 @@ fn put_each(
 fn put_imports(
     alloc: Global,
     table: &mut Table<Target>,
-    modules: &Modules,
-    exports: &Exports,
+    source: &Source,
     space: Space,
     place: usize,
     imports: &Vec<Import<Parsed>>,
 ) -> Result<(), Memory>
-    requires within { place < length (slots.modules modules.now) }
-    requires made { AreExports exports.now (slots.modules modules.now) }
+    requires within { place < length (modules_of source.now) }
+    requires made { IsMade source.now }
     ensures { OnOk result (table.new ≡ with_all table.old
-        (imported space (slots.modules modules.now) place
+        (imported space (modules_of source.now) place
         (map (plain_importing parsed.name_bytes) (map (importing parsed) imports.now.items)))) }
 {
     let mut done = DeclSet::new(alloc);
-    put_each(
-        alloc, table, &mut done, modules, exports, space, place, imports,
-    )
+    put_each(alloc, table, &mut done, source, space, place, imports)
 }
 
 /// Puts what the imports of a file of the module at a place bring, if there is one.
@@ -261,22 +254,21 @@ fn put_imports(
 pub fn put_imported(
     alloc: Global,
     table: &mut Table<Target>,
-    modules: &Modules,
-    exports: &Exports,
+    source: &Source,
     space: Space,
     place: usize,
     file: Option<&Whole<Parsed>>,
 ) -> Result<(), Memory>
-    requires within { place < length (slots.modules modules.now) }
-    requires made { AreExports exports.now (slots.modules modules.now) }
+    requires within { place < length (modules_of source.now) }
+    requires made { IsMade source.now }
     ensures { OnOk result (table.new ≡ with_all table.old
-        (imported space (slots.modules modules.now) place (imports_seen (tree_seen file.entry)))) }
+        (imported space (modules_of source.now) place (imports_seen (tree_seen file.entry)))) }
 {
     match file {
         None => Ok(()),
         Some(file) => {
             let tree = tree_of(file);
-            put_imports(alloc, table, modules, exports, space, place, &tree.imports)
+            put_imports(alloc, table, source, space, place, &tree.imports)
         }
     }
 }

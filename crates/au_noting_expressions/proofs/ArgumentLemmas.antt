@@ -1,10 +1,9 @@
 -- The arguments of a call as a list, and a call in three steps.
-use Rattle.std.proofs.Common.{◌≡◌, ◌==◌, ℕ, suc, List, [], ◌∷◌, Bool, true, false, Option, Some, None, Ok}
-use Rattle.std.proofs.Common.{Err, refl, sym, ap, subst, ◌∙◌, length, map, option_map, option_and_then}
-use Rattle.std.proofs.Common.{if◌then◌else◌, Result, IfOk, Vec}
+use Rattle.std.proofs.Common.{◌≡◌, ◌==◌, ℕ, suc, List, [], ◌∷◌, Option, Some, Ok}
+use Rattle.std.proofs.Common.{Err, refl, sym, ap, subst, ◌∙◌, length, map}
+use Rattle.std.proofs.Common.{Result, IfOk, Vec}
 use Rattle.std.specs.Borrow.{Bor}
 use Rattle.std.specs.Global.{Global}
-use borrow.Author.Tests.{eqb-true}
 use Rattle.std.proofs.lemmas.List.{length-map}
 use Rattle.au_matching.specs.Bindings.{Bindings}
 use Rattle.au_noting.specs.declared.faults.Fault as told
@@ -27,11 +26,11 @@ use Rattle.au_typing.specs.Bare.{is_bare}
 use Rattle.au_typing.specs.Calls.{begun, by_labels, each_is_named_once, in_order, labelled_types}
 use Rattle.au_typing.specs.Faults.{Noting, ◌>>=◌, Why, known_or, unknown}
 use Rattle.au_typing.specs.Good.{count_of, labels_of}
-use Rattle.au_typing.specs.Lookups.{type_of_name}
 use Rattle.au_typing.specs.Notes.{Mode, Note, NotedExpression}
 use Rattle.au_typing.specs.Search.{another_number, labelled_operands, note_expression, operands, other_labels}
 use Rattle.au_typing.specs.SearchCalls.{Operand, call_noted, first, result_differs, second, with_arguments}
 use Rattle.au_typing.proofs.Steps.{known_ok}
+use Rattle.au_typing.proofs.LabelledLemmas.{where_named, labelled_length, ordered}
 
 -- ---- arguments as a list
 
@@ -66,38 +65,6 @@ module _ (scope : Scope) where
   each_of (form.Labelled args) = labelled_are args.now.items
 
 -- ---- there are as many types as arguments
-
-ordered : (b : Bool) (n : ℕ) (params : List Typed) (types : List Meaning) → (length params == n) ≡ b →
-    (if b then Some (map (λ (one : Typed). one.of) params) else None) ≡ Some types → length types ≡ n
-ordered true n params types is h =
-    let made : map (λ (one : Typed). one.of) params ≡ types = cc in
-    sym (ap length made) ∙ (length-map params (λ (one : Typed). one.of) ∙ eqb-true (length params) n is)
-ordered false n params types is h = absurd cc
-
-one_more : (o : Option Meaning) (r : Option (List Meaning)) (n : ℕ) (types : List Meaning) →
-    ((ts : List Meaning) → r ≡ Some ts → length ts ≡ n) →
-    option_and_then (λ (t : Meaning). option_map (λ (ts : List Meaning). t ∷ ts) r) o ≡ Some types →
-    length types ≡ suc n
-one_more None r n types k h = absurd cc
-one_more (Some t) None n types k h = absurd cc
-one_more (Some t) (Some ts) n types k h =
-    let made : t ∷ ts ≡ types = cc in
-    sym (ap length made) ∙ ap suc (k ts refl)
-
-labelled_length : (labels : List Bytes) (params : List Typed) (types : List Meaning) →
-    labelled_types labels params ≡ Some types → length types ≡ length labels
-labelled_length [] params types h =
-    let none : [] ≡ types = cc in
-    sym (ap length none)
-labelled_length (label ∷ labels) params types h =
-    one_more (type_of_name label params) (labelled_types labels params) (length labels) types
-    (λ ts is. labelled_length labels params ts is) h
-
-where_named : (b : Bool) (r : Option (List Meaning)) (n : ℕ) (types : List Meaning) →
-    ((ts : List Meaning) → r ≡ Some ts → length ts ≡ n) → (if b then r else None) ≡ Some types →
-    length types ≡ n
-where_named true r n types k h = k types h
-where_named false r n types k h = absurd cc
 
 takes_length : (ops : code.Operands) (params : List Typed) (types : List Meaning) →
     takes ops params ≡ Some types → length types ≡ length (values ops)

@@ -1,7 +1,8 @@
 -- The two passes over arguments: what is left of each, from an argument on.
 use Rattle.std.proofs.Common.{◌≡◌, ℕ, ◌+◌, ◌<◌, ◌≤◌, List, [], ◌∷◌, ◌++◌, Option, Ok, Err, refl, sym, ap, ◌∙◌}
 use Rattle.std.proofs.Common.{drop, get_or, length, map}
-use Rattle.std.proofs.lemmas.List.{append_assoc, append-nil, drop_all, drop_more, map_push}
+use Rattle.std.proofs.lemmas.List.{append_assoc, append-nil, drop_all, map_push}
+use Rattle.au_base.proofs.ListLemmas.{next_item}
 use Rattle.au_matching.specs.Bindings.{Bindings}
 use Rattle.au_noting.specs.Said.{meanings}
 use Rattle.au_noting_expressions.specs.Arguments.{ReadCode, each_operand}
@@ -28,10 +29,6 @@ front_grows : {A : Type 0} (front : List A) (x : A) (r : Noting (List A × Bindi
 front_grows {A} front x (Ok z) = ap (λ (l : List A). Ok (l, z.1)) (sym (append_assoc front (x ∷ []) z.0))
 front_grows front x (Err f) = refl
 
--- an item of a list, before the rest
-cut : {A : Type 0} (xs : List A) (i : ℕ) (x : A) → i < length xs → x ≡ get_or xs i x → drop i xs ≡ x ∷ drop (i + 1) xs
-cut xs i x h is = drop_more xs i x h ∙ ap (λ y. y ∷ drop (i + 1) xs) (sym is)
-
 module _ (scope : Scope) (es : List ReadCode) (types : List Ty) where
   -- ---- the first pass
 
@@ -48,9 +45,10 @@ module _ (scope : Scope) (es : List ReadCode) (types : List Ty) where
         >>= λ (y : Half × Bindings). first (each_operand scope (drop (i + 1) es))
         (meanings (drop (i + 1) types)) y.1 >>= put_before y.0)
     first_at s =
-        ap (λ (l : List ReadCode). first (each_operand scope l) (meanings (drop i types)) s) (cut es i e in_es e_is)
+        ap (λ (l : List ReadCode). first (each_operand scope l) (meanings (drop i types)) s)
+        (next_item es i e e_is in_es)
         ∙ ap (λ (l : List Ty). first (each_operand scope (e ∷ drop (i + 1) es)) (meanings l) s)
-        (cut types i p in_types p_is)
+        (next_item types i p p_is in_types)
 
     pub first_turns : (made grown : List (Option NotedCode)) (half : Option NotedCode) (s r : Bindings) →
         grown ≡ made ++ half ∷ [] →
@@ -93,9 +91,9 @@ module _ (scope : Scope) (es : List ReadCode) (types : List Ty) where
         (map half_said rest) (meanings (drop (i + 1) types)) y.1 >>= put_before y.0)
     second_at s =
         ap (λ (l : List ReadCode). second (each_operand scope l) (map half_said halves)
-        (meanings (drop i types)) s) (cut es i e in_es e_is)
+        (meanings (drop i types)) s) (next_item es i e e_is in_es)
         ∙ (ap (λ (l : List Ty). second (each_operand scope (e ∷ drop (i + 1) es)) (map half_said halves)
-        (meanings l) s) (cut types i p in_types p_is)
+        (meanings l) s) (next_item types i p p_is in_types)
         ∙ ap (λ (l : List (Option NotedCode)). second (each_operand scope (e ∷ drop (i + 1) es))
         (map half_said l) (meanings (p ∷ drop (i + 1) types)) s) taken)
 

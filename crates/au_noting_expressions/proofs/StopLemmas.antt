@@ -1,15 +1,9 @@
 -- Where a step of a clause stops, the clause stops.
-use Rattle.std.proofs.Common.{◌≡◌, Result, Ok, Err, refl, subst, sym}
+use Rattle.std.proofs.Common.{◌≡◌, Result, Ok, Err, subst, sym}
 use Rattle.au_noting.specs.declared.faults.Fault as told
-use Rattle.au_noting.specs.declared.faults.Fault.TheVariants as fault
 use Rattle.au_noting.specs.Giving.{Gives, Stops}
 use Rattle.au_typing.specs.Faults.{Noting, ◌>>=◌}
-
--- what follows changes nothing
-stops_more : {A B : Type 0} (e : told.Fault) (one : Noting A) (g : A → Noting B) → Stops e one → Stops e (one >>= g)
-stops_more (fault.Why w) one g is = rw is refl
-stops_more (fault.Limit passed) one g is = rw is refl
-stops_more fault.Memory one g is = tt
+use Rattle.au_noting_expressions.proofs.Steps.{stops_first}
 
 -- a step behind one that gives something
 pub stops_behind : {X A B D : Type 0} (view : X → D) (result : Result X told.Fault) (e : told.Fault)
@@ -19,4 +13,4 @@ pub stops_behind : {X A B D : Type 0} (view : X → D) (result : Result X told.F
 stops_behind {X = X} view result e found x f g is gives stops =
     subst (λ (r : Result X told.Fault). Gives view r (found >>= λ a. f a >>= g)) (sym is.1)
     (subst (λ (y : told.Fault). Stops y (found >>= λ a. f a >>= g)) (sym is.2)
-    (subst (λ r. Stops e (r >>= λ a. f a >>= g)) (sym gives) (stops_more e (f x) g stops)))
+    (subst (λ r. Stops e (r >>= λ a. f a >>= g)) (sym gives) (stops_first e (f x) g stops)))

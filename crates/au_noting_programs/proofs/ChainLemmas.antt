@@ -1,7 +1,8 @@
 -- Lists that are judged item by item, in order.
 use Rattle.std.proofs.Common.{◌≡◌, ℕ, ◌+◌, ◌<◌, List, [], ◌∷◌, ◌++◌, length, map, drop, get_or, Result, Ok}
 use Rattle.std.proofs.Common.{Err, refl, sym, ap, subst, ◌∙◌}
-use Rattle.std.proofs.lemmas.List.{append_assoc, drop_more, map-append}
+use Rattle.std.proofs.lemmas.List.{append_assoc, map-append}
+use Rattle.au_base.proofs.ListLemmas.{next_item}
 use Rattle.au_typing.specs.DerivationFaults.{Judged, StatementFault, ◌then◌, refused, too_large}
 use Rattle.au_judgements.specs.declared.refusals.Refused.{Refused}
 use Rattle.au_judgements.specs.declared.refusals.Refused.TheVariants as told
@@ -44,11 +45,6 @@ module _ {B : Type 0} where
   begins (Ok all) = refl
   begins (Err fault) = refl
 
--- what is left of a list, at an item that is read
-pub at_item : {X : Type 0} (xs : List X) (i : ℕ) (x : X) → i < length xs → x ≡ get_or xs i x →
-    drop i xs ≡ x ∷ drop (i + 1) xs
-at_item xs i x within is = drop_more xs i x within ∙ ap (λ y. y ∷ drop (i + 1) xs) (sym is)
-
 -- items of the code, each seen
 module _ {A B X Y : Type 0} (f : A → Judged B) (see : X → A) (seen : Y → B) where
   abbrev left : List X → Judged (List B)
@@ -60,7 +56,7 @@ module _ {A B X Y : Type 0} (f : A → Judged B) (see : X → A) (seen : Y → B
         → whole ≡ behind (map seen (made ++ y ∷ [])) (left (drop (i + 1) xs))
     loop_more x y so_far within is judged =
         so_far
-        ∙ ap (λ rest. behind (map seen made) (left rest)) (at_item xs i x within is)
+        ∙ ap (λ rest. behind (map seen made) (left rest)) (next_item xs i x is within)
         ∙ more (map seen made) (f (see x)) (seen y) (left (drop (i + 1) xs)) judged
         ∙ ap (λ all. behind all (left (drop (i + 1) xs))) (sym (map-append seen made (y ∷ [])))
 
@@ -69,7 +65,7 @@ module _ {A B X Y : Type 0} (f : A → Judged B) (see : X → A) (seen : Y → B
         → whole ≡ Err fault
     loop_stops x fault so_far within is judged =
         so_far
-        ∙ ap (λ rest. behind (map seen made) (left rest)) (at_item xs i x within is)
+        ∙ ap (λ rest. behind (map seen made) (left rest)) (next_item xs i x is within)
         ∙ stops (map seen made) (f (see x)) fault (left (drop (i + 1) xs)) judged
 
 -- What a call is refused for is that for which the search refuses the whole.

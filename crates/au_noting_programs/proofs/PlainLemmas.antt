@@ -1,7 +1,8 @@
 -- A tree without notes, of which names are their bytes, is read plainly as it is.
-use Rattle.std.proofs.Common.{◌≡◌, List, [], ◌∷◌, map, refl, ap}
+use Rattle.std.proofs.Common.{◌≡◌, List, map, refl, ap}
 use Rattle.std.specs.Prelude.{Option, Some, None}
 use Rattle.std.specs.Option.{option_map}
+use Rattle.au_base.proofs.ListLemmas.{map_same}
 use Rattle.au_syntax.specs.Expressions.{path, arrow, call, named_call, parenthesized, dereference}
 use Rattle.au_syntax.specs.Expressions.{borrow_part, binary, negation, typed, choice, no_expressions}
 use Rattle.au_syntax.specs.Expressions.{expressions, no_arguments, arguments}
@@ -27,13 +28,8 @@ use Rattle.au_syntax.specs.Types.{Bound, Labelled}
 abbrev same_name : Bytes → Bytes
 same_name name = name
 
--- a list stays as it is where each of its items does
-as_is : {A : Type 0} (f : A → A) → ((x : A) → f x ≡ x) → (xs : List A) → map f xs ≡ xs
-as_is f h [] = refl
-as_is f h (x ∷ xs) = λ i. h x i ∷ as_is f h xs i
-
 names_kept : (names : List (Placed Bytes)) → map (plain_name same_name) names ≡ names
-names_kept names = as_is (plain_name same_name) (λ x. refl) names
+names_kept names = map_same (plain_name same_name) (λ x. refl) names
 
 alias_kept : (alias : Option (Placed Bytes)) → option_map (plain_name same_name) alias ≡ alias
 alias_kept None = refl
@@ -46,10 +42,10 @@ bound_kept : (b : Bound Bytes) → plain_bound same_name b ≡ b
 bound_kept b = λ i. record { name = renaming_kept b.name i; of = b.of }
 
 binds_kept : (binds : List (Bound Bytes)) → map (plain_bound same_name) binds ≡ binds
-binds_kept binds = as_is (plain_bound same_name) bound_kept binds
+binds_kept binds = map_same (plain_bound same_name) bound_kept binds
 
 labels_kept : (fields : List (Labelled Bytes)) → map (plain_labelled same_name) fields ≡ fields
-labels_kept fields = as_is (plain_labelled same_name) (λ x. refl) fields
+labels_kept fields = map_same (plain_labelled same_name) (λ x. refl) fields
 
 -- ---- expressions
 
@@ -117,7 +113,7 @@ constrained_kept : (p : Constrained Bytes) → plain_constrained same_name p ≡
 constrained_kept p = λ i. record { parameter = p.parameter; classes = names_kept p.classes i }
 
 generics_kept : (gs : List (Constrained Bytes)) → map (plain_constrained same_name) gs ≡ gs
-generics_kept gs = as_is (plain_constrained same_name) constrained_kept gs
+generics_kept gs = map_same (plain_constrained same_name) constrained_kept gs
 
 variant_kept : (v : Variant Bytes) → plain_variant same_name v ≡ v
 variant_kept v = λ i. record { name = v.name; fields = labels_kept v.fields i }
@@ -128,20 +124,20 @@ method_kept m = λ i. record { header = header_kept m.header i; body = block_kep
 declaration_kept : (d : PlainDeclaration) → plain_declaration same_name d ≡ d
 declaration_kept (constant at n t) = refl
 declaration_kept (opaque_type at n ps u) =
-    ap (λ qs. opaque_type at n qs u) (as_is (plain_in_universe same_name) (λ p. refl) ps)
+    ap (λ qs. opaque_type at n qs u) (map_same (plain_in_universe same_name) (λ p. refl) ps)
 declaration_kept (record_type at n ps u fields) =
-    λ i. record_type at n (as_is (plain_in_universe same_name) (λ p. refl) ps i) u (labels_kept fields i)
+    λ i. record_type at n (map_same (plain_in_universe same_name) (λ p. refl) ps i) u (labels_kept fields i)
 declaration_kept (union_type at n ps u cases) =
-    λ i. union_type at n (as_is (plain_in_universe same_name) (λ p. refl) ps i) u
-    (as_is (plain_variant same_name) variant_kept cases i)
+    λ i. union_type at n (map_same (plain_in_universe same_name) (λ p. refl) ps i) u
+    (map_same (plain_variant same_name) variant_kept cases i)
 declaration_kept (function at gs h) = λ i. function at (generics_kept gs i) (header_kept h i)
-declaration_kept (class at n p hs) = ap (class at n p) (as_is (plain_header same_name) header_kept hs)
+declaration_kept (class at n p hs) = ap (class at n p) (map_same (plain_header same_name) header_kept hs)
 declaration_kept (instance at gs n t) = ap (λ all. instance at all n t) (generics_kept gs)
 declaration_kept (constant_body at n t e) = ap (constant_body at n t) (expression_kept e)
 declaration_kept (function_body at gs h b stop) = λ i. function_body at (generics_kept gs i) (header_kept h i)
     (block_kept b i) stop
 declaration_kept (instance_body at gs n t ms) = λ i. instance_body at (generics_kept gs i) n t
-    (as_is (plain_method same_name) method_kept ms i)
+    (map_same (plain_method same_name) method_kept ms i)
 
 -- ---- a file
 
@@ -149,15 +145,15 @@ importing_kept : (one : Importing Bytes) → plain_importing same_name one ≡ o
 importing_kept one = λ i. record {
   at = one.at;
   from = names_kept one.from i;
-  items = as_is (plain_renaming same_name) renaming_kept one.items i;
+  items = map_same (plain_renaming same_name) renaming_kept one.items i;
 }
 
 pub module_kept : (m : PlainModule) → plain_module same_name m ≡ m
 module_kept m = λ i. record {
-  imports = as_is (plain_importing same_name) importing_kept m.imports i;
+  imports = map_same (plain_importing same_name) importing_kept m.imports i;
   at = m.at;
   part = m.part;
   name = names_kept m.name i;
   pragma = m.pragma;
-  declarations = as_is (plain_declaration same_name) declaration_kept m.declarations i;
+  declarations = map_same (plain_declaration same_name) declaration_kept m.declarations i;
 }

@@ -1,10 +1,9 @@
 -- What the code's surroundings say of a part of a module is what the rules say.
-use Rattle.std.proofs.Common.{◌≡◌, ℕ, ◌<◌, Bool, true, false, cond, List, [], ◌∷◌, length, get_or, Option}
+use Rattle.std.proofs.Common.{◌≡◌, ℕ, ◌<◌, List, [], length, get_or, Option}
 use Rattle.std.proofs.Common.{None, Some, refl, sym, ap, ◌∙◌}
 use mathlib.Core.Path.{fun_ext}
 use Rattle.std.specs.Prelude.{slice_get}
 use Rattle.std.specs.Option.{option_map}
-use Rattle.std.specs.Str.{bytes_eq}
 use Rattle.std.proofs.lemmas.Option.{none-some, slice_get-get_or}
 use Rattle.au_syntax.specs.declared.modules.Part.{Part}
 use Rattle.au_syntax.specs.Plain.{Bytes}
@@ -16,6 +15,7 @@ use Rattle.au_modules.specs.Programs.{ModuleParts}
 use Rattle.au_names.specs.declared.targets.Target.{Target}
 use Rattle.au_names.specs.HeadsOf.{heads_of}
 use Rattle.au_names.specs.Meanings.{declared_by, seen}
+use Rattle.au_names.proofs.DeclaredByLemmas.{find_declared}
 use Rattle.au_classes.specs.Rows.{rows_of}
 use Rattle.au_instances.specs.Rows.{Row}
 use Rattle.au_typing.specs.Called.{callable_at}
@@ -40,17 +40,6 @@ module _ (program : List ModuleParts) (place : ℕ) (part : Part) (within : plac
       by None is = absurd (none-some (get_or program place nothing)
           (sym is ∙ slice_get-get_or program place nothing within))
       by (Some m) is = h m is
-
-find_declared : (name : Bytes) (pairs : List (Bytes × Target)) → find name (declared_by pairs)
-    ≡ option_map (λ (t : Target). t.at) (find name pairs)
-find_declared name [] = refl
-find_declared name (p ∷ pairs) = by (bytes_eq name p.0) (find_declared name pairs)
-  where
-    by : (b : Bool) → find name (declared_by pairs) ≡ option_map (λ (t : Target). t.at) (find name pairs)
-        → cond b (Some p.1.at) (find name (declared_by pairs)) ≡ option_map (λ (t : Target). t.at)
-        (cond b (Some p.1) (find name pairs))
-    by true on = refl
-    by false on = on
 
 -- the constant that a name means, by its number
 constant_found : (program : List ModuleParts) (found : Option Target) →

@@ -2,6 +2,7 @@
 use Rattle.std.proofs.Common.{◌≡◌, ℕ, ◌+◌, ◌<◌, false, List, [], ◌∷◌, length, map, drop, get_or, Result, Ok}
 use Rattle.std.proofs.Common.{Err, refl, sym, ap, subst, ◌∙◌}
 use Rattle.au_base.specs.declared.places.Pos.{Pos}
+use Rattle.au_base.proofs.ListLemmas.{next_item}
 use Rattle.au_syntax.specs.Modules.{Constrained, Header, function_body, instance_body}
 use Rattle.au_syntax.specs.Names.{Placed}
 use Rattle.au_syntax.specs.Plain.{Bytes, PlainDeclaration, PlainExpression, PlainMethod, PlainStatements}
@@ -19,7 +20,7 @@ use Rattle.au_typing.specs.Trees.{NotedDeclaration, NotedMethod, NotedStatements
 use Rattle.au_judgements.specs.declared.refusals.Refused.{Refused}
 use Rattle.au_judgements.specs.Refusing.{Judges}
 use Rattle.au_noting_programs.specs.Steps.{note_method, note_value, with_header, with_parameter}
-use Rattle.au_noting_programs.proofs.ChainLemmas.{at_item, each, followed}
+use Rattle.au_noting_programs.proofs.ChainLemmas.{each, followed}
 
 -- ---- parameters
 
@@ -50,7 +51,7 @@ pub parameters_more : {X : Type 0} (see : X → Labelled Bytes) (whole : Noting 
     with_parameter (see x) sc ≡ Ok new → whole ≡ with_parameters (map see (drop (i + 1) xs)) new
 parameters_more see whole xs i x sc new so_far within is declared =
     so_far
-    ∙ ap (λ rest. with_parameters (map see rest) sc) (at_item xs i x within is)
+    ∙ ap (λ rest. with_parameters (map see rest) sc) (next_item xs i x is within)
     ∙ parameter_first (see x) (map see (drop (i + 1) xs)) sc
     ∙ ap (λ r. r >>= with_parameters (map see (drop (i + 1) xs))) declared
 

@@ -26,6 +26,7 @@ use Rattle.au_syntax.specs.Views.{statement}
 use Rattle.au_types.specs.Types.{Meaning}
 use Rattle.au_typing.specs.Faults.{Noting, ◌>>=◌}
 use Rattle.au_typing.specs.Notes.{NotedExpression, type_of}
+use Rattle.au_typing.proofs.StepLemmas.{judged_is}
 use Rattle.au_noting_statements.proofs.Fronts.{NotedStmt}
 
 -- ---- steps
@@ -341,9 +342,6 @@ pub bound_back : (binds : List (Bound Bytes)) (sc inner : Scope) → inner ≡ w
 bound_back binds sc inner is = ap (left_to (length sc.variables)) is ∙ grown_left sc (with_bound binds sc)
     (bound_grown binds sc)
 
-ok_same : {A : Type 0} (x y : A) → ◌≡◌ {A = Judged A} (Ok x) (Ok y) → x ≡ y
-ok_same x y h = cc
-
 no_scope : (f : StatementFault) (inner : Scope) → ◌≡◌ {A = Judged Scope} (Err f) (Ok inner) → ⊥
 no_scope f inner h = cc
 
@@ -352,7 +350,7 @@ scope_made : (at : Pos) (name : Bytes) (judged : Noting (Bytes × Meaning)) (sc 
     closed_in (left_to (length sc.variables) inner) ≡ sc
 scope_made at name (Ok y) sc inner h =
     ap (λ (s : Scope). closed_in (left_to (length sc.variables) s))
-    (sym (ok_same (with_reference name y.0 y.1 sc) inner h)) ∙ reference_back name y.0 y.1 sc
+    (sym (judged_is (with_reference name y.0 y.1 sc) inner h)) ∙ reference_back name y.0 y.1 sc
 scope_made at name (Err f) sc inner h = absurd (no_scope (refusals.fault_at at f) inner h)
 
 -- behind the block of a borrow statement with a written type that was judged
@@ -365,7 +363,7 @@ lent_made : (at : Pos) (name region : Bytes) (made : Meaning → Meaning) (judge
     ≡ Ok inner → closed_in (left_to (length sc.variables) inner) ≡ sc
 lent_made at name region made (Ok of) sc inner h =
     ap (λ (s : Scope). closed_in (left_to (length sc.variables) s))
-    (sym (ok_same (with_reference name region (made of) sc) inner h)) ∙ reference_back name region (made of)
+    (sym (judged_is (with_reference name region (made of) sc) inner h)) ∙ reference_back name region (made of)
     sc
 lent_made at name region made (Err f) sc inner h = absurd (no_scope (refusals.fault_at at f) inner h)
 

@@ -6,6 +6,8 @@ use Rattle.std.specs.Option.{option_map, option_or}
 use Rattle.au_base.specs.declared.limits.Limit.{Limit as Passed}
 use Rattle.au_base.specs.declared.places.Pos.{Pos}
 use Rattle.au_base.specs.Outside.{Files}
+use Rattle.au_base.proofs.BoolLemmas.{never_both}
+use Rattle.au_base.proofs.OptionLemmas.{or_first, or_second}
 use Rattle.au_classes.specs.declared.faults.ClassFault.TheVariants as classes
 use Rattle.au_classes.specs.Faults.{instance_fault}
 use Rattle.au_classes.specs.Good.{InstancesAreGood}
@@ -60,7 +62,7 @@ use Rattle.au_outcomes.proofs.FetchLemmas.{few_had, files_few}
 use Rattle.au_outcomes.proofs.HaltLemmas.{are_read_same, first_halts_or_read}
 use Rattle.au_outcomes.proofs.FaultLemmas as causes
 use Rattle.au_outcomes.proofs.FaultLemmas.{judged_none, of_declarations, of_imports, of_instances, of_lives, of_modules}
-use Rattle.au_outcomes.proofs.FaultLemmas.{of_types, or_first, or_second, or_some}
+use Rattle.au_outcomes.proofs.FaultLemmas.{of_types, or_some}
 use Rattle.au_outcomes.proofs.JudgeLemmas.{bodies_good, modules_are, program_is}
 use Rattle.au_outcomes.proofs.NameLemmas.{files_same, first_or_files, many_or_few}
 use Rattle.au_outcomes.proofs.BytesLemmas.{bytes_found}
@@ -194,10 +196,6 @@ judged_accepted files program good =
 
 -- ---- what comes before, and what comes behind
 
-pub not_both : {T : Type 0} (b : Bool) → b ≡ true → b ≡ false → T
-not_both true h k = cc
-not_both false h k = cc
-
 halts_before : (file : ℕ) (bytes : List ℕ) (x : Outcome) → Halts file bytes x → is_behind x ≡ false
 halts_before file bytes (outcome.Passes limit) h = refl
 halts_before file bytes (outcome.Refused (refusal.Byte at)) h = refl
@@ -323,7 +321,7 @@ comes_asked aim files names all reads x good h = elim h [
 read_behind : (aim : Aim) (reads : List ReadFile) (x : Outcome) → ReadsCome aim reads x → is_behind x ≡ true
     → program_outcome (program_files reads) ≡ None
 read_behind aim reads x h behind = elim h [
-  | inl p ↦ not_both (is_behind x) behind (judged_before (program_files reads) x p)
+  | inl p ↦ never_both (is_behind x) behind (judged_before (program_files reads) x p)
   | inr p ↦ p.0
 ]
 
@@ -335,7 +333,7 @@ bytes_behind : (aim : Aim) (all : List (List ℕ)) (x : Outcome) → BytesCome a
     → (reads : List ReadFile) × IsReadSo all reads
 unfolding IsReadSo
 bytes_behind aim all x h behind = elim h [
-  | inl p ↦ not_both (is_behind x) behind (first_halts_before 0 all x p)
+  | inl p ↦ never_both (is_behind x) behind (first_halts_before 0 all x p)
   | inr p ↦ (p.0, (p.1, read_behind aim p.0 x p.2 behind))
 ]
 
@@ -343,9 +341,9 @@ pub behind_accepted : (aim : Aim) (files : Files) (names : List (List ℕ)) (x :
     → is_behind x ≡ true → Accepted files names
 unfolding IsReadSo
 behind_accepted aim files names x h behind = elim h [
-  | inl p ↦ not_both (is_behind x) behind (ap is_behind p.1)
+  | inl p ↦ never_both (is_behind x) behind (ap is_behind p.1)
   | inr p ↦ elim (few_had aim files names x p.1) [
-    | inl q ↦ not_both (is_behind x) behind (first_unhad_before files names x q)
+    | inl q ↦ never_both (is_behind x) behind (first_unhad_before files names x q)
     | inr q ↦
         let r = bytes_behind aim q.0 x q.2 behind in
         let good = good_judged (program_files r.0) r.1.1 in (

@@ -20,14 +20,6 @@ pub or_some : {A : Type 0} (o p : Option A) (x : A) → option_or o p ≡ Some x
 or_some None p x h = inr h
 or_some (Some y) p x h = inl h
 
-pub or_first : {A : Type 0} (o p : Option A) → option_or o p ≡ None → o ≡ None
-or_first None p h = refl
-or_first (Some x) p h = cc
-
-pub or_second : {A : Type 0} (o p : Option A) → option_or o p ≡ None → p ≡ None
-or_second None p h = h
-or_second (Some x) p h = cc
-
 -- ---- what a kind of faults comes to
 
 -- Only want of memory is no cause, and what any other fault comes to is a cause of the files, told before it is seen

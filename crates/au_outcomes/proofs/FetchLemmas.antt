@@ -1,7 +1,7 @@
 -- Files that are fetched in order.
 use Rattle.std.proofs.Common.{◌≡◌, ℕ, zero, suc, ◌+◌, ◌<◌, ◌≤◌, Bool, true, false, cond, List, [], ◌∷◌, ◌++◌}
 use Rattle.std.proofs.Common.{length, get_or, take, drop, map, Option, Some, None, IfSome, Vec, String, ap}
-use Rattle.std.proofs.Common.{◌∙◌, sym, refl, subst, arith, rules, ◌⊎◌, inl, inr, length-append}
+use Rattle.std.proofs.Common.{◌∙◌, sym, refl, subst, arith, ◌⊎◌, inl, inr, length-append}
 use Rattle.std.specs.Prelude.{position}
 use Rattle.std.specs.Global.{Global}
 use Rattle.std.specs.List.{All, position_or_len}
@@ -11,9 +11,9 @@ use Rattle.std.proofs.lemmas.Bool.{cases_lt, lt-ltb}
 use Rattle.std.proofs.lemmas.List.{drop_more, length-map, map-append, take_more, take-append-drop}
 use Rattle.std.proofs.lemmas.List.Quantifiers.{position-Some}
 use Rattle.std.proofs.lemmas.List.Sums.{fails_before_first}
-use Rattle.std.proofs.lemmas.Slice.Eq.{bytes_eq-Decides}
 use Rattle.au_base.specs.Limits.{most_file_bytes}
 use Rattle.au_base.specs.Outside.{Files}
+use Rattle.au_base.proofs.TextLemmas.{bytes_self, bytes_same}
 use Rattle.au_outcomes.specs.Halts.{AreFilesOf, AreTold, Extends, FirstUnhad, IsUnhad, StopsIn, Tells, bytes_in}
 use Rattle.au_outcomes.specs.Outcomes.{AreFiles, BytesCome, FewCome, FilesCome, IsFile, IsFirst, IsTooLarge}
 use Rattle.au_outcomes.specs.Outcomes.{file_limit, most_files}
@@ -135,12 +135,6 @@ file_at files (name ∷ names) [] i d e are h = absurd are
 file_at files (name ∷ names) (bytes ∷ all) zero d e are h = are.0
 file_at files (name ∷ names) (bytes ∷ all) (suc i) d e are h = file_at files names all i d e are.1 (omega arith)
 
-same_bytes : (a b : List ℕ) → bytes_eq a b ≡ true → a ≡ b
-same_bytes a b h = search (rules, bytes_eq-Decides)
-
-own_bytes : (a : List ℕ) → bytes_eq a a ≡ true
-own_bytes a = search (rules, bytes_eq-Decides)
-
 -- whether a text is this name
 abbrev is_name : List ℕ → String Global → Bool
 is_name name = λ one. bytes_eq name (string_bytes one)
@@ -153,7 +147,7 @@ found_before told [] all name bytes i e is same = λ files known are. cc
 found_before told (first ∷ before) all name bytes i e is same = λ files known are.
     let at = position-Some (is_name name) (first ∷ before) i first is in
     let named : name ≡ string_bytes (get_or (first ∷ before) i first) =
-    same_bytes name (string_bytes (get_or (first ∷ before) i first)) at.1 in
+    bytes_same name (string_bytes (get_or (first ∷ before) i first)) at.1 in
     let file = file_at files (first ∷ before) all i first e are at.0 in (
       files,
       known,
@@ -182,7 +176,7 @@ put files name found = λ one. cond (bytes_eq name one) found (files one)
 
 put_same : (files : Files) (name : List ℕ) (found : Option (List ℕ)) → put files name found name ≡ found
 unfolding put
-put_same files name found = ap (λ b. cond b found (files name)) (own_bytes name)
+put_same files name found = ap (λ b. cond b found (files name)) (bytes_self name)
 
 put_kept : (files : Files) (name : List ℕ) (found : Option (List ℕ)) (before : List (String Global))
     (all : List (Vec ℕ Global)) → All (λ one. is_name name one ≡ false) before →

@@ -1,6 +1,7 @@
 -- What the loop over the parts of a module's name keeps: what was read stands before what is still read.
 use Rattle.std.proofs.Common.{◌≡◌, ℕ, suc, ◌+◌, ◌<◌, ◌≤◌, arith, true, false, nat_le, List, [], ◌∷◌, ◌++◌}
 use Rattle.std.proofs.Common.{length, drop, Ok, Err, sym, ap, ◌∙◌}
+use Rattle.std.proofs.lemmas.Bool.{cond-true, cond-false}
 use Rattle.au_base.specs.declared.tokens.Sign.TheVariants.{Dot}
 use Rattle.au_base.specs.declared.tokens.Token.{Token}
 use Rattle.au_base.specs.declared.tokens.What.TheVariants.{Sign}
@@ -9,7 +10,6 @@ use Rattle.au_syntax.specs.Plain.{Bytes}
 use Rattle.au_read_expressions.specs.declared.faults.Fault.TheVariants.{Passed}
 use Rattle.au_read_expressions.specs.Bounds.{Bounds, bytes_limit}
 use Rattle.au_read_expressions.specs.Reading.{Read, ◌>>=◌, begins_with, read_of, before_all, name_at}
-use Rattle.au_read_expressions.proofs.Steps.{when_true, when_false}
 use Rattle.au_read_expressions.proofs.Loops.{with_front, one_more}
 use Rattle.au_parser.specs.ModuleReading.{after_name, name_step, names_within, bytes_with}
 
@@ -39,8 +39,8 @@ module _ (b : Bounds) (read : List (Placed Bytes)) where
       ≡ with_front (read ++ x ∷ []) (names_within b j (bytes + 1) (drop 1 next))
   names_on x k j used bytes rest next is one sum fits more =
       name_then x k j used bytes rest next is one sum
-      ∙ ap (with_front read) (when_true (nat_le bytes b.bytes) _ _ fits)
-      ∙ ap (with_front read) (when_true (begins_with (Sign Dot) next) (further x j bytes next)
+      ∙ ap (with_front read) (cond-true (nat_le bytes b.bytes) _ _ fits)
+      ∙ ap (with_front read) (cond-true (begins_with (Sign Dot) next) (further x j bytes next)
       (read_of (x ∷ []) next) more)
       ∙ one_more read x (names_within b j (bytes + 1) (drop 1 next))
 
@@ -49,8 +49,8 @@ module _ (b : Bounds) (read : List (Placed Bytes)) where
       → begins_with (Sign Dot) next ≡ false → with_front read (names_within b k used rest) ≡ Ok (read ++ x ∷ [], next)
   names_end x k j used bytes rest next is one sum fits last =
       name_then x k j used bytes rest next is one sum
-      ∙ ap (with_front read) (when_true (nat_le bytes b.bytes) _ _ fits)
-      ∙ ap (with_front read) (when_false (begins_with (Sign Dot) next) (further x j bytes next)
+      ∙ ap (with_front read) (cond-true (nat_le bytes b.bytes) _ _ fits)
+      ∙ ap (with_front read) (cond-false (begins_with (Sign Dot) next) (further x j bytes next)
       (read_of (x ∷ []) next) last)
 
   pub names_pass : (x : Placed Bytes) (k j used bytes : ℕ) (rest next : List Token) → k ≡ suc j →
@@ -58,4 +58,4 @@ module _ (b : Bounds) (read : List (Placed Bytes)) where
       → with_front read (names_within b k used rest) ≡ Err (Passed (bytes_limit b) (length next))
   names_pass x k j used bytes rest next is one sum long =
       name_then x k j used bytes rest next is one sum
-      ∙ ap (with_front read) (when_false (nat_le bytes b.bytes) _ _ long)
+      ∙ ap (with_front read) (cond-false (nat_le bytes b.bytes) _ _ long)

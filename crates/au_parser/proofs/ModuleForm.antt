@@ -2,7 +2,7 @@
 use Rattle.std.proofs.Common.{◌≡◌, ◌<◌, ◌≤◌, Bool, true, false, not, ◌&&◌, List, [], ◌∷◌, ◌++◌, length, map}
 use Rattle.std.proofs.Common.{drop, Option, Some, None, Ok, refl, sym, ap, ◌∙◌, subst, arith, inl, inr, ◌⊎◌}
 use Rattle.std.specs.List.{flat_map, list_all}
-use Rattle.std.proofs.lemmas.Bool.{and_parts}
+use Rattle.std.proofs.lemmas.Bool.{and_parts, not-true, cond-true, cond-false}
 use Rattle.std.proofs.lemmas.List.{append_assoc}
 use Rattle.au_base.specs.declared.limits.Limit.{Limit}
 use Rattle.au_base.specs.declared.places.Pos.{Pos}
@@ -11,6 +11,7 @@ use Rattle.au_base.specs.declared.tokens.Sign.TheVariants.{LeftParenthesis, Righ
 use Rattle.au_base.specs.declared.tokens.Token.{Token}
 use Rattle.au_base.specs.declared.tokens.What.{What}
 use Rattle.au_base.specs.declared.tokens.What.TheVariants.{Word, Sign}
+use Rattle.au_base.proofs.BoolLemmas.{cond_cases}
 use Rattle.au_syntax.specs.declared.modules.Part.{Part}
 use Rattle.au_syntax.specs.declared.modules.Part.TheVariants.{Interface, Body}
 use Rattle.au_syntax.specs.Modules.{constant, opaque_type, record_type, union_type, function, class, instance}
@@ -27,7 +28,7 @@ use Rattle.au_read_expressions.specs.Bounds.{Bounds, TreePasses, bytes_limit}
 use Rattle.au_read_expressions.specs.Reading.{Read, front, is_front, begins_with, same_what, read_of}
 use Rattle.au_read_expressions.specs.Reading.{behind_tokens, closed, pair, built, exactly}
 use Rattle.au_read_expressions.specs.Spelling.{Begins, fixed}
-use Rattle.au_read_expressions.proofs.Steps.{chosen, not_true, when_true, when_false, begins_again, same_is}
+use Rattle.au_read_expressions.proofs.Steps.{begins_again, same_is}
 use Rattle.au_read_expressions.proofs.Begins.{begins_split, begun_split, front_of}
 use Rattle.au_read_expressions.proofs.Forms.{Form, Sound, Finds, Reads, light, anything, behind_form}
 use Rattle.au_read_expressions.proofs.Forms.{behind_reads, closed_form, closed_reads, pair_form, pair_behind}
@@ -156,7 +157,7 @@ pragma_builds = record {
 pragma_sound : (ts rest : List Token) (x : Option Pos) → pragma_at ts ≡ Ok (x, rest) →
     Sound (light pragma_words) x ts rest
 pragma_sound ts rest x e =
-    elim (chosen (begins_with (Word KwPragma) ts) (built pragma_of (exactly pragma_whats) ts)
+    elim (cond_cases (begins_with (Word KwPragma) ts) (built pragma_of (exactly pragma_whats) ts)
     (read_of None ts) (read_of x rest) e) [
       | inl w ↦ built_sound pragma_exactly (light pragma_words) anything (exactly pragma_whats)
           (exactly_reads pragma_whats) pragma_of pragma_builds ts rest x w.1
@@ -167,14 +168,14 @@ pragma_found : (x : Option Pos) (ts rest : List Token) → Begins (pragma_words 
     ends_pragma (front rest) ≡ true → Finds (light pragma_words) x rest (pragma_at ts)
 pragma_found None ts rest h good ended =
     let none : begins_with (Word KwPragma) ts ≡ false = ap (begins_with (Word KwPragma)) h
-    ∙ not_true (begins_with (Word KwPragma) rest) ended in
-    inl (when_false (begins_with (Word KwPragma) ts) (built pragma_of (exactly pragma_whats) ts)
+    ∙ not-true (begins_with (Word KwPragma) rest) ended in
+    inl (cond-false (begins_with (Word KwPragma) ts) (built pragma_of (exactly pragma_whats) ts)
     (read_of None ts) none ∙ ap (λ r. read_of None r) h)
 pragma_found (Some at) ts rest h good ended =
     let first : begins_with (Word KwPragma) ts ≡ true =
     begins_again (Word KwPragma) ts (front_of (pragma_words (Some at)) ts rest (omega arith) h) in
     subst (Finds (light pragma_words) (Some at) rest)
-    (sym (when_true (begins_with (Word KwPragma) ts) (built pragma_of (exactly pragma_whats) ts)
+    (sym (cond-true (begins_with (Word KwPragma) ts) (built pragma_of (exactly pragma_whats) ts)
     (read_of None ts) first))
     (built_found pragma_exactly (light pragma_words) anything (exactly pragma_whats)
     (exactly_reads pragma_whats) pragma_of pragma_builds at tt ts rest h refl refl)

@@ -3,12 +3,13 @@ use Rattle.std.proofs.Common.{◌≡◌, ℕ, zero, suc, ◌+◌, ◌<◌, ◌�
 use Rattle.std.proofs.Common.{[], ◌∷◌, ◌++◌, length, drop, Option, Ok, Err, refl, sym, ap, subst, arith, inl}
 use Rattle.std.proofs.Common.{inr, ◌⊎◌, length-append}
 use Rattle.std.specs.List.{flat_map}
-use Rattle.std.proofs.lemmas.Bool.{leb-true, leb-false}
+use Rattle.std.proofs.lemmas.Bool.{leb-true, leb-false, not-true, cond-true, cond-false}
 use Rattle.std.proofs.lemmas.List.{append-nil}
 use Rattle.au_base.specs.declared.tokens.Sign.TheVariants.{Dot}
 use Rattle.au_base.specs.declared.tokens.Token.{Token}
 use Rattle.au_base.specs.declared.tokens.What.{What}
 use Rattle.au_base.specs.declared.tokens.What.TheVariants.{Sign}
+use Rattle.au_base.proofs.BoolLemmas.{cond_cases}
 use Rattle.au_syntax.specs.Names.{Placed}
 use Rattle.au_syntax.specs.Plain.{Bytes}
 use Rattle.au_syntax.specs.Forms.{some}
@@ -18,7 +19,7 @@ use Rattle.au_read_expressions.specs.declared.faults.Fault.TheVariants.{Passed}
 use Rattle.au_read_expressions.specs.Bounds.{Bounds, bytes_limit}
 use Rattle.au_read_expressions.specs.Reading.{Read, ◌>>=◌, front, is_front, begins_with, read_of, name_at, before_all}
 use Rattle.au_read_expressions.specs.Spelling.{Begins, fixed}
-use Rattle.au_read_expressions.proofs.Steps.{not_read, bind_ok, chosen, not_true, when_true, when_false}
+use Rattle.au_read_expressions.proofs.Steps.{not_read, bind_ok}
 use Rattle.au_read_expressions.proofs.Steps.{begins_is, begins_again}
 use Rattle.au_read_expressions.proofs.Begins.{begins_split, begins_join, begins_shorter, front_of}
 use Rattle.au_read_expressions.proofs.Forms.{Form, Sound, Finds, Reads, finds_on, sound_of}
@@ -102,12 +103,12 @@ module _ (b : Bounds) where
       let mid : List Token = o.0.1 in
       let s = name_reads.sound ts mid x o.1 in
       let bytes : ℕ = used + length x.name in
-      elim (chosen (nat_le bytes b.bytes)
+      elim (cond_cases (nat_le bytes b.bytes)
       (cond (begins_with (Sign Dot) mid) (others (bytes + 1) (drop 1 mid) >>= before_all x)
       (read_of (x ∷ []) mid)) (Err (Passed (bytes_limit b) (length mid))) (read_of xs rest) o.2) [
         | inl w ↦
             let small : bytes ≤ b.bytes = leb-true bytes b.bytes w.0 in
-            elim (chosen (begins_with (Sign Dot) mid) (others (bytes + 1) (drop 1 mid) >>= before_all x)
+            elim (cond_cases (begins_with (Sign Dot) mid) (others (bytes + 1) (drop 1 mid) >>= before_all x)
             (read_of (x ∷ []) mid) (read_of xs rest) w.1) [
               | inl v ↦
                   let c = bind_ok (others (bytes + 1) (drop 1 mid)) (before_all x) (xs, rest) v.1 in
@@ -137,12 +138,12 @@ module _ (b : Bounds) where
       (read_of (x ∷ []) mid) in
       elim (le_or bytes b.bytes) [
         | inl w ↦ subst (Finds (names_form_with b used) (x ∷ xs) rest)
-            (sym (when_true (nat_le bytes b.bytes) further (Err (Passed (bytes_limit b) (length mid))) w.0))
+            (sym (cond-true (nat_le bytes b.bytes) further (Err (Passed (bytes_limit b) (length mid))) w.0))
             (on w.1)
         | inr w ↦ inr (
           bytes_limit b,
           length mid,
-          when_false (nat_le bytes b.bytes) further
+          cond-false (nat_le bytes b.bytes) further
               (Err (Passed (bytes_limit b) (length mid))) w.0,
           (omega (arith, w.1, joined_least x xs), refl),
         )
@@ -164,9 +165,9 @@ module _ (b : Bounds) where
       (name_reads.found x ts rest (subst (λ ws. Begins ws ts rest) (append-nil (name_words x)) h) refl refl)
       (λ l p. absurd p)
       (step_found others used x [] rest rest
-      (λ small. inl (when_false (begins_with (Sign Dot) rest)
+      (λ small. inl (cond-false (begins_with (Sign Dot) rest)
       (others (used + length x.name + 1) (drop 1 rest) >>= before_all x) (read_of (x ∷ []) rest)
-      (not_true (begins_with (Sign Dot) rest) ended))))
+      (not-true (begins_with (Sign Dot) rest) ended))))
   names_found (x ∷ y ∷ ys) (suc k) used ts rest short h good ended =
       let others = names_within b k in
       let s = begins_split (name_words x) (fixed (Sign Dot ∷ []) ++ dotted (y ∷ ys)) ts rest h in
@@ -186,7 +187,7 @@ module _ (b : Bounds) where
       (λ l p. absurd p)
       (step_found others used x (y ∷ ys) s.0 rest (λ fits.
       subst (Finds (names_form_with b used) (x ∷ y ∷ ys) rest)
-      (sym (when_true (begins_with (Sign Dot) s.0) (others (bytes + 1) (drop 1 s.0) >>= before_all x)
+      (sym (cond-true (begins_with (Sign Dot) s.0) (others (bytes + 1) (drop 1 s.0) >>= before_all x)
       (read_of (x ∷ []) s.0) there)) (
       finds_on (names_form_with b (bytes + 1)) (names_form_with b used) (y ∷ ys) rest
       (others (bytes + 1) (drop 1 s.0)) (before_all x) (x ∷ y ∷ ys) rest

@@ -2,7 +2,7 @@
 use Rattle.std.proofs.Common.{◌≡◌, ◌<◌, Bool, true, false, not, ◌&&◌, List, [], ◌∷◌, length, map, Option}
 use Rattle.std.proofs.Common.{Some, None, Ok, refl, sym, ap, ◌∙◌, subst, arith, inl, inr}
 use Rattle.std.specs.List.{flat_map, list_all}
-use Rattle.std.proofs.lemmas.Bool.{and_from}
+use Rattle.std.proofs.lemmas.Bool.{and_from, not-true, cond-true, cond-false}
 use Rattle.au_base.specs.declared.limits.Limit.{Limit}
 use Rattle.au_base.specs.declared.places.Pos.{Pos}
 use Rattle.au_base.specs.declared.tokens.Keyword.TheVariants.{KwAs, KwEnd, KwGeneric, KwFree, KwLinear}
@@ -13,6 +13,8 @@ use Rattle.au_base.specs.declared.tokens.Sign.TheVariants.{RightBracket, Comma, 
 use Rattle.au_base.specs.declared.tokens.Token.{Token}
 use Rattle.au_base.specs.declared.tokens.What.{What}
 use Rattle.au_base.specs.declared.tokens.What.TheVariants.{Word, Sign}
+use Rattle.au_base.proofs.BoolLemmas.{cond_cases, and_true}
+use Rattle.au_base.proofs.ListLemmas.{all_good}
 use Rattle.au_syntax.specs.declared.declarations.Universe.{Universe}
 use Rattle.au_syntax.specs.declared.declarations.Universe.TheVariants as universe
 use Rattle.au_syntax.specs.Modules.{InUniverse, Constrained}
@@ -28,7 +30,7 @@ use Rattle.au_read_expressions.specs.Bounds.{Bounds}
 use Rattle.au_read_expressions.specs.Reading.{Read, pair, front, is_front, begins_with, same_what}
 use Rattle.au_read_expressions.specs.Reading.{value_or_no, read_of, name_at, exactly, optional}
 use Rattle.au_read_expressions.specs.Spelling.{Begins, fixed}
-use Rattle.au_read_expressions.proofs.Steps.{ok_same, chosen, not_true, when_true, when_false, begins_again}
+use Rattle.au_read_expressions.proofs.Steps.{ok_same, begins_again}
 use Rattle.au_read_expressions.proofs.Begins.{front_of}
 use Rattle.au_read_expressions.proofs.Forms.{Form, Sound, Finds, Reads, light, anything, pair_form}
 use Rattle.au_read_expressions.proofs.Forms.{pair_after, sound_of, shaped_reads, Builds, built_sound}
@@ -121,17 +123,9 @@ pub none_typed : {A : Type 0} (xs : List A) → flat_map (λ (x : A). no_types x
 none_typed [] = refl
 none_typed (x ∷ xs) = none_typed xs
 
-pub and_true : (c : Bool) → (c && true) ≡ c
-and_true true = refl
-and_true false = refl
-
 pub some_alone : (c d : Bool) → d ≡ true → c ≡ (c && d)
 some_alone c true e = sym (and_true c)
 some_alone c false e = absurd cc
-
-pub all_good : {A : Type 0} (xs : List A) → list_all (λ (x : A). true) xs ≡ true
-all_good [] = refl
-all_good (x ∷ xs) = and_from true (list_all (λ y. true) xs) refl (all_good xs)
 
 -- ---- a universe
 
@@ -278,7 +272,8 @@ module _ (b : Bounds) where
   generics_sound : (ts rest : List Token) (xs : List (Constrained Bytes)) → generics_at ts ≡ Ok (xs, rest) →
       Sound (form_of b (plain generic_words)) xs ts rest
   generics_sound ts rest xs e =
-      elim (chosen (begins_with (Word KwGeneric) ts) (generic_list.read ts) (read_of [] ts) (read_of xs rest) e) [
+      elim (cond_cases (begins_with (Word KwGeneric) ts) (generic_list.read ts) (read_of [] ts)
+      (read_of xs rest) e) [
         | inl w ↦ generics_from xs ts rest (generic_list.reads.sound ts rest xs w.1)
         | inr w ↦ sound_of (form_of b (plain generic_words)) [] xs ts ts rest
             (record { spelled = refl; good = refl; fits = (omega arith, tt) }) w.1
@@ -292,14 +287,14 @@ module _ (b : Bounds) where
       → Finds (form_of b (plain generic_words)) xs rest (generics_at ts)
   generics_found [] ts rest h good ended =
       let none : begins_with (Word KwGeneric) ts ≡ false = ap (begins_with (Word KwGeneric)) h
-      ∙ not_true (begins_with (Word KwGeneric) rest) ended in
-      inl (when_false (begins_with (Word KwGeneric) ts) (generic_list.read ts) (read_of [] ts) none
+      ∙ not-true (begins_with (Word KwGeneric) rest) ended in
+      inl (cond-false (begins_with (Word KwGeneric) ts) (generic_list.read ts) (read_of [] ts) none
       ∙ ap (λ r. read_of [] r) h)
   generics_found (x ∷ xs) ts rest h good ended =
       let first : begins_with (Word KwGeneric) ts ≡ true =
       begins_again (Word KwGeneric) ts (front_of (generic_words (x ∷ xs)) ts rest (omega arith) h) in
       subst (Finds (form_of b (plain generic_words)) (x ∷ xs) rest)
-      (sym (when_true (begins_with (Word KwGeneric) ts) (generic_list.read ts) (read_of [] ts) first))
+      (sym (cond-true (begins_with (Word KwGeneric) ts) (generic_list.read ts) (read_of [] ts) first))
       (generic_list.reads.found (x ∷ xs) ts rest h refl refl)
 
   pub generics_reads : Reads (form_of b (plain generic_words)) ends_generics generics_at

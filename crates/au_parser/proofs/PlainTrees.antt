@@ -5,6 +5,7 @@ use Rattle.std.proofs.lemmas.Bool.{and_from}
 use Rattle.au_syntax.specs.contracts.parsed.ParsedPhase.TheImpl.{ghosts as parsed}
 use Rattle.au_syntax.specs.declared.modules.Module.{Module}
 use Rattle.au_base.specs.declared.names.Name.{Name}
+use Rattle.au_base.proofs.ListLemmas.{map_same}
 use Rattle.au_syntax.specs.declared.parsed.Parsed.{Parsed}
 use Rattle.au_syntax.specs.Names.{Placed, Renaming}
 use Rattle.au_syntax.specs.Types.{Labelled, Bound}
@@ -30,11 +31,6 @@ use Rattle.au_syntax.specs.Notes.{notes_of_statement, notes_of_statements, notes
 use Rattle.au_syntax.specs.Notes.{notes_of_method, notes_of_declaration, notes_of_module}
 use Rattle.au_syntax.specs.Files.{says, is_allowed}
 use Rattle.au_syntax.specs.Views.{module_tree}
-
--- a list of which each item stays the same
-map_same : {A : Type 0} (f : A → A) → ((x : A) → f x ≡ x) → (xs : List A) → map f xs ≡ xs
-map_same f same [] = refl
-map_same f same (x ∷ xs) = λ i. same x i ∷ map_same f same xs i
 
 -- a list of which each item passes
 all_pass : {A : Type 0} (test : A → Bool) → ((x : A) → test x ≡ true) → (xs : List A) → list_all test xs ≡ true

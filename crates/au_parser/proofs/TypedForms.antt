@@ -2,7 +2,7 @@
 use Rattle.std.proofs.Common.{◌≡◌, ◌<◌, Bool, true, false, not, ◌&&◌, List, [], ◌∷◌, ◌++◌, length, map}
 use Rattle.std.proofs.Common.{Option, Some, None, Ok, refl, sym, ap, ◌∙◌, subst, arith, inl, inr}
 use Rattle.std.specs.List.{flat_map, list_all}
-use Rattle.std.proofs.lemmas.Bool.{and_parts}
+use Rattle.std.proofs.lemmas.Bool.{and_parts, cond-true, cond-false}
 use Rattle.std.proofs.lemmas.List.{append-nil, append_assoc}
 use Rattle.au_base.specs.declared.places.Pos.{Pos}
 use Rattle.au_base.specs.declared.tokens.Keyword.TheVariants.{KwIs, KwCase, KwInstance, KwMethod}
@@ -10,6 +10,8 @@ use Rattle.au_base.specs.declared.tokens.Sign.TheVariants.{LeftParenthesis, Righ
 use Rattle.au_base.specs.declared.tokens.Token.{Token}
 use Rattle.au_base.specs.declared.tokens.What.{What}
 use Rattle.au_base.specs.declared.tokens.What.TheVariants.{Word, Sign}
+use Rattle.au_base.proofs.BoolLemmas.{cond_cases, and_true}
+use Rattle.au_base.proofs.ListLemmas.{all_good}
 use Rattle.au_syntax.specs.Modules.{Header, Variant}
 use Rattle.au_syntax.specs.Names.{Placed}
 use Rattle.au_syntax.specs.Plain.{Bytes, PlainExpression, PlainStatements, PlainMethod}
@@ -24,7 +26,7 @@ use Rattle.au_syntax.specs.Words.{method_words, instance_words}
 use Rattle.au_read_expressions.specs.Bounds.{Bounds}
 use Rattle.au_read_expressions.specs.Reading.{front, is_front, begins_with, read_of, exactly, shaped, listed}
 use Rattle.au_read_expressions.specs.Spelling.{Begins, fixed}
-use Rattle.au_read_expressions.proofs.Steps.{chosen, when_true, when_false, same_is}
+use Rattle.au_read_expressions.proofs.Steps.{same_is}
 use Rattle.au_read_expressions.proofs.Begins.{begins_split, front_of}
 use Rattle.au_read_expressions.proofs.Forms.{Sound, Finds, Reads, anything, sound_of, shaped_sound, shaped_found}
 use Rattle.au_read_expressions.proofs.Single.{exactly_reads}
@@ -40,7 +42,7 @@ use Rattle.au_parser.proofs.Known.{of_light, then_behind, then_closed, both, bot
 use Rattle.au_parser.proofs.Known.{shapes, all_of, list_of, ends_list}
 use Rattle.au_read_expressions.proofs.TypeForm.{type_form}
 use Rattle.au_parser.proofs.Lower.{Lower}
-use Rattle.au_parser.proofs.PartForms.{none_deep, all_good, and_true, name_known, end_known}
+use Rattle.au_parser.proofs.PartForms.{none_deep, name_known, end_known}
 
 -- ---- parts with commas between, or none
 
@@ -69,7 +71,7 @@ module _ (b : Bounds) {A : Type 0} (k : Known b A)
   maybe_sound : (ts rest : List Token) (xs : List A) → maybe_listed close k.read ts ≡ Ok (xs, rest) →
       Sound (form_of b maybe_said) xs ts rest
   maybe_sound ts rest xs e =
-      elim (chosen (begins_with close ts) (read_of [] ts) (listed k.read ts) (read_of xs rest) e) [
+      elim (cond_cases (begins_with close ts) (read_of [] ts) (listed k.read ts) (read_of xs rest) e) [
         | inl w ↦ sound_of (form_of b maybe_said) [] xs ts ts rest
             (record { spelled = refl; good = refl; fits = (omega arith, tt) }) w.1
         | inr w ↦ maybe_some xs ts rest (listing.reads.sound ts rest xs w.1)
@@ -80,12 +82,13 @@ module _ (b : Bounds) {A : Type 0} (k : Known b A)
       → Finds (form_of b maybe_said) xs rest (maybe_listed close k.read ts)
   maybe_found [] ts rest h good ended =
       let first : begins_with close ts ≡ true = ap (begins_with close) h ∙ ended in
-      inl (when_true (begins_with close ts) (read_of [] ts) (listed k.read ts) first ∙ ap (λ r. read_of [] r) h)
+      inl (cond-true (begins_with close ts) (read_of [] ts) (listed k.read ts) first
+      ∙ ap (λ r. read_of [] r) h)
   maybe_found (x ∷ xs) ts rest h good ended =
       let s = begins_split (k.said.words x) (flat_map (λ one. words.mark Comma ++ one) (map k.said.words xs))
       ts rest h in
       subst (Finds (form_of b maybe_said) (x ∷ xs) rest)
-      (sym (when_false (begins_with close ts) (read_of [] ts) (listed k.read ts) (starts x ts s.0 s.1)))
+      (sym (cond-false (begins_with close ts) (read_of [] ts) (listed k.read ts) (starts x ts s.0 s.1)))
       (listing.reads.found (x ∷ xs) ts rest h good (closes (front rest) ended))
 
   pub maybe_reads : Reads (form_of b maybe_said) (is_front close) (maybe_listed close k.read)
@@ -339,7 +342,7 @@ module _ (b : Bounds) (low : Lower b) where
   case_sound : (ts rest : List Token) (xs : List (Labelled Bytes)) → case_fields_at b ts ≡ Ok (xs, rest) →
       Sound (form_of b case_said) xs ts rest
   case_sound ts rest xs e =
-      elim (chosen (begins_with (Sign Semicolon) ts) (shaped no_fields (exactly (Sign Semicolon ∷ [])) ts)
+      elim (cond_cases (begins_with (Sign Semicolon) ts) (shaped no_fields (exactly (Sign Semicolon ∷ [])) ts)
       (full_case.read ts) (read_of xs rest) e) [
         | inl w ↦ shaped_sound (form_of b empty_case.said) (form_of b case_said) empty_case.ends
             empty_case.read empty_case.reads no_fields (shapes b empty_case case_said no_fields empty_same) ts
@@ -354,7 +357,7 @@ module _ (b : Bounds) (low : Lower b) where
       let first : begins_with (Sign Semicolon) ts ≡ true =
       ap (is_front (Sign Semicolon)) (front_of (case_fields_words []) ts rest (omega arith) h) in
       subst (Finds (form_of b case_said) [] rest)
-      (sym (when_true (begins_with (Sign Semicolon) ts)
+      (sym (cond-true (begins_with (Sign Semicolon) ts)
       (shaped no_fields (exactly (Sign Semicolon ∷ [])) ts) (full_case.read ts) first))
       (shaped_found (form_of b empty_case.said) (form_of b case_said) empty_case.ends empty_case.read
       empty_case.reads no_fields (shapes b empty_case case_said no_fields empty_same) tt ts rest h refl
@@ -363,7 +366,7 @@ module _ (b : Bounds) (low : Lower b) where
       let first : begins_with (Sign Semicolon) ts ≡ false =
       ap (is_front (Sign Semicolon)) (front_of (case_fields_words (x ∷ xs)) ts rest (omega arith) h) in
       subst (Finds (form_of b case_said) (x ∷ xs) rest)
-      (sym (when_false (begins_with (Sign Semicolon) ts)
+      (sym (cond-false (begins_with (Sign Semicolon) ts)
       (shaped no_fields (exactly (Sign Semicolon ∷ [])) ts) (full_case.read ts) first))
       (full_case.reads.found (x ∷ xs) ts rest h refl ended)
 

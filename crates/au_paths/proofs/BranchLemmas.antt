@@ -3,6 +3,7 @@ use Rattle.std.proofs.Common.{◌≡◌, ◌≢◌, ℕ, ◌+◌, List, [], ◌�
 use Rattle.std.proofs.Common.{subst, ◌∙◌, arith, Vec, Result, Ok, Err}
 use Rattle.std.specs.Global.{Global}
 use Rattle.au_base.specs.declared.places.Pos.{Pos}
+use Rattle.au_base.proofs.ListLemmas.{next_item}
 use Rattle.au_syntax.specs.declared.phases.Phase.{Ghosts}
 use Rattle.std.proofs.lemmas.List.{drop_all}
 use Rattle.au_syntax.specs.declared.statements.Stmt.{Stmt}
@@ -28,7 +29,6 @@ use Rattle.au_paths.specs.declared.reaches.Fork.{Fork}
 use Rattle.au_paths.specs.Seen.{seen_expression, seen_statement, seen_statements, seen_block, seen_binds}
 use Rattle.au_paths.specs.Seen.{seen_branches, seen_arms}
 use Rattle.au_paths.specs.Standing.{reach_of, Stops, Gives, Forks, Branches, walk_each, walk_case}
-use Rattle.au_paths.proofs.SeenLemmas.{next_item}
 
 -- a walk that ends early ends what follows
 pub stops_on : (e : Stop) (w : Walk) (k : Reach → Walk) → Stops e w → Stops e (w >>= k)

@@ -4,13 +4,13 @@ use Rattle.std.proofs.Common.{refl, sym, ap, ◌∙◌, drop, ℕ, ◌+◌, ◌<
 use Rattle.std.proofs.lemmas.List.{map-append, get_or_default}
 use Rattle.std.proofs.lemmas.Grind.{reverse_onto}
 use Rattle.std.specs.Str.{bytes_eq}
+use Rattle.au_base.proofs.ListLemmas.{next_item}
 use Rattle.au_syntax.specs.declared.types.Access.{Access}
 use Rattle.au_syntax.specs.Plain.{Bytes}
 use Rattle.au_lives.specs.Lives.{Hold, hidden, held_from}
 use Rattle.au_lives.specs.Paths.{Around, lent, declared}
 use Rattle.au_paths.specs.declared.borrows.OpenBorrow.{OpenBorrow}
 use Rattle.au_paths.specs.Lendings.{Lending, lending, around, held_within, lending_said, innermost_first}
-use Rattle.au_paths.proofs.SeenLemmas.{next_item}
 
 twice : (b c : Bool) → (if b then hidden else if c then hidden else hidden) ≡ hidden
 twice true c = refl

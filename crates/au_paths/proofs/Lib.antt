@@ -1,4 +1,2 @@
-pub mod SeenLemmas
 pub mod BranchLemmas
-pub mod SizeLemmas
 pub mod LendingLemmas

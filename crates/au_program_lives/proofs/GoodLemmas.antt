@@ -1,6 +1,7 @@
 -- A program is refused for nothing exactly where every variable has a good life.
 use Rattle.std.proofs.Common.{◌≡◌, List, Option, None, Some, refl, sym, ap}
 use Rattle.std.specs.Option.{option_map}
+use Rattle.au_base.proofs.OptionLemmas.{map_none}
 use Rattle.au_formed.specs.Text.{text}
 use Rattle.au_lives.specs.Refusals.{first_refused}
 use Rattle.au_lives.proofs.RefusalLemmas.{all_good, none_refused, some_refused}
@@ -17,10 +18,6 @@ use Rattle.au_syntax.specs.Modules.{instance, constant_body, function_body, inst
 use Rattle.au_syntax.specs.Plain.{Bytes, PlainDeclaration, PlainStatements}
 
 -- ---- functions
-
-map_none : {A B : Type 0} (f : A → B) (o : Option A) → option_map f o ≡ None → o ≡ None
-map_none f None h = refl
-map_none f (Some x) h = absurd cc
 
 map_some : {A B : Type 0} (f : A → B) (o : Option A) (y : B) → option_map f o ≡ Some y → (x : A)
     × (o ≡ Some x) × (y ≡ f x)

@@ -1,9 +1,10 @@
 -- What is put behind others, item by item.
-use Rattle.std.proofs.Common.{◌≡◌, ℕ, suc, ◌+◌, ◌<◌, ◌≤◌, List, [], ◌∷◌, ◌++◌, append_assoc, length, drop}
-use Rattle.std.proofs.Common.{drop-cons, get_or, sym, ap, subst, ◌∙◌, arith}
+use Rattle.std.proofs.Common.{◌≡◌, ℕ, ◌+◌, ◌<◌, ◌≤◌, List, [], ◌∷◌, ◌++◌, append_assoc, length, drop}
+use Rattle.std.proofs.Common.{get_or, sym, ap, subst, ◌∙◌}
 use Rattle.std.proofs.lemmas.List.{append-nil, drop_all}
 use Rattle.std.specs.Prelude.{OnOk, Result}
 use Rattle.au_base.specs.declared.faults.Memory.{Memory}
+use Rattle.au_base.proofs.ListLemmas.{next_item}
 use Rattle.au_lives.specs.declared.lives.Sort.{Sort}
 use Rattle.au_program_lives.specs.Scopes.{TypeScope}
 
@@ -13,13 +14,6 @@ pub record Giving (A : Type 0) : Type 0 where
   pub one : A → List Sort
   pub step : (a : A) (rest : List A) → all (a ∷ rest) ≡ one a ++ all rest
   pub none : all [] ≡ []
-
--- an item of a list and those behind it
-next_item : {A : Type 0} (xs : List A) (i : ℕ) (a : A) → a ≡ get_or xs i a → i < length xs →
-    drop i xs ≡ a ∷ drop (i + 1) xs
-next_item xs i a is lt =
-    let e : suc i ≡ i + 1 = omega arith in
-    drop-cons xs i a lt ∙ ap (λ one. one ∷ drop (suc i) xs) (sym is) ∙ ap (λ n. a ∷ drop n xs) e
 
 -- an item is put
 pub item_put : {A : Type 0} (d : Giving A) (xs : List A) (i : ℕ) (a : A) → a ≡ get_or xs i a → i < length xs →
@@ -58,7 +52,3 @@ put_as r old new one other e h = subst (λ l. OnOk r (new ≡ old ++ l)) (sym e)
 pub at_scope : (all : TypeScope → List Sort) (x y : TypeScope) → x ≡ y → (old new : List Sort) → new ≡ old
     ++ all x → new ≡ old ++ all y
 at_scope all x y e old new h = h ∙ ap (λ s. old ++ all s) e
-
--- nothing is put
-pub nothing_put : (old all : List Sort) → all ≡ [] → old ≡ old ++ all
-nothing_put old all e = sym (ap (λ l. old ++ l) e ∙ append-nil old)

@@ -1,32 +1,9 @@
 -- Lists that agree, item by item.
-use Rattle.std.proofs.Common.{
-  ◌≡◌,
-  ℕ,
-  ◌+◌,
-  ◌<◌,
-  ◌≤◌,
-  suc,
-  Bool,
-  true,
-  false,
-  ◌&&◌,
-  List,
-  [],
-  ◌∷◌,
-  length,
-  map,
-  drop,
-  get_or,
-  refl,
-  sym,
-  ap,
-  ◌∙◌,
-  add-one,
-  drop-cons,
-  arith,
-}
+use Rattle.std.proofs.Common.{◌≡◌, ℕ, ◌+◌, ◌<◌, ◌≤◌, suc, Bool, true, false, ◌&&◌, List, [], ◌∷◌, length, map}
+use Rattle.std.proofs.Common.{drop, get_or, refl, sym, ap, ◌∙◌, arith}
 use Rattle.std.proofs.lemmas.List.{drop_all}
 use denote.Enum.Bare.{sameb}
+use Rattle.au_base.proofs.ListLemmas.{seen_left}
 use Rattle.au_syntax.specs.contracts.declarations.Universe.{the_type as universe}
 use Rattle.au_syntax.specs.declared.declarations.Universe.{Universe}
 use Rattle.au_syntax.specs.declared.declarations.Universe.TheVariants as universes
@@ -50,15 +27,6 @@ universes_same universes.Region universes.Free = refl
 universes_same universes.Region universes.Linear = refl
 universes_same universes.Region universes.AnyType = refl
 universes_same universes.Region universes.Region = refl
-
--- what is left from an item on, of a list that is seen through two views
-left : {A B C : Type 0} (p : B → C) (v : A → B) (xs : List A) (i : ℕ) (x : A)
-    → i < length xs → x ≡ get_or xs i x
-    → map p (map v (drop i xs)) ≡ p (v x) ∷ map p (map v (drop (i + 1) xs))
-left p v xs i x h here =
-    ap (λ r. map p (map v r)) (drop-cons xs i x h)
-    ∙ ap (λ y. p (v y) ∷ map p (map v (drop (suc i) xs))) (sym here)
-    ∙ ap (λ n. p (v x) ∷ map p (map v (drop n xs))) (sym (add-one i))
 
 -- nothing is left
 none_left : {A B C : Type 0} (p : B → C) (v : A → B) (xs : List A) (i : ℕ)
@@ -102,8 +70,8 @@ module _ {A B C : Type 0} (agree : C → C → Bool) (p : B → C) (v : A → B)
       && all_agree agree (map p (map v (drop (i + 1) xs))) (map p (map v (drop (i + 1) ys)))
   next xs ys i x y old h k here there =
       old.rest
-      ∙ ap (λ r. all_agree agree r (map p (map v (drop i ys)))) (left p v xs i x h here)
-      ∙ ap (λ r. all_agree agree (p (v x) ∷ map p (map v (drop (i + 1) xs))) r) (left p v ys i y k there)
+      ∙ ap (λ r. all_agree agree r (map p (map v (drop i ys)))) (seen_left p v xs i x h here)
+      ∙ ap (λ r. all_agree agree (p (v x) ∷ map p (map v (drop (i + 1) xs))) r) (seen_left p v ys i y k there)
       ∙ agree_cons (p (v x)) (p (v y)) (map p (map v (drop (i + 1) xs))) (map p (map v (drop (i + 1) ys)))
 
   -- two items more that agree

@@ -1,31 +1,10 @@
 -- The tests of the code decide what the rule on interfaces and bodies says.
-use Rattle.std.proofs.Common.{
-  ◌≡◌,
-  ◌⊎◌,
-  inl,
-  inr,
-  Bool,
-  true,
-  false,
-  ◌&&◌,
-  List,
-  [],
-  ◌∷◌,
-  Option,
-  Some,
-  None,
-  refl,
-  ap,
-  sym,
-  ◌∙◌,
-  subst,
-  true≢false,
-}
-use Rattle.std.specs.Prelude.{◌||◌}
+use Rattle.std.proofs.Common.{◌≡◌, Bool, true, false, List, [], ◌∷◌, Option, Some, None, refl}
+use Rattle.std.proofs.Common.{ap, sym, ◌∙◌, subst, true≢false}
 use Rattle.std.specs.Bool.{Decides}
-use Rattle.std.proofs.lemmas.Bool.{and_parts, and_from}
 use Rattle.std.proofs.lemmas.Option.{none-some, same_Some}
 use Rattle.std.proofs.lemmas.Slice.Eq.{bytes_eq-Decides}
+use Rattle.std.proofs.lemmas.Bool.Decides.{Decides-and, Decides-or}
 use denote.Enum.Bare.{same_true, true_same}
 use Rattle.au_syntax.specs.contracts.declarations.Universe.{the_type as universe_type}
 use Rattle.au_syntax.specs.contracts.types.Access.{the_type as access_type}
@@ -120,23 +99,9 @@ use Rattle.au_promises.specs.Wording.{
 use Rattle.au_promises.proofs.AgreeingLemmas.{universes_same}
 use Rattle.au_promises.proofs.WordingLemmas.{accesses_same}
 
--- ---- tests of two parts
+-- ---- tests that fail
 
-both_decide : {P Q : Type 0} (a b : Bool) → Decides a P → Decides b Q → Decides (a && b) (P × Q)
-both_decide a b one other = (
-  λ e. let parts = and_parts a b e in (one.0 parts.0, other.0 parts.1),
-  λ h. and_from a b (one.1 h.0) (other.1 h.1),
-)
-
-one_decides : {P Q : Type 0} (a b : Bool) → Decides a P → Decides b Q → Decides (a || b) (P ⊎ Q)
-one_decides true b one other = (λ e. inl (one.0 refl), λ h. refl)
-one_decides false b one other = (
-  λ e. inr (other.0 e),
-  λ h.
-      elim h as (λ s. b ≡ true) [ inl p ↦ absurd (true≢false (sym (one.1 p))) | inr q ↦ other.1 q ],
-)
-
-never_decides : {P : Type 0} → (P → ⊥) → Decides false P
+pub never_decides : {P : Type 0} → (P → ⊥) → Decides false P
 never_decides never = (λ e. absurd (true≢false (sym e)), λ h. absurd (never h))
 
 nothing_decides : Decides false ⊥
@@ -144,12 +109,12 @@ nothing_decides = never_decides (λ h. h)
 
 module _ {A B : Type 0} (agree : A → B → Bool) (R : A → B → Type 0) (decides : (x : A) (y : B)
     → Decides (agree x y) (R x y)) where
-  each_decides : (xs : List A) (ys : List B) → Decides (all_agree agree xs ys) (Each R xs ys)
+  pub each_decides : (xs : List A) (ys : List B) → Decides (all_agree agree xs ys) (Each R xs ys)
   unfolding all_agree
   each_decides [] [] = (λ e. tt, λ h. refl)
   each_decides [] (y ∷ ys) = nothing_decides
   each_decides (x ∷ xs) [] = nothing_decides
-  each_decides (x ∷ xs) (y ∷ ys) = both_decide (agree x y) (all_agree agree xs ys)
+  each_decides (x ∷ xs) (y ∷ ys) = Decides-and (agree x y) (all_agree agree xs ys)
       (decides x y) (each_decides xs ys)
 
 -- ---- names, universes, kinds of references, types
@@ -181,7 +146,7 @@ access_decides a b = (
       ∙ true_same access_type a b e,
 )
 
-meaning_decides : (o p : Option Meaning) → Decides (same_meaning o p) (o ≡ p)
+pub meaning_decides : (o p : Option Meaning) → Decides (same_meaning o p) (o ≡ p)
 meaning_decides (Some a) (Some b) = (
   λ e. ap Some ((same_decides a b).0 e),
   λ e. (same_decides a b).1 (same_Some a b e),
@@ -205,14 +170,14 @@ name_decides name (Some other) = (
 
 parameter_decides : (a b : InUniverse Bytes) → Decides (same_parameter a b) (SameParameter a b)
 parameter_decides a b =
-    both_decide (same_name a.name b.name) (same_universe a.universe b.universe)
+    Decides-and (same_name a.name b.name) (same_universe a.universe b.universe)
     (bytes_eq-Decides a.name.name b.name.name) (universe_decides a.universe b.universe)
 
 heading_decides : (parameters others : List (InUniverse Bytes)) (universe its : Universe)
     → Decides (same_heading parameters universe others its) (Each SameParameter parameters others
     × (universe ≡ its))
 heading_decides parameters others universe its =
-    both_decide (all_agree same_parameter parameters others) (same_universe universe its)
+    Decides-and (all_agree same_parameter parameters others) (same_universe universe its)
     (each_decides same_parameter SameParameter parameter_decides parameters others)
     (universe_decides universe its)
 
@@ -222,7 +187,7 @@ module _ (sight : Sight) where
 
   generic_decides : (a b : Constrained Bytes) → Decides (same_generic sight a b) (SameGeneric sight a b)
   generic_decides a b =
-      both_decide (same_parameter a.parameter b.parameter) (all_agree (same_class sight) a.classes b.classes)
+      Decides-and (same_parameter a.parameter b.parameter) (all_agree (same_class sight) a.classes b.classes)
       (parameter_decides a.parameter b.parameter) (each_decides (same_class sight)
       (SameClass sight) class_decides a.classes b.classes)
 
@@ -243,13 +208,13 @@ module _ (sight : Sight) where
       wording_decides : (t u : WrittenType) → Decides (same_wording sight scope other t u)
           (SameWording sight scope other t u)
       wording_decides (named a args) (named b others) =
-          both_decide (same_word sight scope other a.name b.name)
+          Decides-and (same_word sight scope other a.name b.name)
           (same_wordings sight scope other args others)
           (word_decides a.name b.name) (wordings_decide args others)
       wording_decides (reference at kind t r) (reference by its u s) =
-          let front = both_decide (same_access kind its) (same_word sight scope other r.name s.name)
+          let front = Decides-and (same_access kind its) (same_word sight scope other r.name s.name)
           (access_decides kind its) (word_decides r.name s.name) in
-          let all = both_decide (same_sign sight scope other kind r.name its s.name)
+          let all = Decides-and (same_sign sight scope other kind r.name its s.name)
           (same_wording sight scope other t u) front (wording_decides t u) in
           (λ e. let parts = all.0 e in (parts.0.0, parts.0.1, parts.1), λ h. all.1 ((h.0, h.1), h.2))
       wording_decides (named a args) (reference by its u s) = nothing_decides
@@ -261,26 +226,26 @@ module _ (sight : Sight) where
       wordings_decide no_types (types u us) = nothing_decides
       wordings_decide (types t ts) no_types = nothing_decides
       wordings_decide (types t ts) (types u us) =
-          both_decide (same_wording sight scope other t u) (same_wordings sight scope other ts us)
+          Decides-and (same_wording sight scope other t u) (same_wordings sight scope other ts us)
           (wording_decides t u) (wordings_decide ts us)
 
     written_decides : (t u : WrittenType) → Decides (same_written sight scope other t u)
         (SameWritten sight scope other t u)
     written_decides t u =
-        one_decides (same_wording sight scope other t u) (neither_means sight scope other t u)
+        Decides-or (same_wording sight scope other t u) (neither_means sight scope other t u)
         (wording_decides t u) (neither_decides (promised_type sight scope other t)
         (defined_type sight scope other u))
 
     labelled_decides : (a b : Labelled Bytes) → Decides (same_labelled sight scope other a b)
         (SameLabelled sight scope other a b)
     labelled_decides a b =
-        both_decide (same_name a.name b.name) (same_type sight scope a.of other b.of)
+        Decides-and (same_name a.name b.name) (same_type sight scope a.of other b.of)
         (bytes_eq-Decides a.name.name b.name.name) (type_decides a.of b.of)
 
     signature_decides : (h k : Header Bytes) → Decides (same_signature sight scope h other k)
         (SameSignature sight scope other h k)
     signature_decides h k =
-        both_decide (all_agree (same_labelled sight scope other) h.parameters k.parameters)
+        Decides-and (all_agree (same_labelled sight scope other) h.parameters k.parameters)
         (same_type sight scope h.result other k.result)
         (each_decides (same_labelled sight scope other) (SameLabelled sight scope other)
         labelled_decides h.parameters k.parameters) (type_decides h.result k.result)
@@ -290,7 +255,7 @@ module _ (sight : Sight) where
   instance_decides : (scope : List Parameter) (name : Placed Bytes) (t : WrittenType) (d : PlainDeclaration)
       → Decides (instance_defined sight scope name t d) (DefinesInstance sight scope name t d)
   instance_decides scope name t (instance_body at generics other u methods) =
-      both_decide (same_class sight name other) (same_written sight scope (scope_of generics) t u)
+      Decides-and (same_class sight name other) (same_written sight scope (scope_of generics) t u)
       (class_decides name other) (written_decides scope (scope_of generics) t u)
   instance_decides scope name t d = nothing_decides
 
@@ -318,7 +283,7 @@ module _ (sight : Sight) where
   function_decides : (generics : List (Constrained Bytes)) (header : Header Bytes) (d : PlainDeclaration)
       → Decides (keeps_function sight generics header d) (OfSignature sight generics header d)
   function_decides generics header (function_body at others its body stop) =
-      both_decide (all_agree (same_generic sight) generics others)
+      Decides-and (all_agree (same_generic sight) generics others)
       (same_signature sight (scope_of generics) header (scope_of others) its)
       (generics_decide generics others) (signature_decides (scope_of generics) (scope_of others) header its)
   function_decides generics header d = nothing_decides

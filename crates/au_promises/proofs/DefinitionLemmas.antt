@@ -1,42 +1,7 @@
 -- Where the definitions of a body stand, and which is found.
-use Rattle.std.proofs.Common.{
-  ◌≡◌,
-  ℕ,
-  ◌+◌,
-  ◌<◌,
-  ◌≤◌,
-  ◌⊎◌,
-  inl,
-  inr,
-  suc,
-  Bool,
-  true,
-  false,
-  cond,
-  List,
-  [],
-  ◌∷◌,
-  ◌++◌,
-  length,
-  map,
-  find,
-  take,
-  drop,
-  get_or,
-  Option,
-  None,
-  Some,
-  is_some,
-  refl,
-  sym,
-  ap,
-  ◌∙◌,
-  subst,
-  true≢false,
-  add-one,
-  drop-cons,
-  arith,
-}
+use Rattle.std.proofs.Common.{◌≡◌, ℕ, ◌+◌, ◌<◌, ◌≤◌, ◌⊎◌, inl, inr, Bool, true, false, cond, List, []}
+use Rattle.std.proofs.Common.{◌∷◌, ◌++◌, length, map, find, take, get_or, Option, None, Some, is_some, refl}
+use Rattle.std.proofs.Common.{sym, ap, ◌∙◌, subst, true≢false, arith}
 use Rattle.std.specs.Prelude.{◌||◌, min, position, slice_get}
 use Rattle.std.specs.Borrow.{Bor}
 use Rattle.std.specs.List.{position_from, position_or_len}
@@ -46,10 +11,12 @@ use lib.Dec.{ltb}
 use Rattle.std.proofs.lemmas.Bool.{lt-ltb, le-ltb, cases_lt}
 use Rattle.std.proofs.lemmas.Grind.{common_steps}
 use Rattle.std.proofs.lemmas.Iterator.Adapters.{position_from-zero}
-use Rattle.std.proofs.lemmas.List.{take_more, take_all, map-append}
+use Rattle.std.proofs.lemmas.List.{take_all}
 use Rattle.std.proofs.lemmas.List.Folds.{find_at}
 use Rattle.std.proofs.lemmas.Option.{slice_get-map, slice_get_past, slice_get_read}
 use Rattle.std.proofs.lemmas.Slice.Eq.{bytes_eq-Decides}
+use Rattle.au_base.proofs.OptionLemmas.{or_none, or_there}
+use Rattle.au_base.proofs.ListLemmas.{seen_more, position_push}
 use Rattle.au_syntax.specs.Plain.{Bytes, PlainDeclaration}
 use Rattle.au_types.specs.Tables as tables
 use Rattle.au_types.specs.Tables.{has_name, with_pair}
@@ -70,15 +37,6 @@ use Rattle.au_promises.specs.Defining.{
 
 -- ---- options
 
-or_none : {A : Type 0} (o : Option A) → option_or o None ≡ o
-or_none None = refl
-or_none (Some x) = refl
-
--- what is there counts
-pub or_there : {A : Type 0} (o p : Option A) → is_some o ≡ true → option_or o p ≡ o
-or_there None p h = absurd (true≢false (sym h))
-or_there (Some x) p h = refl
-
 -- what is behind it counts where nothing is there
 pub or_behind : {A : Type 0} (o p : Option A) → is_some o ≡ false → option_or o p ≡ p
 or_behind None p h = refl
@@ -92,15 +50,6 @@ nothing_found [] = refl
 nothing_found (x ∷ xs) = nothing_found xs
 
 module _ {A B C : Type 0} (p : B → C) (v : A → B) where
-  -- what is seen so far, and one more
-  seen_more : (xs : List A) (i : ℕ) (x : A) → i < length xs → x ≡ get_or xs i x
-      → map p (map v (take (i + 1) xs)) ≡ map p (map v (take i xs)) ++ p (v x) ∷ []
-  seen_more xs i x h here =
-      ap (λ r. map p (map v r)) (take_more xs i x h)
-      ∙ ap (λ y. map p (map v (take i xs ++ y ∷ []))) (sym here)
-      ∙ ap (map p) (map-append v (take i xs) (x ∷ []))
-      ∙ map-append p (map v (take i xs)) (v x ∷ [])
-
   -- what is seen at an index
   seen_at : (xs : List A) (i : ℕ) (x : A) → i < length xs → x ≡ get_or xs i x
       → slice_get (map p (map v xs)) i ≡ Some (p (v x))
@@ -123,18 +72,10 @@ module _ {A B C : Type 0} (p : B → C) (v : A → B) where
       by (Some b) (inl less) has is = sym (seen_at xs i b.now less is)
       by (Some b) (inr more) has is = absurd (true≢false (has ∙ le-ltb i (length xs) more))
 
-  -- what is left from an item on
-  pub seen_left : (xs : List A) (i : ℕ) (x : A) → i < length xs → x ≡ get_or xs i x
-      → map p (map v (drop i xs)) ≡ p (v x) ∷ map p (map v (drop (i + 1) xs))
-  seen_left xs i x h here =
-      ap (λ r. map p (map v r)) (drop-cons xs i x h)
-      ∙ ap (λ y. p (v y) ∷ map p (map v (drop (suc i) xs))) (sym here)
-      ∙ ap (λ n. p (v x) ∷ map p (map v (drop n xs))) (sym (add-one i))
-
 -- ---- tables
 
 module _ {V : Type 0} where
-  find_behind : (name : Bytes) (pairs more : List (Bytes × V))
+  pub find_behind : (name : Bytes) (pairs more : List (Bytes × V))
       → tables.find name (pairs ++ more) ≡ option_or (tables.find name pairs) (tables.find name more)
   find_behind name [] more = refl
   find_behind name (q ∷ qs) more = by (bytes_eq name q.0) (find_behind name qs more)
@@ -147,7 +88,7 @@ module _ {V : Type 0} where
       by false rest = rest
 
   -- what is found once a value is put under a name
-  find_put : (name : Bytes) (pairs : List (Bytes × V)) (other : Bytes) (value : V)
+  pub find_put : (name : Bytes) (pairs : List (Bytes × V)) (other : Bytes) (value : V)
       → tables.find name (with_pair pairs other value) ≡ option_or (tables.find name pairs)
       (cond (bytes_eq name other) (Some value) None)
   find_put name pairs other value = by (has_name other pairs) (bytes_eq name other) refl refl
@@ -184,22 +125,6 @@ module _ {A : Type 0} (p : A → Bool) where
           ap (λ b. option_and_then (slice_get xs) (cond b (Some (position_or_len p xs)) None))
           (le-ltb (position_or_len p xs) (length xs) more)
           ∙ sym (find_at p xs ∙ slice_get_past xs (position_or_len p xs) more)
-
-  -- one more is behind
-  place_more : (n : ℕ) (xs : List A) (y : A) → position_from p n (xs ++ y ∷ [])
-      ≡ option_or (position_from p n xs) (cond (p y) (Some (n + length xs)) None)
-  place_more n [] y = let e : n ≡ n + 0 = omega arith in ap (λ k. cond (p y) (Some k) None) e
-  place_more n (x ∷ xs) y = by (p x) (place_more (n + 1) xs y)
-    where
-      by : (b : Bool) → position_from p (n + 1) (xs ++ y ∷ []) ≡ option_or (position_from p (n + 1) xs)
-          (cond (p y) (Some (n + 1 + length xs)) None)
-          → cond b (Some n) (position_from p (n + 1) (xs ++ y ∷ []))
-          ≡ option_or (cond b (Some n) (position_from p (n + 1) xs))
-          (cond (p y) (Some (n + suc (length xs))) None)
-      by true rest = refl
-      by false rest =
-          let e : n + 1 + length xs ≡ n + suc (length xs) = omega arith in
-          rest ∙ ap (λ k. option_or (position_from p (n + 1) xs) (cond (p y) (Some k) None)) e
 
   -- it isn't before the place where the list begins
   place_behind : (i n : ℕ) (xs : List A) → i ≤ n → earlier (Some i) (position_from p n xs) ≡ Some i
@@ -275,7 +200,7 @@ module _ (key_of : PlainDeclaration → Option Bytes) (some : List PlainDeclarat
       put_named (key_of one) name
       ∙ ap (λ r. option_or r (cond (p one) (Some i) None)) (position_from-zero p some)
       ∙ ap (λ k. option_or (position_from p 0 some) (cond (p one) (Some k) None)) here
-      ∙ sym (place_more p 0 some one)
+      ∙ sym (position_push p 0 some one)
       ∙ sym (position_from-zero p (some ++ one ∷ []))
 
 -- no declaration is visited

@@ -1,48 +1,16 @@
 -- Promises are refused for nothing exactly where every body fulfils its interface.
-use Rattle.std.proofs.Common.{
-  ◌≡◌,
-  ℕ,
-  ◌+◌,
-  inl,
-  inr,
-  Bool,
-  true,
-  false,
-  cond,
-  List,
-  [],
-  ◌∷◌,
-  ◌++◌,
-  Option,
-  Some,
-  None,
-  refl,
-  true≢false,
-  ap,
-  sym,
-  ◌∙◌,
-  subst,
-  find,
-  IsTrue,
-}
+use Rattle.std.proofs.Common.{◌≡◌, ℕ, inl, inr, Bool, true, false, cond, List, [], ◌∷◌, ◌++◌, Option, Some}
+use Rattle.std.proofs.Common.{None, refl, true≢false, ap, sym, ◌∙◌, subst, find, IsTrue}
 use Rattle.std.specs.Prelude.{if◌then◌else◌}
 use Rattle.std.specs.Bool.{Decides}
-use Rattle.std.specs.Option.{option_map, option_or}
+use Rattle.std.specs.Option.{option_map}
 use Rattle.std.proofs.lemmas.Option.{none-some, same_Some}
+use Rattle.au_base.proofs.OptionLemmas.{or_first, or_second, or_neither}
 use Rattle.au_syntax.specs.Modules.{constant, opaque_type, function, instance}
 use Rattle.au_syntax.specs.Plain.{Bytes, PlainDeclaration, PlainModule}
 use Rattle.au_modules.specs.Programs.{Entry, ModuleParts}
 use Rattle.au_promises.specs.declared.faults.PromiseFault.TheVariants.{Differs}
-use Rattle.au_names.proofs.AmongLemmas.{
-  Among,
-  among,
-  contains,
-  nothing_all,
-  nothing_at,
-  or_first,
-  or_neither,
-  or_second,
-}
+use Rattle.au_names.proofs.AmongLemmas.{Among, among, contains, nothing_all, nothing_at}
 use Rattle.au_modules.specs.Seen.{body_tree, interface_tree}
 use Rattle.au_promises.specs.Agreeing.{Sight, sight_of}
 use Rattle.au_promises.specs.Promises.{
@@ -60,6 +28,7 @@ use Rattle.au_promises.specs.Promises.{
 }
 use Rattle.au_promises.specs.Fulfilled.{Defines, IsFirst, IsKept, Fulfils, AllFulfil}
 use Rattle.au_promises.proofs.DecidingLemmas.{defines_decides, keeps_decides}
+use Rattle.au_promises.proofs.PromiseLemmas.{faults_nil, faults_cons}
 
 -- ---- the first definition
 
@@ -249,18 +218,6 @@ module _ (sight : Sight) where
       (λ promise name one says. h interface body refl refl promise name
       (contains interface.declarations promise one) says)
 
--- ---- modules by their places
-
-faults_none : (program : List ModuleParts) (place : ℕ) → faults_from program place [] ≡ None
-unfolding faults_from
-faults_none program place = refl
-
-faults_more : (program : List ModuleParts) (place : ℕ) (m : ModuleParts) (ms : List ModuleParts)
-    → faults_from program place (m ∷ ms)
-    ≡ option_or (module_fault program place m) (faults_from program (place + 1) ms)
-unfolding faults_from
-faults_more program place m ms = refl
-
 -- ---- all
 
 -- the file in which it is written
@@ -294,13 +251,13 @@ module_to program place m h =
 pub fulfilled_from : (program : List ModuleParts) → promise_fault program ≡ None → AllFulfil program
 fulfilled_from program h place m interface body here first second =
     let none : module_fault program place m ≡ None =
-    nothing_at (module_fault program) (faults_from program) (faults_none program) (faults_more program)
+    nothing_at (module_fault program) (faults_from program) (faults_nil program) (faults_cons program)
     program h place m here in
     module_from program place m none interface body first second
 
 pub fulfilled_accepted : (program : List ModuleParts) → AllFulfil program → promise_fault program ≡ None
 fulfilled_accepted program h =
-    nothing_all (module_fault program) (faults_from program) (faults_none program) (faults_more program)
+    nothing_all (module_fault program) (faults_from program) (faults_nil program) (faults_cons program)
     program
     (λ place m here. module_to program place m
     (λ interface body first second. h place m interface body here first second))

@@ -28,6 +28,7 @@ use Rattle.std.specs.Prelude.{◌||◌, ◌/◌, ◌%◌}
 use Rattle.std.specs.Str.{bytes_eq}
 use Rattle.std.proofs.lemmas.Bool.{and_parts, and_from}
 use Rattle.std.proofs.lemmas.Slice.Eq.{bytes_eq-Decides}
+use Rattle.au_base.proofs.BoolLemmas.{same_truth}
 use Rattle.au_syntax.specs.declared.types.Access.{Access}
 use Rattle.au_syntax.specs.declared.types.Access.TheVariants as kinds
 use Rattle.au_syntax.specs.Modules.{instance_body}
@@ -244,19 +245,13 @@ module _ (sight : Sight) (scope other : List Parameter) where
 
 -- ---- instances
 
--- two tests of which each passes where the other does
-same_tests : (a b : Bool) → (a ≡ true → b ≡ true) → (b ≡ true → a ≡ true) → a ≡ b
-same_tests true b there back = sym (there refl)
-same_tests false true there back = absurd (true≢false (sym (back refl)))
-same_tests false false there back = refl
-
 -- classes have one key exactly where they are one
 class_decides : (sight : Sight) (name its : Placed Bytes)
     → bytes_eq (class_key sight.interface name) (class_key sight.body its) ≡ same_class sight name its
 class_decides sight name its =
     let one = class_key sight.interface name in
     let two = class_key sight.body its in
-    same_tests (bytes_eq one two) (same_class sight name its)
+    same_truth (bytes_eq one two) (same_class sight name its)
     (λ e. (word_one name.name its.name (tables.find name.name sight.interface)
     (tables.find its.name sight.body) [] [] (ap (λ k. k ++ []) ((bytes_eq-Decides one two).0 e))).0)
     (λ e. (bytes_eq-Decides one two).1 (word_same name.name its.name (tables.find name.name sight.interface)
@@ -273,7 +268,7 @@ instance_decides sight scope other name its t u =
     let words = wording_key scope sight.interface sight.rows t in
     let its_class = class_key sight.body its in
     let its_words = wording_key other sight.body sight.rows u in
-    same_tests (bytes_eq (class ++ words) (its_class ++ its_words))
+    same_truth (bytes_eq (class ++ words) (its_class ++ its_words))
     (same_class sight name its && same_wording sight scope other t u)
     (λ e.
     let word = word_one name.name its.name (tables.find name.name sight.interface)

@@ -31,12 +31,12 @@ use Rattle.std.specs.Prelude.{slice_get}
 use Rattle.std.specs.Option.{option_or}
 use Rattle.std.proofs.lemmas.List.{drop_all}
 use Rattle.std.proofs.lemmas.Option.{slice_get_within, get_or_from_slice_get, slice_get_cases}
+use Rattle.au_base.proofs.ListLemmas.{seen_left}
 use Rattle.au_syntax.specs.Plain.{PlainDeclaration}
 use Rattle.au_modules.specs.Programs.{ModuleParts}
 use Rattle.au_promises.specs.declared.faults.PromiseFault.{PromiseFault}
 use Rattle.au_promises.specs.Agreeing.{Sight}
 use Rattle.au_promises.specs.Promises.{promise_fault_of, unkept, module_fault, faults_from}
-use Rattle.au_promises.proofs.DefinitionLemmas.{seen_left}
 
 module _ (sight : Sight) (body : List PlainDeclaration) where
   unkept_cons : (d : PlainDeclaration) (ds : List PlainDeclaration)
@@ -62,13 +62,13 @@ module _ (sight : Sight) (body : List PlainDeclaration) where
   unkept_end p v xs i past = ap (λ r. unkept sight body (map p (map v r))) (drop_all i xs past) ∙ unkept_nil
 
 module _ (program : List ModuleParts) where
-  faults_cons : (place : ℕ) (m : ModuleParts) (ms : List ModuleParts)
+  pub faults_cons : (place : ℕ) (m : ModuleParts) (ms : List ModuleParts)
       → faults_from program place (m ∷ ms) ≡ option_or (module_fault program place m)
       (faults_from program (place + 1) ms)
   unfolding faults_from
   faults_cons place m ms = refl
 
-  faults_nil : (place : ℕ) → faults_from program place [] ≡ None
+  pub faults_nil : (place : ℕ) → faults_from program place [] ≡ None
   unfolding faults_from
   faults_nil place = refl
 

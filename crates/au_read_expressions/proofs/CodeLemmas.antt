@@ -3,7 +3,7 @@
 use Rattle.std.proofs.Common.{◌≡◌, ◌≢◌, ℕ, zero, suc, ◌-◌, ◌<◌, Bool, true, false, nat_le, cond, List, []}
 use Rattle.std.proofs.Common.{◌∷◌, map, drop, Vec, Option, Some, None, Ok, Err, refl, sym, ap, ◌∙◌, arith}
 use Rattle.std.specs.Global.{Global}
-use Rattle.std.proofs.lemmas.Bool.{leb-true, leb-false, le-leb, lt-leb}
+use Rattle.std.proofs.lemmas.Bool.{leb-true, leb-false, le-leb, lt-leb, cond-true}
 use Rattle.au_base.specs.declared.places.Pos.{Pos}
 use Rattle.au_base.specs.declared.tokens.Sign.TheVariants.{LeftParenthesis, RightParenthesis, FatArrow}
 use Rattle.au_base.specs.declared.tokens.Token.{Token}
@@ -13,7 +13,7 @@ use Rattle.au_read_expressions.specs.Bounds.{Bounds}
 use Rattle.au_read_expressions.specs.Reading.{Read, ◌>>=◌, front, is_front, begins_with, place_of, name_at}
 use Rattle.au_read_expressions.specs.Reading.{tokens_at, nothing_at, behind_tokens, joined_at, joined_with}
 use Rattle.au_read_expressions.specs.Reading.{built_at, closed, shaped, listed, exactly}
-use Rattle.au_read_expressions.proofs.Steps.{given, when_true}
+use Rattle.au_read_expressions.proofs.Steps.{given}
 use Rattle.au_read_expressions.specs.Arguments.{argument, called, called_by_name, called_in_order}
 use Rattle.au_read_expressions.specs.ExpressionReading.{site, call_of, begins_atom, begins_expression}
 use Rattle.au_read_expressions.specs.ExpressionReading.{expressions_of, arguments_of, Given, in_order}
@@ -173,7 +173,7 @@ module _ (inner inner_atom : List Token → Read PlainExpression) where
         ap (λ r. r >>= joined_with name >>= built_at (call_of at)) (given_none ts ends)
         ∙ ap (λ r. r >>= nothing_at >>= built_at (none_given inner inner_atom) >>= joined_with name >>=
         built_at (call_of at)) (ap (λ r. r >>= tokens_at [])
-        (when_true (begins_with (Sign RightParenthesis) ts) (given (drop 1 ts)) (Err _) ends))
+        (cond-true (begins_with (Sign RightParenthesis) ts) (given (drop 1 ts)) (Err _) ends))
 
     pub called_named : (ts : List Token) → begins_with (Sign RightParenthesis) ts ≡ false →
         is_label (front ts) (front (drop 1 ts)) ≡ true

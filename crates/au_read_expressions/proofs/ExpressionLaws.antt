@@ -3,7 +3,8 @@ use Rattle.std.proofs.Common.{◌≡◌, ℕ, suc, ◌+◌, ◌<◌, ◌≤◌, 
 use Rattle.std.proofs.Common.{◌++◌, length, drop, Option, Some, None, Ok, Err, refl, sym, ap, ◌∙◌, subst}
 use Rattle.std.proofs.Common.{arith, inl, inr, ◌⊎◌, append_assoc}
 use Rattle.std.specs.Prelude.{nat_le}
-use Rattle.std.proofs.lemmas.Bool.{and_parts, and_from, leb-true, leb-false, cases_Bool}
+use Rattle.std.proofs.lemmas.Bool.{and_parts, and_from, leb-true, leb-false, cases_Bool, cond-true}
+use Rattle.std.proofs.lemmas.Bool.{cond-false}
 use Rattle.au_base.specs.declared.limits.Limit.{Limit}
 use Rattle.au_base.specs.declared.places.Pos.{Pos}
 use Rattle.au_base.specs.declared.tokens.Keyword.TheVariants.{KwIf, KwThen, KwElse, KwNot}
@@ -11,6 +12,7 @@ use Rattle.au_base.specs.declared.tokens.Sign.TheVariants.{Colon}
 use Rattle.au_base.specs.declared.tokens.Token.{Token}
 use Rattle.au_base.specs.declared.tokens.What.{What}
 use Rattle.au_base.specs.declared.tokens.What.TheVariants.{Word, Sign}
+use Rattle.au_base.proofs.BoolLemmas.{cond_cases}
 use Rattle.au_syntax.specs.declared.expressions.BinaryOperator.{BinaryOperator}
 use Rattle.au_syntax.specs.Depths.{expression_depth}
 use Rattle.au_syntax.specs.Sizes.{expression_types}
@@ -24,7 +26,7 @@ use Rattle.au_read_expressions.specs.Bounds.{Bounds, TreePasses, nesting_limit}
 use Rattle.au_read_expressions.specs.Reading.{Read, ◌>>=◌, front, place_of, is_front, begins_with, read_of}
 use Rattle.au_read_expressions.specs.Reading.{behind_tokens, pair}
 use Rattle.au_read_expressions.specs.Spelling.{Begins, fixed}
-use Rattle.au_read_expressions.proofs.Steps.{not_read, bind_ok, chosen, when_true, when_false, begins_is}
+use Rattle.au_read_expressions.proofs.Steps.{not_read, bind_ok, begins_is}
 use Rattle.au_read_expressions.proofs.Begins.{begins_split, begins_join, begun_split, begun_join, front_of}
 use Rattle.au_read_expressions.proofs.Forms.{Form, Sound, Finds, Reads, behind_form, behind_reads, pair_form}
 use Rattle.au_read_expressions.proofs.Forms.{pair_behind, finds_on, sound_of}
@@ -205,7 +207,8 @@ module _ (b : Bounds) (types : Reads (type_form b) ends_type (type_at b)) (n : �
       → Sound (atom_form b (suc n)) a ts mid → continued_by r q b n o colon (place_of ts) (a, mid)
       ≡ Ok (y, rest) → Sound (expression_form b (suc n)) y ts rest
   continued_take (Some op) colon a ts mid rest y is colon_is s e =
-      elim (chosen (nat_le (expression_depth a) n) (q (drop 1 mid) >>= binary_of r q b n (place_of ts) op a)
+      elim (cond_cases (nat_le (expression_depth a) n)
+      (q (drop 1 mid) >>= binary_of r q b n (place_of ts) op a)
       (Err (Passed (nesting_limit b) (length mid))) (read_of y rest) e) [
         | inl w ↦
             let c = bind_ok (q (drop 1 mid)) (binary_of r q b n (place_of ts) op a) (y, rest) w.1 in
@@ -215,7 +218,7 @@ module _ (b : Bounds) (types : Reads (type_form b) ends_type (type_at b)) (n : �
         | inr w ↦ absurd (not_read _ (y, rest) w.1)
       ]
   continued_take None true a ts mid rest y is colon_is s e =
-      elim (chosen (nat_le (expression_depth a) n)
+      elim (cond_cases (nat_le (expression_depth a) n)
       (type_at b (drop 1 mid) >>= typed_of r q b n (place_of ts) a)
       (Err (Passed (nesting_limit b) (length mid))) (read_of y rest) e) [
         | inl w ↦
@@ -285,7 +288,7 @@ module _ (b : Bounds) (types : Reads (type_form b) ends_type (type_at b)) (n : �
       elim (cases_Bool (nat_le (expression_depth a) n)) [
         | inl short ↦
             subst (Finds (expression_form b (suc n)) (binary (site at) op a z) rest)
-            (sym (way ∙ when_true (nat_le (expression_depth a) n) read fault short)) (
+            (sym (way ∙ cond-true (nat_le (expression_depth a) n) read fault short)) (
             finds_on (atom_form b n) (expression_form b (suc n)) z rest (q (drop 1 mid))
             (binary_of r q b n (place_of ts) op a) (binary (site at) op a z) rest
             (subst (λ x. Finds (atom_form b n) z rest (q x)) (sym there) (atoms.found z next rest h good ends))
@@ -297,7 +300,7 @@ module _ (b : Bounds) (types : Reads (type_form b) ends_type (type_at b)) (n : �
             inr (
               nesting_limit b,
               length mid,
-              way ∙ when_false (nat_le (expression_depth a) n) read fault
+              way ∙ cond-false (nat_le (expression_depth a) n) read fault
                   long,
               inl (omega (arith, deep), refl),
             )
@@ -352,7 +355,7 @@ module _ (b : Bounds) (types : Reads (type_form b) ends_type (type_at b)) (n : �
       elim (cases_Bool (nat_le (expression_depth a) n)) [
         | inl short ↦
             subst (Finds (expression_form b (suc n)) (typed (site at) a t) rest)
-            (sym (way ∙ when_true (nat_le (expression_depth a) n) read fault short)) (
+            (sym (way ∙ cond-true (nat_le (expression_depth a) n) read fault short)) (
             finds_on (type_form b) (expression_form b (suc n)) t rest (type_at b (drop 1 mid))
             (typed_of r q b n (place_of ts) a) (typed (site at) a t) rest
             (subst (λ x. Finds (type_form b) t rest (type_at b x)) (sym there) (types.found t next rest h refl ends))
@@ -363,7 +366,7 @@ module _ (b : Bounds) (types : Reads (type_form b) ends_type (type_at b)) (n : �
             inr (
               nesting_limit b,
               length mid,
-              way ∙ when_false (nat_le (expression_depth a) n) read fault
+              way ∙ cond-false (nat_le (expression_depth a) n) read fault
                   long,
               inl (omega (arith, deep), refl),
             )

@@ -10,6 +10,7 @@ use Rattle.au_base.specs.declared.tokens.Sign.TheVariants.{Arrow, WriteBorrow, R
 use Rattle.au_base.specs.declared.tokens.Sign.TheVariants.{RightParenthesis, Dot, ReadBorrow, Minus}
 use Rattle.au_base.specs.declared.tokens.What.{What}
 use Rattle.au_base.specs.declared.tokens.What.TheVariants.{Word, Sign}
+use Rattle.au_base.proofs.ListLemmas.{all_good}
 use Rattle.au_syntax.specs.declared.expressions.BorrowMode.TheVariants as mode
 use Rattle.au_syntax.specs.Forms.{some}
 use Rattle.au_syntax.specs.Names.{Placed}
@@ -29,7 +30,7 @@ use Rattle.au_read_expressions.specs.ExpressionReading.{number_of, negative_of, 
 use Rattle.au_read_expressions.specs.ExpressionReading.{path_of, arrow_of, borrow_of, borrow_part_of}
 use Rattle.au_read_expressions.specs.ExpressionReading.{arrow_parts}
 use Rattle.au_read_expressions.proofs.ExpressionForm.{atom_form}
-use Rattle.au_read_expressions.proofs.RowLaws.{Row, row, none_passes, all_good}
+use Rattle.au_read_expressions.proofs.RowLaws.{Row, row, none_passes}
 
 -- behind names no dot stands
 abbrev pub ends_names : Option What → Bool
@@ -51,7 +52,7 @@ pub arrow_reads : Reads arrow_form ends_names arrow_parts
 arrow_reads = pair_behind name_form (separated_form name_form (fixed (Sign Dot ∷ []))) anything ends_names
     name_at name_reads dotted_at dotted_reads (Sign Arrow) [] refl
 
-no_name_passes : (xs : List (Placed Bytes)) (l : Limit) → OnePasses name_form xs l → ⊥
+pub no_name_passes : (xs : List (Placed Bytes)) (l : Limit) → OnePasses name_form xs l → ⊥
 no_name_passes = none_passes name_form (λ x l p. p)
 
 some_names : (xs : List (Placed Bytes)) → (some xs && list_all (λ (x : Placed Bytes). true) xs) ≡ true → some xs ≡ true

@@ -3,7 +3,7 @@ use Rattle.std.proofs.Common.{◌≡◌, ℕ, zero, suc, ◌<◌, ◌≤◌, Boo
 use Rattle.std.proofs.Common.{length, map, drop, Option, Some, None, Ok, refl, sym, ap, ◌∙◌, subst, arith}
 use Rattle.std.proofs.Common.{inl, inr, ◌⊎◌}
 use Rattle.std.specs.List.{flat_map, list_all}
-use Rattle.std.proofs.lemmas.Bool.{and_parts, and_from}
+use Rattle.std.proofs.lemmas.Bool.{and_parts, and_from, not-true, cond-true, cond-false}
 use Rattle.std.proofs.lemmas.List.{append-nil}
 use Rattle.au_base.specs.declared.limits.Limit.{Limit}
 use Rattle.au_base.specs.declared.tokens.Sign.{Sign as SignOf}
@@ -11,6 +11,7 @@ use Rattle.au_base.specs.declared.tokens.Sign.TheVariants.{Comma}
 use Rattle.au_base.specs.declared.tokens.Token.{Token}
 use Rattle.au_base.specs.declared.tokens.What.{What}
 use Rattle.au_base.specs.declared.tokens.What.TheVariants.{Sign}
+use Rattle.au_base.proofs.BoolLemmas.{cond_cases}
 use Rattle.au_syntax.specs.Words as words
 use Rattle.au_syntax.specs.Words.{Words}
 use Rattle.au_syntax.specs.Forms.{some}
@@ -19,7 +20,7 @@ use Rattle.au_read_expressions.specs.Reading.{read_of, closed_at, before_all, th
 use Rattle.au_read_expressions.specs.Reading.{after_part, separated_at, separated, listed, bracketed}
 use Rattle.au_read_expressions.specs.Reading.{optional_of, optional}
 use Rattle.au_read_expressions.specs.Spelling.{Begins, fixed}
-use Rattle.au_read_expressions.proofs.Steps.{not_read, bind_ok, chosen, not_true, when_true, when_false}
+use Rattle.au_read_expressions.proofs.Steps.{not_read, bind_ok}
 use Rattle.au_read_expressions.proofs.Steps.{begins_is, begins_again}
 use Rattle.au_read_expressions.proofs.Begins.{begins_split, begins_join, begins_shorter, tokens_take}
 use Rattle.au_read_expressions.proofs.Begins.{tokens_again, front_of}
@@ -78,7 +79,8 @@ module _ {A : Type 0} (form : Form A) where
     repeated_sound zero ts rest xs e = sound_of repeated_form [] xs ts ts rest
         (record { spelled = refl; good = refl; fits = tt }) e
     repeated_sound (suc k) ts rest xs e =
-        elim (chosen (begins (front ts)) (read ts >>= then_all (repeated_at begins read k)) (read_of [] ts)
+        elim (cond_cases (begins (front ts)) (read ts >>= then_all (repeated_at begins read k))
+        (read_of [] ts)
         (read_of xs rest) e) [
           | inl w ↦
               let b = bind_ok (read ts) (then_all (repeated_at begins read k)) (xs, rest) w.1 in
@@ -109,9 +111,9 @@ module _ {A : Type 0} (form : Form A) where
     repeated_found [] zero ts rest short h good ended = inl (ap (λ r. read_of [] r) h)
     repeated_found [] (suc k) ts rest short h good ended =
         let none : begins (front ts) ≡ false = ap (λ r. begins (front r)) h
-        ∙ not_true (begins (front rest)) (and_parts (not (begins (front rest))) (ends (front rest)) ended).0
+        ∙ not-true (begins (front rest)) (and_parts (not (begins (front rest))) (ends (front rest)) ended).0
         in
-        inl (when_false (begins (front ts)) (read ts >>= then_all (repeated_at begins read k)) (read_of [] ts)
+        inl (cond-false (begins (front ts)) (read ts >>= then_all (repeated_at begins read k)) (read_of [] ts)
         none ∙ ap (λ r. read_of [] r) h)
     repeated_found (x ∷ xs) zero ts rest short h good ended =
         let s = begins_split (form.words x) (flat_map form.words xs) ts rest h in
@@ -127,7 +129,7 @@ module _ {A : Type 0} (form : Form A) where
         let b : begins (front ts) ≡ true = starts x ts s.0 s.1 g.0 in
         let small : length s.0 ≤ k = omega (arith, short, begins_shorter (form.words x) ts s.0 s.1, some_words x g.0) in
         subst (Finds repeated_form (x ∷ xs) rest)
-        (sym (when_true (begins (front ts)) (read ts >>= then_all (repeated_at begins read k))
+        (sym (cond-true (begins (front ts)) (read ts >>= then_all (repeated_at begins read k))
         (read_of [] ts) b)) (
         finds_on form repeated_form x s.0 (read ts) (then_all (repeated_at begins read k)) (x ∷ xs) rest
         (reads.found x ts s.0 s.1 g.0 (before_rest xs s.0 rest s.2 g.1 ended))
@@ -186,7 +188,7 @@ module _ {A : Type 0} (form : Form A) where
         let others = separated_at between read k in
         let b = bind_ok (read ts) (after_part between others) (xs, rest) e in
         let s = reads.sound ts b.0.1 b.0.0 b.1 in
-        elim (chosen (begins_with between b.0.1) (others (drop 1 b.0.1) >>= before_all b.0.0)
+        elim (cond_cases (begins_with between b.0.1) (others (drop 1 b.0.1) >>= before_all b.0.0)
         (read_of (b.0.0 ∷ []) b.0.1) (read_of xs rest) b.2) [
           | inl w ↦
               let c = bind_ok (others (drop 1 b.0.1)) (before_all b.0.0) (xs, rest) w.1 in
@@ -204,7 +206,7 @@ module _ {A : Type 0} (form : Form A) where
     ended_parts : (what : Option What) → ends_separated what ≡ true → (is_front between what ≡ false)
         × (ends what ≡ true)
     ended_parts what e = let p = and_parts (not (is_front between what)) (ends what) e
-        in (not_true (is_front between what) p.0, p.1)
+        in (not-true (is_front between what) p.0, p.1)
 
     drop_one : (ts rest : List Token) → Begins (fixed (between ∷ [])) ts rest → drop 1 ts ≡ rest
     drop_one [] rest h = absurd h
@@ -230,7 +232,7 @@ module _ {A : Type 0} (form : Form A) where
         (reads.found x ts rest (subst (λ ws. Begins ws ts rest) (append-nil (form.words x)) h)
         (and_parts (form.good x) true good).0 e.1)
         (λ l p. inl p)
-        (inl (when_false (begins_with between rest)
+        (inl (cond-false (begins_with between rest)
         (separated_at between read k (drop 1 rest) >>= before_all x) (read_of (x ∷ []) rest) e.0))
     separated_found (x ∷ y ∷ ys) (suc k) ts rest short h good ended =
         let others = separated_at between read k in
@@ -254,7 +256,7 @@ module _ {A : Type 0} (form : Form A) where
         (reads.found x ts s.0 s.1 g.0 (ap ends is ∙ stops))
         (λ l p. inl p)
         (subst (Finds (separated_form (fixed (between ∷ []))) (x ∷ y ∷ ys) rest)
-        (sym (when_true (begins_with between s.0) (others (drop 1 s.0) >>= before_all x)
+        (sym (cond-true (begins_with between s.0) (others (drop 1 s.0) >>= before_all x)
         (read_of (x ∷ []) s.0) there)) (
         finds_on (separated_form (fixed (between ∷ []))) (separated_form (fixed (between ∷ []))) (y ∷ ys) rest
         (others (drop 1 s.0)) (before_all x) (x ∷ y ∷ ys) rest
@@ -303,7 +305,8 @@ module _ {A : Type 0} (form : Form A) where
     pub bracketed_sound : (ts rest : List Token) (xs : List A) → bracketed left right read ts
         ≡ Ok (xs, rest) → Sound (bracketed_form left right) xs ts rest
     bracketed_sound ts rest xs e =
-        elim (chosen (begins_with (Sign left) ts) (listed read (drop 1 ts) >>= closed_at (Sign right ∷ []))
+        elim (cond_cases (begins_with (Sign left) ts)
+        (listed read (drop 1 ts) >>= closed_at (Sign right ∷ []))
         (read_of [] ts) (read_of xs rest) e) [
           | inl w ↦
               let m = begins_is (Sign left) ts w.0 in
@@ -328,8 +331,8 @@ module _ {A : Type 0} (form : Form A) where
         → ends_bracketed (front rest) ≡ true → Finds (bracketed_form left right) xs rest (bracketed left right read ts)
     bracketed_found [] ts rest h good ended =
         let none : begins_with (Sign left) ts ≡ false = ap (begins_with (Sign left)) h
-        ∙ not_true (begins_with (Sign left) rest) ended in
-        inl (when_false (begins_with (Sign left) ts) (listed read (drop 1 ts) >>= closed_at (Sign right ∷ []))
+        ∙ not-true (begins_with (Sign left) rest) ended in
+        inl (cond-false (begins_with (Sign left) ts) (listed read (drop 1 ts) >>= closed_at (Sign right ∷ []))
         (read_of [] ts) none ∙ ap (λ r. read_of [] r) h)
     bracketed_found (x ∷ xs) ts rest h good ended =
         let list : Words = words.listed (map form.words (x ∷ xs)) in
@@ -340,7 +343,7 @@ module _ {A : Type 0} (form : Form A) where
         ap (λ w. not (is_front (Sign Comma) w) && ends w)
         (front_of (fixed (Sign right ∷ [])) s.0 rest (omega arith) s.2) ∙ closes in
         subst (Finds (bracketed_form left right) (x ∷ xs) rest)
-        (sym (when_true (begins_with (Sign left) ts)
+        (sym (cond-true (begins_with (Sign left) ts)
         (listed read (drop 1 ts) >>= closed_at (Sign right ∷ [])) (read_of [] ts) one.1)) (
         finds_on listed_form (bracketed_form left right) (x ∷ xs) s.0 (listed read (drop 1 ts))
         (closed_at (Sign right ∷ [])) (x ∷ xs) rest
@@ -386,7 +389,8 @@ module _ {A : Type 0} (form : Form A) where
     pub optional_sound : (ts rest : List Token) (x : Option A) → optional what read ts ≡ Ok (x, rest) →
         Sound optional_form x ts rest
     optional_sound ts rest x e =
-        elim (chosen (begins_with what ts) (read (drop 1 ts) >>= optional_of) (read_of None ts) (read_of x rest) e) [
+        elim (cond_cases (begins_with what ts) (read (drop 1 ts) >>= optional_of) (read_of None ts)
+        (read_of x rest) e) [
           | inl w ↦
               let m = begins_is what ts w.0 in
               let b = bind_ok (read (drop 1 ts)) optional_of (x, rest) w.1 in
@@ -412,15 +416,15 @@ module _ {A : Type 0} (form : Form A) where
         Finds optional_form x rest (optional what read ts)
     optional_found None ts rest h good ended =
         let none : begins_with what ts ≡ false = ap (begins_with what) h
-        ∙ not_true (begins_with what rest)
+        ∙ not-true (begins_with what rest)
         (and_parts (not (begins_with what rest)) (ends (front rest)) ended).0 in
-        inl (when_false (begins_with what ts) (read (drop 1 ts) >>= optional_of) (read_of None ts) none
+        inl (cond-false (begins_with what ts) (read (drop 1 ts) >>= optional_of) (read_of None ts) none
         ∙ ap (λ r. read_of None r) h)
     optional_found (Some x) ts rest h good ended =
         let o = begins_split (fixed (what ∷ [])) (form.words x) ts rest h in
         let one = first_one ts o.0 o.1 in
         subst (Finds optional_form (Some x) rest)
-        (sym (when_true (begins_with what ts) (read (drop 1 ts) >>= optional_of) (read_of None ts) one.1)) (
+        (sym (cond-true (begins_with what ts) (read (drop 1 ts) >>= optional_of) (read_of None ts) one.1)) (
         finds_on form optional_form x rest (read (drop 1 ts)) optional_of (Some x) rest
         (subst (λ r. Finds form x rest (read r)) (sym one.0)
         (reads.found x o.0 rest o.2 good

@@ -2,12 +2,12 @@
 use Rattle.std.proofs.Common.{◌≡◌, ℕ, zero, suc, Bool, true, false, List, [], ◌∷◌, ◌++◌, map, drop, Option}
 use Rattle.std.proofs.Common.{Ok, Err, refl, sym, ap, ◌∙◌, append_assoc}
 use Rattle.std.proofs.lemmas.List.{append-nil, map-append}
+use Rattle.std.proofs.lemmas.Bool.{cond-true, cond-false}
 use Rattle.au_base.specs.declared.tokens.Token.{Token}
 use Rattle.au_base.specs.declared.tokens.What.{What}
 use Rattle.au_read_expressions.specs.declared.faults.Fault.{Fault}
 use Rattle.au_read_expressions.specs.Reading.{Read, ◌>>=◌, front, begins_with, no, read_of, before_all}
 use Rattle.au_read_expressions.specs.Reading.{then_all, repeated_at, after_part, separated_at}
-use Rattle.au_read_expressions.proofs.Steps.{when_true, when_false}
 
 -- one more behind what was read, as contracts see it
 pub map_pushed : {X A : Type 0} (see : X → A) (xs ys : List X) (x : X) → ys ≡ xs ++ x ∷ [] →
@@ -38,7 +38,7 @@ module _ {A : Type 0} where
         (repeated_at begins part j next)
     repeated_on read x k j rest next is starts one =
         ap (λ n. with_front read (repeated_at begins part n rest)) is
-        ∙ ap (with_front read) (when_true (begins (front rest))
+        ∙ ap (with_front read) (cond-true (begins (front rest))
         (part rest >>= then_all (repeated_at begins part j)) (read_of [] rest) starts)
         ∙ ap (λ r. with_front read (r >>= then_all (repeated_at begins part j))) one
         ∙ one_more read x (repeated_at begins part j next)
@@ -48,7 +48,7 @@ module _ {A : Type 0} where
         → with_front read (repeated_at begins part k rest) ≡ Err f
     repeated_fails read f k j rest is starts one =
         ap (λ n. with_front read (repeated_at begins part n rest)) is
-        ∙ ap (with_front read) (when_true (begins (front rest))
+        ∙ ap (with_front read) (cond-true (begins (front rest))
         (part rest >>= then_all (repeated_at begins part j)) (read_of [] rest) starts)
         ∙ ap (λ r. with_front read (r >>= then_all (repeated_at begins part j))) one
 
@@ -56,7 +56,7 @@ module _ {A : Type 0} where
         → with_front read (repeated_at begins part k rest) ≡ Ok (read, rest)
     repeated_ends read k j rest is stops =
         ap (λ n. with_front read (repeated_at begins part n rest)) is
-        ∙ ap (with_front read) (when_false (begins (front rest))
+        ∙ ap (with_front read) (cond-false (begins (front rest))
         (part rest >>= then_all (repeated_at begins part j)) (read_of [] rest) stops)
         ∙ ap (λ xs. read_of xs rest) (append-nil read)
 
@@ -73,7 +73,7 @@ module _ {A : Type 0} where
     separated_on read x k j rest next is one more =
         ap (λ n. with_front read (separated_at between part n rest)) is
         ∙ ap (λ r. with_front read (r >>= after_part between (separated_at between part j))) one
-        ∙ ap (with_front read) (when_true (begins_with between next)
+        ∙ ap (with_front read) (cond-true (begins_with between next)
         (separated_at between part j (drop 1 next) >>= before_all x) (read_of (x ∷ []) next) more)
         ∙ one_more read x (separated_at between part j (drop 1 next))
 
@@ -83,7 +83,7 @@ module _ {A : Type 0} where
     separated_ends read x k j rest next is one last =
         ap (λ n. with_front read (separated_at between part n rest)) is
         ∙ ap (λ r. with_front read (r >>= after_part between (separated_at between part j))) one
-        ∙ ap (with_front read) (when_false (begins_with between next)
+        ∙ ap (with_front read) (cond-false (begins_with between next)
         (separated_at between part j (drop 1 next) >>= before_all x) (read_of (x ∷ []) next) last)
 
     pub separated_fails : (read : List A) (f : Fault) (k j : ℕ) (rest : List Token) → k ≡ suc j → part rest ≡ Err f

@@ -1,6 +1,5 @@
 -- Rows of the grammar: a tree that is built of its place and its parts.
-use Rattle.std.proofs.Common.{◌≡◌, Bool, true, List, [], ◌∷◌, Option, Ok, refl, inl, inr}
-use Rattle.std.specs.List.{list_all}
+use Rattle.std.proofs.Common.{◌≡◌, Bool, true, List, [], ◌∷◌, Option, Ok, inl, inr}
 use Rattle.au_base.specs.declared.limits.Limit.{Limit}
 use Rattle.au_base.specs.declared.places.Pos.{Pos}
 use Rattle.au_base.specs.declared.tokens.Token.{Token}
@@ -31,8 +30,3 @@ pub none_passes : {A : Type 0} (form : Form A) → ((x : A) (l : Limit) → form
     (xs : List A) (l : Limit) → OnePasses form xs l → ⊥
 none_passes form none [] l p = p
 none_passes form none (x ∷ xs) l p = elim p [ inl q ↦ none x l q | inr q ↦ none_passes form none xs l q ]
-
--- what always has its form has it in a list
-pub all_good : {A : Type 0} (xs : List A) → list_all (λ (x : A). true) xs ≡ true
-all_good [] = refl
-all_good (x ∷ xs) = all_good xs

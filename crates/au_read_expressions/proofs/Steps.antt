@@ -1,10 +1,9 @@
 -- Steps of reading, and the test of two tokens.
-use Rattle.std.proofs.Common.{◌≡◌, ℕ, suc, ◌<◌, Bool, true, false, not, ◌==◌, cond, List, [], ◌∷◌, length}
+use Rattle.std.proofs.Common.{◌≡◌, ℕ, suc, ◌<◌, true, ◌==◌, List, [], ◌∷◌, length}
 use Rattle.std.proofs.Common.{map, get_or, drop, Some, Result, Ok, Err, refl, sym, ap, subst, ◌∙◌, inl, inr}
-use Rattle.std.proofs.Common.{◌⊎◌}
 use Rattle.std.specs.Ordering.{int_eq}
 use Rattle.std.proofs.Math.Seq.{drop-cons}
-use Rattle.std.proofs.lemmas.Bool.{and_parts, and_from, eqb-true, eq-eqb}
+use Rattle.std.proofs.lemmas.Bool.{and_parts, and_from, eqb-true, eq-eqb, cond-true}
 use Rattle.std.proofs.lemmas.Bool.Decides.{Decides-int_eq}
 use Rattle.std.proofs.lemmas.Slice.Eq.{bytes_eq-Decides}
 use denote.Enum.Bare.{same_true, true_same}
@@ -13,6 +12,7 @@ use Rattle.au_base.specs.contracts.tokens.Sign.{the_type as sign}
 use Rattle.au_base.specs.declared.tokens.Token.{Token}
 use Rattle.au_base.specs.declared.tokens.What.{What}
 use Rattle.au_base.specs.declared.tokens.What.TheVariants.{Word, Sign, Name, Number, Text}
+use Rattle.au_base.proofs.BoolLemmas.{cond_cases}
 use Rattle.au_read_expressions.specs.declared.faults.Fault.{Fault}
 use Rattle.au_read_expressions.specs.declared.faults.Stop.{Stop}
 use Rattle.au_read_expressions.specs.declared.tokens.Expected.{Expected}
@@ -36,21 +36,6 @@ pub bind_ok : {A B : Type 0} (r : Result A Fault) (f : A → Result B Fault) (y 
     (x : A) × (r ≡ Ok x) × (f x ≡ Ok y)
 bind_ok (Ok x) f y e = (x, refl, e)
 bind_ok (Err d) f y e = absurd (not_read d y e)
-
--- which way a test went
-pub chosen : {A : Type 0} (b : Bool) (x y z : A) → cond b x y ≡ z → ((b ≡ true) × (x ≡ z)) ⊎ ((b ≡ false) × (y ≡ z))
-chosen true x y z e = inl (refl, e)
-chosen false x y z e = inr (refl, e)
-
-pub not_true : (b : Bool) → not b ≡ true → b ≡ false
-not_true true e = cc
-not_true false e = refl
-
-pub when_true : {A : Type 0} (b : Bool) (x y : A) → b ≡ true → cond b x y ≡ x
-when_true b x y e = ap (λ c. cond c x y) e
-
-pub when_false : {A : Type 0} (b : Bool) (x y : A) → b ≡ false → cond b x y ≡ y
-when_false b x y e = ap (λ c. cond c x y) e
 
 -- tokens for which the test holds say the same
 pub same_is : (a b : What) → same_what a b ≡ true → a ≡ b
@@ -76,7 +61,7 @@ pub token_is : (what : What) (ts rest : List Token) → token_at what ts ≡ Ok 
     × (token.what ≡ what) × (ts ≡ token ∷ rest)
 token_is what [] rest e = absurd cc
 token_is what (token ∷ ts) rest e =
-    elim (chosen (same_what token.what what) (given ts) (Err _) (Ok rest) e) [
+    elim (cond_cases (same_what token.what what) (given ts) (Err _) (Ok rest) e) [
       | inl w ↦ (token, same_is token.what what w.0, ap (λ r. token ∷ r) (ok_same ts rest w.1))
       | inr w ↦ absurd (let wrong = w.1 in cc)
     ]
@@ -85,7 +70,7 @@ token_is what (token ∷ ts) rest e =
 pub token_again : (what : What) (token : Token) (rest : List Token) → token.what ≡ what →
     token_at what (token ∷ rest) ≡ Ok rest
 token_again what token rest is =
-    when_true (same_what token.what what) (given rest) (Err _)
+    cond-true (same_what token.what what) (given rest) (Err _)
     (ap (same_what token.what) (sym is) ∙ same_self token.what)
 
 -- a token that the test tells stands first

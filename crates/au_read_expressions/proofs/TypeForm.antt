@@ -2,13 +2,14 @@
 use Rattle.std.proofs.Common.{◌≡◌, ℕ, zero, suc, ◌<◌, ◌≤◌, Bool, true, false, nat_le, List, [], ◌∷◌, ◌++◌}
 use Rattle.std.proofs.Common.{length, map, Option, Some, Ok, Err, refl, sym, ap, ◌∙◌, subst, arith, inl, inr}
 use Rattle.std.specs.List.{list_all}
-use Rattle.std.proofs.lemmas.Bool.{leb-true, leb-false}
+use Rattle.std.proofs.lemmas.Bool.{leb-true, leb-false, cond-true, cond-false}
 use Rattle.au_base.specs.declared.limits.Limit.{Limit}
 use Rattle.au_base.specs.declared.places.Pos.{Pos}
 use Rattle.au_base.specs.declared.tokens.Sign.TheVariants.{LeftBracket, RightBracket, Comma, ReadBorrow, WriteBorrow}
 use Rattle.au_base.specs.declared.tokens.Token.{Token}
 use Rattle.au_base.specs.declared.tokens.What.{What}
 use Rattle.au_base.specs.declared.tokens.What.TheVariants.{Sign, Name}
+use Rattle.au_base.proofs.BoolLemmas.{cond_cases}
 use Rattle.au_syntax.specs.declared.types.Access.{Access}
 use Rattle.au_syntax.specs.declared.types.Access.TheVariants as access
 use Rattle.au_syntax.specs.Names.{Placed}
@@ -20,7 +21,7 @@ use Rattle.au_read_expressions.specs.declared.faults.Fault.TheVariants.{Syntax, 
 use Rattle.au_read_expressions.specs.Bounds.{Bounds, TypePasses, depth_limit, nodes_limit}
 use Rattle.au_read_expressions.specs.Reading.{Read, front, name_at, read_of, no, behind_tokens, closed, pair, bracketed}
 use Rattle.au_read_expressions.specs.Spelling.{Begins}
-use Rattle.au_read_expressions.proofs.Steps.{not_read, chosen, when_true, when_false}
+use Rattle.au_read_expressions.proofs.Steps.{not_read}
 use Rattle.au_read_expressions.proofs.Begins.{front_of, begins_shorter}
 use Rattle.au_read_expressions.proofs.Forms.{Form, Sound, Finds, Reads, anything, behind_form, closed_form}
 use Rattle.au_read_expressions.proofs.Forms.{pair_form, closed_reads, behind_reads, pair_after, pair_behind}
@@ -236,7 +237,8 @@ module _ (b : Bounds) where
       Sound (within_form b zero) x ts rest
   unfolding type_within
   over_sound ts rest x e =
-      elim (chosen (begins_type (front ts)) (Err (Passed (depth_limit b) (length ts))) (no ts) (read_of x rest) e) [
+      elim (cond_cases (begins_type (front ts)) (Err (Passed (depth_limit b) (length ts))) (no ts)
+      (read_of x rest) e) [
         | inl w ↦ absurd (not_read _ (x, rest) w.1)
         | inr w ↦ absurd (not_read _ (x, rest) w.1)
       ]
@@ -248,7 +250,7 @@ module _ (b : Bounds) where
       inr (
         depth_limit b,
         length ts,
-        when_true (begins_type (front ts)) (Err (Passed (depth_limit b) (length ts))) (no ts)
+        cond-true (begins_type (front ts)) (Err (Passed (depth_limit b) (length ts))) (no ts)
             (first_of_type x ts rest h),
         (some_depth x, refl),
       )
@@ -273,7 +275,8 @@ module _ (b : Bounds) where
   few_sound : (n : ℕ) (ts rest : List Token) (read : Read WrittenType) (x : WrittenType) →
       too_many b n ts read ≡ Ok (x, rest) → (n ≤ b.nodes) × (read ≡ Ok (x, rest))
   few_sound n ts rest read x e =
-      elim (chosen (nat_le n b.nodes) read (Err (Passed (nodes_limit b n) (length ts))) (read_of x rest) e) [
+      elim (cond_cases (nat_le n b.nodes) read (Err (Passed (nodes_limit b n) (length ts))) (read_of x rest)
+      e) [
         | inl w ↦ (leb-true n b.nodes w.0, w.1)
         | inr w ↦ absurd (not_read _ (x, rest) w.1)
       ]
@@ -289,7 +292,7 @@ module _ (b : Bounds) where
   judged_sound ts rest x (Err (Syntax left)) is e =
       absurd (not_read _ (x, rest) (few_sound (nodes_before left ts) ts rest (Err (Syntax left)) x e).1)
   judged_sound ts rest x (Err (Passed l left)) is e =
-      elim (chosen (nat_le (nodes_before left ts) b.nodes) (Err (Passed l left))
+      elim (cond_cases (nat_le (nodes_before left ts) b.nodes) (Err (Passed l left))
       (too_many b (nodes_here b ts) ts (Err (Passed l left))) (read_of x rest) e) [
         | inl w ↦ absurd (not_read _ (x, rest) w.1)
         | inr w ↦ absurd (not_read _ (x, rest) (few_sound (nodes_here b ts) ts rest (Err (Passed l left)) x w.1).1)
@@ -302,13 +305,13 @@ module _ (b : Bounds) where
     where
       many_by : (test : Bool) → nat_le n b.nodes ≡ test → Finds (type_form b) x rest (too_many b n ts read)
       many_by true e = subst (Finds (type_form b) x rest)
-          (sym (when_true (nat_le n b.nodes) read (Err (Passed (nodes_limit b n) (length ts))) e)) here
+          (sym (cond-true (nat_le n b.nodes) read (Err (Passed (nodes_limit b n) (length ts))) e)) here
       many_by false e =
           let more : b.nodes < type_nodes x = let m = leb-false n b.nodes e in omega (arith, m, is) in
           inr (
             nodes_limit b n,
             length ts,
-            when_false (nat_le n b.nodes) read (Err (Passed (nodes_limit b n) (length ts))) e,
+            cond-false (nat_le n b.nodes) read (Err (Passed (nodes_limit b n) (length ts))) e,
             inr (more, ap (nodes_limit b) is),
           )
 
@@ -326,10 +329,10 @@ module _ (b : Bounds) where
       deep_by : (test : Bool) → nat_le (nodes_before left ts) b.nodes ≡ test →
           Finds (type_form b) x rest (judged b ts (Err (Passed l left)))
       deep_by true e = subst (Finds (type_form b) x rest)
-          (sym (when_true (nat_le (nodes_before left ts) b.nodes) (Err (Passed l left)) counted e)) told
+          (sym (cond-true (nat_le (nodes_before left ts) b.nodes) (Err (Passed l left)) counted e)) told
       deep_by false e =
           subst (Finds (type_form b) x rest)
-          (sym (when_false (nat_le (nodes_before left ts) b.nodes) (Err (Passed l left)) counted e))
+          (sym (cond-false (nat_le (nodes_before left ts) b.nodes) (Err (Passed l left)) counted e))
           (many_found (nodes_here b ts) x ts rest (Err (Passed l left)) (here_nodes x ts rest h ended) told)
 
   judged_found : (x : WrittenType) (ts rest : List Token) → Begins (type_words x) ts rest →

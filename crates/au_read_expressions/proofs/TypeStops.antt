@@ -1,6 +1,7 @@
 -- Reading a type stops where the steps token by token stop.
 use Rattle.std.proofs.Common.{◌≡◌, ℕ, zero, suc, ◌<◌, ◌≤◌, Bool, true, false, cond, List, [], ◌∷◌, length}
 use Rattle.std.proofs.Common.{Some, None, Result, Ok, Err, refl, sym, ap, subst, ◌∙◌, arith}
+use Rattle.std.proofs.lemmas.Bool.{cond-true, cond-false}
 use Rattle.au_base.specs.declared.tokens.Sign.TheVariants.{LeftBracket, RightBracket, Comma, ReadBorrow}
 use Rattle.au_base.specs.declared.tokens.Sign.TheVariants.{WriteBorrow}
 use Rattle.au_base.specs.declared.tokens.Token.{Token}
@@ -19,7 +20,7 @@ use Rattle.au_read_expressions.specs.Reading.{Read, ◌>>=◌, no, same_what, be
 use Rattle.au_read_expressions.specs.Reading.{value_or_no, name_of, name_at, read_of, behind_tokens, closed_at, closed}
 use Rattle.au_read_expressions.specs.Reading.{joined_with, joined_at, pair, built_at, before_all, after_part}
 use Rattle.au_read_expressions.specs.Reading.{separated_at, listed, bracketed}
-use Rattle.au_read_expressions.proofs.Steps.{given, when_true, when_false, token_again}
+use Rattle.au_read_expressions.proofs.Steps.{given, token_again}
 use Rattle.au_read_expressions.specs.TypeReading.{named_of, reference_of, named_with, reference_with, type_by}
 use Rattle.au_read_expressions.specs.TypeReading.{type_with, type_within, left_at}
 use Rattle.au_read_expressions.specs.TypeStops.{Place, begun, behind_type, next, stops}
@@ -76,14 +77,14 @@ token_goes n m place what other (t ∷ ts) h may = token_by (same_what t.what wh
         → Goes n all_of (At n m other) (token_at what (t ∷ ts))
     token_by true is =
         subst (Goes n all_of (At n m other))
-        (sym (when_true (same_what t.what what) (given ts) (no (t ∷ ts)) is)) (
-          h.0 ∙ ap (λ p. stops p ts) (may ∙ when_true (same_what t.what what) (Some other) None is),
+        (sym (cond-true (same_what t.what what) (given ts) (no (t ∷ ts)) is)) (
+          h.0 ∙ ap (λ p. stops p ts) (may ∙ cond-true (same_what t.what what) (Some other) None is),
           omega (arith, h.1),
         )
     token_by false is =
         subst (Goes n all_of (At n m other))
-        (sym (when_false (same_what t.what what) (given ts) (no (t ∷ ts)) is))
-        (h.0 ∙ ap (λ p. stops p ts) (may ∙ when_false (same_what t.what what) (Some other) None is))
+        (sym (cond-false (same_what t.what what) (given ts) (no (t ∷ ts)) is))
+        (h.0 ∙ ap (λ p. stops p ts) (may ∙ cond-false (same_what t.what what) (Some other) None is))
 
 one_goes : (n m : ℕ) (place : Place) (what : What) (other : Place) (ts : List Token) → At n m place ts
     → Allows place what other ts → Goes n all_of (At n m other) (tokens_at (what ∷ []) ts)
@@ -144,7 +145,7 @@ right_allowed : (inside : List Within) (ts : List Token) → begins_with (Sign C
     → Allows (awaits.Behind, within.Arguments ∷ inside) (Sign RightBracket) (awaits.Behind, inside) ts
 right_allowed inside [] last = tt
 right_allowed inside (t ∷ ts) last =
-    when_false (same_what t.what (Sign Comma)) (Some (awaits.Type, within.Arguments ∷ inside))
+    cond-false (same_what t.what (Sign Comma)) (Some (awaits.Type, within.Arguments ∷ inside))
     (cond (same_what t.what (Sign RightBracket)) (Some (awaits.Behind, inside)) None) last
 
 module _ (d : ℕ) (inner : List Token → Read WrittenType) (reads : Inside d inner) where
@@ -167,19 +168,19 @@ module _ (d : ℕ) (inner : List Token → Read WrittenType) (reads : Inside d i
           (after_part (Sign Comma) (separated_at (Sign Comma) inner k) (x, t ∷ ts))
       after_by true is =
           subst (Goes n rest_of (Ended n m inside))
-          (sym (when_true (same_what t.what (Sign Comma)) more (read_of (x ∷ []) (t ∷ ts)) is))
+          (sym (cond-true (same_what t.what (Sign Comma)) more (read_of (x ∷ []) (t ∷ ts)) is))
           (goes_on n rest_of (Ended n m inside) rest_of (Ended n m inside)
           (separated_at (Sign Comma) inner k ts) (before_all x)
           (others ts (omega (arith, short)) (
             h.0 ∙ ap (λ p. stops p ts)
-                (when_true (same_what t.what (Sign Comma)) (Some (awaits.Type, within.Arguments ∷ inside))
+                (cond-true (same_what t.what (Sign Comma)) (Some (awaits.Type, within.Arguments ∷ inside))
                 (cond (same_what t.what (Sign RightBracket)) (Some (awaits.Behind, inside)) None) is),
             omega (arith, h.1),
           ))
           (λ y e. e))
       after_by false is =
           subst (Goes n rest_of (Ended n m inside))
-          (sym (when_false (same_what t.what (Sign Comma)) more (read_of (x ∷ []) (t ∷ ts)) is)) (h, is)
+          (sym (cond-false (same_what t.what (Sign Comma)) more (read_of (x ∷ []) (t ∷ ts)) is)) (h, is)
 
   -- arguments with commas between
   list_goes : (n m : ℕ) (inside : List Within) → m ≤ suc d → (k : ℕ) (ts : List Token) → length ts ≤ k
@@ -213,12 +214,12 @@ module _ (d : ℕ) (inner : List Token → Read WrittenType) (reads : Inside d i
           (bracketed LeftBracket RightBracket inner (t ∷ ts))
       args_by true is =
           subst (Goes n rest_of (At n m (awaits.Behind, inside)))
-          (sym (when_true (same_what t.what (Sign LeftBracket)) inner_args (read_of [] (t ∷ ts)) is))
+          (sym (cond-true (same_what t.what (Sign LeftBracket)) inner_args (read_of [] (t ∷ ts)) is))
           (goes_on n rest_of (Ended n m inside) rest_of (At n m (awaits.Behind, inside))
           (listed inner ts) (closed_at (Sign RightBracket ∷ []))
           (list_goes n m inside (omega (arith, short)) (length ts) ts (omega arith) (
             e ∙ ap (λ p. stops p ts)
-                (when_true (same_what t.what (Sign LeftBracket))
+                (cond-true (same_what t.what (Sign LeftBracket))
                 (Some (awaits.Type, within.Arguments ∷ inside)) (behind_type inside t.what) is),
             omega arith,
           ))
@@ -226,9 +227,9 @@ module _ (d : ℕ) (inner : List Token → Read WrittenType) (reads : Inside d i
           (awaits.Behind, inside) x h.0 (right_allowed inside x.1 h.1)))
       args_by false is =
           subst (Goes n rest_of (At n m (awaits.Behind, inside)))
-          (sym (when_false (same_what t.what (Sign LeftBracket)) inner_args (read_of [] (t ∷ ts)) is)) (
+          (sym (cond-false (same_what t.what (Sign LeftBracket)) inner_args (read_of [] (t ∷ ts)) is)) (
             e ∙ ap (λ p. stops p ts)
-                (when_false (same_what t.what (Sign LeftBracket))
+                (cond-false (same_what t.what (Sign LeftBracket))
                 (Some (awaits.Type, within.Arguments ∷ inside)) (behind_type inside t.what) is),
             omega arith,
           )

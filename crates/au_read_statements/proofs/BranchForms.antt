@@ -3,12 +3,14 @@ use Rattle.std.proofs.Common.{◌≡◌, ℕ, zero, suc, ◌<◌, ◌≤◌, Boo
 use Rattle.std.proofs.Common.{length, map, drop, Option, Some, None, Ok, refl, sym, ap, ◌∙◌, subst, arith}
 use Rattle.std.proofs.Common.{inl, inr, append-nil}
 use Rattle.std.specs.List.{flat_map, list_all}
-use Rattle.std.proofs.lemmas.Bool.{and_parts, and_from}
+use Rattle.std.proofs.lemmas.Bool.{and_parts, and_from, not-true, cond-true, cond-false, and_right, and_left}
+use Rattle.std.proofs.lemmas.Bool.{false_from_ne_true}
 use Rattle.au_base.specs.declared.limits.Limit.{Limit}
 use Rattle.au_base.specs.declared.tokens.Keyword.TheVariants.{KwIf, KwThen, KwElse}
 use Rattle.au_base.specs.declared.tokens.Token.{Token}
 use Rattle.au_base.specs.declared.tokens.What.{What}
 use Rattle.au_base.specs.declared.tokens.What.TheVariants.{Word}
+use Rattle.au_base.proofs.BoolLemmas.{cond_cases}
 use Rattle.au_syntax.specs.Forms.{begins_with_if, formed_block}
 use Rattle.au_syntax.specs.Plain.{PlainExpression, PlainStatements}
 use Rattle.au_syntax.specs.Words.{Words, block_words}
@@ -16,8 +18,8 @@ use Rattle.au_read_expressions.specs.Bounds.{Bounds}
 use Rattle.au_read_expressions.specs.Reading.{Read, ◌>>=◌, front, is_front, begins_with, read_of, before_all}
 use Rattle.au_read_expressions.specs.Reading.{joined_with, joined_at, pair, optional}
 use Rattle.au_read_expressions.specs.Spelling.{Begins, fixed}
-use Rattle.au_read_expressions.proofs.Steps.{not_read, ok_same, bind_ok, chosen, not_true, when_true}
-use Rattle.au_read_expressions.proofs.Steps.{when_false, begins_is, begins_again}
+use Rattle.au_read_expressions.proofs.Steps.{not_read, ok_same, bind_ok}
+use Rattle.au_read_expressions.proofs.Steps.{begins_is, begins_again}
 use Rattle.au_read_expressions.proofs.Begins.{begins_split, begins_join, begins_shorter, front_of}
 use Rattle.au_read_expressions.proofs.Forms.{Form, Sound, Finds, Reads, finds_on, sound_of, behind_form}
 use Rattle.au_read_expressions.proofs.Forms.{behind_reads, pair_form, pair_behind}
@@ -76,21 +78,10 @@ else_next : (ts rest : List Token) → Begins (fixed (Word KwElse ∷ [])) ts re
 else_next [] rest h = absurd h
 else_next (t ∷ ts) rest h = (h.1, begins_again (Word KwElse) (t ∷ ts) (ap (λ x. Some x) h.0.0))
 
-left_false : (a c : Bool) → a ≡ false → (a && c) ≡ false
-left_false a c e = ap (λ x. x && c) e
-
-right_false : (a c : Bool) → c ≡ false → (a && c) ≡ false
-right_false true c e = e
-right_false false c e = refl
-
-refused : (c : Bool) → (c ≡ true → ⊥) → c ≡ false
-refused true none = absurd (none refl)
-refused false none = refl
-
 -- a token that ends a block isn't `if`
 ends_no_if : (what : Option What) → ends_block what ≡ true → is_front (Word KwIf) what ≡ false
 ends_no_if what e =
-    refused (is_front (Word KwIf) what) (λ is.
+    false_from_ne_true (is_front (Word KwIf) what) (λ is.
     let wrong : not (begins_statement (Some (Word KwIf))) ≡ true =
     ap (λ w. not (begins_statement w)) (sym (front_is (Word KwIf) what is)) ∙ e in
     let none = wrong in cc)
@@ -151,7 +142,8 @@ module _ (b : Bounds) (n : ℕ) (inner calls : List Token → Read PlainExpressi
       let others = branches_within b inner calls blocks k in
       let c = bind_ok (branch_with b inner calls blocks ts) (after_branch b inner calls blocks others) (xs, rest) e in
       let s = branch_reads.sound ts c.0.1 c.0.0 c.1 in
-      elim (chosen (else_if c.0.1) (others (drop 1 c.0.1) >>= before_all c.0.0) (read_of (c.0.0 ∷ []) c.0.1)
+      elim (cond_cases (else_if c.0.1) (others (drop 1 c.0.1) >>= before_all c.0.0)
+      (read_of (c.0.0 ∷ []) c.0.1)
       (read_of xs rest) c.2) [
         | inl w ↦
             let d = bind_ok (others (drop 1 c.0.1)) (before_all c.0.0) (xs, rest) w.1 in
@@ -180,7 +172,7 @@ module _ (b : Bounds) (n : ℕ) (inner calls : List Token → Read PlainExpressi
       (branch_reads.found x ts rest (subst (λ ws. Begins ws ts rest) (append-nil ((branch_form b n).words x))
       h) (and_parts ((branch_form b n).good x) true good).0 ended)
       (λ l p. inl p)
-      (inl (when_false (else_if rest) (branches_within b inner calls blocks k (drop 1 rest) >>= before_all x)
+      (inl (cond-false (else_if rest) (branches_within b inner calls blocks k (drop 1 rest) >>= before_all x)
       (read_of (x ∷ []) rest) none))
   branches_found (x ∷ y ∷ ys) (suc k) ts rest short h good none ended =
       let others = branches_within b inner calls blocks k in
@@ -207,7 +199,7 @@ module _ (b : Bounds) (n : ℕ) (inner calls : List Token → Read PlainExpressi
       (branch_reads.found x ts s.0 s.1 g.0 (ap ends_block is))
       (λ l p. inl p)
       (subst (Finds (branches_form b n) (x ∷ y ∷ ys) rest)
-      (sym (when_true (else_if s.0) (others (drop 1 s.0) >>= before_all x) (read_of (x ∷ []) s.0) there)) (
+      (sym (cond-true (else_if s.0) (others (drop 1 s.0) >>= before_all x) (read_of (x ∷ []) s.0) there)) (
       finds_on (branches_form b n) (branches_form b n) (y ∷ ys) rest (others (drop 1 s.0)) (before_all x)
       (x ∷ y ∷ ys) rest
       (subst (λ r. Finds (branches_form b n) (y ∷ ys) rest (others r)) (sym next.0)
@@ -227,7 +219,7 @@ module _ (b : Bounds) (n : ℕ) (inner calls : List Token → Read PlainExpressi
       let o = begins_split (fixed (Word KwElse ∷ [])) (block_words block) ts rest s.spelled in
       let next = else_next ts o.0 o.1 in
       let plain : begins_with_if block ≡ false =
-      refused (begins_with_if block) (λ is.
+      false_from_ne_true (begins_with_if block) (λ is.
       let there : begins_with (Word KwIf) (drop 1 ts) ≡ true = ap (begins_with (Word KwIf)) next.0
       ∙ block_if block o.0 rest o.2 s.good is in
       let both : else_if ts ≡ true = and_from (begins_with (Word KwElse) ts)
@@ -265,8 +257,8 @@ module _ (b : Bounds) (n : ℕ) (inner calls : List Token → Read PlainExpressi
       → (else_if ts ≡ false) × (ends_block (front ts) ≡ true)
   before_last None ts rest h good ended =
       let p = and_parts (not (begins_with (Word KwElse) rest)) (ends_block (front rest)) ended in (
-        ap else_if h ∙ left_false (begins_with (Word KwElse) rest) (begins_with (Word KwIf) (drop 1 rest))
-            (not_true (begins_with (Word KwElse) rest) p.0),
+        ap else_if h ∙ and_left (begins_with (Word KwElse) rest) (begins_with (Word KwIf) (drop 1 rest))
+            (not-true (begins_with (Word KwElse) rest) p.0),
         ap (λ r. ends_block (front r)) h ∙ p.1,
       )
   before_last (Some block) ts rest h good ended =
@@ -276,8 +268,8 @@ module _ (b : Bounds) (n : ℕ) (inner calls : List Token → Read PlainExpressi
       let next = else_next ts o.0 o.1 in
       let none : begins_with (Word KwIf) (drop 1 ts) ≡ false =
       ap (begins_with (Word KwIf)) next.0 ∙ block_no_if block o.0 rest o.2 g.1
-      (not_true (begins_with_if block) g.0) (ends_no_if (front rest) p.1) in (
-        right_false (begins_with (Word KwElse) ts) (begins_with (Word KwIf) (drop 1 ts)) none,
+      (not-true (begins_with_if block) g.0) (ends_no_if (front rest) p.1) in (
+        and_right (begins_with (Word KwElse) ts) (begins_with (Word KwIf) (drop 1 ts)) none,
         ap ends_block (front_of (fixed (Word KwElse ∷ [])) ts o.0 (omega arith) o.1),
       )
 

@@ -1,6 +1,7 @@
 -- Lists of the code's trees, as reading gives them; levels; and what the loop over branches keeps.
 use Rattle.std.proofs.Common.{◌≡◌, ◌≢◌, ℕ, zero, suc, ◌-◌, true, false, List, [], ◌∷◌, ◌++◌, map, drop, Ok}
 use Rattle.std.proofs.Common.{Err, refl, ap, ◌∙◌, arith}
+use Rattle.std.proofs.lemmas.Bool.{cond-true, cond-false}
 use Rattle.au_base.specs.declared.tokens.Token.{Token}
 use Rattle.au_syntax.specs.declared.parsed.Parsed.{Parsed}
 use Rattle.au_syntax.specs.declared.statements.Stmt.{Stmt}
@@ -14,7 +15,6 @@ use Rattle.au_read_expressions.specs.declared.faults.Fault.{Fault}
 use Rattle.au_read_expressions.specs.Bounds.{Bounds}
 use Rattle.au_read_expressions.specs.Reading.{Read, ◌>>=◌, no, read_of, before_all}
 use Rattle.au_read_expressions.proofs.Loops.{with_front, one_more}
-use Rattle.au_read_expressions.proofs.Steps.{when_true, when_false}
 use Rattle.au_read_expressions.specs.ExpressionReading.{expression_at, call_at}
 use Rattle.au_read_statements.specs.Seen.{branch_seen, arm_seen}
 use Rattle.au_read_statements.specs.StatementReading.{statements_of, branches_of, arms_of, else_if}
@@ -68,7 +68,7 @@ module _ (b : Bounds) (inner calls : List Token → Read PlainExpression)
   branches_on read x k j rest next is one more =
       ap (λ n. with_front read (branches_within b inner calls blocks n rest)) is
       ∙ ap (λ r. with_front read (r >>= after_branch b inner calls blocks (branches_within b inner calls blocks j))) one
-      ∙ ap (with_front read) (when_true (else_if next)
+      ∙ ap (with_front read) (cond-true (else_if next)
       (branches_within b inner calls blocks j (drop 1 next) >>= before_all x) (read_of (x ∷ []) next) more)
       ∙ one_more read x (branches_within b inner calls blocks j (drop 1 next))
 
@@ -79,7 +79,7 @@ module _ (b : Bounds) (inner calls : List Token → Read PlainExpression)
   branches_end read x k j rest next is one last =
       ap (λ n. with_front read (branches_within b inner calls blocks n rest)) is
       ∙ ap (λ r. with_front read (r >>= after_branch b inner calls blocks (branches_within b inner calls blocks j))) one
-      ∙ ap (with_front read) (when_false (else_if next)
+      ∙ ap (with_front read) (cond-false (else_if next)
       (branches_within b inner calls blocks j (drop 1 next) >>= before_all x) (read_of (x ∷ []) next) last)
 
   pub branches_fail : (read : List (PlainExpression × PlainStatements)) (f : Fault) (k j : ℕ) (rest : List Token)

@@ -33,6 +33,7 @@ use Rattle.au_read_statements.specs.StatementReading.{assign_with, assign_throug
 use Rattle.au_read_statements.specs.StatementReading.{discard_of, discard_with, declare_of, declare_with}
 use Rattle.au_read_statements.specs.StatementReading.{skip_of, skip_at, return_of_part, return_with}
 use Rattle.au_read_expressions.proofs.ExpressionForm.{expression_form}
+use Rattle.au_read_expressions.proofs.LeafLaws.{no_name_passes}
 use Rattle.au_read_statements.proofs.Nesting.{nest_4, nest_5, nest_6}
 use Rattle.au_read_statements.proofs.PartForms.{not_first, bound_form, bound_some, bound_reads}
 use Rattle.au_read_statements.proofs.StatementForm.{Inside, Row, row_of, type_fits_before, type_passes_before}
@@ -134,10 +135,6 @@ module _ (b : Bounds) (n : ℕ) (inner calls : List Token → Read PlainExpressi
   no_field_passes : (xs : List (Placed Bytes)) (l : Limit) → OnePasses (behind_form name_form (Sign Dot ∷ [])) xs l → ⊥
   no_field_passes [] l p = p
   no_field_passes (x ∷ xs) l p = elim p [ inl q ↦ q | inr q ↦ no_field_passes xs l q ]
-
-  no_name_passes : (xs : List (Placed Bytes)) (l : Limit) → OnePasses name_form xs l → ⊥
-  no_name_passes [] l p = p
-  no_name_passes (x ∷ xs) l p = elim p [ inl q ↦ q | inr q ↦ no_name_passes xs l q ]
 
   fields_line : (xs : List (Placed Bytes)) → flat_map (λ one. mark Dot ++ one) (map name_words xs)
       ≡ flat_map (λ x. fixed (Sign Dot ∷ []) ++ name_words x) xs

@@ -2,7 +2,7 @@
 use Rattle.std.proofs.Common.{◌≡◌, ℕ, zero, suc, ◌<◌, Bool, true, not, ◌&&◌, List, [], ◌∷◌, ◌++◌, length}
 use Rattle.std.proofs.Common.{drop, Option, Some, None, Ok, Err, refl, sym, ap, ◌∙◌, subst, arith, inl, inr}
 use Rattle.std.specs.List.{flat_map, list_all}
-use Rattle.std.proofs.lemmas.Bool.{and_from}
+use Rattle.std.proofs.lemmas.Bool.{and_from, cond-true}
 use Rattle.au_base.specs.declared.limits.Limit.{Limit}
 use Rattle.au_base.specs.declared.places.Pos.{Pos}
 use Rattle.au_base.specs.declared.tokens.Keyword.TheVariants.{KwSkip, KwLet, KwVar, KwIf, KwCase, KwWhile}
@@ -12,6 +12,7 @@ use Rattle.au_base.specs.declared.tokens.Sign.TheVariants.{Dot, Exclamation}
 use Rattle.au_base.specs.declared.tokens.Token.{Token}
 use Rattle.au_base.specs.declared.tokens.What.{What}
 use Rattle.au_base.specs.declared.tokens.What.TheVariants.{Word, Sign, Name}
+use Rattle.au_base.proofs.BoolLemmas.{cond_cases}
 use Rattle.au_syntax.specs.declared.statements.Binding.TheVariants.{Let, Var}
 use Rattle.au_syntax.specs.declared.types.Access.TheVariants as access
 use Rattle.au_syntax.specs.Depths.{statement_depth, block_depth}
@@ -28,7 +29,7 @@ use Rattle.au_read_expressions.specs.declared.faults.Fault.TheVariants.{Passed}
 use Rattle.au_read_expressions.specs.Bounds.{Bounds, nesting_limit}
 use Rattle.au_read_expressions.specs.Reading.{Read, front, no, repeated}
 use Rattle.au_read_expressions.specs.Spelling.{Begins}
-use Rattle.au_read_expressions.proofs.Steps.{given, not_read, chosen, when_true}
+use Rattle.au_read_expressions.proofs.Steps.{given, not_read}
 use Rattle.au_read_expressions.proofs.Begins.{first_word, front_of}
 use Rattle.au_read_expressions.proofs.Forms.{Sound, Finds, Reads, anything, shaped_reads}
 use Rattle.au_read_expressions.proofs.Limits.{beside_fit, beside_passes}
@@ -349,7 +350,7 @@ module _ (b : Bounds) where
       Sound (statement_form b zero) s ts rest
   unfolding statement_at
   none_left_sound ts rest s e =
-      elim (chosen (begins_statement (front ts)) (Err (Passed (nesting_limit b) (length ts))) (no ts)
+      elim (cond_cases (begins_statement (front ts)) (Err (Passed (nesting_limit b) (length ts))) (no ts)
       (given (s, rest)) e) [
         | inl w ↦ absurd (not_read _ (s, rest) w.1)
         | inr w ↦ absurd (not_read _ (s, rest) w.1)
@@ -362,7 +363,7 @@ module _ (b : Bounds) where
       inr (
         nesting_limit b,
         length ts,
-        when_true (begins_statement (front ts))
+        cond-true (begins_statement (front ts))
             (Err (Passed (nesting_limit b) (length ts))) (no ts) (statement_begins s ts rest h good),
         inl (statement_deep s, refl),
       )

@@ -7,7 +7,9 @@ use Rattle.std.specs.Str.{bytes_eq}
 use Rattle.std.proofs.lemmas.List.{append-nil, reverse-append}
 use Rattle.std.proofs.lemmas.List.Elements.{Contains-append_left, Contains-append_right, Contains-append_cases}
 use Rattle.std.proofs.lemmas.Slice.Eq.{bytes_eq-Decides}
+use Rattle.std.proofs.lemmas.Bool.{and_from, or_cases, and_parts, or_left, or_right, false≢true}
 use Rattle.au_base.specs.declared.places.Pos.{Pos}
+use Rattle.au_base.proofs.ListLemmas.{Contains-first, nothing_front, nothing_there, only_item}
 use Rattle.au_syntax.specs.Plain.{Bytes}
 use Rattle.au_rules.specs.declared.marks.Kind.{Kind}
 use Rattle.au_rules.specs.declared.marks.Kind.TheVariants.{Values, Callables, Types, Fields}
@@ -20,35 +22,12 @@ use Rattle.au_rules.specs.Once.{IsAtTop, IsDeclared, IsInBlock, IsUnknown, Stays
 
 -- ---- tests of two truth values
 
-pub differ : false ≡ true → ⊥
-differ q = cc
-
-pub or_true : (a b : Bool) → (a || b) ≡ true → (a ≡ true) ⊎ (b ≡ true)
-or_true true b e = inl refl
-or_true false b e = inr e
-
-pub or_left : (a b : Bool) → a ≡ true → (a || b) ≡ true
-or_left true b e = refl
-or_left false b e = absurd (differ e)
-
-pub or_right : (a b : Bool) → b ≡ true → (a || b) ≡ true
-or_right true b e = refl
-or_right false b e = e
-
-and_true : (a b : Bool) → (a && b) ≡ true → (a ≡ true) × (b ≡ true)
-and_true true b e = (refl, e)
-and_true false b e = absurd (differ e)
-
-both_true : (a b : Bool) → a ≡ true → b ≡ true → (a && b) ≡ true
-both_true true b p q = q
-both_true false b p q = absurd (differ p)
-
 pub not_so : (a : Bool) → ¬ (a ≡ true) → a ≡ false
 not_so true h = absurd (h refl)
 not_so false h = refl
 
 pub so_not : (a : Bool) → a ≡ false → ¬ (a ≡ true)
-so_not a e q = differ (sym e ∙ q)
+so_not a e q = false≢true (sym e ∙ q)
 
 -- ---- one mark
 
@@ -57,9 +36,9 @@ same_kind_is Values Values e = refl
 same_kind_is Callables Callables e = refl
 same_kind_is Types Types e = refl
 same_kind_is Fields Fields e = refl
-same_kind_is a b e = absurd (differ e)
+same_kind_is a b e = absurd (false≢true e)
 
-same_kind_self : (kind : Kind) → same_kind kind kind ≡ true
+pub same_kind_self : (kind : Kind) → same_kind kind kind ≡ true
 same_kind_self Values = refl
 same_kind_self Callables = refl
 same_kind_self Types = refl
@@ -70,7 +49,7 @@ same_role_is Local Local e = refl
 same_role_is Whole Whole e = refl
 same_role_is Promise Promise e = refl
 same_role_is Definition Definition e = refl
-same_role_is a b e = absurd (differ e)
+same_role_is a b e = absurd (false≢true e)
 
 same_role_self : (role : Role) → same_role role role ≡ true
 same_role_self Local = refl
@@ -81,11 +60,11 @@ same_role_self Definition = refl
 -- a mark declares the name in the role
 declaring : (role : Role) (kind : Kind) (name : Bytes) (m : Mark) → is_declaring role kind name m ≡ true
     → (at : Pos) × (m ≡ Declares role kind name at)
-declaring role kind name Opens e = absurd (differ e)
-declaring role kind name Closes e = absurd (differ e)
+declaring role kind name Opens e = absurd (false≢true e)
+declaring role kind name Closes e = absurd (false≢true e)
 declaring role kind name (Declares its other same at) e =
-    let parts = and_true (same_role role its) (same_kind kind other && bytes_eq name same) e in
-    let rest = and_true (same_kind kind other) (bytes_eq name same) parts.1 in
+    let parts = and_parts (same_role role its) (same_kind kind other && bytes_eq name same) e in
+    let rest = and_parts (same_kind kind other) (bytes_eq name same) parts.1 in
     let one : role ≡ its = same_role_is role its parts.0 in
     let two : kind ≡ other = same_kind_is kind other rest.0 in
     let three : name ≡ same = (bytes_eq-Decides name same).0 rest.1 in
@@ -95,28 +74,18 @@ declares : (role : Role) (kind : Kind) (name : Bytes) (at : Pos) (m : Mark) → 
     → is_declaring role kind name m ≡ true
 declares role kind name at m e =
     ap (is_declaring role kind name) e
-    ∙ both_true (same_role role role) (same_kind kind kind && bytes_eq name name) (same_role_self role)
-    (both_true (same_kind kind kind) (bytes_eq name name) (same_kind_self kind)
+    ∙ and_from (same_role role role) (same_kind kind kind && bytes_eq name name) (same_role_self role)
+    (and_from (same_kind kind kind) (bytes_eq name name) (same_kind_self kind)
     ((bytes_eq-Decides name name).1 refl))
 
 -- ---- names that are declared before a place
 
-first_in_list : {X : Type 0} (x : X) (xs : List X) → Contains (x ∷ xs) x
-first_in_list x xs = (0, omega arith, refl)
-
-no_item : {X : Type 0} (x : X) → ¬ Contains [] x
-no_item x h = absurd (omega (arith, h.1))
-
-only_item : {X : Type 0} (x y : X) → Contains (y ∷ []) x → y ≡ x
-only_item x y (zero, within, is) = is
-only_item x y (suc k, within, is) = absurd (omega (arith, within))
-
 module _ (role : Role) (kind : Kind) (name : Bytes) where
   pub stands_declared : (before : List Mark) → stands before role kind name ≡ true
       → IsDeclared (reverse before) role kind name
-  stands_declared [] e = absurd (differ e)
+  stands_declared [] e = absurd (false≢true e)
   stands_declared (m ∷ rest) e = by (stands_declared rest)
-      (or_true (is_declaring role kind name m) (stands rest role kind name) e)
+      (or_cases (is_declaring role kind name m) (stands rest role kind name) e)
     where
       by : (stands rest role kind name ≡ true → IsDeclared (reverse rest) role kind name)
           → (is_declaring role kind name m ≡ true) ⊎ (stands rest role kind name ≡ true)
@@ -125,7 +94,7 @@ module _ (role : Role) (kind : Kind) (name : Bytes) where
           let found = declaring role kind name m one in
           let last : Contains (m ∷ []) (Declares role kind name found.0) = subst
           (λ x. Contains (x ∷ []) (Declares role kind name found.0)) (sym found.1)
-          (first_in_list (Declares role kind name found.0) []) in (
+          (Contains-first (Declares role kind name found.0) []) in (
             found.0,
             subst (λ l. Contains l (Declares role kind name found.0))
                 (sym (reverse-append (m ∷ []) rest))
@@ -141,7 +110,7 @@ module _ (role : Role) (kind : Kind) (name : Bytes) where
 
   pub declared_stands : (before : List Mark) → IsDeclared (reverse before) role kind name
       → stands before role kind name ≡ true
-  declared_stands [] h = absurd (no_item (Declares role kind name h.0) h.1)
+  declared_stands [] h = absurd (nothing_there (Declares role kind name h.0) h.1)
   declared_stands (m ∷ rest) h =
       by (declared_stands rest) (Contains-append_cases (reverse rest) (m
       ∷ []) (Declares role kind name h.0) (subst (λ l. Contains l (Declares role kind name h.0))
@@ -153,18 +122,18 @@ module _ (role : Role) (kind : Kind) (name : Bytes) where
       by before (inl more) = or_right (is_declaring role kind name m) (stands rest role kind name)
           (before (h.0, more))
       by before (inr one) = or_left (is_declaring role kind name m) (stands rest role kind name)
-          (declares role kind name h.0 m (only_item (Declares role kind name h.0) m one))
+          (declares role kind name h.0 m (only_item m (Declares role kind name h.0) one))
 
 module _ (before : List Mark) (kind : Kind) (name : Bytes) where
   pub top_at_top : is_top before kind name ≡ true → IsAtTop (reverse before) kind name
-  top_at_top e = by (or_true (stands before Whole kind name) (stands before Promise kind name
+  top_at_top e = by (or_cases (stands before Whole kind name) (stands before Promise kind name
       || stands before Definition kind name) e)
     where
       by : (stands before Whole kind name ≡ true) ⊎
           ((stands before Promise kind name || stands before Definition kind name) ≡ true)
           → IsAtTop (reverse before) kind name
       by (inl one) = inl (stands_declared Whole kind name before one)
-      by (inr more) = elim (or_true (stands before Promise kind name) (stands before Definition kind name)
+      by (inr more) = elim (or_cases (stands before Promise kind name) (stands before Definition kind name)
           more) [
             | inl two ↦ inr (inl (stands_declared Promise kind name before two))
             | inr three ↦ inr
@@ -193,7 +162,7 @@ module _ (before : List Mark) (kind : Kind) (name : Bytes) where
 
   pub unknown_to : IsUnknown (reverse before) kind name → is_declared before kind name ≡ false
   unknown_to h = not_so (is_declared before kind name)
-      (λ e. by (or_true (stands before Local kind name) (is_top before kind name) e))
+      (λ e. by (or_cases (stands before Local kind name) (is_top before kind name) e))
     where
       none : IsAtTop (reverse before) kind name → ⊥
       none (inl one) = h Whole one
@@ -219,10 +188,6 @@ closed_last (Closes ∷ rest) m = omega (arith, closed_last rest m)
 closed_last (Declares role kind name at ∷ rest) m = closed_last rest m
 
 -- nothing is cut into nothing
-nothing_front : {X : Type 0} (front back : List X) → [] ≡ front ++ back → front ≡ []
-nothing_front [] back q = refl
-nothing_front (z ∷ zs) back q = absurd cc
-
 nothing_back : {X : Type 0} (front back : List X) → [] ≡ front ++ back → back ≡ []
 nothing_back [] back q = sym q
 nothing_back (z ∷ zs) back q = absurd cc
@@ -327,7 +292,7 @@ module _ (kind : Kind) (name : Bytes) where
   open_in_block : (n : ℕ) (before : List Mark) → is_open kind name n before ≡ true
       → InBlocks n (reverse before)
   unfolding is_open
-  open_in_block n [] e = absurd (differ e)
+  open_in_block n [] e = absurd (false≢true e)
   open_in_block n (Closes ∷ rest) e = behind_one rest Closes (suc n) n (closes_keep n)
       (open_in_block (suc n) rest e)
   open_in_block zero (Opens ∷ rest) e = behind_one rest Opens zero zero opens_keep_all
@@ -335,7 +300,7 @@ module _ (kind : Kind) (name : Bytes) where
   open_in_block (suc n) (Opens ∷ rest) e = behind_one rest Opens n (suc n) (opens_keep n)
       (open_in_block n rest e)
   open_in_block zero (Declares role other same at ∷ rest) e =
-      by (open_in_block zero rest) (or_true (is_declaring Local kind name (Declares role other same at))
+      by (open_in_block zero rest) (or_cases (is_declaring Local kind name (Declares role other same at))
       (is_open kind name zero rest) e)
     where
       by : (is_open kind name zero rest ≡ true → InBlocks zero (reverse rest))

@@ -1,31 +1,16 @@
 -- The doubles of the modules of a program, one place after another.
-use Rattle.std.proofs.Common.{◌≡◌, ℕ, suc, zero, ◌+◌, ◌<◌, ◌≤◌, ◌⊎◌, inl, inr, List, [], ◌∷◌, ◌++◌, length}
-use Rattle.std.proofs.Common.{get_or, Option, None, Some, refl, sym, ap, ◌∙◌, subst, arith}
+use Rattle.std.proofs.Common.{◌≡◌, ℕ, ◌+◌, ◌<◌, ◌≤◌, ◌⊎◌, inl, inr, List, [], ◌∷◌, ◌++◌, length}
+use Rattle.std.proofs.Common.{get_or, Option, None, Some, sym, ap, ◌∙◌, subst, arith}
 use Rattle.std.specs.Prelude.{slice_get}
 use Rattle.std.specs.Option.{option_map}
 use Rattle.std.proofs.lemmas.Bool.{cases_lt}
 use Rattle.std.proofs.lemmas.Option.{slice_get_cases, slice_get_past}
+use Rattle.std.proofs.lemmas.List.{length_push}
+use Rattle.au_base.proofs.ListLemmas.{get_left, got_last}
 use Rattle.au_types.specs.declared.types.DeclAt.{DeclAt}
 use Rattle.au_modules.specs.Programs.{ModuleParts}
 use Rattle.au_rules.specs.declared.doubles.Double.{Double}
 use Rattle.au_rules.specs.Doubles.{double_at, doubles_of, first_double, numbered_double}
-
--- ---- lists with one more item
-
-got_before : {X : Type 0} (xs ys : List X) (k : ℕ) → k < length xs → slice_get (xs ++ ys) k ≡ slice_get xs k
-got_before [] ys k h = absurd (omega arith)
-got_before (x ∷ xs) ys zero h = refl
-got_before (x ∷ xs) ys (suc k) h = got_before xs ys k (omega arith)
-
-got_last : {X : Type 0} (xs : List X) (y : X) (k : ℕ) → k ≡ length xs → slice_get (xs ++ y ∷ []) k ≡ Some y
-got_last [] y zero h = refl
-got_last [] y (suc k) h = absurd (omega arith)
-got_last (x ∷ xs) y zero h = absurd (omega arith)
-got_last (x ∷ xs) y (suc k) h = got_last xs y k (omega arith)
-
-one_more : {X : Type 0} (xs : List X) (y : X) → length (xs ++ y ∷ []) ≡ length xs + 1
-one_more [] y = refl
-one_more (x ∷ xs) y = omega (arith, one_more xs y)
 
 -- ---- modules in order
 
@@ -49,7 +34,7 @@ pub below_next : (program : List ModuleParts) (place : ℕ) (all after : List (L
     ≡ doubles_of program place m)
     → after ≡ all ++ one ∷ [] → AreDoublesBelow program (place + 1) after
 below_next program place all after one within old is new = record {
-  count = ap length new ∙ one_more all one ∙ ap (λ n. n + 1) old.count;
+  count = ap length new ∙ length_push all one ∙ ap (λ n. n + 1) old.count;
   each = λ k h. by k h (cases_lt k place);
 }
   where
@@ -64,7 +49,7 @@ below_next program place all after one within old is new = record {
         ≡ option_map (doubles_of program k) (slice_get program k)
     by k h (inl less) =
         let inside : k < length all = omega (arith, less, old.count) in
-        ap (λ r. slice_get r k) new ∙ got_before all (one ∷ []) k inside ∙ old.each k less
+        ap (λ r. slice_get r k) new ∙ get_left all (one ∷ []) k inside ∙ old.each k less
     by k h (inr more) =
         let at_end : k ≡ length all = omega (arith, h, more, old.count) in
         let same : place ≡ k = omega (arith, h, more) in

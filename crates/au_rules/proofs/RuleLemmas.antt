@@ -6,7 +6,9 @@ use Rattle.std.specs.Prelude.{slice_get}
 use Rattle.std.specs.List.{flat_map}
 use Rattle.std.specs.Option.{option_map, option_or}
 use Rattle.std.proofs.lemmas.List.{append-nil, reverse-append}
+use Rattle.std.proofs.lemmas.Bool.{or_cases, or_left, or_right}
 use Rattle.au_base.specs.declared.places.Pos.{Pos}
+use Rattle.au_base.proofs.OptionLemmas.{or_both}
 use Rattle.au_syntax.specs.declared.modules.Part.{Part}
 use Rattle.au_syntax.specs.declared.modules.Part.TheVariants.{Interface, Body}
 use Rattle.au_syntax.specs.Plain.{Bytes, PlainDeclaration}
@@ -26,8 +28,8 @@ use Rattle.au_rules.specs.Doubles.{numbered_double, stands}
 use Rattle.au_rules.specs.Marks.{marks}
 use Rattle.au_rules.specs.Once.{AllNamesAreOnce, AreNew, IsDue, IsNew, IsUnknown, NamesAreOnce, text_of}
 use Rattle.au_rules.specs.Outside.{outside}
-use Rattle.au_rules.proofs.OnceLemmas.{at_top_top, declared_stands, not_so, open_from, open_to, or_left}
-use Rattle.au_rules.proofs.OnceLemmas.{or_right, or_true, so_not, stands_declared, top_at_top, unknown_from}
+use Rattle.au_rules.proofs.OnceLemmas.{at_top_top, declared_stands, not_so, open_from, open_to}
+use Rattle.au_rules.proofs.OnceLemmas.{so_not, stands_declared, top_at_top, unknown_from}
 use Rattle.au_rules.proofs.OnceLemmas.{unknown_to}
 
 module _ (foreign : Kind → Bytes → Bool) where
@@ -49,7 +51,7 @@ module _ (foreign : Kind → Bytes → Bool) where
 
     new_local : IsNew foreign (reverse before) Local kind name → local_again ≡ false
     unfolding local_again
-    new_local h = not_so local_again (λ e. by (or_true (foreign kind name) (is_top before kind name
+    new_local h = not_so local_again (λ e. by (or_cases (foreign kind name) (is_top before kind name
         || is_open kind name zero before) e))
       where
         inner : (is_top before kind name ≡ true) ⊎ (is_open kind name zero before ≡ true) → ⊥
@@ -59,7 +61,7 @@ module _ (foreign : Kind → Bytes → Bool) where
         by : (foreign kind name ≡ true) ⊎ ((is_top before kind name || is_open kind name zero before) ≡ true)
             → ⊥
         by (inl one) = h.0 one
-        by (inr more) = inner (or_true (is_top before kind name) (is_open kind name zero before) more)
+        by (inr more) = inner (or_cases (is_top before kind name) (is_open kind name zero before) more)
 
     definition_again : Bool
     definition_again = cond (stands before Promise kind name) (stands before Definition kind name)
@@ -213,16 +215,12 @@ module _ (foreign : Kind → Bytes → Bool) where
   new_mark before (Declares role kind name at) h = ap
       (λ c. cond c (Some (record { name = name; at = at })) None) (new_name before kind name role h)
 
-  or_nothing : {A : Type 0} (o p : Option A) → option_or o p ≡ None → (o ≡ None) × (p ≡ None)
-  or_nothing None p e = (refl, e)
-  or_nothing (Some x) p e = absurd cc
-
   marks_new : (before marks : List Mark) → first_again foreign before marks ≡ None
       → AreNew foreign (reverse before) marks
   unfolding first_again
   marks_new before [] e = new_none (reverse before)
   marks_new before (m ∷ rest) e =
-      let parts = or_nothing (double_of foreign before m) (first_again foreign (m ∷ before) rest) e in
+      let parts = or_both (double_of foreign before m) (first_again foreign (m ∷ before) rest) e in
       new_all (reverse before) m rest (mark_new before m parts.0)
       (subst (λ l. AreNew foreign l rest) (reverse-append (m ∷ []) before)
       (marks_new (m ∷ before) rest parts.1))

@@ -4,6 +4,7 @@ use Rattle.std.proofs.Common.{true≢false}
 use Rattle.std.specs.Prelude.{◌↔◌}
 use Rattle.std.specs.Option.{option_map, option_or}
 use Rattle.std.proofs.lemmas.Option.{none-some}
+use Rattle.au_base.proofs.OptionLemmas.{or_first, or_second, or_neither, map_none, none_map}
 use Rattle.au_syntax.specs.Plain.{PlainDeclaration}
 use Rattle.au_types.specs.declared.types.DeclAt.{DeclAt}
 use Rattle.au_modules.specs.Programs.{ModuleParts}
@@ -11,7 +12,7 @@ use Rattle.au_names.specs.HeadsOf.{heads_of}
 use Rattle.au_rules.specs.declared.doubles.Double.{Double}
 use Rattle.au_rules.specs.Doubles.{first_double}
 use Rattle.au_rules.specs.Once.{AllNamesAreOnce}
-use Rattle.au_names.proofs.AmongLemmas.{among, contains, or_first, or_neither, or_second}
+use Rattle.au_names.proofs.AmongLemmas.{among, contains}
 use Rattle.au_imports.proofs.ChoiceLemmas.{first_from, first_to, so_from, so_to}
 use Rattle.au_promises.specs.Promises.{declaration_place}
 use Rattle.au_formed.specs.Forms.{form_fault}
@@ -25,15 +26,6 @@ use Rattle.au_rules.specs.declared.faults.DeclFault.TheVariants as fault
 use Rattle.au_rules.specs.DeclFaults.{decl_fault, declaration_fault, of_double, of_form, type_fault}
 use Rattle.au_rules.specs.Good.{AllDeclarationsAreGood, DeclarationIsGood}
 use Rattle.au_rules.proofs.DoubleLemmas.{double_stands}
-
--- ---- options
-
-map_none : {A B : Type 0} (f : A → B) (o : Option A) → option_map f o ≡ None → o ≡ None
-map_none f None h = refl
-map_none f (Some x) h = absurd cc
-
-none_map : {A B : Type 0} (f : A → B) (o : Option A) → o ≡ None → option_map f o ≡ None
-none_map f o h = ap (option_map f) h
 
 module _ (program : List ModuleParts) where
   abbrev the_type : Spot → Option DeclAt

@@ -10,6 +10,7 @@ use Rattle.std.proofs.lemmas.List.{length-take-le, take-append-le, take_more}
 use Rattle.std.proofs.lemmas.List.Sums.{fold_more}
 use Rattle.std.proofs.lemmas.Slice.Eq.{bytes_eq-Decides}
 use Rattle.au_base.specs.declared.places.Pos.{Pos}
+use Rattle.au_base.proofs.OptionLemmas.{or_none}
 use Rattle.au_syntax.specs.Plain.{Bytes}
 use Rattle.au_types.specs.Tables.{has_name, with_pair}
 use Rattle.au_types.proofs.TableLemmas.{find-with_pair, find-with_pair_other, with_pair-new, with_pair-old}
@@ -26,6 +27,7 @@ use Rattle.au_rules.specs.Doubles.{is_declared, is_name_again, is_open, is_top, 
 use Rattle.au_rules.specs.Nests.{entered, left, with_name}
 use Rattle.au_rules.specs.Scopes.{after, after_all, closed, double_in, doubles_in, first_in, is_again_among}
 use Rattle.au_rules.specs.Scopes.{is_again_in, is_known_in, is_top_in, no_names, no_scopes, noted, opened}
+use Rattle.au_rules.proofs.OnceLemmas.{same_kind_self}
 
 -- ---- tables of names
 
@@ -127,12 +129,6 @@ pub record AreNamesOf (kind : Kind) (before : List Mark) (t : Names) : Type 0 wh
   pub definitions : (name : Bytes) → has_name name t.definitions ≡ stands before Definition kind name
   pub nested : (n : ℕ) (name : Bytes) → has_name name (left_by n t.nest).0 ≡ is_open kind name n before
   pub fits : Fits t.nest
-
-same_kind_self : (kind : Kind) → same_kind kind kind ≡ true
-same_kind_self Values = refl
-same_kind_self Callables = refl
-same_kind_self Types = refl
-same_kind_self Fields = refl
 
 -- a name of the kind
 here : (kind : Kind) (name other : Bytes) (s : Bool) → (bytes_eq other name || s)
@@ -471,10 +467,6 @@ module _ (foreign : Kind → Bytes → Bool) where
       (after_marks before s d h) i
 
   -- ---- one mark more behind others, as a loop goes
-
-  or_none : {A : Type 0} (o : Option A) → option_or o None ≡ o
-  or_none None = refl
-  or_none (Some x) = refl
 
   or_assoc : {A : Type 0} (o p q : Option A) → option_or o (option_or p q) ≡ option_or (option_or o p) q
   or_assoc None p q = refl

@@ -11,6 +11,7 @@ use Rattle.au_modules.specs.Programs.{ModuleParts}
 use Rattle.au_names.specs.declared.part_names.PartNames.{PartNames}
 use Rattle.au_imports.specs.Clashing.{is_built_in}
 use Rattle.au_names.specs.Known.{seen_by}
+use Rattle.au_rules.specs.declared.outside.Here.{Here}
 use Rattle.au_rules.specs.declared.marks.Kind.{Kind}
 use Rattle.au_rules.specs.declared.marks.Kind.TheVariants.{Values, Callables, Types, Fields}
 
@@ -25,6 +26,10 @@ is_outside place names Values name = is_foreign place (find name names.values)
 is_outside place names Callables name = false
 is_outside place names Types name = is_built_in spaces.Types name || is_foreign place (find name names.types)
 is_outside place names Fields name = false
+
+-- in this part
+abbrev pub is_outside_of : Here → Kind → Bytes → Bool
+is_outside_of here = is_outside here.place here.names.now
 
 -- in a part of the module at a place
 abbrev pub outside : List ModuleParts → ℕ → ModuleParts → Part → Kind → Bytes → Bool

@@ -18,11 +18,10 @@ ghost use Rattle.au_syntax.specs.contracts.parsed.ParsedPhase.TheImpl.{ghosts as
 use crate::doubles::Double;
 use crate::listing::marks_of;
 use crate::marks::{Kind, Mark, Role};
-use crate::outside::is_outside;
+use crate::outside::{Here, is_outside};
 use crate::scopes::Scopes;
 use au_base::{Memory, Name, Pos};
 use au_imports::Resolved;
-use au_names::PartNames;
 use au_syntax::{Decl, Parsed, Part};
 use std::alloc::Global;
 
@@ -43,19 +42,18 @@ fn double_if(alloc: Global, again: bool, name: &Name, at: Pos) -> Result<Option<
 fn judge_name(
     alloc: Global,
     scopes: &mut Scopes,
-    place: usize,
-    names: &PartNames,
+    here: &Here,
     role: Role,
     kind: Kind,
     name: &Name,
     at: Pos,
 ) -> Result<Option<Double>, Memory>
-    ensures found { IfOk result (λ found. found ≡ spec.double_in (outside.is_outside place names.now)
+    ensures found { IfOk result (λ found. found ≡ spec.double_in (outside.is_outside_of here.now)
         scopes.old (Mark.Declares role kind name.now at)) }
     ensures noted { OnOk result (scopes.new ≡ after scopes.old (Mark.Declares role kind name.now at)) }
 {
     let bytes = name.as_bytes();
-    let foreign = is_outside(place, names, kind, bytes);
+    let foreign = is_outside(here, kind, bytes);
     let again = scopes.is_again(foreign, role, kind, bytes);
     scopes.note(role, kind, bytes)?;
     double_if(alloc, again, name, at)
@@ -65,11 +63,10 @@ fn judge_name(
 fn judge_mark(
     alloc: Global,
     scopes: &mut Scopes,
-    place: usize,
-    names: &PartNames,
+    here: &Here,
     mark: &Mark,
 ) -> Result<Option<Double>, Memory>
-    ensures found { IfOk result (λ found. found ≡ spec.double_in (outside.is_outside place names.now)
+    ensures found { IfOk result (λ found. found ≡ spec.double_in (outside.is_outside_of here.now)
         scopes.old mark.now) }
     ensures noted { OnOk result (scopes.new ≡ after scopes.old mark.now) }
 {
@@ -83,7 +80,7 @@ fn judge_mark(
             Ok(None)
         }
         Mark::Declares(role, kind, name, at) => {
-            judge_name(alloc, scopes, place, names, *role, *kind, name, *at)
+            judge_name(alloc, scopes, here, *role, *kind, name, *at)
         }
     }
 }
@@ -92,17 +89,16 @@ fn judge_mark(
 fn judge_marks(
     alloc: Global,
     scopes: &mut Scopes,
-    place: usize,
-    names: &PartNames,
+    here: &Here,
     marks: &Vec<Mark>,
 ) -> Result<Option<Double>, Memory>
-    ensures found { IfOk result (λ found. found ≡ spec.first_in (outside.is_outside place names.now)
+    ensures found { IfOk result (λ found. found ≡ spec.first_in (outside.is_outside_of here.now)
         scopes.old marks.now.items) }
     ensures noted { OnOk result (scopes.new ≡ after_all scopes.old marks.now.items) }
 {
     let mut first = None;
     for mark in marks {
-        let found = judge_mark(alloc, scopes, place, names, mark)?;
+        let found = judge_mark(alloc, scopes, here, mark)?;
         first = first.or(found);
     }
     Ok(first)
@@ -112,18 +108,17 @@ fn judge_marks(
 fn judge_declaration(
     alloc: Global,
     scopes: &mut Scopes,
-    place: usize,
-    names: &PartNames,
+    here: &Here,
     part: Part,
     decl: &Decl<Parsed>,
 ) -> Result<Option<Double>, Memory>
-    ensures found { IfOk result (λ found. found ≡ spec.first_in (outside.is_outside place names.now)
+    ensures found { IfOk result (λ found. found ≡ spec.first_in (outside.is_outside_of here.now)
         scopes.old (marks part (plain_declaration parsed.name_bytes (declaration parsed decl.now)))) }
     ensures noted { OnOk result (scopes.new ≡ after_all scopes.old
         (marks part (plain_declaration parsed.name_bytes (declaration parsed decl.now)))) }
 {
     let marks = marks_of(alloc, part, decl)?;
-    judge_marks(alloc, scopes, place, names, &marks)
+    judge_marks(alloc, scopes, here, &marks)
 }
 
 /// Puts the first name of each declaration of a part that is declared again.
@@ -131,13 +126,12 @@ fn judge_declarations(
     alloc: Global,
     list: &mut Vec<Option<Double>>,
     scopes: &mut Scopes,
-    place: usize,
-    names: &PartNames,
+    here: &Here,
     part: Part,
     decls: &Vec<Decl<Parsed>>,
 ) -> Result<(), Memory>
     ensures found { OnOk result (list.new.items ≡ list.old.items
-        ++ spec.doubles_in (outside.is_outside place names.now) scopes.old
+        ++ spec.doubles_in (outside.is_outside_of here.now) scopes.old
         (map (marks part) (map (plain_declaration parsed.name_bytes)
         (map (declaration parsed) decls.now.items)))) }
     ensures noted { OnOk result (scopes.new ≡ fold after_all scopes.old
@@ -145,7 +139,7 @@ fn judge_declarations(
         (map (declaration parsed) decls.now.items)))) }
 {
     for decl in decls {
-        let found = judge_declaration(alloc, scopes, place, names, part, decl)?;
+        let found = judge_declaration(alloc, scopes, here, part, decl)?;
         list.push(found)?;
     }
     Ok(())
@@ -170,11 +164,12 @@ pub fn judge_part(
         (map (marks part) (declarations_in (part_of part m)))) }
 {
     let names = resolved.names(place, part);
+    let here = Here { place, names };
     match resolved.modules().part(place, part) {
         None => Ok(()),
         Some(file) => {
             let tree = file.tree();
-            judge_declarations(alloc, list, scopes, place, names, part, &tree.declarations)
+            judge_declarations(alloc, list, scopes, &here, part, &tree.declarations)
         }
     }
 }

@@ -9,6 +9,15 @@ use au_imports::built_in::is_built_in;
 use au_names::PartNames;
 use au_types::{DeclAt, Space};
 
+/// A part of a module that declares names.
+#[derive(Clone, Copy)]
+pub struct Here<'a> {
+    /// The place of the module.
+    pub place: usize,
+    /// What names mean in the part.
+    pub names: &'a PartNames,
+}
+
 /// Whether a declaration is one of another module than that at a place.
 fn is_foreign(place: usize, found: Option<&DeclAt>) -> bool
     ensures { result ≡ spec.is_foreign place (option_copied found.entry) }
@@ -19,16 +28,15 @@ fn is_foreign(place: usize, found: Option<&DeclAt>) -> bool
     }
 }
 
-/// Whether a name is in scope in all of a part of the module at a place and comes from elsewhere, given what
-/// names mean there.
-pub fn is_outside(place: usize, names: &PartNames, kind: Kind, name: &[u8]) -> bool
-    ensures { result ≡ spec.is_outside place names.now kind name.now }
+/// Whether a name is in scope in all of a part and comes from elsewhere.
+pub fn is_outside(here: &Here, kind: Kind, name: &[u8]) -> bool
+    ensures { result ≡ spec.is_outside_of here.now kind name.now }
 {
     match kind {
-        Kind::Values => is_foreign(place, names.values.get(name)),
+        Kind::Values => is_foreign(here.place, here.names.values.get(name)),
         Kind::Callables => false,
         Kind::Types => {
-            is_built_in(Space::Types, name) || is_foreign(place, names.types.get(name))
+            is_built_in(Space::Types, name) || is_foreign(here.place, here.names.types.get(name))
         }
         Kind::Fields => false,
     }

@@ -8,6 +8,7 @@ use Rattle.au_low.specs.declared.endings.Ending.TheVariants as low_ending
 use Rattle.au_lowering.specs.Closed.{code_of}
 use Rattle.au_meaning.specs.Laws.{Begins}
 use Rattle.au_meaning.specs.Worlds.{Ending, Outcome, exit, abort, running, stuck}
+use Rattle.au_meaning.proofs.Growing.{begins_refl}
 use Rattle.au_runs.specs.Calls.{IsCut}
 use Rattle.au_running.specs.Came.{CodeEnds}
 use Rattle.au_running.specs.Fronts.{CutRunsWriteFronts, IsStuckAsMeant, RunsWriteFronts, StuckAnswersAreMeant}
@@ -20,7 +21,6 @@ use Rattle.au_running.specs.declared.ran.Ran.TheVariants as how
 use Rattle.au_running.proofs.AnswerLemmas.{came_cut}
 use Rattle.au_running.proofs.FrontLemmas.{front_of_whole}
 use Rattle.au_running.proofs.RunLemmas.{runs_shown}
-use Rattle.au_lowered.proofs.AnswerLemmas.{begins_refl}
 
 -- ---- endings
 

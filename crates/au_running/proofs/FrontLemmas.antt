@@ -1,11 +1,11 @@
 -- Runs that are cut off: a front of what they write was written.
-use Rattle.std.proofs.Common.{◌≡◌, ℕ, ◌+◌, ◌-◌, min, false, List, [], ◌++◌, length, take, Option, Some, None}
-use Rattle.std.proofs.Common.{IfSome, Result, Ok, Err, OnErr, refl, sym, ap, subst, ◌∙◌, arith}
+use Rattle.std.proofs.Common.{◌≡◌, ℕ, ◌+◌, ◌-◌, false, List, [], ◌++◌, length, take, Option, Some, None}
+use Rattle.std.proofs.Common.{IfSome, refl, sym, ap, subst, ◌∙◌, arith}
 use Rattle.std.specs.Option.{option_map}
 use Rattle.std.proofs.Math.Seq.{take-append_seam}
-use Rattle.std.proofs.lemmas.List.{append-nil, take-append-le, take_min}
+use Rattle.std.proofs.lemmas.List.{append-nil}
 use Rattle.au_base.specs.Outside.{Adds, AddsFront}
-use Rattle.au_base.proofs.OutsideLemmas.{adds_none}
+use Rattle.au_base.proofs.OutsideLemmas.{adds_none, front_first}
 use Rattle.au_effects.specs.Worlds.{Deed}
 use Rattle.au_low.specs.Runs.{Outcome, low_run}
 use Rattle.au_low.specs.declared.code.Code.{Code}
@@ -15,12 +15,6 @@ use Rattle.au_runs.specs.Calls.{HasWaited, IsCut, IsMade, Runs}
 use Rattle.au_lowered.proofs.GrowthLemmas.{run_grown}
 
 -- ---- fronts
-
-front_first : (old new : Option (List ℕ)) (x y : List ℕ) → AddsFront old new x → AddsFront old new (x ++ y)
-front_first old new x y front =
-    let n : ℕ = min front.0 (length x) in
-    let same : take n (x ++ y) ≡ take front.0 x = take-append-le n x y (omega arith) ∙ take_min front.0 x in
-    (n, subst (Adds old new) (sym same) front.1)
 
 -- a front of the beginning is a front of the whole
 pub front_of_whole : (old new : Option (List ℕ)) (xs ys : List ℕ) → Begins xs ys → AddsFront old new xs
@@ -58,11 +52,6 @@ after_is None = tt
 after_is (Some bytes) = refl
 
 -- ---- what is cut off
-
--- a fact at an `Err`
-pub on_err : {T E P : Type 0} (r : Result T E) → P → OnErr r P
-on_err (Ok x) p = tt
-on_err (Err e) p = p
 
 -- a run that didn't begin
 pub unbegun_cut : (run : Runs) (limit : ℕ) (told out : Option (List ℕ)) → IsCut run limit told out out

@@ -1,10 +1,12 @@
 -- Guarded functions are a good program, and so the code of what suits does what it means.
-use Rattle.std.proofs.Common.{◌≡◌, ℕ, suc, ◌+◌, ◌&&◌, Bool, true, false, not, cond, List, [], ◌∷◌, map}
+use Rattle.std.proofs.Common.{◌≡◌, ℕ, suc, ◌+◌, Bool, true, false, not, cond, List, [], ◌∷◌, map}
 use Rattle.std.proofs.Common.{Option, Some, None, refl, sym, ap, subst, ◌∙◌, arith}
 use Rattle.std.specs.Prelude.{slice_get, if◌then◌else◌}
 use Rattle.std.specs.Option.{option_map}
 use Rattle.std.specs.Str.{bytes_eq}
 use Rattle.std.proofs.lemmas.Option.{slice_get-map}
+use Rattle.std.proofs.lemmas.Bool.{not-true}
+use Rattle.au_base.proofs.BoolLemmas.{and_first, and_second}
 use Rattle.au_type_texts.specs.Same.{same}
 use Rattle.au_type_texts.specs.Types.{ClosedType}
 use Rattle.au_type_texts.proofs.SameLemmas.{same_is}
@@ -28,19 +30,7 @@ use Rattle.au_running.specs.Suits.{guarded, guarded_function, guarded_functions}
 use Rattle.au_running.proofs.CodeLemmas.{lowered_same, texts_same, types_same}
 use Rattle.au_running.proofs.MeaningLemmas.{means_same}
 
--- ---- tests
-
-both_left : (a b : Bool) → (a && b) ≡ true → a ≡ true
-both_left true b e = refl
-both_left false b e = absurd cc
-
-both_right : (a b : Bool) → (a && b) ≡ true → b ≡ true
-both_right true b e = e
-both_right false b e = absurd cc
-
-isnt : (b : Bool) → not b ≡ true → b ≡ false
-isnt true e = absurd cc
-isnt false e = refl
+-- ---- literals
 
 literal_there : (value : Value) → has_literal value ≡ true → HasLiteral value
 literal_there values.unit e = tt
@@ -52,15 +42,15 @@ literal_there other e = absurd cc
 lacks_it : (name : Bytes) (all : List Bytes) → is_lacking name all ≡ true → Lacks name all
 lacks_it name [] e = tt
 lacks_it name (other ∷ rest) e = (
-  isnt (bytes_eq name other) (both_left (not (bytes_eq name other)) (is_lacking name rest) e),
-  lacks_it name rest (both_right (not (bytes_eq name other)) (is_lacking name rest) e),
+  not-true (bytes_eq name other) (and_first (not (bytes_eq name other)) (is_lacking name rest) e),
+  lacks_it name rest (and_second (not (bytes_eq name other)) (is_lacking name rest) e),
 )
 
 once_each : (all : List Bytes) → are_once all ≡ true → Once all
 once_each [] e = tt
 once_each (name ∷ rest) e = (
-  lacks_it name rest (both_left (is_lacking name rest) (are_once rest) e),
-  once_each rest (both_right (is_lacking name rest) (are_once rest) e),
+  lacks_it name rest (and_first (is_lacking name rest) (are_once rest) e),
+  once_each rest (and_second (is_lacking name rest) (are_once rest) e),
 )
 
 ships_plainly : (act : Act ℕ) → acts_plainly act ≡ true → (call : ShippedCall) (born : Option ClosedType)
@@ -121,10 +111,10 @@ module _ {T C : Type 0} (told : ClosedType → LowType) (functions : List (Funct
     constants = λ note name value e. literal_there value (passed has_literal
         (see.constant note name) value e);
     parameters = λ note c name one e.
-        once_each one.parameters (both_left (are_once one.parameters) (acts_plainly one.act)
+        once_each one.parameters (and_first (are_once one.parameters) (acts_plainly one.act)
         (passed is_followed (see.callee note c name) one e));
     plain_calls = λ note c name one e call born is.
-        ships_plainly one.act (both_right (are_once one.parameters) (acts_plainly one.act)
+        ships_plainly one.act (and_second (are_once one.parameters) (acts_plainly one.act)
         (passed is_followed (see.callee note c name) one e)) call born is;
     linear = λ of type e.
         told_linear told see.is_linear says of

@@ -5,6 +5,7 @@ use Rattle.std.specs.Prelude.{slice_get}
 use Rattle.std.specs.List.{flat_map}
 use Rattle.std.specs.Option.{option_map}
 use Rattle.std.proofs.lemmas.Option.{none-some, same_Some, slice_get-map}
+use Rattle.au_base.proofs.OptionLemmas.{map_some}
 use Rattle.au_syntax.specs.declared.modules.Part.{Part}
 use Rattle.au_syntax.specs.declared.modules.Part.TheVariants.{Body}
 use Rattle.au_syntax.specs.Modules.{Variant, constant, opaque_type, record_type, union_type, function, class}
@@ -40,7 +41,7 @@ use Rattle.au_running.specs.Suits.{are_once}
 use Rattle.au_running.specs.Once.{ClosedFieldsAreOnce, ClosedParametersAreOnce}
 use Rattle.au_running.proofs.MarkLemmas.{AreNewThere, declared_once, inside_new, item_new, marks_written}
 use Rattle.au_running.proofs.MarkLemmas.{names_written, rest_new}
-use Rattle.au_running.proofs.StandingLemmas.{AllAre, body_new, definition_new, mapped}
+use Rattle.au_running.proofs.StandingLemmas.{AllAre, body_new, definition_new}
 
 -- ---- fields that are closed
 
@@ -69,7 +70,7 @@ module _ (program : List ModuleParts) (noted : List NotedParts) where
       → (all : List Instance) (one : Instance) (f : ClosedFunction)
       → instance_closed program noted all one ≡ Some f → HasOwnNames f
   body_once once all one f is =
-      let its = mapped (body_closed program noted all one.given) (body_of program noted one.of) f is in
+      let its = map_some (body_closed program noted all one.given) (body_of program noted one.of) f is in
       subst HasOwnNames its.2
       (closed_once (types_at program its.0.place Body) (heads_of program) (written_params its.0.generics)
       one.given its.0.header.parameters (once one its.0 its.1))
@@ -78,10 +79,10 @@ module _ (program : List ModuleParts) (noted : List NotedParts) where
 -- their own.
 pub closed_parameters_are_once : ClosedParametersAreOnce
 closed_parameters_are_once program noted good derived entry functions closes number names is =
-    let its = mapped (λ (f : ClosedFunction). field_names (parameters_seen f)) (slice_get functions number)
+    let its = map_some (λ (f : ClosedFunction). field_names (parameters_seen f)) (slice_get functions number)
     names is in
     let closed = instance_closed program noted closes.instances in
-    let made = mapped closed (slice_get closes.instances number) (Some its.0)
+    let made = map_some closed (slice_get closes.instances number) (Some its.0)
     (sym (slice_get-map closed closes.instances number) ∙ sym (ap (λ l. slice_get l number) closes.closed)
     ∙ slice_get-map Some functions number ∙ ap (option_map Some) its.1) in
     subst (λ all. are_once all ≡ true) its.2
@@ -135,7 +136,7 @@ module _ (names : List (Bytes × DeclAt)) (heads : List (DeclAt × Head)) (args 
   declared_cases_once part (union_type at name params universe cases) there index one is =
       let given = given_over (type_names (map parameter params)) args in
       let made = variant_under names heads (map parameter params) given in
-      let its = mapped made (slice_get cases index) one (sym (slice_get-map made cases index) ∙ is) in
+      let its = map_some made (slice_get cases index) one (sym (slice_get-map made cases index) ∙ is) in
       subst IsOnceCase its.2
       (closed_once names heads (map parameter params) given its.0.fields
       (variant_once part at name params universe cases there index its.0 its.1))
@@ -171,8 +172,8 @@ module _ (program : List ModuleParts)
 -- The fields of each case of a closed type of a program with good declarations have names of their own.
 pub closed_fields_are_once : ClosedFieldsAreOnce
 closed_fields_are_once program good of tag fields is =
-    let its = mapped (λ (one : Case). one.fields) (slice_get (cases_in program of) tag) fields is in
-    let made = mapped case_seen (slice_get (cases_of program of) tag) its.0
+    let its = map_some (λ (one : Case). one.fields) (slice_get (cases_in program of) tag) fields is in
+    let made = map_some case_seen (slice_get (cases_of program of) tag) its.0
     (sym (slice_get-map case_seen (cases_of program of) tag) ∙ its.1) in
     subst (λ (all : List Field). are_once (field_names all) ≡ true)
     (ap (λ (c : Case). c.fields) made.2 ∙ its.2)

@@ -6,6 +6,7 @@ use Rattle.std.specs.List.{AllByRecursion}
 use Rattle.std.proofs.lemmas.List.Elements.{All-from_recursion, recursion_from_All, Contains-append_cases}
 use Rattle.std.proofs.lemmas.List.Elements.{Contains-push_cases}
 use Rattle.std.proofs.lemmas.List.Sorted.{All-permutation, IsPermutation-sym}
+use Rattle.std.proofs.lemmas.Bool.{or_cases, or_left, or_right}
 use Rattle.au_modules.specs.Programs.{ModuleParts}
 use Rattle.au_names.specs.HeadsOf.{heads_of}
 use Rattle.au_types.specs.declared.headings.Head.{Head}
@@ -15,7 +16,7 @@ use Rattle.au_type_texts.specs.Types.{ClosedType}
 use Rattle.au_type_texts.proofs.SameLemmas.{same_is, same_self}
 use Rattle.au_graphs.specs.Reached.{Has, TellsSame, follows, has, start}
 use Rattle.au_graphs.proofs.FoundLemmas.{has_all}
-use Rattle.au_graphs.proofs.HasLemmas.{has_back, has_front, or_left, or_right, or_split}
+use Rattle.au_graphs.proofs.HasLemmas.{has_back, has_front}
 use Rattle.au_closed_trees.specs.Occurring as occur
 use Rattle.au_closed_trees.specs.Occurring.{counts_in, occurring, occurring_in_fields}
 use Rattle.au_closed_trees.specs.Types.{types_in_block}
@@ -66,7 +67,7 @@ each_in types [] each t h = absurd cc
 each_in types (row ∷ rest) each t h =
     ⊎_elim (λ here. subst (λ x. Has same types x) (sym (same_is t row.of here)) each.0)
     (each_in types rest each.1 t)
-    (or_split (same t row.of) (has same (types_of rest) t) h)
+    (or_cases (same t row.of) (has same (types_of rest) t) h)
 
 -- rows in another order say the same
 moved : (P : TypeRow → Type 0) (rows others : List TypeRow) → IsPermutation rows others

@@ -5,6 +5,7 @@ use Rattle.std.specs.Prelude.{find, slice_get}
 use Rattle.std.specs.List.{flat_map}
 use Rattle.std.specs.Option.{option_and_then, option_map}
 use Rattle.std.proofs.lemmas.Option.{none-some, same_Some, slice_get-map}
+use Rattle.au_base.proofs.OptionLemmas.{map_some}
 use Rattle.au_syntax.specs.declared.modules.Part.{Part}
 use Rattle.au_syntax.specs.declared.modules.Part.TheVariants.{Interface, Body}
 use Rattle.au_syntax.specs.Modules.{Constrained, constant, opaque_type, record_type, union_type, function}
@@ -51,12 +52,6 @@ found {A} Is test (x ∷ rest) each one is = by (test x) is (found Is test rest 
         → Is one
     by true is more = subst Is (same_Some x one is) (each 0 x refl)
     by false is more = more is
-
--- what an option holds that is made of another
-pub mapped : {A B : Type 0} (f : A → B) (o : Option A) (y : B) → option_map f o ≡ Some y
-    → (x : A) × (o ≡ Some x) × (f x ≡ y)
-mapped f None y is = absurd (none-some y is)
-mapped f (Some x) y is = (x, refl, same_Some (f x) y is)
 
 -- ---- declarations
 
@@ -171,7 +166,7 @@ declared_new place name (instance_body at generics its_class t methods) there bo
     let all = flat_map method_body_marks (map erase_method methods) in
     let inside = rest_new (map generic_mark generics) all
     (inside_new (map generic_mark generics ++ all) there) in
-    let its = mapped (method_body place generics) (find (is_method name) methods) body is in
+    let its = map_some (method_body place generics) (find (is_method name) methods) body is in
     subst IsNewBody its.2
     (method_new place generics its.0
     (found IsNewMethod (is_method name) methods (methods_new methods inside) its.0 its.1))

@@ -7,6 +7,7 @@ use Rattle.std.specs.Option.{option_or}
 use Rattle.std.specs.Str.{bytes_eq}
 use Rattle.std.proofs.lemmas.List.{drop_all}
 use Rattle.std.proofs.lemmas.Slice.Eq.{bytes_eq-Decides}
+use Rattle.au_base.proofs.OptionLemmas.{or_none}
 use Rattle.au_types.specs.declared.parameters.Parameter.{Parameter}
 use Rattle.au_types.specs.declared.types.Arg.{Arg}
 use Rattle.au_types.specs.Types.{Argument, Arguments, no_arguments, arguments}
@@ -130,10 +131,6 @@ given_order (p ∷ params) (arguments one rest) = in_order-with p.name one (with
 no_more : (params : List Parameter) → with_arguments params no_arguments ≡ []
 no_more [] = refl
 no_more (p ∷ params) = refl
-
-or_none : (o : Option Argument) → option_or o None ≡ o
-or_none None = refl
-or_none (Some one) = refl
 
 pub put_all : (params : List Parameter) (whole items : List Arg) (i : ℕ) (s : Bindings) → items ≡ whole →
     length items ≤ i → PutSoFar params items i s → s ≡ with_arguments params (argument_all whole)

@@ -1,6 +1,6 @@
 -- Steps of the proofs of copies: loops over items.
-use Rattle.std.proofs.Common.{◌≡◌, ℕ, ◌+◌, ◌<◌, ◌≤◌, List, [], ◌∷◌, ◌++◌, drop, length, map, take, get_or, ap, ◌∙◌, sym}
-use Rattle.std.proofs.lemmas.List.{append_assoc, at_drop_more, map-append, take_all, take_more}
+use Rattle.std.proofs.Common.{◌≡◌, ℕ, ◌+◌, ◌<◌, ◌≤◌, List, [], ◌∷◌, ◌++◌, length, take, get_or, ap, ◌∙◌, sym}
+use Rattle.std.proofs.lemmas.List.{take_all, take_more}
 
 -- a loop over all items has copied them all
 pub all_copied : {A B : Type 0} (see : List A → B) (made xs ys : List A) (i : ℕ) →
@@ -20,17 +20,3 @@ copied_more all snoc see push made pushed xs i x copy so_far inside is grows sam
     ∙ ap (snoc (all (take i xs))) (same ∙ ap see is)
     ∙ sym (push (take i xs) (get_or xs i x))
     ∙ sym (ap all (take_more xs i x inside))
-
--- one more item is copied, before what is said of those that are left
-pub copied_before : {A B C : Type 0} (see : A → C) (say : B → C) (made pushed : List A) (xs : List B) (i : ℕ)
-    (x : B) (copy : A) (whole : List C) →
-    map see made ++ map say (drop i xs) ≡ whole → i < length xs → x ≡ get_or xs i x → pushed ≡ made
-    ++ copy ∷ [] → see copy ≡ say x →
-    map see pushed ++ map say (drop (i + 1) xs) ≡ whole
-copied_before see say made pushed xs i x copy whole so_far inside is grows same =
-    ap (λ l. map see l ++ map say (drop (i + 1) xs)) grows
-    ∙ ap (λ l. l ++ map say (drop (i + 1) xs)) (map-append see made (copy ∷ []))
-    ∙ append_assoc (map see made) (see copy ∷ []) (map say (drop (i + 1) xs))
-    ∙ ap (λ c. map see made ++ (c ∷ map say (drop (i + 1) xs))) (same ∙ ap say is)
-    ∙ ap (λ l. map see made ++ l) (sym (at_drop_more (map say) xs i x inside))
-    ∙ so_far

@@ -4,7 +4,7 @@ use Rattle.std.proofs.Common.{◌≡◌, ℕ, ◌+◌, ◌<◌, ◌≤◌, Bool,
 use Rattle.std.proofs.Common.{map, drop, get_or, find, Option, None, Some, refl, sym, ap, ◌∙◌}
 use Rattle.std.specs.Option.{option_map}
 use Rattle.std.proofs.lemmas.List.{append-nil, append_assoc, drop_all, map-append}
-use Rattle.au_names.proofs.WalkLemmas.{left}
+use Rattle.au_base.proofs.ListLemmas.{seen_left}
 use Rattle.au_typing.specs.Written.{followed}
 
 module _ {A B C X D : Type 0} (p : B → C) (v : A → B) (f : C → Option X) (all : List C → Option (List X))
@@ -32,7 +32,7 @@ module _ {A B C X D : Type 0} (p : B → C) (v : A → B) (f : C → Option X) (
         ≡ option_map (λ rest. map s done ++ rest) (followed o tail)
     split o is =
         so_far
-        ∙ ap (λ r. option_map (λ rest. map s done ++ rest) (all r)) (left p v items i x less here)
+        ∙ ap (λ r. option_map (λ rest. map s done ++ rest) (all r)) (seen_left p v items i x less here)
         ∙ ap (option_map (λ rest. map s done ++ rest)) (more (p (v x)) (map p (map v (drop (i + 1) items))))
         ∙ ap (λ r. option_map (λ rest. map s done ++ rest) (followed r tail)) is
 
@@ -77,7 +77,7 @@ module _ {A B C : Type 0} (p : B → C) (v : A → B) (t : C → Bool) where
         (find t (map p (map v (drop (i + 1) items))))
     step b is =
         none
-        ∙ ap (find t) (left p v items i x less here)
+        ∙ ap (find t) (seen_left p v items i x less here)
         ∙ ap (λ c. cond c (Some (p (v x))) (find t (map p (map v (drop (i + 1) items))))) is
 
     pub found_here : (whole : List A) → items ≡ whole → t (p (v x)) ≡ true →

@@ -8,14 +8,14 @@ use Rattle.std.specs.Str.{bytes_eq}
 use Rattle.std.proofs.lemmas.List.{map-append}
 use Rattle.std.proofs.lemmas.Option.{none-some, same_Some, slice_get-get_or, slice_get-map, slice_get_within}
 use Rattle.std.proofs.lemmas.Slice.Eq.{bytes_eq-Decides}
+use Rattle.au_base.proofs.ListLemmas.{in_either}
 use Rattle.au_syntax.specs.declared.modules.Part.{Part}
 use Rattle.au_syntax.specs.declared.modules.Part.TheVariants.{Interface, Body}
-use Rattle.au_syntax.specs.Modules.{record_type, union_type}
 use Rattle.au_syntax.specs.Plain.{Bytes, PlainDeclaration, PlainModule}
 use Rattle.au_types.specs.DeclaredNames.{given, names_in, numbered, type_names}
 use Rattle.au_types.specs.declared.spaces.Space.TheVariants.{Types}
 use Rattle.au_types.specs.Tables.{find, firsts}
-use Rattle.au_types.proofs.TableLemmas.{find-firsts}
+use Rattle.au_types.proofs.TableLemmas.{find-firsts, find-front}
 use Rattle.au_types.specs.declared.types.DeclAt.{DeclAt}
 use Rattle.au_modules.specs.Programs.{Entry, ModuleParts}
 use Rattle.au_modules.specs.Seen.{body_tree, interface_tree}
@@ -28,10 +28,12 @@ use Rattle.au_names.specs.Owned.{declarations_in, own, target, targets}
 use Rattle.au_names.specs.Standing.{Standing, body_standing, definition_of, module_standing, standing_at}
 use Rattle.au_names.specs.Standing.{standing_from, whole_name}
 use Rattle.au_names.proofs.ExportLemmas.{interface_seen}
+use Rattle.au_names.proofs.DefinitionLemmas.{whole_named, module_place}
+use Rattle.au_names.proofs.DeclaredByLemmas.{find_declared}
 use Rattle.au_typing.specs.Called.{owned, type_number}
 use Rattle.au_typing.specs.Insides.{interface_count, known_definition, is_known, known_standing}
 use Rattle.au_typing.specs.Written.{seen_in, types_at}
-use Rattle.au_typing.proofs.NumberLemmas.{at_number, definition_stands, in_either, of_place, stands_at}
+use Rattle.au_typing.proofs.NumberLemmas.{at_number, definition_stands, stands_at}
 use Rattle.au_typing.proofs.NumberLemmas.{stands_count, there}
 use Rattle.au_sights.specs.Steps.{Stands}
 
@@ -48,7 +50,7 @@ pub placed : (program : List ModuleParts) (d : Standing) → Stands program d �
 placed program d s =
     let at = s.0 in
     let r = there program at.«module» at.decl d (slice_get program at.«module») refl s.1 in
-    let same : d.place ≡ at.«module» = of_place at.«module» r.0 r.1 d r.3 in
+    let same : d.place ≡ at.«module» = module_place at.«module» r.0 r.1 d r.3 in
     record {
       owner = r.0;
       number = r.1;
@@ -163,17 +165,6 @@ count_seen (Some m) seen is = ap (λ o. length (declarations_seen o)) is ∙ sym
 -- ---- names
 
 module _ {V : Type 0} where
-  found_first : (name : Bytes) (xs ys : List (Bytes × V)) (v : V) → find name xs ≡ Some v →
-      find name (xs ++ ys) ≡ Some v
-  found_first name [] ys v h = absurd (none-some v h)
-  found_first name (x ∷ xs) ys v h = by (bytes_eq name x.0) h (λ k. found_first name xs ys v k)
-    where
-      by : (b : Bool) → cond b (Some x.1) (find name xs) ≡ Some v →
-          (find name xs ≡ Some v → find name (xs ++ ys) ≡ Some v) → cond b (Some x.1) (find name (xs ++ ys))
-          ≡ Some v
-      by true k on = k
-      by false k on = on k
-
   abbrev Found : Bytes → List (Bytes × V) → Type 0
   Found name xs = (v : V) × (find name xs ≡ Some v)
 
@@ -231,22 +222,6 @@ says_at place m k d h =
     ∙ slice_get-map says (module_standing place m) k
     ∙ ap (option_map says) h
 
-whole_type : (says : PlainDeclaration) (name : Bytes) → whole_name says ≡ Some name → type_names says ≡ name ∷ []
-whole_type (record_type at its_name params universe fields) name h = ap (λ n. n ∷ []) (same_Some its_name.name name h)
-whole_type (union_type at its_name params universe cases) name h = ap (λ n. n ∷ []) (same_Some its_name.name name h)
-whole_type other name h = absurd (none-some name h)
-
-find_declared : (name : Bytes) (pairs : List (Bytes × Target)) → find name (declared_by pairs)
-    ≡ option_map (λ (t : Target). t.at) (find name pairs)
-find_declared name [] = refl
-find_declared name (p ∷ pairs) = by (bytes_eq name p.0) (find_declared name pairs)
-  where
-    by : (b : Bool) → find name (declared_by pairs) ≡ option_map (λ (t : Target). t.at) (find name pairs)
-        → cond b (Some p.1.at) (find name (declared_by pairs)) ≡ option_map (λ (t : Target). t.at)
-        (cond b (Some p.1) (find name pairs))
-    by true on = refl
-    by false on = on
-
 -- what is seen under the name of a type of the module itself has the number of this type
 pub number_seen : (program : List ModuleParts) (d : Standing) (name : Bytes) (part : Part) →
     Stands program d → whole_name d.says ≡ Some name
@@ -257,10 +232,10 @@ number_seen program d name part stands whole =
     let own_names = own Types d.place m in
     let imports = imported Types program d.place (imports_in (part_of part m)) in
     let found = in_names d.place 0 name (declarations_in m.interface ++ declarations_in m.body) p.number
-    d.says (says_at d.place m p.number d p.stands) (whole_type d.says name whole) in
+    d.says (says_at d.place m p.number d p.stands) (whole_named d.says name whole) in
     let behind : find name (own_names ++ imports ++ pervasive Types program) ≡ Some found.0 =
-    found_first name (own_names ++ imports) (pervasive Types program) found.0
-    (found_first name own_names imports found.0 found.1) in
+    find-front name (own_names ++ imports) (pervasive Types program) found.0
+    (find-front name own_names imports found.0 found.1) in
     ap (λ o. find name (declared_by (seen_in Types program d.place part o))) p.here
     ∙ find_declared name (firsts (own_names ++ imports ++ pervasive Types program))
     ∙ ap (option_map (λ (t : Target). t.at))

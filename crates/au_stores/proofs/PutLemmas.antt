@@ -2,6 +2,7 @@
 use Rattle.std.proofs.Common.{◌≡◌, ℕ, zero, suc, false, List, [], ◌∷◌, Option, Some, None, is_some, slice_get}
 use Rattle.std.proofs.Common.{slice_set, refl, sym, ap, ◌∙◌}
 use Rattle.std.specs.Option.{option_map}
+use Rattle.au_base.proofs.ListLemmas.{set_twice}
 use Rattle.au_effects.specs.Values.{Place}
 use Rattle.au_effects.specs.Parts.{along, part, with_part}
 use Rattle.au_effects.specs.Worlds as effect
@@ -12,7 +13,6 @@ use Rattle.au_cells.specs.Cells.{low}
 use Rattle.au_stores.specs.declared.worlds.World.{World}
 use Rattle.au_stores.specs.Stores.{world_of, came_out}
 use Rattle.au_stores.proofs.PartLemmas.{part_missing}
-use Rattle.au_stores.proofs.StoreLemmas.{set_twice}
 
 -- a slot that gets what it holds
 slots_same : (names : List (Option Low)) (slot : ℕ) (held : Option Low)

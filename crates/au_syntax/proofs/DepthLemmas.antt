@@ -3,6 +3,7 @@ use Rattle.std.proofs.Common.{◌≡◌, ℕ, ◌+◌, ◌*◌, ◌<◌, ◌≤�
 use Rattle.std.proofs.Common.{max, map, arith}
 use Rattle.std.proofs.lemmas.List.{take_more}
 use denote.Param.Weighed.{most, at_most}
+use Rattle.au_base.proofs.NumberLemmas.{max_last, max_none}
 use Rattle.au_syntax.specs.declared.phases.Phase.{Ghosts}
 use Rattle.au_syntax.specs.declared.expressions.Argument.{Argument}
 use Rattle.au_syntax.specs.declared.expressions.Expr.{Expr}
@@ -23,13 +24,6 @@ counted_max a b = omega arith
 -- one more part of what is counted: a before, m the part, w with it
 pub raised : (d e f a m w : ℕ) → d ≡ counted a → e ≡ counted m → f ≡ max d e → w ≡ max a m → f ≡ counted w
 raised d e f a m w before part both all = omega (arith, before, part, both, all)
-
--- the greatest of some numbers and one more
-max_last : (a r x : ℕ) → max a (max r x) ≡ max (max a r) x
-max_last a r x = omega arith
-
-max_none : (a : ℕ) → max a 0 ≡ max 0 a
-max_none a = omega arith
 
 max_last3 : (a b r x : ℕ) → max a (max b (max r x)) ≡ max (max a (max b r)) x
 max_last3 a b r x = omega arith

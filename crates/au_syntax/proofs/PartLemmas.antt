@@ -15,7 +15,7 @@ use Rattle.au_syntax.specs.Parts.{nodes_of_arguments}
 use Rattle.au_syntax.specs.Plain.{PlainExpression, PlainExpressions, PlainArguments}
 
 -- what holds of two lists holds of both together
-both_hold : {A : Type 0} (P : A → Type 0) (xs ys : List A) → Each P xs → Each P ys → Each P (xs ++ ys)
+pub both_hold : {A : Type 0} (P : A → Type 0) (xs ys : List A) → Each P xs → Each P ys → Each P (xs ++ ys)
 both_hold P [] ys a b = b
 both_hold P (x ∷ xs) ys a b = (a.0, both_hold P xs ys a.1 b)
 

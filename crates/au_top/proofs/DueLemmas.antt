@@ -1,11 +1,12 @@
 -- What words and files owe, and for which outcome it was paid.
-use Rattle.std.proofs.Common.{◌≡◌, ℕ, ◌+◌, Bool, true, false, List, length, Option, None, Some, Result}
+use Rattle.std.proofs.Common.{◌≡◌, ℕ, Bool, true, false, List, length, Option, None, Some, Result}
 use Rattle.std.proofs.Common.{Ok, Err}
-use Rattle.std.proofs.Common.{ap, ◌∙◌, sym, refl, subst, arith, ◌⊎◌, inl, inr, slice_get}
+use Rattle.std.proofs.Common.{ap, ◌∙◌, sym, refl, subst, ◌⊎◌, inl, inr, slice_get, zero-add}
 use Rattle.std.specs.Prelude.{IsSomeAnd, if◌then◌else◌}
 use Rattle.au_base.specs.declared.statuses.Status.{Status}
 use Rattle.au_base.specs.declared.statuses.Status.TheVariants as status
 use Rattle.au_base.specs.Outside.{Files}
+use Rattle.au_base.proofs.BoolLemmas.{never_both}
 use Rattle.au_words.specs.Jobs.{Task, IsJob, IsNoJob}
 use Rattle.au_words.specs.declared.jobs.Command.{Command}
 use Rattle.au_words.specs.declared.jobs.Command.TheVariants as command
@@ -26,7 +27,6 @@ use Rattle.au_outcomes.specs.declared.outcomes.Aim.TheVariants as aims
 use Rattle.au_outcomes.specs.declared.outcomes.Outcome.{Outcome}
 use Rattle.au_outcomes.specs.declared.outcomes.Outcome.TheVariants as outcome
 use Rattle.au_outcomes.proofs.AcceptedLemmas.{accepted_behind, behind_accepted, checked_accepted, comes_asked}
-use Rattle.au_outcomes.proofs.AcceptedLemmas.{not_both}
 use Rattle.au_outcomes.proofs.BytesLemmas.{are_one}
 use Rattle.au_outcomes.proofs.FetchLemmas.{few_had}
 use Rattle.au_outcomes.proofs.HaltLemmas.{IsHalt, first_halt, read_at, treeless}
@@ -190,7 +190,7 @@ module _ (names : List (List ℕ)) (ends : Status) (s : Streams) where
   pub not_paid : {T : Type 0} (arisen : Outcome) (other : Status) → IsPaidFor arisen → is_owed other ≡ false
       → ends ≡ other → T
   not_paid arisen other paid none is =
-      not_both (is_owed ends) (paid_ends arisen paid) (ap is_owed is ∙ none)
+      never_both (is_owed ends) (paid_ends arisen paid) (ap is_owed is ∙ none)
 
   -- the line of a refusal was paid for a program that is refused
   pub refused_so : (arisen : Outcome) → is_outcome arisen ≡ true → IsPaidFor arisen → ends ≡ status.Refused
@@ -316,9 +316,6 @@ module _ (names : List (List ℕ)) (ends : Status) (s : Streams) where
 
 -- ---- files that have no tree
 
-from_zero : (file : ℕ) → 0 + file ≡ file
-from_zero file = omega arith
-
 -- a file among those whose bytes come to something that has no tree
 unread_bytes : (aim : Aim) (all : List (List ℕ)) (file : ℕ) (bytes : List ℕ) (x : Outcome)
     → slice_get all file ≡ Some bytes → HasTokens file bytes HasNoTree → BytesCome aim all x → IsHalt x
@@ -326,7 +323,7 @@ unread_bytes aim all file bytes x is none h = elim h [
   | inl p ↦ first_halt 0 all x p
   | inr p ↦
       let one = read_at 0 all p.0 file bytes p.1 is in
-      absurd (treeless file bytes one.0 none (subst (λ f. IsRead f bytes one.0) (from_zero file) one.1))
+      absurd (treeless file bytes one.0 none (subst (λ f. IsRead f bytes one.0) (zero-add file) one.1))
 ]
 
 unread_few : (aim : Aim) (files : Files) (names all : List (List ℕ)) (file : ℕ) (bytes : List ℕ) (x : Outcome)
@@ -358,7 +355,7 @@ behind_built : (asked : Result Aim Unbuilt) (files : Files) (names : List (List 
     → Asks asked files names arisen → is_behind arisen ≡ true
     → (aim : Aim) × (asked ≡ Ok aim) × Comes aim files names arisen
 behind_built (Err what) files names arisen asks behind =
-    not_both (is_behind arisen) behind (ap is_behind asks)
+    never_both (is_behind arisen) behind (ap is_behind asks)
 behind_built (Ok aim) files names arisen asks behind = (aim, refl, asks)
 
 -- a job that comes to something behind is accepted
@@ -378,7 +375,7 @@ job_accepted words files names arisen h behind =
 pub arises_accepted : (words : List (List ℕ)) (files : Files) (names : List (List ℕ)) (arisen : Outcome)
     → Arises words files names arisen → is_behind arisen ≡ true → IsAcceptedJob words files
 arises_accepted words files names arisen arises past = elim (is_arisen words files names arisen arises) [
-  | inl p ↦ not_both (is_behind arisen) past (ap is_behind p.1)
+  | inl p ↦ never_both (is_behind arisen) past (ap is_behind p.1)
   | inr p ↦ job_accepted words files names arisen p past
 ]
 

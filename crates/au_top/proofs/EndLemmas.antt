@@ -5,6 +5,7 @@ use Rattle.std.specs.Prelude.{IsSomeAnd}
 use Rattle.au_base.specs.declared.statuses.Status.{Status}
 use Rattle.au_base.specs.declared.statuses.Status.TheVariants as status
 use Rattle.au_base.specs.Outside.{Counts, Files, HasRisen}
+use Rattle.au_base.proofs.BoolLemmas.{never_both}
 use Rattle.au_words.specs.Jobs.{Task, IsJob, IsNoJob}
 use Rattle.au_modules.specs.Slots as slots
 use Rattle.au_outcomes.specs.Lines.{read_fault_line}
@@ -21,7 +22,6 @@ use Rattle.au_outcomes.specs.Trees.{ReadFile}
 use Rattle.au_outcomes.specs.declared.outcomes.Aim.TheVariants as aims
 use Rattle.au_outcomes.specs.declared.outcomes.Outcome.{Outcome}
 use Rattle.au_outcomes.specs.declared.outcomes.Outcome.TheVariants as outcome
-use Rattle.au_outcomes.proofs.AcceptedLemmas.{not_both}
 use Rattle.au_top.specs.Calls.{Aborts, Call, HasOutcome, ComesToRun, GoesBehind, HasRunItsProgram, HasPaid}
 use Rattle.au_top.specs.Calls.{HasProgram, IsDecided, IsDone, IsPaid, IsRefused, LacksMemory, ReportsRun}
 use Rattle.au_top.specs.Calls.{LosesSink, LosesSource, MissesFile, PassesLimit, ShelfMissedNone}
@@ -90,16 +90,16 @@ module _ (call : Call) where
   decided h good = elim h [
     | inl p ↦ inl p
     | inr others ↦ elim others [
-      | inl p ↦ not_both (is_decided call.status) good (ap is_decided p.ended)
+      | inl p ↦ never_both (is_decided call.status) good (ap is_decided p.ended)
       | inr others ↦ elim others [
-        | inl p ↦ not_both (is_decided call.status) good (ap is_decided p.ended)
+        | inl p ↦ never_both (is_decided call.status) good (ap is_decided p.ended)
         | inr others ↦ elim others [
-          | inl p ↦ not_both (is_decided call.status) good (ap is_decided p.pays.status)
+          | inl p ↦ never_both (is_decided call.status) good (ap is_decided p.pays.status)
           | inr p ↦ elim p.runs.run [
             | inl w ↦ inr (run_with call p.runs w, p.read, p.missed)
             | inr broken ↦ elim broken [
-              | inl c ↦ not_both (is_decided call.status) good (ap is_decided c.0)
-              | inr c ↦ not_both (is_decided call.status) good (ap is_decided c.0)
+              | inl c ↦ never_both (is_decided call.status) good (ap is_decided c.0)
+              | inr c ↦ never_both (is_decided call.status) good (ap is_decided c.0)
             ]
           ]
         ]
@@ -151,7 +151,7 @@ module _ (call : Call) where
   -- its status is one of a run
   whole_not : {T : Type 0} (other : Status) → Whole → run.is_run other ≡ false → call.status ≡ other → T
   whole_not other r none is =
-      not_both (run.is_run call.status) (ap run.is_run r.run.status ∙ run.ran_ends r.run.ran)
+      never_both (run.is_run call.status) (ap run.is_run r.run.status ∙ run.ran_ends r.run.ran)
       (ap run.is_run is ∙ none)
 
   -- how it ran, by the status

@@ -1,22 +1,10 @@
 -- The depth and the nodes of closed types in order, and what one more of them adds.
-use Rattle.std.proofs.Common.{◌≡◌, ℕ, ◌+◌, ◌<◌, List, [], ◌∷◌, ◌++◌, length, take, get_or, max, ap, ◌∙◌, sym, arith}
+use Rattle.std.proofs.Common.{◌≡◌, ℕ, ◌+◌, ◌<◌, List, [], ◌∷◌, ◌++◌, length, take, get_or, max, ap, ◌∙◌, sym}
 use Rattle.std.proofs.lemmas.List.{take_more}
+use Rattle.au_base.proofs.NumberLemmas.{max_last, max_none, plus_last, plus_none}
 use Rattle.au_type_texts.specs.declared.types.Closed.{Closed}
 use Rattle.au_type_texts.specs.ClosedSizes.{depth_of, list_depth, nodes_of, list_nodes}
 use Rattle.au_type_texts.specs.Views.{closed_meaning, closed_meanings}
-
--- the greatest of some numbers and one more
-max_last : (a r x : ℕ) → max a (max r x) ≡ max (max a r) x
-max_last a r x = omega arith
-
-max_none : (a : ℕ) → max a 0 ≡ max 0 a
-max_none a = omega arith
-
-plus_last : (a r x : ℕ) → a + (r + x) ≡ (a + r) + x
-plus_last a r x = omega arith
-
-plus_none : (a : ℕ) → a + 0 ≡ 0 + a
-plus_none a = omega arith
 
 depth_push : (xs : List Closed) (x : Closed) → list_depth (closed_meanings (xs ++ x ∷ []))
     ≡ max (list_depth (closed_meanings xs)) (depth_of (closed_meaning x))

@@ -108,7 +108,7 @@ kind_lead kinds.Int32 = refl
 kind_lead kinds.Int64 = refl
 kind_lead kinds.Index = refl
 
-kind_is_word : (kind : IntKind) → list_all is_word_byte (kind_name kind) ≡ true
+pub kind_is_word : (kind : IntKind) → list_all is_word_byte (kind_name kind) ≡ true
 kind_is_word kinds.Nat8 = refl
 kind_is_word kinds.Nat16 = refl
 kind_is_word kinds.Nat32 = refl

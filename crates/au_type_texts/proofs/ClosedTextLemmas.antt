@@ -48,15 +48,6 @@ module _ (rows : List (DeclAt × Head)) where
       (let e : suc i ≡ i + 1 = omega arith in e)
       ∙ ap (λ r. mark ++ text_of rows (closed_meaning x) ++ r) (others_left (closed_meanings (drop (i + 1) xs)))
 
--- one turn: a mark and a type are added, and the rest is left
-pub turn : (x y z mark one rest left whole : List ℕ) → y ≡ x ++ mark → z ≡ y ++ one → left ≡ mark ++ one
-    ++ rest → x ++ left ≡ whole → z ++ rest ≡ whole
-turn x y z mark one rest left whole marked added is all =
-    ap (λ k. k ++ rest) (added ∙ ap (λ k. k ++ one) marked)
-    ∙ (let e : ((x ++ mark) ++ one) ++ rest ≡ x ++ ((mark ++ one) ++ rest) = simp append_assoc in e)
-    ∙ ap (λ k. x ++ k) (sym is)
-    ∙ all
-
 -- the three pieces of a reference
 pub pieces : (x a b c d e f : List ℕ) → b ≡ x ++ a → d ≡ b ++ c → f ≡ d ++ e → f ≡ x ++ (a ++ c ++ e)
 pieces x a b c d e f one two three =

@@ -1,22 +1,10 @@
 -- The depth and the nodes of arguments, and what one more of them adds.
 use Rattle.std.proofs.Common.{◌≡◌, ℕ, ◌+◌, ◌<◌, List, [], ◌∷◌, ◌++◌, length, take, get_or, max, ap, ◌∙◌, sym, arith}
 use Rattle.std.proofs.lemmas.List.{take_more}
+use Rattle.au_base.proofs.NumberLemmas.{max_last, max_none, plus_last, plus_none}
 use Rattle.au_types.specs.declared.types.Arg.{Arg}
 use Rattle.au_types.specs.Views.{argument, argument_all}
 use Rattle.au_type_texts.specs.Sizes.{argument_depth, arguments_depth, argument_nodes, arguments_nodes, counted}
-
--- the greatest of some numbers and one more
-max_last : (a r x : ℕ) → max a (max r x) ≡ max (max a r) x
-max_last a r x = omega arith
-
-max_none : (a : ℕ) → max a 0 ≡ max 0 a
-max_none a = omega arith
-
-plus_last : (a r x : ℕ) → a + (r + x) ≡ (a + r) + x
-plus_last a r x = omega arith
-
-plus_none : (a : ℕ) → a + 0 ≡ 0 + a
-plus_none a = omega arith
 
 -- one more part of what is counted: a before, m the part, w with it
 pub raised : (d e f a m w : ℕ) → d ≡ counted a → e ≡ counted m → f ≡ max d e → w ≡ max a m → f ≡ counted w

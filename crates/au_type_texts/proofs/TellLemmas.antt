@@ -24,6 +24,7 @@ use Rattle.au_type_texts.specs.Texts.{arguments_text, others_text}
 use Rattle.au_type_texts.specs.Told.{is_name_byte, is_colon, is_word_byte, is_name_beside, type_names}
 use Rattle.au_type_texts.specs.Told.{region_names, is_declared, AreTold, IsRegion, params_of, Stands}
 use Rattle.au_type_texts.specs.Told.{FitsArgument, Fit, TextsTell}
+use Rattle.au_type_texts.proofs.ClosedTellLemmas.{kind_is_word}
 
 -- ---- words
 
@@ -194,17 +195,6 @@ kind_lead kinds.Int16 = refl
 kind_lead kinds.Int32 = refl
 kind_lead kinds.Int64 = refl
 kind_lead kinds.Index = refl
-
-kind_is_word : (kind : IntKind) → list_all is_word_byte (kind_name kind) ≡ true
-kind_is_word kinds.Nat8 = refl
-kind_is_word kinds.Nat16 = refl
-kind_is_word kinds.Nat32 = refl
-kind_is_word kinds.Nat64 = refl
-kind_is_word kinds.Int8 = refl
-kind_is_word kinds.Int16 = refl
-kind_is_word kinds.Int32 = refl
-kind_is_word kinds.Int64 = refl
-kind_is_word kinds.Index = refl
 
 module _ (rows : List (DeclAt × Head)) (told : AreTold rows) where
   -- the word with which a type begins

@@ -1,7 +1,7 @@
 -- Lemmas on the names that declarations bring in.
 use Rattle.std.proofs.Common.{◌≡◌, ℕ, ◌+◌, ◌<◌, List, [], ◌∷◌, ◌++◌, length, take, get_or, map, refl, sym, ap}
-use Rattle.std.proofs.Common.{◌∙◌, append_assoc, suc, length-take, arith}
-use Rattle.std.proofs.lemmas.List.{take_more, append-nil}
+use Rattle.std.proofs.Common.{◌∙◌, append_assoc, length-take, arith}
+use Rattle.std.proofs.lemmas.List.{take_more, append-nil, map_push, length-map}
 use Rattle.au_syntax.specs.Plain.{Bytes, PlainDeclaration}
 use Rattle.au_types.specs.declared.spaces.Space.{Space}
 use Rattle.au_types.specs.Tables.{with_pair, with_all, firsts}
@@ -32,15 +32,7 @@ pub no_declarations : (space : Space) (first : ℕ) → [] ≡ firsts (names_in 
 unfolding names_in numbered firsts
 no_declarations space first = refl
 
-map-push : {A B : Type 0} (f : A → B) (xs : List A) (x : A) → map f (xs ++ x ∷ []) ≡ map f xs ++ f x ∷ []
-map-push f [] x = refl
-map-push f (y ∷ ys) x = ap (λ r. f y ∷ r) (map-push f ys x)
-
-length_map : {A B : Type 0} (f : A → B) (xs : List A) → length (map f xs) ≡ length xs
-length_map f [] = refl
-length_map f (x ∷ xs) = ap (λ n. suc n) (length_map f xs)
-
-one_number : (first : ℕ) (d : PlainDeclaration) → numbered first (d ∷ []) ≡ (first, d) ∷ []
+pub one_number : (first : ℕ) (d : PlainDeclaration) → numbered first (d ∷ []) ≡ (first, d) ∷ []
 unfolding numbered
 one_number first d = refl
 
@@ -54,9 +46,9 @@ module _ {A B : Type 0} (p : B → PlainDeclaration) (v : A → B) where
       let seen = map p (map v (take i xs)) in
       let one = p (v (get_or xs i d)) in
       let split : map p (map v (take (i + 1) xs)) ≡ seen ++ one ∷ [] =
-      ap (λ r. map p (map v r)) (take_more xs i d h) ∙ ap (map p) (map-push v (take i xs) (get_or xs i d))
-      ∙ map-push p (map v (take i xs)) (v (get_or xs i d)) in
-      let many : length seen ≡ i = length_map p (map v (take i xs)) ∙ length_map v (take i xs)
+      ap (λ r. map p (map v r)) (take_more xs i d h) ∙ ap (map p) (map_push v (take i xs) (get_or xs i d))
+      ∙ map_push p (map v (take i xs)) (v (get_or xs i d)) in
+      let many : length seen ≡ i = length-map (map v (take i xs)) p ∙ length-map (take i xs) v
       ∙ omega (arith, length-take i xs) in
       let numbers : numbered first (seen ++ one ∷ []) ≡ numbered first seen ++ (first + i, one) ∷ [] =
       numbered-append first seen (one ∷ [])
@@ -78,11 +70,11 @@ given_more name_of p v table number xs i d h =
     let split : map name_of (map p (map v (take (i + 1) xs)))
     ≡ map name_of (map p (map v (take i xs))) ++ name_of (p (v x)) ∷ [] =
     ap (λ r. map name_of (map p (map v r))) (take_more xs i d h)
-    ∙ ap (λ r. map name_of (map p r)) (map-push v (take i xs) x)
-    ∙ ap (map name_of) (map-push p (map v (take i xs)) (v x))
-    ∙ map-push name_of (map p (map v (take i xs))) (p (v x)) in
+    ∙ ap (λ r. map name_of (map p r)) (map_push v (take i xs) x)
+    ∙ ap (map name_of) (map_push p (map v (take i xs)) (v x))
+    ∙ map_push name_of (map p (map v (take i xs))) (p (v x)) in
     ap (λ r. with_all table (given number r)) split
-    ∙ ap (with_all table) (map-push (λ name. (name, number)) (map name_of (map p (map v (take i xs))))
+    ∙ ap (with_all table) (map_push (λ name. (name, number)) (map name_of (map p (map v (take i xs))))
     (name_of (p (v x))))
     ∙ with_all-push table (given number (map name_of (map p (map v (take i xs))))) (name_of (p (v x)), number)
 

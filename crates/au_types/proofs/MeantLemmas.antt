@@ -2,8 +2,8 @@
 -- `meant_steps` names them.
 use Rattle.std.proofs.Common.{◌≡◌, ℕ, ◌+◌, ◌<◌, ◌≤◌, List, [], ◌∷◌, ◌++◌, map, length, drop, get_or, suc}
 use Rattle.std.proofs.Common.{Option, None, Some, Vec, refl, sym, ap, subst, ◌∙◌}
-use Rattle.std.proofs.lemmas.List.{drop_more, drop_all}
-use Rattle.std.proofs.lemmas.Option.{slice_get_within, get_or_from_slice_get}
+use Rattle.std.proofs.lemmas.List.{drop_more, drop_all, nil_from_length}
+use Rattle.std.proofs.lemmas.Option.{slice_get_within, get_or_from_slice_get, none-some, same_Some}
 use Rattle.std.specs.Prelude.{slice_get}
 use Rattle.std.specs.Global.{Global}
 use Rattle.std.specs.declared.boxed.Box.{Box}
@@ -34,10 +34,6 @@ pub alone_with : {A : Type 0} (f : A → Given) (t : Meaning) (args : List A) �
     alone t (map f args) ≡ None
 alone_with f t [] some = absurd (some refl)
 alone_with f t (one ∷ rest) some = refl
-
-pub empty_of : {A : Type 0} (xs : List A) → length xs ≡ 0 → xs ≡ []
-empty_of [] none = refl
-empty_of (x ∷ xs) none = absurd cc
 
 -- `Span` has two arguments
 pub span_of_two : {A : Type 0} (f : A → Given) (args : List A) (d e : A) → length args ≡ 2 →
@@ -86,6 +82,15 @@ joined_more before one (Some rest) = ap Some (sym (joined_push before one rest))
 pub followed_none : (one : Option Argument) → followed one None ≡ None
 followed_none None = refl
 followed_none (Some one) = refl
+
+-- arguments that follow one another are both there
+pub followed_both : (o : Option Argument) (p : Option Arguments) (args : Arguments) → followed o p ≡ Some args
+    → (one : Argument) × (rest : Arguments) × (o ≡ Some one) × (p ≡ Some rest)
+    × (mean.arguments one rest ≡ args)
+followed_both None p args e = absurd (none-some args e)
+followed_both (Some one) None args e = absurd (none-some args e)
+followed_both (Some one) (Some rest) args e =
+    (one, rest, refl, refl, same_Some (mean.arguments one rest) args e)
 
 -- arguments that don't fit in number mean nothing
 pub arguments_unequal : {A : Type 0} (f : A → Given) (args : List A) (expected : List Parameter) →
@@ -158,7 +163,7 @@ module _ (opened : List Bytes) (params : List Parameter) (visible : List (Bytes 
       sym (ap (λ t. region_meant opened params visible heads (written t)) is
       ∙ ap (region_meant opened params visible heads) (named_written name args)
       ∙ ap (λ all. region_meant opened params visible heads (named (type_name name) (written_all all)))
-      (empty_of args.items none))
+      (nil_from_length args.items none))
 
   -- the arguments of a type of the code
   pub given_is : (args : List TypeText) → all_given opened params visible heads (written_all args)

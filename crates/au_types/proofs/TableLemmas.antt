@@ -1,5 +1,5 @@
 -- Lemmas on tables by name.
-use Rattle.std.proofs.Common.{◌≡◌, ℕ, Bool, true, false, cond, not, List, [], ◌∷◌, ◌++◌, Option, None, Some}
+use Rattle.std.proofs.Common.{◌≡◌, ℕ, Bool, true, false, cond, not, List, [], ◌∷◌, ◌++◌, None, Some}
 use Rattle.std.proofs.Common.{is_some, refl, sym, ap, ◌∙◌, true≢false, append_assoc}
 use Rattle.std.specs.Map.{lookup}
 use Rattle.std.specs.Str.{bytes_eq}
@@ -8,8 +8,11 @@ use Rattle.std.proofs.lemmas.Slice.Eq.{bytes_eq-Decides}
 use Rattle.std.proofs.lemmas.Map.Entries.{lookup-filter-keys}
 use Rattle.std.proofs.lemmas.List.{append-nil}
 use Rattle.std.proofs.lemmas.List.Elements.{filter-append}
+use Rattle.std.proofs.lemmas.Option.{none-some}
 use Rattle.indexmap.specs.IndexMap.{insert_entry}
 use Rattle.indexmap.proofs.MapLemmas.{absent_from_lookup, insert_entry-absent}
+use Rattle.au_base.proofs.TextLemmas.{bytes_self}
+use Rattle.au_base.proofs.OptionLemmas.{none_of}
 use Rattle.au_types.specs.Tables.{pairs_by, find, has_name, with_pair, with_all, without, firsts}
 
 module _ {K V : Type 0} (name_of : K → List ℕ) where
@@ -36,11 +39,6 @@ module _ {V : Type 0} (pairs : List (List ℕ × V)) (name : List ℕ) (value : 
   unfolding with_pair
   with_pair-new h = rw h refl
 
--- what has no value is None
-none_of : {A : Type 0} (o : Option A) → is_some o ≡ false → o ≡ None
-none_of None h = refl
-none_of (Some x) h = absurd (true≢false h)
-
 -- a key that is new goes last among the keys, and so its name among the names
 module _ {K V : Type 0} (name_of : K → List ℕ) where
   pub inserted-new : (es : List (K × V)) (k : K) (v : V) (name : List ℕ) → name_of k ≡ name
@@ -56,16 +54,25 @@ module _ {K V : Type 0} (name_of : K → List ℕ) where
       ∙ ap (λ n. pairs_by es name_of ++ (n, v) ∷ []) same
       ∙ sym (with_pair-new (pairs_by es name_of) name v fresh)
 
--- a name is equal to itself, and to no other
-same_name : (name : List ℕ) → bytes_eq name name ≡ true
-same_name name = nat_list_eq_equiv.refl name
-
+-- a name is equal to no other
 other_name : (a b : List ℕ) → ¬ (a ≡ b) → bytes_eq a b ≡ false
 other_name a b apart = by (bytes_eq a b) refl
   where
     by : (r : Bool) → bytes_eq a b ≡ r → bytes_eq a b ≡ false
     by true e = absurd (apart ((bytes_eq-Decides a b).0 e))
     by false e = e
+
+-- what is found in front is found in the whole
+pub find-front : {V : Type 0} (name : List ℕ) (xs ys : List (List ℕ × V)) (v : V) → find name xs ≡ Some v
+    → find name (xs ++ ys) ≡ Some v
+find-front name [] ys v h = absurd (none-some v h)
+find-front name (x ∷ xs) ys v h = by (bytes_eq name x.0) h (λ k. find-front name xs ys v k)
+  where
+    by : (b : Bool) → cond b (Some x.1) (find name xs) ≡ Some v
+        → (find name xs ≡ Some v → find name (xs ++ ys) ≡ Some v)
+        → cond b (Some x.1) (find name (xs ++ ys)) ≡ Some v
+    by true k on = k
+    by false k on = on k
 
 module _ {V : Type 0} where
   -- what is found behind more pairs
@@ -93,7 +100,7 @@ module _ {V : Type 0} where
       → find name (with_pair pairs name value) ≡ Some value
   find-with_pair pairs name value h =
       ap (find name) (with_pair-new pairs name value h) ∙ find-append name pairs ((name, value) ∷ []) h
-      ∙ ap (λ c. cond c (Some value) None) (same_name name)
+      ∙ ap (λ c. cond c (Some value) None) (bytes_self name)
 
   -- the others stay
   pub find-with_pair_other : (pairs : List (List ℕ × V)) (name : List ℕ) (value : V) (other : List ℕ)

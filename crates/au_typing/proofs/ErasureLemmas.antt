@@ -2,6 +2,7 @@
 use Rattle.std.proofs.Common.{◌≡◌, List, [], ◌∷◌, map, refl, ap}
 use Rattle.std.specs.Prelude.{Option, Some, None}
 use Rattle.std.specs.Option.{option_map}
+use Rattle.au_base.proofs.ListLemmas.{map_same}
 use Rattle.au_syntax.specs.Modules.{Constrained, Header, Importing, Variant, constant, opaque_type}
 use Rattle.au_syntax.specs.Modules.{record_type, union_type, function, class, instance, constant_body}
 use Rattle.au_syntax.specs.Modules.{function_body, instance_body}
@@ -29,10 +30,6 @@ all_kept : {A B : Type 0} (f g : A → B) → ((x : A) → f x ≡ g x) → (xs 
 all_kept f g h [] = refl
 all_kept f g h (x ∷ xs) = λ i. h x i ∷ all_kept f g h xs i
 
-as_is : {A : Type 0} (f : A → A) → ((x : A) → f x ≡ x) → (xs : List A) → map f xs ≡ xs
-as_is f h [] = refl
-as_is f h (x ∷ xs) = λ i. h x i ∷ as_is f h xs i
-
 alias_kept : (alias : Option (Placed Bytes)) → option_map (plain_name same_name) alias ≡ alias
 alias_kept None = refl
 alias_kept (Some x) = refl
@@ -44,10 +41,10 @@ bound_kept : (b : Bound Bytes) → plain_bound same_name b ≡ b
 bound_kept b = λ i. record { name = renaming_kept b.name i; of = b.of }
 
 binds_kept : (binds : List (Bound Bytes)) → map (plain_bound same_name) binds ≡ binds
-binds_kept binds = as_is (plain_bound same_name) bound_kept binds
+binds_kept binds = map_same (plain_bound same_name) bound_kept binds
 
 labels_kept : (fields : List (Labelled Bytes)) → map (plain_labelled same_name) fields ≡ fields
-labels_kept fields = as_is (plain_labelled same_name) (λ x. refl) fields
+labels_kept fields = map_same (plain_labelled same_name) (λ x. refl) fields
 
 -- ---- statements
 
@@ -88,16 +85,16 @@ header_kept : (h : Header Bytes) → plain_header same_name h ≡ h
 header_kept h = λ i. record { name = h.name; parameters = labels_kept h.parameters i; result = h.result }
 
 headers_kept : (hs : List (Header Bytes)) → map (plain_header same_name) hs ≡ hs
-headers_kept hs = as_is (plain_header same_name) header_kept hs
+headers_kept hs = map_same (plain_header same_name) header_kept hs
 
 generics_kept : (gs : List (Constrained Bytes)) → map (plain_constrained same_name) gs ≡ gs
-generics_kept gs = as_is (plain_constrained same_name) constrained_kept gs
+generics_kept gs = map_same (plain_constrained same_name) constrained_kept gs
   where
     constrained_kept : (p : Constrained Bytes) → plain_constrained same_name p ≡ p
     constrained_kept p = λ i. record { parameter = p.parameter; classes = names_kept p.classes i }
 
 cases_kept : (cases : List (Variant Bytes)) → map (plain_variant same_name) cases ≡ cases
-cases_kept cases = as_is (plain_variant same_name) variant_kept cases
+cases_kept cases = map_same (plain_variant same_name) variant_kept cases
   where
     variant_kept : (v : Variant Bytes) → plain_variant same_name v ≡ v
     variant_kept v = λ i. record { name = v.name; fields = labels_kept v.fields i }
@@ -108,11 +105,11 @@ method_plain m = λ i. record { header = header_kept m.header i; body = block_pl
 declaration_plain : (d : NotedDeclaration) → plain_declaration same_name d ≡ erase_declaration d
 declaration_plain (constant at n t) = refl
 declaration_plain (opaque_type at n ps u) =
-    ap (λ qs. opaque_type at n qs u) (as_is (plain_in_universe same_name) (λ p. refl) ps)
+    ap (λ qs. opaque_type at n qs u) (map_same (plain_in_universe same_name) (λ p. refl) ps)
 declaration_plain (record_type at n ps u fields) =
-    λ i. record_type at n (as_is (plain_in_universe same_name) (λ p. refl) ps i) u (labels_kept fields i)
+    λ i. record_type at n (map_same (plain_in_universe same_name) (λ p. refl) ps i) u (labels_kept fields i)
 declaration_plain (union_type at n ps u cases) =
-    λ i. union_type at n (as_is (plain_in_universe same_name) (λ p. refl) ps i) u (cases_kept cases i)
+    λ i. union_type at n (map_same (plain_in_universe same_name) (λ p. refl) ps i) u (cases_kept cases i)
 declaration_plain (function at gs h) = λ i. function at (generics_kept gs i) (header_kept h i)
 declaration_plain (class at n p hs) = ap (class at n p) (headers_kept hs)
 declaration_plain (instance at gs n t) = ap (λ all. instance at all n t) (generics_kept gs)
@@ -126,7 +123,7 @@ declaration_plain (instance_body at gs n t ms) =
 pub module_plain : (m : NotedModule) → plain_module same_name m ≡ erase_module m
 module_plain m =
     λ i. record {
-      imports = as_is (plain_importing same_name) importing_kept m.imports i;
+      imports = map_same (plain_importing same_name) importing_kept m.imports i;
       at = m.at;
       part = m.part;
       name = names_kept m.name i;
@@ -139,5 +136,5 @@ module_plain m =
     importing_kept one = λ i. record {
       at = one.at;
       from = names_kept one.from i;
-      items = as_is (plain_renaming same_name) renaming_kept one.items i;
+      items = map_same (plain_renaming same_name) renaming_kept one.items i;
     }

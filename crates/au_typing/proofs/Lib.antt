@@ -23,3 +23,4 @@ pub mod ProgramLemmas
 pub mod PathLemmas
 pub mod ErasureLemmas
 pub mod RefusalLemmas
+pub mod LabelledLemmas

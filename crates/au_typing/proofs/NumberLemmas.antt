@@ -1,8 +1,9 @@
 -- The number of a declaration leads back to it.
 use Rattle.std.proofs.Common.{◌≡◌, ℕ, zero, suc, ◌+◌, ◌⊎◌, inl, inr, Bool, true, false, cond, List, [], ◌∷◌}
-use Rattle.std.proofs.Common.{◌++◌, length, find, Option, None, Some, refl, sym, ap, ◌∙◌, arith}
+use Rattle.std.proofs.Common.{length, find, Option, None, Some, refl, sym, ap, ◌∙◌, arith}
 use Rattle.std.specs.Prelude.{slice_get}
 use Rattle.std.proofs.lemmas.Option.{none-some, same_Some}
+use Rattle.au_base.proofs.ListLemmas.{get_right, in_either}
 use Rattle.au_syntax.specs.declared.modules.Part.{Part}
 use Rattle.au_syntax.specs.declared.modules.Part.TheVariants.{Interface, Body}
 use Rattle.au_syntax.specs.Plain.{Bytes, PlainDeclaration}
@@ -12,6 +13,7 @@ use Rattle.au_names.specs.Owned.{declarations_in}
 use Rattle.au_names.specs.Standing.{Standing, body_at, body_standing, defined_by, definition_for}
 use Rattle.au_names.specs.Standing.{definition_of, is_whole, module_standing, opaque_name, standing_at}
 use Rattle.au_names.specs.Standing.{standing_from, standing_in}
+use Rattle.au_names.proofs.DefinitionLemmas.{module_place}
 use Rattle.au_typing.specs.Insides.{number_in, number_of}
 
 -- ---- lists
@@ -26,24 +28,6 @@ found_there p (y ∷ xs) x h = by (p y) h (λ k. found_there p xs x k)
         (find p xs ≡ Some x → (k : ℕ) × (slice_get xs k ≡ Some x)) → (k : ℕ) × (slice_get (y ∷ xs) k ≡ Some x)
     by true k on = (0, k)
     by false k on = let r = on k in (suc r.0, r.1)
-
--- what stands in one list before another stands in the one or the other
-pub in_either : {X : Type 0} (xs ys : List X) (k : ℕ) (x : X) → slice_get (xs ++ ys) k ≡ Some x
-    → (slice_get xs k ≡ Some x) ⊎ ((j : ℕ) × (k ≡ length xs + j) × (slice_get ys j ≡ Some x))
-in_either [] ys k x h = let same : k ≡ 0 + k = omega arith in inr (k, same, h)
-in_either (y ∷ xs) ys zero x h = inl h
-in_either (y ∷ xs) ys (suc k) x h = on (in_either xs ys k x h)
-  where
-    on : (slice_get xs k ≡ Some x) ⊎ ((j : ℕ) × (k ≡ length xs + j) × (slice_get ys j ≡ Some x))
-        → (slice_get (y ∷ xs) (suc k) ≡ Some x) ⊎ ((j : ℕ) × (suc k ≡ length (y ∷ xs) + j) × (slice_get ys j ≡ Some x))
-    on (inl e) = inl e
-    on (inr r) = let next : suc k ≡ suc (length xs) + r.0 = omega (arith, r.1) in inr (r.0, next, r.2)
-
-behind : {X : Type 0} (xs ys : List X) (j : ℕ) → slice_get (xs ++ ys) (length xs + j) ≡ slice_get ys j
-behind [] ys j = let same : 0 + j ≡ j = omega arith in ap (slice_get ys) same
-behind (x ∷ xs) ys j =
-    let next : suc (length xs) + j ≡ suc (length xs + j) = omega arith in
-    ap (slice_get (x ∷ xs ++ ys)) next ∙ behind xs ys j
 
 -- ---- where declarations stand
 
@@ -102,26 +86,13 @@ numbered_as place m k s h = by
 abbrev pub at_number : List ModuleParts → Standing → DeclAt
 at_number program s = record { «module» = s.place; decl = number_of program s }
 
--- what stands in a module at a place is of that place
-pub of_place : (place : ℕ) (m : ModuleParts) (k : ℕ) (s : Standing) → slice_get (module_standing place m) k
-    ≡ Some s → s.place ≡ place
-of_place place m k s h = by (in_either (standing_from place Interface 0 (declarations_in m.interface))
-    (body_standing place m) k s h)
-  where
-    by : (slice_get (standing_from place Interface 0 (declarations_in m.interface)) k ≡ Some s)
-        ⊎ ((j : ℕ) × (k ≡ length (standing_from place Interface 0 (declarations_in m.interface)) + j)
-        × (slice_get (body_standing place m) j ≡ Some s))
-        → s.place ≡ place
-    by (inl e) = (stands_at place 0 Interface (declarations_in m.interface) k s e).place
-    by (inr r) = (stands_at place 0 Body (declarations_in m.body) r.0 s r.2).place
-
 -- what stands in a module is found at its number
 stands_itself : (program : List ModuleParts) (place : ℕ) (m : ModuleParts) (k : ℕ) (s : Standing) →
     slice_get program place ≡ Some m → slice_get (module_standing place m) k ≡ Some s
     → standing_at program (at_number program s) ≡ Some s
 stands_itself program place m k s here h =
     ap (λ p. standing_in p (number_in (slice_get program p) s.part s.index) (slice_get program p))
-    (of_place place m k s h)
+    (module_place place m k s h)
     ∙ ap (λ o. standing_in place (number_in o s.part s.index) o) here
     ∙ ap (slice_get (module_standing place m)) (numbered_as place m k s h)
     ∙ h
@@ -142,7 +113,7 @@ in_body : (program : List ModuleParts) (place j : ℕ) (s : Standing) (found : O
 in_body program place j s None is h = absurd (none-some s h)
 in_body program place j s (Some m) is h =
     let interface = standing_from place Interface 0 (declarations_in m.interface) in
-    (m, length interface + j, is, behind interface (body_standing place m) j ∙ h)
+    (m, length interface + j, is, get_right interface (body_standing place m) j ∙ h)
 
 itself : (program : List ModuleParts) (place : ℕ) (s : Standing) → IsThere program place s →
     standing_at program (at_number program s) ≡ Some s

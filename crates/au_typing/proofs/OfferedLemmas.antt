@@ -8,6 +8,7 @@ use Rattle.std.specs.Option.{option_map}
 use Rattle.std.specs.Str.{bytes_eq}
 use Rattle.std.proofs.lemmas.List.Elements.{Contains-append_cases}
 use Rattle.std.proofs.lemmas.Option.{none-some, same_Some}
+use Rattle.au_base.proofs.ListLemmas.{in_either}
 use Rattle.au_syntax.specs.declared.modules.Part.{Part}
 use Rattle.au_syntax.specs.declared.modules.Part.TheVariants.{Interface, Body}
 use Rattle.au_syntax.specs.Modules.{Importing}
@@ -15,6 +16,7 @@ use Rattle.au_syntax.specs.Names.{Renaming}
 use Rattle.au_syntax.specs.Parts.{Each}
 use Rattle.au_syntax.specs.Plain.{Bytes, PlainDeclaration}
 use Rattle.au_syntax.specs.Sizes.{joined}
+use Rattle.au_syntax.proofs.PartLemmas.{both_hold}
 use Rattle.au_types.specs.declared.spaces.Space.{Space}
 use Rattle.au_types.specs.declared.spaces.Space.TheVariants.{Values, Callables, Types}
 use Rattle.au_types.specs.DeclaredNames.{declared_names, given, names_in, numbered}
@@ -30,16 +32,13 @@ use Rattle.au_names.specs.Standing.{Standing, body_at, body_standing, defined_by
 use Rattle.au_names.specs.Standing.{definition_of, is_whole, module_standing, opaque_name, standing_at}
 use Rattle.au_names.specs.Standing.{standing_from, standing_in}
 use Rattle.au_names.proofs.SeenLemmas.{seen_meant}
+use Rattle.au_names.proofs.DefinitionLemmas.{module_place}
 use Rattle.au_typing.specs.Written.{seen_at, seen_in}
-use Rattle.au_typing.proofs.NumberLemmas.{found_there, in_either, of_place, stands_at, stands_count, there}
+use Rattle.au_typing.proofs.NumberLemmas.{found_there, stands_at, stands_count, there}
 
 -- ---- lists
 
 module _ {X : Type 0} (P : X → Type 0) where
-  each_append : (xs ys : List X) → Each P xs → Each P ys → Each P (xs ++ ys)
-  each_append [] ys a b = b
-  each_append (x ∷ xs) ys a b = (a.0, each_append xs ys a.1 b)
-
   each_filter : (p : X → Bool) (xs : List X) → Each P xs → Each P (filter p xs)
   each_filter p [] a = tt
   each_filter p (x ∷ xs) a = by (p x) (each_filter p xs a.1)
@@ -50,7 +49,7 @@ module _ {X : Type 0} (P : X → Type 0) where
 
   each_flat : {Y : Type 0} (f : Y → List X) → ((y : Y) → Each P (f y)) → (ys : List Y) → Each P (flat_map f ys)
   each_flat f h [] = tt
-  each_flat f h (y ∷ ys) = each_append (f y) (flat_map f ys) (h y) (each_flat f h ys)
+  each_flat f h (y ∷ ys) = both_hold P (f y) (flat_map f ys) (h y) (each_flat f h ys)
 
   each_at : (xs : List X) (k : ℕ) (x : X) → k < length xs → slice_index_or xs k x ≡ x → Each P xs → P x
   each_at [] k x h e a = absurd (omega (arith, h))
@@ -82,7 +81,7 @@ names_below space first most [] h = tt
 names_below space first most (d ∷ ds) h =
     let less : first < most = omega (arith, h) in
     let next : first + 1 + length ds ≡ most = omega (arith, h) in
-    each_append (IsBelow most) (given first (declared_names space d)) (names_in space (numbered (first + 1) ds))
+    both_hold (IsBelow most) (given first (declared_names space d)) (names_in space (numbered (first + 1) ds))
     (given_below first most (declared_names space d) less)
     (names_below space (first + 1) most ds next)
 
@@ -148,7 +147,7 @@ module _ (program : List ModuleParts) (place : ℕ) (m : ModuleParts) (here : sl
   brought_offered Values item = renamed_offered item.name.name (given_name item) (exported Values place m)
       (exported_offered Values)
   brought_offered Callables item =
-      each_append (Offers program) (renamed item.name.name (given_name item) (exported Callables place m))
+      both_hold (Offers program) (renamed item.name.name (given_name item) (exported Callables place m))
       (along place item.name.name (interface_of m))
       (renamed_offered item.name.name (given_name item) (exported Callables place m) (exported_offered Callables))
       (along_offered item.name.name)
@@ -158,7 +157,7 @@ module _ (program : List ModuleParts) (place : ℕ) (m : ModuleParts) (here : sl
 -- ---- imports
 
 -- the module that an import names is there
-source_there : (program : List ModuleParts) (place : ℕ) (found : Option ℕ) (other : ℕ × ModuleParts) →
+pub source_there : (program : List ModuleParts) (place : ℕ) (found : Option ℕ) (other : ℕ × ModuleParts) →
     earlier program place found ≡ Some other → slice_get program other.0 ≡ Some other.1
 source_there program place None other h = absurd (none-some other h)
 source_there program place (Some at) other h = by (nat_lt at place) h
@@ -228,7 +227,7 @@ own_body : (program : List ModuleParts) (place : ℕ) (meaning : Target) (d : St
     ≡ place → standing_at program meaning.at ≡ Some d → d.place ≡ place
 own_body program place meaning d is stands =
     let r = there program meaning.at.«module» meaning.at.decl d (slice_get program meaning.at.«module») refl stands in
-    of_place meaning.at.«module» r.0 r.1 d r.3 ∙ is
+    module_place meaning.at.«module» r.0 r.1 d r.3 ∙ is
 
 module _ (program : List ModuleParts) (place : ℕ) (part : Part) (space : Space) (name : Bytes)
     (meaning : Target) (d : Standing) where

@@ -19,7 +19,8 @@ use Rattle.au_typing.specs.Search.{arithmetic_note, binary_noted, comparison_not
 use Rattle.au_typing.proofs.Refused.{noting_is_given}
 use Rattle.au_typing.proofs.Steps.{bind_found}
 
-bind_fails : {A B : Type 0} {r : Noting A} {fault : Fault} (f : A → Noting B) → r ≡ Err fault → (r >>= f) ≡ Err fault
+pub bind_fails : {A B : Type 0} {r : Noting A} {fault : Fault} (f : A → Noting B) → r ≡ Err fault →
+    (r >>= f) ≡ Err fault
 bind_fails f h = ap (λ r. r >>= f) h
 
 module _ (scope : Scope) where
@@ -76,8 +77,8 @@ module _ (scope : Scope) where
       λ (n : Note). Ok (binary (noted_at u n) op z.0 z.1)) h
 
   -- a binary operation with its tests settled
-  settled : (u : Node (Unit {0})) (op : BinaryOperator) (a b : PlainExpression) (mode : Mode) (x y : Bool) →
-      is_arithmetic op ≡ x → is_logical op ≡ y → note_expression scope (binary u op a b) mode
+  pub settled : (u : Node (Unit {0})) (op : BinaryOperator) (a b : PlainExpression) (mode : Mode)
+      (x y : Bool) → is_arithmetic op ≡ x → is_logical op ≡ y → note_expression scope (binary u op a b) mode
       ≡ binary_noted scope x y u op (is_bare a) (is_bare b) (note_expression scope a) (note_expression scope b)
       mode
   settled u op a b mode x y arithmetic logical =

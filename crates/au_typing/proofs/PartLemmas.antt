@@ -53,7 +53,7 @@ place_found sc t (field ∷ path) of g =
     (known_record (type_of_name field.name) (sc.outside.fields t) g.0 g.1)
     (part_found sc t (field ∷ path) of g)
 
-free_found : (sc : Scope) (t : Meaning) → is_free_in sc t ≡ true → free_place sc t ≡ Ok t
+pub free_found : (sc : Scope) (t : Meaning) → is_free_in sc t ≡ true → free_place sc t ≡ Ok t
 free_found sc t free = check_from (not_free t) (Ok t) free refl
 
 -- ---- fields that are bound

@@ -1,16 +1,16 @@
 -- Places of variables by their names.
 use Rattle.std.proofs.Common.{◌≡◌, ℕ, suc, ◌-◌, ◌<◌, ◌≤◌, length, get_or, slice_get, List, [], ◌∷◌, ◌++◌}
 use Rattle.std.proofs.Common.{map, reverse, find, drop, Bool, true, false, cond, Option, None, Some}
-use Rattle.std.proofs.Common.{is_some, unwrap_or, option_map, if◌then◌else◌, refl, ap, subst, sym, ◌∙◌}
+use Rattle.std.proofs.Common.{is_some, option_map, if◌then◌else◌, refl, ap, subst, sym, ◌∙◌}
 use Rattle.std.proofs.Common.{true≢false, arith}
 use Rattle.std.proofs.lemmas.List.{get_or_append_left, length-append, length-map, length-reverse}
 use Rattle.std.proofs.lemmas.List.{reverse-append, map-append}
-use Rattle.std.proofs.lemmas.Option.{slice_get-get_or, slice_get-map, slice_get_read}
+use Rattle.std.proofs.lemmas.Option.{slice_get-get_or, slice_get-map, slice_get_read, none-some, same_Some}
 use Rattle.std.proofs.Math.Seq.{get_or-append_seam}
 use Rattle.std.specs.Map.{set_value}
 use Rattle.std.specs.Str.{bytes_eq}
-use Rattle.std.specs.Cmp.Lexicographic.{nat_list_eq_equiv}
-use Rattle.std.proofs.lemmas.Slice.Eq.{bytes_eq-Decides}
+use Rattle.au_base.proofs.TextLemmas.{bytes_self, bytes_same}
+use Rattle.au_base.proofs.OptionLemmas.{none_of}
 use Rattle.au_typing.specs.Scopes.{Variable}
 use Rattle.au_types.specs.Tables.{find as at_name, has_name, pairs_by, with_pair}
 use Rattle.au_types.proofs.TableLemmas.{find-with_pair, find-with_pair_other}
@@ -18,28 +18,10 @@ use Rattle.au_typing.specs.declared.variables.Held.{Held}
 use Rattle.au_typing.specs.Places.{kept, place_in, placed, place_of, alone, held_said, ArePlaced}
 use Rattle.au_typing.specs.Variables.{variable_said}
 
--- ---- names
-
-same_name : (name : List ℕ) → bytes_eq name name ≡ true
-same_name name = nat_list_eq_equiv.refl name
-
-equal : (a b : List ℕ) → bytes_eq a b ≡ true → a ≡ b
-equal a b e = (bytes_eq-Decides a b).0 e
-
 -- ---- what may be there
 
-none_of : {A : Type 0} (o : Option A) → is_some o ≡ false → o ≡ None
-none_of None h = refl
-none_of (Some x) h = absurd (true≢false h)
-
-not_none : {A : Type 0} (x : A) → None ≡ Some x → ⊥
-not_none x e = true≢false (sym (ap is_some e))
-
-some_same : (a b : ℕ) → Some a ≡ Some b → a ≡ b
-some_same a b e = ap (λ o. unwrap_or o 0) e
-
 kept_there : (o : Option (Option ℕ)) (place : ℕ) → kept o ≡ Some place → is_some o ≡ true
-kept_there None place e = absurd (not_none place e)
+kept_there None place e = absurd (none-some place e)
 kept_there (Some one) place e = refl
 
 kept_if : (b : Bool) (place : Option ℕ) (rest : Option (Option ℕ))
@@ -68,12 +50,13 @@ module _ {K V : Type 0} (name_of : K → List ℕ) (name : List ℕ) (w : V) whe
           ≡ (if bytes_eq name other then Some w else at_name other (pairs_by (e ∷ es) name_of))
       by true eb true ec true ed rec = rw eb (rw ec (rw ed refl))
       by true eb true ec false ed rec =
-          absurd (true≢false (sym (ap (λ x. bytes_eq x (name_of e.0)) (sym (equal name other ec)) ∙ eb) ∙ ed))
+          absurd (true≢false (sym (ap (λ x. bytes_eq x (name_of e.0)) (sym (bytes_same name other ec)) ∙ eb)
+          ∙ ed))
       by true eb false ec true ed rec =
-          absurd (true≢false (sym (ap (bytes_eq name) (equal other (name_of e.0) ed) ∙ eb) ∙ ec))
+          absurd (true≢false (sym (ap (bytes_eq name) (bytes_same other (name_of e.0) ed) ∙ eb) ∙ ec))
       by true eb false ec false ed rec = rw eb (rw ec (rw ed refl))
       by false eb true ec true ed rec =
-          absurd (true≢false (sym (ap (λ x. bytes_eq x (name_of e.0)) (equal name other ec) ∙ ed) ∙ eb))
+          absurd (true≢false (sym (ap (λ x. bytes_eq x (name_of e.0)) (bytes_same name other ec) ∙ ed) ∙ eb))
       by false eb true ec false ed rec =
           let there' : has_name name (pairs_by es name_of)
           ≡ true = sym (ap (λ c. is_some (cond c (Some e.1) (at_name name (pairs_by es name_of)))) eb)
@@ -104,12 +87,13 @@ room_same places name other fresh = by (bytes_eq other name) refl
     by : (b : Bool) → bytes_eq other name ≡ b → place_in other (with_pair places name None)
         ≡ place_in other places
     by true e =
-        subst (λ x. place_in x (with_pair places name None) ≡ place_in x places) (sym (equal other name e))
+        subst (λ x. place_in x (with_pair places name None) ≡ place_in x places)
+        (sym (bytes_same other name e))
         (ap kept (find-with_pair places name None fresh)
         ∙ sym (ap kept (none_of (at_name name places) fresh)))
     by false e =
         ap kept (find-with_pair_other places name None other
-        (λ same. true≢false (sym (same_name other) ∙ ap (bytes_eq other) same ∙ e)))
+        (λ same. true≢false (sym (bytes_self other) ∙ ap (bytes_eq other) same ∙ e)))
 
 pub room_there : (places : List (List ℕ × Option ℕ)) (name : List ℕ) → has_name name places ≡ false →
     is_some (at_name name (with_pair places name None)) ≡ true
@@ -122,19 +106,19 @@ found_at : (name : List ℕ) (v : Variable) (rest : List Variable) (b : Bool) �
 found_at name v rest b e = ap (λ c. if c then Some (length rest) else place_of name rest) e
 
 pub place_within : (name : List ℕ) (vs : List Variable) (i : ℕ) → place_of name vs ≡ Some i → i < length vs
-place_within name [] i h = absurd (not_none i h)
+place_within name [] i h = absurd (none-some i h)
 place_within name (v ∷ rest) i h = by (bytes_eq v.name name) refl (place_within name rest i)
   where
     by : (b : Bool) → bytes_eq v.name name ≡ b → (place_of name rest ≡ Some i → i < length rest)
         → i < length (v ∷ rest)
     by true e rec = let same : length rest
-        ≡ i = some_same (length rest) i (sym (found_at name v rest true e) ∙ h) in omega (arith, same)
+        ≡ i = same_Some (length rest) i (sym (found_at name v rest true e) ∙ h) in omega (arith, same)
     by false e rec = let less : i < length rest = rec (sym (found_at name v rest false e)
         ∙ h) in omega (arith, less)
 
 pub place_found : (name : List ℕ) (vs : List Variable) (i : ℕ) → place_of name vs ≡ Some i →
     find (λ (one : Variable). bytes_eq one.name name) vs ≡ slice_get (reverse vs) i
-place_found name [] i h = absurd (not_none i h)
+place_found name [] i h = absurd (none-some i h)
 place_found name (v ∷ rest) i h =
     by (bytes_eq v.name name) refl (place_found name rest i) (place_within name rest i)
     ∙ ap (λ l. slice_get l i) (sym (reverse-append (v ∷ []) rest))
@@ -145,7 +129,7 @@ place_found name (v ∷ rest) i h =
         → (place_of name rest ≡ Some i → i < length rest)
         → find (λ (one : Variable). bytes_eq one.name name) (v ∷ rest) ≡ slice_get (reverse rest ++ v ∷ []) i
     by true e rec less =
-        let same : length rest ≡ i = some_same (length rest) i (sym (found_at name v rest true e) ∙ h) in
+        let same : length rest ≡ i = same_Some (length rest) i (sym (found_at name v rest true e) ∙ h) in
         let last : length (reverse rest) ≡ i = length-reverse rest ∙ same in
         let within : length (reverse rest) < length (reverse rest ++ v ∷ []) =
         omega (arith, length-append (reverse rest) (v ∷ [])) in
@@ -169,7 +153,7 @@ place_missing name (v ∷ rest) h = by (bytes_eq v.name name) refl (place_missin
     by : (b : Bool) → bytes_eq v.name name ≡ b
         → (place_of name rest ≡ None → find (λ (one : Variable). bytes_eq one.name name) rest ≡ None)
         → find (λ (one : Variable). bytes_eq one.name name) (v ∷ rest) ≡ None
-    by true e rec = absurd (not_none (length rest) (sym (sym (found_at name v rest true e) ∙ h)))
+    by true e rec = absurd (none-some (length rest) (sym (sym (found_at name v rest true e) ∙ h)))
     by false e rec = rw e (rec (sym (found_at name v rest false e) ∙ h))
 
 -- ---- one more variable, and one less
@@ -205,7 +189,7 @@ pub room_of_first : (h : Variable × Option ℕ) (all : List (Variable × Option
     ArePlaced (h ∷ all) places → is_some (at_name h.0.name places) ≡ true
 room_of_first h all places before =
     kept_there (at_name h.0.name places) (length (alone all)) (before.1 h.0.name
-    ∙ found_at h.0.name h.0 (alone all) true (same_name h.0.name))
+    ∙ found_at h.0.name h.0 (alone all) true (bytes_self h.0.name))
 
 pub placed_less : (h : Variable × Option ℕ) (all : List (Variable × Option ℕ)) (places new : List (List ℕ
     × Option ℕ)) →
@@ -216,7 +200,7 @@ placed_less h all places new before set = (before.0.1, λ q. set q ∙ by q (byt
   where
     by : (q : List ℕ) (b : Bool) → bytes_eq h.0.name q ≡ b
         → placed h.0.name h.1 (λ one. place_in one places) q ≡ place_of q (alone all)
-    by q true e = rw e (before.0.0 ∙ ap (λ x. place_of x (alone all)) (equal h.0.name q e))
+    by q true e = rw e (before.0.0 ∙ ap (λ x. place_of x (alone all)) (bytes_same h.0.name q e))
     by q false e = rw e (before.1 q ∙ found_at q h.0 (alone all) false e)
 
 -- ---- variables of the code

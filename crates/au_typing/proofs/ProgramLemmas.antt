@@ -153,7 +153,7 @@ two_bodies outside generics header a b g h e =
 
 -- ---- what is found is good
 
-body_sound : (outside : Outside) (at : Pos) (generics : List (Constrained Bytes)) (header : Header Bytes)
+pub body_sound : (outside : Outside) (at : Pos) (generics : List (Constrained Bytes)) (header : Header Bytes)
     (body : PlainStatements) (stop : Pos) (t : NotedStatements)
     → note_body outside at generics header body stop ≡ Ok t
     → GoodBody outside generics header t × (erase_block t ≡ body)

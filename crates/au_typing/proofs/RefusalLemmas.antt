@@ -17,15 +17,16 @@ use Rattle.au_typing.proofs.SoundLemmas.{statement_sound}
 
 -- ---- steps that failed
 
-fault_is : {A : Type 0} (f g : StatementFault) → ◌≡◌ {A = Judged A} (Err f) (Err g) → f ≡ g
+pub fault_is : {A : Type 0} (f g : StatementFault) → ◌≡◌ {A = Judged A} (Err f) (Err g) → f ≡ g
 fault_is f g e = cc
 
-then_failed : {A B : Type 0} (r : Judged A) (next : A → Judged B) (f : StatementFault) → (r then next) ≡ Err f
+pub then_failed : {A B : Type 0} (r : Judged A) (next : A → Judged B) (f : StatementFault) →
+    (r then next) ≡ Err f
     → (r ≡ Err f) ⊎ ((x : A) × (r ≡ Ok x) × (next x ≡ Err f))
 then_failed (Ok x) next f e = inr (x, refl, e)
 then_failed (Err g) next f e = inl (ap Err (fault_is g f e))
 
-next_failed : (b : Bool) (rest : PlainStatements) (f : StatementFault) → judge_next b rest ≡ Err f
+pub next_failed : (b : Bool) (rest : PlainStatements) (f : StatementFault) → judge_next b rest ≡ Err f
     → (first : PlainStatement) × (more : PlainStatements) × (rest ≡ statements first more) × (b ≡ true)
     × (f ≡ refused (place_of first) after_return)
 next_failed true (statements first more) f e =

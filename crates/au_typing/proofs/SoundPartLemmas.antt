@@ -1,6 +1,8 @@
 -- Whatever is found of a statement's own parts is good.
-use Rattle.std.proofs.Common.{◌≡◌, Bool, true, false, not, List, [], ◌∷◌, refl, sym, ap, subst, ◌∙◌}
-use Rattle.std.specs.Prelude.{Option, Some, None, Ok, Err, is_some}
+use Rattle.std.proofs.Common.{◌≡◌, true, false, not, List, [], ◌∷◌, sym, ap, subst, ◌∙◌}
+use Rattle.std.specs.Prelude.{Some, None, Ok, Err}
+use Rattle.std.proofs.lemmas.Bool.{not-true}
+use Rattle.au_base.proofs.OptionLemmas.{some_of}
 use Rattle.au_syntax.specs.declared.expressions.BorrowMode.{BorrowMode}
 use Rattle.au_syntax.specs.Names.{Placed}
 use Rattle.au_syntax.specs.Plain.{Bytes, PlainExpression}
@@ -40,11 +42,7 @@ use Rattle.au_typing.specs.Statements.{IsReference, Wants}
 
 -- ---- parts of records
 
-is_some_gave : {A : Type 0} (o : Option A) → is_some o ≡ true → (x : A) × (o ≡ Some x)
-is_some_gave None e = absurd cc
-is_some_gave (Some x) e = (x, refl)
-
-part_sound : (sc : Scope) (t : Meaning) (path : List (Placed Bytes)) (of : Meaning)
+pub part_sound : (sc : Scope) (t : Meaning) (path : List (Placed Bytes)) (of : Meaning)
     → part_type sc t path ≡ Ok of
     → IsPart sc t path of
 part_sound sc t [] of e = sym (ok_same t of e)
@@ -56,7 +54,7 @@ part_sound sc t (field ∷ path) of e =
       part_sound sc step.0 path of step.2,
     )
 
-place_sound : (sc : Scope) (t : Meaning) (path : List (Placed Bytes)) (of : Meaning)
+pub place_sound : (sc : Scope) (t : Meaning) (path : List (Placed Bytes)) (of : Meaning)
     → place_type sc t path ≡ Ok of
     → IsPart sc t path of
 place_sound sc t [] of e = sym (ok_same t of e)
@@ -64,7 +62,8 @@ place_sound sc t (field ∷ path) of e =
     part_sound sc t (field ∷ path) of
     (check_ok (is_record sc t) (shape record_wanted) (part_type sc t (field ∷ path)) of e).1
 
-free_sound : (sc : Scope) (t of : Meaning) → free_place sc t ≡ Ok of → (is_free_in sc of ≡ true) × (t ≡ of)
+pub free_sound : (sc : Scope) (t of : Meaning) → free_place sc t ≡ Ok of → (is_free_in sc of ≡ true)
+    × (t ≡ of)
 free_sound sc t of e =
     let step = check_ok (is_free_in sc t) (not_free t) (Ok t) of e in
     let is : t ≡ of = ok_same t of step.1 in
@@ -134,16 +133,12 @@ heads_sound sc cases heads e =
     (judge_arms sc cases heads) tt named.2 in
     (step.0, arms_sound sc cases heads step.1)
 
-not_true : (b : Bool) → not b ≡ true → b ≡ false
-not_true false e = refl
-not_true true e = absurd cc
-
 union_sound : (sc : Scope) (t : Meaning) (cases : List Case) → judge_union sc t ≡ Ok cases
     → (is_borrowed_within t ≡ false) × (sc.outside.cases t ≡ Some cases)
 union_sound sc t cases e =
     let step = check_ok (not (is_borrowed_within t)) (shape union_wanted)
     (known_or (shape union_wanted) (sc.outside.cases t)) cases e in (
-      not_true (is_borrowed_within t) step.0,
+      not-true (is_borrowed_within t) step.0,
       known_ok (shape union_wanted) (sc.outside.cases t) cases step.1,
     )
 
@@ -279,7 +274,7 @@ module _ (sc : Scope) where
       let wants = wants_sound e (Some place.0) a place.2 in
       let behind = writes_to one.of to
       (known_ok (shape write_reference_wanted) (written_through one.of) to writes.1) in
-      let fields = is_some_gave (sc.outside.fields to) test.0 in (
+      let fields = some_of (sc.outside.fields to) test.0 in (
         record {
           variable = one;
           known = known_ok (not_writing r (value_type sc r)) (variable_of sc r) one known.1;

@@ -4,16 +4,17 @@ use Rattle.std.proofs.Common.{nat_le, List, [], ◌∷◌, ◌++◌, length, tak
 use Rattle.std.proofs.Common.{◌∙◌, sym, refl, subst, arith, inl, inr, le-leb, leb-true, eqb-true, eq-eqb}
 use Rattle.std.proofs.Common.{ne_eqb, take-append-drop, drop-cons, length-append, add-one}
 use Rattle.std.specs.List.{list_all}
-use Rattle.std.proofs.lemmas.Bool.{and_parts, and_from, cases_Bool}
+use Rattle.std.proofs.lemmas.Bool.{and_parts, and_from, cases_Bool, cond-true, cond-false}
 use Rattle.std.proofs.lemmas.List.Folds.{list_all-append}
 use Rattle.std.proofs.lemmas.List.Sums.{prefix_len_stops, prefix_len-le-length}
 use Rattle.au_base.specs.Limits.{most_name_bytes}
 use Rattle.au_lexer.specs.Bytes.{is_letter, is_digit, is_name_byte}
-use Rattle.au_lexer.proofs.RunLemmas.{chosen, when_true, when_false, prefix_pass}
+use Rattle.au_lexer.proofs.RunLemmas.{prefix_pass}
 use Rattle.au_words.specs.Jobs.{is_spelled_as_name, is_other, is_name, is_keyword, joined, IsModuleName}
 use Rattle.au_words.specs.Jobs.{IsEntry, entry_spelling}
 use Rattle.au_words.specs.Reading.{between, home_size, home_at, function_at, is_home, is_function, entry_at}
 use Rattle.au_base.specs.declared.names.Entry.{Entry}
+use Rattle.au_base.proofs.BoolLemmas.{cond_cases}
 use Rattle.au_words.proofs.NameLemmas.{all_pass, cut_joined, joined_cut, some_cut}
 
 -- a byte that may stand in a name is no sign
@@ -94,24 +95,30 @@ pub entry_found : (bytes : List ℕ) (entry : Entry) → entry_at bytes ≡ Some
     × (entry_spelling entry ≡ bytes)
 unfolding entry_at
 entry_found bytes entry h =
-    elim (chosen (home_size bytes == length bytes) _ _ (Some entry) h) [
+    elim (cond_cases (home_size bytes == length bytes) _ _ (Some entry) h) [
       | inl w ↦ absurd (let e = w.1 in cc)
-      | inr w ↦ elim (chosen (is_home (home_at bytes) && is_function (function_at bytes)) _ _ (Some entry) w.1) [
-        | inl v ↦
-            let found : Entry = record { «module» = home_at bytes; function = function_at bytes } in
-            let same : found ≡ entry = (let e = v.1 in cc) in
-            let parts = and_parts (is_home (home_at bytes)) (is_function (function_at bytes)) v.0 in
-            let home = home_found (home_at bytes) parts.0 in
-            let function = and_parts (nat_le (length (function_at bytes)) most_name_bytes)
-            (is_name (function_at bytes)) parts.1 in
-            let has : home_size bytes ≢ length bytes =
-            λ e. absurd (let t = eq-eqb (home_size bytes) (length bytes) e in let f = w.0 in cc) in
-            subst (λ n. IsEntry n × (entry_spelling n ≡ bytes)) same (
-              (home.0, home.1, function.1, leb-true (length (function_at bytes)) most_name_bytes function.0),
-              at_colon bytes has,
-            )
-        | inr v ↦ absurd (let e = v.1 in cc)
-      ]
+      | inr w ↦ elim (cond_cases (is_home (home_at bytes) && is_function (function_at bytes)) _ _ (Some entry)
+          w.1) [
+            | inl v ↦
+                let found : Entry = record { «module» = home_at bytes; function = function_at bytes } in
+                let same : found ≡ entry = (let e = v.1 in cc) in
+                let parts = and_parts (is_home (home_at bytes)) (is_function (function_at bytes)) v.0 in
+                let home = home_found (home_at bytes) parts.0 in
+                let function = and_parts (nat_le (length (function_at bytes)) most_name_bytes)
+                (is_name (function_at bytes)) parts.1 in
+                let has : home_size bytes ≢ length bytes =
+                λ e. absurd (let t = eq-eqb (home_size bytes) (length bytes) e in let f = w.0 in cc) in
+                subst (λ n. IsEntry n × (entry_spelling n ≡ bytes)) same (
+                  (
+                    home.0,
+                    home.1,
+                    function.1,
+                    leb-true (length (function_at bytes)) most_name_bytes function.0,
+                  ),
+                  at_colon bytes has,
+                )
+            | inr v ↦ absurd (let e = v.1 in cc)
+          ]
     ]
 
 take_whole : (xs ys : List ℕ) → take (length xs) (xs ++ ys) ≡ xs
@@ -145,7 +152,7 @@ entry_again entry is =
     (ap is_home before ∙ home_again home is.0 is.1)
     (ap is_function behind ∙ and_from (nat_le (length function) most_name_bytes) (is_name function)
     (le-leb (length function) most_name_bytes is.3) is.2) in
-    when_false (home_size bytes == length bytes) _ _ (ne_eqb (home_size bytes) (length bytes) other)
-    ∙ when_true (is_home (home_at bytes) && is_function (function_at bytes)) _ _ test
+    cond-false (home_size bytes == length bytes) _ _ (ne_eqb (home_size bytes) (length bytes) other)
+    ∙ cond-true (is_home (home_at bytes) && is_function (function_at bytes)) _ _ test
     ∙ ap (λ l. Some (entry_of l (function_at bytes))) before
     ∙ ap (λ l. Some (entry_of home l)) behind

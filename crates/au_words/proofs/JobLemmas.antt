@@ -7,7 +7,6 @@ use Rattle.std.specs.Str.{IsUtf8, bytes_eq}
 use Rattle.std.specs.String.{string_bytes}
 use Rattle.std.proofs.lemmas.Slice.Eq.{bytes_eq-Decides}
 use Rattle.std.proofs.lemmas.Str.{IsUtf8-string_bytes}
-use Rattle.au_lexer.proofs.RunLemmas.{chosen}
 use Rattle.clap.specs.Faults.{fault_of}
 use Rattle.clap.specs.Matches.{subcommand_name_of}
 use Rattle.clap.specs.Simple.{subcommand_of, subcommand_rows_of}
@@ -15,6 +14,7 @@ use Rattle.clap.specs.Walk.{Row}
 use Rattle.clap.specs.declared.ArgMatches.{ArgMatches}
 use Rattle.clap.specs.declared.ArgMatches.TheViews.{out-ArgMatches}
 use Rattle.au_words.specs.Given.{AreGiven, Given, Shows, program}
+use Rattle.au_base.proofs.BoolLemmas.{cond_cases}
 use Rattle.au_words.specs.Jobs.{Said, Task, task_of, task_said, command_word, AreSaid, IsJob, IsNoJob}
 use Rattle.au_words.specs.Reading.{GivesTask, IsFound, command_at, said_at}
 use Rattle.au_words.specs.declared.jobs.Command.{Command}
@@ -48,16 +48,16 @@ pub command_found : (word : List ℕ) (command : Command) → command_at word �
 unfolding command_at
 command_found word command h =
     let Found : Command → Type 0 = λ c. word ≡ command_word c in
-    elim (chosen (bytes_eq word (codes "run")) _ _ (Some command) h) [
+    elim (cond_cases (bytes_eq word (codes "run")) _ _ (Some command) h) [
       | inl w ↦ let same : Run ≡ command = (let e = w.1 in cc)
           in subst Found same ((bytes_eq-Decides word (codes "run")).0 w.0)
-      | inr w ↦ elim (chosen (bytes_eq word (codes "compile")) _ _ (Some command) w.1) [
+      | inr w ↦ elim (cond_cases (bytes_eq word (codes "compile")) _ _ (Some command) w.1) [
         | inl v ↦ let same : Compile ≡ command = (let e = v.1 in cc)
             in subst Found same ((bytes_eq-Decides word (codes "compile")).0 v.0)
-        | inr v ↦ elim (chosen (bytes_eq word (codes "explain")) _ _ (Some command) v.1) [
+        | inr v ↦ elim (cond_cases (bytes_eq word (codes "explain")) _ _ (Some command) v.1) [
           | inl u ↦ let same : Explain ≡ command = (let e = u.1 in cc)
               in subst Found same ((bytes_eq-Decides word (codes "explain")).0 u.0)
-          | inr u ↦ elim (chosen (bytes_eq word (codes "check")) _ _ (Some command) u.1) [
+          | inr u ↦ elim (cond_cases (bytes_eq word (codes "check")) _ _ (Some command) u.1) [
             | inl t ↦ let same : Check ≡ command = (let e = t.1 in cc)
                 in subst Found same ((bytes_eq-Decides word (codes "check")).0 t.0)
             | inr t ↦ absurd (let e = t.1 in cc)

@@ -2,7 +2,7 @@
 use Rattle.std.proofs.Common.{◌≡◌, ◌↔◌, ℕ, Bool, true, false, cond, not, ◌||◌, List, [], ◌∷◌, Option, Some}
 use Rattle.std.proofs.Common.{is_some, IsTrue, ap, ◌∙◌, sym, refl}
 use Rattle.std.specs.Str.{bytes_eq}
-use Rattle.std.proofs.lemmas.Bool.{and_parts, and_from}
+use Rattle.std.proofs.lemmas.Bool.{and_parts, and_from, not-true}
 use Rattle.au_base.specs.declared.tokens.Keyword.{Keyword}
 use Rattle.au_base.specs.declared.tokens.What.TheVariants.{Name}
 use Rattle.au_base.specs.Tokens.{keywords, keyword_spelling}
@@ -11,7 +11,6 @@ use Rattle.au_lexer.specs.Pieces.{IsWord, IsToken}
 use Rattle.au_lexer.specs.Reading.{first_spelled, keyword_of}
 use Rattle.au_lexer.proofs.WordLemmas.{keyword_none, keyword_again}
 use Rattle.au_words.specs.Jobs.{is_spelled_as_name, is_spelled_among, is_keyword, is_name}
-use Rattle.au_words.proofs.NameLemmas.{not_true}
 
 first_or : (b : Bool) (keyword : Keyword) (other : Option Keyword) → (b || is_some other)
     ≡ is_some (cond b (Some keyword) other)
@@ -45,7 +44,7 @@ names_are_tokens bytes = (named, again)
         let parts = and_parts (is_spelled_as_name bytes) (not (is_keyword bytes)) h in (
           word_is bytes parts.0,
           λ keyword e.
-              let none : is_keyword bytes ≡ false = not_true (is_keyword bytes) parts.1 in
+              let none : is_keyword bytes ≡ false = not-true (is_keyword bytes) parts.1 in
               let some : is_keyword bytes ≡ true = keyword_is bytes ∙ ap (λ l. is_some (keyword_of l)) (sym e)
               ∙ ap is_some (keyword_again keyword) in
               cc,

@@ -6,8 +6,7 @@ use Rattle.std.specs.List.{All, fold, list_all}
 use Rattle.std.specs.Option.{option_and_then, option_map_or}
 use Rattle.std.specs.Prelude.{slice_get}
 use Rattle.std.specs.Str.{IsUtf8}
-use Rattle.std.proofs.lemmas.Bool.{cases_Bool}
-use Rattle.au_lexer.proofs.RunLemmas.{when_true, when_false}
+use Rattle.std.proofs.lemmas.Bool.{cases_Bool, cond-true, cond-false}
 use Rattle.clap.specs.Facts.{explicit_source}
 use Rattle.clap.specs.Kinds.{Kinds, or_else}
 use Rattle.clap.specs.Faults.{check_fault, default_fault, defaults_fault, settle_fault, walk_fault}
@@ -123,12 +122,13 @@ finds_default rows what v = so what.life refl
     so true is =
         let has : has_row (codes "life") rows ≡ true = has_row_is (codes "life") rows
         ∙ ap is_some (v.life ∙ ap life_row is) in
-        subst (λ r. Finds r what) (sym (when_true (has_row (codes "life") rows) _ _ has)) (finds_here rows what v)
+        subst (λ r. Finds r what) (sym (cond-true (has_row (codes "life") rows) _ _ has))
+        (finds_here rows what v)
     so false is =
         let none : row_at (codes "life") rows ≡ None = v.life ∙ ap life_row is in
         let has : has_row (codes "life") rows ≡ false = has_row_is (codes "life") rows ∙ ap is_some none in
         let added = row_added (codes "life") reading.AsWritten DefaultValue (codes "false" ∷ []) rows none in
-        subst (λ r. Finds r what) (sym (when_false (has_row (codes "life") rows) _ _ has)) (record {
+        subst (λ r. Finds r what) (sym (cond-false (has_row (codes "life") rows) _ _ has)) (record {
           parts = other_stays (codes "life") reading.AsWritten DefaultValue (codes "false" ∷ [])
               (codes "part") rows refl ∙ v.parts;
           entry = other_stays (codes "life") reading.AsWritten DefaultValue (codes "false" ∷ [])

@@ -3,10 +3,10 @@ use Rattle.std.proofs.Common.{◌≡◌, ◌≢◌, ℕ, ◌<◌, Bool, true, fa
 use Rattle.std.proofs.Common.{length, drop, get_or, flat_map, ap, ◌∙◌, sym, refl, subst, arith, eqb-true}
 use Rattle.std.proofs.Common.{eq-eqb, append-nil, inl, inr, Some, None}
 use Rattle.std.specs.List.{list_all, list_any, onto_first}
-use Rattle.std.proofs.lemmas.Bool.{and_parts, and_from, cases_Bool}
+use Rattle.std.proofs.lemmas.Bool.{and_parts, and_from, cases_Bool, cond-false, not-true}
 use Rattle.std.proofs.lemmas.List.Splits.{length-slice_split, slice_split-cons_no, slice_split-cons_yes}
+use Rattle.au_base.proofs.BoolLemmas.{cond_cases}
 use Rattle.au_lexer.specs.Bytes.{is_letter, is_name_byte}
-use Rattle.au_lexer.proofs.RunLemmas.{chosen, when_false}
 use Rattle.au_words.specs.Jobs.{is_spelled_as_name, is_other, is_file_name, joined, IsPart}
 use Rattle.au_words.specs.Reading.{between, is_empty, is_home, is_function, part_at}
 
@@ -32,10 +32,6 @@ all_pass p q more [] h = refl
 all_pass p q more (x ∷ xs) h =
     let parts = and_parts (p x) (list_all p xs) h in
     and_from (q x) (list_all q xs) (more x parts.0) (all_pass p q more xs parts.1)
-
-pub not_true : (b : Bool) → not b ≡ true → b ≡ false
-not_true true h = cc
-not_true false h = refl
 
 module _ (sign : ℕ) where
   abbrev is_sign : ℕ → Bool
@@ -98,7 +94,7 @@ module _ (sign : ℕ) where
   cut_alone [] h = refl
   cut_alone (byte ∷ bytes) h =
       let parts = and_parts (is_other sign byte) (list_all (is_other sign) bytes) h in
-      slice_split-cons_no is_sign byte bytes (not_true (byte == sign) parts.0)
+      slice_split-cons_no is_sign byte bytes (not-true (byte == sign) parts.0)
       ∙ ap (onto_first byte) (cut_alone bytes parts.1)
 
   cut_first : (bytes rest : List ℕ) → list_all (is_other sign) bytes ≡ true →
@@ -106,7 +102,7 @@ module _ (sign : ℕ) where
   cut_first [] rest h = slice_split-cons_yes is_sign sign rest (eq-eqb sign sign refl)
   cut_first (byte ∷ bytes) rest h =
       let parts = and_parts (is_other sign byte) (list_all (is_other sign) bytes) h in
-      slice_split-cons_no is_sign byte (bytes ++ sign ∷ rest) (not_true (byte == sign) parts.0)
+      slice_split-cons_no is_sign byte (bytes ++ sign ∷ rest) (not-true (byte == sign) parts.0)
       ∙ ap (onto_first byte) (cut_first bytes rest parts.1)
 
   cut_flat : (name : List ℕ) (names : List (List ℕ)) → list_all (is_other sign) name ≡ true →
@@ -143,14 +139,14 @@ none_empty : (names : List (List ℕ)) → list_all is_file_name names ≡ true 
 none_empty [] h = refl
 none_empty (name ∷ names) h =
     let parts = and_parts (is_file_name name) (list_all is_file_name names) h in
-    rw (not_true (is_empty name) (and_parts (not (is_empty name)) (list_all (is_other 44) name) parts.0).0)
+    rw (not-true (is_empty name) (and_parts (not (is_empty name)) (list_all (is_other 44) name) parts.0).0)
     (none_empty names parts.1)
 
 -- a part is read as it is
 pub part_found : (word : List ℕ) (names : List (List ℕ)) → part_at word ≡ Some names → IsPart names word
 unfolding part_at
 part_found word names h =
-    elim (chosen (list_any is_empty (between 44 word)) None (Some (between 44 word)) (Some names) h) [
+    elim (cond_cases (list_any is_empty (between 44 word)) None (Some (between 44 word)) (Some names) h) [
       | inl w ↦ absurd (let e = w.1 in cc)
       | inr w ↦ let same : between 44 word ≡ names = (let e = w.1 in cc) in
           subst (λ l. IsPart l word) same
@@ -164,5 +160,5 @@ part_again word names is =
     all_pass is_file_name (list_all (is_other 44))
     (λ name h. (and_parts (not (length name == 0)) (list_all (is_other 44) name) h).1) names is.1 in
     let same : between 44 word ≡ names = ap (between 44) is.2 ∙ cut_joined 44 names is.0 free in
-    when_false (list_any is_empty (between 44 word)) None (Some (between 44 word))
+    cond-false (list_any is_empty (between 44 word)) None (Some (between 44 word))
     (ap (list_any is_empty) same ∙ none_empty names is.1) ∙ ap (λ l. Some l) same

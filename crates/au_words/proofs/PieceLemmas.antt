@@ -17,6 +17,7 @@ use Rattle.au_words.specs.Jobs.{joined}
 use Rattle.au_words.specs.Reading.{part_at, entry_at, steps_at, files_at, optional, said_at}
 use Rattle.au_words.specs.declared.jobs.Command.{Command}
 use Rattle.au_base.specs.declared.names.Entry.{Entry}
+use Rattle.au_base.proofs.OptionLemmas.{map_some}
 use Rattle.au_words.proofs.NameLemmas.{part_found, part_again}
 use Rattle.au_words.proofs.EntryLemmas.{entry_found, entry_again}
 use Rattle.au_words.proofs.StepLemmas.{steps_found, steps_again}
@@ -79,11 +80,6 @@ and_then_some : {A B : Type 0} (f : A → Option B) (o : Option A) (b : B) → o
     (a : A) × (o ≡ Some a) × (f a ≡ Some b)
 and_then_some f None b h = cc
 and_then_some f (Some a) b h = (a, refl, h)
-
-map_some : {A B : Type 0} (f : A → B) (o : Option A) (b : B) → option_map f o ≡ Some b → (a : A)
-    × (o ≡ Some a) × (f a ≡ b)
-map_some f None b h = cc
-map_some f (Some a) b h = (a, refl, (let e = h in cc))
 
 to_list_map : {A B : Type 0} (f : A → B) (o : Option A) → option_to_list (option_map f o) ≡ map f (option_to_list o)
 to_list_map f None = refl

@@ -3,9 +3,8 @@ use Rattle.std.proofs.Common.{◌≡◌, Bool, true, false, List, [], ◌∷◌,
 use Rattle.std.proofs.Common.{option_map, ap, ◌∙◌, sym, refl, subst, inl, inr, codes}
 use Rattle.std.specs.List.{find}
 use Rattle.std.specs.Str.{bytes_eq}
-use Rattle.std.proofs.lemmas.Bool.{cases_Bool}
+use Rattle.std.proofs.lemmas.Bool.{cases_Bool, cond-true, cond-false}
 use Rattle.std.proofs.lemmas.Slice.Eq.{bytes_eq-Decides}
-use Rattle.au_lexer.proofs.RunLemmas.{when_true, when_false}
 use Rattle.clap.specs.Faults.{use_fault}
 use Rattle.clap.specs.Walk.{Row, Rule, Text, has_row, stronger, used, with_values, without}
 use Rattle.clap.specs.declared.builder.range.ValueRange.{ValueRange}
@@ -15,6 +14,8 @@ use Rattle.clap.specs.declared.builder.value_parser.ValueParser.TheVariants as v
 use Rattle.clap.specs.declared.parser.matches.ValueSource.{ValueSource}
 use Rattle.clap.specs.declared.parser.matches.ValueSource.TheVariants.{CommandLine}
 use Rattle.au_words.specs.Given.{Given, part_argument, entry_argument, steps_argument, life_argument}
+use Rattle.au_base.proofs.OptionLemmas.{none_of, map_none}
+use Rattle.au_base.proofs.TextLemmas.{bytes_self}
 
 -- ---- the arguments, with what the library fills in
 
@@ -50,9 +51,6 @@ row_at id rows = find (λ r. bytes_eq r.id id) rows
 abbrev new_row : Text → Reading → ValueSource → List Text → Row
 new_row id how s values = record { id = id; values = values; count = None; source = Some s; reading = how }
 
-same_text : (id : Text) → bytes_eq id id ≡ true
-same_text id = (bytes_eq-Decides id id).1 refl
-
 -- whether there is a row
 pub has_row_is : (id : Text) (rows : List Row) → has_row id rows ≡ is_some (row_at id rows)
 has_row_is id [] = refl
@@ -80,10 +78,10 @@ module _ (id : Text) (how : Reading) (s : ValueSource) (values : List Text) wher
   -- a row that isn't there is added
   pub row_added : (rows : List Row) → row_at id rows ≡ None → row_at id (with_values id how s values rows)
       ≡ Some (new_row id how s values)
-  row_added [] h = rw (same_text id) refl
+  row_added [] h = rw (bytes_self id) refl
   row_added (r ∷ rows) h = elim (cases_Bool (bytes_eq r.id id)) [
-    | inl e ↦ absurd (let some = sym (when_true (bytes_eq r.id id) (Some r) (row_at id rows) e) ∙ h in cc)
-    | inr e ↦ rw (e, e) (row_added rows (sym (when_false (bytes_eq r.id id) (Some r) (row_at id rows) e) ∙ h))
+    | inl e ↦ absurd (let some = sym (cond-true (bytes_eq r.id id) (Some r) (row_at id rows) e) ∙ h in cc)
+    | inr e ↦ rw (e, e) (row_added rows (sym (cond-false (bytes_eq r.id id) (Some r) (row_at id rows) e) ∙ h))
   ]
 
   -- a row that is there gets the values
@@ -93,20 +91,21 @@ module _ (id : Text) (how : Reading) (s : ValueSource) (values : List Text) wher
   row_grows [] row h = cc
   row_grows (r ∷ rows) row h = elim (cases_Bool (bytes_eq r.id id)) [
     | inl e ↦
-        let some : Some r ≡ Some row = sym (when_true (bytes_eq r.id id) (Some r) (row_at id rows) e) ∙ h in
+        let some : Some r ≡ Some row = sym (cond-true (bytes_eq r.id id) (Some r) (row_at id rows) e) ∙ h in
         let same : r ≡ row = (let f = some in cc) in
         rw (e, e) (ap (λ (x : Row). Some
         (record x { values = x.values ++ values; source = Some (stronger x.source s) })) same)
-    | inr e ↦ rw (e, e) (row_grows rows row (sym (when_false (bytes_eq r.id id) (Some r) (row_at id rows) e) ∙ h))
+    | inr e ↦ rw (e, e) (row_grows rows row (sym (cond-false (bytes_eq r.id id) (Some r) (row_at id rows) e)
+        ∙ h))
   ]
 
 -- where there is no row, none is taken away
 pub without_none : (id : Text) (rows : List Row) → row_at id rows ≡ None → without id rows ≡ rows
 without_none id [] h = refl
 without_none id (r ∷ rows) h = elim (cases_Bool (bytes_eq r.id id)) [
-  | inl e ↦ absurd (let some = sym (when_true (bytes_eq r.id id) (Some r) (row_at id rows) e) ∙ h in cc)
+  | inl e ↦ absurd (let some = sym (cond-true (bytes_eq r.id id) (Some r) (row_at id rows) e) ∙ h in cc)
   | inr e ↦ rw e (ap (λ l. r ∷ l)
-      (without_none id rows (sym (when_false (bytes_eq r.id id) (Some r) (row_at id rows) e) ∙ h)))
+      (without_none id rows (sym (cond-false (bytes_eq r.id id) (Some r) (row_at id rows) e) ∙ h)))
 ]
 
 -- ---- the rows of what is given
@@ -204,14 +203,6 @@ views_life rows what v free =
 
 -- ---- when a use fails
 
-none_is : {X : Type 0} (o : Option X) → is_some o ≡ false → o ≡ None
-none_is None h = refl
-none_is (Some x) h = cc
-
-none_mapped : {X Y : Type 0} (f : X → Y) (o : Option X) → option_map f o ≡ None → o ≡ None
-none_mapped f None h = refl
-none_mapped f (Some x) h = cc
-
 pub part_passes : (word : Text) (rows : List Row) → use_fault false part_rule (word ∷ []) rows ≡ []
 part_passes word rows = refl
 
@@ -241,16 +232,16 @@ pub entry_free : (value : Text) (rows : List Row) (what : Given) → Views rows 
     use_fault false entry_rule (value ∷ []) rows ≡ [] → what.entry ≡ None
 entry_free value rows what v passes = elim (cases_Bool (has_row (codes "entry") rows)) [
   | inl h ↦ absurd (let e = rw h at passes in cc)
-  | inr h ↦ none_mapped (value_row (codes "entry")) what.entry
-      (sym v.entry ∙ none_is (row_at (codes "entry") rows) (sym (has_row_is (codes "entry") rows) ∙ h))
+  | inr h ↦ map_none (value_row (codes "entry")) what.entry
+      (sym v.entry ∙ none_of (row_at (codes "entry") rows) (sym (has_row_is (codes "entry") rows) ∙ h))
 ]
 
 pub steps_free : (value : Text) (rows : List Row) (what : Given) → Views rows what →
     use_fault false steps_rule (value ∷ []) rows ≡ [] → what.steps ≡ None
 steps_free value rows what v passes = elim (cases_Bool (has_row (codes "steps") rows)) [
   | inl h ↦ absurd (let e = rw h at passes in cc)
-  | inr h ↦ none_mapped (value_row (codes "steps")) what.steps
-      (sym v.steps ∙ none_is (row_at (codes "steps") rows) (sym (has_row_is (codes "steps") rows) ∙ h))
+  | inr h ↦ map_none (value_row (codes "steps")) what.steps
+      (sym v.steps ∙ none_of (row_at (codes "steps") rows) (sym (has_row_is (codes "steps") rows) ∙ h))
 ]
 
 no_life : (life : Bool) → life_row life ≡ None → life ≡ false
@@ -261,6 +252,6 @@ pub life_free : (rows : List Row) (what : Given) → Views rows what → use_fau
     what.life ≡ false
 life_free rows what v passes = elim (cases_Bool (has_row (codes "life") rows)) [
   | inl h ↦ absurd (let e = rw h at passes in cc)
-  | inr h ↦ no_life what.life (sym v.life ∙ none_is (row_at (codes "life") rows)
+  | inr h ↦ no_life what.life (sym v.life ∙ none_of (row_at (codes "life") rows)
       (sym (has_row_is (codes "life") rows) ∙ h))
 ]

@@ -2,8 +2,7 @@
 use Rattle.std.proofs.Common.{◌≡◌, ℕ, ◌+◌, ◌==◌, suc, Bool, true, false, List, [], ◌∷◌, ◌++◌, take, drop}
 use Rattle.std.proofs.Common.{Option, Some, None, ap, ap₂, ◌∙◌, sym, refl, inl, inr, arith, eqb-true, codes}
 use Rattle.std.specs.List.{after_first, before_first, position_or_len}
-use Rattle.std.proofs.lemmas.Bool.{cases_Bool}
-use Rattle.au_lexer.proofs.RunLemmas.{when_true, when_false}
+use Rattle.std.proofs.lemmas.Bool.{cases_Bool, cond-true, cond-false}
 use Rattle.clap.specs.Lexer.{has_byte, long_of, name_and_value}
 
 abbrev is_equals : ℕ → Bool
@@ -53,11 +52,11 @@ name_back : (text name : List ℕ) (value : Option (List ℕ)) → name_and_valu
 name_back text name value h = elim (cases_Bool (has_byte 61 text)) [
   | inl e ↦
       let valued : Some (after_first is_equals text) ≡ value =
-      sym (when_true (has_byte 61 text) (Some (after_first is_equals text)) None e) ∙ ap (λ p. p.1) h in
+      sym (cond-true (has_byte 61 text) (Some (after_first is_equals text)) None e) ∙ ap (λ p. p.1) h in
       parted text e ∙ ap₂ written (ap (λ p. p.0) h) valued
   | inr e ↦
       let valued : None ≡ value = sym
-      (when_false (has_byte 61 text) (Some (after_first is_equals text)) None e) ∙ ap (λ p. p.1) h in
+      (cond-false (has_byte 61 text) (Some (after_first is_equals text)) None e) ∙ ap (λ p. p.1) h in
       whole text e ∙ ap₂ written (ap (λ p. p.0) h) valued
 ]
 

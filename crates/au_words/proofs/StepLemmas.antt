@@ -4,25 +4,16 @@ use Rattle.std.proofs.Common.{length, get_or, Some, None, codes, ap, ◌∙◌, 
 use Rattle.std.proofs.Common.{inr, le-leb, leb-true, eq-eqb, eqb-true}
 use Rattle.std.specs.List.{list_all, starts_with}
 use Rattle.std.specs.Str.Parse.{AllDigits, digits_value}
-use Rattle.std.proofs.lemmas.Bool.{and_parts, and_from, cases_Bool}
+use Rattle.std.proofs.lemmas.Bool.{and_parts, and_from, cases_Bool, cond-true}
 use Rattle.std.proofs.lemmas.Fmt.{decimal_is_IsNumeral, first_decimal, length-decimal-le, decimal-digits_value}
 use Rattle.std.proofs.lemmas.Int.Digits.{digits_value-lt}
 use Rattle.std.proofs.lemmas.Str.Parse.{numerals_by_value, tells_digits, digit_from_value}
 use Rattle.std.proofs.Math.Nat.{pow-le-pow_right}
+use Rattle.au_base.proofs.BoolLemmas.{cond_cases}
 use Rattle.au_lexer.specs.Bytes.{is_digit}
-use Rattle.au_lexer.proofs.NumberLemmas.{digit_worth}
-use Rattle.au_lexer.proofs.RunLemmas.{chosen, when_true}
+use Rattle.au_lexer.proofs.NumberLemmas.{all_digits}
 use Rattle.au_words.specs.Jobs.{AreSteps, most_steps}
 use Rattle.au_words.specs.Reading.{are_digits, steps_at}
-
-all_digits : (digits : List ℕ) → list_all is_digit digits ≡ true → AllDigits 10 digits
-all_digits [] h = tt
-all_digits (byte ∷ digits) h =
-    let parts = and_parts (is_digit byte) (list_all is_digit digits) h in
-    let range = and_parts (nat_le 48 byte) (nat_le byte 57) parts.0 in (
-      omega (arith, digit_worth byte parts.0, leb-true byte 57 range.1, leb-true 48 byte range.0),
-      all_digits digits parts.1,
-    )
 
 digits_all : (digits : List ℕ) → AllDigits 10 digits → list_all is_digit digits ≡ true
 digits_all [] h = refl
@@ -49,7 +40,8 @@ pub steps_found : (bytes : List ℕ) (steps : ℕ) → steps_at bytes ≡ Some s
 unfolding steps_at
 steps_found bytes steps h =
     let value : ℕ = digits_value 10 bytes in
-    elim (chosen (are_digits bytes && nat_le 1 value && nat_le value most_steps) (Some value) None (Some steps) h) [
+    elim (cond_cases (are_digits bytes && nat_le 1 value && nat_le value most_steps) (Some value) None
+    (Some steps) h) [
       | inl w ↦ let same : value ≡ steps = (let e = w.1 in cc) in
           let outer = and_parts (are_digits bytes && nat_le 1 value) (nat_le value most_steps) w.0 in
           let inner = and_parts (are_digits bytes) (nat_le 1 value) outer.0 in
@@ -99,6 +91,6 @@ steps_again steps are =
     le-leb 1 (digits_value 10 bytes) (omega (arith, value, are.0)) in
     let high : nat_le (digits_value 10 bytes) most_steps ≡ true = le-leb (digits_value 10 bytes) most_steps
     (omega (arith, value, are.1)) in
-    when_true (are_digits bytes && nat_le 1 (digits_value 10 bytes) && nat_le (digits_value 10 bytes)
+    cond-true (are_digits bytes && nat_le 1 (digits_value 10 bytes) && nat_le (digits_value 10 bytes)
     most_steps) (Some (digits_value 10 bytes)) None (and_from _ _ (and_from _ _ kinds low) high)
     ∙ ap (λ n. Some n) value

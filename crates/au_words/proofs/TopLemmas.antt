@@ -18,12 +18,13 @@ use Rattle.clap.specs.Walk.{short_word, subcommand_met, subcommand_or_other, wal
 use Rattle.clap.specs.declared.error.kind.ErrorKind.{ErrorKind}
 use Rattle.clap.proofs.FaultLemmas.{stopped_fault}
 use Rattle.clap.proofs.WalkLemmas.{walk_stopped}
-use Rattle.au_lexer.proofs.RunLemmas.{chosen}
 use Rattle.au_words.specs.Given.{program, program_top}
+use Rattle.au_base.proofs.BoolLemmas.{cond_cases}
 use Rattle.au_words.specs.Jobs.{command_word}
 use Rattle.au_words.specs.declared.jobs.Command.{Command}
 use Rattle.au_words.specs.declared.jobs.Command.TheVariants.{Run, Compile, Explain, Check}
 use Rattle.au_words.proofs.Leaves.{leaf, leaf_fault, leaf_rows}
+use Rattle.au_words.proofs.TurnLemmas.{next_passes, first_passes as first_none}
 
 -- what stands before the commands, as the library builds it
 abbrev top : Shape
@@ -50,15 +51,6 @@ built_subs = refl
 -- a list that has a kind is not empty
 some_kind : (k : ErrorKind) (ks : Kinds) → k ∷ ks ≡ [] → ⊥
 some_kind k ks h = cc
-
--- where one step and the next give no kind, neither does
-first_none : (a b : Kinds) → or_else a b ≡ [] → a ≡ []
-first_none [] b h = refl
-first_none (k ∷ ks) b h = h
-
-next_none : (a b : Kinds) → or_else a b ≡ [] → b ≡ []
-next_none [] b h = h
-next_none (k ∷ ks) b h = absurd (some_kind k ks h)
 
 with_none : (a : Kinds) → or_else a [] ≡ a
 with_none [] = refl
@@ -94,7 +86,7 @@ whole words = refl
 -- with no command there is an error
 end_alone : (end : Walk) → end.stopped ≡ None → end_fault end ≡ [] → ⊥
 end_alone end alone none =
-    some_kind _ _ (next_none _ _ (next_none _ _ (subst (λ stop. end_by end.held stop ≡ []) alone none)))
+    some_kind _ _ (next_passes _ _ (next_passes _ _ (subst (λ stop. end_by end.held stop ≡ []) alone none)))
 
 -- with a command the errors are those of the words behind it
 end_met : (command : Command) (rest : List (List ℕ)) → end_fault (met command rest) ≡ leaf_fault command rest
@@ -169,7 +161,7 @@ among : (commands : List Command) (word : List ℕ)
     ⊎ (find (answers_to word) (map (λ command. (command_word command, [])) commands) ≡ None)
 among [] word = inr refl
 among (command ∷ commands) word =
-    elim (chosen (bytes_eq (command_word command) word) true false _ refl) [
+    elim (cond_cases (bytes_eq (command_word command) word) true false _ refl) [
       | inl w ↦ inl (command, sym ((bytes_eq-Decides (command_word command) word).0 w.0))
       | inr w ↦ elim (among commands word) [
         | inl one ↦ inl one
@@ -245,7 +237,7 @@ mark_refused : (rest : List (List ℕ)) → fault_of program (codes "--" ∷ res
 unfolding walk_fault walked
 mark_refused rest none =
     let alone = behind_mark rest (first_none _ _ none) in
-    end_alone behind refl (next_none (walk_fault top names start (codes "--" ∷ [])) _
+    end_alone behind refl (next_passes (walk_fault top names start (codes "--" ∷ [])) _
     (subst (λ words. fault_of program (codes "--" ∷ words) ≡ []) alone none))
 
 -- words that begin with no command are refused
@@ -263,7 +255,7 @@ others_refused word rest no_command none = go (bytes_eq word (codes "--")) refl
 pub top_sound : (words : List (List ℕ)) → fault_of program words ≡ []
     → (command : Command) × (rest : List (List ℕ)) × (words ≡ command_word command ∷ rest)
     × (leaf_fault command rest ≡ [])
-top_sound [] none = absurd (end_alone start refl (next_none _ _ none))
+top_sound [] none = absurd (end_alone start refl (next_passes _ _ none))
 top_sound (word ∷ rest) none = elim (commanded word) [
   | inl w ↦ (
     w.0,

@@ -4,7 +4,6 @@ use Rattle.std.proofs.Common.{ap, ◌∙◌, sym, refl, inl, inr, codes}
 use Rattle.std.specs.Prelude.{slice_get}
 use Rattle.std.specs.Str.{bytes_eq, chars}
 use Rattle.std.proofs.lemmas.Slice.Eq.{bytes_eq-Decides}
-use Rattle.au_lexer.proofs.RunLemmas.{chosen}
 use Rattle.clap.specs.Kinds.{Kinds, or_else}
 use Rattle.clap.specs.Faults.{flags_fault, long_fault, positional_fault, react_fault, settle_fault}
 use Rattle.clap.specs.Faults.{step_fault, turn_fault}
@@ -12,6 +11,7 @@ use Rattle.clap.specs.Lexer.{long_of, short_of}
 use Rattle.clap.specs.Walk.{Held, Row, Rule, Text, Waiting, idle, option, positional, Walk, after_step}
 use Rattle.clap.specs.Walk.{arg_by_id, arg_by_index, arg_by_long, arg_by_short, is_pending, long_word}
 use Rattle.clap.specs.Walk.{most_values, settled, takes_values, to_positional, used, walked}
+use Rattle.au_base.proofs.BoolLemmas.{cond_cases, first_holds}
 use Rattle.au_words.specs.Jobs.{is_run, takes_entry}
 use Rattle.au_words.specs.declared.jobs.Command.{Command}
 use Rattle.au_words.specs.declared.jobs.Command.TheVariants.{Run, Compile, Explain, Check}
@@ -68,30 +68,27 @@ Names command name =
     ((name ≡ codes "entry") × (takes_entry command ≡ true))
     ⊎ (((name ≡ codes "steps") × (is_run command ≡ true)) ⊎ ((name ≡ codes "life") × (is_run command ≡ true)))
 
-or_false : (b : Bool) → (b || false) ≡ true → b ≡ true
-or_false true h = refl
-or_false false h = h
-
 named : (name text : Text) → (bytes_eq text name || false) ≡ true → name ≡ text
-named name text h = sym ((bytes_eq-Decides text name).0 (or_false (bytes_eq text name) h))
+named name text h = sym ((bytes_eq-Decides text name).0 (first_holds (bytes_eq text name) h))
 
 -- an option that is found is one that the command takes
 pub long_found : (command : Command) (name : Text) (rule : Rule) → arg_by_long (rules command) name
     ≡ Some rule → Names command name
-long_found Run name rule h = elim (chosen (bytes_eq (codes "entry") name || false) _ _ (Some rule) h) [
+long_found Run name rule h = elim (cond_cases (bytes_eq (codes "entry") name || false) _ _ (Some rule) h) [
   | inl w ↦ inl (named name (codes "entry") w.0, refl)
-  | inr w ↦ elim (chosen (bytes_eq (codes "steps") name || false) _ _ (Some rule) w.1) [
+  | inr w ↦ elim (cond_cases (bytes_eq (codes "steps") name || false) _ _ (Some rule) w.1) [
     | inl v ↦ inr (inl (named name (codes "steps") v.0, refl))
-    | inr v ↦ elim (chosen (bytes_eq (codes "life") name || false) _ _ (Some rule) v.1) [
+    | inr v ↦ elim (cond_cases (bytes_eq (codes "life") name || false) _ _ (Some rule) v.1) [
       | inl u ↦ inr (inr (named name (codes "life") u.0, refl))
       | inr u ↦ absurd (let e = u.1 in cc)
     ]
   ]
 ]
-long_found Compile name rule h = elim (chosen (bytes_eq (codes "entry") name || false) _ _ (Some rule) h) [
-  | inl w ↦ inl (named name (codes "entry") w.0, refl)
-  | inr w ↦ absurd (let e = w.1 in cc)
-]
+long_found Compile name rule h =
+    elim (cond_cases (bytes_eq (codes "entry") name || false) _ _ (Some rule) h) [
+      | inl w ↦ inl (named name (codes "entry") w.0, refl)
+      | inr w ↦ absurd (let e = w.1 in cc)
+    ]
 long_found Explain name rule h = cc
 long_found Check name rule h = cc
 

@@ -11,8 +11,9 @@ use Rattle.au_classes.specs.InstanceViews.{text_said}
 use Rattle.au_instances.specs.Rows.{row_said}
 use Rattle.au_classes.specs.Faults as spec
 use Rattle.au_classes.specs.ClassViews.{known_said}
-use Rattle.au_classes.proofs.FaultLemmas.{fault_there, module_there, read_stands, row_there}
+use Rattle.au_classes.proofs.FaultLemmas.{fault_there, read_stands, row_there}
 use Rattle.au_classes.proofs.declaring.admit_text.Goals as goal
+use Rattle.au_imports.proofs.OfferLemmas.{module_there}
 
 pub admit-requires : goal.admit-requires
 admit-requires c =

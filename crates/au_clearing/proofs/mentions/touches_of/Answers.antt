@@ -1,7 +1,8 @@
 use Rattle.std.proofs.Common.{false, ap}
+use Rattle.au_base.proofs.BoolLemmas.{or_false}
 use Rattle.au_clearing.specs.Seen.{seen_expression}
 use Rattle.au_clearing.specs.Touches.{touched}
-use Rattle.au_clearing.proofs.MentionLemmas.{meets_all, meets_same, or_false}
+use Rattle.au_clearing.proofs.MentionLemmas.{meets_all, meets_same}
 use Rattle.au_clearing.proofs.mentions.touches_of.Goals as goal
 
 pub returns : goal.returns

@@ -1,4 +1,5 @@
 use Rattle.std.proofs.Common.{arith}
+use Rattle.au_base.proofs.MeasureLemmas.{item_falls}
 use Rattle.au_sights.specs.contracts.noted.NotedPhase.TheImpl.{ghosts as noted}
 use Rattle.au_syntax.specs.declared.expressions.Argument.{size-Argument}
 use Rattle.au_syntax.specs.Views.{argument_all, expression, expression_all}
@@ -9,7 +10,7 @@ use Rattle.au_closed_trees.proofs.ClosingLemmas as lemmas
 use Rattle.au_closed_trees.proofs.ClosingLemmas.{argument_closed, arguments_turn, expressions_turn}
 use Rattle.au_closed_trees.proofs.SnocLemmas.{arguments_push, expressions_push, one_argument, snoc_arguments}
 use Rattle.au_closed_trees.proofs.SnocLemmas.{snoc_expressions}
-use Rattle.au_closed_trees.proofs.LoopLemmas.{all_made, item_falls, made_more}
+use Rattle.au_closed_trees.proofs.LoopLemmas.{all_made, made_more}
 use Rattle.au_closed_trees.proofs.expressions.+close_expression.Goals as goal
 
 pub close_expression-returns-in_ok-close_site-in-Number :

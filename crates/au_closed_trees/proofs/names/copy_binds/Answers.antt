@@ -1,7 +1,7 @@
+use Rattle.au_base.proofs.ListLemmas.{copied_before}
 use Rattle.au_sights.specs.contracts.noted.NotedPhase.TheImpl.{ghosts as noted}
 use Rattle.au_syntax.specs.Views.{bound}
 use Rattle.au_closed_trees.specs.contracts.phase.ClosedTreesPhase.TheImpl.{ghosts as closed}
-use Rattle.au_closed_trees.proofs.LoopLemmas.{copied_before}
 use Rattle.au_closed_trees.proofs.names.copy_binds.Goals as goal
 
 pub loop-one-preserved : goal.loop-one-preserved

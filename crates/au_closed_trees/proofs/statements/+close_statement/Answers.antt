@@ -1,4 +1,5 @@
 use Rattle.std.proofs.Common.{ap, ◌∙◌, arith}
+use Rattle.au_base.proofs.MeasureLemmas.{item_falls, block_item_falls}
 use Rattle.au_sights.specs.contracts.noted.NotedPhase.TheImpl.{ghosts as noted}
 use Rattle.au_syntax.specs.declared.statements.Arm.{size-Arm}
 use Rattle.au_syntax.specs.declared.statements.Block.{size-Block, size_is-Block}
@@ -14,7 +15,7 @@ use Rattle.au_closed_trees.proofs.ClosingLemmas.{branch_closed, branches_turn, f
 use Rattle.au_closed_trees.proofs.ClosingLemmas.{statements_turn, while_closed}
 use Rattle.au_closed_trees.proofs.SnocLemmas.{arms_push, branches_push, one_arm, one_branch, snoc_arms}
 use Rattle.au_closed_trees.proofs.SnocLemmas.{snoc_branches, snoc_statements, statements_push}
-use Rattle.au_closed_trees.proofs.LoopLemmas.{all_made, block_item_falls, item_falls, made_more}
+use Rattle.au_closed_trees.proofs.LoopLemmas.{all_made, made_more}
 use Rattle.au_closed_trees.proofs.statements.+close_statement.Goals as goal
 
 pub close_statement-returns-in-Skip : goal.close_statement-returns-in-Skip

@@ -1,4 +1,5 @@
 use Rattle.std.proofs.Common.{ap, ◌∙◌}
+use Rattle.au_base.proofs.ListLemmas.{nothing_added}
 use Rattle.au_explain.specs.Programs.{declaration_lives}
 use Rattle.au_explain.proofs.PutLemmas as puts
 use Rattle.au_sights.specs.Sights.{outside_seen}
@@ -12,49 +13,49 @@ use Rattle.au_explain.proofs.functions.push_declaration.Goals as goal
 
 pub returns-in-Constant : goal.returns-in-Constant
 returns-in-Constant c =
-    puts.nothing_put c.args.made.now.items _
+    nothing_added c.args.made.now.items _
     (ap (λ (d : PlainDeclaration). declaration_lives (outside_seen c.args.outside.now) c.args.owner.now d)
     (ap (declaration parsed) c.in-Constant.is ∙ constant_says parsed _ _ _))
 
 pub returns-in-Opaque : goal.returns-in-Opaque
 returns-in-Opaque c =
-    puts.nothing_put c.args.made.now.items _
+    nothing_added c.args.made.now.items _
     (ap (λ (d : PlainDeclaration). declaration_lives (outside_seen c.args.outside.now) c.args.owner.now d)
     (ap (declaration parsed) c.in-Opaque.is ∙ opaque_says parsed _ _ _ _))
 
 pub returns-in-Record : goal.returns-in-Record
 returns-in-Record c =
-    puts.nothing_put c.args.made.now.items _
+    nothing_added c.args.made.now.items _
     (ap (λ (d : PlainDeclaration). declaration_lives (outside_seen c.args.outside.now) c.args.owner.now d)
     (ap (declaration parsed) c.in-Record.is ∙ record_says parsed _ _ _ _ _))
 
 pub returns-in-Union : goal.returns-in-Union
 returns-in-Union c =
-    puts.nothing_put c.args.made.now.items _
+    nothing_added c.args.made.now.items _
     (ap (λ (d : PlainDeclaration). declaration_lives (outside_seen c.args.outside.now) c.args.owner.now d)
     (ap (declaration parsed) c.in-Union.is ∙ union_says parsed _ _ _ _ _))
 
 pub returns-in-Function : goal.returns-in-Function
 returns-in-Function c =
-    puts.nothing_put c.args.made.now.items _
+    nothing_added c.args.made.now.items _
     (ap (λ (d : PlainDeclaration). declaration_lives (outside_seen c.args.outside.now) c.args.owner.now d)
     (ap (declaration parsed) c.in-Function.is ∙ function_says parsed _ _ _))
 
 pub returns-in-Class : goal.returns-in-Class
 returns-in-Class c =
-    puts.nothing_put c.args.made.now.items _
+    nothing_added c.args.made.now.items _
     (ap (λ (d : PlainDeclaration). declaration_lives (outside_seen c.args.outside.now) c.args.owner.now d)
     (ap (declaration parsed) c.in-Class.is ∙ class_says parsed _ _ _ _))
 
 pub returns-in-Instance : goal.returns-in-Instance
 returns-in-Instance c =
-    puts.nothing_put c.args.made.now.items _
+    nothing_added c.args.made.now.items _
     (ap (λ (d : PlainDeclaration). declaration_lives (outside_seen c.args.outside.now) c.args.owner.now d)
     (ap (declaration parsed) c.in-Instance.is ∙ instance_says parsed _ _ _ _))
 
 pub returns-in-ConstantBody : goal.returns-in-ConstantBody
 returns-in-ConstantBody c =
-    puts.nothing_put c.args.made.now.items _
+    nothing_added c.args.made.now.items _
     (ap (λ (d : PlainDeclaration). declaration_lives (outside_seen c.args.outside.now) c.args.owner.now d)
     (ap (declaration parsed) c.in-ConstantBody.is ∙ constant_body_says parsed _ _ _ _))
 

@@ -1,5 +1,6 @@
 use Rattle.std.proofs.Common.{◌≡◌, ℕ, ◌+◌, ◌++◌, List, OnOk, ap, drop, refl, subst, sym, ◌∙◌}
 use Rattle.std.specs.Option.{option_map}
+use Rattle.au_base.proofs.ListLemmas.{nothing_added}
 use Rattle.au_typing.specs.InScope.{after, with_bound}
 use Rattle.au_judgements.proofs.LeavingLemmas.{after_grown, grown_left, grown_none, grown_twice}
 use Rattle.au_judgements.specs.Leaving.{IsGrown}
@@ -85,7 +86,7 @@ says_so sc one other e = ap (λ (s : PlainStatement). listed_inside s sc) e
 
 pub push_inside-returns-in-Skip-clause-put : goal.push_inside-returns-in-Skip-clause-put
 push_inside-returns-in-Skip-clause-put t c =
-    puts.nothing_put c.args.made.now.items _
+    nothing_added c.args.made.now.items _
     (says_so (scope_said c.args.scope.now) (statement_said c.args.stmt.now) _
     (ap (statement parsed) c.in-Skip.is ∙ skip_says parsed _))
 
@@ -94,7 +95,7 @@ push_inside-returns-in-Skip-clause-kept t c = refl
 
 pub push_inside-returns-in-Let-clause-put : goal.push_inside-returns-in-Let-clause-put
 push_inside-returns-in-Let-clause-put t c =
-    puts.nothing_put c.args.made.now.items _
+    nothing_added c.args.made.now.items _
     (says_so (scope_said c.args.scope.now) (statement_said c.args.stmt.now) _
     (ap (statement parsed) c.in-Let.is ∙ let_says parsed _ _ _ _ _))
 
@@ -103,7 +104,7 @@ push_inside-returns-in-Let-clause-kept t c = refl
 
 pub push_inside-returns-in-Destructure-clause-put : goal.push_inside-returns-in-Destructure-clause-put
 push_inside-returns-in-Destructure-clause-put t c =
-    puts.nothing_put c.args.made.now.items _
+    nothing_added c.args.made.now.items _
     (says_so (scope_said c.args.scope.now) (statement_said c.args.stmt.now) _
     (ap (statement parsed) c.in-Destructure.is ∙ destructure_says parsed _ _ _))
 
@@ -112,7 +113,7 @@ push_inside-returns-in-Destructure-clause-kept t c = refl
 
 pub push_inside-returns-in-Assign-clause-put : goal.push_inside-returns-in-Assign-clause-put
 push_inside-returns-in-Assign-clause-put t c =
-    puts.nothing_put c.args.made.now.items _
+    nothing_added c.args.made.now.items _
     (says_so (scope_said c.args.scope.now) (statement_said c.args.stmt.now) _
     (ap (statement parsed) c.in-Assign.is ∙ assign_says parsed _ _ _ _))
 
@@ -121,7 +122,7 @@ push_inside-returns-in-Assign-clause-kept t c = refl
 
 pub push_inside-returns-in-AssignThrough-clause-put : goal.push_inside-returns-in-AssignThrough-clause-put
 push_inside-returns-in-AssignThrough-clause-put t c =
-    puts.nothing_put c.args.made.now.items _
+    nothing_added c.args.made.now.items _
     (says_so (scope_said c.args.scope.now) (statement_said c.args.stmt.now) _
     (ap (statement parsed) c.in-AssignThrough.is ∙ assign_through_says parsed _ _ _ _))
 
@@ -130,7 +131,7 @@ push_inside-returns-in-AssignThrough-clause-kept t c = refl
 
 pub push_inside-returns-in-Call-clause-put : goal.push_inside-returns-in-Call-clause-put
 push_inside-returns-in-Call-clause-put t c =
-    puts.nothing_put c.args.made.now.items _
+    nothing_added c.args.made.now.items _
     (says_so (scope_said c.args.scope.now) (statement_said c.args.stmt.now) _
     (ap (statement parsed) c.in-Call.is ∙ call_says parsed _ _))
 
@@ -139,7 +140,7 @@ push_inside-returns-in-Call-clause-kept t c = refl
 
 pub push_inside-returns-in-Return-clause-put : goal.push_inside-returns-in-Return-clause-put
 push_inside-returns-in-Return-clause-put t c =
-    puts.nothing_put c.args.made.now.items _
+    nothing_added c.args.made.now.items _
     (says_so (scope_said c.args.scope.now) (statement_said c.args.stmt.now) _
     (ap (statement parsed) c.in-Return.is ∙ return_says parsed _ _))
 
@@ -261,7 +262,7 @@ push_lent-returns-clause-kept t c =
 
 pub push_for-returns-in-None-clause-put : goal.push_for-returns-in-None-clause-put
 push_for-returns-in-None-clause-put t c =
-    puts.nothing_put c.args.made.now.items _
+    nothing_added c.args.made.now.items _
     (ap (listed_for (scope_said c.args.scope.now) (name_said c.args.name.now) (block_said c.args.block.now))
     (sym c.in_ok-found.ensures ∙ ap (option_map meaning) c.in-None.is))
 
@@ -280,7 +281,7 @@ push_for-returns-in-Some-clause-kept t c = c.push_counted.ensures.kept
 
 pub push_borrow-returns-in-None-clause-put : goal.push_borrow-returns-in-None-clause-put
 push_borrow-returns-in-None-clause-put t c =
-    puts.nothing_put c.args.made.now.items _
+    nothing_added c.args.made.now.items _
     (ap (listed_lent (scope_said c.args.scope.now) (name_said c.args.names.now.reference)
     (name_said c.args.names.now.region).name (block_said c.args.block.now))
     (sym c.in_ok-found.ensures ∙ ap (option_map meaning) c.in-None.is))
@@ -301,7 +302,7 @@ push_borrow-returns-in-Some-clause-kept t c = c.push_lent.ensures.kept
 
 pub push_borrow_typed-returns-in-None-clause-put : goal.push_borrow_typed-returns-in-None-clause-put
 push_borrow_typed-returns-in-None-clause-put t c =
-    puts.nothing_put c.args.made.now.items _
+    nothing_added c.args.made.now.items _
     (ap (listed_typed (scope_said c.args.scope.now) (name_said c.args.name.now) (block_said c.args.block.now))
     (sym c.in_ok-found.ensures ∙ ap (option_map reference_said) c.in-None.is))
 

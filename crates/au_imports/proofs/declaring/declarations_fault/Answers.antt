@@ -2,29 +2,29 @@ use Rattle.std.proofs.Common.{◌≡◌, ◌==◌, IfOk, map, refl, subst}
 use Rattle.au_syntax.specs.contracts.parsed.ParsedPhase.TheImpl.{ghosts as parsed}
 use Rattle.au_syntax.specs.Plain.{plain_declaration}
 use Rattle.au_syntax.specs.Views.{declaration}
-use Rattle.au_modules.specs.Slots.{modules}
+use Rattle.au_imports.specs.Judging.{program_of}
 use Rattle.au_imports.specs.declared.declaring.Site.{Site}
 use Rattle.au_imports.proofs.DeclaringLemmas.{IsSite, faults_same, first_offers}
 use Rattle.au_imports.proofs.declaring.declarations_fault.Goals as goal
 
 pub returns : goal.returns
 returns c = λ m there.
-    let program = modules c.args.resolved.now in
-    let place = c.args.place in
+    let program = program_of c.args.judged.now in
+    let place = c.args.judged.now.place in
     let part = c.args.part in
     let site : Site = record {
       part = part;
       first = place == 0;
       pervasive = c.index.result;
-      interface = c.args.interface;
-      body = c.args.body;
+      interface = c.args.judged.now.interface;
+      body = c.args.judged.now.body;
       names = record { ref_ptr = (0, 0); now = c.names-names.result.now.types };
       heads = c.heads_ref.result;
     } in
     let made : IsSite program place m part site = record {
       the_part = refl;
       is_first = refl;
-      pervasive = first_offers program c.args.offers.now.exports.interfaces.items
+      pervasive = first_offers program c.args.judged.now.offers.now.exports.interfaces.items
           c.index.result.now place c.requires.made.exports.interfaces c.requires.within c.index.ensures;
       interface = c.requires.by_interface m there;
       body = c.requires.by_body m there;

@@ -6,6 +6,7 @@ use Rattle.au_syntax.specs.Files.{says}
 use Rattle.au_modules.specs.Seen.{part_tree}
 use Rattle.au_modules.specs.Slots as slots
 use Rattle.au_imports.specs.Choices.{first_of}
+use Rattle.au_imports.specs.Judging.{program_of}
 use Rattle.au_imports.specs.NameFaults.{declaration_fault, import_fault}
 use Rattle.au_imports.proofs.BroughtLemmas.{tree_is}
 use Rattle.au_imports.proofs.FindingLemmas.{part_nowhere, part_there}
@@ -14,15 +15,16 @@ use Rattle.au_imports.proofs.finding.part_fault.Goals as goal
 pub returns-in-None : goal.returns-in-None
 returns-in-None c = λ m here.
     let part = c.args.part in
-    part_nowhere (slots.modules c.args.resolved.now) c.args.place m part
+    part_nowhere (program_of c.args.judged.now) c.args.judged.now.place m part
     (c.in-None.ensures
-    ∙ ap (part_tree part) (ap (λ r. slice_get (slots.modules r) c.args.place) c.modules.ensures ∙ here)
+    ∙ ap (part_tree part) (ap (λ r. slice_get (slots.modules r) c.args.judged.now.place) c.modules.ensures
+    ∙ here)
     ∙ tree_is part m)
 
 pub returns-in-Some : goal.returns-in-Some
 returns-in-Some c = λ m here.
-    let program = slots.modules c.args.resolved.now in
-    let place = c.args.place in
+    let program = program_of c.args.judged.now in
+    let place = c.args.judged.now.place in
     let part = c.args.part in
     subst (λ z. IfOk c.tree_fault.result (λ found. found ≡ z))
     (ap (λ t. option_or (first_of (import_fault program place m part) (says parsed t).imports)

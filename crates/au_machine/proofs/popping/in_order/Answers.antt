@@ -1,8 +1,9 @@
 use Rattle.std.proofs.Common.{List, Some, ap, sym, ◌∙◌, arith}
 use Rattle.au_low.specs.Machines.{Low}
 use Rattle.au_cells.specs.Cells.{lows}
-use Rattle.au_machine.proofs.OrderLemmas.{lows_reverse, stays_declared}
+use Rattle.au_machine.proofs.OrderLemmas.{stays_declared}
 use Rattle.au_machine.proofs.popping.in_order.Goals as goal
+use Rattle.au_stores.proofs.FillLemmas.{lows_reverse}
 
 pub returns-then-is_declared : goal.returns-then-is_declared
 returns-then-is_declared c =

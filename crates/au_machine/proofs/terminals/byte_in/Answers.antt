@@ -4,8 +4,8 @@ use Rattle.au_effects.specs.Numbers.{number_of}
 use Rattle.au_effects.specs.Calls.{natural_in}
 use Rattle.au_cells.specs.Cells.{low}
 use Rattle.au_cells.specs.declared.cells.Cell.{Cell}
-use Rattle.au_machine.proofs.ShippedLemmas.{byte_is, not_byte}
 use Rattle.au_machine.proofs.terminals.byte_in.Goals as goal
+use Rattle.au_stores.proofs.FormLemmas.{byte_is, not_byte}
 
 pub returns-in-Nat8 : goal.returns-in-Nat8
 returns-in-Nat8 c = sym (ap (λ (one : Cell). natural_in (number_of Nat8 (low one))) c.in-Nat8.is

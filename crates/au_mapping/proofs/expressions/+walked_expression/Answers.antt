@@ -1,4 +1,5 @@
 use Rattle.std.proofs.Common.{arith}
+use Rattle.au_base.proofs.MeasureLemmas.{item_falls}
 use Rattle.au_syntax.specs.declared.expressions.Argument.{size-Argument}
 use Rattle.au_syntax.specs.declared.expressions.Expr.{size-Expr}
 use Rattle.au_syntax.specs.Views.{expression, expression_all, argument_all}
@@ -9,7 +10,7 @@ use Rattle.au_syntax.proofs.ExpressionLemmas.{named_call_says, parenthesized_say
 use Rattle.au_syntax.proofs.ExpressionLemmas.{borrow_says, borrow_part_says, binary_says, not_says}
 use Rattle.au_syntax.proofs.ExpressionLemmas.{typed_says, if_says}
 use Rattle.au_mapping.specs.Seen.{before, after}
-use Rattle.au_mapping.proofs.WalkLemmas.{item_falls, one_argument, all_walked, walked_more, argument_walked}
+use Rattle.au_mapping.proofs.WalkLemmas.{one_argument, all_walked, walked_more, argument_walked}
 use Rattle.au_mapping.proofs.expressions.+walked_expression.Goals as goal
 
 pub walked_expression-returns-in_ok-walked-in-Number : goal.walked_expression-returns-in_ok-walked-in-Number

@@ -1,4 +1,5 @@
 use Rattle.std.proofs.Common.{arith}
+use Rattle.au_base.proofs.MeasureLemmas.{item_falls, block_item_falls}
 use Rattle.au_syntax.specs.declared.statements.Arm.{size-Arm}
 use Rattle.au_syntax.specs.declared.statements.Branch.{size-Branch}
 use Rattle.au_syntax.specs.declared.statements.Stmt.{size-Stmt}
@@ -9,7 +10,7 @@ use Rattle.au_syntax.proofs.StatementLemmas.{branches_push, arms_push, one_branc
 use Rattle.au_syntax.proofs.StatementLemmas.{assign_says, assign_through_says, if_says}
 use Rattle.au_syntax.proofs.StatementLemmas.{case_says, call_says, return_says}
 use Rattle.au_mapping.specs.Seen.{before, after}
-use Rattle.au_mapping.proofs.WalkLemmas.{item_falls, block_item_falls, all_walked, walked_more}
+use Rattle.au_mapping.proofs.WalkLemmas.{all_walked, walked_more}
 use Rattle.au_mapping.proofs.BlockLemmas.{skip_walked, destructure_walked}
 use Rattle.au_mapping.proofs.BlockLemmas.{branch_walked, arm_walked, if_else_walked, while_walked}
 use Rattle.au_mapping.proofs.BlockLemmas.{for_walked, borrow_walked, borrow_typed_walked}

@@ -3,8 +3,8 @@ use Rattle.au_syntax.specs.contracts.parsed.ParsedPhase.TheImpl.{ghosts as parse
 use Rattle.au_syntax.specs.Plain.{plain_importing}
 use Rattle.au_syntax.specs.Views.{importing}
 use Rattle.au_types.specs.Tables.{with_all}
-use Rattle.au_modules.specs.Slots as slots
 use Rattle.au_names.specs.Importing.{brings, imported}
+use Rattle.au_names.specs.Sources.{modules_of}
 use Rattle.au_names.proofs.PutLemmas.{put_step, put_end, read_at}
 use Rattle.au_names.proofs.imports.put_each.Goals as goal
 
@@ -17,7 +17,7 @@ loop-import-init c = record {
 pub loop-import-preserved : goal.loop-import-preserved
 loop-import-preserved c = record {
   left =
-      let program = slots.modules c.args.modules.now in
+      let program = modules_of c.args.source.now in
       let items = c.deref-import-items.result.now in
       put_step (λ xs. imported c.args.space program c.args.place
       (map (plain_importing parsed.name_bytes) (map (importing parsed) xs)))
@@ -33,7 +33,7 @@ loop-import-preserved c = record {
 
 pub returns : goal.returns
 returns c =
-    let program = slots.modules c.args.modules.now in
+    let program = modules_of c.args.source.now in
     let items = c.deref-import-items.result.now in
     put_end (λ xs. imported c.args.space program c.args.place
     (map (plain_importing parsed.name_bytes) (map (importing parsed) xs))) refl c.loop-import.table

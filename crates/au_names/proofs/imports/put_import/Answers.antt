@@ -6,14 +6,14 @@ use Rattle.au_syntax.specs.Plain.{plain_importing}
 use Rattle.au_syntax.specs.Sizes.{joined}
 use Rattle.au_syntax.specs.Views.{importing}
 use Rattle.au_types.specs.Tables.{with_all}
-use Rattle.au_modules.specs.Slots as slots
+use Rattle.au_names.specs.Sources.{modules_of}
 use Rattle.au_names.proofs.ExportLemmas.{nothing}
 use Rattle.au_names.proofs.ImportLemmas.{brings_nothing, brings_later, brings_earlier, nothing_put}
 use Rattle.au_names.proofs.imports.put_import.Goals as goal
 
 pub returns-in-None-clause-import : goal.returns-in-None-clause-import
 returns-in-None-clause-import c =
-    let program = slots.modules c.args.modules.now in
+    let program = modules_of c.args.source.now in
     let one = plain_importing parsed.name_bytes (importing parsed c.args.import.now) in
     nothing_put c.args.table.now _ (brings_nothing c.args.space program c.args.place one
     (sym (c.requires.made.places (joined one.from)) ∙ sym c.in_ok-found.ensures ∙ c.in-None.is))
@@ -25,7 +25,7 @@ put_items-requires c =
 
 pub returns-then-other-place-clause-import : goal.returns-then-other-place-clause-import
 returns-then-other-place-clause-import c =
-    let program = slots.modules c.args.modules.now in
+    let program = modules_of c.args.source.now in
     let one = plain_importing parsed.name_bytes (importing parsed c.args.import.now) in
     let other = c.in-Some.other in
     let less : other < c.args.place = c.if-other-place.true in
@@ -39,7 +39,7 @@ returns-then-other-place-clause-import c =
 
 pub returns-else-other-place-clause-import : goal.returns-else-other-place-clause-import
 returns-else-other-place-clause-import c =
-    let program = slots.modules c.args.modules.now in
+    let program = modules_of c.args.source.now in
     let one = plain_importing parsed.name_bytes (importing parsed c.args.import.now) in
     nothing_put c.args.table.now _ (brings_later c.args.space program c.args.place c.in-Some.other one
     (sym (c.requires.made.places (joined one.from)) ∙ sym c.in_ok-found.ensures

@@ -6,18 +6,18 @@ use Rattle.au_syntax.specs.Plain.{plain_renaming}
 use Rattle.au_syntax.specs.Views.{renaming}
 use Rattle.au_types.specs.Tables.{with_all}
 use Rattle.au_modules.specs.Programs.{ModuleParts}
-use Rattle.au_modules.specs.Slots as slots
 use Rattle.au_names.specs.Along.{AreAlong}
 use Rattle.au_names.specs.Importing.{brought}
+use Rattle.au_names.specs.Sources.{modules_of}
 use Rattle.au_names.proofs.imports.put_items.Given as goal
 
 -- what is left to put comes to the same, and what has come along is in the table
 abbrev pub invariant-loop-item : goal.invariant-loop-item
 invariant-loop-item l = record {
-  left : (m : ModuleParts) → slice_get (slots.modules l.modules) l.other ≡ Some m
+  left : (m : ModuleParts) → slice_get (modules_of l.source) l.other ≡ Some m
       → with_all l.table (flat_map (brought l.space l.other m)
       (map (plain_renaming parsed.name_bytes) (map (renaming parsed) (drop l.item-index l.item-items))))
       ≡ with_all l.fn.table (flat_map (brought l.space l.other m)
       (map (plain_renaming parsed.name_bytes) (map (renaming parsed) l.item-items)));
-  done : AreAlong (slots.modules l.modules) l.done l.table;
+  done : AreAlong (modules_of l.source) l.done l.table;
 }

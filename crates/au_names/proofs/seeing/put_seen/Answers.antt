@@ -3,10 +3,10 @@ use Rattle.std.specs.Prelude.{slice_get}
 use Rattle.std.proofs.lemmas.Result.{on_ok_weaker}
 use Rattle.std.proofs.lemmas.Option.{slice_get-get_or}
 use Rattle.au_modules.specs.Seen.{part_tree}
-use Rattle.au_modules.specs.Slots as slots
 use Rattle.au_names.specs.Exporting.{imports_seen}
 use Rattle.au_types.specs.Tables.{with_all}
 use Rattle.au_names.specs.Importing.{imported}
+use Rattle.au_names.specs.Sources.{modules_of}
 use Rattle.au_names.proofs.ExportLemmas.{as_many, nothing}
 use Rattle.au_names.proofs.SeenLemmas.{part_imports, seen_put, pervasive_put}
 use Rattle.au_names.proofs.seeing.put_seen.Goals as goal
@@ -16,13 +16,13 @@ offered_names-pervasive-requires c =
     omega (
       arith,
       c.requires.within,
-      as_many c.args.exports.now.interfaces.items (slots.modules c.args.modules.now)
+      as_many c.args.source.now.exports.now.interfaces.items (modules_of c.args.source.now)
           c.requires.made.interfaces,
     )
 
 pub returns : goal.returns
 returns c = λ m here.
-    let program = slots.modules c.args.modules.now in
+    let program = modules_of c.args.source.now in
     let some : 0 < length program = omega (arith, c.requires.within) in
     let first = get_or program 0 nothing in
     let there : slice_get program 0 ≡ Some first = slice_get-get_or program 0 nothing some in

@@ -1,5 +1,6 @@
 use Rattle.std.proofs.Common.{◌++◌, ◌+◌, length, ap, ◌∙◌, drop, arith}
 use Rattle.std.proofs.lemmas.List.{drop_all}
+use Rattle.au_base.proofs.ListLemmas.{seen_left}
 use Rattle.au_syntax.specs.contracts.parsed.ParsedPhase.TheImpl.{ghosts as parsed}
 use Rattle.au_syntax.specs.Plain.{plain_declaration}
 use Rattle.au_syntax.specs.Views.{declaration}
@@ -24,7 +25,7 @@ loop-one-preserved c =
     let next = c.pass.new.walk in
     let d = written c.one-item.result in
     let split =
-    lemmas.left (plain_declaration parsed.name_bytes) (declaration parsed) items i c.one-item.result
+    seen_left (plain_declaration parsed.name_bytes) (declaration parsed) items i c.one-item.result
     c.loop-one-test.true c.one-item.is in
     record {
       rows =

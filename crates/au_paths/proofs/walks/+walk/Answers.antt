@@ -1,5 +1,6 @@
 use Rattle.std.proofs.Common.{◌≡◌, List, ap, sym, subst, ◌∙◌, length, refl, arith, get_or, Ok, Err}
 use Rattle.std.proofs.lemmas.Result.{err_from_is_err_and}
+use Rattle.au_base.proofs.MeasureLemmas.{block_item_falls}
 use Rattle.au_lives.specs.Lives.{Hold, held_from}
 use Rattle.au_lives.specs.Paths.{whole, bound_names}
 use Rattle.au_lives.specs.Walks.{walk, walk_block, walk_step, does, noted, choose, joined}
@@ -10,7 +11,6 @@ use Rattle.au_paths.specs.Walked.{held_in}
 use Rattle.au_syntax.specs.declared.statements.Stmt.{size-Stmt}
 use Rattle.au_syntax.specs.declared.statements.Block.{size-Block, size_is-Block}
 use Rattle.au_paths.proofs.BranchLemmas as lemmas
-use Rattle.au_paths.proofs.SizeLemmas.{block_item_falls}
 use Rattle.au_paths.proofs.walks.+walk.Goals as goal
 
 pub walk_block-loop-one-preserved : goal.walk_block-loop-one-preserved

@@ -1,5 +1,6 @@
 use Rattle.std.proofs.Common.{◌≡◌, ◌∷◌, [], ◌++◌, refl, Some, sym, ap, subst, ◌∙◌}
 use Rattle.std.specs.Prelude.{OnOk}
+use Rattle.au_base.proofs.ListLemmas.{nothing_added}
 use Rattle.au_program_lives.specs.Said.{arms_said, binds_said, block_said, branches_said, statement_said}
 use Rattle.au_program_lives.specs.Said.{statements_said}
 use Rattle.au_program_lives.specs.Scopes.{closed_in, opened_by, opened_in, scope_said}
@@ -145,43 +146,43 @@ push_inside-returns-in-BorrowTyped-clause-put g t c =
 
 pub push_inside-returns-in-Skip-clause-put : goal.push_inside-returns-in-Skip-clause-put
 push_inside-returns-in-Skip-clause-put g t c =
-    puts.nothing_put c.args.made.now.items
+    nothing_added c.args.made.now.items
     (sorts_inside (statement_said g.P.Phase c.args.stmt.now) (scope_said c.args.scope.now))
     (skip_inside g.P.Phase (scope_said c.args.scope.now) c.args.stmt.now _ c.in-Skip.is)
 
 pub push_inside-returns-in-Let-clause-put : goal.push_inside-returns-in-Let-clause-put
 push_inside-returns-in-Let-clause-put g t c =
-    puts.nothing_put c.args.made.now.items
+    nothing_added c.args.made.now.items
     (sorts_inside (statement_said g.P.Phase c.args.stmt.now) (scope_said c.args.scope.now))
     (let_inside g.P.Phase (scope_said c.args.scope.now) c.args.stmt.now _ _ _ _ _ c.in-Let.is)
 
 pub push_inside-returns-in-Destructure-clause-put : goal.push_inside-returns-in-Destructure-clause-put
 push_inside-returns-in-Destructure-clause-put g t c =
-    puts.nothing_put c.args.made.now.items
+    nothing_added c.args.made.now.items
     (sorts_inside (statement_said g.P.Phase c.args.stmt.now) (scope_said c.args.scope.now))
     (destructure_inside g.P.Phase (scope_said c.args.scope.now) c.args.stmt.now _ _ _ c.in-Destructure.is)
 
 pub push_inside-returns-in-Assign-clause-put : goal.push_inside-returns-in-Assign-clause-put
 push_inside-returns-in-Assign-clause-put g t c =
-    puts.nothing_put c.args.made.now.items
+    nothing_added c.args.made.now.items
     (sorts_inside (statement_said g.P.Phase c.args.stmt.now) (scope_said c.args.scope.now))
     (assign_inside g.P.Phase (scope_said c.args.scope.now) c.args.stmt.now _ _ _ _ c.in-Assign.is)
 
 pub push_inside-returns-in-AssignThrough-clause-put : goal.push_inside-returns-in-AssignThrough-clause-put
 push_inside-returns-in-AssignThrough-clause-put g t c =
-    puts.nothing_put c.args.made.now.items
+    nothing_added c.args.made.now.items
     (sorts_inside (statement_said g.P.Phase c.args.stmt.now) (scope_said c.args.scope.now))
     (assign_through_inside g.P.Phase (scope_said c.args.scope.now) c.args.stmt.now _ _ _ _ c.in-AssignThrough.is)
 
 pub push_inside-returns-in-Call-clause-put : goal.push_inside-returns-in-Call-clause-put
 push_inside-returns-in-Call-clause-put g t c =
-    puts.nothing_put c.args.made.now.items
+    nothing_added c.args.made.now.items
     (sorts_inside (statement_said g.P.Phase c.args.stmt.now) (scope_said c.args.scope.now))
     (call_inside g.P.Phase (scope_said c.args.scope.now) c.args.stmt.now _ _ c.in-Call.is)
 
 pub push_inside-returns-in-Return-clause-put : goal.push_inside-returns-in-Return-clause-put
 push_inside-returns-in-Return-clause-put g t c =
-    puts.nothing_put c.args.made.now.items
+    nothing_added c.args.made.now.items
     (sorts_inside (statement_said g.P.Phase c.args.stmt.now) (scope_said c.args.scope.now))
     (return_inside g.P.Phase (scope_said c.args.scope.now) c.args.stmt.now _ _ c.in-Return.is)
 

@@ -1,7 +1,8 @@
 use Rattle.std.proofs.Common.{◌<◌, ◌≤◌, ◌+◌, drop, length, ap, sym, ◌∙◌, arith}
+use Rattle.au_base.proofs.OptionLemmas.{or_there}
 use Rattle.au_modules.specs.Slots as slots
 use Rattle.au_promises.specs.Promises.{faults_from}
-use Rattle.au_promises.proofs.DefinitionLemmas.{or_there, or_behind}
+use Rattle.au_promises.proofs.DefinitionLemmas.{or_behind}
 use Rattle.au_promises.proofs.PromiseLemmas.{faults_next, faults_end}
 use Rattle.au_promises.proofs.finding.promise_fault.Goals as goal
 

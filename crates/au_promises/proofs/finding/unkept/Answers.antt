@@ -1,11 +1,12 @@
 use Rattle.std.proofs.Common.{◌+◌, drop, is_some, ap, sym, ◌∙◌}
+use Rattle.au_base.proofs.OptionLemmas.{or_there}
 use Rattle.au_syntax.specs.contracts.parsed.ParsedPhase.TheImpl.{ghosts as parsed}
 use Rattle.au_syntax.specs.Plain.{plain_declaration}
 use Rattle.au_syntax.specs.Views.{declaration}
 use Rattle.au_promises.specs.Promises as spec
 use Rattle.au_promises.specs.Promises.{promise_fault_of}
 use Rattle.au_promises.specs.Written.{declarations_of, declared_of, sight_in}
-use Rattle.au_promises.proofs.DefinitionLemmas.{or_there, or_behind}
+use Rattle.au_promises.proofs.DefinitionLemmas.{or_behind}
 use Rattle.au_promises.proofs.PromiseLemmas.{unkept_next, unkept_end}
 use Rattle.au_promises.proofs.finding.unkept.Goals as goal
 

@@ -6,7 +6,7 @@ use Rattle.au_syntax.specs.contracts.parsed.ParsedPhase.TheImpl.{ghosts as parse
 use Rattle.au_syntax.specs.Plain.{plain_declaration}
 use Rattle.au_syntax.specs.Views.{declaration}
 use Rattle.au_rules.specs.Marks.{marks}
-use Rattle.au_rules.specs.Outside.{is_outside}
+use Rattle.au_rules.specs.Outside.{is_outside_of}
 use Rattle.au_rules.specs.Scopes.{after_all, doubles_in, first_in}
 use Rattle.au_rules.proofs.ListLemmas.{listed_next}
 use Rattle.au_rules.proofs.ScopeLemmas.{doubles_nothing, doubles_push}
@@ -15,14 +15,14 @@ use Rattle.au_rules.proofs.finding.judge_declarations.Goals as goal
 pub loop-decl-init : goal.loop-decl-init
 loop-decl-init c =
     let start = c.args.list.now.items in (
-      sym (ap (λ r. start ++ r) (doubles_nothing (is_outside c.args.place c.args.names.now) c.args.scopes.now)
+      sym (ap (λ r. start ++ r) (doubles_nothing (is_outside_of c.args.here.now) c.args.scopes.now)
           ∙ append-nil start),
       refl,
     )
 
 pub loop-decl-preserved : goal.loop-decl-preserved
 loop-decl-preserved c =
-    let foreign = is_outside c.args.place c.args.names.now in
+    let foreign = is_outside_of c.args.here.now in
     let s = c.args.scopes.now in
     let start = c.args.list.now.items in
     let items = c.deref-decl-items.result.now in

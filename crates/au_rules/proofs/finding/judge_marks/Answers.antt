@@ -1,16 +1,16 @@
 use Rattle.std.proofs.Common.{take, refl, sym, ap, ◌∙◌}
 use Rattle.std.specs.Option.{option_or}
-use Rattle.au_rules.specs.Outside.{is_outside}
+use Rattle.au_rules.specs.Outside.{is_outside_of}
 use Rattle.au_rules.specs.Scopes.{after, double_in, first_in}
 use Rattle.au_rules.proofs.ScopeLemmas.{after_next, first_next, first_nothing}
 use Rattle.au_rules.proofs.finding.judge_marks.Goals as goal
 
 pub loop-mark-init : goal.loop-mark-init
-loop-mark-init c = (sym (first_nothing (is_outside c.args.place c.args.names.now) c.args.scopes.now), refl)
+loop-mark-init c = (sym (first_nothing (is_outside_of c.args.here.now) c.args.scopes.now), refl)
 
 pub loop-mark-preserved : goal.loop-mark-preserved
 loop-mark-preserved c =
-    let foreign = is_outside c.args.place c.args.names.now in
+    let foreign = is_outside_of c.args.here.now in
     let s = c.args.scopes.now in
     let items = c.deref-mark-items.result.now in
     let i = c.loop-mark.mark-index in

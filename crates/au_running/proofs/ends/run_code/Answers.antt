@@ -1,6 +1,7 @@
 -- The machine is loaded with this code, and keeps no events.
 use Rattle.std.proofs.Common.{◌≡◌, Bool, false, ap, subst, sym, ◌∙◌}
 use Rattle.std.proofs.lemmas.Result.{IfOk-weaker, on_err_weaker}
+use Rattle.au_base.proofs.OutsideLemmas.{on_err}
 use Rattle.au_low.specs.Runs.{low_run}
 use Rattle.au_runs.specs.Calls.{IsCut, Rose, Says}
 use Rattle.au_runs.specs.Loaded.{Loaded}
@@ -8,7 +9,7 @@ use Rattle.au_running.specs.Came.{CodeEnds, ran_of}
 use Rattle.au_running.specs.Ran.{is_read_fault, is_write_fault}
 use Rattle.au_running.specs.declared.ran.Ran.{Ran}
 use Rattle.au_running.proofs.AnswerLemmas.{abort_cut, abort_quiet, read_told, said_came, write_told}
-use Rattle.au_running.proofs.FrontLemmas.{on_err, unbegun_cut}
+use Rattle.au_running.proofs.FrontLemmas.{unbegun_cut}
 use Rattle.au_running.proofs.ends.run_code.Goals as goal
 
 pub returns-in_err-machine-clause-cut : goal.returns-in_err-machine-clause-cut

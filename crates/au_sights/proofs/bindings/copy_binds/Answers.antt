@@ -1,7 +1,7 @@
+use Rattle.au_base.proofs.ListLemmas.{copied_before}
 use Rattle.au_sights.specs.contracts.noted.NotedPhase.TheImpl.{ghosts as noted}
 use Rattle.au_syntax.specs.contracts.parsed.ParsedPhase.TheImpl.{ghosts as parsed}
 use Rattle.au_syntax.specs.Views.{bound}
-use Rattle.au_sights.proofs.CopyLemmas.{copied_before}
 use Rattle.au_sights.proofs.bindings.copy_binds.Goals as goal
 
 pub loop-one-preserved : goal.loop-one-preserved

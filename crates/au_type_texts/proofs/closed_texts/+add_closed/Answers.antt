@@ -1,6 +1,7 @@
 use Rattle.std.proofs.Common.{◌++◌, length, ap, ◌∙◌, sym}
 use Rattle.std.proofs.lemmas.Bool.{eqb-false}
 use Rattle.std.proofs.lemmas.Result.{on_ok_weaker}
+use Rattle.au_base.proofs.ListLemmas.{turn}
 use Rattle.au_type_texts.specs.ClosedTexts.{list_text, text_of}
 use Rattle.au_type_texts.specs.Views.{closed_meaning, closed_meanings}
 use Rattle.au_type_texts.proofs.ClosedLemmas.{text_means}
@@ -20,7 +21,7 @@ pub add_list-loop-one-preserved : goal.add_list-loop-one-preserved
 add_list-loop-one-preserved t c =
     let left = lemmas.left_more c.args.heads.now c.loop-one.mark.now c.deref-one-items.result.now
     c.loop-one.one-index c.one-item.result c.loop-one-test.true c.one-item.is in
-    lemmas.turn _ _ _ _ _ _ _ _ c.in_ok-append.ensures.ok c.in_ok-add_closed.ensures left c.loop-one.invariant
+    turn _ _ _ _ _ _ _ _ c.in_ok-append.ensures.ok c.in_ok-add_closed.ensures left c.loop-one.invariant
 
 pub add_list-returns : goal.add_list-returns
 add_list-returns t c =

@@ -1,6 +1,7 @@
 use Rattle.std.proofs.Common.{◌++◌, length, ap, ◌∙◌, sym}
 use Rattle.std.proofs.lemmas.Bool.{eqb-false}
 use Rattle.std.proofs.lemmas.Result.{on_ok_weaker}
+use Rattle.au_base.proofs.ListLemmas.{turn}
 use Rattle.au_types.proofs.TypeLemmas.{text_means}
 use Rattle.au_types.specs.Views.{argument_all, meaning}
 use Rattle.au_type_texts.specs.Texts as texts
@@ -20,7 +21,7 @@ pub add_arguments-loop-one-preserved : goal.add_arguments-loop-one-preserved
 add_arguments-loop-one-preserved t c =
     let left = lemmas.left_more c.args.heads.now c.loop-one.mark.now c.deref-one-items.result.now
     c.loop-one.one-index c.one-item.result c.loop-one-test.true c.one-item.is in
-    lemmas.turn _ _ _ _ _ _ _ _ c.in_ok-append.ensures.ok c.in_ok-add_argument.ensures left c.loop-one.invariant
+    turn _ _ _ _ _ _ _ _ c.in_ok-append.ensures.ok c.in_ok-add_argument.ensures left c.loop-one.invariant
 
 pub add_arguments-returns : goal.add_arguments-returns
 add_arguments-returns t c =

@@ -1,9 +1,10 @@
 use Rattle.std.proofs.Common.{sym, ap, ◌∙◌, is_some}
 use Rattle.indexmap.proofs.CallerLemmas.{insert_entry-new}
 use Rattle.std.specs.Option.{option_or}
+use Rattle.au_base.proofs.OptionLemmas.{none_of}
 use Rattle.au_imports.specs.Choices.{where_so}
 use Rattle.au_types.specs.Rows.{same_place}
-use Rattle.au_formed.proofs.DeclarerLemmas.{index_push, none_of}
+use Rattle.au_formed.proofs.DeclarerLemmas.{index_push}
 use Rattle.au_formed.specs.Graphs.{index_at}
 use Rattle.au_formed.proofs.declarers.Declarers.put.Goals as goal
 

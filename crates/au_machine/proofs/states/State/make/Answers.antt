@@ -4,11 +4,11 @@ use Rattle.au_cells.specs.Cells.{lows}
 use Rattle.au_low.specs.Machines.{Low, Machine, Next, having}
 use Rattle.au_machine.specs.States.{machine_of}
 use Rattle.std.proofs.Common.{slice_get}
+use Rattle.std.proofs.lemmas.Option.{MatchOption-at_some, MatchOption-at_none}
 use Rattle.au_low.specs.Machines.{ordered}
 use Rattle.au_low.specs.Instructions.{makes}
 use Rattle.au_low.specs.declared.code.LowType.{LowType}
 use Rattle.au_stores.specs.Stores.{cells_of}
-use Rattle.au_machine.proofs.PoppingLemmas.{some_of, none_of}
 use Rattle.au_machine.proofs.StateLemmas.{come_to}
 use Rattle.au_machine.proofs.states.State.make.Goals as goal
 
@@ -27,7 +27,8 @@ returns-clause-is c =
     ∙ ap (λ (found : Option (List Low)). having found
     (λ values. made_if values (slice_get c.args.code.now.types c.args.of))) (ap (option_map cells_of)
     (sym c.in-Some-2.is) ∙ c.in_ok-fields.ensures)
-    ∙ sym (some_of _ _ c.in_ok-cells.field-0 c.in-Some.cells c.in-Some.is c.in_ok-cells.ensures.is go))
+    ∙ sym (MatchOption-at_some {o = c.in_ok-cells.field-0} _ _ c.in-Some.cells c.in-Some.is
+    c.in_ok-cells.ensures.is go))
     c.make_of.ensures.is
 
 pub returns-in_default-clause-is : goal.returns-in_default-clause-is
@@ -40,7 +41,7 @@ returns-in_default-clause-is c =
     let go : List Low → Machine → Next = λ values m. having (ordered c.args.order.now values)
     (λ values. having (slice_get c.args.code.now.types c.args.of)
     (λ type. makes c.args.of c.args.tag c.args.home.now values type m)) in
-    sym (none_of _ _ c.in_ok-cells.field-0 c.in_default.is c.in_ok-cells.ensures.is go)
+    sym (MatchOption-at_none {o = c.in_ok-cells.field-0} _ _ c.in_default.is c.in_ok-cells.ensures.is go)
 
 pub returns-in_default-type_at-clause-is : goal.returns-in_default-type_at-clause-is
 returns-in_default-type_at-clause-is c =
@@ -56,7 +57,8 @@ returns-in_default-type_at-clause-is c =
     ∙ ap (λ (found : Option (List Low)). having found
     (λ values. made_if values (slice_get c.args.code.now.types c.args.of))) (ap (option_map cells_of)
     (sym c.in-Some-2.is) ∙ c.in_ok-fields.ensures)
-    ∙ sym (some_of _ _ c.in_ok-cells.field-0 c.in-Some.cells c.in-Some.is c.in_ok-cells.ensures.is go)
+    ∙ sym (MatchOption-at_some {o = c.in_ok-cells.field-0} _ _ c.in-Some.cells c.in-Some.is
+    c.in_ok-cells.ensures.is go)
 
 pub returns-in_default-2-clause-is : goal.returns-in_default-2-clause-is
 returns-in_default-2-clause-is c =
@@ -71,4 +73,5 @@ returns-in_default-2-clause-is c =
     ap (λ (found : Option (List Low)). having found
     (λ values. made_if values (slice_get c.args.code.now.types c.args.of))) (ap (option_map cells_of)
     (sym c.in_default-2.is) ∙ c.in_ok-fields.ensures)
-    ∙ sym (some_of _ _ c.in_ok-cells.field-0 c.in-Some.cells c.in-Some.is c.in_ok-cells.ensures.is go)
+    ∙ sym (MatchOption-at_some {o = c.in_ok-cells.field-0} _ _ c.in-Some.cells c.in-Some.is
+    c.in_ok-cells.ensures.is go)

@@ -1,12 +1,12 @@
 use Rattle.std.proofs.Common.{ap, sym, ◌∙◌, refl, reverse, Option, List, ℕ}
 use Rattle.std.proofs.lemmas.Bool.{eqb-true}
+use Rattle.std.proofs.lemmas.List.{nil_from_length}
 use Rattle.au_low.specs.Instructions.{puts, slot_part}
 use Rattle.au_machine.specs.States.{machine_of}
 use Rattle.au_low.specs.Machines.{Low, Machine, goes, onward, in_world, having}
 use Rattle.au_cells.specs.Cells.{low}
 use Rattle.au_low.specs.Machines.{LowWorld}
 use Rattle.au_machine.proofs.StateLemmas.{world_changed, puts_is}
-use Rattle.au_machine.proofs.PuttingLemmas.{empty_of}
 use Rattle.au_machine.proofs.states.State.put.Goals as goal
 
 pub returns-in-Some-clause-is : goal.returns-in-Some-clause-is
@@ -34,6 +34,6 @@ pub returns-then-is_empty-clause-is : goal.returns-then-is_empty-clause-is
 returns-then-is_empty-clause-is c =
     let m = machine_of c.args.self.now in
     let path = c.args.path.now in
-    let nothing = empty_of path (eqb-true _ 0 (sym c.is_empty.ensures ∙ c.if-is_empty.true)) in
+    let nothing = nil_from_length path (eqb-true _ 0 (sym c.is_empty.ensures ∙ c.if-is_empty.true)) in
     c.put_whole.ensures.is
     ∙ ap (λ (path : List ℕ). puts (slot_part c.args.slot path m) (low c.args.cell) m) (sym nothing)
