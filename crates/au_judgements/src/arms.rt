@@ -17,10 +17,11 @@ ghost use Rattle.au_sights.specs.Sights.{case_said};
 ghost use Rattle.au_types.specs.Views.{argument, argument_all, meaning};
 
 use crate::binding::judge_binds;
+use crate::unions::cases_told;
 use au_names::Target;
 use au_noting::faults::{other_form, unknown};
 use au_noting::{Fault, Scope};
-use au_sights::surroundings::{cases, target};
+use au_sights::surroundings::target;
 use au_sights::{Case, Form};
 use au_syntax::{Arm, Parsed};
 use au_types::{Arg, Region, Ty};
@@ -202,7 +203,8 @@ pub fn judge_heads(
     }
 }
 
-/// The cases of a union that is known there and in which no region is anonymous.
+/// The cases that are told apart of a type in which no region is anonymous: of a union that is known there,
+/// or of one behind a reference.
 ///
 /// # Errors
 ///
@@ -214,7 +216,7 @@ pub fn judge_union(alloc: Global, scope: &Scope, of: &Ty) -> Result<Vec<Case>, F
     if is_borrowed_within(of) {
         return Err(other_form(Form::Union));
     }
-    match cases(alloc, &scope.outside, of)? {
+    match cases_told(alloc, scope, of)? {
         Some(all) => Ok(all),
         None => Err(other_form(Form::Union)),
     }

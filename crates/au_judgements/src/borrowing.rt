@@ -100,7 +100,7 @@ fn known_lent(alloc: Global, mode: BorrowMode, of: &Ty) -> Result<Ty, Fault>
 
 /// A reference to a type in a region.
 #[tactic(auto, using(au_types::proofs::TypeLemmas::type_steps))]
-fn refers(alloc: Global, access: Access, to: Ty, region: Region) -> Result<Ty, Memory>
+pub(crate) fn refers(alloc: Global, access: Access, to: Ty, region: Region) -> Result<Ty, Memory>
     ensures { IfOk result (λ made. meaning made ≡ judging.refers access (meaning to) region) }
 {
     let to = Box::new(alloc, to)?;

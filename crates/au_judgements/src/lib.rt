@@ -15,5 +15,6 @@ pub mod literals;
 pub mod places;
 pub mod refusals;
 pub mod returning;
+pub mod unions;
 
 pub use refusals::{Refused, refused_at};

@@ -22,7 +22,8 @@ use Rattle.au_typing.specs.Lookups.{type_of_name, value_type, variable_of, writt
 use Rattle.au_typing.specs.Notes.{NotedExpression, type_of}
 use Rattle.au_typing.specs.Operands.{of_one_type}
 use Rattle.au_typing.specs.Rules.{is_integer}
-use Rattle.au_typing.specs.Parts.{ArmHead, arms_fit, binds_each, borrow_type, case_of_arm, is_borrowed_within, lent}
+use Rattle.au_typing.specs.Parts.{ArmHead, arms_fit, binds_each, borrow_type, case_of_arm, cases_told}
+use Rattle.au_typing.specs.Parts.{is_borrowed_within, lent}
 use Rattle.au_typing.specs.DerivationSearch.{free_place, is_of_borrow, judge_all_bound, judge_arm, judge_arms}
 use Rattle.au_typing.specs.DerivationSearch.{judge_assigned, judge_binds, judge_borrow, judge_bound}
 use Rattle.au_typing.specs.DerivationSearch.{judge_heads, judge_lent, judge_names, judge_put, judge_reference}
@@ -179,9 +180,9 @@ module _ (sc : Scope) where
       of_names sc heads (must (arms_fit sc cases heads) (shape arms_wanted) (of_arms sc cases heads)) in
       let next = λ (cases : List Case). judge_heads sc cases heads >>= λ (judged : Unit {0}). Ok a in
       check_tells (not (is_borrowed_within t)) (shape union_wanted)
-      (known_or (shape union_wanted) (sc.outside.cases t)) next
-      (must_be (shape union_wanted) (sc.outside.cases t) clauses)
-      (known_tells (shape union_wanted) (sc.outside.cases t) next clauses
+      (known_or (shape union_wanted) (cases_told sc t)) next
+      (must_be (shape union_wanted) (cases_told sc t) clauses)
+      (known_tells (shape union_wanted) (cases_told sc t) next clauses
       (λ cases. heads_tell cases heads (λ judged. Ok a) refl))
 
   -- ---- loops and borrows

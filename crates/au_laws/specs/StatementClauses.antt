@@ -16,7 +16,7 @@ use Rattle.au_typing.specs.Faults.{assignable_wanted, labels_wanted, arms_wanted
 use Rattle.au_typing.specs.Lookups.{is_free_in, type_of_name, value_type, variable_of, written_means}
 use Rattle.au_typing.specs.Notes.{NotedExpression, type_of}
 use Rattle.au_typing.specs.Rules.{is_integer}
-use Rattle.au_typing.specs.Parts.{ArmHead, arms_fit, binds_each, borrow_type, case_of_arm}
+use Rattle.au_typing.specs.Parts.{ArmHead, arms_fit, binds_each, borrow_type, case_of_arm, cases_told}
 use Rattle.au_typing.specs.Parts.{is_borrowed_within, lent}
 use Rattle.au_typing.specs.DerivationSearch.{not_assignable, not_writing, written_through}
 use Rattle.au_laws.specs.Clauses.{Clause, broken, must, must_be}
@@ -95,11 +95,11 @@ module _ (sc : Scope) where
   of_arms cases [] = []
   of_arms cases (head ∷ more) = of_arm cases head (of_arms cases more)
 
-  -- a `case` of a value of this type: all names come before the set of arms, and that before each arm
+  -- a `case` over this type: all names come before the set of arms, and that before each arm
   abbrev pub of_case : List ArmHead → Meaning → List Clause
   of_case heads t =
       must (not (is_borrowed_within t)) (shape union_wanted)
-      (must_be (shape union_wanted) (sc.outside.cases t)
+      (must_be (shape union_wanted) (cases_told sc t)
       (λ cases. of_names heads (must (arms_fit sc cases heads) (shape arms_wanted) (of_arms cases heads))))
 
   -- ---- borrow statements

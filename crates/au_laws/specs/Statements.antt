@@ -185,6 +185,35 @@ conditionals =
     (different nat8 mean.truth)
     ∷ []
 
+-- `case name of when None do skip; when Some(value: T) do skip; end case;`
+abbrev pub takes_option : Bytes → WrittenType → PlainStatement
+takes_option name t = cases (mention name) (arm (codes "None") [] (some_arm t no_arms))
+
+-- Through a reference an arm binds references of its access into its region. A reference to a record is no
+-- union, nor is one to a reference, nor one whose region can't be written.
+abbrev pub through_references : List Example
+through_references =
+    ok (takes_option (codes "q") (into access.Read (codes "R") nat8_type))
+    ∷ ok (takes_option (codes "n") (into access.Write (codes "R") nat8_type))
+    ∷ no_good (takes_option (codes "q") nat8_type) (different (read nat8) nat8)
+    ∷ no_good (takes_option (codes "m") (into access.Read (codes "R") nat8_type)) (different nat8 (read nat8))
+    ∷ no_good (takes_option (codes "q") (into access.Write (codes "R") nat8_type))
+    (different (read nat8) (write nat8))
+    ∷ no_good (takes_option (codes "n") (into access.Read (codes "R") nat8_type))
+    (different (write nat8) (read nat8))
+    ∷ no_good (takes_option (codes "q") (into access.Read (codes "Static") nat8_type))
+    (different (read nat8) (mean.reads nat8 regions.Static))
+    ∷ no_good (cases (mention (codes "q")) (arm (codes "None") [] no_arms)) (shape arms_wanted)
+    ∷ no_good (cases (mention (codes "q")) (arm (codes "None") [] (arm (codes "Some") [] no_arms)))
+    (shape labels_wanted)
+    ∷ no_good (takes_option (codes "r") (into access.Read (codes "R") nat8_type)) (shape union_wanted)
+    ∷ no_good (takes_option (codes "qq") (into access.Read (codes "R") nat8_type)) (shape union_wanted)
+    ∷ no_good
+    (cases (borrow here borrows.Read (named (codes "m")))
+    (arm (codes "None") [] (some_arm (into access.Read (codes "R") nat8_type) no_arms)))
+    (shape union_wanted)
+    ∷ []
+
 abbrev pub repetitions : List Example
 repetitions =
     ok (while_loop (at_line 1) (mention (codes "b")) skips)

@@ -9,7 +9,7 @@ use Rattle.au_names.specs.declared.targets.Target.{Target}
 use Rattle.au_instances.specs.Examples.{bounded_by, box, headed, nat8, of_one, option, place, shown}
 use Rattle.au_typing.specs.Scopes.{Case, Outside, Scope, Typed, Variable}
 use Rattle.au_typing.specs.TypingExamples as few
-use Rattle.au_typing.specs.TypingExamples.{boxed, kept, kept_fields, of_name, read, typed_name}
+use Rattle.au_typing.specs.TypingExamples.{boxed, kept, kept_fields, of_name, read, typed_name, write}
 
 -- ---- types
 
@@ -75,7 +75,8 @@ abbrev pub var_of : Bytes → Meaning → Variable
 var_of name of = record { name = name; of = of; assignable = true }
 
 -- Besides those of the few examples: v, f and z are declared by `var`, z being Linear; o holds what k is, and
--- g refers to such a one; m may hold a number; e and h have the type parameters as types.
+-- g refers to such a one; m may hold a number, q and n refer to such a one, for reading and for writing, and
+-- qq to what q is; e and h have the type parameters as types.
 abbrev pub variables : List Variable
 variables =
     var_of (codes "v") kept
@@ -84,6 +85,9 @@ variables =
     ∷ few.variable (codes "o") outer
     ∷ few.variable (codes "g") (read outer)
     ∷ few.variable (codes "m") (of_one option nat8)
+    ∷ few.variable (codes "q") (read (of_one option nat8))
+    ∷ few.variable (codes "n") (write (of_one option nat8))
+    ∷ few.variable (codes "qq") (read (read (of_one option nat8)))
     ∷ few.variable (codes "e") t
     ∷ few.variable (codes "h") u
     ∷ few.scope.variables

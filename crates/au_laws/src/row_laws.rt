@@ -30,6 +30,8 @@ pub fn rows_of_statements_hold()
         statements.assignments }
     ensures conditionals { Each (λ one. fault_of (note_block one.written scope) ≡ one.fault)
         statements.conditionals }
+    ensures references { Each (λ one. fault_of (note_block one.written scope) ≡ one.fault)
+        statements.through_references }
     ensures repetitions { Each (λ one. fault_of (note_block one.written scope) ≡ one.fault)
         statements.repetitions }
     ensures borrows { Each (λ one. fault_of (note_block one.written scope) ≡ one.fault)

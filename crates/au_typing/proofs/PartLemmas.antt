@@ -25,7 +25,8 @@ use Rattle.au_typing.specs.Search.{note}
 use Rattle.au_typing.proofs.Steps.{known_found}
 use Rattle.au_typing.proofs.Found.{bare_kept, found}
 use Rattle.au_typing.proofs.FoundParts.{paired_found, part_found}
-use Rattle.au_typing.specs.Parts.{ArmHead, arms_fit, binds_each, borrow_type, case_meant, is_borrowed_within, lent}
+use Rattle.au_typing.specs.Parts.{ArmHead, arms_fit, binds_each, borrow_type, case_meant, cases_told}
+use Rattle.au_typing.specs.Parts.{is_borrowed_within, lent}
 use Rattle.au_typing.specs.DerivationSearch.{free_place, is_of_borrow, judge_all_bound, judge_arm, judge_arms}
 use Rattle.au_typing.specs.DerivationSearch.{judge_assigned, judge_binds, judge_borrow, judge_bound}
 use Rattle.au_typing.specs.DerivationSearch.{judge_heads, judge_lent, judge_names, judge_put, judge_reference}
@@ -115,9 +116,9 @@ heads_found sc cases heads each g =
     (check_from (shape arms_wanted) (judge_arms sc cases heads) each (arms_found sc cases heads g))
 
 union_found : (sc : Scope) (t : Meaning) (cases : List Case) → is_borrowed_within t ≡ false
-    → sc.outside.cases t ≡ Some cases → judge_union sc t ≡ Ok cases
+    → cases_told sc t ≡ Some cases → judge_union sc t ≡ Ok cases
 union_found sc t cases lasting known =
-    check_from (shape union_wanted) (known_or (shape union_wanted) (sc.outside.cases t)) (ap not lasting)
+    check_from (shape union_wanted) (known_or (shape union_wanted) (cases_told sc t)) (ap not lasting)
     (known_found (shape union_wanted) known)
 
 -- ---- borrows

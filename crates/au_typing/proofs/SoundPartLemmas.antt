@@ -29,7 +29,8 @@ use Rattle.au_typing.proofs.Steps.{bind_ok, check_ok, known_ok, ok_same}
 use Rattle.au_typing.proofs.Found.{bare_kept}
 use Rattle.au_typing.proofs.Sound.{sound}
 use Rattle.au_typing.proofs.SoundParts.{paired_sound}
-use Rattle.au_typing.specs.Parts.{ArmHead, arms_fit, binds_each, borrow_type, case_of_arm, is_borrowed_within, lent}
+use Rattle.au_typing.specs.Parts.{ArmHead, arms_fit, binds_each, borrow_type, case_of_arm, cases_told}
+use Rattle.au_typing.specs.Parts.{is_borrowed_within, lent}
 use Rattle.au_typing.specs.DerivationSearch.{free_place, is_of_borrow, judge_all_bound, judge_arm, judge_arms}
 use Rattle.au_typing.specs.DerivationSearch.{judge_assigned, judge_binds, judge_borrow, judge_bound}
 use Rattle.au_typing.specs.DerivationSearch.{judge_heads, judge_lent, judge_names, judge_put, judge_reference}
@@ -134,12 +135,12 @@ heads_sound sc cases heads e =
     (step.0, arms_sound sc cases heads step.1)
 
 union_sound : (sc : Scope) (t : Meaning) (cases : List Case) → judge_union sc t ≡ Ok cases
-    → (is_borrowed_within t ≡ false) × (sc.outside.cases t ≡ Some cases)
+    → (is_borrowed_within t ≡ false) × (cases_told sc t ≡ Some cases)
 union_sound sc t cases e =
     let step = check_ok (not (is_borrowed_within t)) (shape union_wanted)
-    (known_or (shape union_wanted) (sc.outside.cases t)) cases e in (
+    (known_or (shape union_wanted) (cases_told sc t)) cases e in (
       not-true (is_borrowed_within t) step.0,
-      known_ok (shape union_wanted) (sc.outside.cases t) cases step.1,
+      known_ok (shape union_wanted) (cases_told sc t) cases step.1,
     )
 
 -- ---- borrows

@@ -32,8 +32,8 @@ use Rattle.au_typing.specs.Operands.{of_one_type, paired}
 use Rattle.au_typing.specs.Search.{note}
 use Rattle.au_typing.specs.DerivationFaults.{Judged, ◌then◌, placed, refused}
 use Rattle.au_typing.specs.InScope.{after, fixed_variable, with_bound, with_reference, with_variable}
-use Rattle.au_typing.specs.Parts.{ArmHead, arms_fit, binds_each, borrow_type, case_of_arm, heads_of}
-use Rattle.au_typing.specs.Parts.{is_borrowed_within, lent, mode_for}
+use Rattle.au_typing.specs.Parts.{ArmHead, arms_fit, binds_each, borrow_type, case_of_arm, cases_told}
+use Rattle.au_typing.specs.Parts.{heads_of, is_borrowed_within, lent, mode_for}
 use Rattle.au_typing.specs.Returns.{returns}
 use Rattle.au_typing.specs.Trees.{NotedStatement, NotedStatements, NotedBranches, NotedArms}
 
@@ -158,11 +158,12 @@ module _ (sc : Scope) where
   judge_arms cases [] = Ok tt
   judge_arms cases (head ∷ rest) = judge_arm cases head >>= λ arm. judge_arms cases rest
 
-  -- the cases of a union that is known here and in which no region is anonymous
+  -- the cases that are told apart of a type in which no region is anonymous: of a union that is known here,
+  -- or of one behind a reference
   abbrev pub judge_union : Meaning → Noting (List Case)
   judge_union t =
       check (not (is_borrowed_within t)) (shape union_wanted)
-      (known_or (shape union_wanted) (sc.outside.cases t))
+      (known_or (shape union_wanted) (cases_told sc t))
 
   -- all names before the set of arms, and that before the arms
   abbrev pub judge_heads : List Case → List ArmHead → Noting (Unit {0})

@@ -1,6 +1,6 @@
 -- The tests and the parts of the rules on statements.
 use Rattle.std.specs.Prelude.{◌==◌, ◌&&◌, ◌||◌, Bool, true, false, List, [], ◌∷◌, map, is_some, Option, None}
-use Rattle.std.specs.Prelude.{Some}
+use Rattle.std.specs.Prelude.{Some, option_map}
 use Rattle.std.specs.List.{count_by, find, list_all, list_any}
 use Rattle.std.specs.Str.{bytes_eq}
 use Rattle.au_syntax.specs.declared.expressions.BorrowMode.{BorrowMode}
@@ -63,6 +63,27 @@ abbrev pub arms_fit : Scope → List Case → List ArmHead → Bool
 arms_fit sc cases heads =
     list_all (λ one. count_by (is_for sc one) heads == 1) cases
     && list_all (λ head. is_some (case_of_arm sc cases head)) heads
+
+-- ---- what a case takes apart
+
+-- a field that is reached through a reference: a reference of the same access into the same region
+abbrev pub field_behind : Access → Region → Typed → Typed
+field_behind kind region field = record field { of = refers kind field.of region }
+
+-- a case that is reached through a reference
+abbrev pub case_behind : Access → Region → Case → Case
+case_behind kind region one = record one { fields = map (field_behind kind region) one.fields }
+
+-- the cases of the union that a reference refers to, if it is one that is known here, reached through it
+abbrev pub cases_behind : Scope → Access → Meaning → Region → Option (List Case)
+cases_behind sc kind to region = option_map (map (case_behind kind region)) (sc.outside.cases to)
+
+-- The cases that a `case` over a type tells apart, each with the fields that its arm binds: those of a union
+-- that is known here, and those of such a union behind a reference, reached through it.
+abbrev pub cases_told : Scope → Meaning → Option (List Case)
+cases_told sc (mean.reads to region) = cases_behind sc access.Read to region
+cases_told sc (mean.writes to region) = cases_behind sc access.Write to region
+cases_told sc t = sc.outside.cases t
 
 -- a region is that of the borrows of one whole expression, which can't be written
 abbrev pub is_anonymous : Region → Bool

@@ -22,8 +22,8 @@ use Rattle.au_typing.specs.Lookups.{IsPart, is_free_in, type_of_name, variable_o
 use Rattle.au_typing.specs.Notes.{Mode, NotedExpression, mode_of, type_of}
 use Rattle.au_typing.specs.Rules.{is_integer}
 use Rattle.au_typing.specs.InScope.{after, fixed_variable, with_bound, with_reference, with_variable}
-use Rattle.au_typing.specs.Parts.{ArmHead, arms_fit, binds_each, borrow_type, case_of_arm, heads_of}
-use Rattle.au_typing.specs.Parts.{is_borrowed_within, lent, mode_for}
+use Rattle.au_typing.specs.Parts.{ArmHead, arms_fit, binds_each, borrow_type, case_of_arm, cases_told}
+use Rattle.au_typing.specs.Parts.{heads_of, is_borrowed_within, lent, mode_for}
 use Rattle.au_typing.specs.Returns.{may_follow, returns}
 use Rattle.au_typing.specs.Trees.{NotedStatement, NotedStatements, NotedBranches, NotedArms}
 
@@ -92,7 +92,7 @@ pub record GoodPut (sc : Scope) (r : Bytes) (path : List (Placed Bytes)) (e : No
 
 -- ---- `case`
 
--- An arm is for a case of the union, and binds each of its fields once with its type.
+-- An arm is for one of the cases, and binds each of its fields once with its type.
 pub record GoodArm (sc : Scope) (cases : List Case) (head : ArmHead) : Type 0 where
   pub one : Case
   pub is_for : case_of_arm sc cases head ≡ Some one
@@ -103,13 +103,14 @@ abbrev pub GoodArms : Scope → List Case → List ArmHead → Type 0
 GoodArms sc cases [] = Unit {0}
 GoodArms sc cases (head ∷ rest) = GoodArm sc cases head × GoodArms sc cases rest
 
--- The expression, of which no type is wanted, has a union type that is known here and in which no region is
--- anonymous; each case has one arm, and each arm is good.
+-- The expression, of which no type is wanted, has the type of a union that is known here, or of a reference
+-- to one, in which no region is anonymous; each case has one arm, and each arm is good, where through a
+-- reference it binds references to the fields.
 pub record GoodCase (sc : Scope) (e : NotedExpression) (heads : List ArmHead) : Type 0 where
   pub wants : Wants sc e None
   pub lasting : is_borrowed_within (type_of e) ≡ false
   pub cases : List Case
-  pub known : sc.outside.cases (type_of e) ≡ Some cases
+  pub known : cases_told sc (type_of e) ≡ Some cases
   pub each : arms_fit sc cases heads ≡ true
   pub good : GoodArms sc cases heads
 

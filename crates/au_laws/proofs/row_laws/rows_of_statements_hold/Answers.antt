@@ -46,6 +46,11 @@ unfolding universe_of argument_universe argument_universes judged judging.judged
 returns-clause-conditionals c =
     (refl, (refl, (refl, (refl, (refl, (refl, (refl, (refl, (refl, (refl, (refl, tt)))))))))))
 
+pub returns-clause-references : goal.returns-clause-references
+unfolding universe_of argument_universe argument_universes judged judging.judged judging.all_given
+returns-clause-references c =
+    (refl, (refl, (refl, (refl, (refl, (refl, (refl, (refl, (refl, (refl, (refl, (refl, tt))))))))))))
+
 pub returns-clause-repetitions : goal.returns-clause-repetitions
 unfolding universe_of argument_universe argument_universes judged judging.judged judging.all_given
 returns-clause-repetitions c = (refl, (refl, (refl, (refl, (refl, (refl, (refl, tt)))))))
