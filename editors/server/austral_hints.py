@@ -9,10 +9,10 @@ import austral_reading as reading
 from austral_sources import BUILT_IN, INTEGERS, meanings_in
 
 
-def ticked(names):
+def ticked(names, word="and"):
     """Names in backticks: `a`, `b` and `c`."""
     names = [f"`{it}`" for it in names]
-    return names[0] if len(names) == 1 else f"{', '.join(names[:-1])} and {names[-1]}"
+    return names[0] if len(names) == 1 else f"{', '.join(names[:-1])} {word} {names[-1]}"
 
 
 def near(name, others):
@@ -24,7 +24,7 @@ def near(name, others):
 
 def did_you_mean(name, others):
     found = near(name, others)
-    return [f"Did you mean {' or '.join(f'`{it}`' for it in found)}?"] if found else []
+    return [f"Did you mean {ticked(found, 'or')}?"] if found else []
 
 
 def signature(declaration):
@@ -58,7 +58,12 @@ class Hints:
     def missing(self):
         folder, name = os.path.split(self.values["FILE"])
         there = os.listdir(folder or ".") if os.path.isdir(folder or ".") else []
-        return did_you_mean(name, [it for it in there if it.endswith((".aui", ".aum"))])
+        stem, kind = os.path.splitext(name)
+        files = [it for it in there if it.endswith((".aui", ".aum"))]
+        stems = near(stem, [os.path.splitext(it)[0] for it in files])
+        meant = [it for it in files if os.path.splitext(it)[0] in (*stems, stem)]
+        meant = [it for it in meant if it.endswith(kind or "-")] or meant
+        return [f"Did you mean {ticked(sorted(meant), 'or')}?"] if meant else []
 
     def entry(self):
         module, name = self.values["N"], self.values["n"]
@@ -161,6 +166,9 @@ class Hints:
 
     def wanted(self):
         wanted, found = self.values["T"], self.values["U"]
+        written = self.written_otherwise(wanted, found)
+        if written:
+            return written
         lent = re.fullmatch(r"(&!?)\[(.*), [\w~]+\]", wanted)
         if lent and lent[2] == found:
             return [f"A `{lent[1]}` is missing: write `{lent[1]}x` for a variable `x` that holds the value."]
@@ -172,6 +180,16 @@ class Hints:
         if wanted in INTEGERS and found in INTEGERS:
             return [f"`to{wanted}` of the value gives an `Option[{wanted}]`."]
         return []
+
+    def written_otherwise(self, wanted, found):
+        """What is bound with another type than it has."""
+        statement = self.statement()
+        if not statement or statement.kind not in ("case", "destructure"):
+            return []
+        wanted, found = (re.sub(r"\b[\w.]+:(?=\w)", "", it) for it in (wanted, found))
+        bound = [*statement.bound, *(it for arm in statement.arms for it in arm.bound)]
+        return [f"Line {it.name.at[0]} binds `{it.name.text}`: write its type as `{wanted}`." for it in bound
+            if it.type == found][:1]
 
     def arguments(self):
         found = []

@@ -591,6 +591,7 @@ class Reader:
         return Module(name, names[0].at, is_body, imports, declarations, self.tokens)
 
 
+@functools.lru_cache(maxsize=256)
 def heading(text):
     """The module's name and the modules that it imports, as far as these can be read."""
     reader, imports, name = Reader(cut(text)), [], ""
