@@ -6,6 +6,7 @@ import re
 
 import austral_paths as paths
 import austral_reading as reading
+import austral_slips as slips
 from austral_sources import BUILT_IN, INTEGERS, meanings_in
 
 
@@ -49,9 +50,25 @@ class Hints:
         return self.sources.function_at(self.part, self.at)
 
     def all(self):
-        found = BY_HEAD.get(self.refusal.section.head)
-        needs_part = self.refusal.section.head.startswith("P: ")
+        head = self.refusal.section.head
+        found = BY_HEAD.get(head)
+        needs_part = head.startswith("P: ") and head not in ("P: syntax", "P: byte")
         return found(self) if found and (self.part or not needs_part) else []
+
+    # What is typed by those who know another language
+
+    def syntax(self):
+        text = self.sources.text(self.refusal.place.file) or ""
+        return [it.hint() for it in slips.by_syntax(text, self.at)[:1]]
+
+    def byte(self):
+        text = self.sources.text(self.refusal.place.file) or ""
+        return [it.hint() for it in slips.by_byte(text, self.at)[:1]]
+
+    def typed(self):
+        """The same words of another language in a table."""
+        says = self.refusal.text.split(": ", 1)[1]
+        return [it.hint() for it in slips.by_text(says)[:1]]
 
     # Names
 
@@ -89,7 +106,7 @@ class Hints:
                 return self.not_offered(name, one.module)
         types = [it for it, found in self.sources.visible(self.part).items()
             if any(one.declaration.kind in ("record", "union", "type", "typeclass") for one in found)]
-        return did_you_mean(name, types + BUILT_IN) + self.offered_elsewhere(name)
+        return self.typed() or did_you_mean(name, types + BUILT_IN) + self.offered_elsewhere(name)
 
     def not_offered(self, name, module):
         offers = [it for it, _ in self.sources.offered(module, self.part)]
@@ -121,8 +138,8 @@ class Hints:
             kind = "a case" if called.kind == "case" else "called"
             return [f"`{name}` is {kind}: write `{name}({labels})`."]
         others = callables if behind == "(" else self.variables() + list(visible) + BUILT_IN
-        return (self.known_elsewhere(name) or did_you_mean(name, others) or self.offered_elsewhere(name)
-            or self.variables_told(behind))
+        return (self.known_elsewhere(name) or self.typed() or did_you_mean(name, others)
+            or self.offered_elsewhere(name) or self.variables_told(behind))
 
     def around(self, number):
         """What stands before and behind a token."""
@@ -359,6 +376,8 @@ def differences(has, wanted, no_such="isn't among them", guesses=False):
 BY_HEAD = {
     "missing: FILE": Hints.missing,
     "entry: N:n": Hints.entry,
+    "P: byte": Hints.byte,
+    "P: syntax": Hints.syntax,
     "P: no module N": Hints.no_module,
     "P: name not visible: n": Hints.not_visible,
     "P: declared again: n": Hints.declared_again,
