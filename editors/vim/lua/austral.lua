@@ -8,14 +8,19 @@ local client
 
 -- Gives a buffer to the server, which is begun with the first.
 local function attach(buffer, options)
-  client = client or vim.lsp.start_client {
+  local config = {
     name = 'austral',
     cmd = { options.python or 'python3', server },
-    root_dir = vim.fn.fnamemodify(vim.api.nvim_buf_get_name(buffer), ':p:h'),
+    root_dir = vim.fn.getcwd(),
     init_options = { program = options.program },
     on_exit = function() client = nil end,
   }
-  if client then vim.lsp.buf_attach_client(buffer, client) end
+  if vim.lsp.start then
+    vim.lsp.start(config, { bufnr = buffer })
+  else
+    client = client or vim.lsp.start_client(config)
+    if client then vim.lsp.buf_attach_client(buffer, client) end
+  end
 end
 
 function M.setup(options)
