@@ -4,6 +4,7 @@ the refused place are."""
 import dataclasses
 import functools
 import glob
+import os
 import re
 
 import austral_reading as reading
@@ -22,8 +23,12 @@ class Slip:
     text: str
     write: str
     offset: int
+    page: str
 
     def hint(self):
+        link = re.fullmatch(r"\[(.*)\]\(#.*\)", self.write)
+        if link:
+            return f"For `{self.typed}` see \"{link[1]}\" in {self.page}."
         return f"For `{self.typed}` one writes {self.write}."
 
 
@@ -37,7 +42,7 @@ def slips():
         for typed, line, column, says, write in ROW.findall(text):
             typed, write = typed.replace("\0", "|"), write.replace("\0", "|")
             begin = 1 if typed.startswith("end ") else BEGINS.get(int(line), 1)
-            found.append(Slip(typed, says, write, int(column) - begin))
+            found.append(Slip(typed, says, write, int(column) - begin, os.path.relpath(page, TOP)))
     return found
 
 
@@ -68,12 +73,21 @@ def alike(row, number, tokens, other):
     return kind_of(row[number]) == kind_of(tokens[other])
 
 
+def wanted_before(row, refused):
+    """How many tokens before the refused one a source must share with a row: signs that end much say little."""
+    if row[refused].text == ";" and row[refused - 1].kind == "name":
+        return refused
+    return 3 if row[refused].text == ")" else 2
+
+
 def likeness(slip, tokens, number):
-    """How many of the tokens round the refused one are those of a row, 0 where it isn't like it: the two before it and
-    it itself must be, and at the beginning of a row the next one too."""
+    """How many of the tokens round the refused one are those of a row, 0 where it isn't like it: some before it and it
+    itself must be, and at the beginning of a row the next one too."""
     row = reading.cut(slip.typed)
     refused = number_at(row, (1, slip.offset + 1))
-    if refused is None or not all(alike(row, refused + by, tokens, number + by) for by in (-2, -1, 0)):
+    if refused is None:
+        return 0
+    if not all(alike(row, refused - by, tokens, number - by) for by in range(wanted_before(row, refused) + 1)):
         return 0
     next_too = alike(row, refused + 1, tokens, number + 1)
     if refused == 0:
