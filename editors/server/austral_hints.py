@@ -168,7 +168,7 @@ class Hints:
         function = self.function()
         for one, _, (begin, end) in reading.variables_of(function) if function else ():
             if one.text == name and not begin < self.at < end:
-                return [f"Line {begin[0]} declares `{name}`, which is known up to line {end[0]}."]
+                return [f"Line {begin[0]} declares `{name}`, which is known from there to line {end[0]}."]
         return []
 
     def declared_again(self):
@@ -259,8 +259,8 @@ class Hints:
                 key=lambda it: -len(names & {one.name.text for one in it.parameters}))
         return self.compared(labels, records[0], "fields") if records else []
 
-    def records_of(self, expression):
-        """The record that an expression is, where that is written: a variable's type, or what is called."""
+    def type_name(self, expression):
+        """The name of an expression's type, where that is written: a variable's type, or what is called."""
         written, function = "", self.function()
         if expression.kind == "name" and function:
             name = expression.name.text
@@ -269,8 +269,10 @@ class Hints:
             called = self.sources.meanings(self.part, expression.name.text, "function", "record")
             written = next((it.declaration.result if it.declaration.kind == "function" else expression.name.text
                 for it in called), "")
-        name = written.partition("[")[0]
-        return [it.declaration for it in self.sources.meanings(self.part, name, "record")]
+        return re.sub(r"^&!?\[", "", written).partition("[")[0].partition(",")[0]
+
+    def records_of(self, expression):
+        return [it.declaration for it in self.sources.meanings(self.part, self.type_name(expression), "record")]
 
     def arms(self):
         statement = self.statement()
@@ -278,11 +280,15 @@ class Hints:
             return []
         names = [it.name.text for it in statement.arms]
         owners = [it.owner for name in names for it in self.sources.meanings(self.part, name, "case")]
-        if not owners:
+        written = self.sources.meanings(self.part, self.type_name(statement.expressions[0]), "union")
+        if not owners and not written:
             return []
-        union = max(owners, key=owners.count)
+        union = written[0].declaration if written else max(owners, key=owners.count)
         cases = [it.name.text for it in union.members]
-        return [f"`{union.name.text}` has the cases {ticked(cases)}: {'; '.join(differences(names, cases))}."]
+        wrong = differences(names, cases)
+        if not wrong:
+            return [f"The arms are the cases of `{union.name.text}`, and the value is of another type."]
+        return [f"`{union.name.text}` has the cases {ticked(cases)}: {'; '.join(wrong)}."]
 
     # Declarations
 
@@ -327,15 +333,14 @@ class Hints:
         return ["The path:", *(f"- line {line}: {says}" for line, says in lines)]
 
     def in_a_loop(self):
-        return self.consumed_in(lambda it: it.kind in ("while", "for"), "the loop from line {} to line {}")
-
-    def consumed_in(self, holds, says):
+        """Where the variable is declared, and the loop in which it is consumed."""
         function, name = self.function(), self.values["x"]
-        scope = next((it for it in paths.scopes_of(function) if it.name.text == name), None) if function else None
-        loops = [it for it in reading.statements_of(function.block) if holds(it) and it.at <= self.at < it.end
-            and it.at > scope.name.at] if scope else []
-        return [f"Line {scope.name.at[0]} declares `{name}`, outside of {says.format(loops[0].at[0], loops[0].end[0])}."
-            ] if loops else []
+        known = reading.variables_of(function) if function else ()
+        declared = next((one.at for one, _, (begin, end) in known if one.text == name and begin < self.at <= end), None)
+        loops = [it for it in reading.statements_of(function.block) if it.kind in ("while", "for")
+            and declared < it.at <= self.at < it.end] if declared else []
+        return [f"Line {declared[0]} declares `{name}`, outside of the loop from line {loops[0].at[0]} to line "
+            f"{loops[0].end[0]}."] if loops else []
 
 
 def is_called(meaning):
