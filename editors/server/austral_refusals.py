@@ -112,8 +112,10 @@ def capital(text):
 
 
 def short_form(section):
-    """What is told of a section: what the line says, and what to do."""
-    return [it for it in (section.says, f"What to do: {section.do}") if it]
+    """What is told of a section: what the line says, and what to do, without what is said of the page's program
+    (`Here ..`)."""
+    do = re.sub(r"(?<![^ ])Here (?:`[^`]*`|[^.`])*\.(?: |$)", "", section.do).strip()
+    return [it for it in (section.says, f"What to do: {do}") if it]
 
 
 def wrapped(text, indent="  "):

@@ -8,8 +8,8 @@ and output, and asks `check` and `explain` what is so.
 - A line is indented anew where one types a newline or the last letter of `end`, `else`, `when` or `case`.
 
 A program is the open file, the other part of its module, and the modules that it imports, from the files of the
-language in its folder, in the client's, and one folder deeper. Which compiler is called: the client's option
-`program`, the variable AUSTRAL_PROGRAM, the one that this clone has built, or `austral` on the path."""
+language in its folder and in the client's, one folder deeper and one higher. Which compiler is called: the client's
+option `program`, the variable AUSTRAL_PROGRAM, the one that this clone has built, or `austral` on the path."""
 import dataclasses
 import json
 import os

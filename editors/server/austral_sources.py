@@ -55,10 +55,11 @@ def meanings_in(part):
 
 
 def nearby(paths):
-    """The files of the language beside files and in the current folder, and one folder deeper; without those files."""
+    """The files of the language beside files and in the current folder, one folder deeper and one higher; without
+    those files."""
     folders = {os.path.dirname(os.path.abspath(it)) for it in paths} | {os.getcwd()}
-    patterns = [f"{glob.escape(folder)}/{deep}*.au[im]" for folder in folders for deep in ("", "*/")]
-    found = {it for pattern in patterns for it in glob.glob(pattern)}
+    patterns = [f"{glob.escape(folder)}/{way}*.au[im]" for folder in folders for way in ("", "*/", "../")]
+    found = {os.path.normpath(it) for pattern in patterns for it in glob.glob(pattern)}
     return sorted(found - {os.path.abspath(it) for it in paths}, key=lambda it: (it.count("/"), it))
 
 
