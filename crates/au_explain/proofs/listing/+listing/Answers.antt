@@ -202,8 +202,9 @@ push_inside-returns-in-Borrow-clause-put t c =
 pub push_inside-returns-in-Borrow-clause-kept : goal.push_inside-returns-in-Borrow-clause-kept
 push_inside-returns-in-Borrow-clause-kept t c = c.push_borrow.ensures.kept
 
-pub push_inside-returns-in-BorrowTyped-clause-put : goal.push_inside-returns-in-BorrowTyped-clause-put
-push_inside-returns-in-BorrowTyped-clause-put t c =
+pub push_inside-returns-in_ok-found-in-BorrowTyped-clause-put :
+    goal.push_inside-returns-in_ok-found-in-BorrowTyped-clause-put
+push_inside-returns-in_ok-found-in-BorrowTyped-clause-put t c =
     puts.put_as c.push_typed.result c.args.made.now.items c.push_typed.new.made.items _ _
     (says_so (scope_said c.args.scope.now) (statement_said c.args.stmt.now) _
     (ap (statement parsed) c.in-BorrowTyped.is ∙ borrow_typed_says parsed _ _ _ _ _ _ _)
@@ -211,8 +212,9 @@ push_inside-returns-in-BorrowTyped-clause-put t c =
     (block_said c.in-BorrowTyped.block)) (sym c.in_ok-found-in-BorrowTyped.ensures))
     c.push_typed.ensures.put
 
-pub push_inside-returns-in-BorrowTyped-clause-kept : goal.push_inside-returns-in-BorrowTyped-clause-kept
-push_inside-returns-in-BorrowTyped-clause-kept t c = c.push_typed.ensures.kept
+pub push_inside-returns-in_ok-found-in-BorrowTyped-clause-kept :
+    goal.push_inside-returns-in_ok-found-in-BorrowTyped-clause-kept
+push_inside-returns-in_ok-found-in-BorrowTyped-clause-kept t c = c.push_typed.ensures.kept
 
 pub push_inside-returns-in_ok-push_branches-in-IfElse-clause-put :
     goal.push_inside-returns-in_ok-push_branches-in-IfElse-clause-put
