@@ -3,7 +3,8 @@ use Rattle.std.proofs.Common.{◌≡◌, ℕ, Bool, List, Some, None, ap, ◌∙
 use Rattle.std.specs.Global.{Global}
 use Rattle.std.specs.declared.boxed.Box.{Box}
 use Rattle.au_effects.specs.Numbers.{truth_in, text_in}
-use Rattle.au_effects.specs.Calls.{reference_in, root_in, box_in, buffer_in, terminal_in}
+use Rattle.au_effects.specs.Calls.{root_in, box_in, buffer_in, terminal_in}
+use Rattle.au_effects.specs.References.{reference_in}
 use Rattle.au_effects.proofs.PartLemmas.{listed_fields}
 use Rattle.au_cells.specs.declared.cells.Borrowed.{Borrowed}
 use Rattle.au_cells.specs.declared.cells.Parts.{Parts}

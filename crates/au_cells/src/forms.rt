@@ -4,7 +4,8 @@ ghost use Rattle.std.specs.Prelude.{◌≡◌, IfOk};
 ghost use Rattle.std.specs.Option.{option_map, option_copied};
 ghost use Rattle.au_effects.specs.Values.{made, reference, fields_of, optional};
 ghost use Rattle.au_effects.specs.Numbers.{truth_in, text_in};
-ghost use Rattle.au_effects.specs.Calls.{reference_in, root_in, box_in, buffer_in, terminal_in};
+ghost use Rattle.au_effects.specs.Calls.{root_in, box_in, buffer_in, terminal_in};
+ghost use Rattle.au_effects.specs.References.{reference_in};
 ghost use Rattle.au_cells.specs.Cells.{low, lows, place_of, lent, taken_apart, apart_of};
 
 use crate::cells::{Borrowed, Cell, Parts};

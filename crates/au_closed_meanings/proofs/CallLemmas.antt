@@ -164,6 +164,7 @@ module _ (program : List ModuleParts) (noted : List NotedParts) (all : List Inst
       mentions = λ note name. refl;
       fields = λ of c tag. sym (says.fields home of c tag);
       inside = counts.inside;
+      references = counts.references;
       tags = λ of c name. sym (says.tags home of c (case_name program place name));
     }
 

@@ -1,14 +1,19 @@
 -- The types that count: those of variables in scope, of fields, and of parts of records.
-use Rattle.std.proofs.Common.{◌≡◌, ℕ, ◌+◌, Bool, true, false, List, [], ◌∷◌, Option, Some, None, refl, ap, ◌∙◌}
+use Rattle.std.proofs.Common.{◌≡◌, ℕ, ◌+◌, Bool, true, false, List, [], ◌∷◌, Option, Some, None, refl, sym}
+use Rattle.std.proofs.Common.{ap, ◌∙◌}
 use Rattle.std.specs.Prelude.{cond, if◌then◌else◌, option_map}
 use Rattle.std.specs.Str.{bytes_eq}
 use Rattle.au_closed_trees.specs.Changes.{Change}
+use Rattle.au_type_texts.specs.Types as types
 use Rattle.au_type_texts.specs.Types.{ClosedType}
 use Rattle.au_effects.specs.Parts.{along}
 use Rattle.au_meaning.specs.Names.{Scope, Variable, variable_of, with_name, with_bound, with_parameters}
-use Rattle.au_meaning.specs.Names.{bound_name, path_numbers, field_from, field_of}
+use Rattle.au_meaning.specs.Names.{bound_name, path_numbers, field_from, field_of, target_behind, borrowed}
+use Rattle.au_meaning.specs.Names.{type_in}
 use Rattle.au_meaning.specs.Views.{Field, View}
 use Rattle.au_closed_meanings.specs.Agreement.{AgreeOnTypes, Counts, FieldsCount, FoundCount, ScopeCounts}
+use Rattle.au_syntax.specs.declared.expressions.BorrowMode.{BorrowMode}
+use Rattle.au_syntax.specs.declared.expressions.BorrowMode.TheVariants as mode
 use Rattle.au_syntax.specs.Plain.{Bytes}
 use Rattle.au_syntax.specs.Types.{Bound}
 
@@ -124,3 +129,23 @@ module _ {I J T C U D : Type 0} (known : ClosedType → Bool) (change : Change B
       steps_same name names (λ t there. paths_same names (Some t) there) (one.fields of 0)
       (agree.inside of c 0)
       ∙ ap (λ fields. along (along fields (field_of name)) (stepped two names)) (agree.fields of c 0)
+
+  -- what stands behind a reference, and the reference that a borrow gives
+  pub behind_counts : (o : Option ClosedType) → Counts known o → Counts known (target_behind o)
+  behind_counts None c = tt
+  behind_counts (Some (types.reads of)) c = sym (agree.references.reads of) ∙ c
+  behind_counts (Some (types.writes of)) c = sym (agree.references.writes of) ∙ c
+  behind_counts (Some other) c = tt
+
+  borrowed_counts : (mode : BorrowMode) (o : Option ClosedType) → Counts known o
+      → Counts known (borrowed mode o)
+  borrowed_counts mode.Read None c = tt
+  borrowed_counts mode.Read (Some of) c = agree.references.reads of ∙ c
+  borrowed_counts mode.Write None c = tt
+  borrowed_counts mode.Write (Some of) c = agree.references.writes of ∙ c
+  borrowed_counts mode.Reborrow o c = c
+
+  pub reference_counts : (mode : BorrowMode) (x : Option Variable) → VariableCounts known x
+      → Counts known (borrowed mode (type_in x))
+  reference_counts mode None c = borrowed_counts mode None tt
+  reference_counts mode (Some x) c = borrowed_counts mode x.of c

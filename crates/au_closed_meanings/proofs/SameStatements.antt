@@ -6,13 +6,14 @@ use Rattle.au_closed_trees.specs.Renoted.{branches_renoted, arms_renoted}
 use Rattle.au_type_texts.specs.Types.{ClosedType}
 use Rattle.au_effects.specs.Parts.{along}
 use Rattle.au_effects.specs.Values as values
-use Rattle.au_meaning.specs.Acts.{holds, sets, apart}
-use Rattle.au_meaning.specs.Expressions.{note_of, names_of, chosen, eval}
+use Rattle.au_meaning.specs.Acts.{holds, sets, puts, apart}
+use Rattle.au_meaning.specs.Expressions.{note_of, names_of, chosen, whole}
 use Rattle.au_meaning.specs.Names.{Scope, Variable, variable_of, with_name, with_bound, names_in}
-use Rattle.au_meaning.specs.Names.{names_in_block, names_in_tests, names_in_arms}
+use Rattle.au_meaning.specs.Names.{names_in_block, names_in_tests, names_in_arms, mode_of, with_reference}
 use Rattle.au_meaning.specs.Statements.{Flow, falls, returns, and_then, within, while_turns, ranges, either}
-use Rattle.au_meaning.specs.Statements.{is_tag, binds_fields, fields_noted, means_case, after, assigns}
-use Rattle.au_meaning.specs.Statements.{takes_apart, run, run_all, run_tests, run_arms}
+use Rattle.au_meaning.specs.Statements.{is_tag, lending, binds_borrow, binds_fields, fields_noted, means_case}
+use Rattle.au_meaning.specs.Statements.{after, assigns, assigns_behind, takes_apart, run, run_all, run_tests}
+use Rattle.au_meaning.specs.Statements.{run_arms}
 use Rattle.au_meaning.specs.Ticks.{Action, pure, tick, needing, where_true, ◌>>=◌, ◌>>◌}
 use Rattle.au_meaning.specs.Views.{View}
 use Rattle.au_meaning.specs.Worlds.{Value}
@@ -20,8 +21,8 @@ use Rattle.au_closed_meanings.specs.Agreement.{EachIn, EachOf, EachOfBlock, Each
 use Rattle.au_closed_meanings.specs.Agreement.{AgreeOnTypes, AgreeOnMention, AgreeOnCall, Counts, OneMeaning}
 use Rattle.au_closed_meanings.specs.Agreement.{ScopeCounts}
 use Rattle.au_closed_meanings.proofs.CountLemmas.{VariableCounts, bound_counts, fields_by, found_by}
-use Rattle.au_closed_meanings.proofs.CountLemmas.{paths_same, tags_by, variable_counts}
-use Rattle.au_closed_meanings.proofs.SameExpressions.{type_same, eval_same}
+use Rattle.au_closed_meanings.proofs.CountLemmas.{paths_same, tags_by, variable_counts, reference_counts}
+use Rattle.au_closed_meanings.proofs.SameExpressions.{type_same, reaches_seen, eval_same, whole_same}
 use Rattle.au_syntax.specs.Expressions.{Expression}
 use Rattle.au_syntax.specs.Plain.{Bytes}
 use Rattle.au_syntax.specs.Statements.{Statement, Statements, Branches, Arms, skip, declare, destructure}
@@ -101,6 +102,15 @@ module _ {I J T C U D : Type 0} (known : ClosedType → Bool) (change : Change B
       assigns_same (variable_of scope name) (variable_counts known scope h name) names value
       ∙ ap (λ z. assigns two (variable_of z name) names value) s
 
+  behind_seen : (scope scope2 : Scope) → ScopeCounts known scope → scope ≡ scope2 → (name : Bytes)
+      → (names : List Bytes) (value : Value)
+      → assigns_behind one (variable_of scope name) names value
+      ≡ assigns_behind two (variable_of scope2 name) names value
+  behind_seen scope scope2 h s name names value = λ i. do
+    it ← reaches_seen known change one two agree scope scope2 h s name names i
+    puts it value
+    pure falls
+
   takes_same : {number number2 : ℕ} (e : Expression Bytes T C) → NoteCounts (note_of e) → number ≡ number2
       → (binds : List (Bound Bytes)) (value : Value)
       → takes_apart one number binds (note_of e) value
@@ -117,8 +127,8 @@ module _ {I J T C U D : Type 0} (known : ClosedType → Bool) (change : Change B
     value_same : {scope scope2 : Scope} (e : Expression Bytes T C)
         → EachIn (AgreeOnMention known change one two)
         (AgreeOnCall known change one two invoke other) e → ScopeCounts known scope → scope ≡ scope2
-        → eval one invoke scope e ≡ eval two other scope2 (expression_renoted change e)
-    value_same e ok h s = eval_same known change one two agree invoke other e ok h s
+        → whole one invoke scope e ≡ whole two other scope2 (expression_renoted change e)
+    value_same e ok h s = whole_same known change one two agree invoke other e ok h s
 
     after_same : {number number2 : ℕ} {scope scope2 : Scope} (s : Statement Bytes T C)
         → EachOf NoteCounts (AgreeOnMention known change one two)
@@ -159,7 +169,10 @@ module _ {I J T C U D : Type 0} (known : ClosedType → Bool) (change : Change B
           λ i. do
             value ← value_same e ok h s i
             tick (assigns_seen _ _ h s x.name (names_of fields) value i)
-      run_same (assign_through at r fields e) ok p h s = refl
+      run_same (assign_through at r fields e) ok p h s =
+          λ i. do
+            value ← value_same e ok h s i
+            tick (behind_seen _ _ h s r.name (names_of fields) value i)
       run_same (conditional at tests) ok p h s = tests_same tests ok p h s refl
       run_same (conditional_else at tests block) ok p h s =
           tests_same tests ok.0 p h s (λ i.
@@ -180,15 +193,27 @@ module _ {I J T C U D : Type 0} (known : ClosedType → Bool) (change : Change B
             tick (ranges (suc depth) (λ kind z. within (p i) (1 + names_same_block change block i)
                 (holds (p i) (values.number kind z) >> all_same block ok.3 (λ j. p j + 1) (ok.0, h)
                 (λ j. with_name name.name (p j) (type_same known change one two agree first j) (s j)) i)) a b)
-      run_same (borrow_in at access x r region block stop) ok p h s = refl
-      run_same (borrow_typed at r t mode x block stop) ok p h s = refl
+      run_same {scope = scope} (borrow_in at access x r region block stop) ok p h s =
+          let counts = reference_counts known change one two agree (mode_of access) (variable_of scope x.name)
+              (variable_counts known scope h x.name) in
+          λ i. lending (binds_borrow (p i) (mode_of access) (variable_of (s i) x.name))
+          (within (p i) (1 + names_same_block change block i)
+          (all_same block ok (λ j. p j + 1) (counts, h)
+          (λ j. with_reference (mode_of access) (variable_of (s j) x.name) (p j) r.name (s j)) i))
+      run_same {scope = scope} (borrow_typed at r t mode x block stop) ok p h s =
+          let counts = reference_counts known change one two agree mode (variable_of scope x.name)
+              (variable_counts known scope h x.name) in
+          λ i. lending (binds_borrow (p i) mode (variable_of (s i) x.name))
+          (within (p i) (1 + names_same_block change block i)
+          (all_same block ok (λ j. p j + 1) (counts, h)
+          (λ j. with_reference mode (variable_of (s j) x.name) (p j) r.name (s j)) i))
       run_same (discard at e) ok p h s =
           λ i. do
             value ← value_same e ok h s i
             tick (pure falls)
       run_same (return_of at e) ok p h s =
           λ i. do
-            value ← value_same e ok h s i
+            value ← eval_same known change one two agree invoke other e ok h s i
             tick (pure (returns value))
 
       pub all_same : {number number2 : ℕ} {scope scope2 : Scope} (block : Statements Bytes T C)

@@ -141,6 +141,8 @@ pub record BorrowsAreShown : Type 0 where
   pub again : stack_after 4 (program (bound ++ Again 1 ∷ []) []) ≡ Some (reference 1 (slot_place 0 []) ∷ [])
   pub part : stack_after 4 (program (bound ++ Part 1 (3 ∷ 4 ∷ []) ∷ []) [])
       ≡ Some (reference 0 (slot_place 0 (3 ∷ 4 ∷ [])) ∷ [])
+  pub part_of_part : stack_after 6 (program (bound ++ Part 1 (3 ∷ []) ∷ Store 2 ∷ Part 2 (4 ∷ []) ∷ []) [])
+      ≡ Some (reference 0 (slot_place 0 (3 ∷ 4 ∷ [])) ∷ [])
   pub bind_again : slots_after 4 (program (bound ++ Bind 1 2 mode.Again ∷ []) [])
       ≡ Some (Some (byte 5) ∷ Some (reference 0 (slot_place 0 [])) ∷ Some (reference 1 (slot_place 0 []))
       ∷ [])

@@ -17,7 +17,8 @@ use Rattle.au_syntax.specs.Statements.{no_statements, statements, no_branches, b
 use Rattle.au_lowered.specs.Drafts.{plain, Written, nothing, branch}
 use Rattle.au_lowered.specs.Laws.{Fits, LabelsBefore, Tidy, BlockTidy, TestsTidy, ArmsTidy, BodiesKeepLabels}
 use Rattle.au_lowered.specs.Programs.{body_of}
-use Rattle.au_lowered.specs.Slots.{mode_of, tag_in}
+use Rattle.au_lowered.specs.Slots.{tag_in}
+use Rattle.au_meaning.specs.Names.{mode_of}
 use Rattle.au_lowered.specs.Statements.{ArmsWritten, arm_then, lends, is_last, statement, block, tests_of, arms_of}
 use Rattle.au_lowered.proofs.FitLemmas.{fits_both, fits_last, fits_one, fits_given, fits_returning, ArmsFit}
 use Rattle.au_lowered.proofs.FitLemmas.{arms_end, arms_returning, fits_cases}

@@ -1,53 +1,19 @@
 -- The slots of a function: which variable has which, and how many are in use. Parameters have slots from 0,
 -- each later variable has the next one that is free, and a slot is free again where the block of its variable
 -- ends. The number of a variable in a scope is here the number of its slot.
-use Rattle.std.specs.Prelude.{ℕ, ◌+◌, max, List, [], ◌∷◌, length, Option, Some, None, option_map}
-use Rattle.au_type_texts.specs.Types as types
+use Rattle.std.specs.Prelude.{ℕ, ◌+◌, max, List, [], ◌∷◌, length, Option, Some, None}
 use Rattle.au_type_texts.specs.Types.{ClosedType}
 use Rattle.au_effects.specs.Parts.{along}
 use Rattle.au_meaning.specs.Expressions.{note_of}
-use Rattle.au_meaning.specs.Names.{Scope, Variable, with_name, bound_name, field_of}
+use Rattle.au_meaning.specs.Names.{Scope, with_name, bound_name, field_of}
 use Rattle.au_meaning.specs.Statements.{fields_noted}
 use Rattle.au_meaning.specs.Views.{Field, View}
-use Rattle.au_syntax.specs.declared.expressions.BorrowMode.{BorrowMode}
-use Rattle.au_syntax.specs.declared.expressions.BorrowMode.TheVariants as borrow
-use Rattle.au_syntax.specs.declared.types.Access.{Access}
-use Rattle.au_syntax.specs.declared.types.Access.TheVariants as access
 use Rattle.au_syntax.specs.Plain.{Bytes}
 use Rattle.au_syntax.specs.Statements.{Statement, Statements, Branches, Arms, skip, declare, destructure}
 use Rattle.au_syntax.specs.Statements.{assign, assign_through, conditional, conditional_else, case_of}
 use Rattle.au_syntax.specs.Statements.{while_loop, for_loop, borrow_in, borrow_typed, discard, return_of}
 use Rattle.au_syntax.specs.Statements.{no_statements, statements, no_branches, branches, no_arms, arms}
 use Rattle.au_syntax.specs.Types.{Bound}
-
--- ---- references
-
--- what a reference refers to
-abbrev pub target_behind : Option ClosedType → Option ClosedType
-target_behind (Some (types.reads t)) = Some t
-target_behind (Some (types.writes t)) = Some t
-target_behind other = None
-
--- the type of the reference that a borrow of a variable of a type gives: one that is borrowed again is of the
--- type of the reference that the variable holds
-abbrev pub borrowed : BorrowMode → Option ClosedType → Option ClosedType
-borrowed borrow.Read t = option_map (λ (of : ClosedType). types.reads of) t
-borrowed borrow.Write t = option_map (λ (of : ClosedType). types.writes of) t
-borrowed borrow.Reborrow t = t
-
--- how `borrow` and `borrow!` borrow
-abbrev pub mode_of : Access → BorrowMode
-mode_of access.Read = borrow.Read
-mode_of access.Write = borrow.Write
-
--- the type of a variable
-abbrev pub type_in : Option Variable → Option ClosedType
-type_in None = None
-type_in (Some x) = x.of
-
--- a scope with the reference that a borrow of a variable gives
-abbrev pub with_reference : BorrowMode → Option Variable → ℕ → Bytes → Scope → Scope
-with_reference mode variable slot name scope = with_name name slot (borrowed mode (type_in variable)) scope
 
 -- ---- fields that are taken
 

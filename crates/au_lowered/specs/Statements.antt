@@ -7,7 +7,7 @@ use Rattle.au_low.specs.declared.instructions.Instr.TheVariants as instr
 use Rattle.au_low.specs.declared.instructions.Mode.{Mode}
 use Rattle.au_low.specs.declared.instructions.Mode.TheVariants as mode
 use Rattle.au_meaning.specs.Expressions.{note_of, names_of}
-use Rattle.au_meaning.specs.Names.{Scope, Variable, variable_of, with_name}
+use Rattle.au_meaning.specs.Names.{Scope, Variable, variable_of, with_name, mode_of, with_reference}
 use Rattle.au_meaning.specs.Statements.{is_tag}
 use Rattle.au_meaning.specs.Views.{View}
 use Rattle.au_syntax.specs.declared.expressions.BorrowMode.{BorrowMode}
@@ -20,7 +20,7 @@ use Rattle.au_syntax.specs.Statements.{no_statements, statements, no_branches, b
 use Rattle.au_lowered.specs.Drafts.{Draft, plain, Written, ◌>>◌, nothing, does, given, unless, count_unless}
 use Rattle.au_lowered.specs.Drafts.{branch, loop}
 use Rattle.au_lowered.specs.Expressions.{code, whole, part_of, part_behind}
-use Rattle.au_lowered.specs.Slots.{mode_of, with_reference, with_fields, fields_of_case, tag_in, kept, after}
+use Rattle.au_lowered.specs.Slots.{with_fields, fields_of_case, tag_in, kept, after}
 
 -- ---- pieces
 

@@ -6,7 +6,7 @@ use Rattle.au_type_texts.specs.declared.types.Closed as closed_type
 use Rattle.au_type_texts.specs.Types.{reads, writes}
 use Rattle.au_type_texts.specs.Views.{closed_meaning}
 use Rattle.au_type_texts.proofs.ClosedLemmas.{reads_means, writes_means}
-use Rattle.au_lowered.specs.Slots.{borrowed}
+use Rattle.au_meaning.specs.Names.{borrowed}
 use Rattle.au_syntax.specs.declared.expressions.BorrowMode.{BorrowMode}
 use Rattle.au_syntax.specs.declared.expressions.BorrowMode.TheVariants as borrow
 

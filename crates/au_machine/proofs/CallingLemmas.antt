@@ -6,7 +6,8 @@ use Rattle.au_base.specs.declared.kinds.IntKind.{IntKind}
 use Rattle.au_ints.specs.declared.operations.WrapOp.{WrapOp}
 use Rattle.au_shipped.specs.declared.prims.ShippedCall.{ShippedCall}
 use Rattle.au_shipped.specs.declared.prims.ShippedCall.TheVariants as prim
-use Rattle.au_effects.specs.Calls.{arity, shipped, given, acquire_terminal, reference_in, root_in}
+use Rattle.au_effects.specs.Calls.{arity, shipped, given, acquire_terminal, root_in}
+use Rattle.au_effects.specs.References.{reference_in}
 use Rattle.au_low.specs.Machines.{Low, LowWorld, Machine, stuck}
 use Rattle.au_low.specs.Instructions.{answered}
 

@@ -6,6 +6,7 @@ use Rattle.au_base.specs.declared.kinds.IntKind.{IntKind}
 use Rattle.au_effects.specs.Numbers.{number_in, same_kind}
 use Rattle.au_effects.specs.Parts.{along}
 use Rattle.au_effects.specs.Values as values
+use Rattle.au_syntax.specs.declared.expressions.BorrowMode.{BorrowMode}
 use Rattle.au_syntax.specs.Expressions.{Expression}
 use Rattle.au_syntax.specs.Plain.{Bytes}
 use Rattle.au_syntax.specs.Statements.{Statement, Statements, Branches, Arms, skip, declare, destructure}
@@ -13,10 +14,11 @@ use Rattle.au_syntax.specs.Statements.{assign, assign_through, conditional, cond
 use Rattle.au_syntax.specs.Statements.{while_loop, for_loop, borrow_in, borrow_typed, discard, return_of}
 use Rattle.au_syntax.specs.Statements.{no_statements, statements, no_branches, branches, no_arms, arms}
 use Rattle.au_syntax.specs.Types.{Bound}
-use Rattle.au_meaning.specs.Acts.{holds, with_values, sets, emptied, apart, bound_counted}
-use Rattle.au_meaning.specs.Expressions.{names_of, note_of, chosen, eval}
+use Rattle.au_meaning.specs.Acts.{holds, with_values, sets, emptied, puts, lends, counts_open, closed_to}
+use Rattle.au_meaning.specs.Acts.{apart, bound_counted}
+use Rattle.au_meaning.specs.Expressions.{names_of, note_of, chosen, reaches, eval, whole}
 use Rattle.au_meaning.specs.Names.{Scope, Variable, variable_of, with_name, with_bound, path_numbers}
-use Rattle.au_meaning.specs.Names.{names_in, names_in_block, names_in_tests}
+use Rattle.au_meaning.specs.Names.{names_in, names_in_block, names_in_tests, mode_of, with_reference}
 use Rattle.au_meaning.specs.Ticks.{Action, pure, stuck, over, tick, needing, where_true, does, ◌>>=◌, ◌>>◌}
 use Rattle.au_meaning.specs.Views.{Field, View}
 use Rattle.au_meaning.specs.Worlds.{Value}
@@ -33,14 +35,13 @@ abbrev pub and_then : Action Flow → Flow → Action Flow
 and_then next falls = next
 and_then next (returns value) = pure (returns value)
 
--- at the end of a block its names, so many from one on, are emptied
-abbrev pub leaves : ℕ → ℕ → Flow → Action Flow
-leaves name count flow = do
-  does (emptied name count)
-  pure flow
+-- At the end of a block its names, so many from one on, are emptied. Where it returns a value, they go with
+-- those of the frame.
+abbrev pub empties : ℕ → ℕ → Action Flow
+empties name count = does (emptied name count) >> pure falls
 
 abbrev pub within : ℕ → ℕ → Action Flow → Action Flow
-within name count block = block >>= leaves name count
+within name count block = block >>= and_then (empties name count)
 
 -- ---- loops
 
@@ -69,6 +70,21 @@ abbrev pub ranges : ℕ → (IntKind → ℤ → Action Flow) → Value → Valu
 ranges turns body a b =
     both_numbers (number_in a) (number_in b) (λ kind first last.
     if int_lt last first then pure falls else for_turns turns (body kind) first last)
+
+-- ---- borrows
+
+-- A borrow statement: its borrow is opened with one tick, and closed with another behind the block. Where
+-- this returns a value, it is closed with those of the frame.
+abbrev pub lending : Action (Unit {0}) → Action Flow → Action Flow
+lending opening block = do
+  count ← counts_open
+  tick opening
+  block >>= and_then (tick (does (closed_to count) >> pure falls))
+
+-- a name holds the reference of a borrow of a variable
+abbrev pub binds_borrow : ℕ → BorrowMode → Option Variable → Action (Unit {0})
+binds_borrow name mode None = stuck
+binds_borrow name mode (Some x) = lends mode x.number >>= holds name
 
 -- ---- cases
 
@@ -116,6 +132,13 @@ module _ {I T C : Type 0} (see : View I T C) where
       needing (path_numbers (λ of. see.fields of 0) x.of names) (λ path.
       sets x.number path value >> pure falls)
 
+  -- the end of a path behind the reference in a variable becomes a value
+  abbrev pub assigns_behind : Option Variable → List Bytes → Value → Action Flow
+  assigns_behind variable names value = do
+    one ← reaches see variable names
+    puts one value
+    pure falls
+
   -- a record is taken apart, and names from one on hold its fields
   abbrev pub takes_apart : ℕ → List (Bound Bytes) → T → Value → Action Flow
   takes_apart number binds note value = do
@@ -132,35 +155,45 @@ module _ {I T C : Type 0} (see : View I T C) (invoke : I → List Value → Acti
     pub run : ℕ → Scope → Statement Bytes T C → Action Flow
     run number scope (skip at) = pure falls
     run number scope (declare at binding name t e) = do
-      value ← eval see invoke scope e
+      value ← whole see invoke scope e
       tick (holds number value >> pure falls)
     run number scope (destructure at binds e) = do
-      value ← eval see invoke scope e
+      value ← whole see invoke scope e
       tick (takes_apart see number binds (note_of e) value)
     run number scope (assign at x path e) = do
-      value ← eval see invoke scope e
+      value ← whole see invoke scope e
       tick (assigns see (variable_of scope x.name) (names_of path) value)
-    run number scope (assign_through at r path e) = stuck
+    run number scope (assign_through at r path e) = do
+      value ← whole see invoke scope e
+      tick (assigns_behind see (variable_of scope r.name) (names_of path) value)
     run number scope (conditional at tests) = run_tests number scope tests (pure falls)
     run number scope (conditional_else at tests block) =
         run_tests number scope tests
         (let other = number + names_in_tests tests in emptying see other block (run_all other scope block))
     run number scope (case_of at e all) = do
-      value ← eval see invoke scope e
+      value ← whole see invoke scope e
       tick (apart value >>= run_arms number scope (note_of e) all)
     run number scope (while_loop at e block) =
-        while_turns (suc depth) (eval see invoke scope e)
+        while_turns (suc depth) (whole see invoke scope e)
         (emptying see number block (run_all number scope block))
     run number scope (for_loop at name first last block) = do
-      a ← eval see invoke scope first
-      b ← eval see invoke scope last
+      a ← whole see invoke scope first
+      b ← whole see invoke scope last
       tick (ranges (suc depth) (λ kind z. within number (1 + names_in_block block) (
           holds number (values.number kind z)
           >> run_all (number + 1) (with_counter see number name.name first scope) block)) a b)
-    run number scope (borrow_in at access x r region block stop) = stuck
-    run number scope (borrow_typed at r t mode x block stop) = stuck
+    run number scope (borrow_in at access x r region block stop) =
+        let variable = variable_of scope x.name in
+        lending (binds_borrow number (mode_of access) variable)
+        (within number (1 + names_in_block block)
+        (run_all (number + 1) (with_reference (mode_of access) variable number r.name scope) block))
+    run number scope (borrow_typed at r t mode x block stop) =
+        let variable = variable_of scope x.name in
+        lending (binds_borrow number mode variable)
+        (within number (1 + names_in_block block)
+        (run_all (number + 1) (with_reference mode variable number r.name scope) block))
     run number scope (discard at e) = do
-      value ← eval see invoke scope e
+      value ← whole see invoke scope e
       tick (pure falls)
     run number scope (return_of at e) = do
       value ← eval see invoke scope e
@@ -176,7 +209,7 @@ module _ {I T C : Type 0} (see : View I T C) (invoke : I → List Value → Acti
     pub run_tests : ℕ → Scope → Branches Bytes T C → Action Flow → Action Flow
     run_tests number scope no_branches other = other
     run_tests number scope (branches e block rest) other = do
-      value ← eval see invoke scope e
+      value ← whole see invoke scope e
       tick (chosen (emptying see number block (run_all number scope block))
           (run_tests (number + names_in_block block) scope rest other) value)
 

@@ -14,7 +14,8 @@ use Rattle.au_lowered.specs.Expressions.{code, code_of_all, code_of_named, opens
 use Rattle.au_lowered.specs.Expressions.{part_behind}
 use Rattle.au_lowered.specs.Programs.{body_of, bodies, texts_named, types_named, entry_types, takes_root}
 use Rattle.au_lowered.specs.Programs.{texts_in, types_in, numbered, function_code, lowered}
-use Rattle.au_lowered.specs.Slots.{mode_of, with_reference, with_fields, fields_of_case, tag_in, kept, after}
+use Rattle.au_lowered.specs.Slots.{with_fields, fields_of_case, tag_in, kept, after}
+use Rattle.au_meaning.specs.Names.{mode_of, with_reference}
 use Rattle.au_lowered.specs.Slots.{room, room_of_block, room_of_tests, room_of_arms}
 use Rattle.au_lowered.specs.Statements.{arm_then, cases, is_last, lends, turns, statement, block, tests_of, arms_of}
 use Rattle.au_meaning.specs.Expressions.{Operation, computes, compares, is_and, is_or, operation_of, note_of}

@@ -141,7 +141,7 @@ module _ {T C : Type 0} (see : View ℕ T C) (mentioned : T → Bytes → Type 0
     each (call n f args c) ok = (claim n.note c f.name ok.0, each_all args ok.1)
     each (named_call n f args c) ok = (claim n.note c f.name ok.0, each_named args ok.1)
     each (parenthesized n e) ok = each e ok
-    each (dereference n e) ok = tt
+    each (dereference n e) ok = each e ok
     each (borrow n mode x) ok = tt
     each (borrow_part n r fields) ok = tt
     each (binary n op a b) ok = (each a ok.0, each b ok.1)
@@ -163,14 +163,14 @@ module _ {T C : Type 0} (see : View ℕ T C) (mentioned : T → Bytes → Type 0
     each_of (declare at b n t e) ok = (fine (note_of e), each e ok)
     each_of (destructure at binds e) ok = (fine (note_of e), each e ok)
     each_of (assign at n fields e) ok = each e ok
-    each_of (assign_through at n fields e) ok = tt
+    each_of (assign_through at n fields e) ok = each e ok
     each_of (conditional at tests) ok = each_test tests ok
     each_of (conditional_else at tests b) ok = (each_test tests ok.0, each_block b ok.1)
     each_of (case_of at e all) ok = (fine (note_of e), each e ok.0, each_arm all ok.1)
     each_of (while_loop at e b) ok = (each e ok.0, each_block b ok.1)
     each_of (for_loop at n a z b) ok = (fine (note_of a), each a ok.0, each z ok.1, each_block b ok.2)
-    each_of (borrow_in at access x r region b stop) ok = tt
-    each_of (borrow_typed at r t mode x b stop) ok = tt
+    each_of (borrow_in at access x r region b stop) ok = each_block b ok
+    each_of (borrow_typed at r t mode x b stop) ok = each_block b ok
     each_of (discard at e) ok = each e ok
     each_of (return_of at e) ok = each e ok
 
@@ -219,6 +219,7 @@ module _ {T C : Type 0} (see : View ℕ T C) where
       fields = λ of k tag. refl;
       inside = λ of k tag. found_counts (see.fields of tag);
       tags = λ of k name. refl;
+      references = record { reads = λ of. refl; writes = λ of. refl };
     }
 
     block_means : (depth next : ℕ) (scope : Scope) (b : Statements Bytes T C) → SuitsBlock see b

@@ -4,7 +4,7 @@ ghost use Rattle.std.specs.Prelude.{◌≡◌, ◌<◌, [], nat_lt, IsNone, IsFa
 ghost use Rattle.std.specs.Option.{option_map, option_copied};
 ghost use Rattle.au_effects.specs.Values.{content_of};
 ghost use Rattle.au_effects.specs.Places as effect;
-ghost use Rattle.au_low.specs.Instructions.{place_along};
+ghost use Rattle.au_effects.specs.References.{place_along};
 ghost use Rattle.au_cells.specs.Cells.{low, base_of, place_of};
 ghost use Rattle.au_stores.specs.Stores.{world_of, top_frame, slot_place, slot_count, put_through, came_out};
 ghost use Rattle.au_stores.specs.Stores.{done_in};

@@ -11,6 +11,7 @@ returns c = record {
   open_tells = refl;
   again = refl;
   part = refl;
+  part_of_part = refl;
   bind_again = refl;
   read = refl;
   read_tells = refl;
