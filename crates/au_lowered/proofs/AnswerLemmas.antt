@@ -1,7 +1,6 @@
 -- A shipped call tells more, and unsays nothing.
 use Rattle.std.proofs.Common.{ℕ, ◌-◌, Bool, true, false, if◌then◌else◌, List, [], ◌∷◌, ◌++◌, length, Option}
-use Rattle.std.proofs.Common.{Some, None, slice_get, set, refl, codes}
-use Rattle.std.proofs.Common.{pos}
+use Rattle.std.proofs.Common.{Some, None, slice_get, set, refl, codes, pos}
 use Rattle.au_shipped.specs.declared.prims.ShippedCall.{ShippedCall}
 use Rattle.au_shipped.specs.declared.prims.ShippedCall.TheVariants as prim
 use Rattle.au_effects.specs.Answers.{Answer, gives, writes, waits, aborts, none}

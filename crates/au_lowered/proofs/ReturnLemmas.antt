@@ -6,7 +6,7 @@ use Rattle.au_base.proofs.BoolLemmas.{first_holds}
 use Rattle.au_typing.specs.Returns.{returns, block_returns, branches_return, arms_return}
 use Rattle.au_low.specs.declared.instructions.Instr.TheVariants as instr
 use Rattle.au_meaning.specs.Expressions.{note_of}
-use Rattle.au_meaning.specs.Names.{Scope, Variable, variable_of, with_parameters}
+use Rattle.au_meaning.specs.Names.{Scope, Variable, variable_of, with_parameters, mode_of}
 use Rattle.au_meaning.specs.Views.{View}
 use Rattle.au_syntax.specs.declared.expressions.BorrowMode.{BorrowMode}
 use Rattle.au_syntax.specs.Plain.{Bytes}
@@ -18,7 +18,6 @@ use Rattle.au_lowered.specs.Drafts.{plain, Written, nothing, branch}
 use Rattle.au_lowered.specs.Laws.{Fits, LabelsBefore, Tidy, BlockTidy, TestsTidy, ArmsTidy, BodiesKeepLabels}
 use Rattle.au_lowered.specs.Programs.{body_of}
 use Rattle.au_lowered.specs.Slots.{tag_in}
-use Rattle.au_meaning.specs.Names.{mode_of}
 use Rattle.au_lowered.specs.Statements.{ArmsWritten, arm_then, lends, is_last, statement, block, tests_of, arms_of}
 use Rattle.au_lowered.proofs.FitLemmas.{fits_both, fits_last, fits_one, fits_given, fits_returning, ArmsFit}
 use Rattle.au_lowered.proofs.FitLemmas.{arms_end, arms_returning, fits_cases}

@@ -7,7 +7,7 @@ use Rattle.au_effects.specs.Values as values
 use Rattle.au_low.specs.declared.instructions.Instr.TheVariants as instr
 use Rattle.au_meaning.specs.Expressions.{Operation, computes, compares, is_and, is_or, operation_of, kind_in}
 use Rattle.au_meaning.specs.Expressions.{note_of, names_of, alone}
-use Rattle.au_meaning.specs.Names.{Scope, Variable, variable_of}
+use Rattle.au_meaning.specs.Names.{Scope, Variable, variable_of, mode_of}
 use Rattle.au_meaning.specs.Views.{View, Callee, Act, invokes, makes, ships}
 use Rattle.au_meaning.specs.Worlds.{Value}
 use Rattle.au_shipped.specs.declared.prims.ShippedCall.{ShippedCall}
@@ -29,7 +29,6 @@ use Rattle.au_lowered.specs.Expressions.{taken, looked_at, operand, borrows, shi
 use Rattle.au_lowered.specs.Expressions.{part_of, part_behind, joins}
 use Rattle.au_lowered.specs.Laws.{Fits}
 use Rattle.au_lowered.specs.Slots.{tag_in}
-use Rattle.au_meaning.specs.Names.{mode_of}
 use Rattle.au_lowered.specs.Statements.{lends, is_last, statement, block, tests_of, arms_of}
 use Rattle.au_lowered.proofs.FitLemmas.{fits_both, fits_nothing, fits_one, fits_given, fits_when, fits_either}
 use Rattle.au_lowered.proofs.FitLemmas.{fits_loop, fits_turns, ArmsFit, arms_end, arms_fit, fits_cases}

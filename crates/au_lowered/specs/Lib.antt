@@ -19,6 +19,8 @@ pub mod Binds
 pub mod Witness
 pub mod Maps
 pub mod Sides
+pub mod Frames
+pub mod Homes
 pub mod Runs
 pub mod Scopes
 pub mod StepLaws
