@@ -108,7 +108,7 @@ case_kept one s None k = tt
 case_kept one s (Some pair) k = parts_kept s pair.1 (case_behind one pair.0) k
 
 pub told_kept : (value : Value) (s : Store) → PairKept s (told_apart value s)
-told_kept (made tag birth fields) s = kept_spends birth s
+told_kept (made tag birth parts) s = kept_spends birth s
 told_kept (reference borrow place) s =
     case_kept (borrow, place) s (read_behind (borrow, place) s) (read_kept (borrow, place) s)
 told_kept other s = tt
