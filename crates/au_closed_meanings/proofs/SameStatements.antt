@@ -6,12 +6,14 @@ use Rattle.au_closed_trees.specs.Renoted.{branches_renoted, arms_renoted}
 use Rattle.au_type_texts.specs.Types.{ClosedType}
 use Rattle.au_effects.specs.Parts.{along}
 use Rattle.au_effects.specs.Values as values
-use Rattle.au_meaning.specs.Acts.{holds, sets, puts, apart}
+use Rattle.au_meaning.specs.Acts.{holds, sets, puts, apart, tells_apart}
 use Rattle.au_meaning.specs.Expressions.{note_of, names_of, chosen, whole}
 use Rattle.au_meaning.specs.Names.{Scope, Variable, variable_of, with_name, with_bound, names_in}
 use Rattle.au_meaning.specs.Names.{names_in_block, names_in_tests, names_in_arms, mode_of, with_reference}
+use Rattle.au_meaning.specs.Names.{told_type, fields_through}
 use Rattle.au_meaning.specs.Statements.{Flow, falls, returns, and_then, within, while_turns, ranges, either}
-use Rattle.au_meaning.specs.Statements.{is_tag, lending, binds_borrow, binds_fields, fields_noted, means_case}
+use Rattle.au_meaning.specs.Statements.{is_tag, lending, binds_borrow, binds_fields, fields_noted}
+use Rattle.au_meaning.specs.Statements.{fields_told, means_case}
 use Rattle.au_meaning.specs.Statements.{after, assigns, assigns_behind, takes_apart, run, run_all, run_tests}
 use Rattle.au_meaning.specs.Statements.{run_arms}
 use Rattle.au_meaning.specs.Ticks.{Action, pure, tick, needing, where_true, ◌>>=◌, ◌>>◌}
@@ -21,6 +23,7 @@ use Rattle.au_closed_meanings.specs.Agreement.{EachIn, EachOf, EachOfBlock, Each
 use Rattle.au_closed_meanings.specs.Agreement.{AgreeOnTypes, AgreeOnMention, AgreeOnCall, Counts, OneMeaning}
 use Rattle.au_closed_meanings.specs.Agreement.{ScopeCounts}
 use Rattle.au_closed_meanings.proofs.CountLemmas.{VariableCounts, bound_counts, fields_by, found_by}
+use Rattle.au_closed_meanings.proofs.CountLemmas.{told_by, told_found}
 use Rattle.au_closed_meanings.proofs.CountLemmas.{paths_same, tags_by, variable_counts, reference_counts}
 use Rattle.au_closed_meanings.proofs.SameExpressions.{type_same, reaches_seen, eval_same, whole_same}
 use Rattle.au_syntax.specs.Expressions.{Expression}
@@ -74,11 +77,18 @@ module _ {I J T C U D : Type 0} (known : ClosedType → Bool) (change : Change B
   abbrev NoteCounts : T → Type 0
   NoteCounts n = Counts known (one.type_of n)
 
-  fields_same : (e : Expression Bytes T C) → NoteCounts (note_of e) → (tag : ℕ)
-      → fields_noted one (note_of e) tag ≡ fields_noted two (note_of (expression_renoted change e)) tag
-  fields_same e c tag =
-      fields_by known change one two agree (one.type_of (note_of e)) c tag
-      ∙ ap (λ o. along o (λ of. two.fields of tag)) (type_same known change one two agree e)
+  fields_same : (e : Expression Bytes T C) → NoteCounts (note_of e)
+      → fields_noted one (note_of e) ≡ fields_noted two (note_of (expression_renoted change e))
+  fields_same e c =
+      fields_by known change one two agree (one.type_of (note_of e)) c
+      ∙ ap (λ o. along o (λ of. two.fields of 0)) (type_same known change one two agree e)
+
+  told_same : (e : Expression Bytes T C) → NoteCounts (note_of e) → (tag : ℕ)
+      → fields_told one (note_of e) tag ≡ fields_told two (note_of (expression_renoted change e)) tag
+  told_same e c tag =
+      told_by known change one two agree (one.type_of (note_of e)) c tag
+      ∙ ap (λ o. along o (λ of. fields_through of (two.fields (told_type of) tag)))
+      (type_same known change one two agree e)
 
   means_same : (e : Expression Bytes T C) → NoteCounts (note_of e) → (name : Bytes) (tag : ℕ)
       → means_case one (note_of e) name tag
@@ -86,7 +96,8 @@ module _ {I J T C U D : Type 0} (known : ClosedType → Bool) (change : Change B
   means_same e c name tag =
       ap (is_tag tag)
       (tags_by known change one two agree (one.type_of (note_of e)) c name
-      ∙ ap (λ o. along o (λ of. two.tag of (change.arm name))) (type_same known change one two agree e))
+      ∙ ap (λ o. along o (λ of. two.tag (told_type of) (change.arm name)))
+      (type_same known change one two agree e))
 
   assigns_same : (x : Option Variable) → VariableCounts known x → (names : List Bytes) (value : Value)
       → assigns one x names value ≡ assigns two x names value
@@ -118,7 +129,7 @@ module _ {I J T C U D : Type 0} (known : ClosedType → Bool) (change : Change B
   takes_same e c p binds value =
       λ i. do
         parts ← apart value
-        where_true (parts.0 == 0) (binds_fields (p i) binds (fields_same e c 0 i) parts.1)
+        where_true (parts.0 == 0) (binds_fields (p i) binds (fields_same e c i) parts.1)
         pure falls
 
   -- ---- statements
@@ -136,7 +147,7 @@ module _ {I J T C U D : Type 0} (known : ClosedType → Bool) (change : Change B
         → scope ≡ scope2 → after one number s scope ≡ after two number2 (statement_renoted change s) scope2
     after_same (declare at binding name t e) ok p s =
         λ i. with_name name.name (p i) (type_same known change one two agree e i) (s i)
-    after_same (destructure at binds e) ok p s = λ i. with_bound (fields_same e ok.0 0 i) (p i) binds (s i)
+    after_same (destructure at binds e) ok p s = λ i. with_bound (fields_same e ok.0 i) (p i) binds (s i)
     after_same other ok p s = s
 
     after_counts : (number : ℕ) (scope : Scope) (s : Statement Bytes T C)
@@ -145,8 +156,8 @@ module _ {I J T C U D : Type 0} (known : ClosedType → Bool) (change : Change B
         → ScopeCounts known (after one number s scope)
     after_counts number scope (declare at binding name t e) ok h = (ok.0, h)
     after_counts number scope (destructure at binds e) ok h =
-        bound_counts known (fields_noted one (note_of e) 0)
-        (found_by known change one two agree (one.type_of (note_of e)) ok.0 0) number binds scope h
+        bound_counts known (fields_noted one (note_of e))
+        (found_by known change one two agree (one.type_of (note_of e)) ok.0) number binds scope h
     after_counts number scope other ok h = h
 
     mutual
@@ -182,7 +193,7 @@ module _ {I J T C U D : Type 0} (known : ClosedType → Bool) (change : Change B
       run_same (case_of at e all) ok p h s =
           λ i. do
             value ← value_same e ok.1 h s i
-            tick (apart value >>= (λ parts. arms_same e ok.0 all ok.2 p h s parts i))
+            tick (tells_apart value >>= (λ parts. arms_same e ok.0 all ok.2 p h s parts i))
       run_same (while_loop at e block) ok p h s =
           λ i. while_turns (suc depth) (value_same e ok.0 h s i)
           (within (p i) (names_same_block change block i) (all_same block ok.1 p h s i))
@@ -255,11 +266,11 @@ module _ {I J T C U D : Type 0} (known : ClosedType → Bool) (change : Change B
       arms_same e c (arms at name binds block rest) ok p h s parts =
           λ i. either (means_same e c name.name parts.0 i)
           (within (p i) (length binds + names_same_block change block i)
-          (binds_fields (p i) binds (fields_same e c parts.0 i) parts.1
+          (binds_fields (p i) binds (told_same e c parts.0 i) parts.1
           >> all_same block ok.0 (λ j. p j + length binds)
-          (bound_counts known (fields_noted one (note_of e) parts.0)
-          (found_by known change one two agree (one.type_of (note_of e)) c parts.0) _ binds _ h)
-          (λ j. with_bound (fields_same e c parts.0 j) (p j) binds (s j)) i))
+          (bound_counts known (fields_told one (note_of e) parts.0)
+          (told_found known change one two agree (one.type_of (note_of e)) c parts.0) _ binds _ h)
+          (λ j. with_bound (told_same e c parts.0 j) (p j) binds (s j)) i))
           (arms_same e c rest ok.1 (λ j. p j + (length binds + names_same_block change block j)) h s parts i)
 
 -- a block has one meaning

@@ -1,16 +1,17 @@
 -- Instructions of a machine whose events aren't kept.
 use Rattle.std.proofs.Common.{◌≡◌, ℕ, ◌+◌, ◌==◌, nat_lt, Bool, true, false, not, if◌then◌else◌, List, []}
 use Rattle.std.proofs.Common.{◌∷◌, length, reverse, take, drop, Option, Some, None, slice_get, ℤ, pos, ◌+ℤ◌}
-use Rattle.std.proofs.Common.{int_lt, refl, ap, ◌∙◌}
+use Rattle.std.proofs.Common.{int_lt, refl, ap, sym, ◌∙◌}
 use Rattle.std.specs.Option.{option_map}
 use Rattle.au_base.specs.declared.kinds.IntKind.{IntKind}
 use Rattle.au_ints.specs.Ranges.{is_of_kind}
 use Rattle.au_shipped.specs.declared.prims.ShippedCall.{ShippedCall}
-use Rattle.au_effects.specs.Values.{Place, number, made, listed}
+use Rattle.au_effects.specs.Values.{Place, number, made, reference, listed}
 use Rattle.au_effects.specs.Parts.{along, part}
 use Rattle.au_effects.specs.Worlds.{used, tells, spends}
 use Rattle.au_effects.specs.Places.{at, exchanged}
 use Rattle.au_effects.specs.References.{reference_in, reference_along, oldest, newer}
+use Rattle.au_effects.specs.Cases.{case_behind}
 use Rattle.au_effects.specs.Numbers.{number_in, same_kind, truth_in, computed, wrapped_around, compared}
 use Rattle.au_effects.specs.Numbers.{negated, converted_value}
 use Rattle.au_effects.specs.Answers as answer
@@ -34,7 +35,8 @@ use Rattle.au_low.specs.Machines.{begins, frame_in, frame_ended}
 use Rattle.au_low.specs.Instructions.{instructions, jumps, jumps_unless, comes, stores, puts, slot_part}
 use Rattle.au_low.specs.Instructions.{reference_in_slot, pushes_behind, puts_behind, both_numbers}
 use Rattle.au_low.specs.Instructions.{slot_numbers}
-use Rattle.au_low.specs.Instructions.{makes, apart, calls, answered, text_bytes, is_type, new_reference}
+use Rattle.au_low.specs.Instructions.{makes, apart, tells_apart, calls, answered, text_bytes, is_type}
+use Rattle.au_low.specs.Instructions.{new_reference}
 use Rattle.au_low.specs.Instructions.{borrowed, borrowed_place, is_of_slot, closes_to, exit_in, returns}
 use Rattle.au_low.specs.Instructions.{on_pair, act}
 use Rattle.au_low.proofs.MutedWorlds.{hushed, pair_hushed, hushed_closes, hushed_at, hushed_exchanged}
@@ -191,6 +193,52 @@ muted_apart (made tag (Some id) fields) slot m f h =
     ∙ muted_machines (slots_filled slot (listed fields) k) (f tag) (h tag)
 muted_apart other slot m f h = refl
 
+-- what is told apart behind a reference, by what stands there
+abbrev told_of : ℕ × Place → LowWorld → Option Low → Option ((ℕ × List Low) × LowWorld)
+told_of one world held =
+    along (read_of one world held) (λ pair. along (case_behind one pair.0) (λ parts. Some (parts, pair.1)))
+
+muted_parts : (one : ℕ × Place) (slot : ℕ) (m : Machine) (f : ℕ → Machine → Next)
+    → ((tag : ℕ) (k : Machine) → f tag (muted k) ≡ muted_next (f tag k)) → (parts : Option (ℕ × List Low))
+    → having parts (λ parts.
+    having (slots_filled slot parts.1 (in_world (tells (used one.0) (muted m).world) (muted m))) (f parts.0))
+    ≡ muted_next (having parts (λ parts.
+    having (slots_filled slot parts.1 (in_world (tells (used one.0) m.world) m)) (f parts.0)))
+muted_parts one slot m f h None = refl
+muted_parts one slot m f h (Some parts) =
+    let k = in_world (tells (used one.0) m.world) m in
+    ap (λ (found : Option Machine). having found (f parts.0)) (muted_filled slot parts.1 k)
+    ∙ muted_machines (slots_filled slot parts.1 k) (f parts.0) (h parts.0)
+
+having_parts : {A B : Type 0} (parts : Option A) (w : B) (go : A × B → Next)
+    → having (along parts (λ parts. Some (parts, w))) go ≡ having parts (λ parts. go (parts, w))
+having_parts None w go = refl
+having_parts (Some parts) w go = refl
+
+muted_told : (one : ℕ × Place) (slot : ℕ) (m : Machine) (f : ℕ → Machine → Next)
+    → ((tag : ℕ) (k : Machine) → f tag (muted k) ≡ muted_next (f tag k)) → (held : Option Low)
+    → having (told_of one (muted m).world held) (λ told.
+    having (slots_filled slot told.0.1 (in_world told.1 (muted m))) (f told.0.0))
+    ≡ muted_next (having (told_of one m.world held) (λ told.
+    having (slots_filled slot told.0.1 (in_world told.1 m)) (f told.0.0)))
+muted_told one slot m f h None = refl
+muted_told one slot m f h (Some value) =
+    let parts = case_behind one value in
+    having_parts parts (tells (used one.0) (muted m).world) _
+    ∙ muted_parts one slot m f h parts
+    ∙ sym (ap muted_next (having_parts parts (tells (used one.0) m.world) _))
+
+muted_case : (value : Low) (slot : ℕ) (m : Machine) (f : ℕ → Machine → Next)
+    → ((tag : ℕ) (k : Machine) → f tag (muted k) ≡ muted_next (f tag k))
+    → tells_apart value slot (muted m) f ≡ muted_next (tells_apart value slot m f)
+muted_case (made tag birth fields) slot m f h = muted_apart (made tag birth fields) slot m f h
+muted_case (reference borrow place) slot m f h =
+    ap (λ (held : Option Low). having (told_of (borrow, place) (muted m).world (along held (part place.path)))
+    (λ told. having (slots_filled slot told.0.1 (in_world told.1 (muted m))) (f told.0.0)))
+    (hushed_at place.base m.world)
+    ∙ muted_told (borrow, place) slot m f h (at place m.world)
+muted_case other slot m f h = refl
+
 muted_begins : (index : ℕ) (function : Function) (values : List Low) (m : Machine)
     → begins index function values (muted m) ≡ muted_next (begins index function values m)
 muted_begins index function values m = muted_where (nat_lt (length values) (function.slots + 1)) _ _ refl
@@ -288,7 +336,7 @@ muted_act code (Make of tag order home) m =
 muted_act code (Take slot) m = muted_popping m.operands m _ (λ value k. muted_apart value slot k _
     (λ tag k. muted_where (tag == 0) _ _ refl))
 muted_act code (Case slot labels) m =
-    muted_popping m.operands m _ (λ value k. muted_apart value slot k _ (λ tag k. muted_having
+    muted_popping m.operands m _ (λ value k. muted_case value slot k _ (λ tag k. muted_having
     (slice_get labels tag) _ _ (λ label. muted_jumps code label k)))
 muted_act code (Call function order) m = muted_having (slice_get code.functions function) _ _
     (λ callee. muted_calls function order callee m)

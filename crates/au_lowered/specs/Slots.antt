@@ -6,7 +6,7 @@ use Rattle.au_type_texts.specs.Types.{ClosedType}
 use Rattle.au_effects.specs.Parts.{along}
 use Rattle.au_meaning.specs.Expressions.{note_of}
 use Rattle.au_meaning.specs.Names.{Scope, with_name, bound_name, field_of}
-use Rattle.au_meaning.specs.Statements.{fields_noted}
+use Rattle.au_meaning.specs.Statements.{fields_noted, tag_told, fields_told}
 use Rattle.au_meaning.specs.Views.{Field, View}
 use Rattle.au_syntax.specs.Plain.{Bytes}
 use Rattle.au_syntax.specs.Statements.{Statement, Statements, Branches, Arms, skip, declare, destructure}
@@ -34,30 +34,26 @@ with_fields fields slot (b ∷ rest) scope =
     (with_field slot (bound_name b.name) (field_of b.name.name.name fields) scope)
 
 module _ {I T C : Type 0} (see : View I T C) where
-  -- the fields of the case of a number of what an expression is, by its note
-  abbrev pub fields_in : T → ℕ → List Field
-  fields_in note tag = known (fields_noted see note tag)
+  -- the fields of the record that an expression is, by its note
+  abbrev pub fields_in : T → List Field
+  fields_in note = known (fields_noted see note)
 
-  -- the number of the case that a name means
-  abbrev pub tag_in : T → Bytes → Option ℕ
-  tag_in note name = along (see.type_of note) (λ of. see.tag of name)
-
-  -- the fields of the case that a name means
+  -- the fields of the case that a name means, as they are bound
   abbrev pub fields_of_case : T → Bytes → List Field
-  fields_of_case note name = known (along (tag_in note name) (fields_noted see note))
+  fields_of_case note name = known (along (tag_told see note name) (fields_told see note))
 
   -- ---- what a statement leaves
 
   -- how many slots are in use after a statement that weren't before it
   abbrev pub kept : Statement Bytes T C → ℕ
   kept (declare at binding name t e) = 1
-  kept (destructure at binds e) = length (fields_in (note_of e) 0)
+  kept (destructure at binds e) = length (fields_in (note_of e))
   kept other = 0
 
   -- the scope after a statement, where so many slots were in use before it
   abbrev pub after : ℕ → Statement Bytes T C → Scope → Scope
   after slot (declare at binding name t e) scope = with_name name.name slot (see.type_of (note_of e)) scope
-  after slot (destructure at binds e) scope = with_fields (fields_in (note_of e) 0) slot binds scope
+  after slot (destructure at binds e) scope = with_fields (fields_in (note_of e)) slot binds scope
   after slot other scope = scope
 
   -- ---- how many slots are used
@@ -67,7 +63,7 @@ module _ {I T C : Type 0} (see : View I T C) where
     pub room : ℕ → Statement Bytes T C → ℕ
     room slot (skip at) = slot
     room slot (declare at binding name t e) = slot + 1
-    room slot (destructure at binds e) = slot + length (fields_in (note_of e) 0)
+    room slot (destructure at binds e) = slot + length (fields_in (note_of e))
     room slot (assign at x path e) = slot
     room slot (assign_through at r path e) = slot
     room slot (conditional at tests) = room_of_tests slot tests

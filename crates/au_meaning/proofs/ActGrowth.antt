@@ -12,7 +12,7 @@ use Rattle.au_syntax.specs.declared.types.Access.{Access}
 use Rattle.au_meaning.specs.Acts.{in_store, with_value, with_values, place_of, looks, moves, holds, stored}
 use Rattle.au_meaning.specs.Acts.{sets, emptied, refers, reads, puts, access_of, borrowed_place, with_borrow}
 use Rattle.au_meaning.specs.Acts.{lends, counts_open, closed_to, closing, begins, ends_frame, makes_value}
-use Rattle.au_meaning.specs.Acts.{apart}
+use Rattle.au_meaning.specs.Acts.{apart, tells_apart}
 use Rattle.au_meaning.specs.Laws.{Continues}
 use Rattle.au_meaning.specs.Ticks.{Action, does}
 use Rattle.au_meaning.specs.Worlds.{Value, Store, Borrow, World}
@@ -20,7 +20,7 @@ use Rattle.au_meaning.proofs.Growing.{begins_refl, continues_refl, continues_tra
 use Rattle.au_meaning.proofs.Growing.{grows_then, grows_pure, grows_stuck, grows_asks, grows_does}
 use Rattle.au_meaning.proofs.Growing.{grows_takes}
 use Rattle.au_meaning.proofs.CallGrowth.{Kept, PairKept, exchanged_kept, put_kept, read_kept, kept_opens}
-use Rattle.au_meaning.proofs.CallGrowth.{kept_closes, kept_bears, kept_spends}
+use Rattle.au_meaning.proofs.CallGrowth.{kept_closes, kept_bears, kept_spends, told_kept}
 
 -- a store whose events go on
 pub store_continues : (w : World) (s : Store) → Kept w.store s → Continues w (in_store s w)
@@ -47,7 +47,7 @@ begins_continues names w = store_continues w _ (begins_refl w.store.deeds)
 pub ends_continues : (w : World) → Continues w (ends_frame w)
 ends_continues w = store_continues w _ (begins_refl w.store.deeds)
 
-stored_found : (w : World) (o : Option (Value × Store)) → PairKept w.store o → Found w (stored o w)
+stored_found : {A : Type 0} (w : World) (o : Option (A × Store)) → PairKept w.store o → Found w (stored o w)
 stored_found w None k = tt
 stored_found w (Some pair) k = store_continues w pair.1 k
 
@@ -115,3 +115,6 @@ apart_grows (made tag birth held) =
     grows_then (grows_does {change = λ world. in_store (spends birth world.store) world} (λ w.
     store_continues w _ (kept_spends birth w.store))) grows_pure
 apart_grows other = grows_stuck
+
+pub tells_grows : (value : Value) → Grows (tells_apart value) (tells_apart value)
+tells_grows value = grows_takes _ (λ w. stored_found w _ (told_kept value w.store))

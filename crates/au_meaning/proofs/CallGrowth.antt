@@ -6,6 +6,7 @@ use Rattle.au_type_texts.specs.Types.{ClosedType}
 use Rattle.au_effects.specs.Answers as answer
 use Rattle.au_effects.specs.Answers.{Answer}
 use Rattle.au_effects.specs.References.{reference_in, read_behind, put_behind}
+use Rattle.au_effects.specs.Cases.{case_behind, told_apart}
 use Rattle.au_effects.specs.Calls.{with_elements, root_in, box_in, buffer_in, terminal_in}
 use Rattle.au_effects.specs.Calls.{elements_in, natural_in, index_in, untyped, given, of_none, of_one, of_two}
 use Rattle.au_effects.specs.Calls.{of_three, use_of, buffer_use, last_taken, element_copied, element_replaced}
@@ -19,7 +20,7 @@ use Rattle.au_base.specs.declared.kinds.IntKind.TheVariants.{Nat8, Index}
 use Rattle.std.specs.Prelude.{◌-◌, length, pos, codes, slice_get}
 use Rattle.au_effects.specs.Parts.{along, part}
 use Rattle.au_effects.specs.Places.{at, content_in, base_at, base_set, set_over, exchanged}
-use Rattle.au_effects.specs.Values.{Base, Place, name_of, content_of, number, unit}
+use Rattle.au_effects.specs.Values.{Base, Place, name_of, content_of, number, unit, made, reference}
 use Rattle.au_effects.specs.Worlds.{Held, nothing, content, elements, used, closed, tells, bears, ends}
 use Rattle.au_effects.specs.Worlds.{spends, opens, closes}
 use Rattle.au_shipped.specs.declared.prims.ShippedCall.{ShippedCall}
@@ -56,8 +57,8 @@ pub kept_spends : (birth : Option ℕ) (s : Store) → Kept s (spends birth s)
 kept_spends None s = begins_refl s.deeds
 kept_spends (Some id) s = told_if s.keeps s.deeds _
 
--- a value with a store, if there are both
-abbrev pub PairKept : Store → Option (Value × Store) → Type 0
+-- something with a store, if there are both
+abbrev pub PairKept : {A : Type 0} → Store → Option (A × Store) → Type 0
 PairKept s None = Unit {0}
 PairKept s (Some pair) = Kept s pair.1
 
@@ -95,6 +96,22 @@ copy_kept borrow s (Some value) = kept_tells (used borrow) s
 
 pub read_kept : (one : ℕ × Place) (s : Store) → PairKept s (read_behind one s)
 read_kept one s = copy_kept one.0 s (at one.1 s)
+
+parts_kept : {A : Type 0} (s later : Store) (parts : Option A) → Kept s later
+    → PairKept s (along parts (λ parts. Some (parts, later)))
+parts_kept s later None k = tt
+parts_kept s later (Some parts) k = k
+
+case_kept : (one : ℕ × Place) (s : Store) (held : Option (Value × Store)) → PairKept s held
+    → PairKept s (along held (λ pair. along (case_behind one pair.0) (λ parts. Some (parts, pair.1))))
+case_kept one s None k = tt
+case_kept one s (Some pair) k = parts_kept s pair.1 (case_behind one pair.0) k
+
+pub told_kept : (value : Value) (s : Store) → PairKept s (told_apart value s)
+told_kept (made tag birth parts) s = kept_spends birth s
+told_kept (reference borrow place) s =
+    case_kept (borrow, place) s (read_behind (borrow, place) s) (read_kept (borrow, place) s)
+told_kept other s = tt
 
 pub kept_opens : (s : Store) → Kept s (opens s)
 kept_opens s = told_if s.keeps s.deeds _

@@ -18,7 +18,8 @@ use Rattle.au_meaning.specs.Names.{Scope, Variable, variable_of, with_bound, pat
 use Rattle.au_meaning.specs.Names.{names_in_block, names_in_tests, mode_of, with_reference}
 use Rattle.au_meaning.specs.Statements.{Flow, falls, returns, and_then, empties, within, while_turns}
 use Rattle.au_meaning.specs.Statements.{for_turns, both_numbers, ranges, lending, binds_borrow, either}
-use Rattle.au_meaning.specs.Statements.{binds_fields, fields_noted, means_case, after, with_counter, assigns}
+use Rattle.au_meaning.specs.Statements.{binds_fields, fields_noted, fields_told, means_case, after}
+use Rattle.au_meaning.specs.Statements.{with_counter, assigns}
 use Rattle.au_meaning.specs.Statements.{assigns_behind, takes_apart, run, run_all, run_tests, run_arms}
 use Rattle.au_meaning.specs.Statements.{run_block}
 use Rattle.au_meaning.specs.Ticks.{Action}
@@ -26,6 +27,7 @@ use Rattle.au_meaning.specs.Views.{Field, View}
 use Rattle.au_meaning.specs.Worlds.{Value}
 use Rattle.au_meaning.proofs.ActGrowth.{values_continue, emptied_continues, holds_grows, sets_grows}
 use Rattle.au_meaning.proofs.ActGrowth.{puts_grows, lends_grows, closes_grows, counts_grows, apart_grows}
+use Rattle.au_meaning.proofs.ActGrowth.{tells_grows}
 use Rattle.au_meaning.proofs.ExpressionGrowth.{reaches_grows, eval_grows, whole_grows}
 use Rattle.au_meaning.proofs.Growing.{Proper, proper_bind, proper_pure, proper_over, proper_tick}
 use Rattle.au_meaning.proofs.Growing.{proper_chosen, proper_if, Grows, grows_bind, grows_then, grows_pure}
@@ -145,7 +147,7 @@ module _ {I T C : Type 0} (see : View I T C) where
   takes_grow number binds note value =
       grows_bind (apart_grows value) (λ parts.
       grows_then (grows_where (parts.0 == 0) (binds_grow number binds
-      (fields_noted see note 0) parts.1)) grows_pure)
+      (fields_noted see note) parts.1)) grows_pure)
 
 module _ {I T C : Type 0} (see : View I T C) (invoke invoke2 : I → List Value → Action Value)
     (deeper : (one : I) (args : List Value) → Grows (invoke one args) (invoke2 one args))
@@ -173,7 +175,7 @@ module _ {I T C : Type 0} (see : View I T C) (invoke invoke2 : I → List Value 
         (number + names_in_tests tests) scope block))
     run_grows number scope (case_of at e all) =
         grows_bind (whole_grows see invoke invoke2 deeper scope e) (λ value.
-        grows_tick (grows_bind (apart_grows value) (arms_grow number scope (note_of e) all)))
+        grows_tick (grows_bind (tells_grows value) (arms_grow number scope (note_of e) all)))
     run_grows number scope (while_loop at e block) =
         while_grows (suc depth) (suc more) (omega (arith, le)) (whole_grows see invoke invoke2 deeper scope e)
         (within_grows number (names_in_block block) (all_grow number scope block))
@@ -223,9 +225,9 @@ module _ {I T C : Type 0} (see : View I T C) (invoke invoke2 : I → List Value 
     arms_grow number scope note (arms at name binds block rest) parts =
         either_grows (means_case see note name.name parts.0)
         (within_grows number (length binds + names_in_block block) (grows_then (binds_grow number binds
-        (fields_noted see note parts.0) parts.1)
+        (fields_told see note parts.0) parts.1)
         (all_grow (number + length binds) (with_bound
-        (fields_noted see note parts.0) number binds scope) block)))
+        (fields_told see note parts.0) number binds scope) block)))
         (arms_grow (number + (length binds + names_in_block block)) scope note rest parts)
 
   pub block_grows : (number : ℕ) (scope : Scope) (block : Statements Bytes T C)

@@ -6,6 +6,7 @@ use Rattle.std.specs.Str.{bytes_eq}
 use Rattle.au_type_texts.specs.Types.{ClosedType}
 use Rattle.au_effects.specs.Answers as answer
 use Rattle.au_effects.specs.Calls.{byte_read, of_one, shipped}
+use Rattle.au_effects.specs.Cases.{told_apart}
 use Rattle.au_effects.specs.Numbers.{wrapped_around, converted_value}
 use Rattle.au_effects.specs.Parts.{along}
 use Rattle.au_effects.specs.Places.{at, exchanged, name_at, name_set}
@@ -66,8 +67,8 @@ abbrev pub with_values : ℕ → List Value → World → World
 with_values name [] world = world
 with_values name (value ∷ rest) world = with_values (name + 1) rest (with_value name (Some value) world)
 
--- a value with a store, in the world that has this store
-abbrev pub stored : Option (Value × Store) → World → Option (Value × World)
+-- something with a store, in the world that has this store
+abbrev pub stored : {A : Type 0} → Option (A × Store) → World → Option (A × World)
 stored None world = None
 stored (Some pair) world = Some (pair.0, in_store pair.1 world)
 
@@ -171,13 +172,18 @@ makes_value true of tag home fields = do
   does (λ world. in_store (bears of home nothing world.store) world)
   pure (made tag (Some id) (fields_of fields))
 
--- a value of a case is taken apart into the number of the case and the fields: it is consumed where it has a
--- birth
+-- a record is taken apart into the number of its case, which is 0, and its fields: it is consumed where it has
+-- a birth
 abbrev pub apart : Value → Action (ℕ × List Value)
 apart (made tag birth fields) = do
   does (λ world. in_store (spends birth world.store) world)
   pure (tag, listed fields)
 apart other = stuck
+
+-- a union, or one behind a reference, is told apart into the number of its case and its fields, or references
+-- to them
+abbrev pub tells_apart : Value → Action (ℕ × List Value)
+tells_apart value = takes (λ world. stored (told_apart value world.store) world)
 
 -- of the values of these fields that of one of them
 abbrev pub field_value : List Field → List Value → Bytes → Option Value

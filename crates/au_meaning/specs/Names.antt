@@ -1,5 +1,6 @@
 -- The names of a function: what is in scope at a place, and the number of each declaration.
-use Rattle.std.specs.Prelude.{ℕ, ◌+◌, List, [], ◌∷◌, length, Option, Some, None, if◌then◌else◌, option_map}
+use Rattle.std.specs.Prelude.{ℕ, ◌+◌, List, [], ◌∷◌, length, map, Option, Some, None, if◌then◌else◌}
+use Rattle.std.specs.Prelude.{option_map}
 use Rattle.std.specs.List.{find}
 use Rattle.std.specs.Str.{bytes_eq}
 use Rattle.au_type_texts.specs.Types as types
@@ -123,6 +124,21 @@ abbrev pub target_behind : Option ClosedType → Option ClosedType
 target_behind (Some (types.reads t)) = Some t
 target_behind (Some (types.writes t)) = Some t
 target_behind other = None
+
+-- the type whose cases a `case` over a type tells apart: the type itself, or the one behind a reference
+abbrev pub told_type : ClosedType → ClosedType
+told_type (types.reads t) = t
+told_type (types.writes t) = t
+told_type other = other
+
+-- The fields of a case, as they are reached through a type: behind a reference they are references of the same
+-- access.
+abbrev pub fields_through : ClosedType → Option (List Field) → Option (List Field)
+fields_through (types.reads t) fields =
+    option_map (map (λ (field : Field). record field { of = types.reads field.of })) fields
+fields_through (types.writes t) fields =
+    option_map (map (λ (field : Field). record field { of = types.writes field.of })) fields
+fields_through other fields = fields
 
 -- how `borrow` and `borrow!` borrow
 abbrev pub mode_of : Access → BorrowMode

@@ -6,14 +6,16 @@ use Rattle.au_syntax.specs.declared.types.Access.TheVariants as access
 use Rattle.au_syntax.specs.Expressions.{Node, nil, path, arrow, parenthesized, dereference, borrow}
 use Rattle.au_syntax.specs.Expressions.{borrow_part}
 use Rattle.au_syntax.specs.Plain.{Bytes}
-use Rattle.au_syntax.specs.Statements.{assign_through, borrow_in, borrow_typed, return_of}
+use Rattle.au_syntax.specs.Statements.{skip, assign_through, case_of, borrow_in, borrow_typed, return_of, arms}
+use Rattle.au_syntax.specs.Statements.{no_arms}
 use Rattle.au_syntax.specs.Types as written
 use Rattle.au_syntax.specs.Types.{WrittenType}
 use Rattle.au_types.specs.declared.types.Region.TheVariants.{Static}
 use Rattle.au_types.specs.Types as type
 use Rattle.au_meaning.specs.Samples.{Note, Tree, Sample, given, told, here, word, noted, linear, bytes}
 use Rattle.au_meaning.specs.Samples.{called_tree, block, variable, prints, succeeds, main, byte, plain, pair}
-use Rattle.au_meaning.specs.Shown.{Line, tells, line, does, name, key_made, key_taken, key_born}
+use Rattle.au_meaning.specs.Samples.{maybe_of}
+use Rattle.au_meaning.specs.Shown.{Line, tells, line, does, bound, name, key_made, key_taken, key_born}
 use Rattle.au_meaning.specs.Worlds.{exit, running, stuck}
 
 -- ---- trees
@@ -106,6 +108,27 @@ lending = main (
     ∷ reading_as (codes "p") (codes "r") (succeeds ∷ [])
     ∷ []) ∷ first ∷ bump ∷ []
 
+-- `case r of when Absent do skip; when Present(value as v: ..) do .. end case;`, where r has this note
+abbrev pub case_behind : Node Note → Bytes → List Line → Line
+case_behind node r body =
+    case_of here (path node (word r) []) (arms here (word (codes "Absent")) [] (block (skip here ∷ []))
+    (arms here (word (codes "Present")) (bound (codes "value") (codes "v") ∷ []) (block body) no_arms))
+
+-- `var m: Maybe[Pair] := Present(Pair(1, 2));`
+-- `borrow! m as w in R do case w of .. when Present(value as v: &![Pair, R]) do v->left := 5; end case; ..`
+-- `borrow m as r in R do case r of .. when Present(value as v: &[Pair, R]) do printLn(v->left); end case; ..`
+abbrev pub telling : List Sample
+telling = main (
+    variable (codes "m") (called_tree (noted (maybe_of (plain pair))) (codes "Present")
+    (called_tree (noted (plain pair)) (codes "Pair") (bytes 1 ∷ bytes 2 ∷ []) ∷ []))
+    ∷ writing_as (codes "m") (codes "w") (
+    case_behind (linear (type.writes (maybe_of (plain pair)) Static)) (codes "w")
+    (assign_through here (word (codes "v")) (word (codes "left") ∷ []) (bytes 5) ∷ []) ∷ [])
+    ∷ reading_as (codes "m") (codes "r") (
+    case_behind (noted (type.reads (maybe_of (plain pair)) Static)) (codes "r")
+    (prints byte (left_of (codes "v")) ∷ []) ∷ [])
+    ∷ succeeds ∷ []) ∷ []
+
 -- `function inner(p: Pair): Nat8 is`
 -- `    borrow p as r in R do borrow p as s in S do return first(&p); end borrow; end borrow;`
 -- `end;`
@@ -155,6 +178,9 @@ pub record ReferencesAreShown : Type 0 where
       (opened 0 ∷ opened 1 ∷ opened 2 ∷ opened 3 ∷ used 3 ∷ closed 3 ∷ closed 2 ∷ closed 1 ∷ closed 0 ∷ [])
       19 (exit true)
   pub drops : told (given dropping 99) ≡ tells [] (opened 0 ∷ used 0 ∷ closed 0 ∷ []) 11 (exit true)
+  -- a case behind a reference is a use of its borrow, and its fields are references of the same borrow
+  pub tells_cases : told (given telling 99) ≡ tells (line 5)
+      (opened 0 ∷ used 0 ∷ used 0 ∷ closed 0 ∷ opened 1 ∷ used 1 ∷ used 1 ∷ closed 1 ∷ []) 20 (exit true)
   -- what a whole expression opens is closed before the tick of its statement, with no tick of its own
   pub closes : told (given dropping 8) ≡ tells [] (opened 0 ∷ used 0 ∷ closed 0 ∷ []) 8 running
   pub call_left : told (given dropping 7) ≡ tells [] (opened 0 ∷ used 0 ∷ []) 7 running

@@ -15,9 +15,10 @@ use Rattle.au_syntax.specs.Statements.{while_loop, for_loop, borrow_in, borrow_t
 use Rattle.au_syntax.specs.Statements.{no_statements, statements, no_branches, branches, no_arms, arms}
 use Rattle.au_syntax.specs.Types.{Bound}
 use Rattle.au_meaning.specs.Acts.{holds, with_values, sets, emptied, puts, lends, counts_open, closed_to}
-use Rattle.au_meaning.specs.Acts.{apart, bound_counted}
+use Rattle.au_meaning.specs.Acts.{apart, tells_apart, bound_counted}
 use Rattle.au_meaning.specs.Expressions.{names_of, note_of, chosen, reaches, eval, whole}
 use Rattle.au_meaning.specs.Names.{Scope, Variable, variable_of, with_name, with_bound, path_numbers}
+use Rattle.au_meaning.specs.Names.{told_type, fields_through}
 use Rattle.au_meaning.specs.Names.{names_in, names_in_block, names_in_tests, mode_of, with_reference}
 use Rattle.au_meaning.specs.Ticks.{Action, pure, stuck, over, tick, needing, where_true, does, ◌>>=◌, ◌>>◌}
 use Rattle.au_meaning.specs.Views.{Field, View}
@@ -106,19 +107,28 @@ binds_fields name binds fields held =
 -- ---- statements
 
 module _ {I T C : Type 0} (see : View I T C) where
-  -- the fields of the case of a number of what an expression is, by its note
-  abbrev pub fields_noted : T → ℕ → Option (List Field)
-  fields_noted note tag = along (see.type_of note) (λ of. see.fields of tag)
+  -- the fields of the record that an expression is, by its note
+  abbrev pub fields_noted : T → Option (List Field)
+  fields_noted note = along (see.type_of note) (λ of. see.fields of 0)
+
+  -- of a union, or one behind a reference, by the note of the expression that is told apart: the number of the
+  -- case that a name means, and the fields of the case of a number, as they are bound
+  abbrev pub tag_told : T → Bytes → Option ℕ
+  tag_told note name = along (see.type_of note) (λ of. see.tag (told_type of) name)
+
+  abbrev pub fields_told : T → ℕ → Option (List Field)
+  fields_told note tag =
+      along (see.type_of note) (λ of. fields_through of (see.fields (told_type of) tag))
 
   -- whether a name means the case of a number
   abbrev pub means_case : T → Bytes → ℕ → Bool
-  means_case note name tag = is_tag tag (along (see.type_of note) (λ of. see.tag of name))
+  means_case note name tag = is_tag tag (tag_told note name)
 
   -- what is in scope after a statement
   abbrev pub after : ℕ → Statement Bytes T C → Scope → Scope
   after number (declare at binding name t e) scope =
       with_name name.name number (see.type_of (note_of e)) scope
-  after number (destructure at binds e) scope = with_bound (fields_noted (note_of e) 0) number binds scope
+  after number (destructure at binds e) scope = with_bound (fields_noted (note_of e)) number binds scope
   after number other scope = scope
 
   -- a scope with the counter of a loop, which is of the type of the first bound
@@ -143,7 +153,7 @@ module _ {I T C : Type 0} (see : View I T C) where
   abbrev pub takes_apart : ℕ → List (Bound Bytes) → T → Value → Action Flow
   takes_apart number binds note value = do
     parts ← apart value
-    where_true (parts.0 == 0) (binds_fields number binds (fields_noted note 0) parts.1)
+    where_true (parts.0 == 0) (binds_fields number binds (fields_noted note) parts.1)
     pure falls
 
   -- the names that are declared in a block, from one on, are emptied at its end
@@ -172,7 +182,7 @@ module _ {I T C : Type 0} (see : View I T C) (invoke : I → List Value → Acti
         (let other = number + names_in_tests tests in emptying see other block (run_all other scope block))
     run number scope (case_of at e all) = do
       value ← whole see invoke scope e
-      tick (apart value >>= run_arms number scope (note_of e) all)
+      tick (tells_apart value >>= run_arms number scope (note_of e) all)
     run number scope (while_loop at e block) =
         while_turns (suc depth) (whole see invoke scope e)
         (emptying see number block (run_all number scope block))
@@ -219,9 +229,9 @@ module _ {I T C : Type 0} (see : View I T C) (invoke : I → List Value → Acti
     run_arms number scope note (arms at name binds block rest) parts =
         let own = length binds + names_in_block block in
         either (means_case see note name.name parts.0) (within number own (
-        binds_fields number binds (fields_noted see note parts.0) parts.1
+        binds_fields number binds (fields_told see note parts.0) parts.1
         >> run_all (number + length binds)
-        (with_bound (fields_noted see note parts.0) number binds scope) block))
+        (with_bound (fields_told see note parts.0) number binds scope) block))
         (run_arms (number + own) scope note rest parts)
 
   -- a body, whose names begin with a number

@@ -9,8 +9,9 @@ ghost use Rattle.au_effects.specs.Places.{at, name_at, name_set};
 ghost use Rattle.au_low.specs.Machines.{new_slots};
 ghost use Rattle.au_cells.specs.Cells.{low, lows};
 ghost use Rattle.au_stores.specs.Stores.{world_of, slots_of, top_frame, slot_place, slot_count, with_frame};
-ghost use Rattle.au_stores.specs.Stores.{without_frames, given_slots, filled, done_in};
+ghost use Rattle.au_stores.specs.Stores.{without_frames, given_slots, filled, done_in, taken};
 
+use crate::cases::Taken;
 use crate::worlds::World;
 use au_base::Memory;
 use au_cells::paths::part;
@@ -121,8 +122,8 @@ impl World {
         true
     }
 
-    /// Takes a value apart whose birth, if it has one, is consumed by it: its fields go to slots of the
-    /// running frame, from one on. Where one of the slots isn't there, nothing changes.
+    /// Puts the fields that are taken of a value into slots of the running frame, from one on, and tells how
+    /// they are taken. Where one of the slots isn't there, nothing changes.
     ///
     /// # Errors
     ///
@@ -130,19 +131,18 @@ impl World {
     pub fn take_apart(
         &mut self,
         slot: u32,
-        birth: Option<u64>,
+        how: Taken,
         fields: Vec<Cell>,
     ) -> Result<bool, Memory>
         ensures world { IfOk result (λ done. done_in done self.new
-            ≡ filled (top_frame self.old) slot (lows fields.items)
-            (effect.spends birth (world_of self.old))) }
+            ≡ filled (top_frame self.old) slot (lows fields.items) (taken how (world_of self.old))) }
         ensures kept { IfOk result (λ done. IsFalse done → world_of self.new ≡ world_of self.old) }
         ensures frame { OnOk result (top_frame self.new ≡ top_frame self.old) }
     {
         if !self.fill_slots(slot, fields) {
             return Ok(false);
         }
-        self.spend(birth)?;
+        self.tell_taken(how)?;
         Ok(true)
     }
 

@@ -17,6 +17,9 @@ returns c = record {
   read_tells = refl;
   put = refl;
   deref = refl;
+  case_behind = refl;
+  case_behind_goes = refl;
+  case_behind_tells = refl;
   close = refl;
   close_more = refl;
 }

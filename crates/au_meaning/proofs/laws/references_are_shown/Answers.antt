@@ -10,6 +10,7 @@ returns c = record {
   lends = refl;
   returns = refl;
   drops = refl;
+  tells_cases = refl;
   closes = refl;
   call_left = refl;
   place_gone = refl;
